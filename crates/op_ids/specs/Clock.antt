@@ -1,0 +1,34 @@
+-- A vector clock says how many operations it counts of each replica. It is the list of its entries, a replica and a
+-- count each, in strictly rising order of replica.
+use Rattle.std.specs.Prelude.{◌≡◌, ℕ, ◌+◌, ◌≤◌, ◌<◌, ◌==◌, Bool, true, ◌&&◌, nat_lt, nat_le, if◌then◌else◌, List, [], ◌∷◌, length}
+
+-- how many operations of a replica the clock counts
+abbrev pub count_of : List (ℕ × ℕ) → ℕ → ℕ
+count_of [] replica = 0
+count_of (e ∷ es) replica = if e.0 == replica then e.1 else count_of es replica
+
+-- the clock with one more operation of a replica
+abbrev pub advanced : List (ℕ × ℕ) → ℕ → List (ℕ × ℕ)
+advanced [] replica = (replica, 1) ∷ []
+advanced (e ∷ es) replica =
+    if nat_lt replica e.0 then (replica, 1) ∷ e ∷ es
+    else if e.0 == replica then (replica, e.1 + 1) ∷ es
+    else e ∷ advanced es replica
+
+-- counts nothing beyond the clock
+abbrev pub is_within : List (ℕ × ℕ) → List (ℕ × ℕ) → Bool
+is_within [] clock = true
+is_within (e ∷ es) clock = nat_le e.1 (count_of clock e.0) && is_within es clock
+
+-- an operation of this replica with these deps is the next one of its replica, and all that it depends on is counted
+abbrev pub is_ready : List (ℕ × ℕ) → ℕ → List (ℕ × ℕ) → Bool
+is_ready clock replica deps = count_of clock replica == count_of deps replica && is_within deps clock
+
+-- the replicas rise from above a number, and each count is from 1 to 2^24
+abbrev pub is_rising_above : ℕ → List (ℕ × ℕ) → Bool
+is_rising_above low [] = true
+is_rising_above low (e ∷ es) = nat_lt low e.0 && nat_le 1 e.1 && nat_le e.1 16777216 && is_rising_above e.0 es
+
+-- the entries of a clock: at most 16, each of a replica that isn't nil, rising
+abbrev pub is_clock : List (ℕ × ℕ) → Bool
+is_clock es = is_rising_above 0 es && nat_le (length es) 16

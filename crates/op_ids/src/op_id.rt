@@ -1,0 +1,70 @@
+ghost use Rattle.std.specs.Prelude.{◌≡◌, ◌<◌, ◌^◌, ◌↔◌, IsTrue};
+ghost use Rattle.op_ids.specs.Id.{Id, is_below, is_same};
+
+use crate::ReplicaId;
+use std::marker::Model;
+
+/// The greatest counter of an operation: 2^48 - 1.
+pub const MAX_COUNTER: u64 = 281_474_976_710_655;
+
+/// The id of an operation: a counter from 1 to 2^48 - 1, and the replica that made it. The order is by counter,
+/// and then by replica.
+#[derive(Clone, Copy, Debug, PartialEq, Eq, PartialOrd, Ord, Hash)]
+pub struct OpId {
+    counter: u64,
+    replica: ReplicaId,
+}
+
+impl Model for OpId {
+    ghost use Rattle.std.specs.Prelude.{◌<◌, ◌^◌};
+    ghost use Rattle.op_ids.specs.Id.{Id};
+
+    ghost Value = { Id };
+
+    ghost view = { λ a. record { counter = a.counter; replica = a.replica } };
+
+    ghost invariant = { λ a. (0 < a.counter) × (a.counter < 2 ^ 48) };
+
+    ghost inverse = { λ id. record { counter = id.counter; replica = id.replica } };
+}
+
+impl OpId {
+    /// The id with this counter and replica.
+    pub fn new(counter: u64, replica: ReplicaId) -> OpId
+        requires above_zero { 0 < counter }
+        requires in_range { counter < 2 ^ 48 }
+        ensures { result ≡ record { counter = counter; replica = replica } }
+    {
+        OpId { counter, replica }
+    }
+
+    /// The counter, from 1 to 2^48 - 1.
+    pub fn counter(self) -> u64
+        ensures value { result ≡ self.counter }
+        ensures above_zero { 0 < result }
+        ensures in_range { result < 2 ^ 48 }
+    {
+        self.counter
+    }
+
+    /// The replica that made the operation.
+    pub fn replica(self) -> ReplicaId
+        ensures { result ≡ self.replica }
+    {
+        self.replica
+    }
+
+    /// Whether this id comes below another: by counter, and then by replica.
+    pub fn is_below(self, other: OpId) -> bool
+        ensures { result ≡ is_below self other }
+    {
+        self < other
+    }
+
+    /// Whether both are one id.
+    pub fn is_same(self, other: OpId) -> bool
+        ensures { result ≡ is_same self other }
+    {
+        self == other
+    }
+}

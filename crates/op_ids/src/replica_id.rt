@@ -1,0 +1,58 @@
+ghost use Rattle.std.specs.Prelude.{◌≡◌, ℕ, ◌<◌, ◌^◌, ◌↔◌, Some, None, IfSome, IsNone, IsTrue};
+ghost use Rattle.std.specs.Int.{w128, from_be_bytes, to_be_bytes};
+
+use std::marker::Model;
+use uuid::Uuid;
+
+/// The name of a replica: a UUID that isn't nil. Contracts see it as its number, the sixteen bytes read
+/// with the highest first; that is also its order.
+#[derive(Clone, Copy, Debug, PartialEq, Eq, PartialOrd, Ord, Hash)]
+pub struct ReplicaId {
+    number: u128,
+}
+
+impl Model for ReplicaId {
+    ghost Value = { ℕ };
+
+    ghost view = { λ r. r.number };
+
+    ghost invariant = { λ r. 0 < r.number };
+
+    ghost inverse = { λ n. record { number = n } };
+}
+
+impl ReplicaId {
+    /// The replica with these sixteen bytes, or `None` where all of them are zero.
+    pub fn read(bytes: [u8; 16]) -> Option<ReplicaId>
+        ensures none { IsNone result ↔ (from_be_bytes w128 bytes ≡ 0) }
+        ensures some { IfSome result (λ r. r ≡ from_be_bytes w128 bytes) }
+    {
+        let number = u128::from_be_bytes(bytes);
+        if number == 0 {
+            return None;
+        }
+        Some(ReplicaId { number })
+    }
+
+    /// The sixteen bytes, the highest first.
+    pub fn bytes(self) -> [u8; 16]
+        ensures { result ≡ to_be_bytes w128 self }
+    {
+        self.number.to_be_bytes()
+    }
+
+    /// The replica that a UUID names, or `None` for the nil UUID.
+    pub fn from_uuid(id: Uuid) -> Option<ReplicaId>
+        ensures none { IsNone result ↔ (from_be_bytes w128 id ≡ 0) }
+        ensures some { IfSome result (λ r. r ≡ from_be_bytes w128 id) }
+    {
+        ReplicaId::read(id.into_bytes())
+    }
+
+    /// The UUID with the same bytes.
+    pub fn to_uuid(self) -> Uuid
+        ensures { result ≡ to_be_bytes w128 self }
+    {
+        Uuid::from_u128(self.number)
+    }
+}

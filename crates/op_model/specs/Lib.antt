@@ -1,0 +1,12 @@
+pub mod Marks
+pub mod Characters
+pub mod Walk
+pub mod Text
+pub mod Places
+pub mod Spans
+pub mod Records
+pub mod Causality
+pub mod Made
+pub mod Placing
+pub mod Replay
+pub mod Machine

@@ -1,0 +1,253 @@
+-- What a replica with its store does, one event after another.
+use Rattle.std.specs.Prelude.{◌≡◌, ◌⊎◌, ℕ, zero, suc, ◌+◌, ◌≤◌, ◌<◌, Bool, true, false, not, ◌&&◌, ◌==◌, nat_le, if◌then◌else◌, List, [], ◌∷◌, ◌++◌, length, take, filter, max, Option, Some, None, is_some}
+use Rattle.op_model.specs.declared.op.Op.{Op}
+use Rattle.op_model.specs.declared.edit.Edit.{Edit}
+use Rattle.op_ids.specs.Clock.{is_ready}
+use Rattle.op_model.specs.Text.{visible, rev}
+use Rattle.op_model.specs.Causality.{clock_of, is_known, first_failed, is_within_limits}
+use Rattle.op_model.specs.Made.{made, is_at_rev, is_inside, is_small}
+use Rattle.op_model.specs.Replay.{Kept, edited, merged, settled}
+
+-- a commit: of so many operations of the list, and whether it is through
+pub record Commit : Type 0 where
+  pub count : ℕ
+  pub through : Bool
+
+-- a replica's list, its three numbers, the kept steps with the newest first, the version of the live root, whether the device has
+-- failed, and the commit, if there is one
+pub record State : Type 0 where
+  pub list : List Op
+  pub settled : ℕ
+  pub acked : ℕ
+  pub told : ℕ
+  pub steps : List Kept
+  pub version : ℕ
+  pub failed : Bool
+  pub commit : Option Commit
+
+-- what an edit's maker gets: the length of the list right after the edit, and the number of operations of its document
+pub record Ticket : Type 0 where
+  pub end : ℕ
+  pub rev : ℕ
+
+pub data Event : Type 0 where
+  edit : ℕ → Edit → Event
+  merge : ℕ → Op → Event
+  begin : Event
+  device_step : Event
+  settle : Event
+  ack : Ticket → Event
+  tell : List (ℕ × ℕ) → Event
+  have : Event
+
+pub data Answer : Type 0 where
+  -- of an edit
+  ticket : Ticket → Answer
+  -- of a merge
+  applied : Answer
+  known : Answer
+  early : Answer
+  -- of a begin: a commit of so many operations, or that there is nothing new
+  begun : ℕ → Answer
+  nothing_new : Answer
+  -- of a device step: no call, a call that succeeded, or the commit's last call
+  idle : Answer
+  goes_on : Answer
+  goes_through : Answer
+  -- of a settle: the settled number
+  settled_to : ℕ → Answer
+  -- of an ack: whether the ticket's operations are settled
+  acknowledged : Bool → Answer
+  -- of a tell and of a have
+  operations : List Op → Answer
+  clock : List (ℕ × ℕ) → Answer
+  -- of any: a refusal by its number
+  refused : ℕ → Answer
+
+-- the state with all operations of an edit
+abbrev pub with_edit : ℕ → State → ℕ → Edit → State
+with_edit replica s session e = record s {
+  list = s.list ++ made s.list replica e;
+  steps = edited session e (length s.list) (length (made s.list replica e)) ∷ s.steps;
+}
+
+-- the state with one operation of a peer
+abbrev pub with_merge : State → ℕ → Op → State
+with_merge s peer op = record s { list = s.list ++ op ∷ []; steps = merged peer (length s.list) ∷ s.steps }
+
+abbrev pub ticket_of : List Op → ℕ → Ticket
+ticket_of list doc = record { end = length list; rev = rev list doc }
+
+-- a step leaves two places behind it: for the settlements of the commit under way and of the one after it
+abbrev pub has_places : State → Bool
+has_places s = nat_le (length s.steps + 3) 1048576
+
+-- the refusals of an edit, in the order of test: failed 9, stale 6, range 5, limit 7, steps 10
+abbrev pub edit_answer : ℕ → State → ℕ → Edit → Answer
+edit_answer replica s session e =
+    if s.failed then refused 9
+    else if not (is_at_rev (rev s.list e.doc) e.rev) then refused 6
+    else if not (is_inside (length (visible s.list e.doc)) e.change) then refused 5
+    else if not (is_small e.change && is_within_limits (s.list ++ made s.list replica e)) then refused 7
+    else if not (has_places s) then refused 10
+    else ticket (ticket_of (s.list ++ made s.list replica e) e.doc)
+
+abbrev pub joined_or : State → Option ℕ → Answer
+joined_or s (Some n) = refused n
+joined_or s None = if has_places s then applied else refused 10
+
+-- the answers of a merge, in the order of test: failed 9, known, own but unknown 20, early, then the checks, steps 10
+abbrev pub merge_answer : ℕ → State → Op → Answer
+merge_answer replica s op =
+    if s.failed then refused 9
+    else if is_known (clock_of s.list) op then known
+    else if op.id.replica == replica then refused 20
+    else if not (is_ready (clock_of s.list) op.id.replica op.deps) then early
+    else joined_or s (first_failed s.list op)
+
+-- the answers of a begin, in the order of test: failed 44, busy 8, nothing new, no further version 7
+abbrev pub begin_answer : State → Answer
+begin_answer s =
+    if s.failed then refused 44
+    else if is_some s.commit then refused 8
+    else if nat_le (length s.list) s.settled then nothing_new
+    else if nat_le 18446744073709551615 s.version then refused 7
+    else begun (length s.list)
+
+-- how many operations a commit that is through has
+abbrev pub through_of : Option Commit → Option ℕ
+through_of None = None
+through_of (Some c) = if c.through then Some c.count else None
+
+-- a device call is due: a commit isn't through
+abbrev pub is_under_way : Option Commit → Bool
+is_under_way None = false
+is_under_way (Some c) = not c.through
+
+abbrev pub through : Option Commit → Option Commit
+through None = None
+through (Some c) = Some (record c { through = true })
+
+-- of the settled operations the first, at most 64, that a clock doesn't count
+abbrev pub untold : List (ℕ × ℕ) → State → List Op
+untold c s = take 64 (filter (λ op. not (is_known c op)) (take s.settled s.list))
+
+-- one more, but none stays none
+abbrev pub after : ℕ → ℕ
+after zero = 0
+after (suc n) = suc (suc n)
+
+-- how long the front of a list is that ends with the last of the first n operations which a clock doesn't count; 0 where there
+-- is none
+abbrev pub reach : ℕ → List (ℕ × ℕ) → List Op → ℕ
+reach zero c ops = 0
+reach (suc n) c [] = 0
+reach (suc n) c (op ∷ ops) = elim (is_known c op) [ true ↦ after (reach (suc n) c ops) | false ↦ reach n c ops + 1 ]
+
+-- the number that is due; and in place of a success want of memory, 1
+abbrev pub IsRefusal : ℕ → Answer → Type 0
+IsRefusal n (refused m) = n ≡ m
+IsRefusal n (ticket t) = n ≡ 1
+IsRefusal n applied = n ≡ 1
+IsRefusal n (begun m) = n ≡ 1
+IsRefusal n _ = ⊥
+
+abbrev pub EditStep : ℕ → State → ℕ → Edit → Answer → State → Type 0
+EditStep replica s session e (ticket t) t' =
+    (edit_answer replica s session e ≡ ticket t) × (t' ≡ with_edit replica s session e)
+EditStep replica s session e (refused n) t' = IsRefusal n (edit_answer replica s session e) × (t' ≡ s)
+EditStep replica s session e _ t' = ⊥
+
+abbrev pub MergeStep : ℕ → State → ℕ → Op → Answer → State → Type 0
+MergeStep replica s peer op applied t' = (merge_answer replica s op ≡ applied) × (t' ≡ with_merge s peer op)
+MergeStep replica s peer op known t' = (merge_answer replica s op ≡ known) × (t' ≡ s)
+MergeStep replica s peer op early t' = (merge_answer replica s op ≡ early) × (t' ≡ s)
+MergeStep replica s peer op (refused n) t' = IsRefusal n (merge_answer replica s op) × (t' ≡ s)
+MergeStep replica s peer op _ t' = ⊥
+
+abbrev pub BeginStep : State → Answer → State → Type 0
+BeginStep s (begun n) t' =
+    (begin_answer s ≡ begun n) × (t' ≡ record s { commit = Some (record { count = n; through = false }) })
+BeginStep s nothing_new t' = (begin_answer s ≡ nothing_new) × (t' ≡ s)
+BeginStep s (refused n) t' = IsRefusal n (begin_answer s) × (t' ≡ s)
+BeginStep s _ t' = ⊥
+
+-- A device call goes on or makes the commit through; or it fails, and from then on there is none.
+abbrev pub DeviceStep : State → Answer → State → Type 0
+DeviceStep s idle t' = (s.failed ≡ false) × (is_under_way s.commit ≡ false) × (t' ≡ s)
+DeviceStep s goes_on t' = (s.failed ≡ false) × (is_under_way s.commit ≡ true) × (t' ≡ s)
+DeviceStep s goes_through t' =
+    (s.failed ≡ false) × (is_under_way s.commit ≡ true) × (t' ≡ record s { commit = through s.commit })
+DeviceStep s (refused n) t' =
+    ((s.failed ≡ true) × (n ≡ 44) × (t' ≡ s))
+    ⊎ ((s.failed ≡ false) × (is_under_way s.commit ≡ true) × ((n ≡ 51) ⊎ (n ≡ 52)) × (t' ≡ record s { failed = true }))
+DeviceStep s _ t' = ⊥
+
+-- the state after the settlement of a commit that is through
+abbrev pub with_settled : ℕ → State → State
+with_settled n s = record s { settled = n; steps = settled n ∷ s.steps; version = s.version + 1; commit = None }
+
+abbrev pub settle_answer : State → Answer
+settle_answer s =
+    if s.failed then refused 44 else elim (through_of s.commit) [ None ↦ refused 8 | Some n ↦ settled_to n ]
+
+abbrev pub SettleStep : State → Answer → State → Type 0
+SettleStep s (settled_to n) t' = (settle_answer s ≡ settled_to n) × (t' ≡ with_settled n s)
+SettleStep s (refused n) t' = (settle_answer s ≡ refused n) × (t' ≡ s)
+SettleStep s _ t' = ⊥
+
+abbrev pub AckStep : State → Ticket → Answer → State → Type 0
+AckStep s t (acknowledged true) t' = (t.end ≤ s.settled) × (t' ≡ record s { acked = max s.acked t.end })
+AckStep s t (acknowledged false) t' = (s.settled < t.end) × (t' ≡ s)
+AckStep s t _ t' = ⊥
+
+abbrev pub TellStep : State → List (ℕ × ℕ) → Answer → State → Type 0
+TellStep s c (operations ops) t' =
+    (ops ≡ untold c s) × (t' ≡ record s { told = max s.told (reach 64 c (take s.settled s.list)) })
+TellStep s c (refused n) t' = (n ≡ 1) × (t' ≡ s)
+TellStep s c _ t' = ⊥
+
+abbrev pub HaveStep : State → Answer → State → Type 0
+HaveStep s (clock c) t' = (c ≡ clock_of (take s.settled s.list)) × (t' ≡ record s { told = max s.told s.settled })
+HaveStep s (refused n) t' = (n ≡ 1) × (t' ≡ s)
+HaveStep s _ t' = ⊥
+
+-- one event of a replica, with its answer: a pair that never comes is impossible
+abbrev pub Step : ℕ → State → Event → Answer → State → Type 0
+Step replica s (edit session e) a t' = EditStep replica s session e a t'
+Step replica s (merge peer op) a t' = MergeStep replica s peer op a t'
+Step replica s begin a t' = BeginStep s a t'
+Step replica s device_step a t' = DeviceStep s a t'
+Step replica s settle a t' = SettleStep s a t'
+Step replica s (ack t) a t' = AckStep s t a t'
+Step replica s (tell c) a t' = TellStep s c a t'
+Step replica s have a t' = HaveStep s a t'
+
+-- events one after another, each with its answer
+abbrev pub Run : ℕ → State → List (Event × Answer) → State → Type 0
+Run replica s [] t' = t' ≡ s
+Run replica s (e ∷ es) t' = (mid : State) × Step replica s e.0 e.1 mid × Run replica mid es t'
+
+-- the state after opening a file with this list
+abbrev pub opened : List Op → ℕ → State
+opened list version = record {
+  list = list;
+  settled = length list;
+  acked = length list;
+  told = length list;
+  steps = [];
+  version = version;
+  failed = false;
+  commit = None;
+}
+
+-- A crash leaves the settled list, or the list of the commit; once that is through, its list alone.
+abbrev pub CrashLeavesOf : State → Commit → State → Type 0
+CrashLeavesOf s c t' = elim c.through [
+  | true ↦ t' ≡ opened (take c.count s.list) (s.version + 1)
+  | false ↦ (t' ≡ opened (take s.settled s.list) s.version) ⊎ (t' ≡ opened (take c.count s.list) (s.version + 1))
+]
+
+-- what is opened after a crash
+abbrev pub CrashLeaves : State → State → Type 0
+CrashLeaves s t' = elim s.commit [ None ↦ t' ≡ opened (take s.settled s.list) s.version | Some c ↦ CrashLeavesOf s c t' ]

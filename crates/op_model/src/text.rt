@@ -1,0 +1,67 @@
+ghost use Rattle.std.specs.Prelude.{◌≡◌, ℕ, List, IfOk, ◌↔◌, IsTrue};
+ghost use Rattle.std.specs.Prelude.{◌==◌};
+ghost use Rattle.std.proofs.Common.{rules};
+ghost use Rattle.std.specs.Cmp.Rules.{comparing};
+ghost use lib.Pointwise.{pointwise};
+
+use std::alloc::AllocError;
+use std::marker::Model;
+
+/// A text: a list of characters (Unicode scalar values), which may be empty. Contracts see the list of their codes.
+#[derive(Debug, Drop)]
+pub struct Text {
+    characters: Vec<char>,
+}
+
+impl Model for Text {
+    ghost Value = { List ℕ };
+
+    ghost view = { λ t. t.characters.items };
+}
+
+impl From<Vec<char>> for Text {
+    ghost from_gives = { λ characters result. result ≡ characters.items };
+
+    fn from(characters: Vec<char>) -> Text {
+        Text { characters }
+    }
+}
+
+impl PartialEq for Text {
+    ghost eq = { pointwise ◌==◌ };
+
+    ghost laws = { Prim.search (comparing, rules) };
+
+    fn eq(&self, other: &Text) -> bool {
+        self.characters == other.characters
+    }
+}
+
+impl Eq for Text {
+    ghost laws = { Prim.search (comparing, rules) };
+}
+
+impl Text {
+    /// The characters, in order.
+    pub fn as_slice(&self) -> &[char]
+        ensures { result.now ≡ self.now }
+    {
+        &self.characters
+    }
+
+    /// The characters, in order. Takes no memory.
+    pub fn into_vec(self) -> Vec<char>
+        ensures { result.items ≡ self }
+    {
+        self.characters
+    }
+
+    /// The same text again. An error is want of memory (1).
+    pub fn copy(&self) -> Result<Text, AllocError>
+        ensures { IfOk result (λ copied. copied ≡ self.now) }
+    {
+        Ok(Text {
+            characters: self.characters.clone()?,
+        })
+    }
+}
