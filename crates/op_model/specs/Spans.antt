@@ -81,7 +81,7 @@ is_same_marks a b =
 abbrev pub with_front : ℕ → Marks → List Span → List Span
 with_front value marks [] = record { text = value ∷ []; marks = marks } ∷ []
 with_front value marks (s ∷ ss) =
-    if is_same_marks marks s.marks then record { text = value ∷ s.text; marks = marks } ∷ ss
+    if is_same_marks marks s.marks then record s { text = value ∷ s.text } ∷ ss
     else record { text = value ∷ []; marks = marks } ∷ s ∷ ss
 
 -- the greatest runs with equal marks of the visible ones among characters that begin at the k-th

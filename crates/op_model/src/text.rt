@@ -1,5 +1,4 @@
-ghost use Rattle.std.specs.Prelude.{◌≡◌, ℕ, List, IfOk, ◌↔◌, IsTrue};
-ghost use Rattle.std.specs.Prelude.{◌==◌};
+ghost use Rattle.std.specs.Prelude.{◌≡◌, ℕ, ◌≤◌, ◌==◌, List, ◌∷◌, ◌++◌, length, take, drop, IfOk, OnOk, OnErr};
 ghost use Rattle.std.proofs.Common.{rules};
 ghost use Rattle.std.specs.Cmp.Rules.{comparing};
 ghost use lib.Pointwise.{pointwise};
@@ -54,6 +53,17 @@ impl Text {
         ensures { result.items ≡ self }
     {
         self.characters
+    }
+
+    /// Puts a character before the one at a place, or at the end. An error is want of memory (1), and leaves the text
+    /// as it was.
+    pub fn insert(&mut self, at: usize, character: char) -> Result<(), AllocError>
+        requires { at ≤ length self.old }
+        ensures ok { OnOk result (self.new ≡ take at self.old ++ character ∷ drop at self.old) }
+        ensures err { OnErr result (self.new ≡ self.old) }
+    {
+        self.characters.insert(at, character)?;
+        Ok(())
     }
 
     /// The same text again. An error is want of memory (1).

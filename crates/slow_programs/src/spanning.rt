@@ -1,0 +1,75 @@
+ghost use Rattle.std.specs.Prelude.{◌≡◌, ℕ, ◌++◌, ◌∷◌, IfOk, OnOk, IsTrue, List, ◌==◌, Bool};
+ghost use Rattle.slow_programs.specs.Joining.{joins_first_of};
+ghost use Rattle.op_model.specs.Spans.{with_front, spans as spans_of, is_same_marks, is_same_link};
+
+use crate::formatting::{markings, marks_of};
+use crate::order::walk;
+use crate::reading::is_removed;
+use op_model::{Marks, Op, Span, Text, Url};
+use std::alloc::{AllocError, Global};
+
+/// The greatest runs of visible characters of a document with equal marks. An error is want of memory (1).
+pub fn spans(alloc: Global, ops: &[Op], doc: u32) -> Result<Vec<Span>, AllocError>
+    ensures { IfOk result (λ found. found.items ≡ spans_of ops.now doc) }
+{
+    let walked = walk(alloc, ops, doc)?;
+    let markings = markings(alloc, ops, doc)?;
+    let mut found = Vec::new(alloc);
+    let mut k = walked.len();
+    while k > 0 {
+        k -= 1;
+        let character = &walked[k];
+        if !is_removed(ops, doc, character) {
+            let marks = marks_of(alloc, &walked, &markings, k)?;
+            push_front(alloc, character.value, marks, &mut found)?;
+        }
+    }
+    Ok(found)
+}
+
+fn push_front(
+    alloc: Global,
+    value: char,
+    marks: Marks,
+    spans: &mut Vec<Span>,
+) -> Result<(), AllocError>
+    ensures { OnOk result (spans.new.items ≡ with_front value marks spans.old.items) }
+{
+    if joins_first(&marks, spans) {
+        let first = &mut spans[0];
+        first.text.insert(0, value)?;
+        return Ok(());
+    }
+    let text = Text::from(vec![in alloc; value]?);
+    spans.insert(0, Span { text, marks })?;
+    Ok(())
+}
+
+/// Whether there is a first span, and it has these marks.
+fn joins_first(marks: &Marks, spans: &[Span]) -> bool
+    ensures { result ≡ joins_first_of marks.now spans.now }
+{
+    match spans {
+        [] => false,
+        [first, ..] => has_same_marks(marks, &first.marks),
+    }
+}
+
+fn has_same_marks(a: &Marks, b: &Marks) -> bool
+    ensures { result ≡ is_same_marks a.now b.now }
+{
+    a.strong == b.strong
+        && a.em == b.em
+        && has_same_link(&a.link, &b.link)
+        && a.comments == b.comments
+}
+
+fn has_same_link(a: &Option<Url>, b: &Option<Url>) -> bool
+    ensures { result ≡ is_same_link a.now b.now }
+{
+    match (a, b) {
+        (None, None) => true,
+        (Some(a), Some(b)) => *a == *b,
+        _ => false,
+    }
+}
