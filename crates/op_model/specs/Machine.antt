@@ -5,7 +5,7 @@ use Rattle.op_model.specs.declared.edit.Edit.{Edit}
 use Rattle.op_ids.specs.Clock.{is_ready}
 use Rattle.op_model.specs.Text.{visible, rev}
 use Rattle.op_model.specs.Causality.{clock_of, is_known, first_failed, is_within_limits}
-use Rattle.op_model.specs.Made.{made, is_at_rev, is_inside, is_small}
+use Rattle.op_model.specs.Made.{made, edit_refusal}
 use Rattle.op_model.specs.Replay.{Kept, edited, merged, settled}
 
 -- a commit: of so many operations of the list, and whether it is through
@@ -82,16 +82,17 @@ ticket_of list doc = record { end = length list; rev = rev list doc }
 abbrev pub has_places : State → Bool
 has_places s = nat_le (length s.steps + 3) 1048576
 
--- the refusals of an edit, in the order of test: failed 9, stale 6, range 5, limit 7, steps 10
-abbrev pub edit_answer : ℕ → State → ℕ → Edit → Answer
-edit_answer replica s session e =
-    if s.failed then refused 9
-    else if not (is_at_rev (rev s.list e.doc) e.rev) then refused 6
-    else if not (is_inside (length (visible s.list e.doc)) e.change) then refused 5
-    else if not (is_small e.change && is_within_limits (s.list ++ made s.list replica e)) then refused 7
-    else if not (has_places s) then refused 10
-    else ticket (ticket_of (s.list ++ made s.list replica e) e.doc)
+-- the answer to an edit that nothing but the kept steps may refuse: steps 10
+abbrev pub edited_or : ℕ → State → Edit → Option ℕ → Answer
+edited_or replica s e (Some n) = refused n
+edited_or replica s e None =
+    if has_places s then ticket (ticket_of (s.list ++ made s.list replica e) e.doc) else refused 10
 
+-- the answers to an edit, in the order of test: failed 9, then its own refusals, steps 10
+abbrev pub edit_answer : ℕ → State → Edit → Answer
+edit_answer replica s e = if s.failed then refused 9 else edited_or replica s e (edit_refusal s.list replica e)
+
+-- the answer to a merge that a check may refuse: steps 10
 abbrev pub joined_or : State → Option ℕ → Answer
 joined_or s (Some n) = refused n
 joined_or s None = if has_places s then applied else refused 10
@@ -154,8 +155,8 @@ IsRefusal n _ = ⊥
 
 abbrev pub EditStep : ℕ → State → ℕ → Edit → Answer → State → Type 0
 EditStep replica s session e (ticket t) t' =
-    (edit_answer replica s session e ≡ ticket t) × (t' ≡ with_edit replica s session e)
-EditStep replica s session e (refused n) t' = IsRefusal n (edit_answer replica s session e) × (t' ≡ s)
+    (edit_answer replica s e ≡ ticket t) × (t' ≡ with_edit replica s session e)
+EditStep replica s session e (refused n) t' = IsRefusal n (edit_answer replica s e) × (t' ≡ s)
 EditStep replica s session e _ t' = ⊥
 
 abbrev pub MergeStep : ℕ → State → ℕ → Op → Answer → State → Type 0

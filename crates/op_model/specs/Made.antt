@@ -1,5 +1,6 @@
 -- The operations that an edit makes.
-use Rattle.std.specs.Prelude.{ℕ, zero, suc, ◌+◌, Bool, true, false, List, [], ◌∷◌, length, take, drop, map, filter, take_while, max, nat_lt, nat_le, ◌&&◌, ◌==◌, Option, Some, None}
+use Rattle.std.specs.Prelude.{not, if◌then◌else◌, ℕ, zero, suc, ◌+◌, Bool, true, false, List, [], ◌∷◌, length, take, drop, map, filter, take_while, max, nat_lt, nat_le, ◌&&◌, ◌==◌, ◌++◌, slice_get, Option, Some, None}
+use Rattle.std.specs.Option.{option_map}
 use Rattle.std.specs.List.{list_any}
 use Rattle.op_ids.specs.Id.{Id, is_same}
 use Rattle.op_ids.specs.Clock.{advanced}
@@ -18,9 +19,9 @@ use Rattle.op_model.specs.declared.edit.Change.{Change}
 use Rattle.op_model.specs.declared.edit.Change.TheVariants as change
 use Rattle.op_model.specs.Characters.{Character}
 use Rattle.op_model.specs.Walk.{walk}
-use Rattle.op_model.specs.Text.{is_removed, visible}
-use Rattle.op_model.specs.Marks.{key_of, markings}
-use Rattle.op_model.specs.Causality.{clock_of}
+use Rattle.op_model.specs.Text.{is_removed, visible, rev}
+use Rattle.op_model.specs.Marks.{key_of}
+use Rattle.op_model.specs.Causality.{clock_of, is_within_limits}
 
 -- what stands behind the first so many visible characters
 abbrev pub behind_visible : (Character → Bool) → ℕ → List Character → List Character
@@ -39,30 +40,45 @@ is_end_after id (end.To (After other)) = is_same other id
 is_end_after id (end.To (Before other)) = false
 is_end_after id end.OfText = false
 
+-- is a mark operation that ends just after this character
+abbrev pub is_marking_up_to : Id → Body → Bool
+is_marking_up_to id (body.AddMark mark start end) = is_end_after id end
+is_marking_up_to id (body.RemoveMark key start end) = is_end_after id end
+is_marking_up_to id (body.Insert origin value) = false
+is_marking_up_to id (body.Remove target) = false
+
 -- some mark operation of the document ends just after this character
 abbrev pub ends_after : List Op → ℕ → Id → Bool
-ends_after ops doc id = list_any (λ m. is_end_after id m.end) (markings ops doc)
+ends_after ops doc id = list_any (λ op. op.doc == doc && is_marking_up_to id op.body) ops
 
 -- the id of the last of these characters, or else this one
 abbrev pub last_or : Option Id → List Character → Option Id
 last_or before [] = before
 last_or before (c ∷ cs) = last_or (Some c.id) cs
 
--- the id of the n-th character, counted from 1
+-- the id of the character at an index
 abbrev pub id_at : List Character → ℕ → Option Id
-id_at cs zero = None
-id_at [] (suc n) = None
-id_at (c ∷ cs) (suc n) = elim n [ zero ↦ Some c.id | suc m ↦ id_at cs n ]
+id_at cs i = option_map (λ c. c.id) (slice_get cs i)
+
+-- the id of the last of the first so many characters
+abbrev pub id_before : List Character → ℕ → Option Id
+id_before cs zero = None
+id_before cs (suc i) = id_at cs i
 
 -- the origin of an insert behind the i-th visible character: of the tombstones there the last one that some mark ends after,
 -- so that the mark doesn't grow; else that visible character, or none at the beginning
 abbrev pub origin_of : List Op → ℕ → ℕ → Option Id
 origin_of ops doc i =
-    last_or (id_at (visible ops doc) i) (filter (λ c. ends_after ops doc c.id) (tombstones_at ops doc i))
+    last_or (id_before (visible ops doc) i) (filter (λ c. ends_after ops doc c.id) (tombstones_at ops doc i))
+
+-- just before this character, or at the start of the text
+abbrev pub start_before : Option Id → Start
+start_before None = start.OfText
+start_before (Some id) = start.From (Before id)
 
 -- the start of a mark from the visible character at this index on: just before it
 abbrev pub start_of : List Character → ℕ → Start
-start_of cs from = elim (id_at cs (from + 1)) [ Some id ↦ start.From (Before id) | None ↦ start.OfText ]
+start_of cs from = start_before (id_at cs from)
 
 -- just before this character, or at the end of the text
 abbrev pub end_before : Option Id → End
@@ -77,10 +93,10 @@ end_after (Some id) = end.To (After id)
 -- strong and em end just before the next visible character, or at the end of the text: they grow there. A link and a comment
 -- end just after their last character: they don't.
 abbrev pub end_of : List Character → MarkKey → ℕ → End
-end_of cs key.Strong to = end_before (id_at cs (to + 1))
-end_of cs key.Em to = end_before (id_at cs (to + 1))
-end_of cs key.Link to = end_after (id_at cs to)
-end_of cs (key.Comment id) to = end_after (id_at cs to)
+end_of cs key.Strong to = end_before (id_at cs to)
+end_of cs key.Em to = end_before (id_at cs to)
+end_of cs key.Link to = end_after (id_before cs to)
+end_of cs (key.Comment id) to = end_after (id_before cs to)
 
 -- the greatest counter of the operations
 abbrev pub greatest_counter : List Op → ℕ
@@ -134,3 +150,11 @@ is_small (change.Insert at text) = nat_le (length text) 256
 is_small (change.Delete at count) = nat_le count.value 256
 is_small (change.Mark from to mark) = true
 is_small (change.Unmark from to key) = true
+
+-- why an edit is refused, by its number, in the order of test: stale 6, range 5, limit 7
+abbrev pub edit_refusal : List Op → ℕ → Edit → Option ℕ
+edit_refusal ops replica e =
+    if not (is_at_rev (rev ops e.doc) e.rev) then Some 6
+    else if not (is_inside (length (visible ops e.doc)) e.change) then Some 5
+    else if not (is_small e.change && is_within_limits (ops ++ made ops replica e)) then Some 7
+    else None
