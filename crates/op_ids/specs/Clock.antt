@@ -1,6 +1,7 @@
 -- A vector clock says how many operations it counts of each replica. It is the list of its entries, a replica and a
 -- count each, in strictly rising order of replica.
-use Rattle.std.specs.Prelude.{◌≡◌, ℕ, ◌+◌, ◌≤◌, ◌<◌, ◌==◌, Bool, true, ◌&&◌, nat_lt, nat_le, if◌then◌else◌, List, [], ◌∷◌, length}
+use Rattle.std.specs.Prelude.{◌⊎◌, ◌<◌, ℕ, ◌+◌, ◌==◌, Bool, true, ◌&&◌, nat_lt, nat_le, max, if◌then◌else◌, List, [], ◌∷◌, length}
+use Rattle.std.specs.Cmp.Lexicographic.{pointwise}
 
 -- how many operations of a replica the clock counts
 abbrev pub count_of : List (ℕ × ℕ) → ℕ → ℕ
@@ -32,3 +33,43 @@ is_rising_above low (e ∷ es) = nat_lt low e.0 && nat_le 1 e.1 && nat_le e.1 16
 -- the entries of a clock: at most 16, each of a replica that isn't nil, rising
 abbrev pub is_clock : List (ℕ × ℕ) → Bool
 is_clock es = is_rising_above 0 es && nat_le (length es) 16
+
+-- how many entries are of replicas below this one
+abbrev pub place_of : List (ℕ × ℕ) → ℕ → ℕ
+place_of [] replica = 0
+place_of (e ∷ es) replica = if nat_lt e.0 replica then place_of es replica + 1 else 0
+
+-- the clock with this count of a replica
+abbrev pub with_count : List (ℕ × ℕ) → ℕ → ℕ → List (ℕ × ℕ)
+with_count [] replica count = (replica, count) ∷ []
+with_count (e ∷ es) replica count =
+    if nat_lt replica e.0 then (replica, count) ∷ e ∷ es
+    else if e.0 == replica then (replica, count) ∷ es
+    else e ∷ with_count es replica count
+
+-- the clock with the greater of both counts for each replica of the other
+abbrev pub joined : List (ℕ × ℕ) → List (ℕ × ℕ) → List (ℕ × ℕ)
+joined clock [] = clock
+joined clock (e ∷ es) = joined (with_count clock e.0 (max (count_of clock e.0) e.1)) es
+
+-- how many replicas the other clock counts and this one doesn't
+abbrev pub missing_from : List (ℕ × ℕ) → List (ℕ × ℕ) → ℕ
+missing_from clock [] = 0
+missing_from clock (e ∷ es) = (if count_of clock e.0 == 0 then 1 else 0) + missing_from clock es
+
+-- both entries count as many operations of one replica
+abbrev pub is_same_entry : ℕ × ℕ → ℕ × ℕ → Bool
+is_same_entry a b = a.0 == b.0 && a.1 == b.1
+
+-- both clocks have the same entries
+abbrev pub is_same_clock : List (ℕ × ℕ) → List (ℕ × ℕ) → Bool
+is_same_clock = pointwise is_same_entry
+
+-- how many operations the clock counts in all
+abbrev pub total_of : List (ℕ × ℕ) → ℕ
+total_of [] = 0
+total_of (e ∷ es) = e.1 + total_of es
+
+-- counts a seventeenth replica, or more than 2^24 operations in all
+pub record IsFull (clock : List (ℕ × ℕ)) : Type 0 where
+  pub over : (16 < length clock) ⊎ (16777216 < total_of clock)

@@ -2,9 +2,12 @@
 #![tactic(auto)]
 
 mod clock;
+mod clock_error;
+pub mod laws;
 mod op_id;
 mod replica_id;
 
-pub use clock::{Clock, ClockError};
-pub use op_id::OpId;
+pub use clock::{Clock, MAX_COUNT, MAX_REPLICAS};
+pub use clock_error::ClockError;
+pub use op_id::{MAX_COUNTER, OpId};
 pub use replica_id::ReplicaId;

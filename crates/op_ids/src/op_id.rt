@@ -1,4 +1,4 @@
-ghost use Rattle.std.specs.Prelude.{◌≡◌, ◌<◌, ◌^◌, ◌↔◌, IsTrue};
+ghost use Rattle.std.specs.Prelude.{◌≡◌, ◌+◌, ◌-◌, ◌<◌, ◌^◌, ◌↔◌, IsSome, IsNone, IfSome};
 ghost use Rattle.op_ids.specs.Id.{Id, is_below, is_same};
 
 use crate::ReplicaId;
@@ -38,6 +38,25 @@ impl OpId {
         OpId { counter, replica }
     }
 
+    /// The id with this counter and replica, or `None` where the counter isn't from 1 to 2^48 - 1.
+    pub fn try_new(counter: u64, replica: ReplicaId) -> Option<OpId>
+        ensures in_range { IsSome result ↔ ((0 < counter) × (counter < 2 ^ 48)) }
+        ensures value { IfSome result (λ id. id ≡ record { counter = counter; replica = replica }) }
+    {
+        if counter == 0 || counter > MAX_COUNTER {
+            return None;
+        }
+        Some(OpId { counter, replica })
+    }
+
+    /// The id of the same replica with the counter one higher, or `None` at the last counter.
+    pub fn next(self) -> Option<OpId>
+        ensures last { IsNone result ↔ (self.counter ≡ 2 ^ 48 - 1) }
+        ensures value { IfSome result (λ id. id ≡ record self { counter = self.counter + 1 }) }
+    {
+        OpId::try_new(self.counter + 1, self.replica)
+    }
+
     /// The counter, from 1 to 2^48 - 1.
     pub fn counter(self) -> u64
         ensures value { result ≡ self.counter }
@@ -66,5 +85,33 @@ impl OpId {
         ensures { result ≡ is_same self other }
     {
         self == other
+    }
+}
+
+#[cfg(test)]
+mod tests {
+    use super::*;
+    use std::test::Fail;
+
+    #[test]
+    fn ids_are_ordered_by_counter_first(rt: HostRuntime) -> Result<(), Fail> {
+        let low = ReplicaId::read([1; 16]).ok_or("nil")?;
+        let high = ReplicaId::read([2; 16]).ok_or("nil")?;
+        let first = OpId::try_new(1, high).ok_or("counter")?;
+        let second = OpId::try_new(2, low).ok_or("counter")?;
+        assert!(rt; first < second);
+        assert!(rt; first.next() == OpId::try_new(2, high));
+        assert!(rt; second < first.next().ok_or("last")?);
+        Ok(())
+    }
+
+    #[test]
+    fn counters_end_at_the_last(rt: HostRuntime) -> Result<(), Fail> {
+        let replica = ReplicaId::read([1; 16]).ok_or("nil")?;
+        let last = OpId::try_new(281_474_976_710_655, replica).ok_or("counter")?;
+        assert!(rt; last.next().is_none());
+        assert!(rt; OpId::try_new(281_474_976_710_656, replica).is_none());
+        assert!(rt; OpId::try_new(0, replica).is_none());
+        Ok(())
     }
 }

@@ -55,4 +55,35 @@ impl ReplicaId {
     {
         Uuid::from_u128(self.number)
     }
+
+    /// The sixteen bytes as a number, the highest first.
+    pub fn number(self) -> u128
+        ensures value { result ≡ self }
+        ensures above_zero { 0 < result }
+    {
+        self.number
+    }
+}
+
+#[cfg(test)]
+mod tests {
+    use super::*;
+    use std::test::Fail;
+
+    #[test]
+    fn a_uuid_names_a_replica(rt: HostRuntime) -> Result<(), Fail> {
+        let id = Uuid::parse_str("00000000-0000-4000-8000-000000000001")?;
+        let replica = ReplicaId::from_uuid(id).ok_or("nil")?;
+        let bytes = [0, 0, 0, 0, 0, 0, 0x40, 0, 0x80, 0, 0, 0, 0, 0, 0, 1];
+        assert_eq!(rt; replica.bytes().as_slice(), bytes.as_slice());
+        assert!(rt; ReplicaId::read(bytes) == Some(replica));
+        assert!(rt; replica.to_uuid() == id);
+        Ok(())
+    }
+
+    #[test]
+    fn nil_names_no_replica(rt: HostRuntime) {
+        assert!(rt; ReplicaId::read([0; 16]).is_none());
+        assert!(rt; ReplicaId::from_uuid(Uuid::nil()).is_none());
+    }
 }

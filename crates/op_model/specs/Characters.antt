@@ -2,7 +2,7 @@
 -- matter.
 use Rattle.std.specs.Prelude.{ℕ, ◌==◌, if◌then◌else◌, List, [], ◌∷◌, Option, Some, None}
 use Rattle.op_ids.specs.Id.{Id, is_below}
-pub use Rattle.op_model.specs.declared.character.Character.{Character}
+use Rattle.op_model.specs.declared.character.Character.{Character}
 use Rattle.op_model.specs.declared.op.Op.{Op}
 use Rattle.op_model.specs.declared.op.Body.{Body}
 use Rattle.op_model.specs.declared.op.Body.TheVariants.{Insert, Remove, AddMark, RemoveMark}

@@ -1,5 +1,5 @@
 -- The operations that an edit makes.
-use Rattle.std.specs.Prelude.{not, if◌then◌else◌, ℕ, zero, suc, ◌+◌, Bool, true, false, List, [], ◌∷◌, length, take, drop, map, filter, take_while, max, nat_lt, nat_le, ◌&&◌, ◌==◌, ◌++◌, slice_get, Option, Some, None}
+use Rattle.std.specs.Prelude.{not, if◌then◌else◌, ℕ, zero, suc, ◌+◌, ◌-◌, Bool, true, false, List, [], ◌∷◌, length, take, drop, map, filter, max, nat_lt, nat_le, ◌&&◌, ◌==◌, ◌++◌, slice_get, Option, Some, None}
 use Rattle.std.specs.Option.{option_map}
 use Rattle.std.specs.List.{list_any}
 use Rattle.op_ids.specs.Id.{Id, is_same}
@@ -17,7 +17,7 @@ use Rattle.op_model.specs.declared.mark.MarkKey.TheVariants as key
 use Rattle.op_model.specs.declared.edit.Edit.{Edit}
 use Rattle.op_model.specs.declared.edit.Change.{Change}
 use Rattle.op_model.specs.declared.edit.Change.TheVariants as change
-use Rattle.op_model.specs.Characters.{Character}
+use Rattle.op_model.specs.declared.character.Character.{Character}
 use Rattle.op_model.specs.Walk.{walk}
 use Rattle.op_model.specs.Text.{is_removed, visible, rev}
 use Rattle.op_model.specs.Marks.{key_of}
@@ -25,14 +25,18 @@ use Rattle.op_model.specs.Causality.{clock_of, is_within_limits}
 
 -- what stands behind the first so many visible characters
 abbrev pub behind_visible : (Character → Bool) → ℕ → List Character → List Character
-behind_visible hidden zero cs = cs
-behind_visible hidden (suc n) [] = []
-behind_visible hidden (suc n) (c ∷ cs) =
-    elim (hidden c) [ true ↦ behind_visible hidden (suc n) cs | false ↦ behind_visible hidden n cs ]
+behind_visible hidden n [] = []
+behind_visible hidden n (c ∷ cs) =
+    if n == 0 then c ∷ cs else behind_visible hidden (if hidden c then n else n - 1) cs
+
+-- the tombstones that these characters begin with
+abbrev pub first_hidden : (Character → Bool) → List Character → List Character
+first_hidden hidden [] = []
+first_hidden hidden (c ∷ cs) = if hidden c then c ∷ first_hidden hidden cs else []
 
 -- the tombstones between the i-th visible character, or the beginning, and the next visible one
 abbrev pub tombstones_at : List Op → ℕ → ℕ → List Character
-tombstones_at ops doc i = take_while (is_removed ops doc) (behind_visible (is_removed ops doc) i (walk ops doc))
+tombstones_at ops doc i = first_hidden (is_removed ops doc) (behind_visible (is_removed ops doc) i (walk ops doc))
 
 -- a mark operation that ends here ends just after this character
 abbrev pub is_end_after : Id → End → Bool

@@ -1,7 +1,7 @@
 -- Mark operations, and which of them decide.
 use Rattle.std.specs.Prelude.{ℕ, ◌==◌, Bool, true, false, if◌then◌else◌, List, [], ◌∷◌, filter, filter_map, Option, Some, None}
 use Rattle.op_ids.specs.Id.{Id, is_below}
-pub use Rattle.op_model.specs.declared.marking.Marking.{Marking}
+use Rattle.op_model.specs.declared.marking.Marking.{Marking}
 use Rattle.op_model.specs.declared.op.Op.{Op}
 use Rattle.op_model.specs.declared.op.Body.{Body}
 use Rattle.op_model.specs.declared.op.Body.TheVariants.{Insert, Remove, AddMark, RemoveMark}

@@ -8,8 +8,8 @@ use Rattle.op_model.specs.declared.anchor.Start.{Start}
 use Rattle.op_model.specs.declared.anchor.Start.TheVariants as start
 use Rattle.op_model.specs.declared.anchor.End.{End}
 use Rattle.op_model.specs.declared.anchor.End.TheVariants as end
-use Rattle.op_model.specs.Characters.{Character}
-use Rattle.op_model.specs.Marks.{Marking}
+use Rattle.op_model.specs.declared.character.Character.{Character}
+use Rattle.op_model.specs.declared.marking.Marking.{Marking}
 
 -- how many characters stand before the one with this id; all of them where there is none
 abbrev pub index_of : Id → List Character → ℕ

@@ -3,7 +3,8 @@ use Rattle.std.specs.Prelude.{◌≡◌, ℕ, ◌==◌, Bool, true, false, ◌&&
 use Rattle.std.specs.List.{list_any}
 use Rattle.op_ids.specs.Id.{Id, is_below, is_same}
 use Rattle.op_model.specs.declared.op.Op.{Op}
-use Rattle.op_model.specs.Characters.{Character, characters}
+use Rattle.op_model.specs.declared.character.Character.{Character}
+use Rattle.op_model.specs.Characters.{characters}
 use Rattle.op_model.specs.Causality.{named_by}
 
 -- before the first of these that has no greater id

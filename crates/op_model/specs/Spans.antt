@@ -7,10 +7,11 @@ use Rattle.op_model.specs.declared.mark.MarkKey.{MarkKey}
 use Rattle.op_model.specs.declared.mark.MarkKey.TheVariants as key
 use Rattle.op_model.specs.declared.mark.Marks.{Marks}
 use Rattle.op_model.specs.declared.span.Span.{Span}
-use Rattle.op_model.specs.Characters.{Character}
+use Rattle.op_model.specs.declared.character.Character.{Character}
 use Rattle.op_model.specs.Walk.{walk}
 use Rattle.op_model.specs.Text.{is_removed}
-use Rattle.op_model.specs.Marks.{Marking, markings, is_key, greatest}
+use Rattle.op_model.specs.declared.marking.Marking.{Marking}
+use Rattle.op_model.specs.Marks.{markings, is_key, greatest}
 use Rattle.op_model.specs.Places.{covers}
 
 -- of the mark operations of a key that cover the k-th character, the one with the greatest id

@@ -5,7 +5,7 @@ use Rattle.op_ids.specs.Id.{Id, is_same}
 use Rattle.op_model.specs.declared.op.Op.{Op}
 use Rattle.op_model.specs.declared.op.Body.{Body}
 use Rattle.op_model.specs.declared.op.Body.TheVariants.{Insert, Remove, AddMark, RemoveMark}
-use Rattle.op_model.specs.Characters.{Character}
+use Rattle.op_model.specs.declared.character.Character.{Character}
 use Rattle.op_model.specs.Walk.{walk}
 
 -- removes the character of this id

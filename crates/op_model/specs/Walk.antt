@@ -2,7 +2,8 @@
 use Rattle.std.specs.Prelude.{◌≡◌, ℕ, ◌+◌, Bool, true, false, if◌then◌else◌, List, [], ◌∷◌, ◌++◌, Option, Some, None}
 use Rattle.op_ids.specs.Id.{Id, is_below, is_same}
 use Rattle.op_model.specs.declared.op.Op.{Op}
-use Rattle.op_model.specs.Characters.{Character, characters}
+use Rattle.op_model.specs.declared.character.Character.{Character}
+use Rattle.op_model.specs.Characters.{characters}
 
 -- both are the beginning of the text, or one character
 abbrev pub is_parent : Option Id → Option Id → Bool

@@ -1,1 +1,3 @@
+pub mod EditError
 pub mod Joining
+pub mod Numbering

@@ -1,11 +1,15 @@
 //! The definitions of the model as plain programs over a list of operations: slow, but exactly what they say.
 #![tactic(auto)]
 
+mod edit_error;
 mod formatting;
+mod numbering;
 mod order;
+mod placing;
 mod reading;
 mod spanning;
 
+pub use edit_error::EditError;
 pub use formatting::{markings, marks_of};
 pub use order::{characters, walk};
 pub use reading::{is_removed, rev, text, visible};

@@ -1,0 +1,5 @@
+pub mod ClockLemmas
+pub mod JoinLemmas
+pub mod EqualityLemmas
+pub mod FullLemmas
+pub mod IdLemmas

@@ -1,0 +1,37 @@
+ghost use Rattle.std.specs.Prelude.{◌≡◌};
+ghost use Rattle.op_ids.specs.declared.clock_error.ClockError.TheVariants.{Memory, Limit};
+
+use std::alloc::AllocError;
+use thiserror::Error;
+
+/// Why a clock stays as it was.
+#[derive(Clone, Copy, Debug, Drop, PartialEq, Eq, Error)]
+pub enum ClockError {
+    /// 1: a growth was refused.
+    #[error("memory")]
+    Memory,
+    /// 7: there would be a seventeenth replica, or a count above 2^24.
+    #[error("limit")]
+    Limit,
+}
+
+impl From<AllocError> for ClockError {
+    ghost from_gives = { λ _ e. e ≡ Memory };
+
+    fn from(_error: AllocError) -> ClockError {
+        ClockError::Memory
+    }
+}
+
+impl ClockError {
+    /// The number of the refusal: 1 or 7.
+    pub fn number(self) -> u8
+        ensures memory { self ≡ Memory → result ≡ 1 }
+        ensures limit { self ≡ Limit → result ≡ 7 }
+    {
+        match self {
+            ClockError::Memory => 1,
+            ClockError::Limit => 7,
+        }
+    }
+}

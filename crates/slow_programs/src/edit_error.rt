@@ -1,0 +1,49 @@
+ghost use Rattle.std.specs.Prelude.{◌≡◌};
+
+use std::alloc::AllocError;
+use thiserror::Error;
+
+/// Why an edit makes nothing.
+#[derive(Clone, Copy, Debug, Drop, PartialEq, Eq, Error)]
+pub enum EditError {
+    /// 1: a growth was refused.
+    #[error("memory")]
+    Memory,
+    /// 6: the document doesn't have the number of operations that was asked for.
+    #[error("stale")]
+    Stale,
+    /// 5: a place outside the visible text.
+    #[error("range")]
+    Range,
+    /// 7: more than 256 characters, or a limit of the store would be passed.
+    #[error("limit")]
+    Limit,
+}
+
+impl EditError {
+    ghost use Rattle.std.specs.Prelude.{◌≡◌};
+    ghost use Rattle.slow_programs.specs.EditError.{number_of};
+
+    /// The number of the refusal.
+    pub fn number(self) -> u8
+        ensures { result ≡ number_of self }
+    {
+        match self {
+            EditError::Memory => 1,
+            EditError::Stale => 6,
+            EditError::Range => 5,
+            EditError::Limit => 7,
+        }
+    }
+}
+
+impl From<AllocError> for EditError {
+    ghost use Rattle.std.specs.Prelude.{◌≡◌};
+    ghost use Rattle.slow_programs.specs.declared.edit_error.EditError.TheVariants.{Memory};
+
+    ghost from_gives = { λ _ result. result ≡ Memory };
+
+    fn from(_: AllocError) -> EditError {
+        EditError::Memory
+    }
+}
