@@ -1,4 +1,4 @@
-ghost use Rattle.std.specs.Prelude.{◌≡◌, ℕ, List, [], ◌==◌, ◌↔◌, IsTrue, IsSome, IfSome, IfOk, OnOk, OnErr, IsErrOf, true, false, nat_le, max};
+ghost use Rattle.std.specs.Prelude.{◌≤◌, length, ◌≡◌, ℕ, List, [], ◌==◌, ◌↔◌, IsTrue, IsSome, IfSome, IfOk, OnOk, OnErr, IsErrOf, true, false, nat_le, max};
 ghost use Rattle.op_ids.specs.Clock.{count_of, advanced, joined, is_within, is_ready, is_clock, with_count, place_of, missing_from, is_same_clock, IsFull};
 
 use crate::{ClockError, ReplicaId};
@@ -57,6 +57,21 @@ impl Clock {
         ensures rising { is_clock result.now ≡ true }
     {
         &self.entries
+    }
+
+    /// How many replicas are counted: at most 16.
+    pub fn len(&self) -> usize
+        ensures value { result ≡ length self.now }
+        ensures within { result ≤ 16 }
+    {
+        self.entries.len()
+    }
+
+    /// Whether nothing is counted.
+    pub fn is_empty(&self) -> bool
+        ensures { IsTrue result ↔ (self.now ≡ []) }
+    {
+        self.entries.is_empty()
     }
 
     /// Another clock with the same entries.

@@ -155,6 +155,13 @@ is_small (change.Delete at count) = nat_le count.value 256
 is_small (change.Mark from to mark) = true
 is_small (change.Unmark from to key) = true
 
+-- how many operations a change makes
+abbrev pub size_of : Change → ℕ
+size_of (change.Insert at text) = length text
+size_of (change.Delete at count) = count.value
+size_of (change.Mark from to mark) = 1
+size_of (change.Unmark from to key) = 1
+
 -- why an edit is refused, by its number, in the order of test: stale 6, range 5, limit 7
 abbrev pub edit_refusal : List Op → ℕ → Edit → Option ℕ
 edit_refusal ops replica e =

@@ -1,5 +1,5 @@
 -- How many bytes an operation's record takes, for the limit on the stream of a store.
-use Rattle.std.specs.Prelude.{ℕ, ◌+◌, ◌*◌, List, length, sum_by, Option, Some, None}
+use Rattle.std.specs.Prelude.{ℕ, ◌+◌, ◌*◌, List, length, [], ◌∷◌, Option, Some, None}
 use Rattle.op_ids.specs.Id.{Id}
 use Rattle.op_model.specs.declared.op.Op.{Op}
 use Rattle.op_model.specs.declared.op.Body.{Body}
@@ -52,4 +52,5 @@ record_length op = 34 + 24 * length op.deps + body_length op.body
 
 -- the records of all operations, one after another
 abbrev pub stream_length : List Op → ℕ
-stream_length ops = sum_by record_length ops
+stream_length [] = 0
+stream_length (op ∷ ops) = record_length op + stream_length ops

@@ -2,7 +2,9 @@
 #![tactic(auto)]
 
 mod edit_error;
+mod editing;
 mod formatting;
+mod limits;
 mod numbering;
 mod order;
 mod placing;

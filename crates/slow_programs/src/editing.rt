@@ -1,0 +1,190 @@
+ghost use Rattle.std.specs.Prelude.{◌≡◌, ◌≢◌, ◌⊎◌, ℕ, ◌+◌, ◌≤◌, ◌<◌, ◌^◌, ◌++◌, List, length, map, Option, Some, None, true, false, IfOk, IfErr};
+ghost use Rattle.op_model.specs.Text.{visible as visible_of, rev as rev_of};
+ghost use Rattle.op_model.specs.Causality.{is_within_limits as is_within_limits_of};
+ghost use Rattle.op_model.specs.Made.{is_at_rev as is_at_rev_of, is_inside as is_inside_of, is_small as is_small_of, made as made_of, bodies_of as bodies_in, edit_refusal, insert_bodies as insert_bodies_of, origin_of, start_before as start_before_of, end_before as end_before_of, end_after as end_after_of, end_of, size_of, greatest_counter as greatest_in};
+ghost use Rattle.slow_programs.specs.EditError.{number_of};
+
+use crate::edit_error::EditError;
+use crate::limits::is_within_limits;
+use crate::numbering::{clock_of, greatest_counter, numbered};
+use crate::order::walk;
+use crate::placing::{behind, id_at, id_before, last_end};
+use crate::reading::{rev, visible};
+use op_ids::{ClockError, OpId, ReplicaId};
+use op_model::{Anchor, Body, Change, Character, Edit, End, MarkKey, Op, Start};
+use std::alloc::{AllocError, Global};
+
+fn is_at_rev(count: usize, asked: &Option<u32>) -> bool
+    ensures { result ≡ is_at_rev_of count asked.now }
+{
+    match asked {
+        None => true,
+        Some(asked) => count == *asked as usize,
+    }
+}
+
+fn is_inside(count: usize, change: &Change) -> bool
+    ensures { result ≡ is_inside_of count change.now }
+{
+    match change {
+        Change::Insert { at, .. } => *at as usize <= count,
+        Change::Delete { at, count: removed } => *at as usize + removed.get() as usize <= count,
+        Change::Mark { from, to, .. } => *from < *to && *to as usize <= count,
+        Change::Unmark { from, to, .. } => *from < *to && *to as usize <= count,
+    }
+}
+
+fn is_small(change: &Change) -> bool
+    ensures { result ≡ is_small_of change.now }
+{
+    match change {
+        Change::Insert { text, .. } => text.as_slice().len() <= 256,
+        Change::Delete { count, .. } => count.get() <= 256,
+        _ => true,
+    }
+}
+
+/// Where an insert behind so many visible characters hangs.
+fn origin(
+    alloc: Global,
+    ops: &[Op],
+    doc: u32,
+    seen: &[Character],
+    at: usize,
+) -> Result<Option<OpId>, AllocError>
+    requires { seen.now ≡ visible_of ops.now doc }
+    ensures { IfOk result (λ origin. origin ≡ origin_of ops.now doc at) }
+{
+    let walked = walk(alloc, ops, doc)?;
+    let rest = walked.split_at(behind(ops, doc, &walked, at)).1;
+    Ok(last_end(ops, doc, id_before(seen, at), rest))
+}
+
+/// Inserts of characters, the first behind this origin, each later one behind the one before.
+fn insert_bodies(
+    alloc: Global,
+    replica: ReplicaId,
+    counter: u64,
+    origin: Option<OpId>,
+    text: &[char],
+) -> Result<Vec<Body>, AllocError>
+    requires above_zero { 0 < counter }
+    requires in_range { counter + length text.now ≤ 2 ^ 48 }
+    ensures { IfOk result (λ bodies. bodies.items ≡ insert_bodies_of replica counter origin text.now) }
+{
+    let mut bodies = Vec::new(alloc);
+    let mut behind = origin;
+    let mut next = counter;
+    for value in text {
+        bodies.push(Body::Insert {
+            origin: behind,
+            value: *value,
+        })?;
+        behind = Some(OpId::new(next, replica));
+        next += 1;
+    }
+    Ok(bodies)
+}
+
+fn start_before(id: Option<OpId>) -> Start
+    ensures { result ≡ start_before_of id }
+{
+    match id {
+        None => Start::OfText,
+        Some(id) => Start::From(Anchor::Before(id)),
+    }
+}
+
+fn end_before(id: Option<OpId>) -> End
+    ensures { result ≡ end_before_of id }
+{
+    match id {
+        None => End::OfText,
+        Some(id) => End::To(Anchor::Before(id)),
+    }
+}
+
+fn end_after(id: Option<OpId>) -> End
+    ensures { result ≡ end_after_of id }
+{
+    match id {
+        None => End::OfText,
+        Some(id) => End::To(Anchor::After(id)),
+    }
+}
+
+/// Strong and em end just before the next visible character, or at the end of the text: they grow there. A link
+/// and a comment end just after their last character: they don't.
+fn end(seen: &[Character], key: &MarkKey, to: usize) -> End
+    ensures { result ≡ end_of seen.now key.now to }
+{
+    match key {
+        MarkKey::Strong | MarkKey::Em => end_before(id_at(seen, to)),
+        MarkKey::Link | MarkKey::Comment(_) => end_after(id_before(seen, to)),
+    }
+}
+
+/// What an edit's operations do, the first with this counter.
+fn bodies(
+    alloc: Global,
+    ops: &[Op],
+    replica: ReplicaId,
+    edit: &Edit,
+    seen: &[Character],
+    counter: u64,
+) -> Result<Vec<Body>, AllocError>
+    requires seen { seen.now ≡ visible_of ops.now edit.now.doc }
+    requires inside { is_inside_of (length seen.now) edit.now.change ≡ true }
+    requires counter { counter ≡ greatest_in ops.now + 1 }
+    requires in_range { counter + size_of edit.now.change ≤ 2 ^ 48 }
+    ensures { IfOk result (λ bodies. bodies.items ≡ bodies_in ops.now replica edit.now.doc edit.now.change) }
+{
+    let mut bodies = Vec::new(alloc);
+    match &edit.change {
+        Change::Insert { at, text } => {
+            let origin = origin(alloc, ops, edit.doc, seen, *at as usize)?;
+            return insert_bodies(alloc, replica, counter, origin, text.as_slice());
+        }
+        Change::Delete { at, count } => {
+            let removed = seen
+                .split_at(*at as usize)
+                .1
+                .split_at(count.get() as usize)
+                .0;
+            return remove_bodies(alloc, removed);
+        }
+        Change::Mark { from, to, mark } => bodies.push(Body::AddMark {
+            mark: mark.copy()?,
+            start: start_before(id_at(seen, *from as usize)),
+            end: end(seen, &mark.key(), *to as usize),
+        })?,
+        Change::Unmark { from, to, key } => bodies.push(Body::RemoveMark {
+            key: *key,
+            start: start_before(id_at(seen, *from as usize)),
+            end: end(seen, key, *to as usize),
+        })?,
+    }
+    Ok(bodies)
+}
+
+fn remove_bodies(alloc: Global, removed: &[Character]) -> Result<Vec<Body>, AllocError>
+    ensures { IfOk result (λ bodies. bodies.items ≡ map (λ c. Body.Remove c.id) removed.now) }
+{
+    removed
+        .iter()
+        .map(|character| Body::Remove {
+            target: character.id,
+        })
+        .collect(alloc)
+}
+
+/// How many operations a change makes.
+fn size(change: &Change) -> u64
+    ensures { result ≡ size_of change.now }
+{
+    match change {
+        Change::Insert { text, .. } => text.as_slice().len() as u64,
+        Change::Delete { count, .. } => count.get() as u64,
+        _ => 1,
+    }
+}
