@@ -1,3 +1,4 @@
+pub mod Asking
 pub mod EditError
 pub mod Joining
 pub mod Numbering

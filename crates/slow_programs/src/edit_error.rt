@@ -1,5 +1,6 @@
 ghost use Rattle.std.specs.Prelude.{◌≡◌};
 
+use op_ids::ClockError;
 use std::alloc::AllocError;
 use thiserror::Error;
 
@@ -45,5 +46,19 @@ impl From<AllocError> for EditError {
 
     fn from(_: AllocError) -> EditError {
         EditError::Memory
+    }
+}
+
+impl From<ClockError> for EditError {
+    ghost use Rattle.std.specs.Prelude.{◌≡◌};
+    ghost use Rattle.slow_programs.specs.EditError.{of_clock};
+
+    ghost from_gives = { λ error result. result ≡ of_clock error };
+
+    fn from(error: ClockError) -> EditError {
+        match error {
+            ClockError::Memory => EditError::Memory,
+            ClockError::Limit => EditError::Limit,
+        }
     }
 }

@@ -3,6 +3,7 @@ ghost use Rattle.op_model.specs.Text.{visible as visible_of, rev as rev_of};
 ghost use Rattle.op_model.specs.Causality.{is_within_limits as is_within_limits_of};
 ghost use Rattle.op_model.specs.Made.{is_at_rev as is_at_rev_of, is_inside as is_inside_of, is_small as is_small_of, made as made_of, bodies_of as bodies_in, edit_refusal, insert_bodies as insert_bodies_of, origin_of, start_before as start_before_of, end_before as end_before_of, end_after as end_after_of, end_of, size_of, greatest_counter as greatest_in};
 ghost use Rattle.slow_programs.specs.EditError.{number_of};
+ghost use Rattle.slow_programs.specs.Asking.{IsAskedRight};
 
 use crate::edit_error::EditError;
 use crate::limits::is_within_limits;
@@ -10,7 +11,7 @@ use crate::numbering::{clock_of, greatest_counter, numbered};
 use crate::order::walk;
 use crate::placing::{behind, id_at, id_before, last_end};
 use crate::reading::{rev, visible};
-use op_ids::{ClockError, OpId, ReplicaId};
+use op_ids::{MAX_COUNTER, OpId, ReplicaId};
 use op_model::{Anchor, Body, Change, Character, Edit, End, MarkKey, Op, Start};
 use std::alloc::{AllocError, Global};
 
@@ -178,13 +179,80 @@ fn remove_bodies(alloc: Global, removed: &[Character]) -> Result<Vec<Body>, Allo
         .collect(alloc)
 }
 
-/// How many operations a change makes.
+/// How many operations a change makes: at least one.
 fn size(change: &Change) -> u64
-    ensures { result ≡ size_of change.now }
+    ensures value { result ≡ size_of change.now }
+    ensures some { 0 < result }
 {
     match change {
         Change::Insert { text, .. } => text.as_slice().len() as u64,
         Change::Delete { count, .. } => count.get() as u64,
         _ => 1,
     }
+}
+
+/// The characters that a reader sees of the edit's document, where nothing but a limit of the store may refuse the edit.
+fn readable(alloc: Global, ops: &[Op], edit: &Edit) -> Result<Vec<Character>, EditError>
+    ensures seen { IfOk result (λ seen. seen.items ≡ visible_of ops.now edit.now.doc) }
+    ensures ok { IfOk result (λ _. IsAskedRight ops.now edit.now) }
+    ensures refused { IfErr result (λ e. e ≢ EditError.Memory
+        → (replica : ℕ) → edit_refusal ops.now replica edit.now ≡ Some (number_of e)) }
+{
+    if !is_at_rev(rev(ops, edit.doc), &edit.rev) {
+        return Err(EditError::Stale);
+    }
+    let seen = visible(alloc, ops, edit.doc)?;
+    if !is_inside(seen.len(), &edit.change) {
+        return Err(EditError::Range);
+    }
+    if !is_small(&edit.change) {
+        return Err(EditError::Limit);
+    }
+    Ok(seen)
+}
+
+/// The operations of an edit that asks right, where they keep the limits of a store.
+fn made_within(
+    alloc: Global,
+    ops: &[Op],
+    replica: ReplicaId,
+    edit: &Edit,
+    seen: &[Character],
+) -> Result<Vec<Op>, EditError>
+    requires seen { seen.now ≡ visible_of ops.now edit.now.doc }
+    requires right { IsAskedRight ops.now edit.now }
+    ensures made { IfOk result (λ made. made.items ≡ made_of ops.now replica edit.now) }
+    ensures within { IfOk result (λ _.
+        is_within_limits_of (ops.now ++ made_of ops.now replica edit.now) ≡ true) }
+    ensures limit { IfErr result (λ e. e ≢ EditError.Memory → (e ≡ EditError.Limit)
+        × (is_within_limits_of (ops.now ++ made_of ops.now replica edit.now) ≡ false)) }
+{
+    let next = greatest_counter(ops) + 1;
+    if next + size(&edit.change) > MAX_COUNTER + 1 {
+        return Err(EditError::Limit);
+    }
+    let bodies = bodies(alloc, ops, replica, edit, seen, next)?;
+    let clock = clock_of(alloc, ops)?;
+    let (made, clock) = numbered(alloc, replica, edit.doc, next, clock, &bodies)?;
+    if !is_within_limits(alloc, ops, &made, &clock)? {
+        return Err(EditError::Limit);
+    }
+    Ok(made)
+}
+
+/// The operations that an edit adds to a replica's list. It is refused by the first cause, in this order: `Stale` (6),
+/// `Range` (5), `Limit` (7); and `Memory` (1) where a growth was refused.
+pub fn made(
+    alloc: Global,
+    ops: &[Op],
+    replica: ReplicaId,
+    edit: &Edit,
+) -> Result<Vec<Op>, EditError>
+    ensures made { IfOk result (λ made. made.items ≡ made_of ops.now replica edit.now) }
+    ensures due { IfOk result (λ _. edit_refusal ops.now replica edit.now ≡ None) }
+    ensures refused { IfErr result (λ e. e ≢ EditError.Memory
+        → edit_refusal ops.now replica edit.now ≡ Some (number_of e)) }
+{
+    let seen = readable(alloc, ops, edit)?;
+    made_within(alloc, ops, replica, edit, &seen)
 }

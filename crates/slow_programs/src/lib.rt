@@ -12,6 +12,7 @@ mod reading;
 mod spanning;
 
 pub use edit_error::EditError;
+pub use editing::made;
 pub use formatting::{markings, marks_of};
 pub use order::{characters, walk};
 pub use reading::{is_removed, rev, text, visible};
