@@ -26,7 +26,7 @@ IsFull-advanced es r full =
     let sum = total_of-advanced es r in
     let long = length-le-advanced es r in
     record {
-      over = ⊎_elim (λ (h : 16 < length es). inl (omega arith)) (λ (h : 16777216 < total_of es). inr (omega arith)) full.over
+      over = ⊎_elim (λ (h : 16 < length es). inl (omega arith)) (λ (h : 16777216 < total_of es). inr (omega arith)) full.over;
     }
 
 -- where one more operation leaves no clock, it would count too much
@@ -39,9 +39,9 @@ is_full_advanced es r valid positive full =
     let most = count_of-le-total es r in
     record {
       over = ⊎_elim
-        (λ (none : (count_of es r == 0) ≡ true). let many : 16 < length (advanced es r) = grind (arith, nat_tests) in inl many)
-        (λ (some : (count_of es r == 0) ≡ false). let many : 16777216 < total_of (advanced es r) = grind (arith, nat_tests) in inr many)
-        (cases_Bool (count_of es r == 0))
+          (λ (none : (count_of es r == 0) ≡ true). let many : 16 < length (advanced es r) = grind (arith, nat_tests) in inl many)
+          (λ (some : (count_of es r == 0) ≡ false). let many : 16777216 < total_of (advanced es r) = grind (arith, nat_tests) in inr many)
+          (cases_Bool (count_of es r == 0));
     }
 
 -- the order in which two replicas are counted doesn't matter

@@ -1,5 +1,6 @@
+pub mod ByteLemmas
 pub mod ClockLemmas
-pub mod JoinLemmas
 pub mod EqualityLemmas
-pub mod FullLemmas
 pub mod IdLemmas
+pub mod JoinLemmas
+pub mod FullLemmas

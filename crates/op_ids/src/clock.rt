@@ -129,7 +129,6 @@ impl Clock {
         ensures fits { result ≡ is_clock (advanced self.now replica) }
         ensures full { result ≡ false → IsFull (advanced self.now replica) }
     {
-        prove!(replica.number() > 0, "no replica is nil");
         let count = self.get(replica);
         if count == 0 {
             return self.entries.len() < MAX_REPLICAS;
@@ -141,7 +140,8 @@ impl Clock {
     /// 2^24, `Memory` (1) where a growth was refused.
     pub fn advance(&mut self, replica: ReplicaId) -> Result<(), ClockError>
         ensures ok { OnOk result (self.new ≡ advanced self.old replica) }
-        ensures limit { IsErrOf result ClockError.Limit ↔ (is_clock (advanced self.old replica) ≡ false) }
+        ensures limit { IsErrOf result ClockError.Limit
+            ↔ (is_clock (advanced self.old replica) ≡ false) }
         ensures full { IsErrOf result ClockError.Limit → IsFull (advanced self.old replica) }
         ensures err { OnErr result (self.new ≡ self.old) }
     {
@@ -164,7 +164,8 @@ impl Clock {
     /// `Memory` (1) where a growth was refused.
     pub fn join(&mut self, other: &Clock) -> Result<(), ClockError>
         ensures ok { OnOk result (self.new ≡ joined self.old other.now) }
-        ensures limit { IsErrOf result ClockError.Limit ↔ (is_clock (joined self.old other.now) ≡ false) }
+        ensures limit { IsErrOf result ClockError.Limit
+            ↔ (is_clock (joined self.old other.now) ≡ false) }
         ensures greater { OnOk result
             ((r : ℕ) → count_of self.new r ≡ max (count_of self.old r) (count_of other.now r)) }
         ensures err { OnErr result (self.new ≡ self.old) }

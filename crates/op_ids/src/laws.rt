@@ -29,16 +29,17 @@ pub fn same_is_exact(a: OpId, b: OpId)
 /// The number of a replica isn't 0.
 pub fn replica_is_not_nil(replica: ReplicaId)
     ensures { 0 < replica }
-{
-    let _ = replica.number();
-}
+{}
+
+/// Any sixteen bytes are those of the number that they are read as.
+pub fn bytes_undo_read(bytes: [u8; 16])
+    ensures { to_be_bytes w128 (from_be_bytes w128 bytes) ≡ bytes }
+{}
 
 /// Reading the bytes of a replica gives the replica.
 pub fn read_undoes_bytes(replica: ReplicaId)
     ensures { from_be_bytes w128 (to_be_bytes w128 replica) ≡ replica }
-{
-    let _ = replica.bytes();
-}
+{}
 
 /// One more operation of a replica raises its count by one.
 pub fn advanced_adds_one(clock: &Clock, replica: ReplicaId)
@@ -49,7 +50,8 @@ pub fn advanced_adds_one(clock: &Clock, replica: ReplicaId)
 
 /// One more operation of a replica changes the count of no other.
 pub fn advanced_keeps_others(clock: &Clock, replica: ReplicaId)
-    ensures { (other : ℕ) → other ≢ replica → count_of (advanced clock.now replica) other ≡ count_of clock.now other }
+    ensures { (other : ℕ) → other ≢ replica
+        → count_of (advanced clock.now replica) other ≡ count_of clock.now other }
 {}
 
 /// One more operation of a replica leaves the entries in rising order, up to 2^24 operations.
@@ -57,13 +59,13 @@ pub fn advanced_rises(clock: &Clock, replica: ReplicaId)
     requires { count_of clock.now replica < 2 ^ 24 }
     ensures { is_rising_above 0 (advanced clock.now replica) ≡ true }
 {
-    let _ = replica.number();
     let _ = clock.entries();
 }
 
 /// Two clocks with the same count of every replica are the same.
 pub fn counts_determine(a: &Clock, b: &Clock)
-    ensures { ((replica : ℕ) → count_of a.now replica ≡ count_of b.now replica) → a.now ≡ b.now }
+    ensures { ((replica : ℕ) → count_of a.now replica ≡ count_of b.now replica)
+        → a.now ≡ b.now }
 {
     let _ = a.entries();
     let _ = b.entries();

@@ -58,8 +58,7 @@ impl ReplicaId {
 
     /// The sixteen bytes as a number, the highest first.
     pub fn number(self) -> u128
-        ensures value { result ≡ self }
-        ensures above_zero { 0 < result }
+        ensures { result ≡ self }
     {
         self.number
     }

@@ -10,7 +10,7 @@ use op_ids::{Clock, OpId};
 use std::alloc::AllocError;
 
 /// An operation, as one replica makes it and all others apply it.
-#[derive(Debug, Drop)]
+#[derive(Debug, Drop, PartialEq, Eq)]
 pub struct Op {
     pub id: OpId,
     /// The number of its document, from 1 on. A document of number 0 is refused when the operation is merged.
@@ -73,6 +73,18 @@ impl Body {
 }
 
 impl Op {
+    /// The same operation again. An error is want of memory (1).
+    pub fn copy(&self) -> Result<Op, AllocError>
+        ensures { IfOk result (λ copied. copied ≡ self.now) }
+    {
+        Ok(Op {
+            id: self.id,
+            doc: self.doc,
+            deps: self.deps.copy()?,
+            body: self.body.copy()?,
+        })
+    }
+
     /// The character that the operation makes, if it is an insert.
     pub fn character(&self) -> Option<Character>
         ensures { result ≡ character_of self.now.id self.now.body }

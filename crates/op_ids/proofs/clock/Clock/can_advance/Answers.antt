@@ -1,4 +1,4 @@
-use Rattle.std.proofs.Common.{◌≡◌, ◌<◌, true, false, ap, ◌∙◌, sym, arith}
+use Rattle.std.proofs.Common.{rules, ◌≡◌, ◌<◌, true, false, ap, ◌∙◌, sym, arith}
 use Rattle.std.proofs.lemmas.Bool.Decides.{nat_tests}
 use Rattle.op_ids.specs.Clock.{is_clock, advanced}
 use Rattle.op_ids.proofs.ClockLemmas.{is_clock-advanced}
@@ -7,21 +7,21 @@ use Rattle.op_ids.proofs.clock.Clock.can_advance.Goals as goal
 
 pub returns-then-count-eq0-clause-fits : goal.returns-then-count-eq0-clause-fits
 returns-then-count-eq0-clause-fits c =
-    let positive : 0 < c.args.replica = omega arith in
+    let positive : 0 < c.args.replica = search rules in
     let valid : is_clock c.args.self.now ≡ true = ap is_clock (sym c.self.view_is) ∙ c.self.invariant in
     let rule = is_clock-advanced c.args.self.now c.args.replica valid positive in
     grind (arith, nat_tests)
 
 pub returns-clause-fits : goal.returns-clause-fits
 returns-clause-fits c =
-    let positive : 0 < c.args.replica = omega arith in
+    let positive : 0 < c.args.replica = search rules in
     let valid : is_clock c.args.self.now ≡ true = ap is_clock (sym c.self.view_is) ∙ c.self.invariant in
     let rule = is_clock-advanced c.args.self.now c.args.replica valid positive in
     grind (arith, nat_tests)
 
 pub returns-then-count-eq0-clause-full : goal.returns-then-count-eq0-clause-full
 returns-then-count-eq0-clause-full c =
-    let positive : 0 < c.args.replica = omega arith in
+    let positive : 0 < c.args.replica = search rules in
     let valid : is_clock c.args.self.now ≡ true = ap is_clock (sym c.self.view_is) ∙ c.self.invariant in
     let rule = is_clock-advanced c.args.self.now c.args.replica valid positive in
     λ no.
@@ -30,7 +30,7 @@ returns-then-count-eq0-clause-full c =
 
 pub returns-clause-full : goal.returns-clause-full
 returns-clause-full c =
-    let positive : 0 < c.args.replica = omega arith in
+    let positive : 0 < c.args.replica = search rules in
     let valid : is_clock c.args.self.now ≡ true = ap is_clock (sym c.self.view_is) ∙ c.self.invariant in
     let rule = is_clock-advanced c.args.self.now c.args.replica valid positive in
     λ no.
