@@ -17,3 +17,6 @@ pub use formatting::{markings, marks_of};
 pub use order::{characters, walk};
 pub use reading::{is_removed, rev, text, visible};
 pub use spanning::spans;
+
+#[cfg(test)]
+mod tests;
