@@ -1,4 +1,0 @@
-pub mod Keys
-pub mod Names
-pub mod Follow
-pub mod Closed

@@ -1,9 +1,0 @@
-use Rattle.std.proofs.Common.{◌+◌, arith}
-use Rattle.op_model.specs.Causality.{clock_of}
-use Rattle.op_model.specs.Made.{greatest_counter, bodies_of}
-use Rattle.edit_laws.proofs.Closed.{numbered_above}
-use Rattle.edit_laws.proofs.made_ids_are_greater.Goals as goal
-
-pub returns : goal.returns
-returns c = λ ops replica edit.
-    numbered_above ops replica edit.doc (greatest_counter ops + 1) (clock_of ops) (bodies_of ops replica edit.doc edit.change) (omega arith)

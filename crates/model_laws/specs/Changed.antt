@@ -1,0 +1,21 @@
+-- What an edit does to the text that a reader sees, and to the marks that end where it inserts.
+use Rattle.std.specs.Prelude.{◌≡◌, ◌⊎◌, ℕ, ◌+◌, true, List, ◌++◌, take, drop, Some}
+use Rattle.op_ids.specs.Id.{Id}
+use Rattle.op_model.specs.declared.op.Op.{Op}
+use Rattle.op_model.specs.declared.edit.Change.{Change}
+use Rattle.op_model.specs.declared.edit.Change.TheVariants.{Insert, Delete, Mark, Unmark}
+use Rattle.op_model.specs.Text.{visible}
+use Rattle.op_model.specs.Made.{tombstones_at, id_before}
+use Rattle.op_model.specs.Placing.{has_id}
+
+-- the text with the change: an insert puts its characters at an index, a delete leaves out so many from an index on
+abbrev pub changed : List ℕ → Change → List ℕ
+changed text (Insert at added) = take at text ++ added ++ drop at text
+changed text (Delete at count) = take at text ++ drop (at + count.value) text
+changed text (Mark from to mark) = text
+changed text (Unmark from to key) = text
+
+-- is the character just before an index of the text, or one of the tombstones between that and the next character
+abbrev pub IsJustBefore : List Op → ℕ → ℕ → Id → Type 0
+IsJustBefore ops doc at id =
+    (has_id (tombstones_at ops doc at) id ≡ true) ⊎ (id_before (visible ops doc) at ≡ Some id)

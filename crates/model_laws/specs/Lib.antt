@@ -1,0 +1,4 @@
+pub mod Apart
+pub mod IsWalk
+pub mod Changed
+pub mod Histories

@@ -1,0 +1,27 @@
+//! Laws of the order and the text: what follows from the definitions of the model, for every list of operations.
+#![tactic(auto)]
+
+mod edits;
+mod one_more;
+mod orderly;
+mod same_operations;
+mod shape;
+mod span_shape;
+
+pub use edits::{edits_change_the_text, edits_keep_lists_closed, ended_marks_dont_grow};
+pub use one_more::{
+    closed_lists_grow, ids_are_used_once, orderly_lists_grow, other_documents_stay,
+};
+pub use orderly::{closed_lists_are_orderly, placing_gives_the_walk};
+pub use same_operations::{
+    equal_clocks_same_operations, same_operations_same_clock, same_operations_same_spans,
+    same_operations_same_text,
+};
+pub use shape::{
+    the_walk_has_each_insert_once, the_walk_has_parents_first, the_walk_is_depth_first,
+    the_walk_is_families,
+};
+pub use span_shape::{
+    is_key_decides, is_same_marks_decides, spans_are_greatest_runs, spans_make_up_the_text,
+    the_greatest_id_decides,
+};
