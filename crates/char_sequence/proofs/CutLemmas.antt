@@ -1,0 +1,69 @@
+-- Lists that are cut at an index.
+use Rattle.std.proofs.Common.{◌≡◌, ℕ, zero, suc, ◌+◌, ◌≤◌, ◌<◌, true, List, [], ◌∷◌, ◌++◌, length, take, drop, get_or, Option, Some, None, refl, sym, ◌∙◌, ap, append_assoc, add-one, zero-add, arith}
+use Rattle.std.proofs.Math.Seq.{take-add, drop-nil}
+use Rattle.std.proofs.Math.ListN.{set}
+use Rattle.std.proofs.lemmas.List.{drop_more, take_more, get_or_default}
+use Rattle.std.proofs.lemmas.Bool.Decides.{nat_tests}
+use Rattle.op_ids.specs.Id.{Id, is_same}
+use Rattle.op_ids.proofs.IdLemmas.{test_from_same}
+use Rattle.char_sequence.specs.declared.cell.Cell.{Cell}
+use Rattle.char_sequence.specs.Cells.{past_greater, behind, removed, has_cell, is_known, inserted, IsAt}
+
+drop-drop-add : (n m : ℕ) (cs : List Cell) → drop m (drop n cs) ≡ drop (n + m) cs
+drop-drop-add zero m cs = ap (λ k. drop k cs) (sym (zero-add m))
+drop-drop-add (suc n) m [] = drop-nil m ∙ sym (drop-nil (suc n + m))
+drop-drop-add (suc n) m (c ∷ cs) =
+    let shift : suc n + m ≡ suc (n + m) = omega arith in
+    rw shift (drop-drop-add n m cs)
+
+-- one cell put in behind the first so many, counted from an index on
+pub cut_twice : (cs : List Cell) (from by : ℕ) (c : Cell) → from ≤ length cs
+    → take from cs ++ (take by (drop from cs) ++ c ∷ drop by (drop from cs)) ≡ take (from + by) cs ++ c ∷ drop (from + by) cs
+cut_twice cs from by c within =
+    sym (append_assoc (take from cs) (take by (drop from cs)) (c ∷ drop by (drop from cs)))
+    ∙ (ap (λ front. front ++ c ∷ drop by (drop from cs)) (sym (take-add from by cs))
+    ∙ ap (λ back. take (from + by) cs ++ c ∷ back) (drop-drop-add from by cs))
+
+-- what is read at an index, put there
+set_at : (cs : List Cell) (i : ℕ) (c : Cell) → i < length cs → set cs i c ≡ take i cs ++ c ∷ drop (i + 1) cs
+set_at [] i c here = absurd (omega arith)
+set_at (x ∷ xs) zero c here = refl
+set_at (x ∷ xs) (suc i) c here = let rest = set_at xs i c (omega arith) in rw (add-one) (ap (λ r. x ∷ r) (rw (add-one) at rest))
+
+-- the first cell with an id, behind those that don't have it
+pub is_at : (id : Id) (cs : List Cell) (i : ℕ) (x : Cell) → i < length cs → x ≡ get_or cs i x → is_same x.id id ≡ true
+    → has_cell cs id ≡ has_cell (drop i cs) id
+    → ((c : Cell) → behind id c cs ≡ take i cs ++ behind id c (drop i cs))
+    → removed id cs ≡ take i cs ++ removed id (drop i cs) → IsAt id cs i
+is_at id cs i x here is_it same known goes_behind is_removed =
+    let more = drop_more cs i x here in
+    let front = take_more cs i x here in
+    record {
+      within = here;
+      known = rw (known, more, ← is_it, same) refl;
+      behind = λ c.
+          goes_behind c
+          ∙ (rw (more, front, ← is_it, same) (sym (append_assoc (take i cs) (x ∷ []) (past_greater c (drop (i + 1) cs)))));
+      removed = λ c at.
+          let one : c ≡ x = at ∙ (get_or_default cs i c x here ∙ sym is_it) in
+          is_removed ∙ (rw (more, ← is_it, same) (rw (one) (sym (set_at cs i (record x { is_removed = true }) here))));
+    }
+
+-- what was placed is there
+has_cell-past_greater : (c : Cell) (ds : List Cell) → has_cell (past_greater c ds) c.id ≡ true
+has_cell-past_greater c [] = let it = test_from_same c.id c.id refl in grind (arith, nat_tests)
+has_cell-past_greater c (d ∷ ds) =
+    let it = test_from_same c.id c.id refl in
+    let rest = has_cell-past_greater c ds in
+    grind (arith, nat_tests)
+
+has_cell-behind : (origin : Id) (c : Cell) (ds : List Cell) → has_cell ds origin ≡ true → has_cell (behind origin c ds) c.id ≡ true
+has_cell-behind origin c [] known = cc
+has_cell-behind origin c (d ∷ ds) known =
+    let first = has_cell-past_greater c ds in
+    let rest = has_cell-behind origin c ds in
+    grind (arith, nat_tests)
+
+pub is_known-inserted : (origin : Option Id) (c : Cell) (ds : List Cell) → is_known ds origin ≡ true → is_known (inserted origin c ds) (Some c.id) ≡ true
+is_known-inserted None c ds known = has_cell-past_greater c ds
+is_known-inserted (Some origin) c ds known = has_cell-behind origin c ds known

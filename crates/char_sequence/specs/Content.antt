@@ -1,0 +1,23 @@
+-- What a sequence holds of a document, as a list of operations makes it.
+use Rattle.std.specs.Prelude.{◌≡◌, ℕ, List, [], ◌∷◌, ◌++◌, map}
+use Rattle.op_ids.specs.Id.{Id}
+use Rattle.char_sequence.specs.declared.cell.Cell.{Cell}
+use Rattle.op_model.specs.declared.op.Op.{Op}
+use Rattle.op_model.specs.declared.op.Body.{Body}
+use Rattle.op_model.specs.declared.character.Character.{Character}
+use Rattle.op_model.specs.Walk.{walk}
+use Rattle.op_model.specs.Text.{is_removed}
+use Rattle.op_model.specs.Placing.{Fits, IsOrderly}
+
+-- a character's cell: its id, its value, and whether some operation of the document removes it
+abbrev pub cell_of : List Op → ℕ → Character → Cell
+cell_of ops doc c = record { id = c.id; value = c.value; is_removed = is_removed ops doc c }
+
+-- all characters of a document in the order of the walk, tombstones too
+abbrev pub content_of : List Op → ℕ → List Cell
+content_of ops doc = map (cell_of ops doc) (walk ops doc)
+
+-- From the content of any operations that an operation of this id and body fits, the call leads to their content with it.
+abbrev pub Takes : Id → Body → List Cell → List Cell → Type 0
+Takes id does old new = (ops : List Op) (doc : ℕ) (op : Op) → IsOrderly ops doc → Fits ops doc op → op.id ≡ id
+    → op.body ≡ does → old ≡ content_of ops doc → new ≡ content_of (ops ++ op ∷ []) doc

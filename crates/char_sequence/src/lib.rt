@@ -1,0 +1,14 @@
+//! The characters of a document in the order of its text, tombstones too.
+#![tactic(auto)]
+
+mod cell;
+mod error;
+mod search;
+mod sequence;
+
+pub use cell::Cell;
+pub use error::SequenceError;
+pub use sequence::Sequence;
+
+#[cfg(test)]
+mod tests;

@@ -1,0 +1,134 @@
+ghost use Rattle.std.specs.Prelude.{◌≡◌, ℕ, List, [], map, IfOk, OnOk, OnErr, IsErrOf, ◌↔◌, false, true, IsTrue};
+ghost use Rattle.char_sequence.specs.Cells.{inserted, is_known, has_cell, place_of};
+ghost use Rattle.char_sequence.specs.Content.{content_of, Takes};
+ghost use Rattle.op_ids.specs.Id.{Id};
+ghost use Rattle.op_model.specs.declared.op.Op.{Op};
+ghost use Rattle.op_model.specs.declared.op.Body.TheVariants.{Insert, Remove};
+ghost use Rattle.op_model.specs.Text.{visible as seen, text as text_of};
+ghost use Rattle.op_model.specs.Made.{id_at, tombstones_at};
+
+use crate::cell::Cell;
+use crate::error::SequenceError;
+use crate::search::{behind, landing, place, shown, tombstones, values};
+use op_ids::OpId;
+use op_model::Text;
+use std::alloc::{AllocError, Global};
+use std::marker::Model;
+
+/// The characters of one document in the order of its text, tombstones too. Contracts see its content: for each
+/// character its id, its value, and whether it was removed.
+#[derive(Debug, Drop)]
+pub struct Sequence {
+    cells: Vec<Cell>,
+}
+
+impl Model for Sequence {
+    ghost use Rattle.std.specs.Prelude.{List};
+    ghost use Rattle.char_sequence.specs.declared.cell.Cell.{Cell};
+
+    ghost Value = { List Cell };
+
+    ghost view = { λ s. s.cells.items };
+}
+
+impl Sequence {
+    /// The sequence of an empty document.
+    pub fn new(alloc: Global) -> Sequence
+        ensures { result ≡ [] }
+    {
+        Sequence {
+            cells: Vec::new(alloc),
+        }
+    }
+
+    /// Takes an insert of a character behind its origin, or at the beginning where there is none. `UnknownId` (60) where
+    /// the origin isn't there, `Memory` (1) where a growth was refused; both leave the sequence as it was. Linear.
+    pub fn apply_insert(
+        &mut self,
+        id: OpId,
+        origin: Option<OpId>,
+        value: char,
+    ) -> Result<(), SequenceError>
+        ensures taken { OnOk result (Takes id (Insert origin value) self.old self.new) }
+        ensures unknown { IsErrOf result SequenceError.UnknownId ↔ (is_known self.old origin ≡ false) }
+        ensures err { OnErr result (self.new ≡ self.old) }
+    {
+        let cell = Cell {
+            id,
+            value,
+            is_removed: false,
+        };
+        insert_cell(&mut self.cells, &origin, &cell)
+    }
+
+    /// Takes a remove of a character, which stays as a tombstone. `UnknownId` (60) where it isn't there, which leaves the
+    /// sequence as it was. Takes no memory. Linear.
+    pub fn apply_remove(&mut self, id: OpId) -> Result<(), SequenceError>
+        ensures taken { OnOk result ((by : Id) → Takes by (Remove id) self.old self.new) }
+        ensures unknown { IsErrOf result SequenceError.UnknownId ↔ (has_cell self.old id ≡ false) }
+        ensures known { OnOk result (has_cell self.old id ≡ true) }
+        ensures err { OnErr result (self.new ≡ self.old) }
+    {
+        match place(&self.cells, &id) {
+            None => Err(SequenceError::UnknownId),
+            Some(at) => {
+                let cell = &mut self.cells[at];
+                cell.is_removed = true;
+                Ok(())
+            }
+        }
+    }
+
+    /// How many characters stand before this one, tombstones counted, or `None` where it isn't there. Takes no
+    /// memory. Linear.
+    pub fn find(&self, id: OpId) -> Option<usize>
+        ensures { result ≡ place_of id self.now }
+    {
+        place(&self.cells, &id)
+    }
+
+    /// The k-th character that a reader sees, counted from 0, or `None` past the last. Takes no memory. Linear.
+    pub fn visible(&self, k: usize) -> Option<OpId>
+        ensures { (ops : List Op) (doc : ℕ) → self.now ≡ content_of ops doc
+            → result ≡ id_at (seen ops doc) k }
+    {
+        shown(&self.cells, k)
+    }
+
+    /// The tombstones between the first so many characters that a reader sees and the next one, in order. An error is want
+    /// of memory (1). Linear.
+    pub fn run_after(&self, count: usize) -> Result<Vec<OpId>, AllocError>
+        ensures { IfOk result (λ run. (ops : List Op) (doc : ℕ) → self.now ≡ content_of ops doc
+            → run.items ≡ map (λ c. c.id) (tombstones_at ops doc count)) }
+    {
+        let from = behind(&self.cells, count);
+        tombstones(*self.cells.allocator(), self.cells.split_at(from).1)
+    }
+
+    /// The text that a reader sees. An error is want of memory (1). Linear.
+    pub fn text(&self) -> Result<Text, AllocError>
+        ensures { IfOk result (λ text. (ops : List Op) (doc : ℕ) → self.now ≡ content_of ops doc
+            → text ≡ text_of ops doc) }
+    {
+        let values = values(*self.cells.allocator(), &self.cells)?;
+        Ok(Text::from(values))
+    }
+}
+
+fn insert_cell(
+    cells: &mut Vec<Cell>,
+    origin: &Option<OpId>,
+    cell: &Cell,
+) -> Result<(), SequenceError>
+    ensures placed { OnOk result (cells.new.items ≡ inserted origin.now cell.now cells.old.items) }
+    ensures unknown { IsErrOf result SequenceError.UnknownId ↔ (is_known cells.old.items origin.now ≡ false) }
+    ensures err { OnErr result (cells.new.items ≡ cells.old.items) }
+{
+    match landing(cells, origin, cell) {
+        None => Err(SequenceError::UnknownId),
+        Some(at) => {
+            cells.insert(at, *cell).map_err(AllocError::from)?;
+            Ok(())
+        }
+    }
+}

@@ -1,0 +1,59 @@
+use super::*;
+use op_ids::{OpId, ReplicaId};
+use op_model::Text;
+use std::test::Fail;
+
+fn id(counter: u64, last: u8) -> Result<OpId, Fail> {
+    let mut bytes = [0; 16];
+    bytes[15] = last;
+    let replica = ReplicaId::read(bytes).ok_or("nil")?;
+    Ok(OpId::try_new(counter, replica).ok_or("no counter")?)
+}
+
+fn has_text(rt: &HostRuntime, sequence: &Sequence, expected: &str) -> Result<bool, Fail> {
+    let expected: Vec<char> = expected.chars().collect(rt.alloc())?;
+    Ok(sequence.text()? == Text::from(expected))
+}
+
+#[test]
+fn concurrent_inserts_stand_in_falling_order(rt: HostRuntime) -> Result<(), Fail> {
+    let mut sequence = Sequence::new(rt.alloc());
+    let x = id(1, 1)?;
+    sequence.apply_insert(x, None, 'x')?;
+    sequence.apply_insert(id(2, 1)?, Some(x), 'y')?;
+    sequence.apply_insert(id(2, 2)?, Some(x), 'z')?;
+    sequence.apply_insert(id(3, 1)?, Some(id(2, 1)?), 'w')?;
+    assert!(rt; has_text(&rt, &sequence, "xzyw")?);
+    assert_eq!(rt; sequence.find(id(2, 1)?), Some(2));
+    Ok(())
+}
+
+#[test]
+fn a_removed_character_stays_as_a_tombstone(rt: HostRuntime) -> Result<(), Fail> {
+    let mut sequence = Sequence::new(rt.alloc());
+    let a = id(1, 1)?;
+    let b = id(2, 1)?;
+    sequence.apply_insert(a, None, 'a')?;
+    sequence.apply_insert(b, Some(a), 'b')?;
+    sequence.apply_remove(b)?;
+    assert!(rt; has_text(&rt, &sequence, "a")?);
+    assert_eq!(rt; sequence.visible(0), Some(a));
+    assert_eq!(rt; sequence.visible(1), None);
+    assert_eq!(rt; sequence.run_after(1)?.as_slice(), [b].as_slice());
+    assert_eq!(rt; sequence.run_after(0)?.len(), 0);
+    sequence.apply_insert(id(3, 1)?, Some(b), 'c')?;
+    assert!(rt; has_text(&rt, &sequence, "ac")?);
+    Ok(())
+}
+
+#[test]
+fn an_unknown_id_changes_nothing(rt: HostRuntime) -> Result<(), Fail> {
+    let mut sequence = Sequence::new(rt.alloc());
+    sequence.apply_insert(id(1, 1)?, None, 'a')?;
+    let refused = sequence.apply_insert(id(3, 1)?, Some(id(2, 2)?), 'b');
+    assert_eq!(rt; refused.err().map_or(0, |error| error.number()), 60);
+    let refused = sequence.apply_remove(id(2, 2)?);
+    assert_eq!(rt; refused.err().map_or(0, |error| error.number()), 60);
+    assert!(rt; has_text(&rt, &sequence, "a")?);
+    Ok(())
+}
