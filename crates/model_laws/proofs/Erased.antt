@@ -30,7 +30,7 @@ use Rattle.model_laws.proofs.Makes.{AreAmong, among_itself, made_follow}
 use Rattle.model_laws.proofs.Typed.{shown, shown_same, removed_kept, character_here, text_inserted}
 
 -- an operation that makes no character leaves the walk as it is
-plain_step : (ops : List Op) (doc : ℕ) (op : Op) → IsCausallyClosed ops → MayFollow ops op → op.doc ≡ doc
+pub plain_step : (ops : List Op) (doc : ℕ) (op : Op) → IsCausallyClosed ops → MayFollow ops op → op.doc ≡ doc
     → character_of op.id op.body ≡ None → walk (ops ++ op ∷ []) doc ≡ walk ops doc
 plain_step ops doc op h f d e =
     closed_placed ops doc op h f
@@ -108,7 +108,7 @@ times_filtered p id (c ∷ cs) =
       | inr e ↦ rw e (omega (arith, times_filtered p id cs))
     ]
 
-visible_once : (ops : List Op) (doc : ℕ) → IsCausallyClosed ops → (id : Id) → times id (visible ops doc) ≤ 1
+pub visible_once : (ops : List Op) (doc : ℕ) → IsCausallyClosed ops → (id : Id) → times id (visible ops doc) ≤ 1
 visible_once ops doc h id = omega (arith, times_filtered (λ c. not (is_removed ops doc c)) id (walk ops doc), orderly_once ops doc id (closed_orderly ops doc h))
 
 -- a delete leaves out what it deletes

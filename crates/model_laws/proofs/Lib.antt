@@ -22,4 +22,7 @@ pub mod Typed
 pub mod Erased
 pub mod Equal
 pub mod Ended
+pub mod Covered
+pub mod Decided
+pub mod MarkEdits
 pub mod Above

@@ -132,7 +132,7 @@ removed_kept ops doc op h c =
     ∙ ap (λ r. is_removed ops doc c || r) (and_right (op.doc == doc) (is_removal_of c.id op.body) (h c.id))
     ∙ or-false (is_removed ops doc c)
 
-once_in_front : (ops : List Op) (doc : ℕ) (front rest : List Character) → IsCausallyClosed ops
+pub once_in_front : (ops : List Op) (doc : ℕ) (front rest : List Character) → IsCausallyClosed ops
     → walk ops doc ≡ front ++ rest → (id : Id) → times id front ≤ 1
 once_in_front ops doc front rest h w id =
     let t : times id (front ++ rest) ≤ 1 = rw (ap (λ xs. times id xs) w) at (orderly_once ops doc id (closed_orderly ops doc h)) in

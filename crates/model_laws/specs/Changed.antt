@@ -1,10 +1,11 @@
 -- What an edit does to the text that a reader sees, and to the marks that end where it inserts.
-use Rattle.std.specs.Prelude.{◌≡◌, ◌⊎◌, ℕ, ◌+◌, true, List, ◌++◌, take, drop, Some}
+use Rattle.std.specs.Prelude.{◌≡◌, ◌⊎◌, ℕ, ◌+◌, Bool, true, not, ◌&&◌, nat_le, nat_lt, List, ◌++◌, length, take, drop, filter, Some}
 use Rattle.op_ids.specs.Id.{Id}
 use Rattle.op_model.specs.declared.op.Op.{Op}
 use Rattle.op_model.specs.declared.edit.Change.{Change}
 use Rattle.op_model.specs.declared.edit.Change.TheVariants.{Insert, Delete, Mark, Unmark}
-use Rattle.op_model.specs.Text.{visible}
+use Rattle.op_model.specs.declared.character.Character.{Character}
+use Rattle.op_model.specs.Text.{is_removed, visible}
 use Rattle.op_model.specs.Made.{tombstones_at, id_before}
 use Rattle.op_model.specs.Placing.{has_id}
 
@@ -19,3 +20,11 @@ changed text (Unmark from to key) = text
 abbrev pub IsJustBefore : List Op → ℕ → ℕ → Id → Type 0
 IsJustBefore ops doc at id =
     (has_id (tombstones_at ops doc at) id ≡ true) ⊎ (id_before (visible ops doc) at ≡ Some id)
+
+-- how many characters the text has in front of what stands behind these
+abbrev pub shown_before : List Op → ℕ → List Character → ℕ
+shown_before ops doc front = length (filter (λ c. not (is_removed ops doc c)) front)
+
+-- an index lies from one on, and before another
+abbrev pub is_between : ℕ → ℕ → ℕ → Bool
+is_between from to i = nat_le from i && nat_lt i to

@@ -9,4 +9,6 @@ IsFrontOf ops history = ops ≡ take (length ops) history
 
 -- of each replica both lists have the first operations of one history
 abbrev pub HaveOneHistory : List Op → List Op → Type 0
-HaveOneHistory a b = (replica : ℕ) → (history : List Op) × IsFrontOf (made_by replica a) history × IsFrontOf (made_by replica b) history
+HaveOneHistory a b =
+    (replica : ℕ) → (history : List Op)
+    × IsFrontOf (made_by replica a) history × IsFrontOf (made_by replica b) history

@@ -1,12 +1,11 @@
 ghost use Rattle.std.specs.Prelude.{◌≡◌, ℕ, true, false, List, ◌∷◌, ◌++◌, length, Contains};
-ghost use Rattle.op_ids.specs.Id.{Id};
-ghost use Rattle.op_model.specs.declared.anchor.Anchor.TheVariants.{After};
-ghost use Rattle.op_model.specs.declared.anchor.End.TheVariants.{To};
-ghost use Rattle.op_model.specs.declared.character.Character.{Character};
-ghost use Rattle.op_model.specs.declared.edit.Change.TheVariants.{Insert};
-ghost use Rattle.op_model.specs.declared.marking.Marking.{Marking};
 ghost use Rattle.std.specs.List.{list_all};
-ghost use Rattle.op_ids.specs.Id.{is_below};
+ghost use Rattle.op_ids.specs.Id.{Id, is_below};
+ghost use Rattle.op_model.specs.declared.anchor.Anchor.TheVariants.{After};
+ghost use Rattle.op_model.specs.declared.anchor.End.TheVariants as end;
+ghost use Rattle.op_model.specs.declared.character.Character.{Character};
+ghost use Rattle.op_model.specs.declared.edit.Change.TheVariants as change;
+ghost use Rattle.op_model.specs.declared.marking.Marking.{Marking};
 ghost use Rattle.op_model.specs.declared.op.Op.{Op};
 ghost use Rattle.op_model.specs.declared.edit.Edit.{Edit};
 ghost use Rattle.op_model.specs.Causality.{FollowInTurn, IsCausallyClosed, is_within_limits};
@@ -40,10 +39,10 @@ pub fn edits_change_the_text()
 /// that are inserted behind that one, nor where it is a tombstone at the place of the insert.
 pub fn ended_marks_dont_grow()
     ensures { (ops : List Op) (replica : ℕ) (edit : Edit) (at : ℕ) (added : List ℕ) (m : Marking) (id : Id)
-        (front rest : List Character) (c : Character) → IsCausallyClosed ops → edit.change ≡ Insert at added
+        (front rest : List Character) (c : Character) → IsCausallyClosed ops → edit.change ≡ change.Insert at added
         → is_inside (length (visible ops edit.doc)) edit.change ≡ true
         → is_within_limits (ops ++ made ops replica edit) ≡ true
-        → Contains (markings ops edit.doc) m → m.end ≡ To (After id) → IsJustBefore ops edit.doc at id
+        → Contains (markings ops edit.doc) m → m.end ≡ end.To (After id) → IsJustBefore ops edit.doc at id
         → walk (ops ++ made ops replica edit) edit.doc ≡ front ++ c ∷ rest → has_id (walk ops edit.doc) c.id ≡ false
         → covers (walk (ops ++ made ops replica edit) edit.doc) (length front) m ≡ false }
 {}

@@ -2,13 +2,17 @@
 #![tactic(auto)]
 
 mod edits;
+mod marking_edits;
 mod one_more;
 mod orderly;
 mod same_operations;
 mod shape;
 mod span_shape;
 
-pub use edits::{edits_change_the_text, edits_keep_lists_closed, ended_marks_dont_grow};
+pub use edits::{
+    edits_change_the_text, edits_keep_lists_closed, ended_marks_dont_grow, made_ids_are_greater,
+};
+pub use marking_edits::edits_mark_what_they_say;
 pub use one_more::{
     closed_lists_grow, ids_are_used_once, orderly_lists_grow, other_documents_stay,
 };

@@ -9,7 +9,8 @@ ghost use Rattle.op_model.specs.Spans.{spans};
 
 /// A causally closed list stays so with an operation that may follow it, and every front of one is closed.
 pub fn closed_lists_grow()
-    ensures grow { (ops : List Op) (op : Op) → IsCausallyClosed ops → MayFollow ops op → IsCausallyClosed (ops ++ op ∷ []) }
+    ensures grow { (ops : List Op) (op : Op) → IsCausallyClosed ops → MayFollow ops op
+        → IsCausallyClosed (ops ++ op ∷ []) }
     ensures front { (ops more : List Op) → IsCausallyClosed (ops ++ more) → IsCausallyClosed ops }
     ensures last { (ops : List Op) (op : Op) → IsCausallyClosed (ops ++ op ∷ []) → MayFollow ops op }
 {}
