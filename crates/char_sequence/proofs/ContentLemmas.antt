@@ -1,5 +1,5 @@
 -- What one more operation makes of a document's content.
-use Rattle.std.proofs.Common.{◌≡◌, ℕ, zero, suc, ◌-◌, ◌≤◌, ◌==◌, Bool, true, false, not, ◌&&◌, ◌||◌, if◌then◌else◌, List, [], ◌∷◌, ◌++◌, map, filter, Option, Some, None, refl, sym, ◌∙◌, ap, append_assoc, arith}
+use Rattle.std.proofs.Common.{◌≡◌, ℕ, zero, suc, ◌-◌, ◌≤◌, ◌==◌, Bool, true, false, not, ◌&&◌, ◌||◌, if◌then◌else◌, List, [], ◌∷◌, ◌++◌, map, filter, Option, Some, None, refl, sym, ◌∙◌, ap, append_assoc, append-nil, arith}
 use Rattle.std.specs.Prelude.{All}
 use Rattle.std.specs.List.{list_any}
 use Rattle.std.proofs.lemmas.List.Folds.{list_any-append}
@@ -19,9 +19,10 @@ use Rattle.op_model.specs.Placing as placing
 use Rattle.op_model.specs.Placing.{has_id, has_op_id, Fits, FitInTurn, IsOrderly}
 use Rattle.model_laws.proofs.Ops.{lacks-characters, orderly_placed}
 use Rattle.model_laws.proofs.Family.{orderly_once}
+use Rattle.model_laws.proofs.Growth.{orderly_push}
 use Rattle.char_sequence.specs.declared.cell.Cell.{Cell}
-use Rattle.char_sequence.specs.Cells.{past_greater, behind, inserted, removed, shown_at, shown_values, shown, behind_shown, first_removed}
-use Rattle.char_sequence.specs.Content.{cell_of, content_of, Takes}
+use Rattle.char_sequence.specs.Cells.{past_greater, behind, inserted, removed, shown_at, shown_values, shown, behind_shown, first_removed, inserted_run}
+use Rattle.char_sequence.specs.Content.{cell_of, content_of, Takes, TakesRun, IsRun, FitAfter}
 
 -- cells are placed as their characters are
 past_greater-map : (ops : List Op) (doc : ℕ) (c : Character) (ds : List Character)
@@ -217,3 +218,20 @@ takes_insert id origin value old new placed = λ ops doc op orderly fits same_id
 pub takes_remove : (target : Id) (old new : List Cell) → new ≡ removed target old → (id : Id) → Takes id (Remove target) old new
 takes_remove target old new is_removed id = λ ops doc op orderly fits same_id same_body same.
     rw (is_removed, same) (sym (content_of-remove ops doc op target orderly fits same_body))
+
+-- a run placed in the content is the content with the run
+run_placed : (origin : Option Id) (run : List (Id × ℕ)) (ops : List Op) (doc : ℕ) (more : List Op) → IsOrderly ops doc → FitAfter ops doc more
+    → IsRun origin run more → inserted_run origin run (content_of ops doc) ≡ content_of (ops ++ more) doc
+run_placed origin [] ops doc [] orderly fit is_run = ap (λ all. content_of all doc) (sym (append-nil ops))
+run_placed origin [] ops doc (op ∷ more) orderly fit is_run = absurd is_run
+run_placed origin (x ∷ xs) ops doc [] orderly fit is_run = absurd is_run
+run_placed origin (x ∷ xs) ops doc (op ∷ more) orderly fit is_run =
+    let one = content_of-insert ops doc op origin x.1 orderly fit.0 is_run.1 in
+    let later = run_placed (Some x.0) xs (ops ++ op ∷ []) doc more (orderly_push ops doc op orderly (λ _. fit.0)) fit.1 is_run.2 in
+    let cell = ap (λ i. inserted origin (record { id = i; value = x.1; is_removed = false }) (content_of ops doc)) is_run.0 in
+    ap (inserted_run (Some x.0) xs) (sym cell ∙ sym one) ∙ (later ∙ ap (λ all. content_of all doc) (append_assoc ops (op ∷ []) more))
+
+-- what a call that places a run owes
+pub takes_run : (origin : Option Id) (run : List (Id × ℕ)) (old new : List Cell) → new ≡ inserted_run origin run old → TakesRun origin run old new
+takes_run origin run old new placed ops doc more orderly fit is_run same =
+    placed ∙ (ap (inserted_run origin run) same ∙ run_placed origin run ops doc more orderly fit is_run)

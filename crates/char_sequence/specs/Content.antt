@@ -1,9 +1,10 @@
 -- What a sequence holds of a document, as a list of operations makes it.
-use Rattle.std.specs.Prelude.{◌≡◌, ℕ, List, [], ◌∷◌, ◌++◌, map}
+use Rattle.std.specs.Prelude.{◌≡◌, ℕ, List, [], ◌∷◌, ◌++◌, map, Option, Some}
 use Rattle.op_ids.specs.Id.{Id}
 use Rattle.char_sequence.specs.declared.cell.Cell.{Cell}
 use Rattle.op_model.specs.declared.op.Op.{Op}
 use Rattle.op_model.specs.declared.op.Body.{Body}
+use Rattle.op_model.specs.declared.op.Body.TheVariants.{Insert}
 use Rattle.op_model.specs.declared.character.Character.{Character}
 use Rattle.op_model.specs.Walk.{walk}
 use Rattle.op_model.specs.Text.{is_removed}
@@ -21,3 +22,20 @@ content_of ops doc = map (cell_of ops doc) (walk ops doc)
 abbrev pub Takes : Id → Body → List Cell → List Cell → Type 0
 Takes id does old new = (ops : List Op) (doc : ℕ) (op : Op) → IsOrderly ops doc → Fits ops doc op → op.id ≡ id
     → op.body ≡ does → old ≡ content_of ops doc → new ≡ content_of (ops ++ op ∷ []) doc
+
+-- these operations are a run of inserts, each behind the one before
+abbrev pub IsRun : Option Id → List (Id × ℕ) → List Op → Type 0
+IsRun origin [] [] = Unit {0}
+IsRun origin [] (op ∷ ops) = ⊥
+IsRun origin (x ∷ xs) [] = ⊥
+IsRun origin (x ∷ xs) (op ∷ ops) = (op.id ≡ x.0) × (op.body ≡ Insert origin x.1) × IsRun (Some x.0) xs ops
+
+-- each of these operations fits after those before it
+abbrev pub FitAfter : List Op → ℕ → List Op → Type 0
+FitAfter ops doc [] = Unit {0}
+FitAfter ops doc (op ∷ more) = Fits ops doc op × FitAfter (ops ++ op ∷ []) doc more
+
+-- From the content of any operations that a run of inserts fits, the call leads to their content with the run.
+abbrev pub TakesRun : Option Id → List (Id × ℕ) → List Cell → List Cell → Type 0
+TakesRun origin run old new = (ops : List Op) (doc : ℕ) (more : List Op) → IsOrderly ops doc → FitAfter ops doc more
+    → IsRun origin run more → old ≡ content_of ops doc → new ≡ content_of (ops ++ more) doc

@@ -18,6 +18,19 @@ pub fn place(cells: &[Cell], id: &OpId) -> Option<usize>
     None
 }
 
+/// Whether an origin is there: the beginning always is.
+pub fn knows(cells: &[Cell], origin: &Option<OpId>) -> bool
+    ensures { result ≡ is_known cells.now origin.now }
+{
+    match origin {
+        None => true,
+        Some(id) => match place(cells, id) {
+            Some(_) => true,
+            None => false,
+        },
+    }
+}
+
 /// How many of these cells, from the first on, have greater ids than this cell.
 pub fn greater(cells: &[Cell], cell: &Cell) -> usize
     ensures within { result ≤ length cells.now }

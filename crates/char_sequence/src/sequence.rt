@@ -1,6 +1,6 @@
 ghost use Rattle.std.specs.Prelude.{◌≡◌, ℕ, List, [], map, IfOk, OnOk, OnErr, IsErrOf, ◌↔◌, false, true, IsTrue};
-ghost use Rattle.char_sequence.specs.Cells.{inserted, is_known, has_cell, place_of};
-ghost use Rattle.char_sequence.specs.Content.{content_of, Takes};
+ghost use Rattle.char_sequence.specs.Cells.{inserted, inserted_run, is_known, has_cell, place_of};
+ghost use Rattle.char_sequence.specs.Content.{content_of, Takes, TakesRun};
 ghost use Rattle.op_ids.specs.Id.{Id};
 ghost use Rattle.op_model.specs.declared.op.Op.{Op};
 ghost use Rattle.op_model.specs.declared.op.Body.TheVariants.{Insert, Remove};
@@ -9,7 +9,7 @@ ghost use Rattle.op_model.specs.Made.{id_at, tombstones_at};
 
 use crate::cell::Cell;
 use crate::error::SequenceError;
-use crate::search::{behind, landing, place, shown, tombstones, values};
+use crate::search::{behind, knows, landing, place, shown, tombstones, values};
 use op_ids::OpId;
 use op_model::Text;
 use std::alloc::{AllocError, Global};
@@ -59,6 +59,27 @@ impl Sequence {
             is_removed: false,
         };
         insert_cell(&mut self.cells, &origin, &cell)
+    }
+
+    /// Takes a run of inserts, the first behind an origin, or at the beginning where there is none, each later one behind the
+    /// one before; whole or not at all. `UnknownId` (60) where the origin isn't there, `Memory` (1) where a growth was
+    /// refused; both leave the sequence as it was. Linear for each insert.
+    pub fn apply_run(
+        &mut self,
+        origin: Option<OpId>,
+        run: &[(OpId, char)],
+    ) -> Result<(), SequenceError>
+        ensures taken { OnOk result (TakesRun origin run.now self.old self.new) }
+        ensures unknown { IsErrOf result SequenceError.UnknownId ↔ (is_known self.old origin ≡ false) }
+        ensures err { OnErr result (self.new ≡ self.old) }
+    {
+        if !knows(&self.cells, &origin) {
+            return Err(SequenceError::UnknownId);
+        }
+        let mut cells = copy(&self.cells)?;
+        insert_run(&mut cells, origin, run)?;
+        self.cells = cells;
+        Ok(())
     }
 
     /// Takes a remove of a character, which stays as a tombstone. `UnknownId` (60) where it isn't there, which leaves the
@@ -128,6 +149,46 @@ fn insert_cell(
         None => Err(SequenceError::UnknownId),
         Some(at) => {
             cells.insert(at, *cell).map_err(AllocError::from)?;
+            Ok(())
+        }
+    }
+}
+
+fn copy(cells: &Vec<Cell>) -> Result<Vec<Cell>, AllocError>
+    ensures { IfOk result (λ copied. copied.items ≡ cells.now.items) }
+{
+    cells.clone()
+}
+
+fn insert_run(
+    cells: &mut Vec<Cell>,
+    origin: Option<OpId>,
+    run: &[(OpId, char)],
+) -> Result<(), AllocError>
+    requires { is_known cells.old.items origin ≡ true }
+    ensures { OnOk result (cells.new.items ≡ inserted_run origin run.now cells.old.items) }
+{
+    let mut behind = origin;
+    for insert in run {
+        let cell = Cell {
+            id: insert.0,
+            value: insert.1,
+            is_removed: false,
+        };
+        insert_known(cells, &behind, &cell)?;
+        behind = Some(cell.id);
+    }
+    Ok(())
+}
+
+fn insert_known(cells: &mut Vec<Cell>, origin: &Option<OpId>, cell: &Cell) -> Result<(), AllocError>
+    requires { is_known cells.old.items origin.now ≡ true }
+    ensures { OnOk result (cells.new.items ≡ inserted origin.now cell.now cells.old.items) }
+{
+    match landing(cells, origin, cell) {
+        None => unreachable!(),
+        Some(at) => {
+            cells.insert(at, *cell)?;
             Ok(())
         }
     }

@@ -57,3 +57,18 @@ fn an_unknown_id_changes_nothing(rt: HostRuntime) -> Result<(), Fail> {
     assert!(rt; has_text(&rt, &sequence, "a")?);
     Ok(())
 }
+
+#[test]
+fn a_run_goes_in_whole_behind_its_origin(rt: HostRuntime) -> Result<(), Fail> {
+    let mut sequence = Sequence::new(rt.alloc());
+    let a = id(1, 1)?;
+    sequence.apply_insert(a, None, 'a')?;
+    sequence.apply_insert(id(9, 2)?, Some(a), 'z')?;
+    let run = [(id(2, 1)?, 'b'), (id(3, 1)?, 'c')];
+    sequence.apply_run(Some(a), &run)?;
+    assert!(rt; has_text(&rt, &sequence, "azbc")?);
+    let refused = sequence.apply_run(Some(id(5, 5)?), &[(id(6, 1)?, 'd')]);
+    assert_eq!(rt; refused.err().map_or(0, |error| error.number()), 60);
+    assert!(rt; has_text(&rt, &sequence, "azbc")?);
+    Ok(())
+}
