@@ -1,0 +1,11 @@
+pub mod Calls
+pub mod Crash
+pub mod DiskError
+pub mod Fault
+pub mod FaultDisk
+pub mod File
+pub mod Laws
+pub mod Medium
+pub mod MemDisk
+pub mod Past
+pub mod Survivors

@@ -1,0 +1,120 @@
+//! A disk over a file of the operating system, of which nothing is known.
+ghost use Rattle.std.specs.Prelude.{◌≡◌, ◌⊎◌, [], IfErr};
+ghost use Rattle.disk_trait.specs.declared.error.DiskError.TheVariants.{OpenFailed};
+
+use crate::{Disk, DiskError, DiskFacts};
+use std::fs::{File, OpenOptions};
+use std::io;
+use std::os::unix::fs::FileExt;
+use std::path::Path;
+use std::rt::Files;
+
+/// A disk over a file. It doesn't tell, since no contract can say what a real file does, so that
+/// only the kinds of its errors are proved.
+///
+/// What the layers above are proved for holds of it as far as the operating system and the device
+/// do what the rules of [`Disk`] say: a read gives what was last written; a byte that isn't in a
+/// range which is being written is never changed, also where a page or a sector of the device holds
+/// it; after `fdatasync` has answered that it is done, a crash leaves the file as it reads, its
+/// size too; and nobody else writes the file.
+#[derive(Drop)]
+pub struct FileDisk {
+    file: File,
+}
+
+impl FileDisk {
+    /// Opens a file that is there. Refuses with 54 where it can't be opened for reading and
+    /// writing.
+    pub fn open<R: Files<File = File>>(rt: &R, path: &str) -> Result<FileDisk, DiskError>
+        ensures { IfErr result (λ e. e ≡ OpenFailed) }
+    {
+        match OpenOptions::new().read(true).write(true).open(rt, path) {
+            Ok(file) => Ok(FileDisk { file }),
+            Err(_) => Err(DiskError::OpenFailed),
+        }
+    }
+
+    /// Opens a file, or makes an empty one where there is none, and syncs the folder, which holds
+    /// its name. Refuses with 54 where one of these fails.
+    pub fn create<R: Files<File = File>>(rt: &R, path: &str) -> Result<FileDisk, DiskError>
+        ensures { IfErr result (λ e. e ≡ OpenFailed) }
+    {
+        match open_or_make(rt, path) {
+            Ok(file) => Ok(FileDisk { file }),
+            Err(_) => Err(DiskError::OpenFailed),
+        }
+    }
+}
+
+fn open_or_make<R: Files<File = File>>(rt: &R, path: &str) -> io::Result<File> {
+    let file = OpenOptions::new()
+        .read(true)
+        .write(true)
+        .create(true)
+        .open(rt, path)?;
+    let folder = match Path::new(path).parent() {
+        Some(folder) if !folder.as_str().is_empty() => folder,
+        _ => Path::new("."),
+    };
+    File::open(rt, folder)?.sync_all()?;
+    Ok(file)
+}
+
+impl DiskFacts for FileDisk {
+    ghost tells = { λ _. ⊥ };
+
+    ghost content = { λ _. [] };
+
+    ghost survives = { λ _ _. ⊥ };
+
+    ghost time = { λ _. 0 };
+
+    ghost left_since = { λ _ _ _. ⊥ };
+
+    ghost writes = { λ _. 0 };
+
+    ghost syncs = { λ _. 0 };
+
+    ghost failures = { λ _. 0 };
+}
+
+impl Disk for FileDisk {
+    fn size(&mut self) -> Result<u64, DiskError> {
+        match self.file.metadata() {
+            Ok(found) => Ok(found.len()),
+            Err(_) => Err(DiskError::ReadFailed),
+        }
+    }
+
+    fn read_at(&mut self, pos: u64, bytes: &mut [u8]) -> Result<(), DiskError> {
+        let size = self.size()?;
+        if pos > size || bytes.len() as u64 > size - pos {
+            return Err(DiskError::PastEnd);
+        }
+        match self.file.read_exact_at(bytes, pos) {
+            Ok(()) => Ok(()),
+            Err(_) => Err(DiskError::ReadFailed),
+        }
+    }
+
+    fn write_at(&mut self, pos: u64, bytes: &[u8]) -> Result<(), DiskError> {
+        match self.size() {
+            Ok(size) if pos > size => return Err(DiskError::PastEnd),
+            Ok(_) => {}
+            Err(_) => return Err(DiskError::WriteFailed),
+        }
+        match self.file.write_all_at(bytes, pos) {
+            Ok(()) => Ok(()),
+            Err(_) => Err(DiskError::WriteFailed),
+        }
+    }
+
+    fn sync(&mut self) -> Result<(), DiskError> {
+        match self.file.sync_data() {
+            Ok(()) => Ok(()),
+            Err(_) => Err(DiskError::SyncFailed),
+        }
+    }
+
+    ghost lawful = { λ _ never. absurd never };
+}

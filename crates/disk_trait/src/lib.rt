@@ -1,0 +1,23 @@
+//! A disk that tells what a crash may leave, and its bodies: in memory, failing, and over a file.
+#![tactic(auto)]
+
+mod calls;
+mod error;
+mod facts;
+mod fault;
+mod file;
+mod laws;
+mod log;
+mod medium;
+mod memory;
+#[cfg(test)]
+mod tests;
+
+pub use calls::Disk;
+pub use error::DiskError;
+pub use facts::DiskFacts;
+pub use fault::FaultDisk;
+pub use file::FileDisk;
+pub use laws::torn_writes_follow_the_rule;
+pub use medium::Fate;
+pub use memory::{MOST_WRITTEN, MemDisk};
