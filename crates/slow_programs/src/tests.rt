@@ -359,3 +359,33 @@ fn the_first_operation_depends_on_all_before(rt: HostRuntime) -> Result<(), Fail
     assert_eq!(rt; markings(rt.alloc(), &a.ops, 1)?.len(), 0);
     Ok(())
 }
+
+#[test]
+fn copies_are_equal(rt: HostRuntime) -> Result<(), Fail> {
+    let alloc = rt.alloc();
+    let marked = Edit {
+        doc: 1,
+        rev: Some(2),
+        change: Change::Mark {
+            from: 0,
+            to: 1,
+            mark: link(alloc, "u")?,
+        },
+    };
+    assert!(rt; marked.copy()? == marked);
+    let typed = Edit {
+        doc: 1,
+        rev: None,
+        change: Change::Insert {
+            at: 0,
+            text: edit_text(alloc, "ab")?,
+        },
+    };
+    assert!(rt; typed.copy()? == typed);
+    let span = linked(alloc, "a", "u")?;
+    assert!(rt; span.marks.copy()? == span.marks);
+    assert!(rt; span.text.copy()? == span.text);
+    let ids = CommentIds::from(vec![in alloc; comment(1), comment(2)]?);
+    assert!(rt; ids.copy()? == ids);
+    Ok(())
+}
