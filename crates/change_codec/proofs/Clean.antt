@@ -1,0 +1,197 @@
+-- No fault of the bytes is want of memory.
+use Rattle.std.proofs.Common.{◌≡◌, ◌≢◌, ℕ, zero, suc, ◌+◌, Bool, true, false, cond, ltb, eqb, List, [], ◌∷◌, length, take, drop, Some, None, Result, Ok, Err}
+use Rattle.std.specs.Int.{Width, w16, w32, w64, w128, byte_len, from_be_bytes, is_in_range}
+use Rattle.std.specs.Str.{is_utf8}
+use lib.Utf8.{scalar}
+use Rattle.change_codec.specs.declared.codec_error.CodecError.{CodecError}
+use Rattle.change_codec.specs.declared.codec_error.CodecError.TheVariants as fault
+use Rattle.change_codec.specs.declared.content.Kind.{Kind}
+use Rattle.change_codec.specs.declared.content.Kind.TheVariants as kind
+use Rattle.change_codec.specs.Reading.{◌>>=◌, within, byte_at, number_at, bytes_at, counter_at, replica_at, id_at, entry_at, entries_at, count_at, deps_at, origin_at, scalar_at, url_at, mark_at, key_at, start_at, end_at, span_at, kind_at, content_at, body_at, head_at, op_at}
+use Rattle.change_codec.specs.Record.{length_at, record_at, taken}
+
+-- a value, or a fault of the bytes
+abbrev pub IsClean : {A : Type 0} → Result A CodecError → Type 0
+IsClean (Ok x) = Unit {0}
+IsClean (Err e) = e ≢ fault.Memory
+
+bind : {A B : Type 0} (r : Result A CodecError) (f : A → Result B CodecError) → IsClean r → ((x : A) → IsClean (f x)) → IsClean (r >>= f)
+bind (Ok x) f h k = k x
+bind (Err e) f h k = h
+
+choice : {A : Type 0} (b : Bool) (r s : Result A CodecError) → IsClean r → IsClean s → IsClean (cond b r s)
+choice true r s h k = h
+choice false r s h k = k
+
+length_fault : fault.Length ≢ fault.Memory
+length_fault = λ e. cc
+
+kind_fault : fault.Kind ≢ fault.Memory
+kind_fault = λ e. cc
+
+number_fault : fault.Number ≢ fault.Memory
+number_fault = λ e. cc
+
+scalar_fault : fault.Scalar ≢ fault.Memory
+scalar_fault = λ e. cc
+
+utf8_fault : fault.Utf8 ≢ fault.Memory
+utf8_fault = λ e. cc
+
+order_fault : fault.Order ≢ fault.Memory
+order_fault = λ e. cc
+
+anchor_fault : fault.Anchor ≢ fault.Memory
+anchor_fault = λ e. cc
+
+range : (low high : ℕ) (n : ℕ × List ℕ) → IsClean (within low high n)
+range low high n = choice (is_in_range low high n.0) (Ok n) (Err fault.Number) tt number_fault
+
+number : (w : Width) (bytes : List ℕ) → IsClean (number_at w bytes)
+unfolding number_at
+number w bytes = choice (ltb (length bytes) (byte_len w)) (Err fault.Length) (Ok (from_be_bytes w (take (byte_len w) bytes), drop (byte_len w) bytes)) length_fault tt
+
+bytes_clean : (n : ℕ) (bytes : List ℕ) → IsClean (bytes_at n bytes)
+unfolding bytes_at
+bytes_clean n bytes = choice (ltb (length bytes) n) (Err fault.Length) (Ok (take n bytes, drop n bytes)) length_fault tt
+
+ranged : (w : Width) (low high : ℕ) (bytes : List ℕ) → IsClean (number_at w bytes >>= within low high)
+ranged w low high bytes = bind (number_at w bytes) (within low high) (number w bytes) (range low high)
+
+counter : (bytes : List ℕ) → IsClean (counter_at bytes)
+unfolding counter_at
+counter bytes = ranged w64 1 281474976710655 bytes
+
+replica : (bytes : List ℕ) → IsClean (replica_at bytes)
+unfolding replica_at
+replica bytes = bind (number_at w128 bytes) (λ n. cond (eqb n.0 0) (Err fault.Number) (Ok n)) (number w128 bytes) (λ n. choice (eqb n.0 0) (Err fault.Number) (Ok n) number_fault tt)
+
+id : (bytes : List ℕ) → IsClean (id_at bytes)
+unfolding id_at
+id bytes = bind (counter_at bytes) _ (counter bytes) (λ c. bind (replica_at c.1) _ (replica c.1) (λ r. tt))
+
+entry : (low : ℕ) (bytes : List ℕ) → IsClean (entry_at low bytes)
+unfolding entry_at
+entry low bytes =
+    bind (replica_at bytes) _ (replica bytes)
+    (λ r. bind (cond (ltb low r.0) (Ok r) (Err fault.Order)) _ (choice (ltb low r.0) (Ok r) (Err fault.Order) tt order_fault)
+    (λ above. bind (number_at w64 above.1 >>= within 1 16777216) _ (ranged w64 1 16777216 above.1) (λ count. tt)))
+
+entries : (n low : ℕ) (bytes : List ℕ) → IsClean (entries_at n low bytes)
+unfolding entries_at
+entries zero low bytes = tt
+entries (suc n) low bytes = bind (entry_at low bytes) _ (entry low bytes) (λ first. bind (entries_at n first.0.0 first.1) _ (entries n first.0.0 first.1) (λ others. tt))
+
+byte : (bytes : List ℕ) → IsClean (byte_at bytes)
+unfolding byte_at
+byte [] = length_fault
+byte (b ∷ rest) = tt
+
+deps : (bytes : List ℕ) → IsClean (deps_at bytes)
+unfolding deps_at count_at
+deps bytes = bind (byte_at bytes >>= within 0 16) _ (bind (byte_at bytes) (within 0 16) (byte bytes) (range 0 16)) (λ count. entries count.0 0 count.1)
+
+origin : (bytes : List ℕ) → IsClean (origin_at bytes)
+unfolding origin_at
+origin [] = length_fault
+origin (zero ∷ rest) = tt
+origin (suc zero ∷ rest) = bind (id_at rest) _ (id rest) (λ x. tt)
+origin (suc (suc b) ∷ rest) = kind_fault
+
+value : (bytes : List ℕ) → IsClean (scalar_at bytes)
+unfolding scalar_at
+value bytes = bind (number_at w32 bytes) (λ n. cond (scalar n.0) (Ok n) (Err fault.Scalar)) (number w32 bytes) (λ n. choice (scalar n.0) (Ok n) (Err fault.Scalar) tt scalar_fault)
+
+url : (bytes : List ℕ) → IsClean (url_at bytes)
+unfolding url_at
+url bytes =
+    bind (number_at w16 bytes >>= within 1 1024) _ (ranged w16 1 1024 bytes)
+    (λ len. bind (bytes_at len.0 len.1) _ (bytes_clean len.0 len.1) (λ text. choice (is_utf8 text.0) (Ok text) (Err fault.Utf8) tt utf8_fault))
+
+mark : (bytes : List ℕ) → IsClean (mark_at bytes)
+unfolding mark_at
+mark [] = length_fault
+mark (zero ∷ rest) = kind_fault
+mark (suc zero ∷ rest) = tt
+mark (suc (suc zero) ∷ rest) = tt
+mark (suc (suc (suc zero)) ∷ rest) = bind (url_at rest) _ (url rest) (λ x. tt)
+mark (suc (suc (suc (suc zero))) ∷ rest) = bind (number_at w128 rest) _ (number w128 rest) (λ x. tt)
+mark (suc (suc (suc (suc (suc b)))) ∷ rest) = kind_fault
+
+key : (bytes : List ℕ) → IsClean (key_at bytes)
+unfolding key_at
+key [] = length_fault
+key (zero ∷ rest) = kind_fault
+key (suc zero ∷ rest) = tt
+key (suc (suc zero) ∷ rest) = tt
+key (suc (suc (suc zero)) ∷ rest) = tt
+key (suc (suc (suc (suc zero))) ∷ rest) = bind (number_at w128 rest) _ (number w128 rest) (λ x. tt)
+key (suc (suc (suc (suc (suc b)))) ∷ rest) = kind_fault
+
+start : (bytes : List ℕ) → IsClean (start_at bytes)
+unfolding start_at
+start [] = length_fault
+start (zero ∷ rest) = tt
+start (suc zero ∷ rest) = bind (id_at rest) _ (id rest) (λ x. tt)
+start (suc (suc zero) ∷ rest) = bind (id_at rest) _ (id rest) (λ x. tt)
+start (suc (suc (suc b)) ∷ rest) = anchor_fault
+
+end : (bytes : List ℕ) → IsClean (end_at bytes)
+unfolding end_at
+end [] = length_fault
+end (zero ∷ rest) = anchor_fault
+end (suc zero ∷ rest) = bind (id_at rest) _ (id rest) (λ x. tt)
+end (suc (suc zero) ∷ rest) = bind (id_at rest) _ (id rest) (λ x. tt)
+end (suc (suc (suc zero)) ∷ rest) = tt
+end (suc (suc (suc (suc b))) ∷ rest) = anchor_fault
+
+span : (bytes : List ℕ) → IsClean (span_at bytes)
+unfolding span_at
+span bytes = bind (start_at bytes) _ (start bytes) (λ from. bind (end_at from.1) _ (end from.1) (λ to. tt))
+
+tag : (bytes : List ℕ) → IsClean (kind_at bytes)
+unfolding kind_at
+tag [] = length_fault
+tag (zero ∷ rest) = kind_fault
+tag (suc zero ∷ rest) = tt
+tag (suc (suc zero) ∷ rest) = tt
+tag (suc (suc (suc zero)) ∷ rest) = tt
+tag (suc (suc (suc (suc zero))) ∷ rest) = tt
+tag (suc (suc (suc (suc (suc b)))) ∷ rest) = kind_fault
+
+content : (k : Kind) (bytes : List ℕ) → IsClean (content_at k bytes)
+unfolding content_at
+content kind.Insert bytes = bind (origin_at bytes) _ (origin bytes) (λ o. bind (scalar_at o.1) _ (value o.1) (λ v. tt))
+content kind.Remove bytes = bind (id_at bytes) _ (id bytes) (λ x. tt)
+content kind.AddMark bytes = bind (mark_at bytes) _ (mark bytes) (λ m. bind (span_at m.1) _ (span m.1) (λ s. tt))
+content kind.RemoveMark bytes = bind (key_at bytes) _ (key bytes) (λ m. bind (span_at m.1) _ (span m.1) (λ s. tt))
+
+body : (k : Kind) (bytes : List ℕ) → IsClean (body_at k bytes)
+unfolding body_at
+body k bytes = bind (content_at k bytes) _ (content k bytes) (λ c. choice (eqb (length c.1) 0) (Ok c.0) (Err fault.Length) tt length_fault)
+
+head : (bytes : List ℕ) → IsClean (head_at bytes)
+unfolding head_at
+head bytes = bind (kind_at bytes) _ (tag bytes) (λ k. bind (number_at w32 k.1) _ (number w32 k.1) (λ d. bind (id_at d.1) _ (id d.1) (λ i. tt)))
+
+operation : (bytes : List ℕ) → IsClean (op_at bytes)
+unfolding op_at
+operation bytes = bind (head_at bytes) _ (head bytes) (λ h. bind (deps_at h.1) _ (deps h.1) (λ d. bind (body_at h.0.kind d.1) _ (body h.0.kind d.1) (λ b. tt)))
+
+pub taken_clean : (bytes : List ℕ) → IsClean (taken bytes)
+unfolding taken record_at
+taken_clean bytes =
+    let len = length_at bytes in
+    let rest = drop 4 bytes in
+    choice (ltb (length bytes) 4) (Ok None) (record_at len rest) tt
+    (choice (is_in_range 33 1491 len) (cond (ltb (length rest) len) (Ok None) (op_at (take len rest) >>= λ op. Ok (Some (op, 4 + len)))) (Err fault.Length)
+    (choice (ltb (length rest) len) (Ok None) (op_at (take len rest) >>= λ op. Ok (Some (op, 4 + len))) tt (bind (op_at (take len rest)) (λ op. Ok (Some (op, 4 + len))) (operation (take len rest)) (λ op. tt)))
+    length_fault)
+
+no_memory_of : {A : Type 0} (r : Result A CodecError) → IsClean r → r ≡ Err fault.Memory → ⊥
+no_memory_of (Ok x) h e = cc
+no_memory_of (Err d) h e = let same : d ≡ fault.Memory = cc in h same
+
+-- what is read is never want of memory
+pub no_memory : (bytes : List ℕ) → taken bytes ≡ Err fault.Memory → ⊥
+no_memory bytes e = no_memory_of (taken bytes) (taken_clean bytes) e

@@ -1,0 +1,13 @@
+pub mod Clean
+pub mod Clocks
+pub mod ContentLaws
+pub mod Contents
+pub mod DepsLemmas
+pub mod Entries
+pub mod IdLaws
+pub mod Lengths
+pub mod Numbers
+pub mod OpLaws
+pub mod RecordLaws
+pub mod Steps
+pub mod Urls

@@ -1,0 +1,280 @@
+-- Whole records at the front of bytes.
+use Rattle.std.proofs.Common.{◌≡◌, ◌≢◌, ◌⊎◌, ℕ, ◌+◌, ◌≤◌, Bool, true, false, cond, ltb, List, ◌++◌, length, take, drop, Option, Some, None, Result, Ok, Err, refl, sym, ap, subst, ◌∙◌, append_assoc, arith, inl, inr}
+use Rattle.std.specs.Prelude.{IfOk, IfSome, IsOk}
+use Rattle.std.specs.Int.{w32, is_in_range, from_be_bytes, to_be_bytes}
+use Rattle.std.proofs.lemmas.Bool.{ltb-false, ltb-true, le-ltb}
+use Rattle.std.proofs.lemmas.Bool.Decides.{nat_tests}
+use Rattle.std.proofs.lemmas.List.{take_at, drop_at, take-append-drop, length-append, length-take, length-drop}
+use Rattle.std.proofs.Math.Seq.{take-append-add}
+use Rattle.op_ids.specs.Clock.{is_clock}
+use Rattle.op_model.specs.Records.{mark_length, key_length, start_length, end_length, body_length}
+use Rattle.op_model.specs.declared.op.Op.{Op}
+use Rattle.op_model.specs.declared.op.Body.{Body}
+use Rattle.op_model.specs.declared.op.Body.TheVariants.{Insert, Remove, AddMark, RemoveMark}
+use Rattle.op_model.specs.declared.anchor.Start.{Start}
+use Rattle.op_model.specs.declared.anchor.Start.TheVariants as start
+use Rattle.op_model.specs.declared.anchor.End.{End}
+use Rattle.op_model.specs.declared.anchor.End.TheVariants as end
+use Rattle.op_model.specs.declared.mark.Mark.{Mark}
+use Rattle.op_model.specs.declared.mark.Mark.TheVariants as added
+use Rattle.op_model.specs.declared.mark.MarkKey.{MarkKey}
+use Rattle.op_model.specs.declared.mark.MarkKey.TheVariants as key
+use Rattle.change_codec.specs.declared.codec_error.CodecError.{CodecError}
+use Rattle.change_codec.specs.declared.codec_error.CodecError.TheVariants.{Memory, Length}
+use Rattle.change_codec.specs.Spelling.{number_bytes, body_bytes, spelled}
+use Rattle.change_codec.specs.Fits.{IsMark, IsContent, IsOperation}
+use Rattle.change_codec.specs.Reading.{◌>>=◌, op_at}
+use Rattle.change_codec.specs.Record.{record_at, length_at, taken, first_fault, fault_of, IsPartial, Begins, BeginsWithSome, Answers}
+use Rattle.change_codec.proofs.Steps.{IsBytes, IsBytes-take, IsBytes-drop, bind_ok, done}
+use Rattle.change_codec.proofs.Numbers.{wide32}
+use Rattle.change_codec.proofs.Lengths.{length_body}
+use Rattle.change_codec.proofs.OpLaws.{op_takes, op_again}
+use Rattle.change_codec.proofs.Clean.{no_memory}
+
+-- ---- how long a body is
+
+start_range : (s : Start) → (1 ≤ start_length s) × (start_length s ≤ 25)
+start_range start.OfText = (omega arith, omega arith)
+start_range (start.From anchor) = (omega arith, omega arith)
+
+end_range : (e : End) → (1 ≤ end_length e) × (end_length e ≤ 25)
+end_range end.OfText = (omega arith, omega arith)
+end_range (end.To anchor) = (omega arith, omega arith)
+
+mark_range : (m : Mark) → IsMark m → (1 ≤ mark_length m) × (mark_length m ≤ 1027)
+mark_range added.Strong fits = (omega arith, omega arith)
+mark_range added.Em fits = (omega arith, omega arith)
+mark_range (added.Link url) fits = (omega arith, omega (arith, fits.most))
+mark_range (added.Comment id) fits = (omega arith, omega arith)
+
+key_range : (m : MarkKey) → (1 ≤ key_length m) × (key_length m ≤ 17)
+key_range key.Strong = (omega arith, omega arith)
+key_range key.Em = (omega arith, omega arith)
+key_range key.Link = (omega arith, omega arith)
+key_range (key.Comment id) = (omega arith, omega arith)
+
+content_range : (body : Body) → IsContent body → (3 ≤ body_length body) × (body_length body ≤ 1077)
+content_range (Insert None value) fits = (omega arith, omega arith)
+content_range (Insert (Some id) value) fits = (omega arith, omega arith)
+content_range (Remove target) fits = (omega arith, omega arith)
+content_range (AddMark mark from to) fits =
+    let m = mark_range mark fits.0 in
+    let s = start_range from in
+    let e = end_range to in
+    (omega (arith, m.0, s.0, e.0), omega (arith, m.1, s.1, e.1))
+content_range (RemoveMark mark from to) fits =
+    let m = key_range mark in
+    let s = start_range from in
+    let e = end_range to in
+    (omega (arith, m.0, s.0, e.0), omega (arith, m.1, s.1, e.1))
+
+clock_length : (es : List (ℕ × ℕ)) → is_clock es ≡ true → length es ≤ 16
+clock_length es clock = grind (arith, nat_tests)
+
+pub body_range : (op : Op) → IsOperation op → (33 ≤ length (body_bytes op)) × (length (body_bytes op) ≤ 1491)
+body_range op fits =
+    let content = content_range op.body fits.body in
+    let deps = clock_length op.deps fits.deps in
+    (omega (arith, length_body op, content.0), omega (arith, length_body op, content.1, deps))
+
+-- ---- an operation
+
+not_none : {A : Type 0} (b : Bool) (r : Result (Option A) CodecError) (v : A) → cond b (Ok None) r ≡ Ok (Some v) → (b ≡ false) × (r ≡ Ok (Some v))
+not_none true r v e = absurd cc
+not_none false r v e = (refl, e)
+
+ranged : {A : Type 0} (b : Bool) (r : Result A CodecError) (d : CodecError) (v : A) → cond b r (Err d) ≡ Ok v → (b ≡ true) × (r ≡ Ok v)
+ranged true r d v e = (refl, e)
+ranged false r d v e = absurd cc
+
+take_both : (n m : ℕ) (xs : List ℕ) → n ≤ length xs → take (n + m) xs ≡ take n xs ++ take m (drop n xs)
+take_both n m xs le =
+    let split = take-append-drop n xs in
+    let len : length (take n xs) ≡ n = omega (arith, length-take n xs) in
+    ap (take (n + m)) (sym split) ∙ ap (λ (k : ℕ). take (k + m) (take n xs ++ drop n xs)) (sym len) ∙ take-append-add (take n xs) (drop n xs) m
+
+pub taken_begins : (bytes : List ℕ) (op : Op) (n : ℕ) → IsBytes bytes → taken bytes ≡ Ok (Some (op, n)) → Begins bytes op n
+unfolding taken record_at spelled number_bytes
+taken_begins bytes op n fits e =
+    let len = length_at bytes in
+    let rest = drop 4 bytes in
+    let a = not_none (ltb (length bytes) 4) (record_at len rest) (op, n) e in
+    let four : 4 ≤ length bytes = ltb-false _ _ a.0 in
+    let b = ranged (is_in_range 33 1491 len) (cond (ltb (length rest) len) (Ok None) (op_at (take len rest) >>= λ o. Ok (Some (o, 4 + len)))) Length (Some (op, n)) a.1 in
+    let c = not_none (ltb (length rest) len) (op_at (take len rest) >>= λ o. Ok (Some (o, 4 + len))) (op, n) b.1 in
+    let long : len ≤ length rest = ltb-false _ _ c.0 in
+    let d = bind_ok (op_at (take len rest)) (λ o. Ok (Some (o, 4 + len))) (Some (op, n)) c.1 in
+    let law = op_takes (take len rest) d.0 (IsBytes-take len rest (IsBytes-drop 4 bytes fits)) d.1 in
+    let first : Op × ℕ = (d.0, 4 + len) in
+    let second : Op × ℕ = (op, n) in
+    let made : first ≡ second = some_is (d.0, 4 + len) (op, n) d.2 in
+    let size : length (body_bytes d.0) ≡ len = ap (λ (w : List ℕ). length w) (sym law.0) ∙ omega (arith, length-take len rest) in
+    let front : to_be_bytes w32 len ≡ take 4 bytes = wide32.back (take 4 bytes) (omega (arith, length-take 4 bytes)) (IsBytes-take 4 bytes fits) in
+    let whole : take (4 + len) bytes ≡ to_be_bytes w32 (length (body_bytes d.0)) ++ body_bytes d.0 =
+    take_both 4 len bytes four ∙ ap (λ (w : List ℕ). w ++ take len rest) (sym front) ∙ ap (λ (w : List ℕ). to_be_bytes w32 len ++ w) law.0 ∙ ap (λ (k : ℕ). to_be_bytes w32 k ++ body_bytes d.0) (sym size) in
+    let begins : Begins bytes d.0 (4 + len) = record { whole = omega (arith, long, length-drop 4 bytes); spelled_so = whole; fits = law.1 } in
+    subst (λ (f : Op × ℕ). Begins bytes f.0 f.1) made begins
+  where
+    some_is : {A : Type 0} (x y : A) → done (Some x) ≡ done (Some y) → x ≡ y
+    some_is x y e = cc
+
+-- four bytes that give the length of the body, and the body
+front_taken : (op : Op) (front rest : List ℕ) → length front ≡ 4 → from_be_bytes w32 front ≡ length (body_bytes op) → IsOperation op → taken (front ++ (body_bytes op ++ rest)) ≡ Ok (Some (op, 4 + length (body_bytes op)))
+unfolding taken record_at
+front_taken op front rest four number fits =
+    let body = body_bytes op in
+    let len = length body in
+    let low = (body_range op fits).0 in
+    let high = (body_range op fits).1 in
+    let all = front ++ (body ++ rest) in
+    let number_is : length_at all ≡ len = ap (from_be_bytes w32) (take_at front (body ++ rest) 4 four) ∙ number in
+    let behind : drop 4 all ≡ body ++ rest = drop_at front (body ++ rest) 4 four in
+    let there : ltb (length all) 4 ≡ false = le-ltb _ _ (omega (arith, length-append front (body ++ rest))) in
+    let test : is_in_range 33 1491 len ≡ true = grind (arith, nat_tests) in
+    let long : ltb (length (body ++ rest)) len ≡ false = le-ltb _ _ (omega (arith, length-append body rest)) in
+    let cut : take len (body ++ rest) ≡ body = take_at body rest len refl in
+    let read : record_at len (body ++ rest) ≡ Ok (Some (op, 4 + len)) = rw (test, long, cut, op_again op fits) refl in
+    let opened : taken all ≡ record_at (length_at all) (drop 4 all) = rw there refl in
+    opened ∙ ap (λ (n : ℕ). record_at n (drop 4 all)) number_is ∙ ap (record_at len) behind ∙ read
+
+pub spelled_taken : (op : Op) (rest : List ℕ) → IsOperation op → taken (spelled op ++ rest) ≡ Ok (Some (op, length (spelled op)))
+unfolding spelled number_bytes
+spelled_taken op rest fits =
+    let body = body_bytes op in
+    let len = length body in
+    let high = (body_range op fits).1 in
+    let front : List ℕ = to_be_bytes w32 len in
+    let size : 4 + len ≡ length (front ++ body) = omega (arith, length-append front body) in
+    ap taken (append_assoc front body rest) ∙ front_taken op front rest refl (wide32.again len (omega arith)) fits ∙ ap (λ (k : ℕ). done (Some (op, k))) size
+
+pub begins_taken : (bytes : List ℕ) (op : Op) (n : ℕ) → Begins bytes op n → taken bytes ≡ Ok (Some (op, n))
+begins_taken bytes op n b =
+    let whole : spelled op ++ drop n bytes ≡ bytes = ap (λ (w : List ℕ). w ++ drop n bytes) (sym b.spelled_so) ∙ take-append-drop n bytes in
+    let size : length (spelled op) ≡ n = ap (λ (w : List ℕ). length w) (sym b.spelled_so) ∙ omega (arith, length-take n bytes, b.whole) in
+    ap taken (sym whole) ∙ spelled_taken op (drop n bytes) b.fits ∙ ap (λ (k : ℕ). done (Some (op, k))) size
+
+-- two readings of one list are one
+same_reading : (f g : Op × ℕ) → done (Some f) ≡ done (Some g) → (f.0 ≡ g.0) × (f.1 ≡ g.1)
+same_reading f g e = (cc, cc)
+
+pub begins_none : (a b : Op) (x y : List ℕ) → IsOperation a → IsOperation b → spelled a ++ x ≡ spelled b ++ y → (a ≡ b) × (x ≡ y)
+begins_none a b x y fits_a fits_b e =
+    let one = spelled_taken a x fits_a in
+    let two = spelled_taken b y fits_b in
+    let same = same_reading (a, length (spelled a)) (b, length (spelled b)) (sym one ∙ ap taken e ∙ two) in
+    let cut_a = drop_at (spelled a) x (length (spelled a)) refl in
+    let cut_b = drop_at (spelled b) y (length (spelled b)) refl in
+    (same.0, sym cut_a ∙ ap (drop (length (spelled a))) e ∙ ap (λ (k : ℕ). drop k (spelled b ++ y)) same.1 ∙ cut_b)
+
+-- ---- no whole record
+
+pub partial_taken : (bytes : List ℕ) → IsPartial bytes → taken bytes ≡ Ok None
+unfolding taken record_at
+partial_taken bytes (inl short) =
+    let test : ltb (length bytes) 4 ≡ true = grind (arith, nat_tests) in
+    rw test refl
+partial_taken bytes (inr (low, high, short)) =
+    let len = length_at bytes in
+    let range : is_in_range 33 1491 len ≡ true = grind (arith, nat_tests) in
+    let behind = length-drop 4 bytes in
+    let missing : 4 ≤ length bytes → ltb (length (drop 4 bytes)) len ≡ true = grind (arith, nat_tests) in
+    grind (arith, nat_tests)
+
+-- an operation isn't nothing
+no_op : {A : Type 0} (r : Result A CodecError) (f : A → Op × ℕ) → (r >>= λ x. Ok (Some (f x))) ≡ Ok None → ⊥
+no_op (Ok x) f e = cc
+no_op (Err d) f e = cc
+
+pub taken_partial : (bytes : List ℕ) → taken bytes ≡ Ok None → IsPartial bytes
+unfolding taken record_at
+taken_partial bytes e =
+    let len = length_at bytes in
+    let rest = drop 4 bytes in
+    elim (cases_cond_none (ltb (length bytes) 4) (record_at len rest) e) [
+      | inl short ↦ inl (ltb-true _ _ short)
+      | inr there ↦
+          let b = ranged (is_in_range 33 1491 len) (cond (ltb (length rest) len) (Ok None) (op_at (take len rest) >>= λ o. Ok (Some (o, 4 + len)))) Length None there.1 in
+          let test = b.0 in
+          let low : 33 ≤ len = grind (arith, nat_tests) in
+          let high : len ≤ 1491 = grind (arith, nat_tests) in
+          elim (cases_cond_none (ltb (length rest) len) (op_at (take len rest) >>= λ o. Ok (Some (o, 4 + len))) b.1) [
+            | inl missing ↦ inr (low, high, omega (arith, ltb-true _ _ missing, length-drop 4 bytes, ltb-false _ _ there.0))
+            | inr read ↦ absurd (no_op (op_at (take len rest)) (λ o. (o, 4 + len)) read.1)
+          ]
+    ]
+  where
+    cases_cond_none : {A : Type 0} (b : Bool) (r : Result (Option A) CodecError) → cond b (Ok None) r ≡ Ok None → (b ≡ true) ⊎ ((b ≡ false) × (r ≡ Ok None))
+    cases_cond_none true r e = inl refl
+    cases_cond_none false r e = inr (refl, e)
+
+-- ---- what a call answered
+
+-- the end of a body that is all there
+pub body_answers : (bytes : List ℕ) (e : CodecError) → 4 ≤ length bytes → 33 ≤ length_at bytes → length_at bytes ≤ 1491 → length_at bytes ≤ length (drop 4 bytes) → (op_at (take (length_at bytes) (drop 4 bytes)) ≡ Err e) ⊎ ((e ≡ Memory) × IsOk (op_at (take (length_at bytes) (drop 4 bytes))))
+    → Answers (Err e) (taken bytes)
+unfolding taken record_at
+body_answers bytes e four low high long gives =
+    let len = length_at bytes in
+    let there : ltb (length bytes) 4 ≡ false = le-ltb _ _ four in
+    let test : is_in_range 33 1491 len ≡ true = grind (arith, nat_tests) in
+    let all : ltb (length (drop 4 bytes)) len ≡ false = le-ltb _ _ long in
+    let opened : taken bytes ≡ (op_at (take len (drop 4 bytes)) >>= λ o. Ok (Some (o, 4 + len))) = rw (there, test, all) refl in
+    elim gives [
+      | inl fault ↦ inl (opened ∙ rw fault refl)
+      | inr (memory, ok) ↦
+          let found = some_found (op_at (take len (drop 4 bytes))) (4 + len) ok in
+          inr (memory, (found.0, opened ∙ found.1))
+    ]
+  where
+    some_found : (r : Result Op CodecError) (n : ℕ) → IsOk r → (found : Op × ℕ) × ((r >>= λ o. Ok (Some (o, n))) ≡ Ok (Some found))
+    some_found (Ok x) n ok = ((x, n), refl)
+    some_found (Err d) n ok = absurd cc
+
+pub is_found : (bytes : List ℕ) (r : Result (Option (Op × ℕ)) CodecError) → IsBytes bytes → Answers r (taken bytes) → IfOk r (λ found. IfSome found (λ f. Begins bytes f.0 f.1))
+is_found bytes (Ok None) fits answers = tt
+is_found bytes (Ok (Some f)) fits answers = taken_begins bytes f.0 f.1 fits answers
+is_found bytes (Err e) fits answers = tt
+
+pub is_only : (bytes : List ℕ) (r : Result (Option (Op × ℕ)) CodecError) (op : Op) (n : ℕ) → Answers r (taken bytes) → Begins bytes op n → (r ≡ Ok (Some (op, n))) ⊎ (r ≡ Err Memory)
+is_only bytes (Ok found) op n answers begins = inl (sym answers ∙ begins_taken bytes op n begins)
+is_only bytes (Err e) op n (inl fault) begins = let read = begins_taken bytes op n begins in absurd cc
+is_only bytes (Err e) op n (inr (memory, found)) begins = inr (ap (λ (x : CodecError). Err x) memory)
+
+pub none_partial : (bytes : List ℕ) (r : Result (Option (Op × ℕ)) CodecError) → Answers r (taken bytes) → r ≡ Ok None → IsPartial bytes
+none_partial bytes (Ok found) answers none = taken_partial bytes (answers ∙ none)
+none_partial bytes (Err e) answers none = absurd cc
+
+pub partial_none : (bytes : List ℕ) (r : Result (Option (Op × ℕ)) CodecError) → Answers r (taken bytes) → IsPartial bytes → r ≡ Ok None
+partial_none bytes (Ok found) answers partial = sym answers ∙ partial_taken bytes partial
+partial_none bytes (Err e) (inl fault) partial = let read = partial_taken bytes partial in absurd cc
+partial_none bytes (Err e) (inr (memory, found)) partial =
+    let read = partial_taken bytes partial in
+    let other = found.1 in
+    absurd cc
+
+pub fault_first : (bytes : List ℕ) (r : Result (Option (Op × ℕ)) CodecError) (e : CodecError) → e ≢ Memory → Answers r (taken bytes) → r ≡ Err e → first_fault bytes ≡ Some e
+unfolding first_fault
+fault_first bytes (Ok found) e other answers is = absurd cc
+fault_first bytes (Err d) e other (inl fault) is = ap fault_of (fault ∙ is)
+fault_first bytes (Err d) e other (inr (memory, found)) is =
+    let same : d ≡ e = cc in
+    absurd (other (sym same ∙ memory))
+
+-- a fault is the one that was read
+read_fault : {A : Type 0} (r : Result A CodecError) (e : CodecError) → fault_of r ≡ Some e → r ≡ Err e
+read_fault (Ok x) e is = absurd cc
+read_fault (Err d) e is = cc
+
+pub first_is_fault : (bytes : List ℕ) (r : Result (Option (Op × ℕ)) CodecError) (e : CodecError) → Answers r (taken bytes) → first_fault bytes ≡ Some e → r ≡ Err e
+unfolding first_fault
+first_is_fault bytes (Ok found) e answers first = let read = read_fault (taken bytes) e first in absurd cc
+first_is_fault bytes (Err d) e (inl fault) first = sym fault ∙ read_fault (taken bytes) e first
+first_is_fault bytes (Err d) e (inr (memory, found)) first =
+    let read = read_fault (taken bytes) e first in
+    let other = found.1 in
+    absurd cc
+
+pub memory_some : (bytes : List ℕ) (r : Result (Option (Op × ℕ)) CodecError) → IsBytes bytes → Answers r (taken bytes) → r ≡ Err Memory → BeginsWithSome bytes
+memory_some bytes (Ok found) fits answers is = absurd cc
+memory_some bytes (Err d) fits (inl fault) is = absurd (no_memory bytes (fault ∙ is))
+memory_some bytes (Err d) fits (inr (memory, found)) is = (found.0.0, found.0.1, taken_begins bytes found.0.0 found.0.1 fits found.1)

@@ -1,0 +1,6 @@
+pub mod Spelling
+pub mod Writing
+pub mod Fits
+pub mod Reading
+pub mod Lent
+pub mod Record

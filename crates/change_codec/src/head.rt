@@ -1,0 +1,29 @@
+//! What each record begins with.
+ghost use Rattle.change_codec.specs.Reading.{Reads, head_at};
+
+use crate::CodecError;
+use crate::content::{Kind, take_kind};
+use crate::id::take_id;
+use crate::number::take_u32;
+use op_ids::OpId;
+
+/// What each record begins with, before its deps.
+#[derive(Clone, Copy, Debug)]
+pub struct Head {
+    pub kind: Kind,
+    pub doc: u32,
+    pub id: OpId,
+}
+
+/// Takes a head from the front.
+#[tactic(auto, unfolding(crate::specs::Reading::head_at))]
+pub fn take_head(bytes: &[u8]) -> Result<(Head, &[u8]), CodecError>
+    ensures { Reads (λ x. (x.0, x.1.now)) result (head_at bytes.now) }
+{
+    let (kind, rest) = take_kind(bytes)?;
+    let (doc, rest) = take_u32(rest)?;
+    match take_id(rest) {
+        Ok((id, rest)) => Ok((Head { kind, doc, id }, rest)),
+        Err(fault) => Err(fault),
+    }
+}

@@ -1,0 +1,36 @@
+//! Laws of the codec: calls that do nothing, and whose contracts are the laws.
+ghost use Rattle.std.specs.Prelude.{◌≡◌, ◌++◌, ◌<◌, ℕ, List, length, take, slice_index, Ok, Some};
+ghost use Rattle.op_model.specs.Records.{record_length};
+ghost use Rattle.op_model.specs.declared.op.Op.{Op as Operation};
+ghost use Rattle.change_codec.specs.Spelling.{spelled, Spells};
+ghost use Rattle.change_codec.specs.Fits.{IsOperation};
+ghost use Rattle.change_codec.specs.Record.{taken, Begins};
+
+/// Each value has one spelling: what is read as the same operation is the same bytes.
+pub fn each_has_one_spelling()
+    ensures { (op : Operation) (bytes others : List ℕ) (n m : ℕ)
+        → Begins bytes op n → Begins others op m → take n bytes ≡ take m others }
+{}
+
+/// No spelling begins another one.
+pub fn no_spelling_begins_another()
+    ensures { (a b : Operation) (x y : List ℕ) → IsOperation a → IsOperation b
+        → spelled a ++ x ≡ spelled b ++ y → (a ≡ b) × (x ≡ y) }
+{}
+
+/// What is spelled is read, whatever follows it.
+pub fn spelled_is_read()
+    ensures { (op : Operation) (rest : List ℕ) → IsOperation op
+        → taken (spelled op ++ rest) ≡ Ok (Some (op, length (spelled op))) }
+{}
+
+/// What is read is spelled so.
+pub fn read_is_spelled()
+    ensures { (bytes : List ℕ) (op : Operation) (n : ℕ) → ((i : ℕ) → slice_index bytes i < 256)
+        → taken bytes ≡ Ok (Some (op, n)) → Begins bytes op n }
+{}
+
+/// A spelling is as long as the limit on a store's stream counts it.
+pub fn spelled_length()
+    ensures { (op : Operation) → length (spelled op) ≡ record_length op }
+{}
