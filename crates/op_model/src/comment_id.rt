@@ -39,6 +39,13 @@ impl CommentId {
     {
         self.number.to_be_bytes()
     }
+
+    /// The sixteen bytes as a number, the highest first.
+    pub fn number(self) -> u128
+        ensures { result ≡ self }
+    {
+        self.number
+    }
 }
 
 /// A list of comments, as the marks of a character name them: in strictly rising order. Contracts see the list
