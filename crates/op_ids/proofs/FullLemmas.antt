@@ -1,8 +1,8 @@
 -- Clocks that count too much, and clocks advanced for two replicas.
-use Rattle.std.proofs.Common.{◌≡◌, ◌≢◌, ℕ, ◌+◌, ◌≤◌, ◌<◌, ◌==◌, Bool, true, false, nat_lt, if◌then◌else◌, List, [], ◌∷◌, length, refl, sym, ◌∙◌, ap, subst, ⊎_elim, inl, inr, arith}
+use Rattle.std.proofs.Common.{◌≡◌, ℕ, ◌+◌, ◌≤◌, ◌<◌, ◌==◌, true, false, List, [], ◌∷◌, length, ◌∙◌, ap, ⊎_elim, inl, inr, arith}
 use Rattle.std.proofs.lemmas.Bool.{cases_Bool}
 use Rattle.std.proofs.lemmas.Bool.Decides.{nat_tests}
-use Rattle.op_ids.specs.Clock.{count_of, advanced, with_count, is_rising_above, is_clock, total_of, IsFull}
+use Rattle.op_ids.specs.Clock.{count_of, advanced, is_clock, total_of, IsOverfull}
 use Rattle.op_ids.proofs.ClockLemmas.{is_clock-advanced, is_clock_parts, advanced-set, length-with_count}
 
 -- no count is greater than all together
@@ -21,8 +21,8 @@ length-le-advanced [] r = omega arith
 length-le-advanced (e ∷ es) r = let rest = length-le-advanced es r in grind (arith, nat_tests)
 
 -- what counts too much stays so
-pub IsFull-advanced : (es : List (ℕ × ℕ)) (r : ℕ) → IsFull es → IsFull (advanced es r)
-IsFull-advanced es r full =
+pub IsOverfull-advanced : (es : List (ℕ × ℕ)) (r : ℕ) → IsOverfull es → IsOverfull (advanced es r)
+IsOverfull-advanced es r full =
     let sum = total_of-advanced es r in
     let long = length-le-advanced es r in
     record {
@@ -30,7 +30,7 @@ IsFull-advanced es r full =
     }
 
 -- where one more operation leaves no clock, it would count too much
-pub is_full_advanced : (es : List (ℕ × ℕ)) (r : ℕ) → is_clock es ≡ true → 0 < r → is_clock (advanced es r) ≡ false → IsFull (advanced es r)
+pub is_full_advanced : (es : List (ℕ × ℕ)) (r : ℕ) → is_clock es ≡ true → 0 < r → is_clock (advanced es r) ≡ false → IsOverfull (advanced es r)
 is_full_advanced es r valid positive full =
     let rule = is_clock-advanced es r valid positive in
     let parts = is_clock_parts es valid in

@@ -70,6 +70,7 @@ abbrev pub total_of : List (ℕ × ℕ) → ℕ
 total_of [] = 0
 total_of (e ∷ es) = e.1 + total_of es
 
--- counts a seventeenth replica, or more than 2^24 operations in all
-pub record IsFull (clock : List (ℕ × ℕ)) : Type 0 where
+-- Counts a seventeenth replica, or more than 2^24 operations in all: more than any store holds. A clock with one count above
+-- 2^24 does, and whatever is counted besides, it stays so.
+pub record IsOverfull (clock : List (ℕ × ℕ)) : Type 0 where
   pub over : (16 < length clock) ⊎ (16777216 < total_of clock)

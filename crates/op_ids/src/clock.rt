@@ -1,5 +1,5 @@
 ghost use Rattle.std.specs.Prelude.{◌≤◌, length, ◌≡◌, ℕ, List, [], ◌==◌, ◌↔◌, IsTrue, IsSome, IfSome, IfOk, OnOk, OnErr, IsErrOf, true, false, nat_le, max};
-ghost use Rattle.op_ids.specs.Clock.{count_of, advanced, joined, is_within, is_ready, is_clock, with_count, place_of, missing_from, is_same_clock, IsFull};
+ghost use Rattle.op_ids.specs.Clock.{count_of, advanced, joined, is_within, is_ready, is_clock, with_count, place_of, missing_from, is_same_clock, IsOverfull};
 
 use crate::{ClockError, ReplicaId};
 use std::alloc::{AllocError, Global};
@@ -127,7 +127,7 @@ impl Clock {
     /// above 2^24. At most 16 steps.
     pub fn can_advance(&self, replica: ReplicaId) -> bool
         ensures fits { result ≡ is_clock (advanced self.now replica) }
-        ensures full { result ≡ false → IsFull (advanced self.now replica) }
+        ensures full { result ≡ false → IsOverfull (advanced self.now replica) }
     {
         let count = self.get(replica);
         if count == 0 {
@@ -142,7 +142,7 @@ impl Clock {
         ensures ok { OnOk result (self.new ≡ advanced self.old replica) }
         ensures limit { IsErrOf result ClockError.Limit
             ↔ (is_clock (advanced self.old replica) ≡ false) }
-        ensures full { IsErrOf result ClockError.Limit → IsFull (advanced self.old replica) }
+        ensures full { IsErrOf result ClockError.Limit → IsOverfull (advanced self.old replica) }
         ensures err { OnErr result (self.new ≡ self.old) }
     {
         if !self.can_advance(replica) {

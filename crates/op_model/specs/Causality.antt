@@ -63,7 +63,7 @@ is_covered_insert ops deps doc id =
     list_any (λ op. is_same op.id id && op.doc == doc && is_insert op.body)
     (take (count_of deps id.replica) (made_by id.replica ops))
 
--- its counter is greater than that of each earlier operation of its replica
+-- its counter is greater than that of each earlier operation of its replica; in a causally closed list the last one decides
 abbrev pub is_counted_up : List Op → Op → Bool
 is_counted_up ops op = list_all (λ earlier. nat_lt earlier.id.counter op.id.counter) (made_by op.id.replica ops)
 

@@ -1,5 +1,5 @@
 -- The characters of a document, as a list of operations makes them. The order of the operations in the list doesn't
--- matter.
+-- matter where their ids are distinct.
 use Rattle.std.specs.Prelude.{ℕ, ◌==◌, if◌then◌else◌, List, [], ◌∷◌, Option, Some, None}
 use Rattle.op_ids.specs.Id.{Id, is_below}
 use Rattle.op_model.specs.declared.character.Character.{Character}

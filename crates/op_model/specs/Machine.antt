@@ -6,7 +6,7 @@ use Rattle.op_ids.specs.Clock.{is_ready}
 use Rattle.op_model.specs.Text.{rev}
 use Rattle.op_model.specs.Causality.{clock_of, is_known, first_failed}
 use Rattle.op_model.specs.Made.{made, edit_refusal}
-use Rattle.op_model.specs.Replay.{Kept, edited, merged, settled}
+use Rattle.op_model.specs.Replay.{Kept, edited, merged, settlement}
 
 -- a commit: of so many operations of the list, and whether it is through
 pub record Commit : Type 0 where
@@ -83,19 +83,19 @@ abbrev pub has_places : State → Bool
 has_places s = nat_le (length s.steps + 3) 1048576
 
 -- the answer to an edit that nothing but the kept steps may refuse: steps 10
-abbrev pub edited_or : ℕ → State → Edit → Option ℕ → Answer
-edited_or replica s e (Some n) = refused n
-edited_or replica s e None =
+abbrev pub edit_answer_unless : ℕ → State → Edit → Option ℕ → Answer
+edit_answer_unless replica s e (Some n) = refused n
+edit_answer_unless replica s e None =
     if has_places s then ticket (ticket_of (s.list ++ made s.list replica e) e.doc) else refused 10
 
 -- the answers to an edit, in the order of test: failed 9, then its own refusals, steps 10
 abbrev pub edit_answer : ℕ → State → Edit → Answer
-edit_answer replica s e = if s.failed then refused 9 else edited_or replica s e (edit_refusal s.list replica e)
+edit_answer replica s e = if s.failed then refused 9 else edit_answer_unless replica s e (edit_refusal s.list replica e)
 
 -- the answer to a merge that a check may refuse: steps 10
-abbrev pub joined_or : State → Option ℕ → Answer
-joined_or s (Some n) = refused n
-joined_or s None = if has_places s then applied else refused 10
+abbrev pub merge_answer_unless : State → Option ℕ → Answer
+merge_answer_unless s (Some n) = refused n
+merge_answer_unless s None = if has_places s then applied else refused 10
 
 -- the answers of a merge, in the order of test: failed 9, known, own but unknown 20, early, then the checks, steps 10
 abbrev pub merge_answer : ℕ → State → Op → Answer
@@ -104,7 +104,7 @@ merge_answer replica s op =
     else if is_known (clock_of s.list) op then known
     else if op.id.replica == replica then refused 20
     else if not (is_ready (clock_of s.list) op.id.replica op.deps) then early
-    else joined_or s (first_failed s.list op)
+    else merge_answer_unless s (first_failed s.list op)
 
 -- the answers of a begin, in the order of test: failed 44, busy 8, nothing new, no further version 7
 abbrev pub begin_answer : State → Answer
@@ -134,18 +134,19 @@ abbrev pub untold : List (ℕ × ℕ) → State → List Op
 untold c s = take 64 (filter (λ op. not (is_known c op)) (take s.settled s.list))
 
 -- one more, but none stays none
-abbrev pub after : ℕ → ℕ
-after zero = 0
-after (suc n) = suc (suc n)
+abbrev pub one_more_if_any : ℕ → ℕ
+one_more_if_any zero = 0
+one_more_if_any (suc n) = suc (suc n)
 
 -- how long the front of a list is that ends with the last of the first n operations which a clock doesn't count; 0 where there
 -- is none
 abbrev pub reach : ℕ → List (ℕ × ℕ) → List Op → ℕ
 reach zero c ops = 0
 reach (suc n) c [] = 0
-reach (suc n) c (op ∷ ops) = elim (is_known c op) [ true ↦ after (reach (suc n) c ops) | false ↦ reach n c ops + 1 ]
+reach (suc n) c (op ∷ ops) = elim (is_known c op) [ true ↦ one_more_if_any (reach (suc n) c ops) | false ↦ reach n c ops + 1 ]
 
--- the number that is due; and in place of a success want of memory, 1
+-- this number may be answered where that answer is due: the refusal's own, or 1, want of memory, in place of a success that grows
+-- something
 abbrev pub IsRefusal : ℕ → Answer → Type 0
 IsRefusal n (refused m) = n ≡ m
 IsRefusal n (ticket t) = n ≡ 1
@@ -154,80 +155,80 @@ IsRefusal n (begun m) = n ≡ 1
 IsRefusal n _ = ⊥
 
 abbrev pub EditStep : ℕ → State → ℕ → Edit → Answer → State → Type 0
-EditStep replica s session e (ticket t) t' =
-    (edit_answer replica s e ≡ ticket t) × (t' ≡ with_edit replica s session e)
-EditStep replica s session e (refused n) t' = IsRefusal n (edit_answer replica s e) × (t' ≡ s)
-EditStep replica s session e _ t' = ⊥
+EditStep replica s session e (ticket t) next =
+    (edit_answer replica s e ≡ ticket t) × (next ≡ with_edit replica s session e)
+EditStep replica s session e (refused n) next = IsRefusal n (edit_answer replica s e) × (next ≡ s)
+EditStep replica s session e _ next = ⊥
 
 abbrev pub MergeStep : ℕ → State → ℕ → Op → Answer → State → Type 0
-MergeStep replica s peer op applied t' = (merge_answer replica s op ≡ applied) × (t' ≡ with_merge s peer op)
-MergeStep replica s peer op known t' = (merge_answer replica s op ≡ known) × (t' ≡ s)
-MergeStep replica s peer op early t' = (merge_answer replica s op ≡ early) × (t' ≡ s)
-MergeStep replica s peer op (refused n) t' = IsRefusal n (merge_answer replica s op) × (t' ≡ s)
-MergeStep replica s peer op _ t' = ⊥
+MergeStep replica s peer op applied next = (merge_answer replica s op ≡ applied) × (next ≡ with_merge s peer op)
+MergeStep replica s peer op known next = (merge_answer replica s op ≡ known) × (next ≡ s)
+MergeStep replica s peer op early next = (merge_answer replica s op ≡ early) × (next ≡ s)
+MergeStep replica s peer op (refused n) next = IsRefusal n (merge_answer replica s op) × (next ≡ s)
+MergeStep replica s peer op _ next = ⊥
 
 abbrev pub BeginStep : State → Answer → State → Type 0
-BeginStep s (begun n) t' =
-    (begin_answer s ≡ begun n) × (t' ≡ record s { commit = Some (record { count = n; through = false }) })
-BeginStep s nothing_new t' = (begin_answer s ≡ nothing_new) × (t' ≡ s)
-BeginStep s (refused n) t' = IsRefusal n (begin_answer s) × (t' ≡ s)
-BeginStep s _ t' = ⊥
+BeginStep s (begun n) next =
+    (begin_answer s ≡ begun n) × (next ≡ record s { commit = Some (record { count = n; through = false }) })
+BeginStep s nothing_new next = (begin_answer s ≡ nothing_new) × (next ≡ s)
+BeginStep s (refused n) next = IsRefusal n (begin_answer s) × (next ≡ s)
+BeginStep s _ next = ⊥
 
 -- A device call goes on or makes the commit through; or it fails, and from then on there is none.
 abbrev pub DeviceStep : State → Answer → State → Type 0
-DeviceStep s idle t' = (s.failed ≡ false) × (is_under_way s.commit ≡ false) × (t' ≡ s)
-DeviceStep s goes_on t' = (s.failed ≡ false) × (is_under_way s.commit ≡ true) × (t' ≡ s)
-DeviceStep s goes_through t' =
-    (s.failed ≡ false) × (is_under_way s.commit ≡ true) × (t' ≡ record s { commit = through s.commit })
-DeviceStep s (refused n) t' =
-    ((s.failed ≡ true) × (n ≡ 44) × (t' ≡ s))
-    ⊎ ((s.failed ≡ false) × (is_under_way s.commit ≡ true) × ((n ≡ 51) ⊎ (n ≡ 52)) × (t' ≡ record s { failed = true }))
-DeviceStep s _ t' = ⊥
+DeviceStep s idle next = (s.failed ≡ false) × (is_under_way s.commit ≡ false) × (next ≡ s)
+DeviceStep s goes_on next = (s.failed ≡ false) × (is_under_way s.commit ≡ true) × (next ≡ s)
+DeviceStep s goes_through next =
+    (s.failed ≡ false) × (is_under_way s.commit ≡ true) × (next ≡ record s { commit = through s.commit })
+DeviceStep s (refused n) next =
+    ((s.failed ≡ true) × (n ≡ 44) × (next ≡ s))
+    ⊎ ((s.failed ≡ false) × (is_under_way s.commit ≡ true) × ((n ≡ 51) ⊎ (n ≡ 52)) × (next ≡ record s { failed = true }))
+DeviceStep s _ next = ⊥
 
 -- the state after the settlement of a commit that is through
 abbrev pub with_settled : ℕ → State → State
-with_settled n s = record s { settled = n; steps = settled n ∷ s.steps; version = s.version + 1; commit = None }
+with_settled n s = record s { settled = n; steps = settlement n ∷ s.steps; version = s.version + 1; commit = None }
 
 abbrev pub settle_answer : State → Answer
 settle_answer s =
     if s.failed then refused 44 else elim (through_of s.commit) [ None ↦ refused 8 | Some n ↦ settled_to n ]
 
 abbrev pub SettleStep : State → Answer → State → Type 0
-SettleStep s (settled_to n) t' = (settle_answer s ≡ settled_to n) × (t' ≡ with_settled n s)
-SettleStep s (refused n) t' = (settle_answer s ≡ refused n) × (t' ≡ s)
-SettleStep s _ t' = ⊥
+SettleStep s (settled_to n) next = (settle_answer s ≡ settled_to n) × (next ≡ with_settled n s)
+SettleStep s (refused n) next = (settle_answer s ≡ refused n) × (next ≡ s)
+SettleStep s _ next = ⊥
 
 abbrev pub AckStep : State → Ticket → Answer → State → Type 0
-AckStep s t (acknowledged true) t' = (t.end ≤ s.settled) × (t' ≡ record s { acked = max s.acked t.end })
-AckStep s t (acknowledged false) t' = (s.settled < t.end) × (t' ≡ s)
-AckStep s t _ t' = ⊥
+AckStep s t (acknowledged true) next = (t.end ≤ s.settled) × (next ≡ record s { acked = max s.acked t.end })
+AckStep s t (acknowledged false) next = (s.settled < t.end) × (next ≡ s)
+AckStep s t _ next = ⊥
 
 abbrev pub TellStep : State → List (ℕ × ℕ) → Answer → State → Type 0
-TellStep s c (operations ops) t' =
-    (ops ≡ untold c s) × (t' ≡ record s { told = max s.told (reach 64 c (take s.settled s.list)) })
-TellStep s c (refused n) t' = (n ≡ 1) × (t' ≡ s)
-TellStep s c _ t' = ⊥
+TellStep s c (operations ops) next =
+    (ops ≡ untold c s) × (next ≡ record s { told = max s.told (reach 64 c (take s.settled s.list)) })
+TellStep s c (refused n) next = (n ≡ 1) × (next ≡ s)
+TellStep s c _ next = ⊥
 
 abbrev pub HaveStep : State → Answer → State → Type 0
-HaveStep s (clock c) t' = (c ≡ clock_of (take s.settled s.list)) × (t' ≡ record s { told = max s.told s.settled })
-HaveStep s (refused n) t' = (n ≡ 1) × (t' ≡ s)
-HaveStep s _ t' = ⊥
+HaveStep s (clock c) next = (c ≡ clock_of (take s.settled s.list)) × (next ≡ record s { told = max s.told s.settled })
+HaveStep s (refused n) next = (n ≡ 1) × (next ≡ s)
+HaveStep s _ next = ⊥
 
 -- one event of a replica, with its answer: a pair that never comes is impossible
 abbrev pub Step : ℕ → State → Event → Answer → State → Type 0
-Step replica s (edit session e) a t' = EditStep replica s session e a t'
-Step replica s (merge peer op) a t' = MergeStep replica s peer op a t'
-Step replica s begin a t' = BeginStep s a t'
-Step replica s device_step a t' = DeviceStep s a t'
-Step replica s settle a t' = SettleStep s a t'
-Step replica s (ack t) a t' = AckStep s t a t'
-Step replica s (tell c) a t' = TellStep s c a t'
-Step replica s have a t' = HaveStep s a t'
+Step replica s (edit session e) a next = EditStep replica s session e a next
+Step replica s (merge peer op) a next = MergeStep replica s peer op a next
+Step replica s begin a next = BeginStep s a next
+Step replica s device_step a next = DeviceStep s a next
+Step replica s settle a next = SettleStep s a next
+Step replica s (ack t) a next = AckStep s t a next
+Step replica s (tell c) a next = TellStep s c a next
+Step replica s have a next = HaveStep s a next
 
--- events one after another, each with its answer
+-- Events one after another, each with its answer. There is no crash among them: what one leaves is said below.
 abbrev pub Run : ℕ → State → List (Event × Answer) → State → Type 0
-Run replica s [] t' = t' ≡ s
-Run replica s (e ∷ es) t' = (mid : State) × Step replica s e.0 e.1 mid × Run replica mid es t'
+Run replica s [] next = next ≡ s
+Run replica s (e ∷ es) next = (mid : State) × Step replica s e.0 e.1 mid × Run replica mid es next
 
 -- the state after opening a file with this list
 abbrev pub opened : List Op → ℕ → State
@@ -244,11 +245,11 @@ opened list version = record {
 
 -- A crash leaves the settled list, or the list of the commit; once that is through, its list alone.
 abbrev pub CrashLeavesOf : State → Commit → State → Type 0
-CrashLeavesOf s c t' = elim c.through [
-  | true ↦ t' ≡ opened (take c.count s.list) (s.version + 1)
-  | false ↦ (t' ≡ opened (take s.settled s.list) s.version) ⊎ (t' ≡ opened (take c.count s.list) (s.version + 1))
+CrashLeavesOf s c next = elim c.through [
+  | true ↦ next ≡ opened (take c.count s.list) (s.version + 1)
+  | false ↦ (next ≡ opened (take s.settled s.list) s.version) ⊎ (next ≡ opened (take c.count s.list) (s.version + 1))
 ]
 
 -- what is opened after a crash
 abbrev pub CrashLeaves : State → State → Type 0
-CrashLeaves s t' = elim s.commit [ None ↦ t' ≡ opened (take s.settled s.list) s.version | Some c ↦ CrashLeavesOf s c t' ]
+CrashLeaves s next = elim s.commit [ None ↦ next ≡ opened (take s.settled s.list) s.version | Some c ↦ CrashLeavesOf s c next ]

@@ -155,7 +155,7 @@ is_small (change.Delete at count) = nat_le count.value 256
 is_small (change.Mark from to mark) = true
 is_small (change.Unmark from to key) = true
 
--- how many operations a change makes
+-- how many operations a change makes that lies within the text
 abbrev pub size_of : Change → ℕ
 size_of (change.Insert at text) = length text
 size_of (change.Delete at count) = count.value

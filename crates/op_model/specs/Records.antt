@@ -18,10 +18,12 @@ abbrev pub origin_length : Option Id → ℕ
 origin_length None = 1
 origin_length (Some id) = 25
 
+-- a tag, and 24 bytes for the id of an anchor
 abbrev pub start_length : Start → ℕ
 start_length start.OfText = 1
 start_length (start.From anchor) = 25
 
+-- the same at the end
 abbrev pub end_length : End → ℕ
 end_length (end.To anchor) = 25
 end_length end.OfText = 1
@@ -33,6 +35,7 @@ mark_length added.Em = 1
 mark_length (added.Link url) = 3 + length url
 mark_length (added.Comment id) = 17
 
+-- a tag, and 16 bytes for a comment
 abbrev pub key_length : MarkKey → ℕ
 key_length key.Strong = 1
 key_length key.Em = 1

@@ -10,19 +10,19 @@ use Rattle.op_model.specs.Made.{made}
 pub data Kept : Type 0 where
   edited : ℕ → Edit → ℕ → ℕ → Kept
   merged : ℕ → ℕ → Kept
-  settled : ℕ → Kept
+  settlement : ℕ → Kept
 
 -- the lengths that the list had at opening and after each step, the last first
 abbrev pub reached : ℕ → List Kept → List ℕ
 reached opened [] = opened ∷ []
 reached opened (edited session edit first count ∷ steps) = (first + count) ∷ reached opened steps
 reached opened (merged peer index ∷ steps) = (index + 1) ∷ reached opened steps
-reached opened (settled n ∷ steps) = reached opened steps
+reached opened (settlement n ∷ steps) = reached opened steps
 
 -- the settled number: the last one, or the length at opening
 abbrev pub settled_number : ℕ → List Kept → ℕ
 settled_number opened [] = opened
-settled_number opened (settled n ∷ steps) = n
+settled_number opened (settlement n ∷ steps) = n
 settled_number opened (edited session edit first count ∷ steps) = settled_number opened steps
 settled_number opened (merged peer index ∷ steps) = settled_number opened steps
 
@@ -43,6 +43,6 @@ Replays replica opened (merged peer index ∷ steps) list =
     (op : Op) × (list ≡ take index list ++ op ∷ []) × (length list ≡ index + 1) × Joins replica (take index list) op
     × Replays replica opened steps (take index list)
 -- a settlement is of a length that the list had, so it cuts no edit, and doesn't go back
-Replays replica opened (settled n ∷ steps) list =
+Replays replica opened (settlement n ∷ steps) list =
     Contains (reached (length opened) steps) n × (settled_number (length opened) steps ≤ n)
     × Replays replica opened steps list

@@ -1,4 +1,5 @@
--- The text of a document, as a list of operations makes it. The order of the operations in the list doesn't matter.
+-- The text of a document, as a list of operations makes it. The order of the operations in the list doesn't matter
+-- where their ids are distinct.
 use Rattle.std.specs.Prelude.{ℕ, ◌==◌, Bool, false, not, ◌&&◌, List, map, filter, count_by}
 use Rattle.std.specs.List.{list_any}
 use Rattle.op_ids.specs.Id.{Id, is_same}
@@ -15,7 +16,7 @@ is_removal_of id (Insert origin value) = false
 is_removal_of id (AddMark mark start end) = false
 is_removal_of id (RemoveMark key start end) = false
 
--- some operation of the document removes the character: it is a tombstone
+-- some operation of the document removes the character: it is a tombstone. An operation of another document names none here.
 abbrev pub is_removed : List Op → ℕ → Character → Bool
 is_removed ops doc c = list_any (λ op. op.doc == doc && is_removal_of c.id op.body) ops
 

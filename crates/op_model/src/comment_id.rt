@@ -48,8 +48,7 @@ impl CommentId {
     }
 }
 
-/// A list of comments, as the marks of a character name them: in strictly rising order. Contracts see the list
-/// of their numbers.
+/// A list of comments, as the marks of a character name them. Contracts see the list of their numbers.
 #[derive(Debug, Drop)]
 pub struct CommentIds {
     ids: Vec<CommentId>,

@@ -71,23 +71,23 @@ impl EditText {
 /// What a session asks to be changed.
 #[derive(Debug, Drop, PartialEq, Eq)]
 pub struct Edit {
-    /// The number of the document, from 1 on.
+    /// The number of the document, from 1 on; 0 is refused as a limit.
     pub doc: u32,
     /// Where it is there, the edit is refused unless the document has just this number of operations.
     pub rev: Option<u32>,
     pub change: Change,
 }
 
-/// A change of a document. Places count visible characters from 0.
+/// A change of a document. Indexes count visible characters from 0.
 #[derive(Debug, Drop, PartialEq, Eq)]
 pub enum Change {
-    /// Inserts text before the character at a place, or at the end.
+    /// Inserts text before the character at an index, or at the end.
     Insert { at: u32, text: EditText },
-    /// Removes so many characters from a place on.
+    /// Removes so many characters from an index on.
     Delete { at: u32, count: NonZeroU32 },
-    /// Marks the characters from a place up to another, that one not.
+    /// Marks the characters from an index up to another, that one not.
     Mark { from: u32, to: u32, mark: Mark },
-    /// Takes a mark from the characters from a place up to another, that one not.
+    /// Takes a mark from the characters from an index up to another, that one not.
     Unmark { from: u32, to: u32, key: MarkKey },
 }
 

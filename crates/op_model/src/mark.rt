@@ -30,7 +30,7 @@ pub struct Marks {
     pub strong: bool,
     pub em: bool,
     pub link: Option<Url>,
-    /// In strictly rising order.
+    /// In the order of their numbers, where the marks are those of a character.
     pub comments: CommentIds,
 }
 

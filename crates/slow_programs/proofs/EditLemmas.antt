@@ -1,12 +1,12 @@
 -- What an edit's operations do to the limits of a store.
-use Rattle.std.proofs.Common.{◌≡◌, ◌≢◌, ◌⊎◌, ℕ, zero, suc, ◌+◌, ◌-◌, ◌*◌, ◌≤◌, ◌<◌, ◌^◌, Bool, true, false, ◌&&◌, nat_le, nat_lt, List, [], ◌∷◌, ◌++◌, length, map, take, drop, max, refl, sym, ◌∙◌, ap, subst, inl, inr, ⊎_elim, length-append, length-take, length-drop, append_assoc, append-nil, Option, Some, arith}
+use Rattle.std.proofs.Common.{◌≡◌, ◌≢◌, ◌⊎◌, ℕ, suc, ◌+◌, ◌<◌, Bool, true, false, ◌&&◌, nat_le, List, [], ◌∷◌, ◌++◌, length, refl, sym, ◌∙◌, ap, ⊎_elim, length-take, length-drop, append_assoc, append-nil, Option, Some, arith}
 use Rattle.std.proofs.lemmas.List.{length-map}
 use Rattle.std.specs.List.{list_all}
 use Rattle.std.proofs.lemmas.List.Folds.{list_all-append}
 use Rattle.std.proofs.lemmas.Bool.Decides.{nat_tests}
 use Rattle.op_ids.specs.Id.{Id}
-use Rattle.op_ids.specs.Clock.{advanced, total_of, IsFull}
-use Rattle.op_ids.proofs.FullLemmas.{advanced-comm, total_of-advanced, IsFull-advanced}
+use Rattle.op_ids.specs.Clock.{advanced, total_of, IsOverfull}
+use Rattle.op_ids.proofs.FullLemmas.{advanced-comm, total_of-advanced}
 use Rattle.op_ids.specs.declared.clock_error.ClockError.{ClockError}
 use Rattle.op_ids.specs.declared.clock_error.ClockError.TheVariants as clock
 use Rattle.slow_programs.specs.declared.edit_error.EditError.TheVariants.{Memory, Limit}
@@ -22,7 +22,7 @@ use Rattle.op_model.specs.Records.{stream_length}
 use Rattle.op_model.specs.Made.{numbered, insert_bodies, bodies_of, made, greatest_counter, origin_of, is_inside, size_of}
 use Rattle.slow_programs.specs.Numbering.{advanced_by}
 use Rattle.slow_programs.specs.Asking.{IsAskedRight}
-use Rattle.slow_programs.proofs.Full.{IsFull-advanced_by}
+use Rattle.slow_programs.proofs.Full.{IsOverfull-advanced_by}
 
 -- one more operation at the end of a list is one more in its clock
 pub clock_of-push : (ops : List Op) (op : Op) → clock_of (ops ++ op ∷ []) ≡ advanced (clock_of ops) op.id.replica
@@ -53,7 +53,7 @@ no_room ranges replicas documents operations bytes =
     ⊎_elim (λ (many : 16 < replicas). grind (arith, nat_tests)) (λ (many : 16777216 < operations). grind (arith, nat_tests))
 
 -- a list whose clock counts too much has no room in a store
-pub is_within_limits-full : (ops : List Op) → IsFull (clock_of ops) → is_within_limits ops ≡ false
+pub is_within_limits-full : (ops : List Op) → IsOverfull (clock_of ops) → is_within_limits ops ≡ false
 is_within_limits-full ops full =
     no_room (list_all is_in_range ops) (length (clock_of ops)) (length (documents ops)) (length ops) (stream_length ops)
     (rw (total_of-clock_of ops) at full.over)
@@ -92,18 +92,18 @@ length-bodies_of ops replica doc (change.Unmark from to key) inside = refl
 
 -- an edit whose operations a clock can't count is beyond the limits
 pub is_within_limits-uncounted : (ops : List Op) (replica : ℕ) (edit : Edit)
-    → IsFull (advanced_by (clock_of ops) replica (bodies_of ops replica edit.doc edit.change))
+    → IsOverfull (advanced_by (clock_of ops) replica (bodies_of ops replica edit.doc edit.change))
     → is_within_limits (ops ++ made ops replica edit) ≡ false
 is_within_limits-uncounted ops replica edit full =
     is_within_limits-full (ops ++ made ops replica edit)
     (rw (clock_of-numbered ops replica edit.doc (greatest_counter ops + 1) (clock_of ops) (bodies_of ops replica edit.doc edit.change)) full)
 
 -- so is one after a list that a clock can't count
-pub is_within_limits-uncounted_before : (ops : List Op) (replica : ℕ) (edit : Edit) → IsFull (clock_of ops)
+pub is_within_limits-uncounted_before : (ops : List Op) (replica : ℕ) (edit : Edit) → IsOverfull (clock_of ops)
     → is_within_limits (ops ++ made ops replica edit) ≡ false
 is_within_limits-uncounted_before ops replica edit full =
     is_within_limits-uncounted ops replica edit
-    (IsFull-advanced_by (clock_of ops) replica (bodies_of ops replica edit.doc edit.change) full)
+    (IsOverfull-advanced_by (clock_of ops) replica (bodies_of ops replica edit.doc edit.change) full)
 
 -- a list with a counter out of range is beyond the limits
 out_of_range : (first second room : Bool) → second ≡ false → ((first && second) && room) ≡ false

@@ -1,36 +1,36 @@
 -- Clocks that count too much, while operations are counted one after another.
-use Rattle.std.proofs.Common.{◌≡◌, ℕ, zero, suc, ◌+◌, ◌-◌, ◌<◌, ◌≤◌, List, [], ◌∷◌, length, drop, get_or, sym, ◌∙◌, ap, subst, arith}
+use Rattle.std.proofs.Common.{◌≡◌, ℕ, zero, suc, ◌+◌, ◌-◌, ◌<◌, ◌≤◌, List, [], ◌∷◌, length, drop, get_or, arith}
 use Rattle.std.proofs.lemmas.List.{drop_more}
-use Rattle.op_ids.specs.Clock.{advanced, IsFull}
-use Rattle.op_ids.proofs.FullLemmas.{IsFull-advanced}
+use Rattle.op_ids.specs.Clock.{advanced, IsOverfull}
+use Rattle.op_ids.proofs.FullLemmas.{IsOverfull-advanced}
 use Rattle.op_model.specs.declared.op.Op.{Op}
 use Rattle.op_model.specs.declared.op.Body.{Body}
 use Rattle.op_model.specs.Causality.{clock_of}
 use Rattle.slow_programs.specs.Numbering.{advanced_by}
 
 -- a list counts too much where its end does
-pub IsFull-clock_of : (ops : List Op) (i : ℕ) → IsFull (clock_of (drop i ops)) → IsFull (clock_of ops)
-IsFull-clock_of ops zero full = full
-IsFull-clock_of [] (suc i) full = full
-IsFull-clock_of (op ∷ ops) (suc i) full = IsFull-advanced (clock_of ops) op.id.replica (IsFull-clock_of ops i full)
+pub IsOverfull-clock_of : (ops : List Op) (i : ℕ) → IsOverfull (clock_of (drop i ops)) → IsOverfull (clock_of ops)
+IsOverfull-clock_of ops zero full = full
+IsOverfull-clock_of [] (suc i) full = full
+IsOverfull-clock_of (op ∷ ops) (suc i) full = IsOverfull-advanced (clock_of ops) op.id.replica (IsOverfull-clock_of ops i full)
 
 -- more operations leave it so
-pub IsFull-advanced_by : (clock : List (ℕ × ℕ)) (replica : ℕ) (bodies : List Body) → IsFull clock → IsFull (advanced_by clock replica bodies)
-IsFull-advanced_by clock replica [] full = full
-IsFull-advanced_by clock replica (b ∷ bs) full =
-    IsFull-advanced_by (advanced clock replica) replica bs (IsFull-advanced clock replica full)
+pub IsOverfull-advanced_by : (clock : List (ℕ × ℕ)) (replica : ℕ) (bodies : List Body) → IsOverfull clock → IsOverfull (advanced_by clock replica bodies)
+IsOverfull-advanced_by clock replica [] full = full
+IsOverfull-advanced_by clock replica (b ∷ bs) full =
+    IsOverfull-advanced_by (advanced clock replica) replica bs (IsOverfull-advanced clock replica full)
 
 -- where the operation of the body at an index is one too many, all of them are
 pub is_full_from : (clock : List (ℕ × ℕ)) (replica : ℕ) (bodies : List Body) (i : ℕ) (b : Body) → i < length bodies
-    → IsFull (advanced clock replica) → IsFull (advanced_by clock replica (drop i bodies))
+    → IsOverfull (advanced clock replica) → IsOverfull (advanced_by clock replica (drop i bodies))
 is_full_from clock replica bodies i b here full =
-    rw (drop_more bodies i b here) (IsFull-advanced_by (advanced clock replica) replica (drop (i + 1) bodies) full)
+    rw (drop_more bodies i b here) (IsOverfull-advanced_by (advanced clock replica) replica (drop (i + 1) bodies) full)
 
 -- where the operation before an index is one too many for those from there on, the list has too many
 pub is_full_front : (ops : List Op) (i : ℕ) (op : Op) (clock : List (ℕ × ℕ)) (replica : ℕ) → 0 < i → i ≤ length ops
-    → clock ≡ clock_of (drop i ops) → replica ≡ (get_or ops (i - 1) op).id.replica → IsFull (advanced clock replica) → IsFull (clock_of ops)
+    → clock ≡ clock_of (drop i ops) → replica ≡ (get_or ops (i - 1) op).id.replica → IsOverfull (advanced clock replica) → IsOverfull (clock_of ops)
 is_full_front ops i op clock replica some within is_clock is_replica full =
     let here : i - 1 < length ops = omega arith in
     let next : i - 1 + 1 ≡ i = omega arith in
-    IsFull-clock_of ops (i - 1)
+    IsOverfull-clock_of ops (i - 1)
     (rw (drop_more ops (i - 1) op here, next) (rw (is_clock, is_replica) at full))

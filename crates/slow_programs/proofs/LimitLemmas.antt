@@ -1,11 +1,11 @@
 -- The limits of a store, of one list behind another.
-use Rattle.std.proofs.Common.{◌≡◌, ℕ, ◌+◌, Bool, ◌&&◌, nat_le, List, [], ◌∷◌, ◌++◌, length, map, refl, sym, ◌∙◌, ap, length-append, append_assoc, arith}
+use Rattle.std.proofs.Common.{◌≡◌, ◌+◌, ◌&&◌, nat_le, List, [], ◌∷◌, ◌++◌, length, map, refl, ap, length-append, arith}
 use Rattle.std.proofs.lemmas.List.Folds.{list_all-append}
 use Rattle.std.specs.List.{list_all}
 use Rattle.op_model.specs.declared.op.Op.{Op}
-use Rattle.op_model.specs.Records.{record_length, stream_length}
+use Rattle.op_model.specs.Records.{stream_length}
 use Rattle.op_model.specs.Spans.{with_number}
-use Rattle.op_model.specs.Causality.{clock_of, documents, is_in_range, has_room, is_within_limits}
+use Rattle.op_model.specs.Causality.{clock_of, documents, is_in_range, is_within_limits}
 use Rattle.slow_programs.specs.Joining.{risen}
 
 -- the documents of two lists

@@ -13,7 +13,7 @@ pub enum EditError {
     /// 6: the document doesn't have the number of operations that was asked for.
     #[error("stale")]
     Stale,
-    /// 5: a place outside the visible text.
+    /// 5: an index outside the visible text.
     #[error("range")]
     Range,
     /// 7: more than 256 characters, or a limit of the store would be passed.

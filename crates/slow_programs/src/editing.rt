@@ -241,7 +241,8 @@ fn made_within(
 }
 
 /// The operations that an edit adds to a replica's list. It is refused by the first cause, in this order: `Stale` (6),
-/// `Range` (5), `Limit` (7); and `Memory` (1) where a growth was refused.
+/// `Range` (5), `Limit` (7). `Memory` (1), where a growth was refused, may stand in place of the last two, since the
+/// document is read before they are tested.
 pub fn made(
     alloc: Global,
     ops: &[Op],

@@ -1,7 +1,7 @@
 ghost use Rattle.std.specs.Prelude.{◌≡◌, ◌≢◌, ℕ, ◌+◌, ◌≤◌, ◌<◌, ◌^◌, List, length, IfOk, IsErrOf, OnOk};
 ghost use Rattle.op_model.specs.Causality.{clock_of as clock_of_list};
 ghost use Rattle.op_model.specs.Made.{greatest_counter as greatest_in, numbered as numbered_from};
-ghost use Rattle.op_ids.specs.Clock.{IsFull};
+ghost use Rattle.op_ids.specs.Clock.{IsOverfull};
 ghost use Rattle.slow_programs.specs.Numbering.{advanced_by};
 
 use crate::edit_error::EditError;
@@ -26,7 +26,7 @@ pub fn greatest_counter(ops: &[Op]) -> u64
 /// How many operations each replica has. `Limit` where no clock counts so many.
 pub fn clock_of(alloc: Global, ops: &[Op]) -> Result<Clock, ClockError>
     ensures ok { IfOk result (λ clock. clock ≡ clock_of_list ops.now) }
-    ensures limit { IsErrOf result ClockError.Limit → IsFull (clock_of_list ops.now) }
+    ensures limit { IsErrOf result ClockError.Limit → IsOverfull (clock_of_list ops.now) }
 {
     let mut clock = Clock::new(alloc);
     let mut i = ops.len();
@@ -51,7 +51,7 @@ pub fn numbered(
     requires in_range { counter + length bodies.now ≤ 2 ^ 48 }
     ensures ops { IfOk result (λ made. made.0.items ≡ numbered_from replica doc counter clock bodies.now) }
     ensures clock { IfOk result (λ made. made.1 ≡ advanced_by clock replica bodies.now) }
-    ensures limit { IsErrOf result ClockError.Limit → IsFull (advanced_by clock replica bodies.now) }
+    ensures limit { IsErrOf result ClockError.Limit → IsOverfull (advanced_by clock replica bodies.now) }
 {
     let mut ops = Vec::new(alloc);
     let mut clock = clock;

@@ -1,4 +1,4 @@
-use Rattle.std.proofs.Common.{refl, sym, ◌∙◌, ap}
+use Rattle.std.proofs.Common.{◌∙◌}
 use Rattle.char_sequence.proofs.CutLemmas.{one_of_run, is_known-inserted}
 use Rattle.char_sequence.proofs.sequence.insert_run.Goals as goal
 

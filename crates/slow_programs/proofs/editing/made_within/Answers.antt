@@ -1,10 +1,5 @@
-use Rattle.std.proofs.Common.{◌≡◌, ◌+◌, ◌≤◌, ◌++◌, length, refl, sym, ◌∙◌, ap, Err, arith}
+use Rattle.std.proofs.Common.{length, refl, ◌∙◌, ap, Err, arith}
 use Rattle.std.proofs.lemmas.Result.{err_from_is_err_and}
-use Rattle.op_ids.specs.declared.clock_error.ClockError.TheVariants as clock
-use Rattle.op_ids.specs.Clock.{IsFull}
-use Rattle.op_model.specs.Causality.{clock_of}
-use Rattle.op_model.specs.Made.{bodies_of, size_of, greatest_counter, numbered}
-use Rattle.slow_programs.specs.Numbering.{advanced_by}
 use Rattle.slow_programs.proofs.EditLemmas.{is_within_limits-uncounted, is_within_limits-uncounted_before, is_within_limits-over, limit_alone, length-bodies_of, clock_of-numbered}
 use Rattle.slow_programs.proofs.editing.made_within.Goals as goal
 

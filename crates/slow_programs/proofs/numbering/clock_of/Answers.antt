@@ -1,5 +1,4 @@
-use Rattle.std.proofs.Common.{◌≡◌, ◌-◌, ◌+◌, ◌<◌, length, drop, get_or, sym, ap, Err}
-use Rattle.std.proofs.lemmas.List.{drop_more}
+use Rattle.std.proofs.Common.{◌≡◌, ap, Err}
 use Rattle.std.proofs.lemmas.Result.{err_from_is_err_and}
 use Rattle.op_ids.specs.declared.clock_error.ClockError.TheVariants.{Limit}
 use Rattle.slow_programs.proofs.Full.{is_full_front}

@@ -1,4 +1,4 @@
-use Rattle.std.proofs.Common.{refl, sym, ◌∙◌, ap}
+use Rattle.std.proofs.Common.{◌∙◌, ap}
 use Rattle.char_sequence.specs.Cells.{inserted_run}
 use Rattle.char_sequence.proofs.ContentLemmas.{takes_run}
 use Rattle.char_sequence.proofs.sequence.Sequence.apply_run.Goals as goal
