@@ -1,0 +1,6 @@
+pub mod DeviceCall
+pub mod Frame
+pub mod Inside
+pub mod SlotLemmas
+pub mod Sound
+pub mod Steps

@@ -1,0 +1,193 @@
+-- What each device call of a commit makes of what a file has.
+use Rattle.std.proofs.Common.{◌≡◌, ◌≢◌, ◌⊎◌, ℕ, zero, suc, ◌+◌, ◌-◌, ◌*◌, ◌<◌, ◌≤◌, Bool, true, false, List, [], ◌∷◌, ◌++◌, length, get_or, take, drop, refl, sym, ap, ◌∙◌, inl, inr, arith, Result, Ok, Err}
+use Rattle.std.proofs.lemmas.Bool.{cases_eq, cases_lt}
+use Rattle.disk_trait.specs.File.{part, Torn, overwritten}
+use Rattle.page_file.specs.Pages.{page, pages, has, are_pages}
+use Rattle.page_file.proofs.Parts.{pages_other, pages_behind, page_other, part_written, part_outside}
+use Rattle.page_file.proofs.Numbers.{no_two, each_behind}
+use Rattle.root_slots.specs.Root.{version_of}
+use Rattle.root_slots.specs.Slots.{gate, body, live}
+use Rattle.group_commit.specs.Image.{stored, in_slot, with_stream, stream, tables_in, named, Stores}
+use Rattle.group_commit.specs.Saved.{Saved}
+use Rattle.group_commit.specs.Commit.{HasPages, IsOlder, IsAsBefore, StaleSlot, Stands, ReadAs, Reads, Makes, Is, IsLeft}
+use Rattle.group_commit.specs.declared.phase.Phase.{Phase}
+use Rattle.group_commit.specs.declared.phase.Phase.TheVariants.{Idle, Pages, Close, Sync1, Body, Sync2, Gate, Sync3}
+use Rattle.group_commit.proofs.Frame.{stores_same, reading_of}
+use Rattle.group_commit.proofs.SlotLemmas.{SameSlot, slot_before_pages, slot_beside, body_behind_gate, gate_before_body, gate_written, other_of_other, live_alone, live_greater}
+
+-- a stored root's pages lie behind the slots, none of them twice
+pub pages_apart : (root : Saved) (file : List ℕ) → HasPages root file → are_pages root.pages ≡ true
+pages_apart root file has_pages =
+    ap are_pages (sym has_pages.reaches)
+    ∙ (reading_of root.body (tables_in file root.body) (pages (named root.body (tables_in file root.body)) file) root.stream has_pages.spells).apart
+
+-- a write before the pages leaves them, and so does a write of another page
+pub keeps_behind : (root : Saved) (d c : List ℕ) (at k : ℕ) → Torn at k d c → at + k ≤ 8192 → HasPages root d → HasPages root c
+keeps_behind root d c at k torn within has_pages =
+    stores_same root.body root.stream root.pages d c has_pages (pages_behind d c at k root.pages torn within (pages_apart root d has_pages))
+
+pub keeps_other : (root : Saved) (d c : List ℕ) (m : ℕ) → Torn (4096 * m) 4096 d c → has m root.pages ≡ false → HasPages root d → HasPages root c
+keeps_other root d c m torn lacks has_pages = stores_same root.body root.stream root.pages d c has_pages (pages_other d c m root.pages torn lacks)
+
+older_same : (slot : ℕ) (current : Saved) (d c : List ℕ) → SameSlot (1 - slot) d c → IsOlder slot current d → IsOlder slot current c
+older_same slot current d c same older is = rw (same.bodies) (older (sym same.gates ∙ is))
+
+-- a page is written
+pub stands_page : (k k' slot : ℕ) (stale : Bool) (current next : Saved) (d c : List ℕ) (m : ℕ) → slot < 2 → 2 ≤ m → has m current.pages ≡ false
+    → Torn (4096 * m) 4096 d c → Stands (Pages k) slot stale current next d → Stands (Pages k') slot stale current next c
+stands_page k k' slot stale current next d c m below above lacks torn s =
+    let here = slot_before_pages d c m slot torn above below in
+    let there = slot_before_pages d c m (1 - slot) torn above (omega arith) in
+    record {
+      whole = omega (arith, torn.no_shorter, s.whole);
+      is_open = here.gates ∙ s.is_open;
+      holds = here.bodies ∙ s.holds;
+      keeps = keeps_other current d c m torn lacks s.keeps;
+      stale_slot = (older_same slot current d c there s.stale_slot.0, record {
+        opened = λ is. there.gates ∙ s.stale_slot.1.opened is;
+        closed = λ is same. s.stale_slot.1.closed is (sym there.gates ∙ same);
+      });
+    }
+
+-- all pages are written: the stale gate is to be closed, or needn't be
+pub stands_to_close : (k slot : ℕ) (current next : Saved) (c : List ℕ) → Stands (Pages k) slot true current next c → Stands Close slot true current next c
+stands_to_close k slot current next c s = record {
+  whole = s.whole; is_open = s.is_open; holds = s.holds; keeps = s.keeps; stale_slot = (s.stale_slot.0, s.stale_slot.1.opened refl);
+}
+
+pub stands_to_sync : (k slot : ℕ) (stale : Bool) (current next : Saved) (c : List ℕ) → Stands (Pages k) slot stale current next c
+    → Stands Sync1 slot stale current next c
+stands_to_sync k slot stale current next c s = record {
+  whole = s.whole; is_open = s.is_open; holds = s.holds; keeps = s.keeps; stale_slot = s.stale_slot.0;
+}
+
+-- the stale gate is closed, or torn
+pub stands_close : (slot : ℕ) (stale : Bool) (current next : Saved) (d c : List ℕ) → slot < 2 → Torn (4096 * (1 - slot)) 1 d c
+    → Stands Close slot stale current next d → Stands Sync1 slot stale current next c
+stands_close slot stale current next d c below torn s =
+    let here = slot_beside d c (4096 * (1 - slot)) 1 slot torn below (omega arith) (omega arith) in
+    record {
+      whole = omega (arith, torn.no_shorter, s.whole);
+      is_open = here.gates ∙ s.is_open;
+      holds = here.bodies ∙ s.holds;
+      keeps = keeps_behind current d c (4096 * (1 - slot)) 1 torn (omega arith) s.keeps;
+      stale_slot = λ is. rw (body_behind_gate d c (1 - slot) torn) (s.stale_slot.0 s.stale_slot.1);
+    }
+
+-- the pages and the closed gate are settled
+pub stands_sync1 : (slot : ℕ) (stale : Bool) (current next : Saved) (numbers fresh : List ℕ) (file : List ℕ) → Makes current numbers fresh next
+    → Reads Sync1 slot next numbers fresh file → Stands Sync1 slot stale current next file → Stands Body slot stale current next file
+stands_sync1 slot stale current next numbers fresh file makes reads s = record {
+  whole = s.whole; is_open = s.is_open; holds = s.holds; keeps = s.keeps; stale_slot = (reads.1, makes file s.keeps reads.0);
+}
+
+-- the body is written, or torn
+pub stands_body : (slot : ℕ) (stale : Bool) (current next : Saved) (d c : List ℕ) → slot < 2 → Torn (4096 * (1 - slot) + 8) 4088 d c
+    → Stands Body slot stale current next d → Stands Sync2 slot stale current next c
+stands_body slot stale current next d c below torn s =
+    let here = slot_beside d c (4096 * (1 - slot) + 8) 4088 slot torn below (omega arith) (omega arith) in
+    record {
+      whole = omega (arith, torn.no_shorter, s.whole);
+      is_open = here.gates ∙ s.is_open;
+      holds = here.bodies ∙ s.holds;
+      keeps = keeps_behind current d c (4096 * (1 - slot) + 8) 4088 torn (omega arith) s.keeps;
+      stale_slot = (λ is. s.stale_slot.0 (sym (gate_before_body d c (1 - slot) torn) ∙ is),
+          keeps_behind next d c (4096 * (1 - slot) + 8) 4088 torn (omega arith) s.stale_slot.1);
+    }
+
+-- the body is settled
+pub stands_sync2 : (slot : ℕ) (stale : Bool) (current next : Saved) (file : List ℕ) → body (1 - slot) file ≡ next.body
+    → Stands Sync2 slot stale current next file → Stands Gate slot stale current next file
+stands_sync2 slot stale current next file written s = record {
+  whole = s.whole; is_open = s.is_open; holds = s.holds; keeps = s.keeps; stale_slot = (s.stale_slot.0, s.stale_slot.1, written);
+}
+
+-- the gate is written, or torn
+pub stands_gate : (slot : ℕ) (stale : Bool) (current next : Saved) (d c : List ℕ) → slot < 2 → Torn (4096 * (1 - slot)) 1 d c
+    → Stands Gate slot stale current next d → Stands Sync3 slot stale current next c
+stands_gate slot stale current next d c below torn s =
+    let here = slot_beside d c (4096 * (1 - slot)) 1 slot torn below (omega arith) (omega arith) in
+    record {
+      whole = omega (arith, torn.no_shorter, s.whole);
+      is_open = here.gates ∙ s.is_open;
+      holds = here.bodies ∙ s.holds;
+      keeps = keeps_behind current d c (4096 * (1 - slot)) 1 torn (omega arith) s.keeps;
+      stale_slot = (keeps_behind next d c (4096 * (1 - slot)) 1 torn (omega arith) s.stale_slot.1,
+          body_behind_gate d c (1 - slot) torn ∙ s.stale_slot.2);
+    }
+
+-- the gate is settled: the slots change places
+pub stands_sync3 : (slot : ℕ) (stale : Bool) (current next other : Saved) (file : List ℕ) → slot < 2 → version_of current.body < version_of next.body
+    → gate (1 - slot) file ≡ 1 → Stands Sync3 slot stale current next file → Stands Idle (1 - slot) true next other file
+stands_sync3 slot stale current next other file below newer is s =
+    let back = other_of_other slot below in
+    record {
+      whole = s.whole;
+      is_open = is;
+      holds = s.stale_slot.1;
+      keeps = s.stale_slot.0;
+      stale_slot = (λ too. rw (back, s.holds) newer, record {
+        opened = λ yes. rw (back) s.is_open;
+        closed = λ no. absurd cc;
+      });
+    }
+
+-- the image of a file whose live slot is this
+stored_in : (file : List ℕ) (slot : ℕ) (root : Saved) → live file ≡ Ok slot → body slot file ≡ root.body → HasPages root file
+    → stored file ≡ Ok (root.body, root.stream)
+stored_in file slot root is holds has_pages =
+    ap (λ l. in_slot file l) is ∙ ap (λ b. with_stream b (stream file b)) holds ∙ ap (λ r. with_stream root.body r) has_pages.spells
+
+-- with the stale slot older or closed, the image is the committed root
+is_by_older : (phase : Phase) (slot : ℕ) (stale : Bool) (current next : Saved) (file : List ℕ) → slot < 2 → IsOlder slot current file
+    → Stands phase slot stale current next file → Is current file
+is_by_older phase slot stale current next file below older s = elim (cases_eq (gate (1 - slot) file) 1) [
+  | inl is ↦ stored_in file slot current (live_greater file slot below s.whole s.is_open is (rw (s.holds) (older is))) s.holds s.keeps
+  | inr shut ↦ stored_in file slot current (live_alone file slot below s.whole s.is_open shut) s.holds s.keeps
+]
+
+is_by_shut : (phase : Phase) (slot : ℕ) (stale : Bool) (current next : Saved) (file : List ℕ) → slot < 2 → gate (1 - slot) file ≢ 1
+    → Stands phase slot stale current next file → Is current file
+is_by_shut phase slot stale current next file below shut s =
+    stored_in file slot current (live_alone file slot below s.whole s.is_open shut) s.holds s.keeps
+
+-- the image of a file in each phase
+pub is_left : (phase : Phase) (slot : ℕ) (stale : Bool) (current next : Saved) (file : List ℕ) → slot < 2 → version_of current.body < version_of next.body
+    → Stands phase slot stale current next file → IsLeft phase current next file
+is_left Idle slot stale current next file below newer s = is_by_older Idle slot stale current next file below s.stale_slot.0 s
+is_left (Pages k) slot stale current next file below newer s = is_by_older (Pages k) slot stale current next file below s.stale_slot.0 s
+is_left Close slot stale current next file below newer s = is_by_older Close slot stale current next file below s.stale_slot.0 s
+is_left Sync1 slot stale current next file below newer s = is_by_older Sync1 slot stale current next file below s.stale_slot s
+is_left Body slot stale current next file below newer s = is_by_shut Body slot stale current next file below s.stale_slot.0 s
+is_left Sync2 slot stale current next file below newer s = is_by_shut Sync2 slot stale current next file below s.stale_slot.0 s
+is_left Gate slot stale current next file below newer s = is_by_shut Gate slot stale current next file below s.stale_slot.0 s
+is_left Sync3 slot stale current next file below newer s = elim (cases_eq (gate (1 - slot) file) 1) [
+  | inr shut ↦ inl (is_by_shut Sync3 slot stale current next file below shut s)
+  | inl is ↦
+      let back = other_of_other slot below in
+      let older : version_of (body (1 - (1 - slot)) file) < version_of (body (1 - slot) file) = rw (back, s.holds, s.stale_slot.1) newer in
+      let both : live file ≡ Ok (1 - slot) = live_greater file (1 - slot) (omega arith) s.whole is (rw (back) s.is_open) older in
+      inr (stored_in file (1 - slot) next both s.stale_slot.1 s.stale_slot.0)
+]
+
+-- between two commits, too
+pub is_idle : (slot : ℕ) (stale : Bool) (current next : Saved) (file : List ℕ) → slot < 2 → Stands Idle slot stale current next file → Is current file
+is_idle slot stale current next file below s = is_by_older Idle slot stale current next file below s.stale_slot.0 s
+
+-- the next page reads as it was written, and those before it
+pub reads_page : (k : ℕ) (numbers fresh old new : List ℕ) → are_pages numbers ≡ true → k < length numbers
+    → Torn (4096 * get_or numbers k 0) 4096 old new → page (get_or numbers k 0) new ≡ part fresh (4096 * k) 4096
+    → ReadAs k numbers fresh old → ReadAs (k + 1) numbers fresh new
+reads_page k numbers fresh old new apart within torn written before i below = elim (cases_lt i k) [
+  | inl earlier ↦ page_other old new (get_or numbers k 0) (get_or numbers i 0) torn (no_two numbers i k apart earlier within) ∙ before i earlier
+  | inr not_below ↦
+      let same : i ≡ k = omega arith in
+      rw (same) written
+]
+
+-- a write before the pages leaves what is written of them
+pub reads_behind : (at k : ℕ) (numbers fresh old new : List ℕ) → are_pages numbers ≡ true → Torn at k old new → at + k ≤ 8192
+    → ReadAs (length numbers) numbers fresh old → ReadAs (length numbers) numbers fresh new
+reads_behind at k numbers fresh old new apart torn within before i below =
+    let behind : 2 ≤ get_or numbers i 0 = each_behind numbers i apart below in
+    part_outside old new at k (4096 * get_or numbers i 0) 4096 torn (inr (omega (arith, behind, within))) ∙ before i below

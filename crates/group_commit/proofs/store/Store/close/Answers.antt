@@ -1,0 +1,29 @@
+use Rattle.std.proofs.Common.{ap, ◌∙◌, true, false, inl, inr, ◌⊎◌}
+use Rattle.group_commit.specs.declared.error.StoreError.TheVariants.{WriteFailed}
+use Rattle.group_commit.proofs.store.Store.close.Goals as goal
+use Rattle.group_commit.proofs.Sound.{sound_close}
+use Rattle.group_commit.proofs.DeviceCall.{device_call}
+
+pub invariant_of-self : goal.invariant_of-self
+invariant_of-self g c =
+    sound_close g.D.DiskFacts _ c.self.inside.slot _ _ true c.write_inside.new.disk c.self.invariant
+    (ap (λ h. h.phase) c.self.view_is ∙ c.requires.phase)
+    (c.in-Err.ensures).tells.0 (c.in-Err.ensures).torn (λ told ok. absurd cc)
+    (λ told. g.met.D.Disk.lawful c.self.inside.disk told) (ap (λ h. h.failed) c.self.view_is ∙ c.requires.works)
+
+pub returns-in-Err-clause-call : goal.returns-in-Err-clause-call
+returns-in-Err-clause-call g c =
+    device_call g.D.DiskFacts _ 1 1 0 WriteFailed _ _ _ _ c.self.inside.slot c.self.inside.slot _ _ c.self.view_is c.self.invariant
+    (invariant_of-self g c) (λ file is. is) (c.in-Err.ensures).tells (c.in-Err.ensures).call (λ told. g.met.D.Disk.lawful c.self.inside.disk told) (c.in-Err.ensures).refused
+
+pub invariant_of-self-in_default : goal.invariant_of-self-in_default
+invariant_of-self-in_default g c =
+    sound_close g.D.DiskFacts _ c.self.inside.slot _ _ c.self.inside.failed c.write_inside.new.disk c.self.invariant
+    (ap (λ h. h.phase) c.self.view_is ∙ c.requires.phase)
+    (c.in_default.ensures).tells.0 (c.in_default.ensures).torn (λ told ok. (c.in_default.ensures).written told)
+    (λ told. g.met.D.Disk.lawful c.self.inside.disk told) (ap (λ h. h.failed) c.self.view_is ∙ c.requires.works)
+
+pub returns-clause-call : goal.returns-clause-call
+returns-clause-call g c =
+    device_call g.D.DiskFacts _ 0 1 0 WriteFailed _ _ _ _ c.self.inside.slot c.self.inside.slot _ _ c.self.view_is c.self.invariant
+    (invariant_of-self-in_default g c) (λ file is. is) (c.in_default.ensures).tells (c.in_default.ensures).call (λ told. g.met.D.Disk.lawful c.self.inside.disk told) tt

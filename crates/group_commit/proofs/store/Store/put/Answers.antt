@@ -1,0 +1,66 @@
+use Rattle.std.proofs.Common.{ap, sym, ◌≡◌, ◌≢◌, ◌<◌, ◌≤◌, ◌*◌, ◌+◌, ℕ, List, length, get_or, refl, arith, ◌∙◌, true, false, inl, inr, ◌⊎◌}
+use Rattle.group_commit.specs.declared.error.StoreError.TheVariants.{WriteFailed}
+use Rattle.group_commit.proofs.store.Store.put.Goals as goal
+use Rattle.group_commit.proofs.Inside.{inside_page}
+use Rattle.group_commit.proofs.Sound.{sound_page, sound_page_failed}
+use Rattle.group_commit.proofs.DeviceCall.{device_call}
+use Rattle.disk_trait.specs.File.{part, overwritten}
+use Rattle.std.specs.Prelude.{Vec, vec_len}
+use Rattle.std.proofs.Common.{rules}
+use Rattle.std.specs.declared.alloc.Global.{Global}
+use Rattle.group_commit.specs.Held.{behind_pages}
+use Rattle.disk_trait.specs.Calls.{Tears}
+use Rattle.disk_trait.specs.declared.facts.DiskFacts.{Ghosts}
+use Rattle.group_commit.specs.declared.phase.Phase.{Phase}
+use Rattle.group_commit.specs.declared.phase.Phase.TheVariants.{Idle, Pages}
+
+not_idle : (p : Phase) {k : ℕ} → p ≡ Pages k → p ≢ Idle
+not_idle p is idle = cc
+
+whole_within : (k n m : ℕ) → k < n → m ≡ 4096 * n → 4096 * k + 4096 ≤ m
+whole_within k n m within room = omega (arith, within, room)
+
+torn_at : {D : Type 0} {facts : Ghosts D} {old new : D} (at at' n n' : ℕ) → at ≡ at' → n ≡ n' → Tears facts at n old new → Tears facts at' n' old new
+torn_at at at' n n' same size tears = rw (sym same, sym size) tears
+
+counted : (v : Vec ℕ Global) → vec_len v ≡ length v.items
+counted v = search rules
+
+pub number_at-requires : goal.number_at-requires
+number_at-requires g c = record { within = rw (c.deref.ensures.value) ((c.self.invariant.plan (not_idle _ (ap (λ h. h.phase) c.self.view_is ∙ c.requires.phase))).under_way c.args.k (ap (λ h. h.phase) c.self.view_is ∙ c.requires.phase)); }
+
+pub bytes_at-requires : goal.bytes_at-requires
+bytes_at-requires g c = record {
+  within = rw (c.deref-2.ensures.value) (whole_within c.args.k _ _ ((c.self.invariant.plan (not_idle _ (ap (λ h. h.phase) c.self.view_is ∙ c.requires.phase))).under_way c.args.k (ap (λ h. h.phase) c.self.view_is ∙ c.requires.phase)) c.self.invariant.room);
+}
+
+pub write_inside-requires : goal.write_inside-requires
+write_inside-requires g c = record {
+  inside = λ told. rw (c.number_at.ensures ∙ ap (λ v. get_or v c.args.k 0) c.deref.ensures.value) (inside_page g.D.DiskFacts _ c.self.inside.slot _ _ c.args.k c.self.invariant (ap (λ h. h.phase) c.self.view_is ∙ c.requires.phase) told (λ told. g.met.D.Disk.lawful c.self.inside.disk told) (ap (λ h. h.failed) c.self.view_is ∙ c.requires.works));
+}
+
+pub invariant_of-self : goal.invariant_of-self
+invariant_of-self g c =
+    sound_page_failed g.D.DiskFacts _ c.self.inside.slot _ _ c.args.k c.write_inside.new.disk c.self.invariant (ap (λ h. h.phase) c.self.view_is ∙ c.requires.phase)
+    c.in-Err.ensures.tells.0 (λ told. torn_at _ _ _ _ (ap (λ n. 4096 * n) (c.number_at.ensures ∙ ap (λ v. get_or v c.args.k 0) c.deref.ensures.value)) c.bytes_at.ensures.whole (c.in-Err.ensures.torn told))
+
+pub returns-in-Err-clause-call : goal.returns-in-Err-clause-call
+returns-in-Err-clause-call g c =
+    device_call g.D.DiskFacts _ 1 1 0 WriteFailed _ _ _ _ c.self.inside.slot c.self.inside.slot _ _ c.self.view_is c.self.invariant
+    (invariant_of-self g c) (λ file is. is) c.in-Err.ensures.tells c.in-Err.ensures.call (λ told. g.met.D.Disk.lawful c.self.inside.disk told) c.in-Err.ensures.refused
+
+pub invariant_of-self-2 : goal.invariant_of-self-2
+invariant_of-self-2 g c =
+    rw (c.behind-self-inside.ensures ∙ ap (λ n. behind_pages (c.args.k + 1) n c.self.inside.stale) (c.len.ensures ∙ counted c.self.inside.numbers))
+    (sound_page g.D.DiskFacts _ c.self.inside.slot _ _ c.args.k c.write_inside.new.disk c.self.invariant (ap (λ h. h.phase) c.self.view_is ∙ c.requires.phase) (λ told. g.met.D.Disk.lawful c.self.inside.disk told)
+    c.in_default.ensures.tells.0 (λ told. torn_at _ _ _ _ (ap (λ n. 4096 * n) (c.number_at.ensures ∙ ap (λ v. get_or v c.args.k 0) c.deref.ensures.value)) c.bytes_at.ensures.whole (c.in_default.ensures.torn told))
+    (λ told. c.in_default.ensures.written told
+        ∙ ap (λ n. overwritten (g.D.DiskFacts.content c.self.inside.disk) (4096 * n) c.bytes_at.result.now) (c.number_at.ensures ∙ ap (λ v. get_or v c.args.k 0) c.deref.ensures.value)
+        ∙ ap (overwritten (g.D.DiskFacts.content c.self.inside.disk) _) (c.bytes_at.ensures.bytes ∙ ap (λ v. part v (4096 * c.args.k) 4096) c.deref-2.ensures.value))
+    (λ told. inside_page g.D.DiskFacts _ c.self.inside.slot _ _ c.args.k c.self.invariant (ap (λ h. h.phase) c.self.view_is ∙ c.requires.phase) told (λ told. g.met.D.Disk.lawful c.self.inside.disk told) (ap (λ h. h.failed) c.self.view_is ∙ c.requires.works))
+    refl (ap (λ h. h.failed) c.self.view_is ∙ c.requires.works))
+
+pub returns-clause-call : goal.returns-clause-call
+returns-clause-call g c =
+    device_call g.D.DiskFacts _ 0 1 0 WriteFailed _ _ _ _ c.self.inside.slot c.self.inside.slot _ _ c.self.view_is c.self.invariant
+    (invariant_of-self-2 g c) (λ file is. is) c.in_default.ensures.tells c.in_default.ensures.call (λ told. g.met.D.Disk.lawful c.self.inside.disk told) tt

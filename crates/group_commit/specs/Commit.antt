@@ -1,0 +1,81 @@
+-- What each file that a crash may leave has in each phase of a commit, and what is read.
+use Rattle.std.specs.Prelude.{◌≡◌, ◌≢◌, ◌⊎◌, Ok, ℕ, ◌*◌, ◌-◌, ◌<◌, ◌≤◌, Bool, true, false, List, length, get_or, ⊤}
+use Rattle.disk_trait.specs.File.{part}
+use Rattle.page_file.specs.Pages.{page}
+use Rattle.root_slots.specs.Root.{version_of}
+use Rattle.root_slots.specs.Slots.{gate, body}
+use Rattle.group_commit.specs.Saved.{Saved}
+use Rattle.group_commit.specs.Image.{Stores, stored}
+use Rattle.group_commit.specs.declared.phase.Phase.{Phase}
+use Rattle.group_commit.specs.declared.phase.Phase.TheVariants.{Idle, Pages, Close, Sync1, Body, Sync2, Gate, Sync3}
+
+-- the root's pages lie in this file and hold its stream
+abbrev pub HasPages : Saved → List ℕ → Type 0
+HasPages root file = Stores root.body root.stream root.pages file
+
+-- the stale slot is closed, or of a smaller version than the live one
+abbrev pub IsOlder : ℕ → Saved → List ℕ → Type 0
+IsOlder slot current file = gate (1 - slot) file ≡ 1 → version_of (body (1 - slot) file) < version_of current.body
+
+-- whether the stale gate reads 1, as it did before the commit
+pub record IsAsBefore (slot : ℕ) (stale : Bool) (file : List ℕ) : Type 0 where
+  pub opened : stale ≡ true → gate (1 - slot) file ≡ 1
+  pub closed : stale ≡ false → gate (1 - slot) file ≢ 1
+
+-- what the stale slot has, and the new root's pages
+abbrev pub StaleSlot : Phase → ℕ → Bool → Saved → Saved → List ℕ → Type 0
+StaleSlot Idle slot stale current next file = IsOlder slot current file × IsAsBefore slot stale file
+StaleSlot (Pages k) slot stale current next file = IsOlder slot current file × IsAsBefore slot stale file
+-- a gate that a crash has torn is never closed
+StaleSlot Close slot stale current next file = IsOlder slot current file × (gate (1 - slot) file ≡ 1)
+StaleSlot Sync1 slot stale current next file = IsOlder slot current file
+StaleSlot Body slot stale current next file = (gate (1 - slot) file ≢ 1) × HasPages next file
+StaleSlot Sync2 slot stale current next file = (gate (1 - slot) file ≢ 1) × HasPages next file
+StaleSlot Gate slot stale current next file =
+    (gate (1 - slot) file ≢ 1) × HasPages next file × (body (1 - slot) file ≡ next.body)
+StaleSlot Sync3 slot stale current next file = HasPages next file × (body (1 - slot) file ≡ next.body)
+
+-- What a file has in a phase. The live slot and the pages that its root reaches stay through all of them.
+pub record Stands (phase : Phase) (slot : ℕ) (stale : Bool) (current next : Saved) (file : List ℕ) : Type 0 where
+  pub whole : 8192 ≤ length file
+  pub is_open : gate slot file ≡ 1
+  pub holds : body slot file ≡ current.body
+  pub keeps : HasPages current file
+  pub stale_slot : StaleSlot phase slot stale current next file
+
+-- the first k of the new pages are written
+abbrev pub ReadAs : ℕ → List ℕ → List ℕ → List ℕ → Type 0
+ReadAs k numbers fresh file = (i : ℕ) → i < k → page (get_or numbers i 0) file ≡ part fresh (4096 * i) 4096
+
+-- what reads give of the writes since the last sync
+abbrev pub Reads : Phase → ℕ → Saved → List ℕ → List ℕ → List ℕ → Type 0
+Reads Idle slot next numbers fresh file = ⊤
+Reads (Pages k) slot next numbers fresh file = ReadAs k numbers fresh file
+Reads Close slot next numbers fresh file = ReadAs (length numbers) numbers fresh file
+Reads Sync1 slot next numbers fresh file = ReadAs (length numbers) numbers fresh file × (gate (1 - slot) file ≢ 1)
+Reads Body slot next numbers fresh file = ⊤
+Reads Sync2 slot next numbers fresh file = body (1 - slot) file ≡ next.body
+Reads Gate slot next numbers fresh file = ⊤
+Reads Sync3 slot next numbers fresh file = gate (1 - slot) file ≡ 1
+
+-- with its new pages written, a file that has the current root has the next one
+abbrev pub Makes : Saved → List ℕ → List ℕ → Saved → Type 0
+Makes current numbers fresh next = (file : List ℕ) → HasPages current file → ReadAs (length numbers) numbers fresh file → HasPages next file
+
+-- this file's live slot has this root, and its stream
+abbrev pub Is : Saved → List ℕ → Type 0
+Is root file = stored file ≡ Ok (root.body, root.stream)
+
+abbrev pub IsOneOf : Saved → Saved → List ℕ → Type 0
+IsOneOf current next file = Is current file ⊎ Is next file
+
+-- what the image of a file may be that a crash leaves in a phase: the committed root, and from the gate's write on either one
+abbrev pub IsLeft : Phase → Saved → Saved → List ℕ → Type 0
+IsLeft Sync3 current next file = IsOneOf current next file
+IsLeft Idle current next file = Is current file
+IsLeft (Pages k) current next file = Is current file
+IsLeft Close current next file = Is current file
+IsLeft Sync1 current next file = Is current file
+IsLeft Body current next file = Is current file
+IsLeft Sync2 current next file = Is current file
+IsLeft Gate current next file = Is current file

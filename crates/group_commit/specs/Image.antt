@@ -1,0 +1,57 @@
+-- What a file of pages stands for, before its records are read: the body of its live slot, and the stream of bytes that the
+-- pages hold which that body names.
+use Rattle.std.specs.Prelude.{◌≡◌, ℕ, Bool, not, ◌&&◌, if◌then◌else◌, List, [], ◌∷◌, ◌++◌, drop, take, Result, Ok, Err}
+use Rattle.page_file.specs.Pages.{pages, are_whole, is_zero, are_pages, numbers, joined}
+use Rattle.root_slots.specs.Root.{is_root, tables_of, data_count, stream_length_of}
+use Rattle.root_slots.specs.Slots.{body, live}
+
+-- the numbers that table pages hold, 1,024 each
+abbrev pub entries : List (List ℕ) → List ℕ
+entries [] = []
+entries (bytes ∷ rest) = numbers 1024 bytes ++ entries rest
+
+-- the data pages that a body and its table pages name, in the order of the stream
+abbrev pub named : List ℕ → List (List ℕ) → List ℕ
+named root tables = take (data_count root) (entries tables)
+
+-- the table pages are as they have to be: no numbers behind those of the data pages, and no page twice
+abbrev pub are_tables : List ℕ → List (List ℕ) → Bool
+are_tables root tables =
+    is_zero (drop (data_count root) (entries tables)) && are_pages (tables_of root ++ named root tables)
+
+-- the stream in these data pages, of which the last one is filled with zeros; or bad root 43, bad table 45, bad stream 46
+abbrev pub stream_in : List ℕ → List (List ℕ) → List (List ℕ) → Result (List ℕ) ℕ
+stream_in root tables data_pages =
+    if not (is_root root && are_whole tables) then Err 43
+    else if not (are_tables root tables && are_whole data_pages) then Err 45
+    else if not (is_zero (drop (stream_length_of root) (joined data_pages))) then Err 46
+    else Ok (take (stream_length_of root) (joined data_pages))
+
+-- the table pages that a body names
+abbrev pub tables_in : List ℕ → List ℕ → List (List ℕ)
+tables_in file root = pages (tables_of root) file
+
+-- the stream that a body stands for in a file, or the first rule that is broken
+abbrev pub stream : List ℕ → List ℕ → Result (List ℕ) ℕ
+stream file root = stream_in root (tables_in file root) (pages (named root (tables_in file root)) file)
+
+-- the pages that a body reaches in a file
+abbrev pub reached : List ℕ → List ℕ → List ℕ
+reached file root = tables_of root ++ named root (tables_in file root)
+
+abbrev pub with_stream : List ℕ → Result (List ℕ) ℕ → Result (List ℕ × List ℕ) ℕ
+with_stream root (Ok bytes) = Ok (root, bytes)
+with_stream root (Err n) = Err n
+
+abbrev pub in_slot : List ℕ → Result ℕ ℕ → Result (List ℕ × List ℕ) ℕ
+in_slot file (Ok slot) = with_stream (body slot file) (stream file (body slot file))
+in_slot file (Err n) = Err n
+
+-- the live body of a file and its stream; or the first fault: no root 42, bad root 43, bad table 45, bad stream 46
+abbrev pub stored : List ℕ → Result (List ℕ × List ℕ) ℕ
+stored file = in_slot file (live file)
+
+-- in this file the body stands for these bytes, and reaches these pages
+pub record Stores (root bytes ns file : List ℕ) : Type 0 where
+  pub spells : stream file root ≡ Ok bytes
+  pub reaches : reached file root ≡ ns

@@ -1,0 +1,5 @@
+pub mod Commit
+pub mod Held
+pub mod Image
+pub mod Saved
+pub mod Step

@@ -1,0 +1,13 @@
+//! Operations, committed together under two gates.
+#![tactic(auto)]
+
+mod call;
+mod error;
+mod phase;
+mod root;
+mod step;
+mod store;
+
+pub use error::StoreError;
+pub use phase::Phase;
+pub use store::Store;

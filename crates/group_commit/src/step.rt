@@ -1,0 +1,209 @@
+//! The device calls of a commit, one a step.
+ghost use Rattle.std.specs.Prelude.{◌≡◌, ◌≢◌, ◌+◌, ◌*◌, ◌-◌, ◌<◌, ◌≤◌, ◌↔◌, true, false, length, get_or, Ok, Err, IfOk, IfErr, OnOk, OnErr, IsOk};
+ghost use Rattle.disk_trait.specs.File.{part};
+ghost use Rattle.group_commit.specs.Held.{gone_on, has_failed, behind_pages};
+ghost use Rattle.group_commit.specs.Step.{IsDeviceCall, writes_in, syncs_in, error_in};
+ghost use Rattle.group_commit.specs.declared.phase.Phase.TheVariants.{Idle, Pages, Close, Sync1, Body, Sync2, Gate, Sync3};
+ghost use Rattle.group_commit.specs.declared.error.StoreError.TheVariants.{Failed, WriteFailed, SyncFailed};
+
+use crate::call::{settle, write_inside};
+use crate::error::StoreError;
+use crate::phase::Phase;
+use crate::store::Store;
+use disk_trait::Disk;
+use std::mem::swap;
+
+// The bytes of a page.
+const PAGE: u64 = 4096;
+
+// The phase behind so many written pages.
+fn behind(written: usize, pages: usize, stale: bool) -> Phase
+    ensures { result ≡ behind_pages written pages stale }
+{
+    if written < pages {
+        Phase::Pages(written)
+    } else if stale {
+        Phase::Close
+    } else {
+        Phase::Sync1
+    }
+}
+
+// The k-th of these numbers.
+fn number_at(numbers: &[u32], k: usize) -> u32
+    requires within { k < length numbers.now }
+    ensures { result ≡ get_or numbers.now k 0 }
+{
+    numbers[k]
+}
+
+// The bytes of the k-th of these pages.
+fn bytes_at(pages: &[u8], k: usize) -> &[u8]
+    requires within { 4096 * k + 4096 ≤ length pages.now }
+    ensures bytes { result.now ≡ part pages.now (4096 * k) 4096 }
+    ensures whole { length result.now ≡ 4096 }
+{
+    &pages[4096 * k..4096 * k + 4096]
+}
+
+impl<D: Disk> Store<D> {
+    // The write of the k-th new page.
+    fn put(&mut self, k: usize) -> Result<Phase, StoreError>
+        requires phase { self.old.phase ≡ Pages k }
+        requires works { self.old.failed ≡ false }
+        ensures made { IfOk result (λ phase. phase ≡ self.old.phase) }
+        ensures went_on { OnOk result (self.new ≡ gone_on self.old.phase self.old self.new.disk) }
+        ensures failed { OnErr result (self.new ≡ has_failed self.old self.new.disk) }
+        ensures call { IsDeviceCall D.DiskFacts 1 0 WriteFailed result self.old self.new }
+    {
+        let at = PAGE * number_at(&self.numbers, k) as u64;
+        if let Err(error) = write_inside(&mut self.disk, at, bytes_at(&self.fresh, k)) {
+            self.failed = true;
+            return Err(error);
+        }
+        self.phase = behind(k + 1, self.numbers.len(), self.stale);
+        Ok(Phase::Pages(k))
+    }
+
+    // The write of 0 into the stale gate. It may be torn, so the commit goes on behind it in any case.
+    fn close(&mut self) -> Result<Phase, StoreError>
+        requires phase { self.old.phase ≡ Close }
+        requires works { self.old.failed ≡ false }
+        ensures made { IfOk result (λ phase. phase ≡ self.old.phase) }
+        ensures went_on { OnOk result (self.new ≡ gone_on self.old.phase self.old self.new.disk) }
+        ensures failed { OnErr result (self.new ≡ has_failed self.old self.new.disk) }
+        ensures call { IsDeviceCall D.DiskFacts 1 0 WriteFailed result self.old self.new }
+    {
+        self.phase = Phase::Sync1;
+        if let Err(error) = write_inside(&mut self.disk, PAGE * (1 - self.slot), &[0]) {
+            self.failed = true;
+            return Err(error);
+        }
+        Ok(Phase::Close)
+    }
+
+    // The sync of the new pages and the closed gate.
+    fn settle_pages(&mut self) -> Result<Phase, StoreError>
+        requires phase { self.old.phase ≡ Sync1 }
+        requires works { self.old.failed ≡ false }
+        ensures made { IfOk result (λ phase. phase ≡ self.old.phase) }
+        ensures went_on { OnOk result (self.new ≡ gone_on self.old.phase self.old self.new.disk) }
+        ensures failed { OnErr result (self.new ≡ has_failed self.old self.new.disk) }
+        ensures call { IsDeviceCall D.DiskFacts 0 1 SyncFailed result self.old self.new }
+    {
+        if let Err(error) = settle(&mut self.disk) {
+            self.failed = true;
+            return Err(error);
+        }
+        self.phase = Phase::Body;
+        Ok(Phase::Sync1)
+    }
+
+    // The write of the new root's body into the stale slot.
+    fn fill(&mut self) -> Result<Phase, StoreError>
+        requires phase { self.old.phase ≡ Body }
+        requires works { self.old.failed ≡ false }
+        ensures made { IfOk result (λ phase. phase ≡ self.old.phase) }
+        ensures went_on { OnOk result (self.new ≡ gone_on self.old.phase self.old self.new.disk) }
+        ensures failed { OnErr result (self.new ≡ has_failed self.old self.new.disk) }
+        ensures call { IsDeviceCall D.DiskFacts 1 0 WriteFailed result self.old self.new }
+    {
+        self.phase = Phase::Sync2;
+        let at = PAGE * (1 - self.slot) + 8;
+        if let Err(error) = write_inside(&mut self.disk, at, self.next.body()) {
+            self.failed = true;
+            return Err(error);
+        }
+        Ok(Phase::Body)
+    }
+
+    // The sync of that body.
+    fn settle_body(&mut self) -> Result<Phase, StoreError>
+        requires phase { self.old.phase ≡ Sync2 }
+        requires works { self.old.failed ≡ false }
+        ensures made { IfOk result (λ phase. phase ≡ self.old.phase) }
+        ensures went_on { OnOk result (self.new ≡ gone_on self.old.phase self.old self.new.disk) }
+        ensures failed { OnErr result (self.new ≡ has_failed self.old self.new.disk) }
+        ensures call { IsDeviceCall D.DiskFacts 0 1 SyncFailed result self.old self.new }
+    {
+        if let Err(error) = settle(&mut self.disk) {
+            self.failed = true;
+            return Err(error);
+        }
+        self.phase = Phase::Gate;
+        Ok(Phase::Sync2)
+    }
+
+    // The write of 1 into that slot's gate. From here on a crash may leave either root.
+    fn raise(&mut self) -> Result<Phase, StoreError>
+        requires phase { self.old.phase ≡ Gate }
+        requires works { self.old.failed ≡ false }
+        ensures made { IfOk result (λ phase. phase ≡ self.old.phase) }
+        ensures went_on { OnOk result (self.new ≡ gone_on self.old.phase self.old self.new.disk) }
+        ensures failed { OnErr result (self.new ≡ has_failed self.old self.new.disk) }
+        ensures call { IsDeviceCall D.DiskFacts 1 0 WriteFailed result self.old self.new }
+    {
+        self.phase = Phase::Sync3;
+        if let Err(error) = write_inside(&mut self.disk, PAGE * (1 - self.slot), &[1]) {
+            self.failed = true;
+            return Err(error);
+        }
+        Ok(Phase::Gate)
+    }
+
+    // The sync of the gate. The slots change places.
+    fn settle_gate(&mut self) -> Result<Phase, StoreError>
+        requires phase { self.old.phase ≡ Sync3 }
+        requires works { self.old.failed ≡ false }
+        ensures made { IfOk result (λ phase. phase ≡ self.old.phase) }
+        ensures went_on { OnOk result (self.new ≡ gone_on self.old.phase self.old self.new.disk) }
+        ensures failed { OnErr result (self.new ≡ has_failed self.old self.new.disk) }
+        ensures call { IsDeviceCall D.DiskFacts 0 1 SyncFailed result self.old self.new }
+    {
+        if let Err(error) = settle(&mut self.disk) {
+            self.failed = true;
+            return Err(error);
+        }
+        self.phase = Phase::Idle;
+        self.slot = 1 - self.slot;
+        self.stale = true;
+        swap(&mut self.current, &mut self.next);
+        Ok(Phase::Sync3)
+    }
+
+    /// Makes the device call of the commit's phase, and answers which phase that was. `Idle` makes
+    /// none. Takes no memory.
+    ///
+    /// Refuses with 44 where a call failed before, and with 51 or 52 where the device fails in this
+    /// one: after that the store has to be opened again.
+    ///
+    /// One write of at most 4,096 bytes or one sync.
+    pub fn step(&mut self) -> Result<Phase, StoreError>
+        ensures stopped { self.old.failed ≡ true → (result ≡ Err Failed) × (self.new ≡ self.old) }
+        ensures idle { self.old.failed ≡ false → self.old.phase ≡ Idle
+            → (result ≡ Ok Idle) × (self.new ≡ self.old) }
+        ensures made { IfOk result (λ phase. phase ≡ self.old.phase) }
+        // One device call, after which the commit goes on or the store has failed.
+        ensures call { self.old.failed ≡ false → self.old.phase ≢ Idle
+            → IsDeviceCall D.DiskFacts (writes_in self.old.phase) (syncs_in self.old.phase)
+                (error_in self.old.phase) result self.old self.new }
+        ensures went_on { self.old.failed ≡ false
+            → OnOk result (self.new ≡ gone_on self.old.phase self.old self.new.disk) }
+        ensures failed { self.old.failed ≡ false
+            → OnErr result (self.new ≡ has_failed self.old self.new.disk) }
+    {
+        if self.failed {
+            return Err(StoreError::Failed);
+        }
+        match self.phase {
+            Phase::Idle => Ok(Phase::Idle),
+            Phase::Pages(k) => self.put(k),
+            Phase::Close => self.close(),
+            Phase::Sync1 => self.settle_pages(),
+            Phase::Body => self.fill(),
+            Phase::Sync2 => self.settle_body(),
+            Phase::Gate => self.raise(),
+            Phase::Sync3 => self.settle_gate(),
+        }
+    }
+}

@@ -1,0 +1,49 @@
+//! A store over a disk.
+ghost use Rattle.std.specs.Prelude.{◌≡◌, length};
+ghost use Rattle.group_commit.specs.Held.{Held, IsSound};
+
+use crate::phase::Phase;
+use crate::root::Root;
+use disk_trait::Disk;
+use std::marker::Model;
+
+/// The live root of a page file on a disk, and the commit under way.
+#[derive(Drop)]
+pub struct Store<D: Disk> {
+    pub(crate) disk: D,
+    pub(crate) phase: Phase,
+    pub(crate) current: Root,
+    pub(crate) next: Root,
+    // The live slot, 0 or 1.
+    pub(crate) slot: u64,
+    // Whether the other gate reads 1.
+    pub(crate) stale: bool,
+    pub(crate) failed: bool,
+    // The new pages of the commit: their numbers, and 4,096 bytes each.
+    pub(crate) numbers: Vec<u32>,
+    pub(crate) fresh: Vec<u8>,
+}
+
+impl<D: Disk> Model for Store<D> {
+    ghost Value = { Held D };
+
+    ghost view = { λ s. record {
+        disk = s.disk;
+        phase = s.phase;
+        current = s.current;
+        next = s.next;
+        new_pages = length s.numbers.items;
+        stale = s.stale;
+        failed = s.failed;
+    } };
+
+    ghost invariant = { λ s. IsSound D.DiskFacts (record {
+        disk = s.disk;
+        phase = s.phase;
+        current = s.current;
+        next = s.next;
+        new_pages = length s.numbers.items;
+        stale = s.stale;
+        failed = s.failed;
+    }) s.slot s.numbers.items s.fresh.items };
+}

@@ -1,0 +1,2 @@
+//! The pages of a file.
+#![tactic(auto)]

@@ -1,0 +1,2 @@
+//! The two root slots of a page file.
+#![tactic(auto)]
