@@ -10,4 +10,5 @@ pub mod Numbers
 pub mod OpLaws
 pub mod RecordLaws
 pub mod Steps
+pub mod StreamLaws
 pub mod Urls

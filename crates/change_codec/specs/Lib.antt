@@ -4,3 +4,4 @@ pub mod Fits
 pub mod Reading
 pub mod Lent
 pub mod Record
+pub mod Stream

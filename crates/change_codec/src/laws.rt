@@ -1,10 +1,11 @@
 //! Laws of the codec: calls that do nothing, and whose contracts are the laws.
 ghost use Rattle.std.specs.Prelude.{◌≡◌, ◌++◌, ◌<◌, ℕ, List, length, take, slice_index, Ok, Some};
-ghost use Rattle.op_model.specs.Records.{record_length};
+ghost use Rattle.op_model.specs.Records.{record_length, stream_length};
 ghost use Rattle.op_model.specs.declared.op.Op.{Op as Operation};
 ghost use Rattle.change_codec.specs.Spelling.{spelled, Spells};
 ghost use Rattle.change_codec.specs.Fits.{IsOperation};
 ghost use Rattle.change_codec.specs.Record.{taken, Begins};
+ghost use Rattle.change_codec.specs.Stream.{spelled_all, AreOperations};
 
 /// Each value has one spelling: what is read as the same operation is the same bytes.
 pub fn each_has_one_spelling()
@@ -33,4 +34,20 @@ pub fn read_is_spelled()
 /// A spelling is as long as the limit on a store's stream counts it.
 pub fn spelled_length()
     ensures { (op : Operation) → length (spelled op) ≡ record_length op }
+{}
+
+/// The records of a list, one after another, are those of no other list.
+pub fn a_stream_determines_its_operations()
+    ensures { (a b : List Operation) → AreOperations a → AreOperations b
+        → spelled_all a ≡ spelled_all b → a ≡ b }
+{}
+
+/// Behind the records of one list stand those of another, where both lists are one behind the other.
+pub fn streams_join()
+    ensures { (a b : List Operation) → spelled_all (a ++ b) ≡ spelled_all a ++ spelled_all b }
+{}
+
+/// The records of a list are as long as the limit on a store's stream counts them.
+pub fn a_stream_has_its_length()
+    ensures { (ops : List Operation) → length (spelled_all ops) ≡ stream_length ops }
 {}

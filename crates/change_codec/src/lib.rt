@@ -10,13 +10,18 @@ mod head;
 mod id;
 pub mod laws;
 mod mark;
+mod measure;
 mod number;
 mod record;
-mod record_len;
+mod stream;
+mod stream_error;
 
 pub use codec_error::CodecError;
 pub use fits::every_op_has_a_spelling;
+pub use measure::record_len;
 pub use record::{put_op, take_op};
+pub use stream::{put_ops, stream_length, take_ops};
+pub use stream_error::StreamError;
 
 #[cfg(test)]
 mod tests;

@@ -13,8 +13,8 @@ use crate::content::{LentBody, kind_byte, put_content, take_whole_content};
 use crate::deps::{collect_deps, put_deps, skip_deps};
 use crate::head::{Head, take_head};
 use crate::id::put_id;
+use crate::measure::record_len;
 use crate::number::{put_byte, put_u32, take_u32};
-use crate::record_len::record_len;
 use op_model::Op;
 use std::alloc::{AllocError, Global};
 

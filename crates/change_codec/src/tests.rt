@@ -273,3 +273,34 @@ fn changed_bytes_are_spellings_or_refused(rt: HostRuntime) -> Result<(), Fail> {
     is_swept(&rt, rt.alloc(), SECOND_INSERT)?;
     is_swept(&rt, rt.alloc(), STRONG_TO_THE_END)
 }
+
+#[test]
+fn a_stream_is_written_and_read(rt: HostRuntime) -> Result<(), Fail> {
+    let alloc = rt.alloc();
+    let bytes = bytes_of(alloc, &format!(in alloc; "{FIRST_INSERT} {SECOND_INSERT}")?)?;
+    let ops = take_ops(alloc, &bytes)?;
+    assert_eq!(rt; ops.len(), 2);
+    assert_eq!(rt; stream_length(&ops), 126);
+    assert_eq!(rt; record_len(&ops[0]), 39);
+    let mut out = Vec::new(alloc);
+    put_ops(&ops, &mut out)?;
+    assert_eq!(rt; out.as_slice(), bytes.as_slice());
+    assert!(rt; take_ops(alloc, &[])?.is_empty());
+    Ok(())
+}
+
+#[test]
+fn what_is_no_stream_is_refused(rt: HostRuntime) -> Result<(), Fail> {
+    let alloc = rt.alloc();
+    let bytes = bytes_of(alloc, &format!(in alloc; "{FIRST_INSERT} {SECOND_INSERT}")?)?;
+    for end in 1..bytes.len() {
+        let is_whole = end == 39;
+        assert!(rt; take_ops(alloc, &bytes[..end]).is_ok() == is_whole);
+    }
+    let zeros = bytes_of(alloc, &format!(in alloc; "{FIRST_INSERT} 00000000")?)?;
+    match take_ops(alloc, &zeros) {
+        Ok(_) => Err("a stream")?,
+        Err(fault) => assert_eq!(rt; fault.number(), 46),
+    }
+    Ok(())
+}

@@ -1,18 +1,18 @@
 -- No write of a commit begins past the end of the file.
 use Rattle.std.proofs.Common.{◌≡◌, ◌≢◌, ◌⊎◌, ℕ, zero, suc, ◌+◌, ◌-◌, ◌*◌, ◌<◌, ◌≤◌, Bool, true, false, ◌==◌, ◌&&◌, ◌||◌, List, [], ◌∷◌, ◌++◌, length, get_or, take, drop, refl, sym, ap, ◌∙◌, inl, inr, arith, length-take, length-drop}
 use Rattle.std.proofs.lemmas.Bool.Decides.{nat_tests}
-use Rattle.std.proofs.lemmas.Bool.{or_cases}
+use Rattle.std.proofs.lemmas.Bool.{or_cases, cases_lt}
 use Rattle.std.proofs.lemmas.List.{get_or-take}
 use Rattle.disk_trait.specs.File.{part}
 use Rattle.disk_trait.specs.Calls.{IsLawful}
 use Rattle.disk_trait.specs.declared.facts.DiskFacts.{Ghosts}
 use Rattle.page_file.specs.Pages.{page, pages, has, are_pages, are_whole}
-use Rattle.page_file.proofs.Numbers.{apart_first, each_behind, place_of, has-append}
+use Rattle.page_file.proofs.Apart.{apart_first, each_behind, place_of, has-append}
 use Rattle.root_slots.specs.Root.{tables_of}
 use Rattle.group_commit.specs.Saved.{Saved}
 use Rattle.group_commit.specs.Image.{tables_in, named}
 use Rattle.group_commit.specs.Commit.{HasPages, Stands, ReadAs, Reads}
-use Rattle.group_commit.specs.Held.{Held, IsBehindPages, IsSound}
+use Rattle.group_commit.specs.Held.{Held, IsSound}
 use Rattle.group_commit.specs.declared.phase.Phase.{Phase}
 use Rattle.group_commit.specs.declared.phase.Phase.TheVariants.{Idle, Pages}
 use Rattle.group_commit.proofs.Frame.{reading_of}
@@ -63,9 +63,10 @@ module _ {D : Type 0} (facts : Ghosts D) where
       let stood = sound.stands tells (facts.content held.disk) (lawful tells).reads_survive in
       let above = each_behind numbers k (apart_first numbers held.current.pages plan.free) within in
       let reads : ReadAs k numbers fresh (facts.content held.disk) = read_so held.phase at_page (sound.reads tells works) in
-      elim (plan.behind k within) [
-        | inl first ↦ omega (arith, first, stood.whole)
-        | inr is_there ↦
+      elim (cases_lt 2 (get_or numbers k 0)) [
+        | inr first ↦ omega (arith, first, stood.whole)
+        | inl later ↦
+            let is_there = plan.lowest k (get_or numbers k 0 - 1) within (omega (arith, later)) (omega (arith, later)) in
             let page_inside = whole_inside (get_or numbers k 0 - 1) (facts.content held.disk)
                 (before (get_or numbers k 0 - 1) (facts.content held.disk) held.current within sound.room stood.keeps reads is_there) in
             omega (arith, page_inside, above)

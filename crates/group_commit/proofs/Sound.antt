@@ -5,13 +5,13 @@ use Rattle.disk_trait.specs.File.{part, Torn, overwritten}
 use Rattle.disk_trait.specs.Calls.{Tears, Settles, Keeps, IsLawful}
 use Rattle.disk_trait.specs.declared.facts.DiskFacts.{Ghosts}
 use Rattle.page_file.specs.Pages.{page, has, are_pages}
-use Rattle.page_file.proofs.Numbers.{apart_first, apart_each, each_behind}
+use Rattle.page_file.proofs.Apart.{apart_first, apart_each, each_behind}
 use Rattle.page_file.proofs.Parts.{part_written}
 use Rattle.root_slots.specs.Slots.{gate, body}
 use Rattle.root_slots.specs.Root.{version_of}
 use Rattle.group_commit.specs.Saved.{Saved}
 use Rattle.group_commit.specs.Commit.{HasPages, Stands, ReadAs, Reads, Makes}
-use Rattle.group_commit.specs.Held.{Held, behind_pages, gone_on, has_failed, left_at, IsBehindPages, IsPlan, IsSound}
+use Rattle.group_commit.specs.Held.{Held, behind_pages, gone_on, has_failed, left_at, IsPlan, IsSound}
 use Rattle.group_commit.specs.declared.phase.Phase.{Phase}
 use Rattle.group_commit.specs.declared.phase.Phase.TheVariants.{Idle, Pages, Close, Sync1, Body, Sync2, Gate, Sync3}
 use Rattle.group_commit.proofs.SlotLemmas.{gate_written}
@@ -36,7 +36,7 @@ module _ {D : Type 0} (facts : Ghosts D) where
   plan_at : (phase phase' : Phase) (current next : Saved) (numbers fresh : List ℕ) → IsPlan phase current next numbers fresh
       → ((k : ℕ) → phase' ≡ Pages k → k < length numbers) → IsPlan phase' current next numbers fresh
   plan_at phase phase' current next numbers fresh plan under_way = record {
-    newer = plan.newer; size = plan.size; free = plan.free; behind = plan.behind; under_way = under_way; makes = plan.makes;
+    newer = plan.newer; size = plan.size; free = plan.free; lowest = plan.lowest; under_way = under_way; makes = plan.makes;
   }
 
   with_phase : (held : Held D) (slot : ℕ) (numbers fresh : List ℕ) (p : Phase) → held.phase ≡ p → IsSound facts held slot numbers fresh

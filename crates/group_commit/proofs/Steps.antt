@@ -4,7 +4,7 @@ use Rattle.std.proofs.lemmas.Bool.{cases_eq, cases_lt}
 use Rattle.disk_trait.specs.File.{part, Torn, overwritten}
 use Rattle.page_file.specs.Pages.{page, pages, has, are_pages}
 use Rattle.page_file.proofs.Parts.{pages_other, pages_behind, page_other, part_written, part_outside}
-use Rattle.page_file.proofs.Numbers.{no_two, each_behind}
+use Rattle.page_file.proofs.Apart.{no_two, each_behind}
 use Rattle.root_slots.specs.Root.{version_of}
 use Rattle.root_slots.specs.Slots.{gate, body, live}
 use Rattle.group_commit.specs.Image.{stored, in_slot, with_stream, stream, tables_in, named, Stores}

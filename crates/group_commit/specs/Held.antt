@@ -49,10 +49,9 @@ left_at Sync3 = Sync3
 abbrev pub has_failed : {D : Type 0} → Held D → D → Held D
 has_failed held disk = record held { disk = disk; phase = left_at held.phase; failed = true }
 
--- the page before the next one is the last slot, a live page or one that is written by then, so that no write begins past the end
-abbrev pub IsBehindPages : List ℕ → List ℕ → Type 0
-IsBehindPages pages numbers = (k : ℕ) → k < length numbers
-    → (get_or numbers k 0 ≡ 2) ⊎ (has (get_or numbers k 0 - 1) (take k numbers ++ pages) ≡ true)
+-- each new page is the lowest free one: all pages below it are live or taken before
+abbrev pub AreLowest : List ℕ → List ℕ → Type 0
+AreLowest pages numbers = (k m : ℕ) → k < length numbers → 2 ≤ m → m < get_or numbers k 0 → has m (take k numbers ++ pages) ≡ true
 
 -- what a commit under way is about to write
 pub record IsPlan (phase : Phase) (current next : Saved) (numbers fresh : List ℕ) : Type 0 where
@@ -60,7 +59,7 @@ pub record IsPlan (phase : Phase) (current next : Saved) (numbers fresh : List �
   pub size : length next.body ≡ 4088
   -- the new pages lie behind the slots, apart, and none of them is live
   pub free : are_pages (numbers ++ current.pages) ≡ true
-  pub behind : IsBehindPages current.pages numbers
+  pub lowest : AreLowest current.pages numbers
   pub under_way : (k : ℕ) → phase ≡ Pages k → k < length numbers
   pub makes : Makes current numbers fresh next
 

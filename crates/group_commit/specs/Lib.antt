@@ -1,5 +1,6 @@
 pub mod Commit
 pub mod Held
 pub mod Image
+pub mod Plan
 pub mod Saved
 pub mod Step

@@ -1,14 +1,20 @@
 //! A root in memory.
-ghost use Rattle.std.specs.Prelude.{◌≡◌};
-ghost use Rattle.group_commit.specs.Saved.{Saved};
+ghost use Rattle.std.specs.Prelude.{◌≡◌, ◌≤◌, true, length, IfOk};
+ghost use Rattle.page_file.specs.Pages.{are_pages};
+ghost use Rattle.root_slots.specs.Body.{root_of};
+ghost use Rattle.root_slots.specs.Root.{version_of, replica_of, count_of, stream_length_of};
 
+use op_ids::ReplicaId;
+use root_slots::RootBody;
+use std::alloc::{AllocError, Global};
 use std::marker::Model;
 
 /// A root in memory. Contracts see the bytes of its slot's body, its stream and the pages that it
 /// reaches.
 #[derive(Debug, Drop)]
 pub struct Root {
-    // The 4,088 bytes of its slot from byte 8 on.
+    head: RootBody,
+    // The 4,088 bytes of its slot from byte 8 on: what the head says.
     body: Vec<u8>,
     // The bytes of its stream.
     stream: Vec<u8>,
@@ -17,17 +23,63 @@ pub struct Root {
 }
 
 impl Model for Root {
+    ghost use Rattle.group_commit.specs.Saved.{Saved, IsSaved};
+
     ghost Value = { Saved };
 
     ghost view = { λ r. record { body = r.body.items; stream = r.stream.items; pages = r.pages.items } };
+
+    ghost invariant = { λ r. IsSaved r.head (record {
+        body = r.body.items;
+        stream = r.stream.items;
+        pages = r.pages.items;
+    }) };
 }
 
 impl Root {
-    /// A root of these parts.
-    pub(crate) fn new(body: Vec<u8>, stream: Vec<u8>, pages: Vec<u32>) -> Root
-        ensures { result ≡ record { body = body.items; stream = stream.items; pages = pages.items } }
+    ghost use Rattle.group_commit.specs.Saved.{IsInMemory};
+
+    /// A root of these parts. One allocation; an error is want of memory (1).
+    pub(crate) fn new(
+        alloc: Global,
+        head: RootBody,
+        stream: Vec<u8>,
+        pages: Vec<u32>,
+    ) -> Result<Root, AllocError>
+        requires { IsInMemory head stream.items pages.items }
+        ensures stream { IfOk result (λ root. root.stream ≡ stream.items) }
+        ensures pages { IfOk result (λ root. root.pages ≡ pages.items) }
+        ensures says { IfOk result (λ root. root_of root.body ≡ head) }
     {
-        Root { body, stream, pages }
+        let body = head.write(alloc)?;
+        Ok(Root {
+            head,
+            body,
+            stream,
+            pages,
+        })
+    }
+
+    /// How often a root was made in this file, this one included.
+    pub(crate) fn version(&self) -> u64
+        ensures { result ≡ version_of self.now.body }
+    {
+        self.head.version()
+    }
+
+    /// The replica that the file belongs to.
+    pub(crate) fn replica(&self) -> ReplicaId
+        ensures { result ≡ replica_of self.now.body }
+    {
+        self.head.replica()
+    }
+
+    /// How many operations the stream has.
+    pub(crate) fn count(&self) -> u64
+        ensures value { result ≡ count_of self.now.body }
+        ensures most { result ≤ 16777216 }
+    {
+        self.head.operations()
     }
 
     /// The bytes of the slot's body.
@@ -39,14 +91,17 @@ impl Root {
 
     /// The bytes of the stream.
     pub(crate) fn stream(&self) -> &[u8]
-        ensures { result.now ≡ self.now.stream }
+        ensures bytes { result.now ≡ self.now.stream }
+        ensures long { length result.now ≡ stream_length_of self.now.body }
     {
         &self.stream
     }
 
     /// The pages that it reaches.
     pub(crate) fn pages(&self) -> &[u32]
-        ensures { result.now ≡ self.now.pages }
+        ensures numbers { result.now ≡ self.now.pages }
+        ensures apart { are_pages result.now ≡ true }
+        ensures few { length result.now ≤ 262400 }
     {
         &self.pages
     }

@@ -1,2 +1,4 @@
-pub mod Numbers
+pub mod Apart
+pub mod Crowded
+pub mod NumberLemmas
 pub mod Parts

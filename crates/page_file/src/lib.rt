@@ -1,2 +1,14 @@
-//! The pages of a file.
+//! The pages of a file: their numbers, and the bytes that these are written in.
 #![tactic(auto)]
+
+mod checks;
+mod free;
+pub mod laws;
+mod numbers;
+
+pub use checks::{are_pages, is_zero};
+pub use free::lowest_free;
+pub use numbers::{put_numbers, take_numbers};
+
+#[cfg(test)]
+mod tests;

@@ -1,2 +1,4 @@
+pub mod Body
+pub mod Head
 pub mod Root
 pub mod Slots

@@ -1,5 +1,5 @@
 -- The body of a root slot: the 4,088 bytes from byte 8 of its page on.
-use Rattle.std.specs.Prelude.{ℕ, ◌*◌, ◌+◌, ◌-◌, ◌/◌, ◌==◌, Bool, not, ◌&&◌, nat_le, List, length, drop}
+use Rattle.std.specs.Prelude.{ℕ, ◌*◌, ◌+◌, ◌-◌, ◌/◌, ◌==◌, Bool, ◌&&◌, nat_le, List, length, drop}
 use Rattle.std.specs.Int.{w32, w64, w128, from_be_bytes}
 use Rattle.disk_trait.specs.File.{part}
 use Rattle.page_file.specs.Pages.{is_zero, are_pages, numbers}

@@ -1,0 +1,31 @@
+use Rattle.std.proofs.Common.{◌≡◌, ◌∙◌, ◌++◌, ap, length, vec_len, rules, arith}
+use Rattle.root_slots.specs.Body.{Root, head_bytes, body_bytes}
+use Rattle.page_file.specs.Pages.{number_bytes}
+use Rattle.root_slots.proofs.SpellingLemmas.{body_is, spells, all_words}
+use Rattle.root_slots.proofs.writing.spelled.Goals as goal
+
+abbrev root : goal.In_ok-resize → Root
+root c = record { version = c.args.version; replica = c.args.replica; stream_length = c.args.stream_length; operations = c.args.operations; tables = c.args.tables.now }
+
+made : (c : goal.In_ok-resize) → c.resize.new.self.items ≡ body_bytes (root c)
+made c =
+    let head : c.put_head.new.out.items ≡ head_bytes c.args.version c.args.replica c.args.stream_length c.args.operations (length c.args.tables.now) =
+    c.in_ok-put_head.ensures ∙ ap (λ xs. xs ++ head_bytes c.args.version c.args.replica c.args.stream_length c.args.operations (length c.args.tables.now)) c.in_ok-body.ensures.items in
+    let put : c.put_numbers.new.out.items ≡ head_bytes c.args.version c.args.replica c.args.stream_length c.args.operations (length c.args.tables.now) ++ number_bytes c.args.tables.now =
+    c.in_ok-put_numbers.ensures.ok ∙ ap (λ xs. xs ++ number_bytes c.args.tables.now) head in
+    let len : vec_len c.put_numbers.new.out ≡ length c.put_numbers.new.out.items = search rules in
+    c.in_ok-resize.ensures.items ∙ (body_is (root c) c.put_numbers.new.out.items (vec_len c.put_numbers.new.out) len c.requires put)
+
+pub returns-clause-bytes : goal.returns-clause-bytes
+returns-clause-bytes c = made c
+
+pub returns-clause-read_back : goal.returns-clause-read_back
+returns-clause-read_back c =
+    rw (made c) (spells (root c) c.requires (record {
+      version = c.ranges.version.fits;
+      not_nil = c.replica_is_not_nil.ensures;
+      replica = c.read_undoes_bytes.ensures;
+      stream = c.ranges.stream_length.fits;
+      operations = c.ranges.operations.fits;
+      tables = all_words c.args.tables.now (λ i. omega (arith, c.type_inv.tables i));
+    }))

@@ -1,0 +1,79 @@
+//! The bytes of a root body.
+ghost use Rattle.std.specs.Prelude.{◌≡◌, ◌++◌, OnOk, IfOk};
+ghost use Rattle.root_slots.specs.Body.{Root, IsRoot, Spells, head_bytes, body_bytes};
+
+use crate::fields::{BODY_LENGTH, MAGIC};
+use op_ids::ReplicaId;
+use op_ids::laws::{read_undoes_bytes, replica_is_not_nil};
+use page_file::put_numbers;
+use std::alloc::{AllocError, Global};
+
+/// The 4,088 bytes of a root with these fields. One allocation; an error is want of memory (1).
+pub fn spelled(
+    alloc: Global,
+    version: u64,
+    replica: ReplicaId,
+    stream_length: u64,
+    operations: u64,
+    tables: &[u32],
+) -> Result<Vec<u8>, AllocError>
+    requires { IsRoot (record {
+      version = version;
+      replica = replica;
+      stream_length = stream_length;
+      operations = operations;
+      tables = tables.now;
+    }) }
+    ensures bytes { IfOk result (λ body. body.items ≡ body_bytes (record {
+      version = version;
+      replica = replica;
+      stream_length = stream_length;
+      operations = operations;
+      tables = tables.now;
+    })) }
+    ensures read_back { IfOk result (λ body. Spells body.items (record {
+      version = version;
+      replica = replica;
+      stream_length = stream_length;
+      operations = operations;
+      tables = tables.now;
+    })) }
+{
+    replica_is_not_nil(replica);
+    read_undoes_bytes(replica);
+    let mut body = Vec::with_capacity(alloc, BODY_LENGTH)?;
+    let count = tables.len() as u32;
+    put_head(
+        version,
+        replica,
+        stream_length,
+        operations,
+        count,
+        &mut body,
+    )?;
+    put_numbers(tables, &mut body)?;
+    body.resize(BODY_LENGTH, 0)?;
+    Ok(body)
+}
+
+// Appends the 56 bytes before the table page numbers.
+fn put_head(
+    version: u64,
+    replica: ReplicaId,
+    stream_length: u64,
+    operations: u64,
+    tables: u32,
+    out: &mut Vec<u8>,
+) -> Result<(), AllocError>
+    ensures { OnOk result (out.new.items
+        ≡ out.old.items ++ head_bytes version replica stream_length operations tables) }
+{
+    out.extend_from_slice(&MAGIC.to_be_bytes())?;
+    out.extend_from_slice(&version.to_be_bytes())?;
+    out.extend_from_slice(&replica.bytes())?;
+    out.extend_from_slice(&stream_length.to_be_bytes())?;
+    out.extend_from_slice(&operations.to_be_bytes())?;
+    out.extend_from_slice(&tables.to_be_bytes())?;
+    out.extend_from_slice(&[0; 4])?;
+    Ok(())
+}
