@@ -1,6 +1,7 @@
 pub mod DeviceCall
 pub mod Frame
 pub mod Inside
+pub mod OnePageLemmas
 pub mod SlotLemmas
 pub mod Sound
 pub mod Steps

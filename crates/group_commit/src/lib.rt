@@ -4,6 +4,7 @@
 mod call;
 mod error;
 mod phase;
+mod plan;
 mod root;
 mod step;
 mod store;

@@ -1,8 +1,8 @@
 //! A root in memory.
-ghost use Rattle.std.specs.Prelude.{◌≡◌, ◌≤◌, true, length, IfOk};
+ghost use Rattle.std.specs.Prelude.{◌≡◌, ◌≤◌, true, [], length, IfOk};
 ghost use Rattle.page_file.specs.Pages.{are_pages};
 ghost use Rattle.root_slots.specs.Body.{root_of};
-ghost use Rattle.root_slots.specs.Root.{version_of, replica_of, count_of, stream_length_of};
+ghost use Rattle.root_slots.specs.Root.{is_root, version_of, replica_of, count_of, stream_length_of};
 
 use op_ids::ReplicaId;
 use root_slots::RootBody;
@@ -50,6 +50,7 @@ impl Root {
         ensures stream { IfOk result (λ root. root.stream ≡ stream.items) }
         ensures pages { IfOk result (λ root. root.pages ≡ pages.items) }
         ensures says { IfOk result (λ root. root_of root.body ≡ head) }
+        ensures valid { IfOk result (λ root. is_root root.body ≡ true) }
     {
         let body = head.write(alloc)?;
         Ok(Root {
@@ -58,6 +59,25 @@ impl Root {
             stream,
             pages,
         })
+    }
+
+    /// The root of a new file: version 1, without operations. Two allocations; an error is want of
+    /// memory (1).
+    pub(crate) fn empty(alloc: Global, replica: ReplicaId) -> Result<Root, AllocError>
+        ensures stream { IfOk result (λ root. root.stream ≡ []) }
+        ensures pages { IfOk result (λ root. root.pages ≡ []) }
+        ensures says { IfOk result (λ root. root_of root.body ≡ record {
+            version = 1;
+            replica = replica;
+            stream_length = 0;
+            operations = 0;
+            tables = [];
+        }) }
+    {
+        match RootBody::new(1, replica, 0, 0, Vec::new(alloc)) {
+            Some(head) => Root::new(alloc, head, Vec::new(alloc), Vec::new(alloc)),
+            None => unreachable!(),
+        }
     }
 
     /// How often a root was made in this file, this one included.

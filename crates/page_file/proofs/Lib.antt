@@ -2,3 +2,4 @@ pub mod Apart
 pub mod Crowded
 pub mod NumberLemmas
 pub mod Parts
+pub mod TableLemmas

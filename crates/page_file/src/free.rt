@@ -1,5 +1,5 @@
 //! The lowest free page.
-ghost use Rattle.std.specs.Prelude.{◌≡◌, ◌<◌, length};
+ghost use Rattle.std.specs.Prelude.{◌≡◌, ◌<◌, ◌≤◌, ◌+◌, length};
 ghost use Rattle.page_file.specs.Free.{IsLowestFree};
 
 use crate::checks::has;
@@ -8,7 +8,8 @@ use crate::checks::has;
 /// memory; each used number is looked at once for each page below the free one.
 pub fn lowest_free(used: &[u32]) -> u32
     requires { length used.now < 4294967293 }
-    ensures { IsLowestFree used.now result }
+    ensures lowest { IsLowestFree used.now result }
+    ensures near { result ≤ length used.now + 2 }
 {
     for number in 2..used.len() as u32 + 3 {
         if !has(number, used) {

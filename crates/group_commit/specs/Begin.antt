@@ -1,0 +1,66 @@
+-- How a commit begins.
+use Rattle.std.specs.Prelude.{◌≡◌, ◌⊎◌, ℕ, ◌+◌, Bool, true, false, not, ◌&&◌, nat_lt, nat_le, if◌then◌else◌, List, [], ◌∷◌, length, Result, Ok, Err, Option, Some, None}
+use Rattle.disk_trait.specs.declared.facts.DiskFacts.{Ghosts}
+use Rattle.op_model.specs.declared.op.Op.{Op}
+use Rattle.op_model.specs.Records.{stream_length}
+use Rattle.change_codec.specs.Stream.{spelled_all}
+use Rattle.root_slots.specs.Root.{version_of, count_of}
+use Rattle.group_commit.specs.Saved.{Saved}
+use Rattle.group_commit.specs.Commit.{IsLeft}
+use Rattle.group_commit.specs.Held.{Held}
+use Rattle.group_commit.specs.Plan.{IsNext}
+use Rattle.group_commit.specs.declared.error.StoreError.{StoreError}
+use Rattle.group_commit.specs.declared.error.StoreError.TheVariants.{Memory, Limit, Busy, Failed}
+use Rattle.group_commit.specs.declared.phase.Phase.{Phase}
+use Rattle.group_commit.specs.declared.phase.Phase.TheVariants.{Idle, Pages, Close, Sync1, Body, Sync2, Gate, Sync3}
+
+-- no commit is under way
+abbrev pub is_idle : Phase → Bool
+is_idle Idle = true
+is_idle (Pages k) = false
+is_idle Close = false
+is_idle Sync1 = false
+is_idle Body = false
+is_idle Sync2 = false
+is_idle Gate = false
+is_idle Sync3 = false
+
+abbrev pub is_none : List Op → Bool
+is_none [] = true
+is_none (op ∷ ops) = false
+
+-- there is a further version, and room for these operations: at most 2^24 in a file, and for now at most 4,096 bytes of records
+abbrev pub has_room : Saved → List Op → Bool
+has_room current ops =
+    nat_lt (version_of current.body) 18446744073709551615 && nat_le (count_of current.body + length ops) 16777216
+    && nat_le (length current.stream + stream_length ops) 4096
+
+-- the answer that is due, in the order of test: failed 44, busy 8, nothing to commit, limit 7, or the length of the new list
+abbrev pub begin_due : {D : Type 0} → Held D → List Op → Result (Option ℕ) StoreError
+begin_due held ops =
+    if held.failed then Err Failed
+    else if not (is_idle held.phase) then Err Busy
+    else if is_none ops then Ok None
+    else if not (has_room held.current ops) then Err Limit
+    else Ok (Some (count_of held.current.body + length ops))
+
+-- a commit is due to begin
+abbrev pub IsBegun : Result (Option ℕ) StoreError → Type 0
+IsBegun (Ok (Some n)) = Unit {0}
+IsBegun (Ok None) = ⊥
+IsBegun (Err e) = ⊥
+
+-- the answer is the one that is due, or want of memory in place of a commit
+abbrev pub IsAnswer : Result (Option ℕ) StoreError → Result (Option ℕ) StoreError → Type 0
+IsAnswer due answer = (answer ≡ due) ⊎ ((answer ≡ Err Memory) × IsBegun due)
+
+-- a commit of these operations has begun: no device call is made, and the live root stays
+pub record Begins {D : Type 0} (facts : Ghosts D) (old : Held D) (ops : List Op) (new : Held D) : Type 0 where
+  pub disk : new.disk ≡ old.disk
+  pub current : new.current ≡ old.current
+  pub stale : new.stale ≡ old.stale
+  pub works : new.failed ≡ false
+  pub phase : new.phase ≡ Pages 0
+  pub new_pages : new.new_pages ≡ 2
+  pub follows : IsNext old.current (spelled_all ops) (length ops) new.next
+  pub left : facts.tells new.disk → (c : List ℕ) → facts.survives new.disk c → IsLeft new.phase new.current new.next c
