@@ -1,3 +1,4 @@
+pub mod BeginLemmas
 pub mod DeviceCall
 pub mod Frame
 pub mod Inside

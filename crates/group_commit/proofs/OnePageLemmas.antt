@@ -141,6 +141,7 @@ plan_of_one current next records more p t live first second below on some most =
     makes = makes_one current next (current.stream ++ records) more p t on some most below (two_apart p t current.pages first second);
   };
   room = omega (arith, length-append (stream_page (current.stream ++ records)) (table_page p), length-stream_page (current.stream ++ records) most, length-table_page p);
+  pages = refl;
 }
   where
     first_true : (a b : Bool) → (a && b) ≡ true → a ≡ true

@@ -263,3 +263,21 @@ module _ {D : Type 0} (facts : Ghosts D) where
     stands = λ tells c left. sound.stands (told tells) c ((keeps (told tells)).no_more c left);
     reads = λ tells works. absurd cc;
   }
+
+  -- a commit begins: no device call is made
+  pub sound_begin : (held : Held D) (slot : ℕ) (old_numbers old_fresh : List ℕ) (next : Saved) (numbers fresh : List ℕ) (pages : ℕ)
+      → IsSound facts held slot old_numbers old_fresh → held.phase ≡ Idle
+      → length fresh ≡ 4096 * length numbers → IsPlan (Pages 0) held.current next numbers fresh
+      → IsSound facts (record held { phase = Pages 0; next = next; new_pages = pages }) slot numbers fresh
+  sound_begin held slot old_numbers old_fresh next numbers fresh pages sound idle room plan =
+      let s = with_phase held slot old_numbers old_fresh Idle idle sound in
+      record {
+        slots = sound.slots;
+        room = room;
+        plan = λ not_idle. plan;
+        stands = λ tells c left. begun (s.stands tells c left);
+        reads = λ tells works i below. absurd (omega (arith, below));
+      }
+    where
+      begun : {slot : ℕ} {stale : Bool} {current other next : Saved} {c : List ℕ} → Stands Idle slot stale current other c → Stands (Pages 0) slot stale current next c
+      begun s = record { whole = s.whole; is_open = s.is_open; holds = s.holds; keeps = s.keeps; stale_slot = s.stale_slot }

@@ -1,5 +1,6 @@
 pub mod Begin
 pub mod Commit
+pub mod Errors
 pub mod Held
 pub mod Image
 pub mod OnePage

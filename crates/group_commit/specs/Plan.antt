@@ -17,3 +17,5 @@ pub record Plans (current : Saved) (records : List ℕ) (more : ℕ) (next : Sav
   pub follows : IsNext current records more next
   pub plan : IsPlan (Pages 0) current next numbers fresh
   pub room : length fresh ≡ 4096 * length numbers
+  -- one data page and one table page, for now
+  pub pages : length numbers ≡ 2

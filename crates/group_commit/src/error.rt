@@ -1,4 +1,7 @@
 //! Why a store refuses.
+ghost use Rattle.std.specs.Prelude.{◌≡◌};
+ghost use Rattle.group_commit.specs.declared.error.StoreError.TheVariants.{Memory};
+
 use std::alloc::AllocError;
 use thiserror::Error;
 
@@ -23,4 +26,30 @@ pub enum StoreError {
     /// 52: the device failed in a sync.
     #[error("sync failed")]
     SyncFailed,
+}
+
+impl From<AllocError> for StoreError {
+    ghost from_gives = { λ _ e. e ≡ Memory };
+
+    fn from(_error: AllocError) -> StoreError {
+        StoreError::Memory
+    }
+}
+
+impl StoreError {
+    ghost use Rattle.group_commit.specs.Errors.{number_of};
+
+    /// The number of the refusal.
+    pub fn number(self) -> u8
+        ensures { result ≡ number_of self }
+    {
+        match self {
+            StoreError::Memory => 1,
+            StoreError::Limit => 7,
+            StoreError::Busy => 8,
+            StoreError::Failed => 44,
+            StoreError::WriteFailed => 51,
+            StoreError::SyncFailed => 52,
+        }
+    }
 }

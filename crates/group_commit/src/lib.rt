@@ -1,6 +1,7 @@
 //! Operations, committed together under two gates.
 #![tactic(auto)]
 
+mod begin;
 mod call;
 mod error;
 mod phase;

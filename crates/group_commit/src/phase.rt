@@ -1,4 +1,5 @@
 //! How far a commit has come.
+ghost use Rattle.std.specs.Prelude.{◌≡◌};
 
 /// The device call that a commit makes next. Between two commits it is `Idle`, which makes none.
 #[derive(Clone, Copy, Debug, PartialEq, Eq)]
@@ -20,4 +21,18 @@ pub enum Phase {
     Gate,
     /// The sync of the gate. After it that slot is live.
     Sync3,
+}
+
+impl Phase {
+    ghost use Rattle.group_commit.specs.Begin.{is_idle};
+
+    /// Whether no commit is under way.
+    pub fn is_idle(self) -> bool
+        ensures { result ≡ is_idle self }
+    {
+        match self {
+            Phase::Idle => true,
+            _ => false,
+        }
+    }
 }

@@ -12,6 +12,7 @@ use root_slots::RootBody;
 use std::alloc::{AllocError, Global};
 
 /// The root that a commit makes, and its new pages: their numbers, and 4,096 bytes each.
+#[derive(Drop)]
 pub(crate) struct Plan {
     pub next: Root,
     pub numbers: Vec<u32>,

@@ -102,6 +102,11 @@ impl Root {
         self.head.operations()
     }
 
+    /// Where its memory comes from.
+    pub(crate) fn allocator(&self) -> Global {
+        *self.stream.allocator()
+    }
+
     /// The bytes of the slot's body.
     pub(crate) fn body(&self) -> &[u8]
         ensures { result.now ≡ self.now.body }

@@ -1,0 +1,101 @@
+//! The beginning of a commit.
+ghost use Rattle.std.specs.Prelude.{◌≡◌, ◌≢◌, ℕ, ◌+◌, ◌<◌, ◌≤◌, true, length, Ok, Err, Some, IfOk, OnErr};
+ghost use Rattle.change_codec.specs.Stream.{spelled_all};
+ghost use Rattle.root_slots.specs.Root.{version_of, count_of};
+ghost use Rattle.group_commit.specs.Begin.{begin_due, has_room, Begins, IsAnswer};
+ghost use Rattle.group_commit.specs.Plan.{Plans};
+
+use crate::error::StoreError;
+use crate::phase::Phase;
+use crate::plan::{Plan, make_plan};
+use crate::root::Root;
+use crate::store::Store;
+use change_codec::{put_ops, stream_length};
+use disk_trait::Disk;
+use op_model::Op;
+use std::alloc::AllocError;
+
+/// The most bytes that the stream of a file has for now: one data page.
+const MOST_STREAM: u64 = 4096;
+
+/// The most operations that a file has: 2^24.
+const MOST_OPERATIONS: u64 = 16_777_216;
+
+impl Root {
+    // Whether there is a further version, and room for these operations.
+    fn has_room(&self, ops: &[Op]) -> bool
+        ensures { result ≡ has_room self.now ops.now }
+    {
+        self.version() < u64::MAX
+            && self.count() + ops.len() as u64 <= MOST_OPERATIONS
+            && stream_length(ops).saturating_add(self.stream().len() as u64) <= MOST_STREAM
+    }
+
+    // The root with these operations behind its own, on new pages. An error is want of memory (1).
+    fn plan_for(&self, ops: &[Op]) -> Result<Plan, AllocError>
+        requires some { 0 < length ops.now }
+        requires room { has_room self.now ops.now ≡ true }
+        ensures { IfOk result (λ plan. Plans self.now (spelled_all ops.now) (length ops.now)
+            plan.next plan.numbers.items plan.fresh.items) }
+    {
+        let alloc = self.allocator();
+        let mut records = Vec::new(alloc);
+        put_ops(ops, &mut records)?;
+        make_plan(alloc, self, &records, ops.len() as u64)
+    }
+}
+
+impl<D: Disk> Store<D> {
+    /// Begins a commit of these operations, which come behind the committed ones, and answers the
+    /// length of the list that it commits; `None` where there are none. It makes no device call.
+    ///
+    /// Refuses, in this order, with 44 where a device call failed before, 8 where a commit is under
+    /// way, 7 where the version, the number of operations (2^24) or the stream (for now 4,096 bytes)
+    /// has no room, and 1 where a growth was refused. A refused call changes nothing.
+    ///
+    /// Costs the bytes of the stream.
+    pub fn begin(&mut self, ops: &[Op]) -> Result<Option<u64>, StoreError>
+        ensures answer { IsAnswer (begin_due self.old ops.now) result }
+        ensures began { (n : ℕ) → result ≡ Ok (Some n)
+            → Begins D.DiskFacts self.old ops.now self.new }
+        ensures same { ((n : ℕ) → result ≢ Ok (Some n)) → self.new ≡ self.old }
+    {
+        if self.failed {
+            return Err(StoreError::Failed);
+        }
+        if !self.phase.is_idle() {
+            return Err(StoreError::Busy);
+        }
+        if ops.is_empty() {
+            return Ok(None);
+        }
+        if !self.current.has_room(ops) {
+            return Err(StoreError::Limit);
+        }
+        let Plan {
+            next,
+            numbers,
+            fresh,
+        } = self.current.plan_for(ops)?;
+        self.next = next;
+        self.numbers = numbers;
+        self.fresh = fresh;
+        self.phase = Phase::Pages(0);
+        Ok(Some(self.current.count() + ops.len() as u64))
+    }
+
+    /// How many operations are in the live root. Takes no memory.
+    pub fn committed(&self) -> u64
+        ensures { result ≡ count_of self.now.current.body }
+    {
+        self.current.count()
+    }
+
+    /// The disk. What a commit under way has written stays there.
+    pub fn into_disk(self) -> D
+        ensures { result ≡ self.disk }
+    {
+        let Store { disk, .. } = self;
+        disk
+    }
+}
