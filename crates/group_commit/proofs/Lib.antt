@@ -2,6 +2,7 @@ pub mod BeginLemmas
 pub mod DeviceCall
 pub mod Frame
 pub mod Inside
+pub mod NewFileLemmas
 pub mod OnePageLemmas
 pub mod SlotLemmas
 pub mod Sound

@@ -23,7 +23,7 @@ use Rattle.group_commit.specs.declared.phase.Phase.TheVariants.{Pages}
 use Rattle.group_commit.specs.OnePage.{stream_page, table_page, IsRootOn}
 
 -- all rules hold: then there is a stream
-stream_there : (root : List ℕ) (tables data_pages : List (List ℕ)) → is_root root ≡ true → are_whole tables ≡ true
+pub stream_there : (root : List ℕ) (tables data_pages : List (List ℕ)) → is_root root ≡ true → are_whole tables ≡ true
     → is_zero (drop (data_count root) (entries tables)) ≡ true → are_pages (tables_of root ++ named root tables) ≡ true
     → are_whole data_pages ≡ true → is_zero (drop (stream_length_of root) (joined data_pages)) ≡ true
     → stream_in root tables data_pages ≡ Ok (take (stream_length_of root) (joined data_pages))
@@ -125,6 +125,13 @@ makes_one current next s more p t on some most below apart file keeps reads =
         (reads 0 (omega arith) ∙ page_first s p most) (reads 1 (omega arith) ∙ page_second s p most) in
     rw (on.bytes, on.pages) stores
 
+-- a root's body has 4,088 bytes
+pub root_size : (body : List ℕ) → is_root body ≡ true → length body ≡ 4088
+root_size body valid = (head_says body (first_true (is_head body) (is_rest body) (sym (root_is_head body) ∙ valid))).size
+  where
+    first_true : (a b : Bool) → (a && b) ≡ true → a ≡ true
+    first_true a b is = grind (arith, nat_tests)
+
 -- a plan on two free pages
 pub plan_of_one : (current next : Saved) (records : List ℕ) (more p t : ℕ) → are_pages current.pages ≡ true
     → IsLowestFree current.pages p → IsLowestFree (p ∷ current.pages) t → p < 2 ^ 32
@@ -144,10 +151,6 @@ plan_of_one current next records more p t live first second below on some most =
   pages = refl;
 }
   where
-    first_true : (a b : Bool) → (a && b) ≡ true → a ≡ true
-    first_true a b is = grind (arith, nat_tests)
-    root_size : (body : List ℕ) → is_root body ≡ true → length body ≡ 4088
-    root_size body valid = (head_says body (first_true (is_head body) (is_rest body) (sym (root_is_head body) ∙ valid))).size
     first_phase : (k : ℕ) → Pages 0 ≡ Pages k → k ≡ 0
     first_phase k is = sym (ap place_of is)
       where

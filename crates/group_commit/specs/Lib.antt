@@ -3,6 +3,7 @@ pub mod Commit
 pub mod Errors
 pub mod Held
 pub mod Image
+pub mod NewFile
 pub mod OnePage
 pub mod Plan
 pub mod Saved

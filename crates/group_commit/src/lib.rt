@@ -4,6 +4,8 @@
 mod begin;
 mod call;
 mod error;
+mod init;
+mod init_fault;
 mod phase;
 mod plan;
 mod root;
@@ -11,5 +13,6 @@ mod step;
 mod store;
 
 pub use error::StoreError;
+pub use init_fault::{InitError, InitFault};
 pub use phase::Phase;
 pub use store::Store;

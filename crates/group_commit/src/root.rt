@@ -66,6 +66,7 @@ impl Root {
     pub(crate) fn empty(alloc: Global, replica: ReplicaId) -> Result<Root, AllocError>
         ensures stream { IfOk result (λ root. root.stream ≡ []) }
         ensures pages { IfOk result (λ root. root.pages ≡ []) }
+        ensures valid { IfOk result (λ root. is_root root.body ≡ true) }
         ensures says { IfOk result (λ root. root_of root.body ≡ record {
             version = 1;
             replica = replica;
@@ -109,7 +110,8 @@ impl Root {
 
     /// The bytes of the slot's body.
     pub(crate) fn body(&self) -> &[u8]
-        ensures { result.now ≡ self.now.body }
+        ensures bytes { result.now ≡ self.now.body }
+        ensures whole { length result.now ≡ 4088 }
     {
         &self.body
     }

@@ -20,7 +20,7 @@ pub invariant_of-self : goal.invariant_of-self
 invariant_of-self g c =
     sound_body g.D.DiskFacts _ c.self.inside.slot _ _ true c.write_inside.new.disk c.self.invariant
     (ap (λ h. h.phase) c.self.view_is ∙ c.requires.phase)
-    (c.in-Err.ensures).tells.0 (λ told. sized c.body.result.now (ap length c.body.ensures ∙ (c.self.invariant.plan (not_idle _ (ap (λ h. h.phase) c.self.view_is ∙ c.requires.phase))).size) (c.in-Err.ensures.torn told)) (λ told ok. absurd cc)
+    (c.in-Err.ensures).tells.0 (λ told. sized c.body.result.now (ap length c.body.ensures.bytes ∙ (c.self.invariant.plan (not_idle _ (ap (λ h. h.phase) c.self.view_is ∙ c.requires.phase))).size) (c.in-Err.ensures.torn told)) (λ told ok. absurd cc)
     (λ told. g.met.D.Disk.lawful c.self.inside.disk told)
 
 pub returns-in-Err-clause-call : goal.returns-in-Err-clause-call
@@ -32,7 +32,7 @@ pub invariant_of-self-in_default : goal.invariant_of-self-in_default
 invariant_of-self-in_default g c =
     sound_body g.D.DiskFacts _ c.self.inside.slot _ _ c.self.inside.failed c.write_inside.new.disk c.self.invariant
     (ap (λ h. h.phase) c.self.view_is ∙ c.requires.phase)
-    (c.in_default.ensures).tells.0 (λ told. sized c.body.result.now (ap length c.body.ensures ∙ (c.self.invariant.plan (not_idle _ (ap (λ h. h.phase) c.self.view_is ∙ c.requires.phase))).size) (c.in_default.ensures.torn told)) (λ told ok. c.in_default.ensures.written told ∙ ap (overwritten _ _) c.body.ensures)
+    (c.in_default.ensures).tells.0 (λ told. sized c.body.result.now (ap length c.body.ensures.bytes ∙ (c.self.invariant.plan (not_idle _ (ap (λ h. h.phase) c.self.view_is ∙ c.requires.phase))).size) (c.in_default.ensures.torn told)) (λ told ok. c.in_default.ensures.written told ∙ ap (overwritten _ _) c.body.ensures.bytes)
     (λ told. g.met.D.Disk.lawful c.self.inside.disk told)
 
 pub returns-clause-call : goal.returns-clause-call

@@ -1,0 +1,236 @@
+//! The making of a new file.
+ghost use Rattle.std.specs.Prelude.{◌≡◌, ◌+◌, ◌++◌, [], ◌∷◌, ◌↔◌, ℕ, List, true, false, length, replicate, IfOk, IfErr, OnOk, OnErr};
+ghost use Rattle.disk_trait.specs.File.{overwritten};
+ghost use Rattle.root_slots.specs.Body.{root_of};
+ghost use Rattle.root_slots.specs.Root.{is_root};
+ghost use Rattle.group_commit.specs.Commit.{IsLeft};
+ghost use Rattle.group_commit.specs.NewFile.{slot_page, new_file, failures_of, Counts};
+ghost use Rattle.group_commit.specs.declared.phase.Phase.TheVariants.{Idle};
+ghost use Rattle.group_commit.specs.declared.init_fault.InitError.TheVariants.{NotEmpty, WriteFailed, SyncFailed};
+
+use crate::call::{settle, write_inside};
+use crate::error::StoreError;
+use crate::init_fault::{InitError, InitFault};
+use crate::phase::Phase;
+use crate::root::Root;
+use crate::store::Store;
+use disk_trait::Disk;
+use op_ids::ReplicaId;
+use std::alloc::{AllocError, Global};
+
+const PAGE: usize = 4096;
+
+// The page of a slot with a closed gate and this body. An error is want of memory (1).
+fn closed_slot(alloc: Global, body: &[u8]) -> Result<Vec<u8>, AllocError>
+    ensures { IfOk result (λ page. page.items ≡ slot_page 0 body.now) }
+{
+    let mut page = Vec::new(alloc);
+    page.resize(8, 0)?;
+    page.extend_from_slice(body)?;
+    Ok(page)
+}
+
+// Whether the file has no bytes: 48 where it has some, 50 where the device failed.
+fn check_empty<D: Disk>(disk: &mut D) -> Result<(), InitError>
+    ensures empty { D.tells disk.old → OnOk result (D.content disk.new ≡ []) }
+    ensures counts { D.tells disk.old → OnOk result (Counts D.DiskFacts 0 0 0 disk.old disk.new) }
+    ensures failed { D.tells disk.old → IfErr result
+        (λ e. D.failures disk.new ≡ D.failures disk.old + failures_of e) }
+    ensures tells { D.tells disk.new ↔ D.tells disk.old }
+{
+    match disk.size() {
+        Ok(0) => Ok(()),
+        Ok(_) => Err(InitError::NotEmpty),
+        Err(_) => Err(InitError::ReadFailed),
+    }
+}
+
+// The two slots of a file without bytes.
+fn put_slots<D: Disk>(disk: &mut D, first: &[u8], second: &[u8]) -> Result<(), StoreError>
+    requires empty { D.tells disk.old → D.content disk.old ≡ [] }
+    requires size { length first.now ≡ 4096 }
+    ensures written { D.tells disk.old
+        → OnOk result (D.content disk.new ≡ first.now ++ second.now) }
+    ensures counts { D.tells disk.old → OnOk result (Counts D.DiskFacts 0 2 0 disk.old disk.new) }
+    ensures failed { D.tells disk.old
+        → OnErr result (D.failures disk.new ≡ D.failures disk.old + 1) }
+    ensures tells { D.tells disk.new ↔ D.tells disk.old }
+{
+    write_inside(disk, 0, first)?;
+    write_inside(disk, 4096, second)
+}
+
+// Opens the first slot's gate between two syncs.
+fn open_first<D: Disk>(disk: &mut D) -> Result<(), StoreError>
+    ensures written { D.tells disk.old → OnOk result
+        (D.content disk.new ≡ overwritten (D.content disk.old) 0 (1 ∷ [])) }
+    ensures only { D.tells disk.old → OnOk result
+        ((c : List ℕ) → D.survives disk.new c → c ≡ D.content disk.new) }
+    ensures counts { D.tells disk.old → OnOk result (Counts D.DiskFacts 0 1 2 disk.old disk.new) }
+    ensures failed { D.tells disk.old
+        → OnErr result (D.failures disk.new ≡ D.failures disk.old + 1) }
+    ensures tells { D.tells disk.new ↔ D.tells disk.old }
+{
+    settle(disk)?;
+    write_inside(disk, 0, &[1])?;
+    settle(disk)
+}
+
+// What a refused device call is.
+fn cause(error: StoreError) -> InitError
+    ensures { failures_of result ≡ 1 }
+{
+    match error {
+        StoreError::SyncFailed => InitError::SyncFailed,
+        _ => InitError::WriteFailed,
+    }
+}
+
+// The two slots of a file without bytes, the first one open.
+fn put_file<D: Disk>(disk: &mut D, first: &[u8], second: &[u8]) -> Result<(), InitError>
+    requires empty { D.tells disk.old → D.content disk.old ≡ [] }
+    requires size { length first.now ≡ 4096 }
+    ensures written { D.tells disk.old → OnOk result
+        (D.content disk.new ≡ overwritten (first.now ++ second.now) 0 (1 ∷ [])) }
+    ensures only { D.tells disk.old → OnOk result
+        ((c : List ℕ) → D.survives disk.new c → c ≡ D.content disk.new) }
+    ensures counts { D.tells disk.old → OnOk result (Counts D.DiskFacts 0 3 2 disk.old disk.new) }
+    ensures failed { D.tells disk.old → IfErr result
+        (λ e. D.failures disk.new ≡ D.failures disk.old + failures_of e) }
+    ensures tells { D.tells disk.new ↔ D.tells disk.old }
+{
+    put_slots(disk, first, second).map_err(cause)?;
+    open_first(disk).map_err(cause)
+}
+
+// The file of a new store with this body. An error is want of memory (1) or the device's.
+fn make_file<D: Disk>(alloc: Global, disk: &mut D, body: &[u8]) -> Result<(), InitError>
+    requires empty { D.tells disk.old → D.content disk.old ≡ [] }
+    requires size { length body.now ≡ 4088 }
+    ensures written { D.tells disk.old → OnOk result (D.content disk.new ≡ new_file body.now) }
+    ensures only { D.tells disk.old → OnOk result
+        ((c : List ℕ) → D.survives disk.new c → c ≡ D.content disk.new) }
+    ensures counts { D.tells disk.old → OnOk result (Counts D.DiskFacts 0 3 2 disk.old disk.new) }
+    ensures failed { D.tells disk.old → IfErr result
+        (λ e. D.failures disk.new ≡ D.failures disk.old + failures_of e) }
+    ensures tells { D.tells disk.new ↔ D.tells disk.old }
+{
+    let first = closed_slot(alloc, body)?;
+    put_file(disk, &first, &[0; PAGE])
+}
+
+// The two roots of a new store: the live one, and one in the place of a commit's. An error is want of
+// memory (1).
+fn empty_roots(alloc: Global, replica: ReplicaId) -> Result<(Root, Root), AllocError>
+    ensures root { IfOk result (λ roots. root_of roots.0.body ≡ record {
+        version = 1;
+        replica = replica;
+        stream_length = 0;
+        operations = 0;
+        tables = [];
+    }) }
+    ensures empty { IfOk result (λ roots. (roots.0.stream ≡ []) × (roots.0.pages ≡ [])
+        × (is_root roots.0.body ≡ true)) }
+{
+    let current = Root::empty(alloc, replica)?;
+    let next = Root::empty(alloc, replica)?;
+    Ok((current, next))
+}
+
+// Makes the file of a disk without bytes, and gives the roots of its store.
+fn format<D: Disk>(alloc: Global, disk: &mut D, replica: ReplicaId) -> Result<(Root, Root), InitError>
+    requires empty { D.tells disk.old → D.content disk.old ≡ [] }
+    ensures root { IfOk result (λ roots. root_of roots.0.body ≡ record {
+        version = 1;
+        replica = replica;
+        stream_length = 0;
+        operations = 0;
+        tables = [];
+    }) }
+    ensures empty { IfOk result (λ roots. (roots.0.stream ≡ []) × (roots.0.pages ≡ [])
+        × (is_root roots.0.body ≡ true)) }
+    ensures left { D.tells disk.old → IfOk result
+        (λ roots. (c : List ℕ) → D.survives disk.new c → c ≡ new_file roots.0.body) }
+    ensures counts { D.tells disk.old → OnOk result (Counts D.DiskFacts 0 3 2 disk.old disk.new) }
+    ensures failed { D.tells disk.old → IfErr result
+        (λ e. D.failures disk.new ≡ D.failures disk.old + failures_of e) }
+    ensures tells { D.tells disk.new ↔ D.tells disk.old }
+{
+    let roots = empty_roots(alloc, replica)?;
+    match make_file(alloc, disk, roots.0.body()) {
+        Ok(()) => Ok(roots),
+        Err(error) => Err(error),
+    }
+}
+
+// Tests the size, and makes the file.
+fn begin_file<D: Disk>(
+    alloc: Global,
+    disk: &mut D,
+    replica: ReplicaId,
+) -> Result<(Root, Root), InitError>
+    ensures root { IfOk result (λ roots. root_of roots.0.body ≡ record {
+        version = 1;
+        replica = replica;
+        stream_length = 0;
+        operations = 0;
+        tables = [];
+    }) }
+    ensures empty { IfOk result (λ roots. (roots.0.stream ≡ []) × (roots.0.pages ≡ [])
+        × (is_root roots.0.body ≡ true)) }
+    ensures left { D.tells disk.old → IfOk result
+        (λ roots. (c : List ℕ) → D.survives disk.new c → c ≡ new_file roots.0.body) }
+    ensures counts { D.tells disk.old → OnOk result (Counts D.DiskFacts 0 3 2 disk.old disk.new) }
+    ensures failed { D.tells disk.old → IfErr result
+        (λ e. D.failures disk.new ≡ D.failures disk.old + failures_of e) }
+    ensures tells { D.tells disk.new ↔ D.tells disk.old }
+{
+    check_empty(disk)?;
+    format(alloc, disk, replica)
+}
+
+impl<D: Disk> Store<D> {
+    /// Makes the file of a new store on a disk without bytes: two root slots, of which the first is
+    /// live and has no operations. Three writes and two syncs.
+    ///
+    /// Refuses with 48 where the file has bytes, then with 1 where a growth was refused, and with 50,
+    /// 51 or 52 where the device failed. The disk comes back either way. Before it answers Ok nothing
+    /// is promised of the file.
+    pub fn init(alloc: Global, disk: D, replica: ReplicaId) -> Result<Store<D>, InitFault<D>>
+        ensures root { IfOk result (λ store. root_of store.current.body ≡ record {
+            version = 1;
+            replica = replica;
+            stream_length = 0;
+            operations = 0;
+            tables = [];
+        }) }
+        ensures empty { IfOk result (λ store. store.current.stream ≡ []) }
+        ensures idle { IfOk result (λ store. (store.phase ≡ Idle) × (store.failed ≡ false)
+            × (store.stale ≡ false)) }
+        // A crash leaves a file that has that root.
+        ensures left { D.tells disk → IfOk result (λ store. (c : List ℕ)
+            → D.survives store.disk c → IsLeft store.phase store.current store.next c) }
+        ensures counts { D.tells disk
+            → IfOk result (λ store. Counts D.DiskFacts 0 3 2 disk store.disk) }
+        ensures failed { D.tells disk → IfErr result
+            (λ fault. D.failures fault.disk ≡ D.failures disk + failures_of fault.cause) }
+        ensures tells { IfOk result (λ store. D.tells store.disk ↔ D.tells disk) }
+        ensures tells_refused { IfErr result (λ fault. D.tells fault.disk ↔ D.tells disk) }
+    {
+        let mut disk = disk;
+        match begin_file(alloc, &mut disk, replica) {
+            Ok((current, next)) => Ok(Store {
+                disk,
+                phase: Phase::Idle,
+                current,
+                next,
+                slot: 0,
+                stale: false,
+                failed: false,
+                numbers: Vec::new(alloc),
+                fresh: Vec::new(alloc),
+            }),
+            Err(cause) => Err(InitFault { cause, disk }),
+        }
+    }
+}
