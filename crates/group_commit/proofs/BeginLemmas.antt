@@ -25,8 +25,10 @@ due_of held ops works idle some room =
     not_none : (ops : List Op) → 0 < length ops → is_none ops ≡ false
     not_none [] some = absurd (omega (arith, some))
     not_none (op ∷ ops) some = refl
+
     by_tests : Bool → Bool → Bool → Bool → Result (Option ℕ) StoreError → Result (Option ℕ) StoreError
     by_tests a b c d r = if a then Err Failed else if not b then Err Busy else if c then Ok None else if not d then Err Limit else r
+
     tested : (a b c d : Bool) (r : Result (Option ℕ) StoreError) → a ≡ false → b ≡ true → c ≡ false → d ≡ true → by_tests a b c d r ≡ r
     tested a b c d r w x y z = rw (w, x, y, z) refl
 

@@ -16,9 +16,11 @@ pages_of_first (n ∷ ns) b c f same =
     head_of : List (List ℕ) → List ℕ
     head_of [] = []
     head_of (x ∷ xs) = x
+
     rest_of : List (List ℕ) → List (List ℕ)
     rest_of [] = []
     rest_of (x ∷ xs) = xs
+
     cong2 : {p q : List ℕ} {ps qs : List (List ℕ)} → p ≡ q → ps ≡ qs → p ∷ ps ≡ q ∷ qs
     cong2 {p} {q} {ps} {qs} one rest = ap (λ x. x ∷ ps) one ∙ ap (λ xs. q ∷ xs) rest
 
@@ -72,7 +74,7 @@ and_second a b both = grind (arith, nat_tests)
 pub reading_of : (root : List ℕ) (tables data_pages : List (List ℕ)) (bytes : List ℕ) → stream_in root tables data_pages ≡ Ok bytes → Reading root tables data_pages bytes
 reading_of root tables data_pages bytes is =
     let it = by_tests (is_root root && are_whole tables) (are_tables root tables && are_whole data_pages)
-        (is_zero (drop (stream_length_of root) (joined data_pages))) (take (stream_length_of root) (joined data_pages)) bytes is in
+    (is_zero (drop (stream_length_of root) (joined data_pages))) (take (stream_length_of root) (joined data_pages)) bytes is in
     let shape = and_first (are_tables root tables) (are_whole data_pages) it.1 in
     record {
       is_body = and_first (is_root root) (are_whole tables) it.0;
@@ -86,9 +88,11 @@ reading_of root tables data_pages bytes is =
   where
     tested : Bool → Bool → Bool → List ℕ → Result (List ℕ) ℕ
     tested a b c all = if not a then Err 43 else if not b then Err 45 else if not c then Err 46 else Ok all
+
     or_none : List ℕ → Result (List ℕ) ℕ → List ℕ
     or_none none (Ok bytes) = bytes
     or_none none (Err n) = none
+
     by_tests : (a b c : Bool) (all bytes : List ℕ)
         → tested a b c all ≡ Ok bytes
         → (a ≡ true) × (b ≡ true) × (c ≡ true) × (all ≡ bytes)

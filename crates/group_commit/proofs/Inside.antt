@@ -29,6 +29,7 @@ whole-append (n ∷ ns) b file first second =
   where
     rest_whole : (p : List ℕ) (ps : List (List ℕ)) → are_whole (p ∷ ps) ≡ true → are_whole ps ≡ true
     rest_whole p ps whole = grind (arith, nat_tests)
+
     both : (p : List ℕ) (qs ps : List (List ℕ)) → are_whole (p ∷ ps) ≡ true → are_whole qs ≡ true → are_whole (p ∷ qs) ≡ true
     both p qs ps whole rest = grind (arith, nat_tests)
 
@@ -41,8 +42,10 @@ whole_each m (n ∷ ns) file whole is_there = elim (or_cases (m == n) (has m ns)
   where
     same : (m n : ℕ) → (m == n) ≡ true → m ≡ n
     same m n is = grind (arith, nat_tests)
+
     first_whole : (p : List ℕ) (ps : List (List ℕ)) → are_whole (p ∷ ps) ≡ true → length p ≡ 4096
     first_whole p ps whole = grind (arith, nat_tests)
+
     rest_whole : (p : List ℕ) (ps : List (List ℕ)) → are_whole (p ∷ ps) ≡ true → are_whole ps ≡ true
     rest_whole p ps whole = grind (arith, nat_tests)
 
@@ -68,16 +71,19 @@ module _ {D : Type 0} (facts : Ghosts D) where
         | inl later ↦
             let is_there = plan.lowest k (get_or numbers k 0 - 1) within (omega (arith, later)) (omega (arith, later)) in
             let page_inside = whole_inside (get_or numbers k 0 - 1) (facts.content held.disk)
-                (before (get_or numbers k 0 - 1) (facts.content held.disk) held.current within sound.room stood.keeps reads is_there) in
+            (before (get_or numbers k 0 - 1) (facts.content held.disk) held.current within sound.room stood.keeps reads is_there) in
             omega (arith, page_inside, above)
       ]
     where
       not_idle : (p : Phase) (k : ℕ) → p ≡ Pages k → p ≡ Idle → ⊥
       not_idle p k is idle = cc
+
       read_so : (p : Phase) → p ≡ Pages k → Reads p slot held.next numbers fresh (facts.content held.disk) → ReadAs k numbers fresh (facts.content held.disk)
       read_so p is reads = rw (is) at reads
+
       part_size : (i : ℕ) → i < length numbers → length fresh ≡ 4096 * length numbers → length (part fresh (4096 * i) 4096) ≡ 4096
       part_size i within room = omega (arith, length-take 4096 (drop (4096 * i) fresh), length-drop (4096 * i) fresh, room, within)
+
       before : (m : ℕ) (file : List ℕ) (current : Saved) → k < length numbers → length fresh ≡ 4096 * length numbers → HasPages current file → ReadAs k numbers fresh file
           → has m (take k numbers ++ current.pages) ≡ true → length (page m file) ≡ 4096
       before m file current within room has_pages reads is_there = elim (or_cases (has m (take k numbers)) (has m current.pages) (sym (has-append m (take k numbers) current.pages) ∙ is_there)) [

@@ -44,7 +44,7 @@ stands_new root next version replica valid size no_stream no_pages says =
     let filled : pages (named root.body []) file ≡ [] = ap (λ ns. pages ns file) none in
     let rest : is_zero (drop (data_count root.body) (entries [])) ≡ true = ap is_zero (drop_all (data_count root.body) [] (omega arith)) in
     let once : are_pages (tables_of root.body ++ named root.body []) ≡ true =
-        ap (λ ns. are_pages (ns ++ named root.body [])) tables ∙ ap are_pages none in
+    ap (λ ns. are_pages (ns ++ named root.body [])) tables ∙ ap are_pages none in
     let zeros : is_zero (drop (stream_length_of root.body) (joined [])) ≡ true = ap is_zero (drop_all (stream_length_of root.body) [] (omega arith)) in
     let same : take (stream_length_of root.body) (joined []) ≡ [] = take_all (stream_length_of root.body) [] (omega arith) in
     let slot : length (slot_page 1 root.body) ≡ 4096 = omega (arith, size) in
@@ -64,8 +64,9 @@ stands_new root next version replica valid size no_stream no_pages says =
     length-zeros : (n : ℕ) → length (replicate {A = ℕ} n 0) ≡ n
     length-zeros zero = refl
     length-zeros (suc n) = let rest = length-zeros n in omega (arith, rest)
+
     stale_shut : (bytes : List ℕ) → length (slot_page 1 bytes) ≡ 4096 → gate 1 (new_file bytes) ≢ 1
     stale_shut bytes slot is =
         let zero_there : gate 1 (new_file bytes) ≡ 0 =
-            ap (λ f. first_byte (take 1 f)) (drop_at (slot_page 1 bytes) (replicate 4096 0) 4096 slot) ∙ ap first_byte (take-replicate {X = ℕ} 1 4096 0 (omega arith)) in
+        ap (λ f. first_byte (take 1 f)) (drop_at (slot_page 1 bytes) (replicate 4096 0) 4096 slot) ∙ ap first_byte (take-replicate {X = ℕ} 1 4096 0 (omega arith)) in
         omega (arith, is, zero_there)

@@ -29,15 +29,17 @@ pub stream_there : (root : List ℕ) (tables data_pages : List (List ℕ)) → i
     → stream_in root tables data_pages ≡ Ok (take (stream_length_of root) (joined data_pages))
 stream_there root tables data_pages body whole rest apart whole_pages zeros =
     by_tests (is_root root && are_whole tables) (are_tables root tables && are_whole data_pages) (is_zero (drop (stream_length_of root) (joined data_pages)))
-        (take (stream_length_of root) (joined data_pages))
-        (both (is_root root) (are_whole tables) body whole)
-        (both (are_tables root tables) (are_whole data_pages) (both (is_zero (drop (data_count root) (entries tables))) (are_pages (tables_of root ++ named root tables)) rest apart) whole_pages)
-        zeros
+    (take (stream_length_of root) (joined data_pages))
+    (both (is_root root) (are_whole tables) body whole)
+    (both (are_tables root tables) (are_whole data_pages) (both (is_zero (drop (data_count root) (entries tables))) (are_pages (tables_of root ++ named root tables)) rest apart) whole_pages)
+    zeros
   where
     tested : Bool → Bool → Bool → List ℕ → Result (List ℕ) ℕ
     tested a b c all = if not a then Err 43 else if not b then Err 45 else if not c then Err 46 else Ok all
+
     by_tests : (a b c : Bool) (all : List ℕ) → a ≡ true → b ≡ true → c ≡ true → tested a b c all ≡ Ok all
     by_tests a b c all x y z = rw (x, y, z) refl
+
     both : (a b : Bool) → a ≡ true → b ≡ true → (a && b) ≡ true
     both a b x y = rw (x, y) refl
 
@@ -71,10 +73,6 @@ names_no_more p =
     let rest : drop (4 * 1) (table_page p) ≡ replicate 4092 0 = drop_at (number_bytes (p ∷ [])) (replicate 4092 0) 4 (length-number_bytes (p ∷ [])) in
     ap is_zero (drop-numbers 1 1024 (table_page p) (omega arith) ∙ ap (numbers 1023) rest) ∙ zero-numbers 1023 4092 (omega arith)
 
-
-
-
-
 whole_one : (bytes : List ℕ) → length bytes ≡ 4096 → are_whole (bytes ∷ []) ≡ true
 whole_one bytes size = by_test (length bytes == 4096) (Decides-eqb (length bytes) 4096).1 size
   where
@@ -90,22 +88,22 @@ stores_one root s p t file valid long tables some most below apart at_p at_t =
     let count : data_count root ≡ 1 = ap (pages_for 4096) long ∙ one_data_page (length s) some most in
     let only : entries (table_page p ∷ []) ≡ numbers 1024 (table_page p) = append-nil (numbers 1024 (table_page p)) in
     let is_named : named root (table_page p ∷ []) ≡ p ∷ [] =
-        ap (λ k. take k (entries (table_page p ∷ []))) count ∙ ap (take 1) only ∙ names_one p below in
+    ap (λ k. take k (entries (table_page p ∷ []))) count ∙ ap (take 1) only ∙ names_one p below in
     let filled : pages (named root (table_page p ∷ [])) file ≡ stream_page s ∷ [] = ap (λ ns. pages ns file) is_named ∙ ap (λ b. b ∷ []) at_p in
     let all : joined (stream_page s ∷ []) ≡ stream_page s = append-nil (stream_page s) in
     let rest : is_zero (drop (data_count root) (entries (table_page p ∷ []))) ≡ true =
-        ap (λ k. is_zero (drop k (entries (table_page p ∷ [])))) count ∙ ap (λ ns. is_zero (drop 1 ns)) only ∙ names_no_more p in
+    ap (λ k. is_zero (drop k (entries (table_page p ∷ [])))) count ∙ ap (λ ns. is_zero (drop 1 ns)) only ∙ names_no_more p in
     let once : are_pages (tables_of root ++ named root (table_page p ∷ [])) ≡ true =
-        ap (λ ns. are_pages (ns ++ named root (table_page p ∷ []))) tables ∙ ap (λ ns. are_pages (t ∷ ns)) is_named ∙ apart in
+    ap (λ ns. are_pages (ns ++ named root (table_page p ∷ []))) tables ∙ ap (λ ns. are_pages (t ∷ ns)) is_named ∙ apart in
     let zeros : is_zero (drop (stream_length_of root) (joined (stream_page s ∷ []))) ≡ true =
-        ap (λ k. is_zero (drop k (joined (stream_page s ∷ [])))) long ∙ ap (λ b. is_zero (drop (length s) b)) all
-        ∙ ap is_zero (drop_at s (replicate (4096 - length s) 0) (length s) refl) ∙ zero-replicate (4096 - length s) in
+    ap (λ k. is_zero (drop k (joined (stream_page s ∷ [])))) long ∙ ap (λ b. is_zero (drop (length s) b)) all
+    ∙ ap is_zero (drop_at s (replicate (4096 - length s) 0) (length s) refl) ∙ zero-replicate (4096 - length s) in
     let same : take (stream_length_of root) (joined (stream_page s ∷ [])) ≡ s =
-        ap (λ k. take k (joined (stream_page s ∷ []))) long ∙ ap (take (length s)) all ∙ take_at s (replicate (4096 - length s) 0) (length s) refl in
+    ap (λ k. take k (joined (stream_page s ∷ []))) long ∙ ap (take (length s)) all ∙ take_at s (replicate (4096 - length s) 0) (length s) refl in
     record {
       spells = ap (λ ts. stream_in root ts (pages (named root ts) file)) tabled ∙ ap (stream_in root (table_page p ∷ [])) filled
           ∙ stream_there root (table_page p ∷ []) (stream_page s ∷ []) valid (whole_one (table_page p) (length-table_page p)) rest once
-              (whole_one (stream_page s) (length-stream_page s most)) zeros
+          (whole_one (stream_page s) (length-stream_page s most)) zeros
           ∙ ap Ok same;
       reaches = ap (λ ts. tables_of root ++ named root ts) tabled ∙ ap (λ ns. ns ++ named root (table_page p ∷ [])) tables ∙ ap (λ ns. t ∷ ns) is_named;
     }
@@ -122,7 +120,7 @@ makes_one : (current next : Saved) (s : List ℕ) (more p t : ℕ) → IsRootOn 
     → are_pages (t ∷ p ∷ []) ≡ true → Makes current (p ∷ t ∷ []) (stream_page s ++ table_page p) next
 makes_one current next s more p t on some most below apart file keeps reads =
     let stores = stores_one next.body s p t file on.valid on.long on.tables some most below apart
-        (reads 0 (omega arith) ∙ page_first s p most) (reads 1 (omega arith) ∙ page_second s p most) in
+    (reads 0 (omega arith) ∙ page_first s p most) (reads 1 (omega arith) ∙ page_second s p most) in
     rw (on.bytes, on.pages) stores
 
 -- a root's body has 4,088 bytes
@@ -157,6 +155,7 @@ plan_of_one current next records more p t live first second below on some most =
         place_of : Phase → ℕ
         place_of (Pages k) = k
         place_of other = 0
+
     both_free : (p t : ℕ) (live : List ℕ) → are_pages live ≡ true → IsLowestFree live p → IsLowestFree (p ∷ live) t → are_pages ((p ∷ t ∷ []) ++ live) ≡ true
     both_free p t live apart first second =
         let other = lacks_head t p live second.free in
@@ -165,12 +164,14 @@ plan_of_one current next records more p t live first second below on some most =
         let above = second.behind in
         let free = first.free in
         grind (arith, nat_tests)
+
     two_apart : (p t : ℕ) (live : List ℕ) → IsLowestFree live p → IsLowestFree (p ∷ live) t → are_pages (t ∷ p ∷ []) ≡ true
     two_apart p t live first second =
         let other = lacks_head t p live second.free in
         let behind = first.behind in
         let above = second.behind in
         grind (arith, nat_tests)
+
     lowest_of : (p t : ℕ) (live : List ℕ) → IsLowestFree live p → IsLowestFree (p ∷ live) t → AreLowest live (p ∷ t ∷ [])
     lowest_of p t live first second zero m within behind under = first.lowest m behind under
     lowest_of p t live first second (suc zero) m within behind under = second.lowest m behind under
@@ -182,7 +183,7 @@ pub pages_made : (s a b c d : List ℕ) (p : ℕ) → length s ≤ 4096 → a �
 pages_made s a b c d p most is_a is_b is_c is_d =
     let same_a : a ≡ s = is_a ∙ append-nil s in
     let same_b : b ≡ stream_page s = is_b ∙ ap (λ x. take 4096 x ++ replicate (4096 - length x) 0) same_a
-        ∙ ap (λ x. x ++ replicate (4096 - length s) 0) (take_all 4096 s most) in
+    ∙ ap (λ x. x ++ replicate (4096 - length s) 0) (take_all 4096 s most) in
     let size_b : length b ≡ 4096 = ap length same_b ∙ length-stream_page s most in
     let size_c : length c ≡ 4100 = ap length is_c ∙ omega (arith, length-append b (number_bytes (p ∷ [])), size_b, length-number_bytes (p ∷ [])) in
     let left : 8192 - length c ≡ 4092 = omega (arith, size_c) in

@@ -36,7 +36,12 @@ module _ {D : Type 0} (facts : Ghosts D) where
   plan_at : (phase phase' : Phase) (current next : Saved) (numbers fresh : List ℕ) → IsPlan phase current next numbers fresh
       → ((k : ℕ) → phase' ≡ Pages k → k < length numbers) → IsPlan phase' current next numbers fresh
   plan_at phase phase' current next numbers fresh plan under_way = record {
-    newer = plan.newer; size = plan.size; free = plan.free; lowest = plan.lowest; under_way = under_way; makes = plan.makes;
+    newer = plan.newer;
+    size = plan.size;
+    free = plan.free;
+    lowest = plan.lowest;
+    under_way = under_way;
+    makes = plan.makes;
   }
 
   with_phase : (held : Held D) (slot : ℕ) (numbers fresh : List ℕ) (p : Phase) → held.phase ≡ p → IsSound facts held slot numbers fresh
@@ -70,12 +75,12 @@ module _ {D : Type 0} (facts : Ghosts D) where
             let old = told tells in
             let size : length (part fresh (4096 * k) 4096) ≡ 4096 = part_size fresh k (length numbers) sound.room within in
             let there : page (get_or numbers k 0) (facts.content new) ≡ part fresh (4096 * k) 4096 =
-                ap (page (get_or numbers k 0)) (written old)
-                ∙ part_written (facts.content held.disk) (4096 * get_or numbers k 0) 4096 (part fresh (4096 * k) 4096) (inside old) size in
+            ap (page (get_or numbers k 0)) (written old)
+            ∙ part_written (facts.content held.disk) (4096 * get_or numbers k 0) 4096 (part fresh (4096 * k) 4096) (inside old) size in
             let torn = (tears old).reads in
             let now = reads_page k numbers fresh (facts.content held.disk) (facts.content new) apart within torn there (s.reads old works) in
             let stood = stands_page k (k + 1) slot held.stale held.current held.next (facts.content held.disk) (facts.content new) (get_or numbers k 0) sound.slots above lacks torn
-                (s.stands old (facts.content held.disk) (lawful old).reads_survive) in
+            (s.stands old (facts.content held.disk) (lawful old).reads_survive) in
             reads_at (k + 1) held.new_pages slot held.stale held.next numbers fresh (facts.content new) count (omega (arith, within)) now stood.stale_slot.1.closed;
       }
     where
@@ -85,10 +90,12 @@ module _ {D : Type 0} (facts : Ghosts D) where
           place_of : Phase → ℕ
           place_of (Pages k) = k
           place_of other = 0
+
           by_test : (t stale : Bool) → (t ≡ true → k < n) → (if t then Pages k else if stale then Close else Sync1) ≡ Pages j → j < m
           by_test true stale below is = let same : k ≡ j = ap place_of is in omega (arith, same, count, below refl)
           by_test false true below is = absurd cc
           by_test false false below is = absurd cc
+
       stands_behind : (k n slot : ℕ) (stale : Bool) (current next : Saved) (c : List ℕ) → Stands (Pages k) slot stale current next c
           → Stands (behind_pages k n stale) slot stale current next c
       stands_behind k n slot stale current next c stood = by_test (nat_lt k n) stale stood
@@ -98,8 +105,10 @@ module _ {D : Type 0} (facts : Ghosts D) where
           by_test true stale stood = stood
           by_test false true stood = stands_to_close k slot current next c stood
           by_test false false stood = stands_to_sync k slot false current next c stood
+
       part_size : (fresh : List ℕ) (k n : ℕ) → length fresh ≡ 4096 * n → k < n → length (part fresh (4096 * k) 4096) ≡ 4096
       part_size fresh k n room within = omega (arith, length-take 4096 (drop (4096 * k) fresh), length-drop (4096 * k) fresh, room, within)
+
       reads_at : (k n slot : ℕ) (stale : Bool) (next : Saved) (numbers fresh file : List ℕ) → n ≡ length numbers → k ≤ length numbers → ReadAs k numbers fresh file
           → (stale ≡ false → gate (1 - slot) file ≢ 1) → Reads (behind_pages k n stale) slot next numbers fresh file
       reads_at k n slot stale next numbers fresh file count within reads shut = by_test (nat_lt k n) stale (ltb-false k n) shut
@@ -151,9 +160,10 @@ module _ {D : Type 0} (facts : Ghosts D) where
             let old = told tells in
             let stood = s.stands old (facts.content held.disk) (lawful old).reads_survive in
             let is : gate (1 - slot) (facts.content new) ≡ 0 = ap (gate (1 - slot)) (written old ok)
-                ∙ gate_written (facts.content held.disk) (1 - slot) 0 (omega (arith, stood.whole)) in
-            (reads_behind (4096 * (1 - slot)) 1 numbers fresh (facts.content held.disk) (facts.content new) apart (tears old).reads (omega arith) (s.reads old works),
-             λ same. absurd (omega (arith, is, same)));
+            ∙ gate_written (facts.content held.disk) (1 - slot) 0 (omega (arith, stood.whole)) in (
+              reads_behind (4096 * (1 - slot)) 1 numbers fresh (facts.content held.disk) (facts.content new) apart (tears old).reads (omega arith) (s.reads old works),
+              λ same. absurd (omega (arith, is, same)),
+            );
       }
 
   -- the new pages and the closed gate are settled

@@ -43,22 +43,33 @@ stands_page k k' slot stale current next d c m below above lacks torn s =
       is_open = here.gates ∙ s.is_open;
       holds = here.bodies ∙ s.holds;
       keeps = keeps_other current d c m torn lacks s.keeps;
-      stale_slot = (older_same slot current d c there s.stale_slot.0, record {
-        opened = λ is. there.gates ∙ s.stale_slot.1.opened is;
-        closed = λ is same. s.stale_slot.1.closed is (sym there.gates ∙ same);
-      });
+      stale_slot = (
+        older_same slot current d c there s.stale_slot.0,
+        record {
+          opened = λ is. there.gates ∙ s.stale_slot.1.opened is;
+          closed = λ is same. s.stale_slot.1.closed is (sym there.gates ∙ same);
+        },
+      );
     }
 
 -- all pages are written: the stale gate is to be closed, or needn't be
 pub stands_to_close : (k slot : ℕ) (current next : Saved) (c : List ℕ) → Stands (Pages k) slot true current next c → Stands Close slot true current next c
 stands_to_close k slot current next c s = record {
-  whole = s.whole; is_open = s.is_open; holds = s.holds; keeps = s.keeps; stale_slot = (s.stale_slot.0, s.stale_slot.1.opened refl);
+  whole = s.whole;
+  is_open = s.is_open;
+  holds = s.holds;
+  keeps = s.keeps;
+  stale_slot = (s.stale_slot.0, s.stale_slot.1.opened refl);
 }
 
 pub stands_to_sync : (k slot : ℕ) (stale : Bool) (current next : Saved) (c : List ℕ) → Stands (Pages k) slot stale current next c
     → Stands Sync1 slot stale current next c
 stands_to_sync k slot stale current next c s = record {
-  whole = s.whole; is_open = s.is_open; holds = s.holds; keeps = s.keeps; stale_slot = s.stale_slot.0;
+  whole = s.whole;
+  is_open = s.is_open;
+  holds = s.holds;
+  keeps = s.keeps;
+  stale_slot = s.stale_slot.0;
 }
 
 -- the stale gate is closed, or torn
@@ -78,7 +89,11 @@ stands_close slot stale current next d c below torn s =
 pub stands_sync1 : (slot : ℕ) (stale : Bool) (current next : Saved) (numbers fresh : List ℕ) (file : List ℕ) → Makes current numbers fresh next
     → Reads Sync1 slot next numbers fresh file → Stands Sync1 slot stale current next file → Stands Body slot stale current next file
 stands_sync1 slot stale current next numbers fresh file makes reads s = record {
-  whole = s.whole; is_open = s.is_open; holds = s.holds; keeps = s.keeps; stale_slot = (reads.1, makes file s.keeps reads.0);
+  whole = s.whole;
+  is_open = s.is_open;
+  holds = s.holds;
+  keeps = s.keeps;
+  stale_slot = (reads.1, makes file s.keeps reads.0);
 }
 
 -- the body is written, or torn
@@ -91,15 +106,21 @@ stands_body slot stale current next d c below torn s =
       is_open = here.gates ∙ s.is_open;
       holds = here.bodies ∙ s.holds;
       keeps = keeps_behind current d c (4096 * (1 - slot) + 8) 4088 torn (omega arith) s.keeps;
-      stale_slot = (λ is. s.stale_slot.0 (sym (gate_before_body d c (1 - slot) torn) ∙ is),
-          keeps_behind next d c (4096 * (1 - slot) + 8) 4088 torn (omega arith) s.stale_slot.1);
+      stale_slot = (
+        λ is. s.stale_slot.0 (sym (gate_before_body d c (1 - slot) torn) ∙ is),
+        keeps_behind next d c (4096 * (1 - slot) + 8) 4088 torn (omega arith) s.stale_slot.1,
+      );
     }
 
 -- the body is settled
 pub stands_sync2 : (slot : ℕ) (stale : Bool) (current next : Saved) (file : List ℕ) → body (1 - slot) file ≡ next.body
     → Stands Sync2 slot stale current next file → Stands Gate slot stale current next file
 stands_sync2 slot stale current next file written s = record {
-  whole = s.whole; is_open = s.is_open; holds = s.holds; keeps = s.keeps; stale_slot = (s.stale_slot.0, s.stale_slot.1, written);
+  whole = s.whole;
+  is_open = s.is_open;
+  holds = s.holds;
+  keeps = s.keeps;
+  stale_slot = (s.stale_slot.0, s.stale_slot.1, written);
 }
 
 -- the gate is written, or torn
@@ -112,8 +133,10 @@ stands_gate slot stale current next d c below torn s =
       is_open = here.gates ∙ s.is_open;
       holds = here.bodies ∙ s.holds;
       keeps = keeps_behind current d c (4096 * (1 - slot)) 1 torn (omega arith) s.keeps;
-      stale_slot = (keeps_behind next d c (4096 * (1 - slot)) 1 torn (omega arith) s.stale_slot.1,
-          body_behind_gate d c (1 - slot) torn ∙ s.stale_slot.2);
+      stale_slot = (
+        keeps_behind next d c (4096 * (1 - slot)) 1 torn (omega arith) s.stale_slot.1,
+        body_behind_gate d c (1 - slot) torn ∙ s.stale_slot.2,
+      );
     }
 
 -- the gate is settled: the slots change places
@@ -126,10 +149,13 @@ stands_sync3 slot stale current next other file below newer is s =
       is_open = is;
       holds = s.stale_slot.1;
       keeps = s.stale_slot.0;
-      stale_slot = (λ too. rw (back, s.holds) newer, record {
-        opened = λ yes. rw (back) s.is_open;
-        closed = λ no. absurd cc;
-      });
+      stale_slot = (
+        λ too. rw (back, s.holds) newer,
+        record {
+          opened = λ yes. rw (back) s.is_open;
+          closed = λ no. absurd cc;
+        },
+      );
     }
 
 -- the image of a file whose live slot is this

@@ -9,11 +9,7 @@ use crate::error::StoreError;
 use disk_trait::Disk;
 
 /// Writes `bytes` at an offset in the file or at its end. It is refused only where the device failed (51).
-pub(crate) fn write_inside<D: Disk>(
-    disk: &mut D,
-    at: u64,
-    bytes: &[u8],
-) -> Result<(), StoreError>
+pub(crate) fn write_inside<D: Disk>(disk: &mut D, at: u64, bytes: &[u8]) -> Result<(), StoreError>
     requires inside { D.tells disk.old → at ≤ length (D.content disk.old) }
     ensures written { D.tells disk.old → OnOk result
         (D.content disk.new ≡ overwritten (D.content disk.old) at bytes.now) }

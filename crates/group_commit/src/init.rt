@@ -123,11 +123,11 @@ fn make_file<D: Disk>(alloc: Global, disk: &mut D, body: &[u8]) -> Result<(), In
 // memory (1).
 fn empty_roots(alloc: Global, replica: ReplicaId) -> Result<(Root, Root), AllocError>
     ensures root { IfOk result (λ roots. root_of roots.0.body ≡ record {
-        version = 1;
-        replica = replica;
-        stream_length = 0;
-        operations = 0;
-        tables = [];
+      version = 1;
+      replica = replica;
+      stream_length = 0;
+      operations = 0;
+      tables = [];
     }) }
     ensures empty { IfOk result (λ roots. (roots.0.stream ≡ []) × (roots.0.pages ≡ [])
         × (is_root roots.0.body ≡ true)) }
@@ -138,14 +138,18 @@ fn empty_roots(alloc: Global, replica: ReplicaId) -> Result<(Root, Root), AllocE
 }
 
 // Makes the file of a disk without bytes, and gives the roots of its store.
-fn format<D: Disk>(alloc: Global, disk: &mut D, replica: ReplicaId) -> Result<(Root, Root), InitError>
+fn format<D: Disk>(
+    alloc: Global,
+    disk: &mut D,
+    replica: ReplicaId,
+) -> Result<(Root, Root), InitError>
     requires empty { D.tells disk.old → D.content disk.old ≡ [] }
     ensures root { IfOk result (λ roots. root_of roots.0.body ≡ record {
-        version = 1;
-        replica = replica;
-        stream_length = 0;
-        operations = 0;
-        tables = [];
+      version = 1;
+      replica = replica;
+      stream_length = 0;
+      operations = 0;
+      tables = [];
     }) }
     ensures empty { IfOk result (λ roots. (roots.0.stream ≡ []) × (roots.0.pages ≡ [])
         × (is_root roots.0.body ≡ true)) }
@@ -170,11 +174,11 @@ fn begin_file<D: Disk>(
     replica: ReplicaId,
 ) -> Result<(Root, Root), InitError>
     ensures root { IfOk result (λ roots. root_of roots.0.body ≡ record {
-        version = 1;
-        replica = replica;
-        stream_length = 0;
-        operations = 0;
-        tables = [];
+      version = 1;
+      replica = replica;
+      stream_length = 0;
+      operations = 0;
+      tables = [];
     }) }
     ensures empty { IfOk result (λ roots. (roots.0.stream ≡ []) × (roots.0.pages ≡ [])
         × (is_root roots.0.body ≡ true)) }
@@ -198,11 +202,11 @@ impl<D: Disk> Store<D> {
     /// is promised of the file.
     pub fn init(alloc: Global, disk: D, replica: ReplicaId) -> Result<Store<D>, InitFault<D>>
         ensures root { IfOk result (λ store. root_of store.current.body ≡ record {
-            version = 1;
-            replica = replica;
-            stream_length = 0;
-            operations = 0;
-            tables = [];
+          version = 1;
+          replica = replica;
+          stream_length = 0;
+          operations = 0;
+          tables = [];
         }) }
         ensures empty { IfOk result (λ store. store.current.stream ≡ []) }
         ensures idle { IfOk result (λ store. (store.phase ≡ Idle) × (store.failed ≡ false)

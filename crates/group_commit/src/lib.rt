@@ -16,3 +16,6 @@ pub use error::StoreError;
 pub use init_fault::{InitError, InitFault};
 pub use phase::Phase;
 pub use store::Store;
+
+#[cfg(test)]
+mod tests;

@@ -105,7 +105,13 @@ fn root_on(
     pages.push_reserved(page);
     let version = current.version() + 1;
     let count = current.count() + more;
-    match RootBody::new(version, current.replica(), stream.len() as u64, count, tables) {
+    match RootBody::new(
+        version,
+        current.replica(),
+        stream.len() as u64,
+        count,
+        tables,
+    ) {
         Some(head) => Root::new(alloc, head, stream, pages),
         None => unreachable!(),
     }

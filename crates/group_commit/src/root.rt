@@ -30,9 +30,9 @@ impl Model for Root {
     ghost view = { λ r. record { body = r.body.items; stream = r.stream.items; pages = r.pages.items } };
 
     ghost invariant = { λ r. IsSaved r.head (record {
-        body = r.body.items;
-        stream = r.stream.items;
-        pages = r.pages.items;
+      body = r.body.items;
+      stream = r.stream.items;
+      pages = r.pages.items;
     }) };
 }
 
@@ -68,11 +68,11 @@ impl Root {
         ensures pages { IfOk result (λ root. root.pages ≡ []) }
         ensures valid { IfOk result (λ root. is_root root.body ≡ true) }
         ensures says { IfOk result (λ root. root_of root.body ≡ record {
-            version = 1;
-            replica = replica;
-            stream_length = 0;
-            operations = 0;
-            tables = [];
+          version = 1;
+          replica = replica;
+          stream_length = 0;
+          operations = 0;
+          tables = [];
         }) }
     {
         match RootBody::new(1, replica, 0, 0, Vec::new(alloc)) {

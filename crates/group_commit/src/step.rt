@@ -186,7 +186,7 @@ impl<D: Disk> Store<D> {
         // One device call, after which the commit goes on or the store has failed.
         ensures call { self.old.failed ≡ false → self.old.phase ≢ Idle
             → IsDeviceCall D.DiskFacts (writes_in self.old.phase) (syncs_in self.old.phase)
-                (error_in self.old.phase) result self.old self.new }
+            (error_in self.old.phase) result self.old self.new }
         ensures went_on { self.old.failed ≡ false
             → OnOk result (self.new ≡ gone_on self.old.phase self.old self.new.disk) }
         ensures failed { self.old.failed ≡ false

@@ -28,22 +28,22 @@ impl<D: Disk> Model for Store<D> {
     ghost Value = { Held D };
 
     ghost view = { λ s. record {
-        disk = s.disk;
-        phase = s.phase;
-        current = s.current;
-        next = s.next;
-        new_pages = length s.numbers.items;
-        stale = s.stale;
-        failed = s.failed;
+      disk = s.disk;
+      phase = s.phase;
+      current = s.current;
+      next = s.next;
+      new_pages = length s.numbers.items;
+      stale = s.stale;
+      failed = s.failed;
     } };
 
     ghost invariant = { λ s. IsSound D.DiskFacts (record {
-        disk = s.disk;
-        phase = s.phase;
-        current = s.current;
-        next = s.next;
-        new_pages = length s.numbers.items;
-        stale = s.stale;
-        failed = s.failed;
+      disk = s.disk;
+      phase = s.phase;
+      current = s.current;
+      next = s.next;
+      new_pages = length s.numbers.items;
+      stale = s.stale;
+      failed = s.failed;
     }) s.slot s.numbers.items s.fresh.items };
 }

@@ -15,12 +15,12 @@ in_range n k near few = omega (arith, near, few)
 pub returns : goal.returns
 returns c =
     let whole : c.in_ok-stream.stream.items ≡ c.args.current.now.stream ++ c.args.records.now =
-        c.in_ok-stream.ensures ∙ ap (λ f. f ++ c.args.records.now) c.stream.ensures.bytes in
+    c.in_ok-stream.ensures ∙ ap (λ f. f ++ c.args.records.now) c.stream.ensures.bytes in
     let numbers : c.push_reserved-2.new.self.items ≡ c.lowest_free-page.result ∷ c.in_ok-table.table ∷ [] =
-        c.push_reserved-2.ensures.items ∙ ap (λ ns. ns ++ c.in_ok-table.table ∷ []) (c.push_reserved.ensures.items ∙ ap (λ ns. ns ++ c.lowest_free-page.result ∷ []) c.in_ok-numbers.ensures.items) in
+    c.push_reserved-2.ensures.items ∙ ap (λ ns. ns ++ c.in_ok-table.table ∷ []) (c.push_reserved.ensures.items ∙ ap (λ ns. ns ++ c.lowest_free-page.result ∷ []) c.in_ok-numbers.ensures.items) in
     let fresh : c.in_ok-fresh.fresh.items ≡ stream_page (c.args.current.now.stream ++ c.args.records.now) ++ table_page c.lowest_free-page.result =
-        c.in_ok-fresh.ensures ∙ ap (λ s. stream_page s ++ table_page c.lowest_free-page.result) (c.deref.ensures.value ∙ whole) in
+    c.in_ok-fresh.ensures ∙ ap (λ s. stream_page s ++ table_page c.lowest_free-page.result) (c.deref.ensures.value ∙ whole) in
     rw (numbers, fresh) (plan_of_one c.args.current.now c.in_ok-next.next c.args.records.now c.args.more c.lowest_free-page.result c.in_ok-table.table
-        (rw (c.pages.ensures.numbers) at c.pages.ensures.apart) (rw (c.pages.ensures.numbers) at c.lowest_free-page.ensures.lowest)
-        (rw (c.pages-2.ensures.numbers) at c.in_ok-table.ensures) (in_range _ _ c.lowest_free-page.ensures.near c.pages.ensures.few) (rw (whole) at c.in_ok-next.ensures)
-        (some_in_all c.args.current.now.stream c.args.records.now c.requires.some) (fits_in_all c.args.current.now.stream c.args.records.now c.requires.room))
+    (rw (c.pages.ensures.numbers) at c.pages.ensures.apart) (rw (c.pages.ensures.numbers) at c.lowest_free-page.ensures.lowest)
+    (rw (c.pages-2.ensures.numbers) at c.in_ok-table.ensures) (in_range _ _ c.lowest_free-page.ensures.near c.pages.ensures.few) (rw (whole) at c.in_ok-next.ensures)
+    (some_in_all c.args.current.now.stream c.args.records.now c.requires.some) (fits_in_all c.args.current.now.stream c.args.records.now c.requires.room))

@@ -27,7 +27,7 @@ counted : (v : Vec ℕ Global) → vec_len v ≡ length v.items
 counted v = search rules
 
 pub number_at-requires : goal.number_at-requires
-number_at-requires g c = record { within = rw (c.deref.ensures.value) ((c.self.invariant.plan (not_idle _ (ap (λ h. h.phase) c.self.view_is ∙ c.requires.phase))).under_way c.args.k (ap (λ h. h.phase) c.self.view_is ∙ c.requires.phase)); }
+number_at-requires g c = record { within = rw (c.deref.ensures.value) ((c.self.invariant.plan (not_idle _ (ap (λ h. h.phase) c.self.view_is ∙ c.requires.phase))).under_way c.args.k (ap (λ h. h.phase) c.self.view_is ∙ c.requires.phase)) }
 
 pub bytes_at-requires : goal.bytes_at-requires
 bytes_at-requires g c = record {
@@ -55,8 +55,8 @@ invariant_of-self-2 g c =
     (sound_page g.D.DiskFacts _ c.self.inside.slot _ _ c.args.k c.write_inside.new.disk c.self.invariant (ap (λ h. h.phase) c.self.view_is ∙ c.requires.phase) (λ told. g.met.D.Disk.lawful c.self.inside.disk told)
     c.in_default.ensures.tells.0 (λ told. torn_at _ _ _ _ (ap (λ n. 4096 * n) (c.number_at.ensures ∙ ap (λ v. get_or v c.args.k 0) c.deref.ensures.value)) c.bytes_at.ensures.whole (c.in_default.ensures.torn told))
     (λ told. c.in_default.ensures.written told
-        ∙ ap (λ n. overwritten (g.D.DiskFacts.content c.self.inside.disk) (4096 * n) c.bytes_at.result.now) (c.number_at.ensures ∙ ap (λ v. get_or v c.args.k 0) c.deref.ensures.value)
-        ∙ ap (overwritten (g.D.DiskFacts.content c.self.inside.disk) _) (c.bytes_at.ensures.bytes ∙ ap (λ v. part v (4096 * c.args.k) 4096) c.deref-2.ensures.value))
+    ∙ ap (λ n. overwritten (g.D.DiskFacts.content c.self.inside.disk) (4096 * n) c.bytes_at.result.now) (c.number_at.ensures ∙ ap (λ v. get_or v c.args.k 0) c.deref.ensures.value)
+    ∙ ap (overwritten (g.D.DiskFacts.content c.self.inside.disk) _) (c.bytes_at.ensures.bytes ∙ ap (λ v. part v (4096 * c.args.k) 4096) c.deref-2.ensures.value))
     (λ told. inside_page g.D.DiskFacts _ c.self.inside.slot _ _ c.args.k c.self.invariant (ap (λ h. h.phase) c.self.view_is ∙ c.requires.phase) told (λ told. g.met.D.Disk.lawful c.self.inside.disk told) (ap (λ h. h.failed) c.self.view_is ∙ c.requires.works))
     refl (ap (λ h. h.failed) c.self.view_is ∙ c.requires.works))
 

@@ -1,0 +1,86 @@
+-- What a command line asks for.
+use Rattle.std.specs.Prelude.{ℕ, ◌^◌, Bool, ◌&&◌, ◌==◌, nat_lt, List, map, length, Option, Some, None, option_map, option_and_then, codes, if◌then◌else◌}
+use Rattle.std.specs.Int.{w128, from_be_bytes}
+use Rattle.std.specs.List.{list_all}
+use Rattle.std.specs.Char.{is_ascii_digit}
+use Rattle.std.specs.Str.{bytes_eq}
+use Rattle.std.specs.Str.Parse.{digits_value}
+use Rattle.uuid.specs.Text.{parsed}
+use Rattle.std.specs.Borrow.{Bor}
+use Rattle.clap.specs.Walk.{Row, first_of}
+use Rattle.clap.specs.Simple.{subcommand_of}
+use Rattle.edit_shell.specs.Program.{program}
+use Rattle.edit_shell.specs.declared.order.Order.{Order}
+use Rattle.edit_shell.specs.declared.order.Order.TheVariants as order
+
+-- a session in memory, a new store of a replica, a session over a store, or a document of a store
+pub data Asked : Type 0 where
+  in_memory : Asked
+  init : List ℕ → ℕ → Asked
+  edit : List ℕ → Asked
+  dump : List ℕ → ℕ → Asked
+
+-- what an order asks for
+abbrev pub meant : Order → Asked
+meant order.InMemory = in_memory
+meant (order.Init file replica) = init file.now replica
+meant (order.Edit file) = edit file.now
+meant (order.Dump file doc) = dump file.now doc
+
+-- a number above 0
+abbrev pub above_zero : ℕ → Option ℕ
+above_zero n = if n == 0 then None else Some n
+
+-- decimal digits, and nothing else
+abbrev pub is_decimal : List ℕ → Bool
+is_decimal text = nat_lt 0 (length text) && list_all is_ascii_digit text
+
+-- a number in decimal digits, up to 2^32 - 1
+abbrev pub number_of : List ℕ → Option ℕ
+number_of text =
+    if is_decimal text && nat_lt (digits_value 10 text) (2 ^ 32) then Some (digits_value 10 text) else None
+
+-- the number of a document in decimal digits, from 1 to 2^32 - 1
+abbrev pub doc_of : List ℕ → Option ℕ
+doc_of text = option_and_then above_zero (number_of text)
+
+-- the replica that a UUID names, in any of its text forms but nil
+abbrev pub replica_of : List ℕ → Option ℕ
+replica_of text = option_and_then (λ bytes. above_zero (from_be_bytes w128 bytes)) (parsed text)
+
+-- an `init` with the values of its arguments
+abbrev pub init_of : List Row → Option Asked
+init_of rows =
+    option_and_then (λ file. option_map (init file) (option_and_then replica_of (first_of (codes "UUID") rows)))
+    (first_of (codes "FILE") rows)
+
+-- an `edit` with the value of its argument
+abbrev pub edit_of : List Row → Option Asked
+edit_of rows = option_map edit (first_of (codes "FILE") rows)
+
+-- a `dump` with the values of its arguments
+abbrev pub dump_of : List Row → Option Asked
+dump_of rows =
+    option_and_then (λ file. option_map (dump file) (option_and_then doc_of (first_of (codes "DOC") rows)))
+    (first_of (codes "FILE") rows)
+
+-- the command of this name, with the values of its arguments
+abbrev pub asked_of : List ℕ → List Row → Option Asked
+asked_of name rows =
+    if bytes_eq name (codes "init") then init_of rows
+    else if bytes_eq name (codes "edit") then edit_of rows
+    else if bytes_eq name (codes "dump") then dump_of rows
+    else None
+
+-- what a command asks for, and no command: a session in memory
+abbrev pub asked_by : Option (List ℕ × List Row) → Option Asked
+asked_by None = Some in_memory
+asked_by (Some command) = asked_of command.0 command.1
+
+-- the words of a command line
+abbrev pub texts : List (Bor (List ℕ)) → List (List ℕ)
+texts words = map (λ word. word.now) words
+
+-- what the words of a command line ask for, of which the first is the program's name; none where a value breaks its rule
+abbrev pub asked : List (List ℕ) → Option Asked
+asked words = asked_by (subcommand_of program words)

@@ -1,0 +1,27 @@
+-- The commands of the program, as `clap` reads them.
+use Rattle.std.specs.Prelude.{List, ℕ, true, Some, codes}
+use Rattle.clap.specs.Walk.{Rule}
+use Rattle.clap.specs.Simple.{App, new_app, new_rule, with_rule, with_subcommand}
+
+-- an argument that has to be given
+abbrev pub needed : List ℕ → Rule
+needed id = record (new_rule id) { required = true }
+
+-- `init FILE --replica UUID`
+abbrev pub init_app : App
+init_app =
+    with_rule (with_rule (new_app (codes "init")) (needed (codes "FILE")))
+    (record (needed (codes "UUID")) { long = Some (codes "replica") })
+
+-- `edit FILE`
+abbrev pub edit_app : App
+edit_app = with_rule (new_app (codes "edit")) (needed (codes "FILE"))
+
+-- `dump FILE DOC`
+abbrev pub dump_app : App
+dump_app = with_rule (with_rule (new_app (codes "dump")) (needed (codes "FILE"))) (needed (codes "DOC"))
+
+-- all commands of the program
+abbrev pub program : App
+program =
+    with_subcommand (with_subcommand (with_subcommand (new_app (codes "peritext")) init_app.top) edit_app.top) dump_app.top

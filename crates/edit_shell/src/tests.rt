@@ -1,0 +1,82 @@
+use crate::command_line::order;
+use crate::{Order, OrderFault};
+use op_ids::ReplicaId;
+use std::process::Abort;
+use std::test::Fail;
+
+#[test]
+fn no_words_ask_for_a_session_in_memory(rt: HostRuntime) {
+    let found = order(rt.alloc(), &["peritext"]);
+    assert!(rt; matches!(found, Ok(Order::InMemory)));
+}
+
+#[test]
+fn an_init_names_a_file_and_a_replica(rt: HostRuntime) -> Result<(), Fail> {
+    let words = [
+        "peritext",
+        "init",
+        "a store",
+        "--replica",
+        "{00000000-0000-4000-8000-0000000000C1}",
+    ];
+    let bytes = [0, 0, 0, 0, 0, 0, 0x40, 0, 0x80, 0, 0, 0, 0, 0, 0, 0xc1];
+    let replica = ReplicaId::read(bytes).ok_or("nil")?;
+    let asked = Order::Init {
+        file: "a store",
+        replica,
+    };
+    match order(rt.alloc(), words.as_slice()) {
+        Ok(found) => assert!(rt; found == asked),
+        Err(fault) => assert!(rt; false, "{fault}"),
+    }
+    Ok(())
+}
+
+#[test]
+fn an_edit_names_a_file(rt: HostRuntime) {
+    let found = order(rt.alloc(), &["peritext", "edit", "store"]);
+    assert!(rt; matches!(found, Ok(Order::Edit { file: "store" })));
+}
+
+#[test]
+fn a_dump_names_a_file_and_a_document(rt: HostRuntime) {
+    for (text, number) in [("1", 1), ("4294967295", 4_294_967_295), ("007", 7)] {
+        let words = ["peritext", "dump", "store", text];
+        match order(rt.alloc(), words.as_slice()) {
+            Ok(Order::Dump { file, doc }) => assert!(rt; file == "store" && doc == number),
+            _ => assert!(rt; false, "{text}"),
+        }
+    }
+}
+
+#[test]
+fn bad_numbers_and_ids_are_refused(rt: HostRuntime) {
+    let alloc = rt.alloc();
+    for text in ["0", "4294967296", "1x", "1.0", "+1", " 1", ""] {
+        let words = ["peritext", "dump", "store", text];
+        let found = order(alloc, words.as_slice());
+        assert!(rt; matches!(found, Err(OrderFault::Field)), "{text}");
+    }
+    for text in ["00000000-0000-0000-0000-000000000000", "c1", ""] {
+        let words = ["peritext", "init", "store", "--replica", text];
+        let found = order(alloc, words.as_slice());
+        assert!(rt; matches!(found, Err(OrderFault::Field)), "{text}");
+    }
+}
+
+fn ends_with<'a>(rt: &(impl Abort + AllocGlobal), words: &'a [&'a str], status: i32) {
+    match order(rt.alloc(), words) {
+        Err(OrderFault::Usage(error)) => assert!(rt; error.exit_code() == status, "{words:?}"),
+        _ => assert!(rt; false, "{words:?}"),
+    }
+}
+
+#[test]
+fn other_words_are_refused(rt: HostRuntime) {
+    ends_with(&rt, &["peritext", "fly"], 2);
+    ends_with(&rt, &["peritext", "edit"], 2);
+    ends_with(&rt, &["peritext", "edit", "store", "more"], 2);
+    ends_with(&rt, &["peritext", "init", "store"], 2);
+    ends_with(&rt, &["peritext", "dump", "store", "-1"], 2);
+    ends_with(&rt, &["peritext", "--help"], 0);
+}

@@ -1,0 +1,156 @@
+use crate::{Phase, Store, StoreError};
+use change_codec::take_ops;
+use disk_trait::{Disk, FaultDisk, MemDisk};
+use op_ids::ReplicaId;
+use op_model::Op;
+use std::alloc::Global;
+use std::test::Fail;
+
+/// The sixteen bytes of the one replica of these tests.
+const NAME: &str = "00000000000040008000000000000001";
+
+/// The first insert of the replica, "a" in document 1, and its second, "b" behind it.
+const FIRST: &str = "00000023 01 00000001 0000000000000001 A 00 00 00000061";
+
+const SECOND: &str =
+    "00000053 01 00000001 0000000000000002 A 01 A 0000000000000001 01 0000000000000001 A 00000062";
+
+/// A slot that is open, with version 1 and without operations.
+const MADE: &str = "0100000000000000 5054585450473031 0000000000000001 A 0000000000000000
+    0000000000000000 00000000 00000000";
+
+/// A slot that is open after the first commit, and after the second.
+const ONE: &str = "0100000000000000 5054585450473031 0000000000000002 A 0000000000000027
+    0000000000000001 00000001 00000000 00000003";
+
+const TWO: &str = "0100000000000000 5054585450473031 0000000000000003 A 000000000000007e
+    0000000000000002 00000001 00000000 00000005";
+
+/// Appends the bytes that pieces of hex say, where `A` stands for the replica.
+fn put(pieces: &str, bytes: &mut Vec<u8>) -> Result<(), Fail> {
+    for piece in pieces.split_whitespace() {
+        let digits = if piece == "A" { NAME } else { piece };
+        let mut high = None;
+        for digit in digits.chars() {
+            let value = (digit.to_digit(16).ok_or("a digit")? % 16) as u8;
+            match high {
+                None => high = Some(value),
+                Some(first) => {
+                    bytes.push(first % 16 * 16 + value)?;
+                    high = None;
+                }
+            }
+        }
+    }
+    Ok(())
+}
+
+/// The file of these pages, each filled up with zeros.
+fn pages(alloc: Global, pages: &[&str]) -> Result<Vec<u8>, Fail> {
+    let mut bytes = Vec::new(alloc);
+    for page in pages {
+        let end = (bytes.len() / 4096 + 1) * 4096;
+        put(page, &mut bytes)?;
+        bytes.resize(end, 0)?;
+    }
+    Ok(bytes)
+}
+
+fn ops(alloc: Global, records: &str) -> Result<Vec<Op>, Fail> {
+    let mut bytes = Vec::new(alloc);
+    put(records, &mut bytes)?;
+    Ok(take_ops(alloc, &bytes)?)
+}
+
+fn replica() -> Result<ReplicaId, Fail> {
+    let name = [0, 0, 0, 0, 0, 0, 0x40, 0, 0x80, 0, 0, 0, 0, 0, 0, 1];
+    Ok(ReplicaId::read(name).ok_or("nil")?)
+}
+
+fn store(alloc: Global) -> Result<Store<MemDisk>, Fail> {
+    let disk = MemDisk::new(alloc, 65_536, 256)?;
+    match Store::init(alloc, disk, replica()?) {
+        Ok(store) => Ok(store),
+        Err(_) => Err("refused".into()),
+    }
+}
+
+/// Makes every call of a commit, and gives how many there were.
+fn commit<D: Disk>(store: &mut Store<D>) -> Result<usize, StoreError> {
+    let mut calls = 0;
+    for _ in 0..16 {
+        if store.step()? == Phase::Idle {
+            return Ok(calls);
+        }
+        calls += 1;
+    }
+    Ok(calls)
+}
+
+fn file_of(alloc: Global, store: Store<MemDisk>) -> Result<Vec<u8>, Fail> {
+    let mut disk = store.into_disk();
+    let size = disk.size()?;
+    let mut file = Vec::from_elem(alloc, 0, usize::try_from(size)?)?;
+    disk.read_at(0, &mut file)?;
+    Ok(file)
+}
+
+#[test]
+fn a_made_file_has_two_slots(rt: HostRuntime) -> Result<(), Fail> {
+    let alloc = rt.alloc();
+    let file = file_of(alloc, store(alloc)?)?;
+    assert!(rt; file == pages(alloc, &[MADE, ""])?);
+    Ok(())
+}
+
+#[test]
+fn commits_go_to_the_lowest_free_pages(rt: HostRuntime) -> Result<(), Fail> {
+    let alloc = rt.alloc();
+    let mut store = store(alloc)?;
+    assert!(rt; store.begin(&ops(alloc, FIRST)?)? == Some(1));
+    assert!(rt; store.begin(&ops(alloc, FIRST)?) == Err(StoreError::Busy));
+    assert_eq!(rt; commit(&mut store)?, 7);
+    assert_eq!(rt; store.committed(), 1);
+    assert!(rt; store.begin(&ops(alloc, SECOND)?)? == Some(2));
+    assert_eq!(rt; commit(&mut store)?, 8);
+    assert_eq!(rt; store.committed(), 2);
+    assert!(rt; store.begin(&[])?.is_none());
+    let expected = pages(
+        alloc,
+        &[
+            TWO,
+            ONE,
+            FIRST,
+            "00000002",
+            "00000023 01 00000001 0000000000000001 A 00 00 00000061
+             00000053 01 00000001 0000000000000002 A 01 A 0000000000000001 01 0000000000000001 A
+             00000062",
+            "00000004",
+        ],
+    )?;
+    assert!(rt; file_of(alloc, store)? == expected);
+    Ok(())
+}
+
+#[test]
+fn a_failed_call_stops_the_store(rt: HostRuntime) -> Result<(), Fail> {
+    let alloc = rt.alloc();
+    for n in 1..8 {
+        let disk = FaultDisk::new(MemDisk::new(alloc, 65_536, 256)?, 6 + n);
+        let mut store = match Store::init(alloc, disk, replica()?) {
+            Ok(store) => store,
+            Err(_) => return Err("refused".into()),
+        };
+        store.begin(&ops(alloc, FIRST)?)?;
+        let is_sync = n == 3 || n == 5 || n == 7;
+        let expected = if is_sync {
+            StoreError::SyncFailed
+        } else {
+            StoreError::WriteFailed
+        };
+        assert!(rt; commit(&mut store) == Err(expected));
+        assert!(rt; store.step() == Err(StoreError::Failed));
+        assert!(rt; store.begin(&[]) == Err(StoreError::Failed));
+    }
+    Ok(())
+}

@@ -1,0 +1,64 @@
+-- What the tests of fields say of the definitions.
+use Rattle.std.proofs.Common.{◌≡◌, ℕ, zero, suc, ◌<◌, List, [], ◌∷◌, map, Bool, true, false, true≢false, ◌||◌, if◌then◌else◌, Option, Some, None, MatchOption, Err, refl, sym, ap, subst, arith, String, string_bytes, Bor}
+use Rattle.std.proofs.Math.Bridge.{le_prop}
+use Rattle.std.specs.Option.{ok_or}
+use Rattle.std.specs.List.{list_any, list_all}
+use Rattle.std.specs.Map.{keys_of}
+use Rattle.std.specs.Str.{IsUtf8, is_utf8, bytes_eq}
+use Rattle.std.proofs.lemmas.Str.{IsUtf8-from_is_utf8}
+use Rattle.std.specs.declared.alloc.Global.{Global}
+use Rattle.std.specs.declared.num.NonZeroU32.{NonZeroU32}
+use Rattle.serde_json.specs.declared.value.Value.{Value}
+use Rattle.serde_json.specs.Read.{read}
+use Rattle.serde_json.specs.View.{members_view}
+use Rattle.session_lines.specs.declared.refusal.Refusal.TheVariants.{Syntax, Field}
+use Rattle.session_lines.specs.Fields.{Reads, or_field, is_among, are_among, non_zero}
+use Rattle.session_lines.specs.Requests.{or_syntax, reading}
+
+-- a value that is nowhere found isn't there
+pub no_value : (o : Option (List ℕ)) → ((u : List ℕ) × (o ≡ Some u) → false ≡ true) → o ≡ None
+no_value None h = refl
+no_value (Some u) h = absurd (true≢false (sym (h (u, refl))))
+
+-- what is there is read, and nothing is refused
+pub or_field_reads : {A : Type 0} (o : Option A) → Reads (ok_or o Field) (or_field o)
+or_field_reads None = λ _. refl
+or_field_reads (Some x) = refl
+
+-- a line is no JSON value where UTF-8 is never one
+by_test : (line : List ℕ) (test : Bool) → is_utf8 line ≡ test → (IsUtf8 line → read line ≡ None)
+    → or_syntax (if test then read line else None) ≡ Err Syntax
+by_test line true is none = rw (none (IsUtf8-from_is_utf8 line is)) refl
+by_test line false is none = refl
+
+pub none_read : (line : List ℕ) → (IsUtf8 line → read line ≡ None) → or_syntax (reading line) ≡ Err Syntax
+none_read line none = by_test line (is_utf8 line) refl none
+
+-- two numbers above 0 with the same value are one
+same_value : (v w : ℕ) → v ≡ w → (p : 0 < v) (q : 0 < w)
+    → ◌≡◌ {A = NonZeroU32} (record { value = v; ok = p }) (record { value = w; ok = q })
+same_value v w e p q =
+    let P : ℕ → Type 0 = λ n. (q : 0 < n) → ◌≡◌ {A = NonZeroU32} (record { value = v; ok = p }) (record { value = n; ok = q }) in
+    subst P e (λ r. ap (λ (o : 0 < v). let x : NonZeroU32 = record { value = v; ok = o } in x) (le_prop p r)) q
+
+same_number : (n : ℕ) (x : NonZeroU32) → x.value ≡ n → Some x ≡ non_zero n
+same_number zero x e = absurd (let above : 0 < x.value = x.ok in omega arith)
+same_number (suc n) x e = ap Some (same_value x.value (suc n) e x.ok _)
+
+-- a number that is made where it isn't 0
+pub is_non_zero : (o : Option NonZeroU32) (n : ℕ) → MatchOption o (n ≡ 0) (λ x. x.value ≡ n) → o ≡ non_zero n
+is_non_zero None n e = rw e refl
+is_non_zero (Some x) n e = same_number n x e
+
+-- a name is among names that are lent
+among_lent : (name : List ℕ) (names : List (Bor (List ℕ)))
+    → list_any (λ other. bytes_eq other.now name) names ≡ is_among name (map (λ other. other.now) names)
+among_lent name [] = refl
+among_lent name (n ∷ ns) = ap (λ rest. bytes_eq n.now name || rest) (among_lent name ns)
+
+-- the keys of a map are the names of its members
+pub among_keys : (members : List (String Global × Value)) (names : List (Bor (List ℕ)))
+    → list_all (λ key. list_any (λ other. bytes_eq other.now (string_bytes key)) names) (keys_of members)
+    ≡ are_among (members_view members) (map (λ other. other.now) names)
+among_keys [] names = refl
+among_keys (m ∷ ms) names = rw (among_lent (string_bytes m.0) names, among_keys ms names) refl

@@ -1,0 +1,27 @@
+-- Lists that are said item by item.
+use Rattle.std.proofs.Common.{◌≡◌, ℕ, suc, ◌+◌, ◌<◌, List, ◌∷◌, ◌++◌, Bool, true, length, get_or, drop, append_assoc, add-one, drop-cons, sym, ap, ◌∙◌}
+use Rattle.op_model.specs.declared.span.Span.{Span}
+use Rattle.session_lines.specs.Saying.{comma_after, said_id, said_ids, said_span, said_spans}
+
+-- a piece moves from what is still to be said to what is said
+moved : (before comma item rest whole : List ℕ) → before ++ (comma ++ (item ++ rest)) ≡ whole
+    → (before ++ (comma ++ item)) ++ rest ≡ whole
+moved before comma item rest whole so_far = rw (append_assoc, append_assoc) so_far
+
+-- one more comment is said
+pub said_id_more : (before ids : List ℕ) (i : ℕ) (later : Bool) (id : ℕ) (whole : List ℕ) → i < length ids
+    → id ≡ get_or ids i id
+    → before ++ said_ids later (drop i ids) ≡ whole
+    → (before ++ (comma_after later ++ said_id id)) ++ said_ids true (drop (i + 1) ids) ≡ whole
+said_id_more before ids i later id whole within is so_far =
+    let split : drop i ids ≡ id ∷ drop (suc i) ids = drop-cons ids i id within ∙ ap (λ x. x ∷ drop (suc i) ids) (sym is) in
+    rw add-one (moved before (comma_after later) (said_id id) _ whole (rw split at so_far))
+
+-- one more span is said
+pub said_span_more : (before : List ℕ) (ss : List Span) (i : ℕ) (later : Bool) (s : Span) (whole : List ℕ) → i < length ss
+    → s ≡ get_or ss i s
+    → before ++ said_spans later (drop i ss) ≡ whole
+    → (before ++ (comma_after later ++ said_span s)) ++ said_spans true (drop (i + 1) ss) ≡ whole
+said_span_more before ss i later s whole within is so_far =
+    let split : drop i ss ≡ s ∷ drop (suc i) ss = drop-cons ss i s within ∙ ap (λ x. x ∷ drop (suc i) ss) (sym is) in
+    rw add-one (moved before (comma_after later) (said_span s) _ whole (rw split at so_far))

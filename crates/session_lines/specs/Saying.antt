@@ -1,0 +1,139 @@
+-- What a session is answered, as text: compact JSON with the keys in the order of their bytes, and a line feed.
+use Rattle.std.specs.Prelude.{ℕ, List, [], ◌∷◌, ◌++◌, Bool, true, false, Option, Some, None, codes, decimal, encode_utf8_all}
+use Rattle.std.specs.Int.{w128, to_be_bytes}
+use Rattle.uuid.specs.Text.{lower, hyphenated_text}
+use Rattle.serde_json.specs.Data.{string}
+use Rattle.serde_json.specs.Written.{compact_text}
+use Rattle.op_model.specs.declared.mark.Marks.{Marks}
+use Rattle.op_model.specs.declared.span.Span.{Span}
+use Rattle.session_lines.specs.declared.refusal.Refusal.{Refusal}
+use Rattle.session_lines.specs.declared.refusal.Refusal.TheVariants as refusal
+use Rattle.session_lines.specs.declared.answer.Answer.{Answer}
+use Rattle.session_lines.specs.declared.answer.Answer.TheVariants as answer
+use Rattle.session_lines.specs.declared.answer.State.{State}
+use Rattle.session_lines.specs.declared.answer.State.TheVariants as state
+
+-- the number of a refusal
+abbrev pub number_of : Refusal → ℕ
+number_of refusal.Memory = 1
+number_of refusal.Syntax = 2
+number_of refusal.Request = 3
+number_of refusal.Field = 4
+number_of refusal.Range = 5
+number_of refusal.Stale = 6
+number_of refusal.Limit = 7
+number_of refusal.Busy = 8
+number_of refusal.Failed = 9
+number_of refusal.Steps = 10
+number_of refusal.Line = 11
+number_of refusal.Stopping = 12
+
+-- the word of a refusal
+abbrev pub word_of : Refusal → List ℕ
+word_of refusal.Memory = codes "memory"
+word_of refusal.Syntax = codes "syntax"
+word_of refusal.Request = codes "request"
+word_of refusal.Field = codes "field"
+word_of refusal.Range = codes "range"
+word_of refusal.Stale = codes "stale"
+word_of refusal.Limit = codes "limit"
+word_of refusal.Busy = codes "busy"
+word_of refusal.Failed = codes "failed"
+word_of refusal.Steps = codes "steps"
+word_of refusal.Line = codes "line"
+word_of refusal.Stopping = codes "stopping"
+
+-- the word of a state
+abbrev pub state_word : State → List ℕ
+state_word state.Open = codes "open"
+state_word state.Stopping = codes "stopping"
+state_word state.Failed = codes "failed"
+
+-- bytes of UTF-8 as a JSON string
+abbrev pub quoted : List ℕ → List ℕ
+quoted bytes = compact_text (string bytes)
+
+-- characters as a JSON string
+abbrev pub said_characters : List ℕ → List ℕ
+said_characters characters = quoted (encode_utf8_all characters)
+
+-- the name of a comment as a JSON string: a UUID, hyphenated in lower case
+abbrev pub said_id : ℕ → List ℕ
+said_id id = quoted (hyphenated_text lower (to_be_bytes w128 id))
+
+-- a comma, where something stands before
+abbrev pub comma_after : Bool → List ℕ
+comma_after true = codes ","
+comma_after false = []
+
+-- the names of comments, and the closing bracket
+abbrev pub said_ids : Bool → List ℕ → List ℕ
+said_ids later [] = codes "]"
+said_ids later (id ∷ ids) = comma_after later ++ (said_id id ++ said_ids true ids)
+
+-- the member of the comments, where there are some
+abbrev pub said_comments : List ℕ → List ℕ
+said_comments [] = []
+said_comments (id ∷ ids) = codes "\"comments\":[" ++ (said_ids false (id ∷ ids) ++ codes ",")
+
+-- the member of a mark, where there is one
+abbrev pub said_if : Bool → List ℕ → List ℕ
+said_if true member = member
+said_if false member = []
+
+-- the member of the link, where there is one
+abbrev pub said_link : Option (List ℕ) → List ℕ
+said_link None = []
+said_link (Some url) = codes "\"link\":" ++ (quoted url ++ codes ",")
+
+-- the members of the marks that there are, each with a comma
+abbrev pub said_marks : Marks → List ℕ
+said_marks m =
+    said_comments m.comments
+    ++ (said_if m.em (codes "\"em\":true,") ++ (said_link m.link ++ said_if m.strong (codes "\"strong\":true,")))
+
+-- a span: its marks, and then its text
+abbrev pub said_span : Span → List ℕ
+said_span s = codes "{" ++ (said_marks s.marks ++ (codes "\"text\":" ++ (said_characters s.text ++ codes "}")))
+
+-- spans, and the closing bracket
+abbrev pub said_spans : Bool → List Span → List ℕ
+said_spans later [] = codes "]"
+said_spans later (s ∷ ss) = comma_after later ++ (said_span s ++ said_spans true ss)
+
+-- the answer to an edit
+abbrev pub said_edited : ℕ → List ℕ
+said_edited rev = codes "{\"ok\":true,\"rev\":" ++ (decimal rev ++ codes "}\n")
+
+-- the answer that shows a text
+abbrev pub said_text : ℕ → List ℕ → List ℕ
+said_text rev text =
+    codes "{\"ok\":true,\"rev\":" ++ (decimal rev ++ (codes ",\"text\":" ++ (said_characters text ++ codes "}\n")))
+
+-- the answer that lists spans
+abbrev pub said_listed : ℕ → List Span → List ℕ
+said_listed rev spans =
+    codes "{\"ok\":true,\"rev\":" ++ (decimal rev ++ (codes ",\"spans\":[" ++ (said_spans false spans ++ codes "}\n")))
+
+-- the answer that says how far a replica is
+abbrev pub said_status : ℕ → ℕ → State → List ℕ
+said_status applied settled state =
+    codes "{\"applied\":" ++ (decimal applied
+    ++ (codes ",\"ok\":true,\"settled\":" ++ (decimal settled
+    ++ (codes ",\"state\":\"" ++ (state_word state ++ codes "\"}\n")))))
+
+-- the answer that says why a request isn't served
+abbrev pub said_refused : Refusal → List ℕ
+said_refused r =
+    codes "{\"code\":" ++ (decimal (number_of r)
+    ++ (codes ",\"error\":\"" ++ (word_of r ++ codes "\",\"ok\":false}\n")))
+
+-- an answer as text, with its line feed
+abbrev pub said : Answer → List ℕ
+said (answer.Edited rev) = said_edited rev
+said (answer.Text rev text) = said_text rev text
+said (answer.Spans rev spans) = said_listed rev spans
+said (answer.Status applied settled state) = said_status applied settled state
+said answer.Stopped = codes "{\"ok\":true}\n"
+said answer.Done = codes "{\"ok\":true}\n"
+said (answer.Refused r) = said_refused r

@@ -1,0 +1,45 @@
+use crate::refusal::Refusal;
+use crate::span_list::SpanList;
+use op_model::Text;
+
+/// What a session is answered.
+#[derive(Debug, Drop)]
+pub enum Answer {
+    /// An edit is settled; the document had so many operations right after it.
+    Edited {
+        rev: u64,
+    },
+    /// The text of a document, and how many operations it has.
+    Text {
+        rev: u64,
+        text: Text,
+    },
+    /// The spans of a document, and how many operations it has.
+    Spans {
+        rev: u64,
+        spans: SpanList,
+    },
+    /// How many operations are applied, how many of them are settled, and whether edits are taken.
+    Status {
+        applied: u64,
+        settled: u64,
+        state: State,
+    },
+    /// All that was applied before the stop is settled.
+    Stopped,
+    /// What was asked for is done, and there is nothing to tell of it.
+    Done,
+    /// The request isn't served.
+    Refused(Refusal),
+}
+
+/// Whether a replica takes edits.
+#[derive(Clone, Copy, Debug, Drop, PartialEq, Eq)]
+pub enum State {
+    /// Edits are taken.
+    Open,
+    /// Edits aren't taken after a stop.
+    Stopping,
+    /// Edits aren't taken since the device failed, whether or not there was a stop.
+    Failed,
+}

@@ -1,0 +1,131 @@
+//! The fields of a request.
+ghost use Rattle.std.specs.Prelude.{◌≡◌, map, string_bytes};
+ghost use Rattle.std.specs.List.{list_any, list_all};
+ghost use Rattle.std.specs.Str.{bytes_eq};
+ghost use Rattle.std.specs.BTreeMap.{keys};
+ghost use Rattle.serde_json.specs.View.{view};
+ghost use Rattle.session_lines.specs.Fields.{Reads, only, as_whole, whole, rev_of, count_of};
+ghost use Rattle.session_lines.specs.Fields.{characters_of, kind_of, url_of, comment_of};
+
+use crate::kind::Kind;
+use crate::refusal::Refusal;
+use op_model::{CommentId, EditText, Url};
+use serde_json::{Map, Value};
+use std::alloc::Global;
+use std::num::NonZeroU32;
+use uuid::Uuid;
+
+/// Refuses members of other names than these.
+pub fn only(value: &Value, names: &[&str]) -> Result<(), Refusal>
+    ensures { Reads result (only (map (λ name. name.now) names.now) (view value.now)) }
+{
+    match value.as_object() {
+        Some(members) if are_among(members, names) => Ok(()),
+        _ => Err(Refusal::Field),
+    }
+}
+
+/// Whether each member has one of these names.
+fn are_among(members: &Map<String, Value>, names: &[&str]) -> bool
+    ensures { result ≡ list_all
+        (λ key. list_any (λ other. bytes_eq other.now (string_bytes key)) names.now)
+        (keys members.now) }
+{
+    members.keys().all(|key| is_among(key.as_str(), names))
+}
+
+/// Whether a name is one of these.
+fn is_among(name: &str, names: &[&str]) -> bool
+    ensures { result ≡ list_any (λ other. bytes_eq other.now name.now) names.now }
+{
+    names.iter().any(|other| *other == name)
+}
+
+/// A number from this one to 2^32 - 1, written with no sign, fraction or exponent.
+fn as_whole(value: &Value, low: u32) -> Option<u32>
+    ensures { result ≡ as_whole low (view value.now) }
+{
+    let number = value.as_u64()?;
+    if number < low as u64 || number > u32::MAX as u64 {
+        return None;
+    }
+    Some(number as u32)
+}
+
+/// The field of this name, a whole number from this one on.
+pub fn whole(value: &Value, key: &str, low: u32) -> Result<u32, Refusal>
+    ensures { Reads result (whole key.now low (view value.now)) }
+{
+    match value.get(key) {
+        Some(found) => as_whole(found, low).ok_or(Refusal::Field),
+        None => Err(Refusal::Field),
+    }
+}
+
+/// The number of operations that the document has to have, if one is asked for.
+pub fn rev(value: &Value) -> Result<Option<u32>, Refusal>
+    ensures { Reads result (rev_of (view value.now)) }
+{
+    match value.get("rev") {
+        Some(found) => match as_whole(found, 0) {
+            Some(rev) => Ok(Some(rev)),
+            None => Err(Refusal::Field),
+        },
+        None => Ok(None),
+    }
+}
+
+/// How many characters are deleted.
+pub fn count(value: &Value) -> Result<NonZeroU32, Refusal>
+    ensures { Reads result (count_of (view value.now)) }
+{
+    let count = whole(value, "count", 1)?;
+    NonZeroU32::new(count).ok_or(Refusal::Field)
+}
+
+/// The characters that are inserted. An error is want of memory, or no text of at least one character.
+#[tactic(auto, using(std::proofs::lemmas::Str::chars_from_encodes))]
+pub fn characters(alloc: Global, value: &Value) -> Result<EditText, Refusal>
+    ensures { Reads result (characters_of (view value.now)) }
+{
+    let Some(text) = value.get("text").and_then(Value::as_str) else {
+        return Err(Refusal::Field);
+    };
+    let characters = text.chars().collect(alloc)?;
+    EditText::new(characters).ok_or(Refusal::Field)
+}
+
+/// The kind of mark.
+pub fn kind(value: &Value) -> Result<Kind, Refusal>
+    ensures { Reads result (kind_of (view value.now)) }
+{
+    value
+        .get("kind")
+        .and_then(Value::as_str)
+        .and_then(Kind::named)
+        .ok_or(Refusal::Field)
+}
+
+/// Where a link leads. An error is want of memory, or no text of 1 to 1,024 bytes.
+pub fn url(alloc: Global, value: &Value) -> Result<Url, Refusal>
+    ensures { Reads result (url_of (view value.now)) }
+{
+    let Some(text) = value.get("url").and_then(Value::as_str) else {
+        return Err(Refusal::Field);
+    };
+    let text = String::from_str(alloc, text)?;
+    Url::new(text).ok_or(Refusal::Field)
+}
+
+/// The name of a comment, a UUID in any of its text forms.
+pub fn comment(value: &Value) -> Result<CommentId, Refusal>
+    ensures { Reads result (comment_of (view value.now)) }
+{
+    let Some(text) = value.get("id").and_then(Value::as_str) else {
+        return Err(Refusal::Field);
+    };
+    match Uuid::parse_str(text) {
+        Ok(id) => Ok(CommentId::read(id.into_bytes())),
+        Err(_) => Err(Refusal::Field),
+    }
+}

@@ -1,0 +1,23 @@
+//! The lines of a session: a line as it is read into a command, and an answer as it is written.
+#![tactic(auto)]
+
+mod answer;
+mod answer_line;
+mod command;
+mod fields;
+mod kind;
+mod line;
+mod refusal;
+mod request;
+mod span_list;
+mod spans;
+#[cfg(test)]
+mod tests;
+mod verb;
+
+pub use answer::{Answer, State};
+pub use answer_line::say;
+pub use command::Command;
+pub use line::serve_line;
+pub use refusal::Refusal;
+pub use span_list::SpanList;

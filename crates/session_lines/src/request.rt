@@ -1,0 +1,154 @@
+//! What a request asks for, by its fields.
+ghost use Rattle.std.specs.Prelude.{◌≡◌};
+ghost use Rattle.serde_json.specs.View.{view};
+ghost use Rattle.session_lines.specs.Fields.{Reads};
+ghost use Rattle.session_lines.specs.Requests.{verb_of, edit_with, request_of};
+ghost use Rattle.session_lines.specs.Requests.{insert_of, delete_of, mark_change, unmark_change};
+ghost use Rattle.session_lines.specs.Requests.{mark_of, key_of};
+
+use crate::command::Command;
+use crate::fields::{characters, comment, count, kind, only, rev, url, whole};
+use crate::kind::Kind;
+use crate::refusal::Refusal;
+use crate::verb::Verb;
+use op_model::{Change, Edit, Mark, MarkKey};
+use serde_json::Value;
+use std::alloc::Global;
+
+/// The command of a request.
+pub fn request(alloc: Global, value: &Value) -> Result<Command, Refusal>
+    ensures { Reads result (request_of (view value.now)) }
+{
+    match verb(value)? {
+        Verb::Insert => edit(value, insert(alloc, value)?),
+        Verb::Delete => edit(value, delete(value)?),
+        Verb::Mark => edit(value, mark(alloc, value)?),
+        Verb::Unmark => edit(value, unmark(value)?),
+        Verb::Text => {
+            only(value, &["op", "doc"])?;
+            let doc = whole(value, "doc", 1)?;
+            Ok(Command::Text { doc })
+        }
+        Verb::Spans => {
+            only(value, &["op", "doc"])?;
+            let doc = whole(value, "doc", 1)?;
+            Ok(Command::Spans { doc })
+        }
+        Verb::Status => {
+            only(value, &["op"])?;
+            Ok(Command::Status)
+        }
+        Verb::Stop => {
+            only(value, &["op"])?;
+            Ok(Command::Stop)
+        }
+    }
+}
+
+/// Which request is made.
+fn verb(value: &Value) -> Result<Verb, Refusal>
+    ensures { Reads result (verb_of (view value.now)) }
+{
+    value
+        .get("op")
+        .and_then(Value::as_str)
+        .and_then(Verb::named)
+        .ok_or(Refusal::Request)
+}
+
+/// The edit with this change.
+fn edit(value: &Value, change: Change) -> Result<Command, Refusal>
+    ensures { Reads result (edit_with change (view value.now)) }
+{
+    let doc = whole(value, "doc", 1)?;
+    let rev = rev(value)?;
+    Ok(Command::Edit(Edit { doc, rev, change }))
+}
+
+/// The change of an insert.
+fn insert(alloc: Global, value: &Value) -> Result<Change, Refusal>
+    ensures { Reads result (insert_of (view value.now)) }
+{
+    only(value, &["op", "doc", "rev", "at", "text"])?;
+    let at = whole(value, "at", 0)?;
+    let text = characters(alloc, value)?;
+    Ok(Change::Insert { at, text })
+}
+
+/// The change of a delete.
+fn delete(value: &Value) -> Result<Change, Refusal>
+    ensures { Reads result (delete_of (view value.now)) }
+{
+    only(value, &["op", "doc", "rev", "at", "count"])?;
+    let at = whole(value, "at", 0)?;
+    let count = count(value)?;
+    Ok(Change::Delete { at, count })
+}
+
+/// The change of a mark.
+fn mark(alloc: Global, value: &Value) -> Result<Change, Refusal>
+    ensures { Reads result (mark_change (view value.now)) }
+{
+    let mark = added(alloc, value)?;
+    let from = whole(value, "from", 0)?;
+    let to = whole(value, "to", 0)?;
+    Ok(Change::Mark { from, to, mark })
+}
+
+/// The change of an unmark.
+fn unmark(value: &Value) -> Result<Change, Refusal>
+    ensures { Reads result (unmark_change (view value.now)) }
+{
+    let key = removed(value)?;
+    let from = whole(value, "from", 0)?;
+    let to = whole(value, "to", 0)?;
+    Ok(Change::Unmark { from, to, key })
+}
+
+/// The mark that is put on: a URL comes with a link alone, an id with a comment alone.
+fn added(alloc: Global, value: &Value) -> Result<Mark, Refusal>
+    ensures { Reads result (mark_of (view value.now)) }
+{
+    match kind(value)? {
+        Kind::Strong => {
+            only(value, &["op", "doc", "rev", "from", "to", "kind"])?;
+            Ok(Mark::Strong)
+        }
+        Kind::Em => {
+            only(value, &["op", "doc", "rev", "from", "to", "kind"])?;
+            Ok(Mark::Em)
+        }
+        Kind::Link => {
+            only(value, &["op", "doc", "rev", "from", "to", "kind", "url"])?;
+            Ok(Mark::Link(url(alloc, value)?))
+        }
+        Kind::Comment => {
+            only(value, &["op", "doc", "rev", "from", "to", "kind", "id"])?;
+            Ok(Mark::Comment(comment(value)?))
+        }
+    }
+}
+
+/// What is taken off: an id comes with a comment alone.
+fn removed(value: &Value) -> Result<MarkKey, Refusal>
+    ensures { Reads result (key_of (view value.now)) }
+{
+    match kind(value)? {
+        Kind::Strong => {
+            only(value, &["op", "doc", "rev", "from", "to", "kind"])?;
+            Ok(MarkKey::Strong)
+        }
+        Kind::Em => {
+            only(value, &["op", "doc", "rev", "from", "to", "kind"])?;
+            Ok(MarkKey::Em)
+        }
+        Kind::Link => {
+            only(value, &["op", "doc", "rev", "from", "to", "kind"])?;
+            Ok(MarkKey::Link)
+        }
+        Kind::Comment => {
+            only(value, &["op", "doc", "rev", "from", "to", "kind", "id"])?;
+            Ok(MarkKey::Comment(comment(value)?))
+        }
+    }
+}

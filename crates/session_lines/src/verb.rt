@@ -1,0 +1,35 @@
+//! The names of the requests.
+ghost use Rattle.std.specs.Prelude.{◌≡◌};
+ghost use Rattle.session_lines.specs.Fields.{verb_named};
+
+/// What kind of request a line is.
+#[derive(Clone, Copy, Debug, Drop, PartialEq, Eq)]
+pub enum Verb {
+    Insert,
+    Delete,
+    Mark,
+    Unmark,
+    Text,
+    Spans,
+    Status,
+    Stop,
+}
+
+impl Verb {
+    /// The kind of request with this name, if there is one.
+    pub fn named(name: &str) -> Option<Verb>
+        ensures { result ≡ verb_named name.now }
+    {
+        match name {
+            "insert" => Some(Verb::Insert),
+            "delete" => Some(Verb::Delete),
+            "mark" => Some(Verb::Mark),
+            "unmark" => Some(Verb::Unmark),
+            "text" => Some(Verb::Text),
+            "spans" => Some(Verb::Spans),
+            "status" => Some(Verb::Status),
+            "stop" => Some(Verb::Stop),
+            _ => None,
+        }
+    }
+}
