@@ -75,16 +75,22 @@ fn store(alloc: Global) -> Result<Store<MemDisk>, Fail> {
     }
 }
 
+fn begin<D: Disk>(store: &mut Store<D>, ops: &[Op]) -> Result<Option<u64>, StoreError> {
+    store.begin(ops)
+}
+
+fn step<D: Disk>(store: &mut Store<D>) -> Result<Phase, StoreError> {
+    store.step()
+}
+
 /// Makes every call of a commit, and gives how many there were.
 fn commit<D: Disk>(store: &mut Store<D>) -> Result<usize, StoreError> {
-    let mut calls = 0;
-    for _ in 0..16 {
-        if store.step()? == Phase::Idle {
+    for calls in 0..16 {
+        if step(store)? == Phase::Idle {
             return Ok(calls);
         }
-        calls += 1;
     }
-    Ok(calls)
+    Ok(16)
 }
 
 fn file_of(alloc: Global, store: Store<MemDisk>) -> Result<Vec<u8>, Fail> {
@@ -107,14 +113,14 @@ fn a_made_file_has_two_slots(rt: HostRuntime) -> Result<(), Fail> {
 fn commits_go_to_the_lowest_free_pages(rt: HostRuntime) -> Result<(), Fail> {
     let alloc = rt.alloc();
     let mut store = store(alloc)?;
-    assert!(rt; store.begin(&ops(alloc, FIRST)?)? == Some(1));
-    assert!(rt; store.begin(&ops(alloc, FIRST)?) == Err(StoreError::Busy));
+    assert!(rt; begin(&mut store, &ops(alloc, FIRST)?)? == Some(1));
+    assert!(rt; begin(&mut store, &ops(alloc, FIRST)?) == Err(StoreError::Busy));
     assert_eq!(rt; commit(&mut store)?, 7);
     assert_eq!(rt; store.committed(), 1);
-    assert!(rt; store.begin(&ops(alloc, SECOND)?)? == Some(2));
+    assert!(rt; begin(&mut store, &ops(alloc, SECOND)?)? == Some(2));
     assert_eq!(rt; commit(&mut store)?, 8);
     assert_eq!(rt; store.committed(), 2);
-    assert!(rt; store.begin(&[])?.is_none());
+    assert!(rt; begin(&mut store, &[])?.is_none());
     let expected = pages(
         alloc,
         &[
@@ -132,25 +138,33 @@ fn commits_go_to_the_lowest_free_pages(rt: HostRuntime) -> Result<(), Fail> {
     Ok(())
 }
 
+/// A store whose disk fails at the n-th call of its first commit, which has begun.
+fn failing(alloc: Global, n: u64) -> Result<Store<FaultDisk<MemDisk>>, Fail> {
+    let disk = FaultDisk::new(MemDisk::new(alloc, 65_536, 256)?, n.saturating_add(6));
+    let mut store = match Store::init(alloc, disk, replica()?) {
+        Ok(store) => store,
+        Err(_) => return Err("refused".into()),
+    };
+    begin(&mut store, &ops(alloc, FIRST)?)?;
+    Ok(store)
+}
+
+/// The failure of the n-th call of a first commit: the third, the fifth and the seventh are syncs.
+fn failure(n: u64) -> StoreError {
+    if n == 3 || n == 5 || n == 7 {
+        StoreError::SyncFailed
+    } else {
+        StoreError::WriteFailed
+    }
+}
+
 #[test]
 fn a_failed_call_stops_the_store(rt: HostRuntime) -> Result<(), Fail> {
-    let alloc = rt.alloc();
     for n in 1..8 {
-        let disk = FaultDisk::new(MemDisk::new(alloc, 65_536, 256)?, 6 + n);
-        let mut store = match Store::init(alloc, disk, replica()?) {
-            Ok(store) => store,
-            Err(_) => return Err("refused".into()),
-        };
-        store.begin(&ops(alloc, FIRST)?)?;
-        let is_sync = n == 3 || n == 5 || n == 7;
-        let expected = if is_sync {
-            StoreError::SyncFailed
-        } else {
-            StoreError::WriteFailed
-        };
-        assert!(rt; commit(&mut store) == Err(expected));
-        assert!(rt; store.step() == Err(StoreError::Failed));
-        assert!(rt; store.begin(&[]) == Err(StoreError::Failed));
+        let mut store = failing(rt.alloc(), n)?;
+        assert!(rt; commit(&mut store) == Err(failure(n)));
+        assert!(rt; step(&mut store) == Err(StoreError::Failed));
+        assert!(rt; begin(&mut store, &[]) == Err(StoreError::Failed));
     }
     Ok(())
 }

@@ -1,6 +1,6 @@
 ghost use Rattle.std.specs.Prelude.{◌≡◌, ◌≢◌, ◌⊎◌, ℕ, ◌+◌, ◌≤◌, ◌<◌, ◌^◌, ◌++◌, List, length, map, Option, Some, None, true, false, IfOk, IfErr};
 ghost use Rattle.op_model.specs.Text.{visible as visible_of, rev as rev_of};
-ghost use Rattle.op_model.specs.Causality.{is_within_limits as is_within_limits_of};
+ghost use Rattle.op_model.specs.Causality.{clock_of as clock_of_list, is_within_limits as is_within_limits_of};
 ghost use Rattle.op_model.specs.Made.{is_at_rev as is_at_rev_of, is_inside as is_inside_of, is_small as is_small_of, made as made_of, bodies_of as bodies_in, edit_refusal, insert_bodies as insert_bodies_of, origin_of, start_before as start_before_of, end_before as end_before_of, end_after as end_after_of, end_of, size_of, greatest_counter as greatest_in};
 ghost use Rattle.slow_programs.specs.EditError.{number_of};
 ghost use Rattle.slow_programs.specs.Asking.{IsAskedRight};
@@ -11,11 +11,12 @@ use crate::numbering::{clock_of, greatest_counter, numbered};
 use crate::order::walk;
 use crate::placing::{behind, id_at, id_before, last_end};
 use crate::reading::{rev, visible};
-use op_ids::{MAX_COUNTER, OpId, ReplicaId};
+use op_ids::{Clock, MAX_COUNTER, OpId, ReplicaId};
 use op_model::{Anchor, Body, Change, Character, Edit, End, MarkKey, Op, Start};
 use std::alloc::{AllocError, Global};
 
-fn is_at_rev(count: usize, asked: &Option<u32>) -> bool
+/// Whether a document with so many operations is at the number that is asked for.
+pub fn is_at_rev(count: usize, asked: &Option<u32>) -> bool
     ensures { result ≡ is_at_rev_of count asked.now }
 {
     match asked {
@@ -24,7 +25,8 @@ fn is_at_rev(count: usize, asked: &Option<u32>) -> bool
     }
 }
 
-fn is_inside(count: usize, change: &Change) -> bool
+/// Whether a change lies within a text of so many characters.
+pub fn is_inside(count: usize, change: &Change) -> bool
     ensures { result ≡ is_inside_of count change.now }
 {
     match change {
@@ -35,7 +37,8 @@ fn is_inside(count: usize, change: &Change) -> bool
     }
 }
 
-fn is_small(change: &Change) -> bool
+/// Whether a change inserts or removes at most 256 characters.
+pub fn is_small(change: &Change) -> bool
     ensures { result ≡ is_small_of change.now }
 {
     match change {
@@ -180,7 +183,7 @@ fn remove_bodies(alloc: Global, removed: &[Character]) -> Result<Vec<Body>, Allo
 }
 
 /// How many operations a change makes: at least one.
-fn size(change: &Change) -> u64
+pub fn size(change: &Change) -> u64
     ensures value { result ≡ size_of change.now }
     ensures some { 0 < result }
 {
@@ -211,17 +214,19 @@ fn readable(alloc: Global, ops: &[Op], edit: &Edit) -> Result<Vec<Character>, Ed
     Ok(seen)
 }
 
-/// The operations of an edit that asks right, where they keep the limits of a store.
+/// The operations of an edit that asks right, where they keep the limits of a store, and the clock behind them.
 fn made_within(
     alloc: Global,
     ops: &[Op],
     replica: ReplicaId,
     edit: &Edit,
     seen: &[Character],
-) -> Result<Vec<Op>, EditError>
+) -> Result<(Vec<Op>, Clock), EditError>
     requires seen { seen.now ≡ visible_of ops.now edit.now.doc }
     requires right { IsAskedRight ops.now edit.now }
-    ensures made { IfOk result (λ made. made.items ≡ made_of ops.now replica edit.now) }
+    ensures made { IfOk result (λ made. made.0.items ≡ made_of ops.now replica edit.now) }
+    ensures clock { IfOk result (λ made. made.1
+        ≡ clock_of_list (ops.now ++ made_of ops.now replica edit.now)) }
     ensures within { IfOk result (λ _.
         is_within_limits_of (ops.now ++ made_of ops.now replica edit.now) ≡ true) }
     ensures limit { IfErr result (λ e. e ≢ EditError.Memory → (e ≡ EditError.Limit)
@@ -237,7 +242,7 @@ fn made_within(
     if !is_within_limits(alloc, ops, &made, &clock)? {
         return Err(EditError::Limit);
     }
-    Ok(made)
+    Ok((made, clock))
 }
 
 /// The operations that an edit adds to a replica's list. It is refused by the first cause, in this order: `Stale` (6),
@@ -250,6 +255,24 @@ pub fn made(
     edit: &Edit,
 ) -> Result<Vec<Op>, EditError>
     ensures made { IfOk result (λ made. made.items ≡ made_of ops.now replica edit.now) }
+    ensures due { IfOk result (λ _. edit_refusal ops.now replica edit.now ≡ None) }
+    ensures refused { IfErr result (λ e. e ≢ EditError.Memory
+        → edit_refusal ops.now replica edit.now ≡ Some (number_of e)) }
+{
+    Ok(made_with_clock(alloc, ops, replica, edit)?.0)
+}
+
+/// The operations that an edit adds to a replica's list, and the clock behind them, which counts all of the list and them. It is
+/// refused as `made` is.
+pub fn made_with_clock(
+    alloc: Global,
+    ops: &[Op],
+    replica: ReplicaId,
+    edit: &Edit,
+) -> Result<(Vec<Op>, Clock), EditError>
+    ensures made { IfOk result (λ made. made.0.items ≡ made_of ops.now replica edit.now) }
+    ensures clock { IfOk result (λ made. made.1
+        ≡ clock_of_list (ops.now ++ made_of ops.now replica edit.now)) }
     ensures due { IfOk result (λ _. edit_refusal ops.now replica edit.now ≡ None) }
     ensures refused { IfErr result (λ e. e ≢ EditError.Memory
         → edit_refusal ops.now replica edit.now ≡ Some (number_of e)) }

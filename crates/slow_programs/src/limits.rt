@@ -9,11 +9,13 @@ use op_ids::Clock;
 use op_model::{Body, End, Mark, MarkKey, Op, Start};
 use std::alloc::{AllocError, Global};
 
-const MAX_DOCUMENTS: usize = 1024;
+/// The most documents with operations in a store.
+pub const MAX_DOCUMENTS: usize = 1024;
 
 const MAX_OPERATIONS: usize = 16_777_216;
 
-const MAX_STREAM_LENGTH: u64 = 1_073_741_824;
+/// The most bytes of records in a store: 2^30.
+pub const MAX_STREAM_LENGTH: u64 = 1_073_741_824;
 
 /// Whether the operations, and then those made, keep the limits of a store. The clock counts all of them. An error is
 /// want of memory (1).
@@ -51,7 +53,8 @@ fn is_in_range(op: &Op) -> bool
     op.id.counter() > 0 && op.doc > 0
 }
 
-fn has_operations(ops: usize, made: usize) -> bool
+/// Whether so many operations, and then those made, are at most 2^24.
+pub fn has_operations(ops: usize, made: usize) -> bool
     ensures { result ≡ nat_le (ops + made) 16777216 }
 {
     ops <= MAX_OPERATIONS && made <= MAX_OPERATIONS - ops
@@ -67,7 +70,7 @@ fn has_stream(ops: &[Op], made: &[Op]) -> bool
 }
 
 /// What is left of so many bytes behind the records of the operations, or `None` where they don't fit.
-fn room_behind(ops: &[Op], room: u64) -> Option<u64>
+pub fn room_behind(ops: &[Op], room: u64) -> Option<u64>
     ensures { MatchOption result (room < stream_length ops.now) (λ left. left + stream_length ops.now ≡ room) }
 {
     let mut left = room;
@@ -108,7 +111,8 @@ fn body_length(body: &Body) -> u64
     }
 }
 
-fn mark_length(mark: &Mark) -> u64
+/// How many bytes a mark takes in a record.
+pub fn mark_length(mark: &Mark) -> u64
     ensures value { result ≡ mark_length_of mark.now }
     ensures small { result < 1100 }
 {
@@ -119,7 +123,8 @@ fn mark_length(mark: &Mark) -> u64
     }
 }
 
-fn key_length(key: &MarkKey) -> u64
+/// How many bytes the key of a mark takes in a record.
+pub fn key_length(key: &MarkKey) -> u64
     ensures value { result ≡ key_length_of key.now }
     ensures small { result < 100 }
 {
@@ -181,7 +186,7 @@ fn insert_rising(documents: &mut Vec<u32>, doc: u32) -> Result<(), AllocError>
 }
 
 /// Where a document goes in a rising list, or `None` where it is there.
-fn place_rising(documents: &[u32], doc: u32) -> Option<usize>
+pub fn place_rising(documents: &[u32], doc: u32) -> Option<usize>
     ensures { MatchOption result (with_number doc documents.now ≡ documents.now) (λ at. (at ≤ length documents.now)
         × (with_number doc documents.now ≡ take at documents.now ++ doc ∷ drop at documents.now)) }
 {

@@ -33,3 +33,9 @@ is_within_limits-requires c =
     let clock = c.in_ok-made.ensures.clock in
     let made = c.deref-2.ensures.value ∙ c.in_ok-made.ensures.ops in
     rw (made, clock_of-numbered) (rw (c.in_ok-clock.ensures.ok) at clock)
+
+pub returns-clause-clock : goal.returns-clause-clock
+returns-clause-clock c =
+    let bodies = c.deref.ensures.value ∙ c.in_ok-bodies.ensures in
+    let clock = c.in_ok-made.ensures.clock in
+    rw (clock_of-numbered) (rw (c.in_ok-clock.ensures.ok, bodies) at clock)

@@ -1,0 +1,242 @@
+-- What a replica keeps through its steps.
+use Rattle.std.proofs.Common.{◌≡◌, ℕ, ◌+◌, ◌≤◌, ◌<◌, Bool, true, false, not, ◌&&◌, nat_le, nat_lt, List, [], ◌∷◌, ◌++◌, length, take, max, map, refl, sym, ◌∙◌, ap, Option, Some, None, arith, length-append, vec_capacity}
+use Rattle.std.specs.Prelude.{◌==◌, ◌≢◌, if◌then◌else◌}
+use Rattle.std.specs.List.{list_all}
+use Rattle.std.proofs.Math.Seq.{take-append_seam}
+use Rattle.std.proofs.lemmas.List.{length-map, length-reverse, take-append-le, map-append, reverse-append}
+use Rattle.std.proofs.lemmas.Bool.{le-leb}
+use Rattle.std.proofs.lemmas.Bool.Decides.{nat_tests}
+use Rattle.op_ids.specs.Clock.{advanced, is_ready}
+use Rattle.op_model.specs.declared.op.Op.{Op}
+use Rattle.op_model.specs.declared.edit.Edit.{Edit}
+use Rattle.op_model.specs.Causality.{clock_of, documents, first_failed, is_counted_up, is_in_range, is_known, is_within_limits, names_inserts, MayFollow}
+use Rattle.op_model.specs.Made.{is_at_rev, is_inside, is_small, made, edit_refusal, size_of}
+use Rattle.op_model.specs.Records.{stream_length}
+use Rattle.op_model.specs.Machine.{merge_answer, applied}
+use Rattle.op_model.specs.Replay.{Joins, Replays}
+use Rattle.op_model.specs.Spans.{with_number}
+use Rattle.op_model.specs.Text.{rev, visible}
+use Rattle.model_laws.proofs.Growth.{closed_push}
+use Rattle.model_laws.proofs.Makes.{closed_made}
+use Rattle.model_laws.proofs.Ready.{clock-push}
+use Rattle.slow_programs.specs.Asking.{IsAskedRight}
+use Rattle.replica_core.specs.declared.log.Log.{Log}
+use Rattle.replica_core.specs.declared.step.Step.{Step}
+use Rattle.replica_core.specs.declared.step.Step.TheVariants as step
+use Rattle.replica_core.specs.Log.{IsAppended}
+use Rattle.replica_core.specs.Fields.{AreFields, held_of}
+use Rattle.replica_core.specs.Held.{alone, Held, CanEdit, IsSound, with_edit}
+use Rattle.replica_core.specs.Merging.{with_merge, CanMerge}
+use Rattle.replica_core.specs.Steps.{kept, kept_of}
+use Rattle.replica_core.proofs.LimitLemmas.{documents-made, documents-push, length-made}
+
+-- one step more comes first
+pub kept-push : (steps : List Step) (step : Step) → kept (steps ++ step ∷ []) ≡ kept_of step ∷ kept steps
+kept-push steps step = rw (map-append kept_of steps (step ∷ []), reverse-append (map kept_of steps) (kept_of step ∷ [])) refl
+
+length-kept : (steps : List Step) → length (kept steps) ≡ length steps
+length-kept steps = simp (length-reverse, length-map)
+
+-- the causes of an edit, where none holds
+abbrev causes : Bool → Bool → Bool → Option ℕ
+causes current inside kept = if not current then Some 6 else if not inside then Some 5 else if not kept then Some 7 else None
+
+none_refused : (a b c d : Bool) → causes a b (c && d) ≡ None → (a ≡ true) × (b ≡ true) × (c ≡ true) × (d ≡ true)
+none_refused true true true true e = (refl, refl, refl, refl)
+none_refused true true true false e = absurd (cc)
+none_refused true true false d e = absurd (cc)
+none_refused true false c d e = absurd (cc)
+none_refused false b c d e = absurd (cc)
+
+-- an edit that nothing refuses asks right
+pub due_asks_right : (ops : List Op) (replica : ℕ) (e : Edit) → edit_refusal ops replica e ≡ None → IsAskedRight ops e
+due_asks_right ops replica e due =
+    let all = none_refused (is_at_rev (rev ops e.doc) e.rev) (is_inside (length (visible ops e.doc)) e.change) (is_small e.change) (is_within_limits (ops ++ made ops replica e)) due in
+    record { current = all.0; inside = all.1; small = all.2 }
+
+-- and keeps the limits
+pub due_within : (ops : List Op) (replica : ℕ) (e : Edit) → edit_refusal ops replica e ≡ None → is_within_limits (ops ++ made ops replica e) ≡ true
+due_within ops replica e due =
+    (none_refused (is_at_rev (rev ops e.doc) e.rev) (is_inside (length (visible ops e.doc)) e.change) (is_small e.change) (is_within_limits (ops ++ made ops replica e)) due).3
+
+room_of_operations : (a b c d e : Bool) → (a && (b && c && d && e)) ≡ true → d ≡ true
+room_of_operations a b c d e all = grind (arith, nat_tests)
+
+at_most_from : (n last : ℕ) → nat_le n last ≡ true → n ≤ last
+at_most_from n last small = grind (arith, nat_tests)
+
+-- so the list has room for its operations
+pub due_fits : (ops : List Op) (replica : ℕ) (e : Edit) → edit_refusal ops replica e ≡ None → length ops + length (made ops replica e) ≤ 16777216
+due_fits ops replica e due =
+    let all = ops ++ made ops replica e in
+    let small = room_of_operations (list_all is_in_range all) (nat_le (length (clock_of all)) 16) (nat_le (length (documents all)) 1024) (nat_le (length all) 16777216) (nat_le (stream_length all) 1073741824) (due_within ops replica e due) in
+    rw length-append at (at_most_from (length all) 16777216 small)
+
+-- what a replica keeps is kept by an edit
+pub IsSound-with_edit : (h : Held) (session : ℕ) (e : Edit) → IsSound h → CanEdit h e → IsSound (with_edit h session e)
+IsSound-with_edit h session e sound can =
+    let more = made h.list h.replica e in
+    let long = length-append h.list more in
+    let seam = take-append_seam h.list more in
+    let front = take-append-le h.opened h.list more sound.opened in
+    let first : h.list ++ more ≡ take (length h.list) (h.list ++ more) ++ made (take (length h.list) (h.list ++ more)) h.replica e = rw seam refl in
+    let rest : Replays h.replica (take h.opened (h.list ++ more)) h.steps (take (length h.list) (h.list ++ more)) = rw (front, seam) sound.replays in
+    record {
+      closed = closed_made h.list h.replica e sound.closed (due_within h.list h.replica e can.due);
+      opened = let within = sound.opened in omega arith;
+      replays = (first, long, rest);
+      number = sound.number;
+      settled = let within = sound.settled in omega arith;
+      acked = sound.acked;
+      told = sound.told;
+      places = let places = can.places in omega arith;
+    }
+
+-- so are its fields
+pub AreFields-with_edit : (h : Held) (session : ℕ) (e : Edit) (counts_before counts : List (ℕ × ℕ)) (numbers_before numbers : List ℕ) (k m step_room order_room : ℕ)
+    → AreFields h counts_before numbers_before k m → CanEdit h e → 0 < size_of e.change
+    → counts ≡ clock_of (h.list ++ made h.list h.replica e) → numbers ≡ with_number e.doc numbers_before
+    → length h.steps + 3 ≤ step_room → length h.list + length (made h.list h.replica e) ≤ order_room
+    → AreFields (with_edit h session e) counts numbers step_room order_room
+AreFields-with_edit h session e counts_before counts numbers_before numbers k m step_room order_room fields can some is_clock are_numbers step_fits order_fits =
+    record {
+      sound = IsSound-with_edit h session e fields.sound can;
+      clock = is_clock;
+      documents = are_numbers ∙ (ap (with_number e.doc) fields.documents ∙ sym (documents-made h.list h.replica e (due_asks_right h.list h.replica e can.due) some));
+      steps = omega arith;
+      order = let long = length-append h.list (made h.list h.replica e) in omega arith;
+    }
+
+-- what a replica holds behind an edit's operations and its step
+pub held_of-edit : (id opened settled acked told session first count : ℕ) (old new : Log) (added : List Op) (e copied : Edit)
+    → IsAppended old new added e.doc (step.Edit session copied first count) → added ≡ made old.list.items id e → copied ≡ e
+    → first ≡ length old.list.items → count ≡ size_of e.change → IsAskedRight old.list.items e
+    → held_of id new.list.items opened settled acked told new.steps.items
+    ≡ with_edit (held_of id old.list.items opened settled acked told old.steps.items) session e
+held_of-edit id opened settled acked told session first count old new added e copied is are same at many right =
+    let number : count ≡ length (made old.list.items id e) = many ∙ sym (length-made old.list.items id e right) in
+    rw (is.list, is.steps, kept-push old.steps.items (step.Edit session copied first count), are, same, at, number) refl
+
+-- and that its fields are those
+pub AreFields-edit : (id opened settled acked told session first count : ℕ) (old new : Log) (added : List Op) (e copied : Edit)
+    → (counts_before counts : List (ℕ × ℕ)) (k m : ℕ)
+    → AreFields (held_of id old.list.items opened settled acked told old.steps.items) counts_before old.documents.items k m
+    → CanEdit (held_of id old.list.items opened settled acked told old.steps.items) e → 0 < size_of e.change
+    → counts ≡ clock_of (old.list.items ++ made old.list.items id e)
+    → IsAppended old new added e.doc (step.Edit session copied first count) → added ≡ made old.list.items id e → copied ≡ e
+    → first ≡ length old.list.items → count ≡ size_of e.change
+    → AreFields (held_of id new.list.items opened settled acked told new.steps.items) counts new.documents.items (vec_capacity new.steps) (vec_capacity new.order)
+AreFields-edit id opened settled acked told session first count old new added e copied counts_before counts k m fields can some is_clock is are same at many =
+    let h : Held = held_of id old.list.items opened settled acked told old.steps.items in
+    let held = held_of-edit id opened settled acked told session first count old new added e copied is are same at many (due_asks_right old.list.items id e can.due) in
+    let long : length h.steps ≡ length old.steps.items = length-kept old.steps.items in
+    rw held
+    (AreFields-with_edit h session e counts_before counts old.documents.items new.documents.items k m (vec_capacity new.steps) (vec_capacity new.order)
+    fields can some is_clock is.documents (rw long is.step_room) (rw (← are) is.order_room))
+
+-- the checks of an operation, where none fails
+abbrev checks : Bool → Bool → Bool → Bool → Option ℕ
+checks counter names document limits =
+    if not counter then Some 21 else if not names then Some 22 else if not document then Some 23 else if not limits then Some 24 else None
+
+first_none : (a b c d : Bool)
+    → checks a b c d ≡ None → (a ≡ true) × (b ≡ true) × (c ≡ true) × (d ≡ true)
+first_none true true true true e = (refl, refl, refl, refl)
+first_none true true true false e = absurd (cc)
+first_none true true false d e = absurd (cc)
+first_none true false c d e = absurd (cc)
+first_none false b c d e = absurd (cc)
+
+-- an operation that is ready and of which no check fails may follow
+pub passed_follows : (ops : List Op) (op : Op) → is_ready (clock_of ops) op.id.replica op.deps ≡ true → first_failed ops op ≡ None → MayFollow ops op
+passed_follows ops op ready passed =
+    let all = first_none (is_counted_up ops op) (names_inserts ops op) (nat_lt 0 op.doc) (is_within_limits (ops ++ op ∷ [])) passed in
+    record { ready = ready; counter = all.0; names = all.1; document = all.2; limits = all.3 }
+
+-- what a replica keeps is kept by a merge
+pub IsSound-with_merge : (h : Held) (peer : ℕ) (op : Op) → IsSound h → CanMerge h op → IsSound (with_merge h peer op)
+IsSound-with_merge h peer op sound can =
+    let long = length-append h.list (op ∷ []) in
+    let seam = take-append_seam h.list (op ∷ []) in
+    let front = take-append-le h.opened h.list (op ∷ []) sound.opened in
+    let first : h.list ++ op ∷ [] ≡ take (length h.list) (h.list ++ op ∷ []) ++ op ∷ [] = rw seam refl in
+    let joins : Joins h.replica (take (length h.list) (h.list ++ op ∷ [])) op = rw seam can.joins in
+    let rest : Replays h.replica (take h.opened (h.list ++ op ∷ [])) h.steps (take (length h.list) (h.list ++ op ∷ [])) = rw (front, seam) sound.replays in
+    record {
+      closed = closed_push h.list op sound.closed can.joins.follows;
+      opened = let within = sound.opened in omega arith;
+      replays = (op, first, omega arith, joins, rest);
+      number = sound.number;
+      settled = let within = sound.settled in omega arith;
+      acked = sound.acked;
+      told = sound.told;
+      places = let places = can.places in omega arith;
+    }
+
+-- what a replica holds behind a merge
+pub held_of-merge : (id opened settled acked told peer index : ℕ) (old new : Log) (added : List Op) (op : Op)
+    → IsAppended old new added op.doc (step.Merge peer index) → added ≡ op ∷ [] → index ≡ length old.list.items
+    → held_of id new.list.items opened settled acked told new.steps.items
+    ≡ with_merge (held_of id old.list.items opened settled acked told old.steps.items) peer op
+held_of-merge id opened settled acked told peer index old new added op is are at =
+    rw (is.list, is.steps, kept-push old.steps.items (step.Merge peer index), are, at) refl
+
+-- and that its fields are those
+pub AreFields-merge : (id opened settled acked told peer index : ℕ) (old new : Log) (added : List Op) (op : Op)
+    → (counts_before counts : List (ℕ × ℕ)) (k m : ℕ)
+    → AreFields (held_of id old.list.items opened settled acked told old.steps.items) counts_before old.documents.items k m
+    → CanMerge (held_of id old.list.items opened settled acked told old.steps.items) op → counts ≡ advanced counts_before op.id.replica
+    → IsAppended old new added op.doc (step.Merge peer index) → added ≡ op ∷ [] → index ≡ length old.list.items
+    → AreFields (held_of id new.list.items opened settled acked told new.steps.items) counts new.documents.items (vec_capacity new.steps) (vec_capacity new.order)
+AreFields-merge id opened settled acked told peer index old new added op counts_before counts k m fields can is_clock is are at =
+    let h : Held = held_of id old.list.items opened settled acked told old.steps.items in
+    let held = held_of-merge id opened settled acked told peer index old new added op is are at in
+    let long : length h.steps ≡ length old.steps.items = length-kept old.steps.items in
+    let more = length-append old.list.items (op ∷ []) in
+    let one : length added ≡ 1 = rw are refl in
+    rw held (record {
+      sound = IsSound-with_merge h peer op fields.sound can;
+      clock = is_clock ∙ (ap (λ es. advanced es op.id.replica) fields.clock ∙ sym (clock-push old.list.items op));
+      documents = is.documents ∙ (ap (with_number op.doc) fields.documents ∙ sym (documents-push old.list.items op));
+      steps = let room = is.step_room in omega arith;
+      order = let room = is.order_room in omega arith;
+    })
+
+differs : (a b : ℕ) → (a == b) ≡ false → a ≢ b
+differs a b other = grind (arith, nat_tests)
+
+-- where a merge may apply an operation
+pub may_merge : (h : Held) (op : Op) → is_ready (clock_of h.list) op.id.replica op.deps ≡ true → (op.id.replica == h.replica) ≡ false
+    → first_failed h.list op ≡ None → length h.steps + 3 ≤ 1048576 → CanMerge h op
+may_merge h op ready other passed places = record {
+  joins = record { follows = passed_follows h.list op ready passed; foreign = differs op.id.replica h.replica other };
+  places = places;
+}
+
+-- there it answers so
+pub merge_answer-applied : (h : Held) (op : Op) → is_known (clock_of h.list) op ≡ false → is_ready (clock_of h.list) op.id.replica op.deps ≡ true
+    → (op.id.replica == h.replica) ≡ false → first_failed h.list op ≡ None → length h.steps + 3 ≤ 1048576
+    → merge_answer h.replica (alone h) op ≡ applied
+merge_answer-applied h op new ready other passed places =
+    let fits : nat_le (length h.steps + 3) 1048576 ≡ true = le-leb (length h.steps + 3) 1048576 places in
+    rw (new, other, ready, passed, fits) refl
+
+-- what a replica keeps is kept where it told of settled operations
+pub AreFields-told : (h : Held) (n now : ℕ) (counts : List (ℕ × ℕ)) (numbers : List ℕ) (k m : ℕ) → AreFields h counts numbers k m → n ≤ h.settled
+    → now ≡ max h.told n → AreFields (record h { told = now }) counts numbers k m
+AreFields-told h n now counts numbers k m fields within is_it = record {
+  sound = record {
+    closed = fields.sound.closed;
+    opened = fields.sound.opened;
+    replays = fields.sound.replays;
+    number = fields.sound.number;
+    settled = fields.sound.settled;
+    acked = fields.sound.acked;
+    told = let told = fields.sound.told in omega arith;
+    places = fields.sound.places;
+  };
+  clock = fields.clock;
+  documents = fields.documents;
+  steps = fields.steps;
+  order = fields.order;
+}

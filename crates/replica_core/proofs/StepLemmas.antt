@@ -1,0 +1,63 @@
+-- What a replica's calls are to the machine, whatever the version and the commit of its store.
+use Rattle.std.proofs.Common.{◌≡◌, ℕ, ◌+◌, ◌≤◌, ◌<◌, true, false, List, take, ap, Option, None}
+use Rattle.op_model.specs.declared.op.Op.{Op}
+use Rattle.op_model.specs.declared.edit.Edit.{Edit}
+use Rattle.op_model.specs.Causality.{clock_of}
+use Rattle.op_model.specs.Machine.{Commit, Ticket, ticket, refused, acknowledged, operations, clock, edit_answer, merge_answer, untold, reach, IsRefusal, EditStep, MergeStep, AckStep, TellStep, HaveStep}
+use Rattle.op_model.specs.Machine.{with_settled as state_settled}
+use Rattle.replica_core.specs.declared.merged.Merged.{Merged}
+use Rattle.replica_core.specs.declared.merged.Merged.TheVariants as merged_as
+use Rattle.replica_core.specs.Held.{Held, alone, stored, with_edit, with_settled, with_acked, with_told}
+use Rattle.replica_core.specs.Merging.{after_merge, answer_of}
+
+-- an edit that is answered with a ticket
+pub edit_step : (h next : Held) (session : ℕ) (e : Edit) (t : Ticket) (version : ℕ) (commit : Option Commit)
+    → edit_answer h.replica (alone h) e ≡ ticket t → next ≡ with_edit h session e
+    → EditStep h.replica (stored h version commit) session e (ticket t) (stored next version commit)
+edit_step h next session e t version commit answer is_it = (answer, ap (λ s. stored s version commit) is_it)
+
+-- an edit that is refused
+pub edit_step_refused : (h next : Held) (session : ℕ) (e : Edit) (n version : ℕ) (commit : Option Commit)
+    → IsRefusal n (edit_answer h.replica (alone h) e) → next ≡ h
+    → EditStep h.replica (stored h version commit) session e (refused n) (stored next version commit)
+edit_step_refused h next session e n version commit answer same = (answer, ap (λ s. stored s version commit) same)
+
+-- a merge that isn't refused
+pub merge_step : (h next : Held) (peer : ℕ) (op : Op) (m : Merged) (version : ℕ) (commit : Option Commit)
+    → merge_answer h.replica (alone h) op ≡ answer_of m → next ≡ after_merge m h peer op
+    → MergeStep h.replica (stored h version commit) peer op (answer_of m) (stored next version commit)
+merge_step h next peer op merged_as.Applied version commit answer is_it = (answer, ap (λ s. stored s version commit) is_it)
+merge_step h next peer op merged_as.Known version commit answer is_it = (answer, ap (λ s. stored s version commit) is_it)
+merge_step h next peer op merged_as.Early version commit answer is_it = (answer, ap (λ s. stored s version commit) is_it)
+
+-- a merge that is refused
+pub merge_step_refused : (h next : Held) (peer : ℕ) (op : Op) (n version : ℕ) (commit : Option Commit)
+    → IsRefusal n (merge_answer h.replica (alone h) op) → next ≡ h
+    → MergeStep h.replica (stored h version commit) peer op (refused n) (stored next version commit)
+merge_step_refused h next peer op n version commit answer same = (answer, ap (λ s. stored s version commit) same)
+
+-- a settlement: the store's version rises and its commit is gone
+pub settled_state : (h next : Held) (n version : ℕ) (commit : Option Commit) → next ≡ with_settled h n
+    → stored next (version + 1) None ≡ state_settled n (stored h version commit)
+settled_state h next n version commit is_it = ap (λ s. stored s (version + 1) None) is_it
+
+-- an acknowledgement
+pub ack_step : (h next : Held) (t : Ticket) (version : ℕ) (commit : Option Commit) → t.end ≤ h.settled → next ≡ with_acked h t.end
+    → AckStep (stored h version commit) t (acknowledged true) (stored next version commit)
+ack_step h next t version commit settled is_it = (settled, ap (λ s. stored s version commit) is_it)
+
+pub ack_step_none : (h next : Held) (t : Ticket) (version : ℕ) (commit : Option Commit) → h.settled < t.end → next ≡ h
+    → AckStep (stored h version commit) t (acknowledged false) (stored next version commit)
+ack_step_none h next t version commit unsettled same = (unsettled, ap (λ s. stored s version commit) same)
+
+-- a telling of operations
+pub tell_step : (h next : Held) (c : List (ℕ × ℕ)) (ops : List Op) (version : ℕ) (commit : Option Commit)
+    → ops ≡ untold c (alone h) → next ≡ with_told h (reach 64 c (take h.settled h.list))
+    → TellStep (stored h version commit) c (operations ops) (stored next version commit)
+tell_step h next c ops version commit are is_it = (are, ap (λ s. stored s version commit) is_it)
+
+-- a telling of the clock
+pub have_step : (h next : Held) (c : List (ℕ × ℕ)) (version : ℕ) (commit : Option Commit)
+    → c ≡ clock_of (take h.settled h.list) → next ≡ with_told h h.settled
+    → HaveStep (stored h version commit) (clock c) (stored next version commit)
+have_step h next c version commit is_clock is_it = (is_clock, ap (λ s. stored s version commit) is_it)

@@ -1,0 +1,28 @@
+-- The fields of a replica.
+use Rattle.std.specs.Prelude.{◌≡◌, ℕ, ◌+◌, ◌≤◌, List, length}
+use Rattle.op_model.specs.declared.op.Op.{Op}
+use Rattle.op_model.specs.Causality.{clock_of, documents}
+use Rattle.replica_core.specs.declared.step.Step.{Step}
+use Rattle.replica_core.specs.Held.{Held, IsSound}
+use Rattle.replica_core.specs.Steps.{kept, places_left}
+
+-- what a replica with these fields holds
+abbrev pub held_of : ℕ → List Op → ℕ → ℕ → ℕ → ℕ → List Step → Held
+held_of replica list opened settled acked told steps = record {
+  replica = replica;
+  list = list;
+  opened = opened;
+  settled = settled;
+  acked = acked;
+  told = told;
+  steps = kept steps;
+}
+
+-- what a replica holds is sound, and its clock, its documents and its room, for steps and for the order of characters, are
+-- those of the list and the steps
+pub record AreFields (h : Held) (counts : List (ℕ × ℕ)) (numbers : List ℕ) (step_room order_room : ℕ) : Type 0 where
+  pub sound : IsSound h
+  pub clock : counts ≡ clock_of h.list
+  pub documents : numbers ≡ documents h.list
+  pub steps : length h.steps + places_left h.steps ≤ step_room
+  pub order : length h.list ≤ order_room

@@ -1,0 +1,29 @@
+-- What a merge answers and leaves.
+use Rattle.std.specs.Prelude.{ℕ, ◌+◌, ◌≤◌, [], ◌∷◌, ◌++◌, length}
+use Rattle.op_model.specs.declared.op.Op.{Op}
+use Rattle.op_model.specs.Machine.{Answer, applied, known, early}
+use Rattle.op_model.specs.Replay.{merged, Joins}
+use Rattle.replica_core.specs.declared.merged.Merged.{Merged}
+use Rattle.replica_core.specs.declared.merged.Merged.TheVariants as merged_as
+use Rattle.replica_core.specs.Held.{Held}
+
+-- the machine's answer
+abbrev pub answer_of : Merged → Answer
+answer_of merged_as.Applied = applied
+answer_of merged_as.Known = known
+answer_of merged_as.Early = early
+
+-- with a peer's operation
+abbrev pub with_merge : Held → ℕ → Op → Held
+with_merge h peer op = record h { list = h.list ++ op ∷ []; steps = merged peer (length h.list) ∷ h.steps }
+
+-- what a replica holds behind a merge: all as before, but with the operation where it is applied
+abbrev pub after_merge : Merged → Held → ℕ → Op → Held
+after_merge merged_as.Applied h peer op = with_merge h peer op
+after_merge merged_as.Known h peer op = h
+after_merge merged_as.Early h peer op = h
+
+-- nothing refuses a peer's operation, and there are places for its step and for two settlements
+pub record CanMerge (h : Held) (op : Op) : Type 0 where
+  pub joins : Joins h.replica h.list op
+  pub places : length h.steps + 3 ≤ 1048576

@@ -1,0 +1,383 @@
+ghost use Rattle.std.specs.Prelude.{◌≡◌, ◌≢◌, ◌↔◌, ℕ, ◌≤◌, ◌<◌, ◌+◌, List, [], length, take, Some, None, IsTrue, IfOk, IfErr, OnOk, OnErr, MatchOption, Contains, if◌then◌else◌};
+ghost use Rattle.op_model.specs.Machine.{edit_answer, merge_answer, merge_answer_unless, reach, untold as untold_of, IsRefusal, ticket, refused};
+ghost use Rattle.op_model.specs.Causality.{clock_of, first_failed as first_failed_of, IsCausallyClosed};
+ghost use Rattle.op_model.specs.Replay.{reached};
+ghost use Rattle.op_model.specs.Spans.{spans as spans_of};
+ghost use Rattle.op_model.specs.Text.{text as text_of, rev as rev_of};
+ghost use Rattle.replica_core.specs.Held.{alone, opened_with, with_acked, with_edit, with_settled, with_told, CanEdit, IsSound};
+ghost use Rattle.replica_core.specs.Merging.{after_merge, answer_of, with_merge, CanMerge};
+ghost use Rattle.replica_core.specs.Refusal.{number_of};
+ghost use Rattle.replica_core.specs.Steps.{places_left};
+
+use crate::deciding::edit_refusal;
+use crate::following::{first_failed, is_known};
+use crate::log::{Log, one};
+use crate::merged::Merged;
+use crate::opening::counted;
+use crate::order::put_order;
+use crate::refusal::Refusal;
+use crate::step::Step;
+use crate::telling::untold;
+use crate::ticket::Ticket;
+use op_ids::{Clock, ReplicaId};
+use op_model::{Edit, Op, Span, Text};
+use slow_programs::{change_size, made_with_clock};
+use std::alloc::{AllocError, Global};
+use std::marker::Model;
+
+/// The most steps that are kept since opening.
+const MAX_STEPS: usize = 1_048_576;
+
+/// One peer's list of operations, with its clock, how much of it is settled, acknowledged and told,
+/// and the steps that made it since it was opened. Contracts see what it holds.
+#[derive(Debug, Drop)]
+pub struct Replica {
+    id: ReplicaId,
+    log: Log,
+    /// How many operations of each replica the list has.
+    clock: Clock,
+    /// The length of the list at opening.
+    opened: usize,
+    settled: usize,
+    acked: usize,
+    told: usize,
+}
+
+impl Model for Replica {
+    ghost use Rattle.std.specs.Prelude.{vec_capacity};
+    ghost use Rattle.replica_core.specs.Held.{Held};
+    ghost use Rattle.replica_core.specs.Fields.{held_of, AreFields};
+
+    ghost Value = { Held };
+
+    ghost view = { λ r. held_of r.id r.log.list.items r.opened r.settled r.acked r.told r.log.steps.items };
+
+    ghost invariant = { λ r. AreFields (held_of r.id r.log.list.items r.opened r.settled r.acked r.told r.log.steps.items)
+        r.clock r.log.documents.items (vec_capacity r.log.steps) (vec_capacity r.log.order) };
+}
+
+impl Replica {
+    /// The replica of an empty store. Takes no memory.
+    pub fn new(alloc: Global, id: ReplicaId) -> Replica
+        ensures { result ≡ opened_with id [] }
+    {
+        Replica {
+            id,
+            log: Log {
+                list: Vec::new(alloc),
+                steps: Vec::new(alloc),
+                documents: Vec::new(alloc),
+                order: Vec::new(alloc),
+            },
+            clock: Clock::new(alloc),
+            opened: 0,
+            settled: 0,
+            acked: 0,
+            told: 0,
+        }
+    }
+
+    /// The replica as it is after opening a store with this list: all of it is settled.
+    /// `BadOperation` (47) exactly where the list isn't causally closed; `Memory` (1) says nothing
+    /// of that. Quadratic in the list.
+    pub fn from_list(alloc: Global, id: ReplicaId, list: Vec<Op>) -> Result<Replica, Refusal>
+        ensures opened { IfOk result (λ r. r ≡ opened_with id list.items) }
+        ensures closed { OnOk result (IsCausallyClosed list.items) }
+        ensures bad { IfErr result (λ e. e ≢ Refusal.Memory
+            → (e ≡ Refusal.BadOperation) × (IsCausallyClosed list.items → ⊥)) }
+    {
+        let (clock, documents) = counted(alloc, &list)?;
+        let order = Vec::with_capacity(alloc, list.len())?;
+        let opened = list.len();
+        Ok(Replica {
+            id,
+            log: Log {
+                list,
+                steps: Vec::new(alloc),
+                documents,
+                order,
+            },
+            clock,
+            opened,
+            settled: opened,
+            acked: opened,
+            told: opened,
+        })
+    }
+
+    /// The name of the replica.
+    pub fn replica(&self) -> ReplicaId
+        ensures { result ≡ self.now.replica }
+    {
+        self.id
+    }
+
+    /// The operations, in the order of application. The list is causally closed, replaying the kept
+    /// steps gives it, and the numbers are in order, as all that a replica holds.
+    pub fn list(&self) -> &[Op]
+        ensures list { result.now ≡ self.now.list }
+        ensures sound { IsSound self.now }
+    {
+        &self.log.list
+    }
+
+    /// How many operations of each replica the list has.
+    pub fn clock(&self) -> &Clock
+        ensures { result.now ≡ clock_of self.now.list }
+    {
+        &self.clock
+    }
+
+    /// How many operations, from the beginning of the list, are settled.
+    pub fn settled(&self) -> usize
+        ensures { result ≡ self.now.settled }
+    {
+        self.settled
+    }
+
+    /// The greatest number of operations that an edit answered as settled needed.
+    pub fn acked(&self) -> usize
+        ensures { result ≡ self.now.acked }
+    {
+        self.acked
+    }
+
+    /// The greatest number of operations that a telling needed.
+    pub fn told(&self) -> usize
+        ensures { result ≡ self.now.told }
+    {
+        self.told
+    }
+
+    /// How many operations a document has. Takes no memory. Linear in the list.
+    pub fn rev(&self, doc: u32) -> usize
+        ensures { result ≡ rev_of self.now.list doc }
+    {
+        slow_programs::rev(&self.log.list, doc)
+    }
+
+    /// The text of a document, unsettled operations included. An error is want of memory (1).
+    /// Quadratic in the list.
+    pub fn text(&self, doc: u32) -> Result<Text, AllocError>
+        ensures { IfOk result (λ seen. seen ≡ text_of self.now.list doc) }
+    {
+        slow_programs::text(*self.log.list.allocator(), &self.log.list, doc)
+    }
+
+    /// The text of a document, cut where the marks change. An error is want of memory (1). Cubic in
+    /// the list.
+    pub fn spans(&self, doc: u32) -> Result<Vec<Span>, AllocError>
+        ensures { IfOk result (λ found. found.items ≡ spans_of self.now.list doc) }
+    {
+        slow_programs::spans(*self.log.list.allocator(), &self.log.list, doc)
+    }
+
+    /// Settles the first n operations: a number that isn't below the settled one, and a length that
+    /// the list had at opening or after an edit or a merge. One of the two places behind the last
+    /// edit or merge is left for it. Takes no memory.
+    pub fn settle(&mut self, n: usize)
+        requires rising { self.old.settled ≤ n }
+        requires within { n ≤ length self.old.list }
+        requires reached { Contains (reached self.old.opened self.old.steps) n }
+        requires place { 0 < places_left self.old.steps }
+        ensures { self.new ≡ with_settled self.old n }
+    {
+        match self.log.steps.push(Step::Settlement { settled: n }) {
+            Ok(()) => {}
+            Err(_) => unreachable!(),
+        }
+        self.settled = n;
+    }
+
+    /// Whether the operations of a ticket's edit are settled. Then they are acknowledged; otherwise
+    /// nothing changes. Takes no memory.
+    pub fn ack(&mut self, ticket: Ticket) -> bool
+        ensures settled { IsTrue result ↔ (ticket.end ≤ self.old.settled) }
+        ensures acked { self.new
+            ≡ (if result then with_acked self.old ticket.end else self.old) }
+    {
+        if ticket.end > self.settled {
+            return false;
+        }
+        self.acked = self.acked.max(ticket.end);
+        true
+    }
+
+    /// Makes the operations of a session's edit and puts them behind the list. It is refused by the
+    /// first cause, in this order: `Stale` (6), `Range` (5), `Limit` (7), `Steps` (10); `Memory`
+    /// (1) stands only in place of success. A refused edit changes nothing. Quadratic in the list.
+    pub fn edit(&mut self, session: u64, edit: &Edit) -> Result<Ticket, Refusal>
+        ensures made { OnOk result (self.new ≡ with_edit self.old session edit.now) }
+        ensures ticket { IfOk result (λ t.
+            edit_answer self.old.replica (alone self.old) edit.now ≡ ticket t) }
+        ensures refused { IfErr result (λ e.
+            IsRefusal (number_of e) (edit_answer self.old.replica (alone self.old) edit.now)) }
+        ensures err { OnErr result (self.new ≡ self.old) }
+    {
+        if let Some(refusal) = self.edit_refusal(edit) {
+            return Err(refusal);
+        }
+        self.put_edit(session, edit)?;
+        Ok(Ticket {
+            end: self.log.list.len(),
+            rev: self.rev(edit.doc),
+        })
+    }
+
+    /// Why an edit is refused, by the first cause. Takes no memory.
+    fn edit_refusal(&mut self, edit: &Edit) -> Option<Refusal>
+        ensures same { self.new ≡ self.old }
+        ensures cause { MatchOption result (CanEdit self.old edit.now)
+            (λ e. edit_answer self.old.replica (alone self.old) edit.now ≡ refused (number_of e)) }
+    {
+        let log = &mut self.log;
+        put_order(&log.list, edit.doc, &mut log.order);
+        if let Some(refusal) = edit_refusal(
+            &log.list,
+            &self.clock,
+            &log.documents,
+            &log.order,
+            self.id,
+            edit,
+        ) {
+            return Some(refusal);
+        }
+        if log.steps.len() > MAX_STEPS - 3 {
+            return Some(Refusal::Steps);
+        }
+        None
+    }
+
+    /// Makes the operations of an edit that nothing refuses. An error is want of memory (1), and
+    /// changes nothing.
+    fn put_edit(&mut self, session: u64, edit: &Edit) -> Result<(), Refusal>
+        requires { CanEdit self.old edit.now }
+        ensures made { OnOk result (self.new ≡ with_edit self.old session edit.now) }
+        ensures memory { IfErr result (λ e. e ≡ Refusal.Memory) }
+        ensures err { OnErr result (self.new ≡ self.old) }
+    {
+        let alloc = *self.log.list.allocator();
+        let count = change_size(&edit.change) as usize;
+        let (made, clock) = match made_with_clock(alloc, &self.log.list, self.id, edit) {
+            Ok(made) => made,
+            // No other cause is left.
+            Err(_) => return Err(Refusal::Memory),
+        };
+        let step = Step::Edit {
+            session,
+            edit: edit.copy()?,
+            first: self.log.list.len(),
+            count,
+        };
+        self.log.append(made, edit.doc, step)?;
+        self.clock = clock;
+        Ok(())
+    }
+
+    /// Puts a peer's operation behind the list, or says that it is there already, or that it comes
+    /// early. It is refused by the first cause, in this order: `OwnUnknown` (20), which is tested
+    /// before `Early`, `Counter` (21), `Names` (22), `Document` (23), `StoreLimit` (24), `Steps`
+    /// (10); `Memory` (1) stands only in place of `Applied`. A refused merge changes nothing.
+    /// Linear in the list.
+    pub fn merge(&mut self, peer: u64, op: Op) -> Result<Merged, Refusal>
+        ensures merged { IfOk result (λ m. self.new ≡ after_merge m self.old peer op) }
+        ensures answer { IfOk result (λ m.
+            merge_answer self.old.replica (alone self.old) op ≡ answer_of m) }
+        ensures refused { IfErr result (λ e.
+            IsRefusal (number_of e) (merge_answer self.old.replica (alone self.old) op)) }
+        ensures err { OnErr result (self.new ≡ self.old) }
+    {
+        if is_known(&self.clock, &op) {
+            return Ok(Merged::Known);
+        }
+        if op.id.replica() == self.id {
+            return Err(Refusal::OwnUnknown);
+        }
+        if !self.clock.ready(op.id.replica(), &op.deps) {
+            return Ok(Merged::Early);
+        }
+        if let Some(refusal) = self.merge_refusal(&op) {
+            return Err(refusal);
+        }
+        self.put_merge(peer, op)?;
+        Ok(Merged::Applied)
+    }
+
+    /// Why an operation that is ready is refused, by the first cause. Takes no memory.
+    fn merge_refusal(&self, op: &Op) -> Option<Refusal>
+        ensures { MatchOption result
+            ((first_failed_of self.now.list op.now ≡ None) × (length self.now.steps + 3 ≤ 1048576))
+            (λ e. merge_answer_unless (alone self.now) (first_failed_of self.now.list op.now)
+            ≡ refused (number_of e)) }
+    {
+        let log = &self.log;
+        if let Some(refusal) = first_failed(&log.list, &self.clock, &log.documents, op) {
+            return Some(refusal);
+        }
+        if log.steps.len() > MAX_STEPS - 3 {
+            return Some(Refusal::Steps);
+        }
+        None
+    }
+
+    /// Puts an operation behind the list that nothing refuses. An error is want of memory (1), and
+    /// changes nothing.
+    fn put_merge(&mut self, peer: u64, op: Op) -> Result<(), Refusal>
+        requires { CanMerge self.old op }
+        ensures merged { OnOk result (self.new ≡ with_merge self.old peer op) }
+        ensures memory { IfErr result (λ e. e ≡ Refusal.Memory) }
+        ensures err { OnErr result (self.new ≡ self.old) }
+    {
+        let alloc = *self.log.list.allocator();
+        let mut clock = self.clock.copy()?;
+        // The limits of a store are kept, so only a growth can be refused here.
+        match clock.advance(op.id.replica()) {
+            Ok(()) => {}
+            Err(_) => return Err(Refusal::Memory),
+        }
+        let doc = op.doc;
+        let step = Step::Merge {
+            peer,
+            index: self.log.list.len(),
+        };
+        let made = one(alloc, op)?;
+        self.log.append(made, doc, step)?;
+        self.clock = clock;
+        Ok(())
+    }
+
+    /// The first settled operations, at most 64 in the order of the list, that a clock doesn't
+    /// count. They count as told. An error is want of memory (1), and changes nothing. Linear in
+    /// the list.
+    pub fn tell(&mut self, clock: &Clock) -> Result<Vec<Op>, Refusal>
+        ensures told { IfOk result (λ ops. ops.items ≡ untold_of clock.now (alone self.old)) }
+        ensures raised { OnOk result (self.new
+            ≡ with_told self.old (reach 64 clock.now (take self.old.settled self.old.list))) }
+        ensures memory { IfErr result (λ e. e ≡ Refusal.Memory) }
+        ensures err { OnErr result (self.new ≡ self.old) }
+    {
+        let alloc = *self.log.list.allocator();
+        let settled = self.log.list.split_at(self.settled).0;
+        let (ops, reached) = untold(alloc, clock, settled)?;
+        self.told = self.told.max(reached);
+        Ok(ops)
+    }
+
+    /// How many operations of each replica are settled. All settled ones count as told. An error is
+    /// want of memory (1), and changes nothing. Linear in the list.
+    pub fn have(&mut self) -> Result<Clock, Refusal>
+        ensures clock { IfOk result (λ c. c ≡ clock_of (take self.old.settled self.old.list)) }
+        ensures raised { OnOk result (self.new ≡ with_told self.old self.old.settled) }
+        ensures memory { IfErr result (λ e. e ≡ Refusal.Memory) }
+        ensures err { OnErr result (self.new ≡ self.old) }
+    {
+        let alloc = *self.log.list.allocator();
+        let settled = self.log.list.split_at(self.settled).0;
+        let clock = match slow_programs::clock_of(alloc, settled) {
+            Ok(clock) => clock,
+            Err(_) => return Err(Refusal::Memory),
+        };
+        self.told = self.told.max(self.settled);
+        Ok(clock)
+    }
+}
