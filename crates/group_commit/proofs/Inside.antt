@@ -21,7 +21,7 @@ use Rattle.group_commit.proofs.Frame.{reading_of}
 whole_inside : (n : ℕ) (file : List ℕ) → length (page n file) ≡ 4096 → 4096 * n + 4096 ≤ length file
 whole_inside n file whole = omega (arith, whole, length-take 4096 (drop (4096 * n) file), length-drop (4096 * n) file)
 
-whole-append : (a b : List ℕ) (file : List ℕ) → are_whole (pages a file) ≡ true → are_whole (pages b file) ≡ true → are_whole (pages (a ++ b) file) ≡ true
+pub whole-append : (a b : List ℕ) (file : List ℕ) → are_whole (pages a file) ≡ true → are_whole (pages b file) ≡ true → are_whole (pages (a ++ b) file) ≡ true
 whole-append [] b file first second = second
 whole-append (n ∷ ns) b file first second =
     let rest = whole-append ns b file (rest_whole (page n file) (pages ns file) first) second in

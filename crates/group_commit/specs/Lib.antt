@@ -3,6 +3,7 @@ pub mod Commit
 pub mod Errors
 pub mod Held
 pub mod Image
+pub mod Loading
 pub mod NewFile
 pub mod OnePage
 pub mod Plan

@@ -1,5 +1,5 @@
 -- What a step of a commit does to the disk below the store.
-use Rattle.std.specs.Prelude.{◌≡◌, ◌↔◌, ℕ, ◌+◌, ◌-◌, Bool, true, false, List, Result, Ok, Err, IfErr}
+use Rattle.std.specs.Prelude.{◌≡◌, ◌↔◌, ℕ, List, Result, Ok, Err, IfErr}
 use Rattle.disk_trait.specs.Calls.{IsCall, LeavesOnly}
 use Rattle.disk_trait.specs.declared.facts.DiskFacts.{Ghosts}
 use Rattle.group_commit.specs.Commit.{IsOneOf, IsLeft}
@@ -56,30 +56,3 @@ error_in Body = WriteFailed
 error_in Sync2 = SyncFailed
 error_in Gate = WriteFailed
 error_in Sync3 = SyncFailed
-
--- one write more where the stale gate is to be closed
-abbrev pub closes : Bool → ℕ
-closes true = 1
-closes false = 0
-
--- how many writes a commit has still to make from a phase on
-abbrev pub writes_left : Phase → ℕ → Bool → ℕ
-writes_left Idle pages stale = 0
-writes_left (Pages k) pages stale = pages - k + closes stale + 2
-writes_left Close pages stale = 3
-writes_left Sync1 pages stale = 2
-writes_left Body pages stale = 2
-writes_left Sync2 pages stale = 1
-writes_left Gate pages stale = 1
-writes_left Sync3 pages stale = 0
-
--- and how many syncs
-abbrev pub syncs_left : Phase → ℕ
-syncs_left Idle = 0
-syncs_left (Pages k) = 3
-syncs_left Close = 3
-syncs_left Sync1 = 3
-syncs_left Body = 2
-syncs_left Sync2 = 2
-syncs_left Gate = 1
-syncs_left Sync3 = 1

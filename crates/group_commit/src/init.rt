@@ -1,5 +1,6 @@
 //! The making of a new file.
-ghost use Rattle.std.specs.Prelude.{◌≡◌, ◌+◌, ◌++◌, [], ◌∷◌, ◌↔◌, ℕ, List, true, false, length, replicate, IfOk, IfErr, OnOk, OnErr};
+ghost use Rattle.std.specs.Prelude.{◌≡◌, ◌≢◌, ◌+◌, ◌++◌, [], ◌∷◌, ◌↔◌, ℕ, List, true, false, length, replicate, IfOk, IfErr, OnOk, OnErr};
+ghost use Rattle.disk_trait.specs.Calls.{Keeps};
 ghost use Rattle.disk_trait.specs.File.{overwritten};
 ghost use Rattle.root_slots.specs.Body.{root_of};
 ghost use Rattle.root_slots.specs.Root.{is_root};
@@ -32,7 +33,10 @@ fn closed_slot(alloc: Global, body: &[u8]) -> Result<Vec<u8>, AllocError>
 
 // Whether the file has no bytes: 48 where it has some, 50 where the device failed.
 fn check_empty<D: Disk>(disk: &mut D) -> Result<(), InitError>
+    ensures taken { D.tells disk.old → OnOk result (D.content disk.old ≡ []) }
     ensures empty { D.tells disk.old → OnOk result (D.content disk.new ≡ []) }
+    ensures not_empty { D.tells disk.old → IfErr result (λ e. e ≡ NotEmpty
+        → (D.content disk.old ≢ []) × Keeps D.DiskFacts disk.old disk.new) }
     ensures counts { D.tells disk.old → OnOk result (Counts D.DiskFacts 0 0 0 disk.old disk.new) }
     ensures failed { D.tells disk.old → IfErr result
         (λ e. D.failures disk.new ≡ D.failures disk.old + failures_of e) }
@@ -78,7 +82,8 @@ fn open_first<D: Disk>(disk: &mut D) -> Result<(), StoreError>
 
 // What a refused device call is.
 fn cause(error: StoreError) -> InitError
-    ensures { failures_of result ≡ 1 }
+    ensures failed { failures_of result ≡ 1 }
+    ensures other { result ≢ NotEmpty }
 {
     match error {
         StoreError::SyncFailed => InitError::SyncFailed,
@@ -97,6 +102,7 @@ fn put_file<D: Disk>(disk: &mut D, first: &[u8], second: &[u8]) -> Result<(), In
     ensures counts { D.tells disk.old → OnOk result (Counts D.DiskFacts 0 3 2 disk.old disk.new) }
     ensures failed { D.tells disk.old → IfErr result
         (λ e. D.failures disk.new ≡ D.failures disk.old + failures_of e) }
+    ensures other { IfErr result (λ e. e ≢ NotEmpty) }
     ensures tells { D.tells disk.new ↔ D.tells disk.old }
 {
     put_slots(disk, first, second).map_err(cause)?;
@@ -113,6 +119,7 @@ fn make_file<D: Disk>(alloc: Global, disk: &mut D, body: &[u8]) -> Result<(), In
     ensures counts { D.tells disk.old → OnOk result (Counts D.DiskFacts 0 3 2 disk.old disk.new) }
     ensures failed { D.tells disk.old → IfErr result
         (λ e. D.failures disk.new ≡ D.failures disk.old + failures_of e) }
+    ensures other { IfErr result (λ e. e ≢ NotEmpty) }
     ensures tells { D.tells disk.new ↔ D.tells disk.old }
 {
     let first = closed_slot(alloc, body)?;
@@ -153,11 +160,14 @@ fn format<D: Disk>(
     }) }
     ensures empty { IfOk result (λ roots. (roots.0.stream ≡ []) × (roots.0.pages ≡ [])
         × (is_root roots.0.body ≡ true)) }
+    ensures made { D.tells disk.old → IfOk result
+        (λ roots. D.content disk.new ≡ new_file roots.0.body) }
     ensures left { D.tells disk.old → IfOk result
         (λ roots. (c : List ℕ) → D.survives disk.new c → c ≡ new_file roots.0.body) }
     ensures counts { D.tells disk.old → OnOk result (Counts D.DiskFacts 0 3 2 disk.old disk.new) }
     ensures failed { D.tells disk.old → IfErr result
         (λ e. D.failures disk.new ≡ D.failures disk.old + failures_of e) }
+    ensures other { IfErr result (λ e. e ≢ NotEmpty) }
     ensures tells { D.tells disk.new ↔ D.tells disk.old }
 {
     let roots = empty_roots(alloc, replica)?;
@@ -182,6 +192,11 @@ fn begin_file<D: Disk>(
     }) }
     ensures empty { IfOk result (λ roots. (roots.0.stream ≡ []) × (roots.0.pages ≡ [])
         × (is_root roots.0.body ≡ true)) }
+    ensures taken { D.tells disk.old → OnOk result (D.content disk.old ≡ []) }
+    ensures not_empty { D.tells disk.old → IfErr result (λ e. e ≡ NotEmpty
+        → (D.content disk.old ≢ []) × Keeps D.DiskFacts disk.old disk.new) }
+    ensures made { D.tells disk.old → IfOk result
+        (λ roots. D.content disk.new ≡ new_file roots.0.body) }
     ensures left { D.tells disk.old → IfOk result
         (λ roots. (c : List ℕ) → D.survives disk.new c → c ≡ new_file roots.0.body) }
     ensures counts { D.tells disk.old → OnOk result (Counts D.DiskFacts 0 3 2 disk.old disk.new) }
@@ -211,6 +226,12 @@ impl<D: Disk> Store<D> {
         ensures empty { IfOk result (λ store. store.current.stream ≡ []) }
         ensures idle { IfOk result (λ store. (store.phase ≡ Idle) × (store.failed ≡ false)
             × (store.stale ≡ false)) }
+        // It is made of a file without bytes alone; 48 leaves a file that has some as it was.
+        ensures taken { D.tells disk → OnOk result (D.content disk ≡ []) }
+        ensures not_empty { D.tells disk → IfErr result (λ fault. fault.cause ≡ NotEmpty
+            → (D.content disk ≢ []) × Keeps D.DiskFacts disk fault.disk) }
+        ensures made { D.tells disk → IfOk result
+            (λ store. D.content store.disk ≡ new_file store.current.body) }
         // A crash leaves a file that has that root.
         ensures left { D.tells disk → IfOk result (λ store. (c : List ℕ)
             → D.survives store.disk c → IsLeft store.phase store.current store.next c) }

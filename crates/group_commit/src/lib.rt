@@ -6,16 +6,28 @@ mod call;
 mod error;
 mod init;
 mod init_fault;
+mod load;
+mod load_image;
+mod load_ops;
+mod load_pages;
+mod load_slot;
+mod load_stream;
+mod open_fault;
 mod phase;
 mod plan;
+mod reading;
 mod root;
 mod step;
 mod store;
 
 pub use error::StoreError;
 pub use init_fault::{InitError, InitFault};
+pub use load::Loaded;
+pub use open_fault::{OpenError, OpenFault};
 pub use phase::Phase;
 pub use store::Store;
 
+#[cfg(test)]
+mod load_tests;
 #[cfg(test)]
 mod tests;

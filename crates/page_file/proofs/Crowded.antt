@@ -1,14 +1,14 @@
 -- So many numbers can't fill more places than there are numbers.
-use Rattle.std.proofs.Common.{◌≡◌, ℕ, zero, suc, ◌+◌, ◌-◌, ◌<◌, ◌≤◌, Bool, true, false, ◌||◌, ◌==◌, nat_lt, List, [], ◌∷◌, length, refl, inl, inr, arith, if◌then◌else◌}
+use Rattle.std.proofs.Common.{◌≡◌, ℕ, zero, suc, ◌+◌, ◌-◌, ◌<◌, ◌≤◌, Bool, true, false, ◌||◌, ◌==◌, nat_lt, List, [], ◌∷◌, length, refl, sym, inl, inr, arith, if◌then◌else◌}
 use Rattle.std.proofs.lemmas.Bool.Decides.{nat_tests}
 use Rattle.page_file.specs.Pages.{has}
 use Rattle.page_file.specs.Free.{count_below}
 
-count_within : (n : ℕ) (used : List ℕ) → count_below n used ≤ length used
+pub count_within : (n : ℕ) (used : List ℕ) → count_below n used ≤ length used
 count_within n [] = omega arith
 count_within n (m ∷ ms) = let rest = count_within n ms in grind (arith, nat_tests)
 
-count_rises : (n : ℕ) (used : List ℕ) → count_below n used ≤ count_below (n + 1) used
+pub count_rises : (n : ℕ) (used : List ℕ) → count_below n used ≤ count_below (n + 1) used
 count_rises n [] = omega arith
 count_rises n (m ∷ ms) = let rest = count_rises n ms in grind (arith, nat_tests)
 
@@ -21,16 +21,17 @@ count_more n (m ∷ ms) is_there = by_test (has n ms) refl (count_rises n ms) (�
     by_test true is rises more = let rest = more is in grind (arith, nat_tests)
     by_test false is rises more = grind (arith, nat_tests)
 
-filled : (n : ℕ) (used : List ℕ) → ((m : ℕ) → 2 ≤ m → m < n → has m used ≡ true) → n - 2 ≤ count_below n used
-filled zero used all = omega arith
-filled (suc zero) used all = omega arith
-filled (suc (suc zero)) used all = omega arith
-filled (suc (suc (suc n))) used all =
-    let rest = filled (suc (suc n)) used (λ m behind below. all m behind (omega (arith, below))) in
-    let place : suc (suc n) + 1 ≡ suc (suc (suc n)) = omega arith in
-    let more = rw (place) at (count_more (suc (suc n)) used (all (suc (suc n)) (omega arith) (omega arith))) in
+-- so many used places add to the count
+pub filled : (start k : ℕ) (used : List ℕ) → ((m : ℕ) → start ≤ m → m < start + k → has m used ≡ true)
+    → count_below start used + k ≤ count_below (start + k) used
+filled start zero used all = let place : start ≡ start + 0 = omega arith in rw (sym place) (omega arith)
+filled start (suc k) used all =
+    let rest = filled start k used (λ m behind below. all m behind (omega (arith, below))) in
+    let place : start + k + 1 ≡ start + suc k = omega arith in
+    let more = rw (place) at (count_more (start + k) used (all (start + k) (omega arith) (omega arith))) in
     omega (arith, rest, more)
 
 -- among so many places one is free
-pub one_is_free : (used : List ℕ) → ((m : ℕ) → 2 ≤ m → m < length used + 3 → has m used ≡ true) → ⊥
-one_is_free used all = omega (arith, filled (length used + 3) used all, count_within (length used + 3) used)
+pub one_is_free : (start : ℕ) (used : List ℕ) → ((m : ℕ) → start ≤ m → m < start + (length used + 1) → has m used ≡ true) → ⊥
+one_is_free start used all =
+    omega (arith, filled start (length used + 1) used all, count_within (start + (length used + 1)) used)

@@ -66,9 +66,12 @@ pages_behind d c at k (n ∷ ns) torn within apart =
   where
     cong2 : {p q : List ℕ} {ps qs : List (List ℕ)} → p ≡ q → ps ≡ qs → p ∷ ps ≡ q ∷ qs
     cong2 {p} {q} {ps} {qs} one rest = ap (λ x. x ∷ ps) one ∙ ap (λ xs. q ∷ xs) rest
+
     first_number : (n : ℕ) (ns : List ℕ) → are_pages (n ∷ ns) ≡ true → 2 ≤ n
     first_number n ns apart = grind (arith, nat_tests)
+
     rest_apart : (n : ℕ) (ns : List ℕ) → are_pages (n ∷ ns) ≡ true → are_pages ns ≡ true
     rest_apart n ns apart = grind (arith, nat_tests)
+
     behind : (n : ℕ) → 2 ≤ n → at + k ≤ 4096 * n
     behind n above = omega (arith, above, within)

@@ -7,7 +7,7 @@ pub mod laws;
 mod numbers;
 
 pub use checks::{are_pages, is_zero};
-pub use free::lowest_free;
+pub use free::{lowest_free, lowest_free_pages};
 pub use numbers::{put_numbers, take_numbers};
 
 #[cfg(test)]

@@ -1,0 +1,42 @@
+-- Which refusal names which fault.
+use Rattle.std.proofs.Common.{◌≡◌, ◌≢◌, ◌⊎◌, ℕ, List, refl, sym, ap, ◌∙◌, inl, inr, Result, Ok, Err}
+use Rattle.group_commit.specs.Loading.{Names, IsFirstFault, HasNoHistory, HasNone, failures_of}
+use Rattle.group_commit.specs.Image.{stored}
+use Rattle.root_slots.specs.Root.{count_of}
+use Rattle.group_commit.specs.declared.open_fault.OpenError.{OpenError}
+use Rattle.group_commit.specs.declared.open_fault.OpenError.TheVariants.{Memory, NoRoot, BadRoot, BadTable, BadStream, ReadFailed, SyncFailed}
+
+-- what the search behind another one meets first
+pub names_on : {A B : Type 0} (e : OpenError) (r : Result A ℕ) (s : Result B ℕ) → ((n : ℕ) → r ≡ Err n → s ≡ Err n) → Names e r → Names e s
+names_on Memory r s on named = tt
+names_on NoRoot r s on named = on 42 named
+names_on BadRoot r s on named = on 43 named
+names_on BadTable r s on named = on 45 named
+names_on BadStream r s on named = on 46 named
+names_on ReadFailed r s on named = tt
+names_on SyncFailed r s on named = tt
+
+-- want of memory and the device say nothing of the file
+pub names_nothing : {A : Type 0} (e : OpenError) (r : Result A ℕ) → (e ≡ Memory) ⊎ (e ≡ ReadFailed) → Names e r
+names_nothing e r (inl is) = rw is tt
+names_nothing e r (inr is) = rw is tt
+
+-- what names a fault of a slot hasn't met a failure of the device
+pub quiet_slot : (e : OpenError) → (e ≡ Memory) ⊎ (e ≡ NoRoot) ⊎ (e ≡ BadRoot) → failures_of e ≡ 0
+quiet_slot e (inl is) = rw is refl
+quiet_slot e (inr (inl is)) = rw is refl
+quiet_slot e (inr (inr is)) = rw is refl
+
+pub quiet_ops : (e : OpenError) → (e ≡ Memory) ⊎ (e ≡ BadStream) → failures_of e ≡ 0
+quiet_ops e (inl is) = rw is refl
+quiet_ops e (inr is) = rw is refl
+
+-- a fault of the stream's records is the file's
+pub fault_of_ops : (file body bytes : List ℕ) (e : OpenError) → (e ≡ Memory) ⊎ (e ≡ BadStream) → stored file ≡ Ok (body, bytes)
+    → (e ≢ Memory → HasNone bytes (count_of body)) → IsFirstFault e file
+fault_of_ops file body bytes e (inl is) holds none = rw is (inl tt)
+fault_of_ops file body bytes e (inr is) holds none =
+    rw is (inr (refl, record { body = body; bytes = bytes; holds = holds; none = none (λ memory. other (sym is ∙ memory)) }))
+  where
+    other : BadStream ≡ Memory → ⊥
+    other is = absurd cc

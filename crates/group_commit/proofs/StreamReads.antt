@@ -1,0 +1,66 @@
+-- What table pages and data pages say, step by step.
+use Rattle.std.proofs.Common.{◌≡◌, ◌≢◌, ◌⊎◌, ℕ, ◌+◌, ◌-◌, ◌*◌, ◌/◌, ◌<◌, ◌≤◌, Bool, true, false, not, ◌&&◌, List, [], ◌∷◌, ◌++◌, length, take, drop, refl, sym, ap, ◌∙◌, arith, Result, Ok, Err, if◌then◌else◌}
+use Rattle.std.proofs.lemmas.Bool.Decides.{nat_tests}
+use Rattle.std.proofs.lemmas.List.{drop_at}
+use Rattle.page_file.specs.Pages.{pages, are_whole, is_zero, are_pages, joined}
+use Rattle.root_slots.specs.Root.{is_root, tables_of, stream_length_of, data_count, pages_for}
+use Rattle.root_slots.specs.Body.{Root, IsRoot, Spells, root_of, tables_for}
+use Rattle.root_slots.proofs.HeadLemmas.{is_rest, root_is_head, head_says, most_tables, length-tables}
+use Rattle.root_slots.specs.Head.{is_head}
+use Rattle.group_commit.specs.Image.{entries, named, are_tables, stream_in, tables_in, stream, reached, Stores}
+use Rattle.group_commit.specs.Loading.{are_within, reached_by, reached_in, stream_of, stream_behind, reached_of, stream_at}
+use Rattle.group_commit.proofs.PageReads.{within_whole}
+
+-- the test of sizes, in a file of this size
+pub test_whole : (ns file : List ℕ) (size : ℕ) → size ≡ length file → are_whole (pages ns file) ≡ are_within size ns
+test_whole ns file size same = sym (within_whole ns file) ∙ ap (λ s. are_within s ns) (sym same)
+
+pub not_whole : (n : ℕ) (ps : List (List ℕ)) → are_whole ps ≡ false → stream_of n ps ≡ Err 45
+not_whole n ps is = rw is refl
+
+pub not_zero : (n : ℕ) (ps : List (List ℕ)) → are_whole ps ≡ true → is_zero (drop n (joined ps)) ≡ false → stream_of n ps ≡ Err 46
+not_zero n ps is rest = rw (is, rest) refl
+
+pub is_stream : (n : ℕ) (ps : List (List ℕ)) → are_whole ps ≡ true → is_zero (drop n (joined ps)) ≡ true → stream_of n ps ≡ Ok (take n (joined ps))
+is_stream n ps is rest = rw (is, rest) refl
+
+pub no_tables : (tables : List ℕ) (count : ℕ) (file : List ℕ) → are_whole (pages tables file) ≡ false → reached_in tables count file ≡ Err 43
+no_tables tables count file is = rw is refl
+
+pub by_tables : (tables : List ℕ) (count : ℕ) (file : List ℕ) → are_whole (pages tables file) ≡ true
+    → reached_in tables count file ≡ reached_by tables count (entries (pages tables file))
+by_tables tables count file is = rw is refl
+
+-- as many numbers stand in the table pages as there are data pages
+pub numbers_fit : (n : ℕ) → pages_for 4096 n ≤ 1024 * tables_for n
+numbers_fit n = fit (pages_for 4096 n)
+  where
+    fit : (p : ℕ) → p ≤ 1024 * pages_for 1024 p
+    fit p = omega arith
+
+-- so the pages of a root are few
+pub few_pages : (n t l : ℕ) → n ≤ 1073741824 → t ≡ tables_for n → l ≡ t + pages_for 4096 n → l ≤ 262400
+few_pages n t l most count size = omega (arith, most_tables n most, count, size, data_most n most)
+  where
+    data_most : (n : ℕ) → n ≤ 1073741824 → pages_for 4096 n ≤ 262144
+    data_most n most = omega (arith, most)
+
+-- a root body has the rules of its fields
+pub root_rules : (body : List ℕ) (head : Root) → Spells body head → IsRoot head
+root_rules body head spells =
+    let both = sym (root_is_head body) ∙ spells.valid in
+    let says = head_says body (first (is_head body) (is_rest body) both) in
+    let rest = second (is_head body) (is_rest body) both in
+    rw (sym spells.says) (record {
+      version = says.version;
+      stream = says.stream;
+      operations = says.operations;
+      tables = length-tables body ∙ says.tables;
+      pages = first (are_pages (tables_of body)) _ rest;
+    })
+  where
+    first : (a b : Bool) → (a && b) ≡ true → a ≡ true
+    first a b both = grind (arith, nat_tests)
+
+    second : (a b : Bool) → (a && b) ≡ true → b ≡ true
+    second a b both = grind (arith, nat_tests)

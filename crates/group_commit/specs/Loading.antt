@@ -1,0 +1,134 @@
+-- What a file is loaded as, what a refusal to load it says, and what loading does to the disk.
+use Rattle.std.specs.Prelude.{◌≡◌, ◌≢◌, ◌⊎◌, ℕ, ◌+◌, ◌-◌, ◌*◌, ◌<◌, ◌≤◌, ◌==◌, get_or, nat_le, Bool, true, not, ◌&&◌, if◌then◌else◌, List, [], ◌∷◌, ◌++◌, length, take, drop, Result, Ok, Err, ⊤}
+use Rattle.disk_trait.specs.Calls.{LeavesOnly}
+use Rattle.disk_trait.specs.declared.facts.DiskFacts.{Ghosts}
+use Rattle.op_model.specs.declared.op.Op.{Op}
+use Rattle.change_codec.specs.Stream.{spelled_all, AreOperations}
+use Rattle.page_file.specs.Pages.{pages, are_whole, is_zero, are_pages, joined}
+use Rattle.root_slots.specs.Root.{replica_of, count_of, is_root, pages_for}
+use Rattle.root_slots.specs.Body.{Root, Spells}
+use Rattle.root_slots.specs.Slots.{gate, body, live}
+use Rattle.group_commit.specs.Saved.{Saved}
+use Rattle.group_commit.specs.Image.{stored, entries}
+use Rattle.group_commit.specs.declared.open_fault.OpenError.{OpenError}
+use Rattle.group_commit.specs.declared.open_fault.OpenError.TheVariants.{Memory, NoRoot, BadRoot, BadTable, BadStream, ReadFailed, SyncFailed}
+
+-- each refusal has one number
+abbrev pub number_of : OpenError → ℕ
+number_of Memory = 1
+number_of NoRoot = 42
+number_of BadRoot = 43
+number_of BadTable = 45
+number_of BadStream = 46
+number_of ReadFailed = 50
+number_of SyncFailed = 52
+
+-- a refusal has met a failure of the device, or not
+abbrev pub failures_of : OpenError → ℕ
+failures_of Memory = 0
+failures_of NoRoot = 0
+failures_of BadRoot = 0
+failures_of BadTable = 0
+failures_of BadStream = 0
+failures_of ReadFailed = 1
+failures_of SyncFailed = 1
+
+-- what a call that answers so has met
+abbrev pub failed_in : {T : Type 0} → Result T OpenError → ℕ
+failed_in (Ok x) = 0
+failed_in (Err e) = failures_of e
+
+-- the root's stream is the records of these operations, as many as it says, and the file is this replica's
+pub record IsHistory (root : Saved) (replica : ℕ) (ops : List Op) : Type 0 where
+  pub spelled : spelled_all ops ≡ root.stream
+  pub fits : AreOperations ops
+  pub count : length ops ≡ count_of root.body
+  pub owner : replica ≡ replica_of root.body
+
+-- these bytes aren't the records of so many operations
+abbrev pub HasNone : List ℕ → ℕ → Type 0
+HasNone bytes count = (ops : List Op) → AreOperations ops → spelled_all ops ≡ bytes → length ops ≢ count
+
+-- the file has a root and a stream, and the stream isn't the records of as many operations as the root says
+pub record HasNoHistory (file : List ℕ) : Type 0 where
+  pub body : List ℕ
+  pub bytes : List ℕ
+  pub holds : stored file ≡ Ok (body, bytes)
+  pub none : HasNone bytes (count_of body)
+
+-- this refusal names the first fault of what was sought in a file; one of memory or of the device says nothing of it
+abbrev pub Names : {T : Type 0} → OpenError → Result T ℕ → Type 0
+Names Memory found = ⊤
+Names NoRoot found = found ≡ Err 42
+Names BadRoot found = found ≡ Err 43
+Names BadTable found = found ≡ Err 45
+Names BadStream found = found ≡ Err 46
+Names ReadFailed found = ⊤
+Names SyncFailed found = ⊤
+
+-- this refusal names the first fault of the file
+abbrev pub IsFirstFault : OpenError → List ℕ → Type 0
+IsFirstFault error file = Names error (stored file) ⊎ ((error ≡ BadStream) × HasNoHistory file)
+
+-- Calls that write nothing, of which so many failed and so many are syncs: reads give the same, and a crash at any moment of
+-- them leaves a file that it could leave before.
+pub record OnlyLooks {D : Type 0} (facts : Ghosts D) (more_failures more_syncs : ℕ) (old new : D) : Type 0 where
+  pub same : facts.content new ≡ facts.content old
+  pub no_more : (c : List ℕ) → facts.survives new c → facts.survives old c
+  pub moments : LeavesOnly facts old new (facts.survives old)
+  pub failures : facts.failures new ≡ facts.failures old + more_failures
+  pub writes : facts.writes new ≡ facts.writes old
+  pub syncs : facts.syncs new ≡ facts.syncs old + more_syncs
+
+-- the live slot of a file, whether the other one is open too, and what the live one says
+pub record IsLive (file : List ℕ) (slot : ℕ) (stale : Bool) (head : Root) : Type 0 where
+  pub whole : 8192 ≤ length file
+  pub below : slot < 2
+  pub picked : live file ≡ Ok slot
+  pub other : stale ≡ (gate (1 - slot) file == 1)
+  pub spells : Spells (body slot file) head
+  pub bytes : (i : ℕ) → get_or (body slot file) i 0 < 256
+
+-- this body, or bad root 43
+abbrev pub rooted : List ℕ → Result (List ℕ) ℕ
+rooted root = if is_root root then Ok root else Err 43
+
+abbrev pub root_at : List ℕ → Result ℕ ℕ → Result (List ℕ) ℕ
+root_at file (Ok slot) = rooted (body slot file)
+root_at file (Err n) = Err n
+
+-- the body of the live slot; no root 42, bad root 43
+abbrev pub live_root : List ℕ → Result (List ℕ) ℕ
+live_root file = root_at file (live file)
+
+-- all of these pages lie whole in a file of so many bytes
+abbrev pub are_within : ℕ → List ℕ → Bool
+are_within size [] = true
+are_within size (n ∷ ns) = nat_le (4096 * n + 4096) size && are_within size ns
+
+-- the pages that a root reaches, by the numbers in its table pages; bad table 45
+abbrev pub reached_by : List ℕ → ℕ → List ℕ → Result (List ℕ) ℕ
+reached_by tables count found =
+    if not (is_zero (drop count found) && are_pages (tables ++ take count found)) then Err 45 else Ok (tables ++ take count found)
+
+-- the pages that a root with these table pages and so many data pages reaches in a file; bad root 43, bad table 45
+abbrev pub reached_in : List ℕ → ℕ → List ℕ → Result (List ℕ) ℕ
+reached_in tables count file = if not (are_whole (pages tables file)) then Err 43 else reached_by tables count (entries (pages tables file))
+
+-- the stream of so many bytes in these data pages; bad table 45, bad stream 46
+abbrev pub stream_of : ℕ → List (List ℕ) → Result (List ℕ) ℕ
+stream_of n data_pages =
+    if not (are_whole data_pages) then Err 45 else if not (is_zero (drop n (joined data_pages))) then Err 46 else Ok (take n (joined data_pages))
+
+-- the stream behind so many table pages
+abbrev pub stream_behind : ℕ → ℕ → List ℕ → Result (List ℕ) ℕ → Result (List ℕ) ℕ
+stream_behind tables n file (Ok ns) = stream_of n (pages (drop tables ns) file)
+stream_behind tables n file (Err e) = Err e
+
+-- the pages that a root reaches in a file
+abbrev pub reached_of : Root → List ℕ → Result (List ℕ) ℕ
+reached_of head file = reached_in head.tables (pages_for 4096 head.stream_length) file
+
+-- the stream of a root in a file
+abbrev pub stream_at : Root → List ℕ → Result (List ℕ) ℕ
+stream_at head file = stream_behind (length head.tables) head.stream_length file (reached_of head file)

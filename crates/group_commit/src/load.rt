@@ -1,0 +1,80 @@
+//! The opening of a file.
+ghost use Rattle.std.specs.Prelude.{◌≡◌, ◌↔◌, List, ℕ, false, IfOk, IfErr};
+ghost use Rattle.group_commit.specs.Commit.{Is, IsLeft};
+ghost use Rattle.group_commit.specs.Loading.{IsHistory, IsFirstFault, OnlyLooks, failures_of};
+ghost use Rattle.group_commit.specs.declared.phase.Phase.TheVariants.{Idle};
+
+use crate::load_image::settle_and_read;
+use crate::open_fault::OpenFault;
+use crate::phase::Phase;
+use crate::store::Store;
+use disk_trait::Disk;
+use op_ids::ReplicaId;
+use op_model::Op;
+use std::alloc::Global;
+
+/// A file that was opened: its store, the replica that it belongs to, and its operations.
+#[derive(Drop)]
+pub struct Loaded<D: Disk> {
+    pub store: Store<D>,
+    pub replica: ReplicaId,
+    pub ops: Vec<Op>,
+}
+
+impl<D: Disk> Store<D> {
+    /// Opens the file of a disk: a sync, and then reads alone.
+    ///
+    /// Refuses with the first of these that it meets: 52 where the sync failed, and 50 where a read did;
+    /// 42 where the file has fewer than 8,192 bytes or no gate is open; 43 where both are open with equal
+    /// versions, or the live slot holds no root body, or a table page isn't whole in the file; 45 where the
+    /// table pages break their rules or a data page isn't whole; 46 where the rest of the last data page
+    /// isn't zero or the stream isn't the records of that number of operations. 1 may stand in place of
+    /// any of these where a growth of memory was refused. A refusal hands the disk back.
+    ///
+    /// One sync, one `size`, one read of the two slots and one of each page that the live root reaches.
+    /// The stream and the pages' numbers are held in memory, besides the operations. Each page number is
+    /// compared with all others, so these steps grow with the square of the number of pages.
+    pub fn load(alloc: Global, mut disk: D) -> Result<Loaded<D>, OpenFault<D>>
+        // The live root of the file, and its operations.
+        ensures root { D.tells disk → IfOk result (λ it. Is it.store.current (D.content disk)) }
+        ensures history { IfOk result (λ it. IsHistory it.store.current it.replica it.ops.items) }
+        ensures idle { IfOk result (λ it. (it.store.phase ≡ Idle) × (it.store.failed ≡ false)) }
+        // A crash leaves what reads give, which has that root.
+        ensures settled { D.tells disk → IfOk result
+            (λ it. (c : List ℕ) → D.survives it.store.disk c → c ≡ D.content disk) }
+        ensures left { D.tells disk → IfOk result (λ it. (c : List ℕ) → D.survives it.store.disk c
+            → IsLeft it.store.phase it.store.current it.store.next c) }
+        ensures fault { D.tells disk
+            → IfErr result (λ fault. IsFirstFault fault.cause (D.content disk)) }
+        // It writes nothing.
+        ensures looks { D.tells disk
+            → IfOk result (λ it. OnlyLooks D.DiskFacts 0 1 disk it.store.disk) }
+        ensures looks_refused { D.tells disk → IfErr result
+            (λ fault. OnlyLooks D.DiskFacts (failures_of fault.cause) 1 disk fault.disk) }
+        ensures tells { IfOk result (λ it. D.tells it.store.disk ↔ D.tells disk) }
+        ensures tells_refused { IfErr result (λ fault. D.tells fault.disk ↔ D.tells disk) }
+    {
+        match settle_and_read(alloc, &mut disk) {
+            Ok(image) => {
+                let replica = image.current.replica();
+                let store = Store {
+                    disk,
+                    phase: Phase::Idle,
+                    current: image.current,
+                    next: image.next,
+                    slot: image.slot,
+                    stale: image.stale,
+                    failed: false,
+                    numbers: Vec::new(alloc),
+                    fresh: Vec::new(alloc),
+                };
+                Ok(Loaded {
+                    store,
+                    replica,
+                    ops: image.ops,
+                })
+            }
+            Err(cause) => Err(OpenFault { cause, disk }),
+        }
+    }
+}

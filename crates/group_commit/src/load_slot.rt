@@ -1,0 +1,117 @@
+//! Which root slot is live, and what it says.
+ghost use Rattle.std.specs.Prelude.{◌≡◌, ◌⊎◌, ◌-◌, ◌<◌, ◌==◌, true, length, IfOk, IfErr, Ok};
+ghost use Rattle.root_slots.specs.Body.{IsRoot, Spells};
+ghost use Rattle.root_slots.specs.Root.{version_of, is_root};
+ghost use Rattle.root_slots.specs.Slots.{gate, body, greater, live};
+ghost use Rattle.group_commit.specs.Loading.{Names, IsLive, rooted, live_root};
+ghost use Rattle.group_commit.specs.declared.open_fault.OpenError.TheVariants.{Memory, NoRoot, BadRoot};
+
+use crate::open_fault::OpenError;
+use root_slots::RootBody;
+use std::alloc::{AllocError, Global};
+
+/// The live slot, whether the other one is open too, and what the live one says.
+#[derive(Drop)]
+pub(crate) struct Live {
+    pub slot: u64,
+    pub stale: bool,
+    pub head: RootBody,
+}
+
+/// Whether a slot is open, of the bytes of both.
+fn is_open(slots: &[u8], slot: u64) -> bool
+    requires slot { slot < 2 }
+    requires both { length slots.now ≡ 8192 }
+    ensures { result ≡ (gate slot slots.now == 1) }
+{
+    slots[4096 * slot as usize] == 1
+}
+
+/// The body of a slot, of the bytes of both.
+fn body_at(slots: &[u8], slot: u64) -> &[u8]
+    requires slot { slot < 2 }
+    requires both { length slots.now ≡ 8192 }
+    ensures body { result.now ≡ body slot slots.now }
+    ensures long { length result.now ≡ 4088 }
+{
+    let (_, rest) = slots.split_at(4096 * slot as usize + 8);
+    let (body, _) = rest.split_at(4088);
+    body
+}
+
+/// The version that a slot's body says, also where it isn't a root body.
+fn version_at(body: &[u8]) -> u64
+    requires { length body.now ≡ 4088 }
+    ensures { result ≡ version_of body.now }
+{
+    let (_, rest) = body.split_at(8);
+    let (bytes, _) = rest.split_first_chunk::<8>().unwrap();
+    u64::from_be_bytes(*bytes)
+}
+
+/// The slot with the greater version, or 43 where they are equal.
+fn greater(version0: u64, version1: u64) -> Result<u64, OpenError>
+    ensures slot { IfOk result (λ slot. greater version0 version1 ≡ Ok slot) }
+    ensures below { IfOk result (λ slot. slot < 2) }
+    ensures fault { IfErr result (λ e. Names e (greater version0 version1)) }
+    ensures refused { IfErr result (λ e. e ≡ BadRoot) }
+{
+    if version1 < version0 {
+        Ok(0)
+    } else if version0 < version1 {
+        Ok(1)
+    } else {
+        Err(OpenError::BadRoot)
+    }
+}
+
+/// Which slot is live, of the bytes of both: the open one, of two the one with the greater version. 42 where
+/// none is open, and 43 where two are with equal versions.
+fn live_slot(slots: &[u8]) -> Result<u64, OpenError>
+    requires { length slots.now ≡ 8192 }
+    ensures slot { IfOk result (λ slot. live slots.now ≡ Ok slot) }
+    ensures below { IfOk result (λ slot. slot < 2) }
+    ensures fault { IfErr result (λ e. Names e (live slots.now)) }
+    ensures refused { IfErr result (λ e. (e ≡ NoRoot) ⊎ (e ≡ BadRoot)) }
+{
+    let open0 = is_open(slots, 0);
+    let open1 = is_open(slots, 1);
+    if open0 && open1 {
+        greater(version_at(body_at(slots, 0)), version_at(body_at(slots, 1)))
+    } else if open0 {
+        Ok(0)
+    } else if open1 {
+        Ok(1)
+    } else {
+        Err(OpenError::NoRoot)
+    }
+}
+
+/// What a body says, or 43 where it is no root body; 1 for want of memory.
+fn head_of(alloc: Global, body: &[u8]) -> Result<RootBody, OpenError>
+    ensures says { IfOk result (λ head. Spells body.now head) }
+    ensures valid { IfOk result (λ head. IsRoot head) }
+    ensures fault { IfErr result (λ e. Names e (rooted body.now)) }
+    ensures refused { IfErr result (λ e. (e ≡ Memory) ⊎ (e ≡ BadRoot)) }
+{
+    match RootBody::read(alloc, body) {
+        Ok(Some(head)) => Ok(head),
+        Ok(None) => Err(OpenError::BadRoot),
+        Err(_) => Err(OpenError::Memory),
+    }
+}
+
+/// The live slot and what it says, of the bytes of both slots. 42 where none is open; 43 where two are with
+/// equal versions, or the live one holds no root body; 1 for want of memory.
+pub(crate) fn live_root(alloc: Global, slots: &[u8]) -> Result<Live, OpenError>
+    requires { length slots.now ≡ 8192 }
+    ensures found { IfOk result (λ it. IsLive slots.now it.slot it.stale it.head) }
+    ensures valid { IfOk result (λ it. IsRoot it.head) }
+    ensures fault { IfErr result (λ e. Names e (live_root slots.now)) }
+    ensures refused { IfErr result (λ e. (e ≡ Memory) ⊎ (e ≡ NoRoot) ⊎ (e ≡ BadRoot)) }
+{
+    let slot = live_slot(slots)?;
+    let head = head_of(alloc, body_at(slots, slot))?;
+    let stale = is_open(slots, 1 - slot);
+    Ok(Live { slot, stale, head })
+}

@@ -1,0 +1,112 @@
+//! The stream that a root names, page by page.
+ghost use Rattle.std.specs.Prelude.{◌≡◌, ◌⊎◌, ◌+◌, ◌*◌, ◌≤◌, ◌↔◌, true, length, IfOk, IfErr, Ok};
+ghost use Rattle.page_file.specs.Pages.{pages, are_pages};
+ghost use Rattle.root_slots.specs.Root.{pages_for};
+ghost use Rattle.root_slots.specs.Body.{IsRoot};
+ghost use Rattle.group_commit.specs.Saved.{IsInMemory};
+ghost use Rattle.group_commit.specs.Loading.{Names, OnlyLooks, failed_in, reached_of, stream_of, stream_at};
+
+use crate::load_pages::{are_within, data_pages, reached_by};
+use crate::open_fault::OpenError;
+use crate::reading::read_pages;
+use disk_trait::Disk;
+use page_file::{is_zero, take_numbers};
+use root_slots::RootBody;
+use std::alloc::{AllocError, Global};
+
+/// The pages that a root reaches, its table pages first, and the stream that its data pages hold.
+#[derive(Drop)]
+pub(crate) struct Stream {
+    pub pages: Vec<u32>,
+    pub bytes: Vec<u8>,
+}
+
+// The pages that a root reaches. 43 where a table page isn't whole in the file, 45 where the table pages
+// break their rules, 50 where a read failed, 1 for want of memory.
+fn read_tables<D: Disk>(
+    alloc: Global,
+    disk: &mut D,
+    size: u64,
+    head: &RootBody,
+) -> Result<Vec<u32>, OpenError>
+    requires size { D.tells disk.old → size ≡ length (D.content disk.old) }
+    requires valid { IsRoot head.now }
+    ensures value { D.tells disk.old
+        → IfOk result (λ ns. reached_of head.now (D.content disk.old) ≡ Ok ns.items) }
+    ensures apart { IfOk result (λ ns. are_pages ns.items ≡ true) }
+    ensures size { IfOk result (λ ns. length ns.items
+        ≡ length head.now.tables + pages_for 4096 head.now.stream_length) }
+    ensures fault { D.tells disk.old
+        → IfErr result (λ e. Names e (reached_of head.now (D.content disk.old))) }
+    ensures looks { D.tells disk.old
+        → OnlyLooks D.DiskFacts (failed_in result) 0 disk.old disk.new }
+    ensures tells { D.tells disk.new ↔ D.tells disk.old }
+{
+    let tables = head.tables();
+    if !are_within(tables, size) {
+        return Err(OpenError::BadRoot);
+    }
+    let bytes = read_pages(alloc, disk, tables)?;
+    let found = take_numbers(alloc, &bytes, 1024 * tables.len())?;
+    reached_by(alloc, tables, data_pages(head.stream_length()), &found)
+}
+
+// The stream of so many bytes that these data pages hold. 45 where one isn't whole in the file, 46 where the
+// rest of the last one isn't zero, 50 where a read failed, 1 for want of memory.
+fn read_data<D: Disk>(
+    alloc: Global,
+    disk: &mut D,
+    size: u64,
+    stream_length: u64,
+    numbers: &[u32],
+) -> Result<Vec<u8>, OpenError>
+    requires size { D.tells disk.old → size ≡ length (D.content disk.old) }
+    requires room { stream_length ≤ 4096 * length numbers.now }
+    ensures value { D.tells disk.old → IfOk result
+        (λ bytes. stream_of stream_length (pages numbers.now (D.content disk.old)) ≡ Ok bytes.items) }
+    ensures long { IfOk result (λ bytes. length bytes.items ≡ stream_length) }
+    ensures fault { D.tells disk.old → IfErr result
+        (λ e. Names e (stream_of stream_length (pages numbers.now (D.content disk.old)))) }
+    ensures looks { D.tells disk.old
+        → OnlyLooks D.DiskFacts (failed_in result) 0 disk.old disk.new }
+    ensures tells { D.tells disk.new ↔ D.tells disk.old }
+{
+    if !are_within(numbers, size) {
+        return Err(OpenError::BadTable);
+    }
+    let mut bytes = read_pages(alloc, disk, numbers)?;
+    let (_, rest) = bytes.split_at(stream_length as usize);
+    if !is_zero(rest) {
+        return Err(OpenError::BadStream);
+    }
+    bytes.truncate(stream_length as usize);
+    Ok(bytes)
+}
+
+/// The stream of a root, page by page. 43 where a table page isn't whole in the file; 45 where the table
+/// pages break their rules or a data page isn't whole; 46 where the rest of the last one isn't zero; 50 where
+/// a read failed, 1 for want of memory.
+pub(crate) fn read_stream<D: Disk>(
+    alloc: Global,
+    disk: &mut D,
+    size: u64,
+    head: &RootBody,
+) -> Result<Stream, OpenError>
+    requires size { D.tells disk.old → size ≡ length (D.content disk.old) }
+    requires valid { IsRoot head.now }
+    ensures pages { D.tells disk.old
+        → IfOk result (λ it. reached_of head.now (D.content disk.old) ≡ Ok it.pages.items) }
+    ensures stream { D.tells disk.old
+        → IfOk result (λ it. stream_at head.now (D.content disk.old) ≡ Ok it.bytes.items) }
+    ensures parts { IfOk result (λ it. IsInMemory head.now it.bytes.items it.pages.items) }
+    ensures fault { D.tells disk.old
+        → IfErr result (λ e. Names e (stream_at head.now (D.content disk.old))) }
+    ensures looks { D.tells disk.old
+        → OnlyLooks D.DiskFacts (failed_in result) 0 disk.old disk.new }
+    ensures tells { D.tells disk.new ↔ D.tells disk.old }
+{
+    let pages = read_tables(alloc, disk, size, head)?;
+    let (_, named) = pages.split_at(head.tables().len());
+    let bytes = read_data(alloc, disk, size, head.stream_length(), named)?;
+    Ok(Stream { pages, bytes })
+}

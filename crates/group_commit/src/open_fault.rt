@@ -1,0 +1,69 @@
+//! Why a file isn't opened.
+ghost use Rattle.std.specs.Prelude.{◌≡◌};
+ghost use Rattle.group_commit.specs.Loading.{number_of};
+ghost use Rattle.group_commit.specs.declared.open_fault.OpenError.TheVariants.{Memory};
+
+use disk_trait::Disk;
+use std::alloc::AllocError;
+use thiserror::Error;
+
+/// Why a file isn't opened.
+#[derive(Clone, Copy, Debug, Drop, PartialEq, Eq, Error)]
+pub enum OpenError {
+    /// 1: a growth of memory was refused.
+    #[error("memory")]
+    Memory,
+    /// 42: the two root slots don't lie whole in the file, or none of them is open.
+    #[error("no root")]
+    NoRoot,
+    /// 43: both slots are open with equal versions, or the live one holds no root body, or a table page
+    /// that it names doesn't lie whole in the file.
+    #[error("bad root")]
+    BadRoot,
+    /// 45: the table pages name a page twice or a root slot or more pages than the stream needs, or a data
+    /// page doesn't lie whole in the file.
+    #[error("bad table")]
+    BadTable,
+    /// 46: the rest of the last data page isn't zero, or the stream isn't the records of as many
+    /// operations as the root says.
+    #[error("bad stream")]
+    BadStream,
+    /// 50: the device failed in a read.
+    #[error("read failed")]
+    ReadFailed,
+    /// 52: the device failed in the sync.
+    #[error("sync failed")]
+    SyncFailed,
+}
+
+/// Why a file isn't opened, and its disk.
+#[derive(Drop)]
+pub struct OpenFault<D: Disk> {
+    pub cause: OpenError,
+    pub disk: D,
+}
+
+impl From<AllocError> for OpenError {
+    ghost from_gives = { λ _ e. e ≡ Memory };
+
+    fn from(_error: AllocError) -> OpenError {
+        OpenError::Memory
+    }
+}
+
+impl OpenError {
+    /// The number of the refusal.
+    pub fn number(self) -> u8
+        ensures { result ≡ number_of self }
+    {
+        match self {
+            OpenError::Memory => 1,
+            OpenError::NoRoot => 42,
+            OpenError::BadRoot => 43,
+            OpenError::BadTable => 45,
+            OpenError::BadStream => 46,
+            OpenError::ReadFailed => 50,
+            OpenError::SyncFailed => 52,
+        }
+    }
+}
