@@ -10,7 +10,7 @@ use Rattle.op_model.specs.declared.op.Op.{Op}
 use Rattle.op_model.specs.declared.op.Body.{Body}
 use Rattle.op_model.specs.declared.op.Body.TheVariants.{Insert, Remove, AddMark, RemoveMark}
 use Rattle.op_model.specs.declared.character.Character.{Character}
-use Rattle.op_model.specs.Characters.{character_in, characters}
+use Rattle.op_model.specs.Characters.{character_of, character_in, characters}
 use Rattle.op_model.specs.Walk.{walk, times}
 use Rattle.op_model.specs.Text.{is_removal_of, is_removed}
 use Rattle.op_model.specs.Causality.{named_by}
@@ -19,7 +19,7 @@ use Rattle.op_model.specs.Placing as placing
 use Rattle.op_model.specs.Placing.{has_id, has_op_id, Fits, FitInTurn, IsOrderly}
 use Rattle.model_laws.proofs.Ops.{lacks-characters, orderly_placed}
 use Rattle.model_laws.proofs.Family.{orderly_once}
-use Rattle.model_laws.proofs.Growth.{orderly_push}
+use Rattle.model_laws.proofs.Growth.{orderly_push, other_walk}
 use Rattle.char_sequence.specs.declared.cell.Cell.{Cell}
 use Rattle.char_sequence.specs.Cells.{past_greater, behind, inserted, removed, shown_at, shown_values, shown, behind_shown, first_removed, inserted_run}
 use Rattle.char_sequence.specs.Content.{cell_of, content_of, Takes, TakesRun, IsRun, FitAfter}
@@ -155,6 +155,43 @@ content_of-remove ops doc op target orderly fits is_remove =
     let moved = ap (map (cell_of (ops ++ op ∷ []) doc)) (orderly_placed ops doc op orderly (λ _. fits) ∙ ap (λ m. placing.placed m (walk ops doc)) there) in
     moved ∙ removed-map ops (ops ++ op ∷ []) doc target (walk ops doc) (orderly_once ops doc target orderly)
     (λ c. is_removed-push ops op doc c ∙ rw (is_remove, same_doc) (grind (arith, nat_tests)))
+
+-- the body of a mark operation
+abbrev pub is_marking : Body → Bool
+is_marking (Insert origin value) = false
+is_marking (Remove target) = false
+is_marking (AddMark mark start end) = true
+is_marking (RemoveMark key start end) = true
+
+makes_none : (id : Id) (b : Body) → is_marking b ≡ true → character_of id b ≡ None
+makes_none id (Insert origin value) marks = cc
+makes_none id (Remove target) marks = cc
+makes_none id (AddMark mark start end) marks = refl
+makes_none id (RemoveMark key start end) marks = refl
+
+removes_none : (id : Id) (b : Body) → is_marking b ≡ true → is_removal_of id b ≡ false
+removes_none id (Insert origin value) marks = cc
+removes_none id (Remove target) marks = cc
+removes_none id (AddMark mark start end) marks = refl
+removes_none id (RemoveMark key start end) marks = refl
+
+-- a mark operation leaves the characters as they are
+pub content_of-marking : (ops : List Op) (doc : ℕ) (op : Op) → IsOrderly ops doc → Fits ops doc op
+    → is_marking op.body ≡ true → content_of (ops ++ op ∷ []) doc ≡ content_of ops doc
+content_of-marking ops doc op orderly fits marks =
+    let same_doc : (op.doc == doc) ≡ true = (let same = fits.same in grind (arith, nat_tests)) in
+    let there : character_in doc op ≡ None = rw same_doc (makes_none op.id op.body marks) in
+    let moved = ap (map (cell_of (ops ++ op ∷ []) doc)) (orderly_placed ops doc op orderly (λ _. fits) ∙ ap (λ m. placing.placed m (walk ops doc)) there) in
+    moved ∙ same_cells ops (ops ++ op ∷ []) doc (walk ops doc)
+    (λ c. is_removed-push ops op doc c ∙ (let none = removes_none c.id op.body marks in grind (arith, nat_tests)))
+
+-- an operation of another document leaves the characters as they are
+pub content_of-other : (ops : List Op) (doc : ℕ) (op : Op) → (op.doc == doc) ≡ false
+    → content_of (ops ++ op ∷ []) doc ≡ content_of ops doc
+content_of-other ops doc op other =
+    ap (map (cell_of (ops ++ op ∷ []) doc)) (other_walk ops doc op other)
+    ∙ same_cells ops (ops ++ op ∷ []) doc (walk ops doc)
+    (λ c. is_removed-push ops op doc c ∙ rw other (grind (arith, nat_tests)))
 
 -- what a reader sees of the content is what a reader sees of the document
 pub shown_at-map : (ops : List Op) (doc : ℕ) (cs : List Character) (k : ℕ)

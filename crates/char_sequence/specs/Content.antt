@@ -1,5 +1,5 @@
 -- What a sequence holds of a document, as a list of operations makes it.
-use Rattle.std.specs.Prelude.{◌≡◌, ℕ, List, [], ◌∷◌, ◌++◌, map, Option, Some}
+use Rattle.std.specs.Prelude.{◌≡◌, ℕ, Bool, true, List, [], ◌∷◌, ◌++◌, map, Option, Some, None}
 use Rattle.op_ids.specs.Id.{Id}
 use Rattle.char_sequence.specs.declared.cell.Cell.{Cell}
 use Rattle.op_model.specs.declared.op.Op.{Op}
@@ -8,7 +8,8 @@ use Rattle.op_model.specs.declared.op.Body.TheVariants.{Insert}
 use Rattle.op_model.specs.declared.character.Character.{Character}
 use Rattle.op_model.specs.Walk.{walk}
 use Rattle.op_model.specs.Text.{is_removed}
-use Rattle.op_model.specs.Placing.{Fits, IsOrderly}
+use Rattle.op_model.specs.Characters.{characters}
+use Rattle.op_model.specs.Placing.{has_id, Fits, IsOrderly}
 
 -- a character's cell: its id, its value, and whether some operation of the document removes it
 abbrev pub cell_of : List Op → ℕ → Character → Cell
@@ -17,6 +18,16 @@ cell_of ops doc c = record { id = c.id; value = c.value; is_removed = is_removed
 -- all characters of a document in the order of the walk, tombstones too
 abbrev pub content_of : List Op → ℕ → List Cell
 content_of ops doc = map (cell_of ops doc) (walk ops doc)
+
+-- the cells are the content of these operations, which can be applied one after another
+pub record Holds (cells : List Cell) (ops : List Op) (doc : ℕ) : Type 0 where
+  pub orderly : IsOrderly ops doc
+  pub content : cells ≡ content_of ops doc
+
+-- the beginning of the text, or the id of one of the document's inserts
+abbrev pub is_there : List Op → ℕ → Option Id → Bool
+is_there ops doc None = true
+is_there ops doc (Some id) = has_id (characters ops doc) id
 
 -- From the content of any operations that an operation of this id and body fits, the call leads to their content with it.
 abbrev pub Takes : Id → Body → List Cell → List Cell → Type 0

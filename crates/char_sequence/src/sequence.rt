@@ -1,7 +1,9 @@
-ghost use Rattle.std.specs.Prelude.{◌≡◌, ℕ, List, [], map, IfOk, OnOk, OnErr, IsErrOf, ◌↔◌, false, true, IsTrue};
-ghost use Rattle.char_sequence.specs.Cells.{inserted, inserted_run, is_known, has_cell, place_of};
-ghost use Rattle.char_sequence.specs.Content.{content_of, Takes, TakesRun};
+ghost use Rattle.std.specs.Prelude.{◌≡◌, ℕ, List, [], Some, map, MatchOption, IfOk, OnOk, OnErr, IsErrOf, ◌↔◌, false, true};
+ghost use Rattle.char_sequence.specs.Cells.{inserted, inserted_run, is_known};
+ghost use Rattle.char_sequence.specs.Content.{content_of, is_there, Holds, Takes, TakesRun};
 ghost use Rattle.op_ids.specs.Id.{Id};
+ghost use Rattle.op_model.specs.Places.{index_of};
+ghost use Rattle.op_model.specs.Walk.{walk};
 ghost use Rattle.op_model.specs.declared.op.Op.{Op};
 ghost use Rattle.op_model.specs.declared.op.Body.TheVariants.{Insert, Remove};
 ghost use Rattle.op_model.specs.Text.{visible as seen, text as text_of};
@@ -15,8 +17,8 @@ use op_model::Text;
 use std::alloc::{AllocError, Global};
 use std::marker::Model;
 
-/// The characters of one document in the order of its text, tombstones too. Contracts see its content: for each
-/// character its id, its value, and whether it was removed.
+/// The characters of one document in the order of its text, tombstones too. Contracts see its
+/// content: for each character its id, its value, and whether it was removed.
 #[derive(Debug, Drop)]
 pub struct Sequence {
     cells: Vec<Cell>,
@@ -41,8 +43,9 @@ impl Sequence {
         }
     }
 
-    /// Takes an insert of a character behind its origin, or at the beginning where there is none. `UnknownId` (60) where
-    /// the origin isn't there, `Memory` (1) where a growth was refused; both leave the sequence as it was. Linear.
+    /// Takes an insert of a character behind its origin, or at the beginning where there is none.
+    /// `UnknownId` (60) where the origin isn't there, `Memory` (1) where a growth was refused;
+    /// both leave the sequence as it was. Linear.
     pub fn apply_insert(
         &mut self,
         id: OpId,
@@ -50,7 +53,8 @@ impl Sequence {
         value: char,
     ) -> Result<(), SequenceError>
         ensures taken { OnOk result (Takes id (Insert origin value) self.old self.new) }
-        ensures unknown { IsErrOf result SequenceError.UnknownId ↔ (is_known self.old origin ≡ false) }
+        ensures unknown { (ops : List Op) (doc : ℕ) → Holds self.old ops doc
+            → (IsErrOf result SequenceError.UnknownId ↔ (is_there ops doc origin ≡ false)) }
         ensures err { OnErr result (self.new ≡ self.old) }
     {
         let cell = Cell {
@@ -61,16 +65,18 @@ impl Sequence {
         insert_cell(&mut self.cells, &origin, &cell)
     }
 
-    /// Takes a run of inserts, the first behind an origin, or at the beginning where there is none, each later one behind the
-    /// one before; whole or not at all. `UnknownId` (60) where the origin isn't there, `Memory` (1) where a growth was
-    /// refused; both leave the sequence as it was. Linear for each insert.
+    /// Takes a run of inserts, the first behind an origin, or at the beginning where there is
+    /// none, each later one behind the one before; whole or not at all. `UnknownId` (60) where the
+    /// origin isn't there, `Memory` (1) where a growth was refused; both leave the sequence as it
+    /// was. Linear for each insert.
     pub fn apply_run(
         &mut self,
         origin: Option<OpId>,
         run: &[(OpId, char)],
     ) -> Result<(), SequenceError>
         ensures taken { OnOk result (TakesRun origin run.now self.old self.new) }
-        ensures unknown { IsErrOf result SequenceError.UnknownId ↔ (is_known self.old origin ≡ false) }
+        ensures unknown { (ops : List Op) (doc : ℕ) → Holds self.old ops doc
+            → (IsErrOf result SequenceError.UnknownId ↔ (is_there ops doc origin ≡ false)) }
         ensures err { OnErr result (self.new ≡ self.old) }
     {
         if !knows(&self.cells, &origin) {
@@ -82,12 +88,12 @@ impl Sequence {
         Ok(())
     }
 
-    /// Takes a remove of a character, which stays as a tombstone. `UnknownId` (60) where it isn't there, which leaves the
-    /// sequence as it was. Takes no memory. Linear.
+    /// Takes a remove of a character, which stays as a tombstone. `UnknownId` (60) where it isn't
+    /// there, which leaves the sequence as it was. Takes no memory. Linear.
     pub fn apply_remove(&mut self, id: OpId) -> Result<(), SequenceError>
         ensures taken { OnOk result ((by : Id) → Takes by (Remove id) self.old self.new) }
-        ensures unknown { IsErrOf result SequenceError.UnknownId ↔ (has_cell self.old id ≡ false) }
-        ensures known { OnOk result (has_cell self.old id ≡ true) }
+        ensures unknown { (ops : List Op) (doc : ℕ) → Holds self.old ops doc
+            → (IsErrOf result SequenceError.UnknownId ↔ (is_there ops doc (Some id) ≡ false)) }
         ensures err { OnErr result (self.new ≡ self.old) }
     {
         match place(&self.cells, &id) {
@@ -100,15 +106,27 @@ impl Sequence {
         }
     }
 
-    /// How many characters stand before this one, tombstones counted, or `None` where it isn't there. Takes no
-    /// memory. Linear.
+    /// Another sequence with the same content. An error is want of memory (1). Linear.
+    pub fn copy(&self) -> Result<Sequence, AllocError>
+        ensures { IfOk result (λ copied. copied ≡ self.now) }
+    {
+        Ok(Sequence {
+            cells: copy(&self.cells)?,
+        })
+    }
+
+    /// How many characters stand before this one, tombstones counted, or `None` where it isn't
+    /// there. Takes no memory. Linear.
     pub fn find(&self, id: OpId) -> Option<usize>
-        ensures { result ≡ place_of id self.now }
+        ensures { (ops : List Op) (doc : ℕ) → Holds self.now ops doc
+            → MatchOption result (is_there ops doc (Some id) ≡ false)
+            (λ i. (is_there ops doc (Some id) ≡ true) × (i ≡ index_of id (walk ops doc))) }
     {
         place(&self.cells, &id)
     }
 
-    /// The k-th character that a reader sees, counted from 0, or `None` past the last. Takes no memory. Linear.
+    /// The k-th character that a reader sees, counted from 0, or `None` past the last. Takes no
+    /// memory. Linear.
     pub fn visible(&self, k: usize) -> Option<OpId>
         ensures { (ops : List Op) (doc : ℕ) → self.now ≡ content_of ops doc
             → result ≡ id_at (seen ops doc) k }
@@ -116,8 +134,8 @@ impl Sequence {
         shown(&self.cells, k)
     }
 
-    /// The tombstones between the first so many characters that a reader sees and the next one, in order. An error is want
-    /// of memory (1). Linear.
+    /// The tombstones between the first so many characters that a reader sees and the next one, in
+    /// order. An error is want of memory (1). Linear.
     pub fn run_after(&self, count: usize) -> Result<Vec<OpId>, AllocError>
         ensures { IfOk result (λ run. (ops : List Op) (doc : ℕ) → self.now ≡ content_of ops doc
             → run.items ≡ map (λ c. c.id) (tombstones_at ops doc count)) }
@@ -142,7 +160,8 @@ fn insert_cell(
     cell: &Cell,
 ) -> Result<(), SequenceError>
     ensures placed { OnOk result (cells.new.items ≡ inserted origin.now cell.now cells.old.items) }
-    ensures unknown { IsErrOf result SequenceError.UnknownId ↔ (is_known cells.old.items origin.now ≡ false) }
+    ensures unknown { IsErrOf result SequenceError.UnknownId
+        ↔ (is_known cells.old.items origin.now ≡ false) }
     ensures err { OnErr result (cells.new.items ≡ cells.old.items) }
 {
     match landing(cells, origin, cell) {

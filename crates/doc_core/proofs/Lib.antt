@@ -1,0 +1,4 @@
+pub mod Clocks
+pub mod LawLemmas
+pub mod MakingLemmas
+pub mod StandingLemmas

@@ -1,0 +1,108 @@
+-- Why what is made is what the definition says.
+use Rattle.std.proofs.Common.{◌≡◌, ℕ, zero, suc, ◌+◌, ◌-◌, ◌≤◌, ◌<◌, Bool, true, false, if◌then◌else◌, List, [], ◌∷◌, ◌++◌, length, map, filter, take, drop, length-append, Option, Some, None, refl, sym, ◌∙◌, ap, arith}
+use Rattle.std.proofs.Math.Seq.{drop-nil, take-nil}
+use Rattle.op_ids.specs.Id.{Id}
+use Rattle.op_model.specs.declared.op.Op.{Op}
+use Rattle.op_model.specs.declared.op.Body.{Body}
+use Rattle.op_model.specs.declared.op.Body.TheVariants.{Remove}
+use Rattle.op_model.specs.declared.edit.Edit.{Edit}
+use Rattle.op_model.specs.declared.edit.Change.TheVariants as change
+use Rattle.op_model.specs.declared.character.Character.{Character}
+use Rattle.op_model.specs.Causality.{optional, clock_of}
+use Rattle.op_model.specs.Text.{visible}
+use Rattle.op_model.specs.Made.{id_at, id_before, last_or, tombstones_at, ends_after, origin_of, insert_bodies, numbered, greatest_counter, made}
+use Rattle.doc_core.specs.Making.{IsNext, SaysEnds, last_ended}
+
+-- one more of the ids from an index on
+pub ids_more : (cs : List Character) (at n : ℕ)
+    → map (λ c. c.id) (take (n + 1) (drop at cs)) ≡ map (λ c. c.id) (take n (drop at cs)) ++ optional (id_at cs (at + n))
+ids_more [] at n = rw (drop-nil at, take-nil n, take-nil (n + 1)) refl
+ids_more (c ∷ cs) (suc at) n = let shift : suc at + n ≡ suc (at + n) = omega arith in rw shift (ids_more cs at n)
+ids_more (c ∷ cs) zero zero = refl
+ids_more (c ∷ cs) zero (suc n) =
+    let up : suc n + 1 ≡ suc (n + 1) = omega arith in
+    let here : 0 + suc n ≡ suc (0 + n) = omega arith in
+    rw (up, here) (ap (λ ids. c.id ∷ ids) (ids_more cs zero n))
+
+-- the last of the tombstones that a mark ends after
+pub last_ended-tombstones : (ends : Id → Bool) (ops : List Op) (doc : ℕ) (before : Option Id) (cs : List Character) → SaysEnds ends ops doc
+    → last_ended ends before (map (λ c. c.id) cs) ≡ last_or before (filter (λ c. ends_after ops doc c.id) cs)
+last_ended-tombstones ends ops doc before [] says = refl
+last_ended-tombstones ends ops doc before (c ∷ cs) says =
+    let same : ends c.id ≡ ends_after ops doc c.id = says c.id in
+    ap (λ ended. last_ended ends (if ended then Some c.id else before) (map (λ d. d.id) cs)) same
+    ∙ go (ends_after ops doc c.id) (λ first. last_ended-tombstones ends ops doc first cs says)
+  where
+    go : (ended : Bool) → ((first : Option Id) → last_ended ends first (map (λ d. d.id) cs) ≡ last_or first (filter (λ d. ends_after ops doc d.id) cs))
+        → last_ended ends (if ended then Some c.id else before) (map (λ d. d.id) cs)
+        ≡ last_or before (if ended then c ∷ filter (λ d. ends_after ops doc d.id) cs else filter (λ d. ends_after ops doc d.id) cs)
+    go true rest = rest (Some c.id)
+    go false rest = rest before
+
+-- where an index is, by what is found before it
+at_within : (cs : List Character) (i : ℕ) (id : Id) → Some id ≡ id_at cs i → i < length cs
+at_within [] i id found = cc
+at_within (c ∷ cs) zero id found = omega arith
+at_within (c ∷ cs) (suc i) id found = omega (arith, at_within cs i id found)
+
+at_past : (cs : List Character) (i : ℕ) → None ≡ id_at cs i → length cs ≤ i
+at_past [] i none = omega arith
+at_past (c ∷ cs) zero none = cc
+at_past (c ∷ cs) (suc i) none = omega (arith, at_past cs i none)
+
+id_before_at : (cs : List Character) (at : ℕ) → 0 < at → id_before cs at ≡ id_at cs (at - 1)
+id_before_at cs zero some = absurd (omega arith)
+id_before_at cs (suc i) some = let back : suc i - 1 ≡ i = omega arith in rw back refl
+
+pub before_there : (cs : List Character) (at : ℕ) (id : Id) → 0 < at → Some id ≡ id_at cs (at - 1)
+    → (Some id ≡ id_before cs at) × (at ≤ length cs)
+before_there cs at id some found = (found ∙ sym (id_before_at cs at some), omega (arith, at_within cs (at - 1) id found))
+
+pub before_past : (cs : List Character) (at : ℕ) → 0 < at → None ≡ id_at cs (at - 1) → length cs < at
+before_past cs at some none = omega (arith, at_past cs (at - 1) none)
+
+-- inserts by the definition's origin are those of the edit
+pub made_insert : (ops : List Op) (edit : Edit) (replica doc counter at : ℕ) (clock : List (ℕ × ℕ)) (text : List ℕ) (origin : Option Id)
+    → IsNext ops counter clock → edit.doc ≡ doc → edit.change ≡ change.Insert at text → origin ≡ origin_of ops doc at
+    → numbered replica doc counter clock (insert_bodies replica counter origin text) ≡ made ops replica edit
+made_insert ops edit replica doc counter at clock text origin next same_doc same_change is_origin =
+    rw (same_change, same_doc, next.counted, next.depends, is_origin) refl
+
+-- the tombstone that the definition hangs an insert from
+pub origin_there : (ends : Id → Bool) (ops : List Op) (doc at : ℕ) (before origin : Option Id) (run ids : List Id) → SaysEnds ends ops doc
+    → before ≡ id_before (visible ops doc) at → run ≡ ids → ids ≡ map (λ c. c.id) (tombstones_at ops doc at)
+    → origin ≡ last_ended ends before run → origin ≡ origin_of ops doc at
+origin_there ends ops doc at before origin run ids says is_before same_run is_run is_last =
+    is_last
+    ∙ (ap (last_ended ends before) (same_run ∙ is_run)
+    ∙ (last_ended-tombstones ends ops doc before (tombstones_at ops doc at) says
+    ∙ ap (λ first. last_or first (filter (λ c. ends_after ops doc c.id) (tombstones_at ops doc at))) is_before))
+
+pub length-insert_bodies : (replica counter : ℕ) (origin : Option Id) (text : List ℕ)
+    → length (insert_bodies replica counter origin text) ≡ length text
+length-insert_bodies replica counter origin [] = refl
+length-insert_bodies replica counter origin (c ∷ cs) =
+    ap suc (length-insert_bodies replica (counter + 1) (Some (record { counter = counter; replica = replica })) cs)
+
+map_removes : (cs : List Character) → map Remove (map (λ c. c.id) cs) ≡ map (λ c. Remove c.id) cs
+map_removes [] = refl
+map_removes (c ∷ cs) = ap (λ bodies. Remove c.id ∷ bodies) (map_removes cs)
+
+-- removes of the definition's characters are those of the edit
+pub made_removes : (ops : List Op) (edit : Edit) (replica doc counter at count : ℕ) (clock again : List (ℕ × ℕ)) (targets ids : List Id) (bodies more : List Body)
+    → IsNext ops counter clock → edit.doc ≡ doc → again ≡ clock → more ≡ bodies → bodies ≡ map Remove ids → ids ≡ targets
+    → targets ≡ map (λ c. c.id) (take count (drop at (visible ops doc)))
+    → numbered replica doc counter again more
+    ≡ numbered replica edit.doc (greatest_counter ops + 1) (clock_of ops) (map (λ c. Remove c.id) (take count (drop at (visible ops edit.doc))))
+made_removes ops edit replica doc counter at count clock again targets ids bodies more next same_doc same_clock same_bodies are_removes same_ids are_seen =
+    rw (same_doc, same_clock, same_bodies, are_removes, same_ids, are_seen, next.counted, next.depends)
+    (ap (numbered replica doc (greatest_counter ops + 1) (clock_of ops)) (map_removes (take count (drop at (visible ops doc)))))
+
+-- one more target was found
+pub found_more : (cs : List Character) (at i : ℕ) (before after : List Id) (found : Option Id) → after ≡ before ++ optional found
+    → found ≡ id_at cs (at + i) → before ≡ map (λ c. c.id) (take i (drop at cs)) → after ≡ map (λ c. c.id) (take (i + 1) (drop at cs))
+found_more cs at i before after found pushed is_found is_before = rw (pushed, is_found, is_before) (sym (ids_more cs at i))
+
+pub few_more : (i : ℕ) (before after : List Id) (found : Option Id) → after ≡ before ++ optional found → length before ≤ i → length after ≤ i + 1
+few_more i before after None pushed few = rw pushed (omega (arith, length-append before [], few))
+few_more i before after (Some id) pushed few = rw pushed (omega (arith, length-append before (id ∷ []), few))

@@ -1,0 +1,4 @@
+pub mod Limits
+pub mod Making
+pub mod Refusal
+pub mod Standing

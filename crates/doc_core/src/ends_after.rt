@@ -1,0 +1,27 @@
+ghost use Rattle.std.specs.Prelude.{◌≡◌, Bool, false};
+ghost use Rattle.op_ids.specs.Id.{Id};
+
+use op_ids::OpId;
+
+/// What an insert has to know of the mark operations of its document: the characters that some of
+/// them end just after.
+pub trait EndsAfter {
+    /// Some mark operation ends just after the character of this id.
+    ghost ends_after: { Self → Id → Bool };
+
+    /// Whether some mark operation ends just after this character.
+    fn ends_after(&self, id: OpId) -> bool
+        ensures { result ≡ ends_after self.now id };
+}
+
+/// Of a document without mark operations.
+#[derive(Clone, Copy, Debug, PartialEq, Eq)]
+pub struct NoMarks;
+
+impl EndsAfter for NoMarks {
+    ghost ends_after = { λ _ _. false };
+
+    fn ends_after(&self, _id: OpId) -> bool {
+        false
+    }
+}

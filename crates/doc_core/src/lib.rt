@@ -1,0 +1,19 @@
+//! One document: what operations make of it, and the operations that an edit of it makes.
+#![tactic(auto)]
+
+mod apply;
+mod doc;
+mod ends_after;
+mod laws;
+mod make;
+mod make_error;
+mod numbering;
+
+pub use char_sequence::SequenceError;
+pub use doc::Doc;
+pub use ends_after::{EndsAfter, NoMarks};
+pub use laws::{followers_may_come, other_operations_stay};
+pub use make_error::MakeError;
+
+#[cfg(test)]
+mod tests;
