@@ -46,12 +46,12 @@ fn bytes_of(alloc: Global, pieces: &str) -> Result<Vec<u8>, Fail> {
 // A disk with a file of these pages, each filled with zeros.
 fn disk_of(alloc: Global, pages: &[&str]) -> Result<MemDisk, Fail> {
     let mut disk = MemDisk::new(alloc, 8 * 4096, 64)?;
-    let mut at = 0;
+    let mut at: u64 = 0;
     for pieces in pages {
         let mut page = bytes_of(alloc, pieces)?;
         page.resize(4096, 0)?;
-        disk.write_at(at * 4096, &page)?;
-        at = (at + 1) % 8;
+        disk.write_at(at, &page)?;
+        at = at.saturating_add(4096);
     }
     disk.sync()?;
     Ok(disk)
