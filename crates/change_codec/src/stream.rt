@@ -7,6 +7,7 @@ ghost use Rattle.change_codec.specs.Fits.{IsOperation};
 ghost use Rattle.change_codec.specs.Spelling.{spelled};
 ghost use Rattle.change_codec.specs.Stream.{spelled_all, AreOperations, IsNoStream};
 
+use crate::fits::every_op_has_a_spelling;
 use crate::measure::record_len;
 use crate::{CodecError, StreamError, put_op, take_op};
 use op_model::Op;
@@ -16,6 +17,7 @@ use std::alloc::{AllocError, Global};
 /// the bytes as they were. Each byte is written once.
 pub fn put_ops(ops: &[Op], out: &mut Vec<u8>) -> Result<(), AllocError>
     ensures ok { OnOk result (out.new.items ≡ out.old.items ++ spelled_all ops.now) }
+    ensures fits { OnOk result (AreOperations ops.now) }
     ensures err { OnErr result (out.new.items ≡ out.old.items) }
 {
     let len = out.len();
@@ -31,9 +33,11 @@ pub fn put_ops(ops: &[Op], out: &mut Vec<u8>) -> Result<(), AllocError>
 // Puts records behind what is there.
 fn put_each(ops: &[Op], out: &mut Vec<u8>) -> Result<(), AllocError>
     ensures ok { OnOk result (out.new.items ≡ out.old.items ++ spelled_all ops.now) }
+    ensures fits { OnOk result (AreOperations ops.now) }
     ensures front { take (length out.old.items) out.new.items ≡ out.old.items }
 {
     for op in ops {
+        every_op_has_a_spelling(op);
         put_op(op, out)?;
     }
     Ok(())

@@ -3,9 +3,8 @@ use Rattle.std.proofs.Common.{◌≡◌, ◌≢◌, ℕ, ◌+◌, ◌<◌, ◌�
 use Rattle.std.proofs.lemmas.Bool.{leb-true, ltb-true}
 use Rattle.std.proofs.lemmas.Bool.Decides.{nat_tests}
 use Rattle.op_model.specs.declared.op.Op.{Op}
-use Rattle.op_model.specs.Records.{stream_length, record_length}
+use Rattle.op_model.specs.Records.{stream_length}
 use Rattle.change_codec.specs.Stream.{spelled_all}
-use Rattle.change_codec.specs.Spelling.{spelled}
 use Rattle.change_codec.proofs.StreamLaws.{length-spelled_all}
 use Rattle.root_slots.specs.Root.{version_of, count_of}
 use Rattle.group_commit.specs.Saved.{Saved}
@@ -36,7 +35,7 @@ due_of held ops works idle some room =
 pub record Room (current : Saved) (ops : List Op) : Type 0 where
   pub version : version_of current.body < 18446744073709551615
   pub count : count_of current.body + length ops ≤ 16777216
-  pub stream : length current.stream + length (spelled_all ops) ≤ 4096
+  pub stream : length current.stream + length (spelled_all ops) ≤ 1073741824
 
 and_parts : (a b : Bool) → (a && b) ≡ true → (a ≡ true) × (b ≡ true)
 and_parts true true is = (refl, refl)
@@ -45,21 +44,13 @@ and_parts false b is = absurd cc
 
 pub room_says : (current : Saved) (ops : List Op) → has_room current ops ≡ true → Room current ops
 room_says current ops room =
-    let both = and_parts _ (nat_le (length current.stream + stream_length ops) 4096) room in
+    let both = and_parts _ (nat_le (length current.stream + stream_length ops) 1073741824) room in
     let first = and_parts (nat_lt (version_of current.body) 18446744073709551615) (nat_le (count_of current.body + length ops) 16777216) both.0 in
     record {
       version = ltb-true _ _ first.0;
       count = leb-true _ _ first.1;
       stream = rw (length-spelled_all ops) (leb-true _ _ both.1);
     }
-
--- some operations have some records
-pub some_records : (ops : List Op) → 0 < length ops → 0 < length (spelled_all ops)
-some_records [] some = absurd (omega (arith, some))
-some_records (op ∷ ops) some = omega (arith, length-spelled_all (op ∷ ops), some_bytes op)
-  where
-    some_bytes : (op : Op) → 0 < record_length op
-    some_bytes op = omega arith
 
 pub idle_is : (p : Phase) → is_idle p ≡ true → p ≡ Idle
 idle_is Idle is = refl

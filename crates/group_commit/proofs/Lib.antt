@@ -1,15 +1,20 @@
 pub mod BeginLemmas
+pub mod CountLemmas
+pub mod CutLemmas
 pub mod DeviceCall
+pub mod Doing
 pub mod Faults
 pub mod Frame
 pub mod ImageReads
 pub mod Inside
+pub mod KeptLemmas
 pub mod Looking
 pub mod ManyPages
 pub mod NewFileLemmas
-pub mod OnePageLemmas
 pub mod OneSpelling
 pub mod PageReads
+pub mod PlanLemmas
+pub mod RecordLemmas
 pub mod Renewing
 pub mod Roots
 pub mod SlotLemmas
@@ -17,3 +22,4 @@ pub mod SlotReads
 pub mod Sound
 pub mod Steps
 pub mod StreamReads
+pub mod ZeroLemmas

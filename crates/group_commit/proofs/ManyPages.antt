@@ -123,7 +123,7 @@ entries_joined (t ∷ ts) whole =
 numbers-zeros : (n m : ℕ) → 4 * n ≤ m → numbers n (replicate m 0) ≡ replicate n 0
 numbers-zeros zero m within = refl
 numbers-zeros (suc n) m within =
-    let first : take 4 (replicate m 0) ≡ replicate 4 0 = take-replicate {X = ℕ} 4 m 0 (omega (arith, within)) in
+    let first : take 4 (replicate {A = ℕ} m 0) ≡ replicate 4 0 = take-replicate {X = ℕ} 4 m 0 (omega (arith, within)) in
     let rest = numbers-zeros n (m - 4) (omega (arith, within)) in
     rw (first, drop-replicate {X = ℕ} 4 m 0) (ap (λ r. 0 ∷ r) rest)
 

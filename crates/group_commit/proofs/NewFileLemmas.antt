@@ -12,7 +12,7 @@ use Rattle.group_commit.specs.Image.{Stores, stream, stream_in, tables_in, named
 use Rattle.group_commit.specs.Commit.{HasPages, Stands, StaleSlot, IsOlder, IsAsBefore}
 use Rattle.group_commit.specs.NewFile.{slot_page, new_file}
 use Rattle.group_commit.specs.declared.phase.Phase.TheVariants.{Idle}
-use Rattle.group_commit.proofs.OnePageLemmas.{stream_there}
+use Rattle.group_commit.proofs.Roots.{stream_there}
 
 -- a write at the end of a file
 pub put_at_end : (file : List ℕ) (at : ℕ) (bytes : List ℕ) → length file ≡ at → overwritten file at bytes ≡ file ++ bytes

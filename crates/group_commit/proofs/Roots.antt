@@ -1,15 +1,52 @@
 -- What a stored root says of its pages, and when a root is stored.
-use Rattle.std.proofs.Common.{◌≡◌, ◌≢◌, ℕ, zero, suc, ◌+◌, ◌-◌, ◌*◌, ◌/◌, ◌<◌, ◌≤◌, Bool, true, false, not, ◌&&◌, List, [], ◌∷◌, ◌++◌, length, get_or, take, drop, refl, sym, ap, ◌∙◌, arith, length-append, length-take, length-drop, append_assoc, Result, Ok, Err}
+use Rattle.std.proofs.Common.{◌≡◌, ◌≢◌, ℕ, zero, suc, ◌+◌, ◌-◌, ◌*◌, ◌/◌, ◌<◌, ◌≤◌, Bool, true, false, not, ◌&&◌, List, [], ◌∷◌, ◌++◌, length, get_or, take, drop, refl, sym, ap, ◌∙◌, arith, length-append, length-take, length-drop, append_assoc, Result, Ok, Err, if◌then◌else◌}
 use Rattle.std.specs.Prelude.{replicate}
 use Rattle.std.proofs.lemmas.List.{take_at, drop_at, take_all, take-append-drop}
 use Rattle.page_file.specs.Pages.{page, pages, are_pages, are_whole, is_zero, joined}
 use Rattle.page_file.proofs.TableLemmas.{zero-replicate}
+use Rattle.std.proofs.lemmas.Bool.Decides.{nat_tests}
+use Rattle.root_slots.specs.Head.{is_head}
 use Rattle.root_slots.specs.Root.{is_root, tables_of, data_count, pages_for, stream_length_of}
-use Rattle.group_commit.specs.Saved.{Saved}
-use Rattle.group_commit.specs.Image.{entries, named, stream_in, tables_in, stream, reached, Stores}
+use Rattle.root_slots.proofs.HeadLemmas.{is_rest, root_is_head, head_says, length-tables, most_tables}
+use Rattle.group_commit.specs.Saved.{Saved, HasDataPages}
+use Rattle.group_commit.specs.Image.{entries, named, are_tables, stream_in, tables_in, stream, reached, Stores}
 use Rattle.group_commit.proofs.Frame.{reading_of}
 use Rattle.group_commit.proofs.ManyPages.{zeros_are}
-use Rattle.group_commit.proofs.OnePageLemmas.{stream_there}
+
+-- all rules hold: then there is a stream
+pub stream_there : (root : List ℕ) (tables data_pages : List (List ℕ)) → is_root root ≡ true → are_whole tables ≡ true
+    → is_zero (drop (data_count root) (entries tables)) ≡ true → are_pages (tables_of root ++ named root tables) ≡ true
+    → are_whole data_pages ≡ true → is_zero (drop (stream_length_of root) (joined data_pages)) ≡ true
+    → stream_in root tables data_pages ≡ Ok (take (stream_length_of root) (joined data_pages))
+stream_there root tables data_pages body whole rest apart whole_pages zeros =
+    by_tests (is_root root && are_whole tables) (are_tables root tables && are_whole data_pages) (is_zero (drop (stream_length_of root) (joined data_pages)))
+    (take (stream_length_of root) (joined data_pages))
+    (both (is_root root) (are_whole tables) body whole)
+    (both (are_tables root tables) (are_whole data_pages) (both (is_zero (drop (data_count root) (entries tables))) (are_pages (tables_of root ++ named root tables)) rest apart) whole_pages)
+    zeros
+  where
+    tested : Bool → Bool → Bool → List ℕ → Result (List ℕ) ℕ
+    tested a b c all = if not a then Err 43 else if not b then Err 45 else if not c then Err 46 else Ok all
+
+    by_tests : (a b c : Bool) (all : List ℕ) → a ≡ true → b ≡ true → c ≡ true → tested a b c all ≡ Ok all
+    by_tests a b c all x y z = rw (x, y, z) refl
+
+    both : (a b : Bool) → a ≡ true → b ≡ true → (a && b) ≡ true
+    both a b x y = rw (x, y) refl
+
+-- a root's body has 4,088 bytes
+pub root_size : (body : List ℕ) → is_root body ≡ true → length body ≡ 4088
+root_size body valid = (head_says body (first_true (is_head body) (is_rest body) (sym (root_is_head body) ∙ valid))).size
+  where
+    first_true : (a b : Bool) → (a && b) ≡ true → a ≡ true
+    first_true a b is = grind (arith, nat_tests)
+
+-- and as many table pages as its data pages need
+pub root_tables : (body : List ℕ) → is_root body ≡ true → length (tables_of body) ≡ pages_for 1024 (data_count body)
+root_tables body valid = length-tables body ∙ (head_says body (first_true (is_head body) (is_rest body) (sym (root_is_head body) ∙ valid))).tables
+  where
+    first_true : (a b : Bool) → (a && b) ≡ true → a ≡ true
+    first_true a b is = grind (arith, nat_tests)
 
 -- the table pages and the data pages of a root in a file, with what stands in them: the numbers and the stream, and zeros
 pub record HasBoth (root s tables data_pages : List ℕ) (y z : ℕ) (file : List ℕ) : Type 0 where
@@ -77,3 +114,20 @@ both_of root s tables data_pages file are_tables long stores =
 
     cut : (n : ℕ) (all front : List ℕ) → take n all ≡ front → is_zero (drop n all) ≡ true → all ≡ front ++ replicate (length (drop n all)) 0
     cut n all front is zeros = sym (take-append-drop n all) ∙ ap (λ f. f ++ drop n all) is ∙ ap (λ r. front ++ r) (zeros_are (drop n all) zeros)
+
+-- a root's pages are few
+pub root_few : (root : Saved) (data_pages : List ℕ) → HasDataPages root data_pages → length root.pages ≤ 262400
+root_few root data_pages has_data =
+    let both = sym (root_is_head root.body) ∙ has_data.valid in
+    let says = head_says root.body (first_true (is_head root.body) (is_rest root.body) both) in
+    let size = ap length has_data.reaches ∙ length-append (tables_of root.body) data_pages in
+    few (stream_length_of root.body) (length (tables_of root.body)) (length data_pages) (length root.pages) says.stream (root_tables root.body has_data.valid) has_data.count size
+  where
+    first_true : (a b : Bool) → (a && b) ≡ true → a ≡ true
+    first_true a b is = grind (arith, nat_tests)
+
+    few : (n t d l : ℕ) → n ≤ 1073741824 → t ≡ pages_for 1024 (pages_for 4096 n) → d ≡ pages_for 4096 n → l ≡ t + d → l ≤ 262400
+    few n t d l most tables data_size size = omega (arith, most_tables n most, tables, data_size, size, data_most n most)
+      where
+        data_most : (n : ℕ) → n ≤ 1073741824 → pages_for 4096 n ≤ 262144
+        data_most n most = omega (arith, most)

@@ -54,7 +54,7 @@ module _ {D : Type 0} (facts : Ghosts D) where
       → (facts.tells held.disk → Tears facts (4096 * get_or numbers k 0) 4096 held.disk new)
       → (facts.tells held.disk → facts.content new ≡ overwritten (facts.content held.disk) (4096 * get_or numbers k 0) (part fresh (4096 * k) 4096))
       → (facts.tells held.disk → 4096 * get_or numbers k 0 ≤ length (facts.content held.disk))
-      → held.new_pages ≡ length numbers → held.failed ≡ false
+      → length held.numbers ≡ length numbers → held.failed ≡ false
       → IsSound facts (gone_on (Pages k) held new) slot numbers fresh
   sound_page held slot numbers fresh k new sound at_page lawful told tears written inside count works =
       let s = with_phase held slot numbers fresh (Pages k) at_page sound in
@@ -66,10 +66,10 @@ module _ {D : Type 0} (facts : Ghosts D) where
       record {
         slots = sound.slots;
         room = sound.room;
-        plan = λ not_idle. plan_at (Pages k) (behind_pages (k + 1) held.new_pages held.stale) held.current held.next numbers fresh plan
-            (still_pages (k + 1) held.new_pages held.stale (length numbers) count);
+        plan = λ not_idle. plan_at (Pages k) (behind_pages (k + 1) (length held.numbers) held.stale) held.current held.next numbers fresh plan
+            (still_pages (k + 1) (length held.numbers) held.stale (length numbers) count);
         stands = λ tells. after_write _ _ (4096 * get_or numbers k 0) 4096 held.disk new (tears (told tells)) (s.stands (told tells)) (λ d c torn stood.
-            stands_behind (k + 1) held.new_pages slot held.stale held.current held.next c
+            stands_behind (k + 1) (length held.numbers) slot held.stale held.current held.next c
             (stands_page k (k + 1) slot held.stale held.current held.next d c (get_or numbers k 0) sound.slots above lacks torn stood));
         reads = λ tells _.
             let old = told tells in
@@ -81,7 +81,7 @@ module _ {D : Type 0} (facts : Ghosts D) where
             let now = reads_page k numbers fresh (facts.content held.disk) (facts.content new) apart within torn there (s.reads old works) in
             let stood = stands_page k (k + 1) slot held.stale held.current held.next (facts.content held.disk) (facts.content new) (get_or numbers k 0) sound.slots above lacks torn
             (s.stands old (facts.content held.disk) (lawful old).reads_survive) in
-            reads_at (k + 1) held.new_pages slot held.stale held.next numbers fresh (facts.content new) count (omega (arith, within)) now stood.stale_slot.1.closed;
+            reads_at (k + 1) (length held.numbers) slot held.stale held.next numbers fresh (facts.content new) count (omega (arith, within)) now stood.stale_slot.1.closed;
       }
     where
       still_pages : (k n : ℕ) (stale : Bool) (m : ℕ) → n ≡ m → (j : ℕ) → behind_pages k n stale ≡ Pages j → j < m
@@ -275,11 +275,11 @@ module _ {D : Type 0} (facts : Ghosts D) where
   }
 
   -- a commit begins: no device call is made
-  pub sound_begin : (held : Held D) (slot : ℕ) (old_numbers old_fresh : List ℕ) (next : Saved) (numbers fresh : List ℕ) (pages : ℕ)
+  pub sound_begin : (held : Held D) (slot : ℕ) (old_numbers old_fresh : List ℕ) (next : Saved) (numbers fresh : List ℕ)
       → IsSound facts held slot old_numbers old_fresh → held.phase ≡ Idle
       → length fresh ≡ 4096 * length numbers → IsPlan (Pages 0) held.current next numbers fresh
-      → IsSound facts (record held { phase = Pages 0; next = next; new_pages = pages }) slot numbers fresh
-  sound_begin held slot old_numbers old_fresh next numbers fresh pages sound idle room plan =
+      → IsSound facts (record held { phase = Pages 0; next = next; numbers = numbers }) slot numbers fresh
+  sound_begin held slot old_numbers old_fresh next numbers fresh sound idle room plan =
       let s = with_phase held slot old_numbers old_fresh Idle idle sound in
       record {
         slots = sound.slots;

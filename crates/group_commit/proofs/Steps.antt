@@ -172,6 +172,13 @@ is_by_older phase slot stale current next file below older s = elim (cases_eq (g
   | inr shut ↦ stored_in file slot current (live_alone file slot below s.whole s.is_open shut) s.holds s.keeps
 ]
 
+-- between two commits the live slot is this one
+pub live_by_older : (slot : ℕ) (stale : Bool) (current next : Saved) (file : List ℕ) → slot < 2 → Stands Idle slot stale current next file → live file ≡ Ok slot
+live_by_older slot stale current next file below s = elim (cases_eq (gate (1 - slot) file) 1) [
+  | inl is ↦ live_greater file slot below s.whole s.is_open is (rw (s.holds) (s.stale_slot.0 is))
+  | inr shut ↦ live_alone file slot below s.whole s.is_open shut
+]
+
 is_by_shut : (phase : Phase) (slot : ℕ) (stale : Bool) (current next : Saved) (file : List ℕ) → slot < 2 → gate (1 - slot) file ≢ 1
     → Stands phase slot stale current next file → Is current file
 is_by_shut phase slot stale current next file below shut s =

@@ -1,10 +1,14 @@
 -- How a commit begins.
-use Rattle.std.specs.Prelude.{◌≡◌, ◌⊎◌, ℕ, ◌+◌, Bool, true, false, not, ◌&&◌, nat_lt, nat_le, if◌then◌else◌, List, [], ◌∷◌, length, Result, Ok, Err, Option, Some, None}
+use Rattle.std.specs.Prelude.{◌≡◌, ◌⊎◌, ℕ, ◌+◌, Bool, true, false, not, ◌&&◌, nat_lt, nat_le, if◌then◌else◌, List, [], ◌∷◌, ◌++◌, length, Result, Ok, Err, Option, Some, None}
 use Rattle.disk_trait.specs.declared.facts.DiskFacts.{Ghosts}
 use Rattle.op_model.specs.declared.op.Op.{Op}
 use Rattle.op_model.specs.Records.{stream_length}
-use Rattle.change_codec.specs.Stream.{spelled_all}
+use Rattle.change_codec.specs.Stream.{spelled_all, AreOperations}
+use Rattle.page_file.specs.Free.{AreLowest}
+use Rattle.page_file.specs.Pages.{are_pages}
 use Rattle.root_slots.specs.Root.{version_of, count_of}
+use Rattle.root_slots.specs.Slots.{live}
+use Rattle.group_commit.specs.Changes.{changed_pages}
 use Rattle.group_commit.specs.Saved.{Saved}
 use Rattle.group_commit.specs.Commit.{IsLeft}
 use Rattle.group_commit.specs.Held.{Held}
@@ -29,11 +33,11 @@ abbrev pub is_none : List Op → Bool
 is_none [] = true
 is_none (op ∷ ops) = false
 
--- there is a further version, and room for these operations: at most 2^24 in a file, and for now at most 4,096 bytes of records
+-- there is a further version, and room for these operations: at most 2^24 in a file, and 2^30 bytes of records
 abbrev pub has_room : Saved → List Op → Bool
 has_room current ops =
     nat_lt (version_of current.body) 18446744073709551615 && nat_le (count_of current.body + length ops) 16777216
-    && nat_le (length current.stream + stream_length ops) 4096
+    && nat_le (length current.stream + stream_length ops) 1073741824
 
 -- the answer that is due, in the order of test: failed 44, busy 8, nothing to commit, limit 7, or the length of the new list
 abbrev pub begin_due : {D : Type 0} → Held D → List Op → Result (Option ℕ) StoreError
@@ -61,6 +65,13 @@ pub record Begins {D : Type 0} (facts : Ghosts D) (old : Held D) (ops : List Op)
   pub stale : new.stale ≡ old.stale
   pub works : new.failed ≡ false
   pub phase : new.phase ≡ Pages 0
-  pub new_pages : new.new_pages ≡ 2
+  pub slot : new.slot ≡ old.slot
+  -- it writes the pages that change or are new, and no other
+  pub numbers : new.numbers ≡ changed_pages old.current new.next
+  -- behind the slots, none of them twice, none of them live, and each the lowest that is free
+  pub free : are_pages (new.numbers ++ old.current.pages) ≡ true
+  pub lowest : AreLowest old.current.pages new.numbers
   pub follows : IsNext old.current (spelled_all ops) (length ops) new.next
+  pub fits : AreOperations ops
+  pub live_slot : facts.tells new.disk → (c : List ℕ) → facts.survives new.disk c → live c ≡ Ok new.slot
   pub left : facts.tells new.disk → (c : List ℕ) → facts.survives new.disk c → IsLeft new.phase new.current new.next c

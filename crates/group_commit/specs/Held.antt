@@ -1,21 +1,23 @@
 -- A store as its callers see it, and what one step of a commit makes of it.
 use Rattle.std.specs.Prelude.{◌≡◌, ◌≢◌, ◌⊎◌, ℕ, ◌+◌, ◌-◌, ◌*◌, ◌<◌, ◌≤◌, Bool, true, false, nat_lt, if◌then◌else◌, List, ◌++◌, length, take, get_or, IsTrue}
 use Rattle.disk_trait.specs.declared.facts.DiskFacts.{Ghosts}
-use Rattle.page_file.specs.Pages.{has, are_pages}
+use Rattle.page_file.specs.Free.{AreLowest}
+use Rattle.page_file.specs.Pages.{are_pages}
 use Rattle.root_slots.specs.Root.{version_of}
 use Rattle.group_commit.specs.Saved.{Saved}
 use Rattle.group_commit.specs.Commit.{Stands, Reads, Makes}
 use Rattle.group_commit.specs.declared.phase.Phase.{Phase}
 use Rattle.group_commit.specs.declared.phase.Phase.TheVariants.{Idle, Pages, Close, Sync1, Body, Sync2, Gate, Sync3}
 
--- the disk, the phase of the commit, the live root, the root that the commit makes, how many new pages it writes, whether the
--- stale gate reads 1, and whether a device call has failed
+-- the disk, the phase of the commit, the live slot and its root, the root that the commit makes, the numbers of the new pages
+-- that it writes, whether the stale gate reads 1, and whether a device call has failed
 pub record Held (D : Type 0) : Type 0 where
   pub disk : D
   pub phase : Phase
+  pub slot : ℕ
   pub current : Saved
   pub next : Saved
-  pub new_pages : ℕ
+  pub numbers : List ℕ
   pub stale : Bool
   pub failed : Bool
 
@@ -26,13 +28,14 @@ behind_pages k new_pages stale = if nat_lt k new_pages then Pages k else if stal
 -- what a device call that succeeds in a phase makes of the store; after the last one the new root is live
 abbrev pub gone_on : {D : Type 0} → Phase → Held D → D → Held D
 gone_on Idle held disk = record held { disk = disk }
-gone_on (Pages k) held disk = record held { disk = disk; phase = behind_pages (k + 1) held.new_pages held.stale }
+gone_on (Pages k) held disk = record held { disk = disk; phase = behind_pages (k + 1) (length held.numbers) held.stale }
 gone_on Close held disk = record held { disk = disk; phase = Sync1 }
 gone_on Sync1 held disk = record held { disk = disk; phase = Body }
 gone_on Body held disk = record held { disk = disk; phase = Sync2 }
 gone_on Sync2 held disk = record held { disk = disk; phase = Gate }
 gone_on Gate held disk = record held { disk = disk; phase = Sync3 }
-gone_on Sync3 held disk = record held { disk = disk; phase = Idle; current = held.next; next = held.current; stale = true }
+gone_on Sync3 held disk =
+    record held { disk = disk; phase = Idle; slot = 1 - held.slot; current = held.next; next = held.current; stale = true }
 
 -- the phase in which a failed call leaves a commit: behind a write that may be there or not, else where it was
 abbrev pub left_at : Phase → Phase
@@ -49,16 +52,13 @@ left_at Sync3 = Sync3
 abbrev pub has_failed : {D : Type 0} → Held D → D → Held D
 has_failed held disk = record held { disk = disk; phase = left_at held.phase; failed = true }
 
--- each new page is the lowest free one: all pages below it are live or taken before
-abbrev pub AreLowest : List ℕ → List ℕ → Type 0
-AreLowest pages numbers = (k m : ℕ) → k < length numbers → 2 ≤ m → m < get_or numbers k 0 → has m (take k numbers ++ pages) ≡ true
-
 -- what a commit under way is about to write
 pub record IsPlan (phase : Phase) (current next : Saved) (numbers fresh : List ℕ) : Type 0 where
   pub newer : version_of current.body < version_of next.body
   pub size : length next.body ≡ 4088
   -- the new pages lie behind the slots, apart, and none of them is live
   pub free : are_pages (numbers ++ current.pages) ≡ true
+  -- each is the lowest free one: all pages below it are live or taken before
   pub lowest : AreLowest current.pages numbers
   pub under_way : (k : ℕ) → phase ≡ Pages k → k < length numbers
   pub makes : Makes current numbers fresh next

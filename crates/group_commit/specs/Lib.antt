@@ -1,11 +1,12 @@
 pub mod Begin
+pub mod Changes
 pub mod Commit
+pub mod Counts
 pub mod Errors
 pub mod Held
 pub mod Image
 pub mod Loading
 pub mod NewFile
-pub mod OnePage
 pub mod Plan
 pub mod Saved
 pub mod Step

@@ -1,7 +1,9 @@
 -- What a commit is about to write.
-use Rattle.std.specs.Prelude.{◌≡◌, ℕ, ◌+◌, ◌*◌, ◌<◌, ◌≤◌, List, ◌++◌, length}
-use Rattle.root_slots.specs.Root.{version_of, replica_of, count_of}
-use Rattle.group_commit.specs.Saved.{Saved}
+use Rattle.std.specs.Prelude.{◌≡◌, ℕ, ◌+◌, ◌-◌, ◌*◌, if◌then◌else◌, List, ◌++◌, length, take, replicate}
+use Rattle.page_file.specs.Pages.{is_zero}
+use Rattle.root_slots.specs.Root.{version_of, replica_of, count_of, tables_of, pages_for}
+use Rattle.group_commit.specs.Changes.{changed_pages}
+use Rattle.group_commit.specs.Saved.{Saved, HasDataPages}
 use Rattle.group_commit.specs.Held.{IsPlan}
 use Rattle.group_commit.specs.declared.phase.Phase.TheVariants.{Pages}
 
@@ -12,10 +14,28 @@ pub record IsNext (current : Saved) (records : List ℕ) (more : ℕ) (next : Sa
   pub replica : replica_of next.body ≡ replica_of current.body
   pub count : count_of next.body ≡ count_of current.body + more
 
--- a plan for these records, with 4,096 bytes for each new page
+-- a plan for these records, with 4,096 bytes for each new page: those that change or are new
 pub record Plans (current : Saved) (records : List ℕ) (more : ℕ) (next : Saved) (numbers fresh : List ℕ) : Type 0 where
   pub follows : IsNext current records more next
   pub plan : IsPlan (Pages 0) current next numbers fresh
   pub room : length fresh ≡ 4096 * length numbers
-  -- one data page and one table page, for now
-  pub pages : length numbers ≡ 2
+  pub changes : numbers ≡ changed_pages current next
+
+-- the root behind this one with so many more operations, its stream on these pages
+pub record IsGrown (current : Saved) (more : ℕ) (stream named tables : List ℕ) (next : Saved) : Type 0 where
+  pub bytes : next.stream ≡ stream
+  pub has : HasDataPages next named
+  pub has_tables : tables_of next.body ≡ tables
+  pub version : version_of next.body ≡ version_of current.body + 1
+  pub replica : replica_of next.body ≡ replica_of current.body
+  pub count : count_of next.body ≡ count_of current.body + more
+
+-- How many data pages stay, behind a stream of so many bytes: all of them, or all but the last one where what comes into its rest
+-- isn't zero.
+abbrev pub kept_of : ℕ → List ℕ → ℕ
+kept_of long records =
+    if is_zero (take (4096 * pages_for 4096 long - long) records) then pages_for 4096 long else pages_for 4096 long - 1
+
+-- with zeros behind, up to a size
+abbrev pub filled : ℕ → List ℕ → List ℕ
+filled size bytes = bytes ++ replicate (size - length bytes) 0

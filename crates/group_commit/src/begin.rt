@@ -1,6 +1,6 @@
 //! The beginning of a commit.
-ghost use Rattle.std.specs.Prelude.{◌≡◌, ◌≢◌, ℕ, ◌+◌, ◌<◌, ◌≤◌, true, length, Ok, Err, Some, IfOk, OnErr};
-ghost use Rattle.change_codec.specs.Stream.{spelled_all};
+ghost use Rattle.std.specs.Prelude.{◌≡◌, ◌≢◌, ℕ, ◌+◌, ◌<◌, ◌≤◌, true, length, Ok, Err, Some, IfOk, OnOk, OnErr};
+ghost use Rattle.change_codec.specs.Stream.{spelled_all, AreOperations};
 ghost use Rattle.root_slots.specs.Root.{version_of, count_of};
 ghost use Rattle.group_commit.specs.Begin.{begin_due, has_room, Begins, IsAnswer};
 ghost use Rattle.group_commit.specs.Plan.{Plans};
@@ -13,13 +13,8 @@ use crate::store::Store;
 use change_codec::{put_ops, stream_length};
 use disk_trait::Disk;
 use op_model::Op;
+use root_slots::{MAX_OPERATIONS, MAX_STREAM};
 use std::alloc::AllocError;
-
-/// The most bytes that the stream of a file has for now: one data page.
-const MOST_STREAM: u64 = 4096;
-
-/// The most operations that a file has: 2^24.
-const MOST_OPERATIONS: u64 = 16_777_216;
 
 impl Root {
     // Whether there is a further version, and room for these operations.
@@ -27,16 +22,17 @@ impl Root {
         ensures { result ≡ has_room self.now ops.now }
     {
         self.version() < u64::MAX
-            && self.count() + ops.len() as u64 <= MOST_OPERATIONS
-            && stream_length(ops).saturating_add(self.stream().len() as u64) <= MOST_STREAM
+            && self.count() + ops.len() as u64 <= MAX_OPERATIONS
+            && stream_length(ops).saturating_add(self.stream().len() as u64) <= MAX_STREAM
     }
 
     // The root with these operations behind its own, on new pages. An error is want of memory (1).
     fn plan_for(&self, ops: &[Op]) -> Result<Plan, AllocError>
         requires some { 0 < length ops.now }
         requires room { has_room self.now ops.now ≡ true }
-        ensures { IfOk result (λ plan. Plans self.now (spelled_all ops.now) (length ops.now)
+        ensures plans { IfOk result (λ plan. Plans self.now (spelled_all ops.now) (length ops.now)
             plan.next plan.numbers.items plan.fresh.items) }
+        ensures fits { OnOk result (AreOperations ops.now) }
     {
         let alloc = self.allocator();
         let mut records = Vec::new(alloc);
@@ -50,10 +46,10 @@ impl<D: Disk> Store<D> {
     /// length of the list that it commits; `None` where there are none. It makes no device call.
     ///
     /// Refuses, in this order, with 44 where a device call failed before, 8 where a commit is under
-    /// way, 7 where the version, the number of operations (2^24) or the stream (for now 4,096 bytes)
-    /// has no room, and 1 where a growth was refused. A refused call changes nothing.
+    /// way, 7 where the version, the number of operations (2^24) or the stream (2^30 bytes) has no
+    /// room, and 1 where a growth was refused. A refused call changes nothing.
     ///
-    /// Costs the bytes of the stream.
+    /// Costs the bytes of the stream and, for each new page, the pages of the live root.
     pub fn begin(&mut self, ops: &[Op]) -> Result<Option<u64>, StoreError>
         ensures answer { IsAnswer (begin_due self.old ops.now) result }
         ensures began { (n : ℕ) → result ≡ Ok (Some n)

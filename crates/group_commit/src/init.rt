@@ -225,7 +225,7 @@ impl<D: Disk> Store<D> {
         }) }
         ensures empty { IfOk result (λ store. store.current.stream ≡ []) }
         ensures idle { IfOk result (λ store. (store.phase ≡ Idle) × (store.failed ≡ false)
-            × (store.stale ≡ false)) }
+            × (store.stale ≡ false) × (store.slot ≡ 0)) }
         // It is made of a file without bytes alone; 48 leaves a file that has some as it was.
         ensures taken { D.tells disk → OnOk result (D.content disk ≡ []) }
         ensures not_empty { D.tells disk → IfErr result (λ fault. fault.cause ≡ NotEmpty

@@ -17,6 +17,7 @@ mod phase;
 mod plan;
 mod reading;
 mod root;
+mod state;
 mod step;
 mod store;
 
@@ -29,5 +30,7 @@ pub use store::Store;
 
 #[cfg(test)]
 mod load_tests;
+#[cfg(test)]
+mod page_tests;
 #[cfg(test)]
 mod tests;

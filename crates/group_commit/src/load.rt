@@ -1,5 +1,6 @@
 //! The opening of a file.
-ghost use Rattle.std.specs.Prelude.{◌≡◌, ◌↔◌, List, ℕ, false, IfOk, IfErr};
+ghost use Rattle.std.specs.Prelude.{◌≡◌, ◌↔◌, List, ℕ, false, Ok, IfOk, IfErr};
+ghost use Rattle.root_slots.specs.Slots.{live};
 ghost use Rattle.group_commit.specs.Commit.{Is, IsLeft};
 ghost use Rattle.group_commit.specs.Loading.{IsHistory, IsFirstFault, OnlyLooks, failures_of};
 ghost use Rattle.group_commit.specs.declared.phase.Phase.TheVariants.{Idle};
@@ -39,6 +40,8 @@ impl<D: Disk> Store<D> {
         ensures root { D.tells disk → IfOk result (λ it. Is it.store.current (D.content disk)) }
         ensures history { IfOk result (λ it. IsHistory it.store.current it.replica it.ops.items) }
         ensures idle { IfOk result (λ it. (it.store.phase ≡ Idle) × (it.store.failed ≡ false)) }
+        ensures slot { D.tells disk → IfOk result
+            (λ it. live (D.content disk) ≡ Ok it.store.slot) }
         // A crash leaves what reads give, which has that root.
         ensures settled { D.tells disk → IfOk result
             (λ it. (c : List ℕ) → D.survives it.store.disk c → c ≡ D.content disk) }

@@ -1,5 +1,5 @@
 //! What a file stands for, read from its disk.
-ghost use Rattle.std.specs.Prelude.{◌≡◌, ◌≢◌, ◌⊎◌, ◌*◌, ◌<◌, ◌≤◌, ◌↔◌, length, get_or, List, ℕ, IfOk, IfErr, Ok};
+ghost use Rattle.std.specs.Prelude.{◌≡◌, ◌≢◌, ◌⊎◌, ◌*◌, ◌<◌, ◌≤◌, ◌↔◌, ◌++◌, length, get_or, List, ℕ, IfOk, IfErr, Ok};
 ghost use Rattle.root_slots.specs.Root.{replica_of};
 ghost use Rattle.root_slots.specs.Body.{IsRoot, Spells, root_of};
 ghost use Rattle.group_commit.specs.Saved.{IsInMemory};
@@ -71,15 +71,15 @@ fn bytes_are_small(bytes: &[u8])
 
 // The two roots of a store that was opened: the live one, and one whose place the next commit takes.
 fn roots(alloc: Global, head: RootBody, stream: Stream) -> Result<(Root, Root), AllocError>
-    requires { IsInMemory head stream.bytes.items stream.pages.items }
+    requires { IsInMemory head stream.bytes.items stream.data_pages.items }
     ensures stream { IfOk result (λ it. it.0.stream ≡ stream.bytes.items) }
-    ensures pages { IfOk result (λ it. it.0.pages ≡ stream.pages.items) }
+    ensures pages { IfOk result (λ it. it.0.pages ≡ head.tables ++ stream.data_pages.items) }
     ensures says { IfOk result (λ it. root_of it.0.body ≡ head) }
     ensures body { IfOk result (λ it. (root : List ℕ) → ((i : ℕ) → get_or root i 0 < 256)
         → Spells root head → it.0.body ≡ root) }
 {
     let replica = head.replica();
-    let current = Root::new(alloc, head, stream.bytes, stream.pages)?;
+    let current = Root::new(alloc, head, stream.bytes, stream.data_pages)?;
     bytes_are_small(current.body());
     Ok((current, Root::empty(alloc, replica)?))
 }

@@ -1,5 +1,5 @@
 //! What the bytes of table pages and of data pages say.
-ghost use Rattle.std.specs.Prelude.{◌≡◌, ◌⊎◌, ◌+◌, ◌*◌, ◌≤◌, true, List, ℕ, length, IfOk, IfErr, Ok};
+ghost use Rattle.std.specs.Prelude.{◌≡◌, ◌⊎◌, ◌+◌, ◌*◌, ◌≤◌, ◌++◌, true, List, ℕ, length, IfOk, IfErr, Ok};
 ghost use Rattle.page_file.specs.Pages.{is_zero, are_pages};
 ghost use Rattle.root_slots.specs.Root.{pages_for};
 ghost use Rattle.group_commit.specs.Loading.{Names, are_within, reached_by};
@@ -43,9 +43,9 @@ pub(crate) fn data_pages(stream_length: u64) -> usize
     ((stream_length + 4095) / 4096) as usize
 }
 
-/// The pages that a root reaches: its table pages, and as many data pages of those that are found in them.
-/// Refused where a page stands twice, or is a root slot, or where a number is left behind them (45), and for
-/// want of memory (1).
+/// The data pages of a root: as many as there have to be, of those that are found in its table pages. Refused
+/// where a page stands twice, or is a root slot, or where a number is left behind them (45), and for want of
+/// memory (1).
 pub(crate) fn reached_by(
     alloc: Global,
     tables: &[u32],
@@ -53,9 +53,10 @@ pub(crate) fn reached_by(
     found: &[u32],
 ) -> Result<Vec<u32>, OpenError>
     requires within { count ≤ length found.now }
-    ensures value { IfOk result (λ ns. reached_by tables.now count found.now ≡ Ok ns.items) }
-    ensures apart { IfOk result (λ ns. are_pages ns.items ≡ true) }
-    ensures size { IfOk result (λ ns. length ns.items ≡ length tables.now + count) }
+    ensures value { IfOk result
+        (λ ns. reached_by tables.now count found.now ≡ Ok (tables.now ++ ns.items)) }
+    ensures apart { IfOk result (λ ns. are_pages (tables.now ++ ns.items) ≡ true) }
+    ensures size { IfOk result (λ ns. length ns.items ≡ count) }
     ensures fault { IfErr result (λ e. Names e (reached_by tables.now count found.now)) }
     ensures refused { IfErr result (λ e. (e ≡ Memory) ⊎ (e ≡ BadTable)) }
 {
@@ -69,5 +70,7 @@ pub(crate) fn reached_by(
     if !are_pages(&pages) {
         return Err(OpenError::BadTable);
     }
-    Ok(pages)
+    let mut data_pages = Vec::new(alloc);
+    data_pages.extend_from_slice(named)?;
+    Ok(data_pages)
 }

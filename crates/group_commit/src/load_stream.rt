@@ -1,5 +1,5 @@
 //! The stream that a root names, page by page.
-ghost use Rattle.std.specs.Prelude.{◌≡◌, ◌⊎◌, ◌+◌, ◌*◌, ◌≤◌, ◌↔◌, true, length, IfOk, IfErr, Ok};
+ghost use Rattle.std.specs.Prelude.{◌≡◌, ◌⊎◌, ◌+◌, ◌*◌, ◌≤◌, ◌↔◌, ◌++◌, true, length, IfOk, IfErr, Ok};
 ghost use Rattle.page_file.specs.Pages.{pages, are_pages};
 ghost use Rattle.root_slots.specs.Root.{pages_for};
 ghost use Rattle.root_slots.specs.Body.{IsRoot};
@@ -14,14 +14,14 @@ use page_file::{is_zero, take_numbers};
 use root_slots::RootBody;
 use std::alloc::{AllocError, Global};
 
-/// The pages that a root reaches, its table pages first, and the stream that its data pages hold.
+/// The data pages of a root, and the stream that they hold.
 #[derive(Drop)]
 pub(crate) struct Stream {
-    pub pages: Vec<u32>,
+    pub data_pages: Vec<u32>,
     pub bytes: Vec<u8>,
 }
 
-// The pages that a root reaches. 43 where a table page isn't whole in the file, 45 where the table pages
+// The data pages of a root. 43 where a table page isn't whole in the file, 45 where the table pages
 // break their rules, 50 where a read failed, 1 for want of memory.
 fn read_tables<D: Disk>(
     alloc: Global,
@@ -32,10 +32,10 @@ fn read_tables<D: Disk>(
     requires size { D.tells disk.old → size ≡ length (D.content disk.old) }
     requires valid { IsRoot head.now }
     ensures value { D.tells disk.old
-        → IfOk result (λ ns. reached_of head.now (D.content disk.old) ≡ Ok ns.items) }
-    ensures apart { IfOk result (λ ns. are_pages ns.items ≡ true) }
-    ensures size { IfOk result (λ ns. length ns.items
-        ≡ length head.now.tables + pages_for 4096 head.now.stream_length) }
+        → IfOk result (λ ns. reached_of head.now (D.content disk.old)
+        ≡ Ok (head.now.tables ++ ns.items)) }
+    ensures apart { IfOk result (λ ns. are_pages (head.now.tables ++ ns.items) ≡ true) }
+    ensures size { IfOk result (λ ns. length ns.items ≡ pages_for 4096 head.now.stream_length) }
     ensures fault { D.tells disk.old
         → IfErr result (λ e. Names e (reached_of head.now (D.content disk.old))) }
     ensures looks { D.tells disk.old
@@ -95,18 +95,18 @@ pub(crate) fn read_stream<D: Disk>(
     requires size { D.tells disk.old → size ≡ length (D.content disk.old) }
     requires valid { IsRoot head.now }
     ensures pages { D.tells disk.old
-        → IfOk result (λ it. reached_of head.now (D.content disk.old) ≡ Ok it.pages.items) }
+        → IfOk result (λ it. reached_of head.now (D.content disk.old)
+        ≡ Ok (head.now.tables ++ it.data_pages.items)) }
     ensures stream { D.tells disk.old
         → IfOk result (λ it. stream_at head.now (D.content disk.old) ≡ Ok it.bytes.items) }
-    ensures parts { IfOk result (λ it. IsInMemory head.now it.bytes.items it.pages.items) }
+    ensures parts { IfOk result (λ it. IsInMemory head.now it.bytes.items it.data_pages.items) }
     ensures fault { D.tells disk.old
         → IfErr result (λ e. Names e (stream_at head.now (D.content disk.old))) }
     ensures looks { D.tells disk.old
         → OnlyLooks D.DiskFacts (failed_in result) 0 disk.old disk.new }
     ensures tells { D.tells disk.new ↔ D.tells disk.old }
 {
-    let pages = read_tables(alloc, disk, size, head)?;
-    let (_, named) = pages.split_at(head.tables().len());
-    let bytes = read_data(alloc, disk, size, head.stream_length(), named)?;
-    Ok(Stream { pages, bytes })
+    let data_pages = read_tables(alloc, disk, size, head)?;
+    let bytes = read_data(alloc, disk, size, head.stream_length(), &data_pages)?;
+    Ok(Stream { data_pages, bytes })
 }

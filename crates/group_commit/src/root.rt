@@ -1,8 +1,8 @@
 //! A root in memory.
-ghost use Rattle.std.specs.Prelude.{◌≡◌, ◌≤◌, true, [], length, IfOk};
-ghost use Rattle.page_file.specs.Pages.{are_pages};
+ghost use Rattle.std.specs.Prelude.{◌≡◌, ◌≤◌, true, [], ◌++◌, length, IfOk};
 ghost use Rattle.root_slots.specs.Body.{root_of};
-ghost use Rattle.root_slots.specs.Root.{is_root, version_of, replica_of, count_of, stream_length_of};
+ghost use Rattle.root_slots.specs.Root.{is_root, version_of, replica_of, count_of, stream_length_of, tables_of};
+ghost use Rattle.group_commit.specs.Saved.{HasDataPages};
 
 use op_ids::ReplicaId;
 use root_slots::RootBody;
@@ -10,7 +10,7 @@ use std::alloc::{AllocError, Global};
 use std::marker::Model;
 
 /// A root in memory. Contracts see the bytes of its slot's body, its stream and the pages that it
-/// reaches.
+/// reaches: its table pages, then its data pages.
 #[derive(Debug, Drop)]
 pub struct Root {
     head: RootBody,
@@ -18,21 +18,26 @@ pub struct Root {
     body: Vec<u8>,
     // The bytes of its stream.
     stream: Vec<u8>,
-    // The numbers of the pages that it reaches: its table pages, then its data pages.
-    pages: Vec<u32>,
+    // The numbers of its data pages, in the order of the stream.
+    data_pages: Vec<u32>,
 }
 
 impl Model for Root {
+    ghost use Rattle.std.specs.Prelude.{◌++◌};
     ghost use Rattle.group_commit.specs.Saved.{Saved, IsSaved};
 
     ghost Value = { Saved };
 
-    ghost view = { λ r. record { body = r.body.items; stream = r.stream.items; pages = r.pages.items } };
-
-    ghost invariant = { λ r. IsSaved r.head (record {
+    ghost view = { λ r. record {
       body = r.body.items;
       stream = r.stream.items;
-      pages = r.pages.items;
+      pages = r.head.tables ++ r.data_pages.items;
+    } };
+
+    ghost invariant = { λ r. IsSaved r.head r.data_pages.items (record {
+      body = r.body.items;
+      stream = r.stream.items;
+      pages = r.head.tables ++ r.data_pages.items;
     }) };
 }
 
@@ -44,20 +49,20 @@ impl Root {
         alloc: Global,
         head: RootBody,
         stream: Vec<u8>,
-        pages: Vec<u32>,
+        data_pages: Vec<u32>,
     ) -> Result<Root, AllocError>
-        requires { IsInMemory head stream.items pages.items }
+        requires { IsInMemory head stream.items data_pages.items }
         ensures stream { IfOk result (λ root. root.stream ≡ stream.items) }
-        ensures pages { IfOk result (λ root. root.pages ≡ pages.items) }
+        ensures pages { IfOk result (λ root. root.pages ≡ head.tables ++ data_pages.items) }
         ensures says { IfOk result (λ root. root_of root.body ≡ head) }
-        ensures valid { IfOk result (λ root. is_root root.body ≡ true) }
+        ensures has { IfOk result (λ root. HasDataPages root data_pages.items) }
     {
         let body = head.write(alloc)?;
         Ok(Root {
             head,
             body,
             stream,
-            pages,
+            data_pages,
         })
     }
 
@@ -120,16 +125,22 @@ impl Root {
     pub(crate) fn stream(&self) -> &[u8]
         ensures bytes { result.now ≡ self.now.stream }
         ensures long { length result.now ≡ stream_length_of self.now.body }
+        ensures most { length result.now ≤ 1073741824 }
     {
         &self.stream
     }
 
-    /// The pages that it reaches.
-    pub(crate) fn pages(&self) -> &[u32]
-        ensures numbers { result.now ≡ self.now.pages }
-        ensures apart { are_pages result.now ≡ true }
-        ensures few { length result.now ≤ 262400 }
+    /// The numbers of its table pages, in order.
+    pub(crate) fn tables(&self) -> &[u32]
+        ensures { result.now ≡ tables_of self.now.body }
     {
-        &self.pages
+        self.head.tables()
+    }
+
+    /// The numbers of its data pages, in the order of the stream.
+    pub(crate) fn data_pages(&self) -> &[u32]
+        ensures { HasDataPages self.now result.now }
+    {
+        &self.data_pages
     }
 }

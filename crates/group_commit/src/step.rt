@@ -2,7 +2,7 @@
 ghost use Rattle.std.specs.Prelude.{◌≡◌, ◌≢◌, ◌+◌, ◌*◌, ◌-◌, ◌<◌, ◌≤◌, ◌↔◌, true, false, length, get_or, Ok, Err, IfOk, IfErr, OnOk, OnErr, IsOk};
 ghost use Rattle.disk_trait.specs.File.{part};
 ghost use Rattle.group_commit.specs.Held.{gone_on, has_failed, behind_pages};
-ghost use Rattle.group_commit.specs.Step.{IsDeviceCall, writes_in, syncs_in, error_in};
+ghost use Rattle.group_commit.specs.Step.{IsDeviceCall, Does, writes_in, syncs_in, error_in};
 ghost use Rattle.group_commit.specs.declared.phase.Phase.TheVariants.{Idle, Pages, Close, Sync1, Body, Sync2, Gate, Sync3};
 ghost use Rattle.group_commit.specs.declared.error.StoreError.TheVariants.{Failed, WriteFailed, SyncFailed};
 
@@ -55,6 +55,8 @@ impl<D: Disk> Store<D> {
         ensures went_on { OnOk result (self.new ≡ gone_on self.old.phase self.old self.new.disk) }
         ensures failed { OnErr result (self.new ≡ has_failed self.old self.new.disk) }
         ensures call { IsDeviceCall D.DiskFacts 1 0 WriteFailed result self.old self.new }
+        ensures does { D.tells self.old.disk
+            → Does D.DiskFacts result (Pages k) self.old self.new.disk }
     {
         let at = PAGE * number_at(&self.numbers, k) as u64;
         if let Err(error) = write_inside(&mut self.disk, at, bytes_at(&self.fresh, k)) {
@@ -73,6 +75,8 @@ impl<D: Disk> Store<D> {
         ensures went_on { OnOk result (self.new ≡ gone_on self.old.phase self.old self.new.disk) }
         ensures failed { OnErr result (self.new ≡ has_failed self.old self.new.disk) }
         ensures call { IsDeviceCall D.DiskFacts 1 0 WriteFailed result self.old self.new }
+        ensures does { D.tells self.old.disk
+            → Does D.DiskFacts result Close self.old self.new.disk }
     {
         self.phase = Phase::Sync1;
         if let Err(error) = write_inside(&mut self.disk, PAGE * (1 - self.slot), &[0]) {
@@ -90,6 +94,8 @@ impl<D: Disk> Store<D> {
         ensures went_on { OnOk result (self.new ≡ gone_on self.old.phase self.old self.new.disk) }
         ensures failed { OnErr result (self.new ≡ has_failed self.old self.new.disk) }
         ensures call { IsDeviceCall D.DiskFacts 0 1 SyncFailed result self.old self.new }
+        ensures does { D.tells self.old.disk
+            → Does D.DiskFacts result Sync1 self.old self.new.disk }
     {
         if let Err(error) = settle(&mut self.disk) {
             self.failed = true;
@@ -107,6 +113,8 @@ impl<D: Disk> Store<D> {
         ensures went_on { OnOk result (self.new ≡ gone_on self.old.phase self.old self.new.disk) }
         ensures failed { OnErr result (self.new ≡ has_failed self.old self.new.disk) }
         ensures call { IsDeviceCall D.DiskFacts 1 0 WriteFailed result self.old self.new }
+        ensures does { D.tells self.old.disk
+            → Does D.DiskFacts result Body self.old self.new.disk }
     {
         self.phase = Phase::Sync2;
         let at = PAGE * (1 - self.slot) + 8;
@@ -125,6 +133,8 @@ impl<D: Disk> Store<D> {
         ensures went_on { OnOk result (self.new ≡ gone_on self.old.phase self.old self.new.disk) }
         ensures failed { OnErr result (self.new ≡ has_failed self.old self.new.disk) }
         ensures call { IsDeviceCall D.DiskFacts 0 1 SyncFailed result self.old self.new }
+        ensures does { D.tells self.old.disk
+            → Does D.DiskFacts result Sync2 self.old self.new.disk }
     {
         if let Err(error) = settle(&mut self.disk) {
             self.failed = true;
@@ -142,6 +152,8 @@ impl<D: Disk> Store<D> {
         ensures went_on { OnOk result (self.new ≡ gone_on self.old.phase self.old self.new.disk) }
         ensures failed { OnErr result (self.new ≡ has_failed self.old self.new.disk) }
         ensures call { IsDeviceCall D.DiskFacts 1 0 WriteFailed result self.old self.new }
+        ensures does { D.tells self.old.disk
+            → Does D.DiskFacts result Gate self.old self.new.disk }
     {
         self.phase = Phase::Sync3;
         if let Err(error) = write_inside(&mut self.disk, PAGE * (1 - self.slot), &[1]) {
@@ -159,6 +171,8 @@ impl<D: Disk> Store<D> {
         ensures went_on { OnOk result (self.new ≡ gone_on self.old.phase self.old self.new.disk) }
         ensures failed { OnErr result (self.new ≡ has_failed self.old self.new.disk) }
         ensures call { IsDeviceCall D.DiskFacts 0 1 SyncFailed result self.old self.new }
+        ensures does { D.tells self.old.disk
+            → Does D.DiskFacts result Sync3 self.old self.new.disk }
     {
         if let Err(error) = settle(&mut self.disk) {
             self.failed = true;
@@ -187,6 +201,9 @@ impl<D: Disk> Store<D> {
         ensures call { self.old.failed ≡ false → self.old.phase ≢ Idle
             → IsDeviceCall D.DiskFacts (writes_in self.old.phase) (syncs_in self.old.phase)
             (error_in self.old.phase) result self.old self.new }
+        // It writes in the range of its phase alone, and 0 into the stale gate only where that reads 1.
+        ensures does { self.old.failed ≡ false → D.tells self.old.disk
+            → Does D.DiskFacts result self.old.phase self.old self.new.disk }
         ensures went_on { self.old.failed ≡ false
             → OnOk result (self.new ≡ gone_on self.old.phase self.old self.new.disk) }
         ensures failed { self.old.failed ≡ false

@@ -1,5 +1,5 @@
 //! A store over a disk.
-ghost use Rattle.std.specs.Prelude.{◌≡◌, length};
+ghost use Rattle.std.specs.Prelude.{◌≡◌};
 ghost use Rattle.group_commit.specs.Held.{Held, IsSound};
 
 use crate::phase::Phase;
@@ -30,9 +30,10 @@ impl<D: Disk> Model for Store<D> {
     ghost view = { λ s. record {
       disk = s.disk;
       phase = s.phase;
+      slot = s.slot;
       current = s.current;
       next = s.next;
-      new_pages = length s.numbers.items;
+      numbers = s.numbers.items;
       stale = s.stale;
       failed = s.failed;
     } };
@@ -40,9 +41,10 @@ impl<D: Disk> Model for Store<D> {
     ghost invariant = { λ s. IsSound D.DiskFacts (record {
       disk = s.disk;
       phase = s.phase;
+      slot = s.slot;
       current = s.current;
       next = s.next;
-      new_pages = length s.numbers.items;
+      numbers = s.numbers.items;
       stale = s.stale;
       failed = s.failed;
     }) s.slot s.numbers.items s.fresh.items };

@@ -15,6 +15,10 @@ const FIRST: &str = "00000023 01 00000001 0000000000000001 A 00 00 00000061";
 const SECOND: &str =
     "00000053 01 00000001 0000000000000002 A 01 A 0000000000000001 01 0000000000000001 A 00000062";
 
+/// Its third, "c" behind that.
+const THIRD: &str =
+    "00000053 01 00000001 0000000000000003 A 01 A 0000000000000002 01 0000000000000002 A 00000063";
+
 /// A slot that is open, with version 1 and without operations.
 const MADE: &str = "0100000000000000 5054585450473031 0000000000000001 A 0000000000000000
     0000000000000000 00000000 00000000";
@@ -25,6 +29,17 @@ const ONE: &str = "0100000000000000 5054585450473031 0000000000000002 A 00000000
 
 const TWO: &str = "0100000000000000 5054585450473031 0000000000000003 A 000000000000007e
     0000000000000002 00000001 00000000 00000005";
+
+const THREE: &str = "0100000000000000 5054585450473031 0000000000000004 A 00000000000000d5
+    0000000000000003 00000001 00000000 00000003";
+
+/// The streams of two and of three operations.
+const BOTH: &str = "00000023 01 00000001 0000000000000001 A 00 00 00000061
+    00000053 01 00000001 0000000000000002 A 01 A 0000000000000001 01 0000000000000001 A 00000062";
+
+const ALL: &str = "00000023 01 00000001 0000000000000001 A 00 00 00000061
+    00000053 01 00000001 0000000000000002 A 01 A 0000000000000001 01 0000000000000001 A 00000062
+    00000053 01 00000001 0000000000000003 A 01 A 0000000000000002 01 0000000000000002 A 00000063";
 
 /// Appends the bytes that pieces of hex say, where `A` stands for the replica.
 fn put(pieces: &str, bytes: &mut Vec<u8>) -> Result<(), Fail> {
@@ -83,6 +98,10 @@ fn step<D: Disk>(store: &mut Store<D>) -> Result<Phase, StoreError> {
     store.step()
 }
 
+fn count<D: Disk>(store: &Store<D>) -> u64 {
+    store.committed()
+}
+
 /// Makes every call of a commit, and gives how many there were.
 fn commit<D: Disk>(store: &mut Store<D>) -> Result<usize, StoreError> {
     for calls in 0..16 {
@@ -110,31 +129,53 @@ fn a_made_file_has_two_slots(rt: HostRuntime) -> Result<(), Fail> {
 }
 
 #[test]
-fn commits_go_to_the_lowest_free_pages(rt: HostRuntime) -> Result<(), Fail> {
+fn a_commit_under_way_is_busy(rt: HostRuntime) -> Result<(), Fail> {
     let alloc = rt.alloc();
     let mut store = store(alloc)?;
-    assert!(rt; begin(&mut store, &ops(alloc, FIRST)?)? == Some(1));
-    assert!(rt; begin(&mut store, &ops(alloc, FIRST)?) == Err(StoreError::Busy));
-    assert_eq!(rt; commit(&mut store)?, 7);
-    assert_eq!(rt; store.committed(), 1);
-    assert!(rt; begin(&mut store, &ops(alloc, SECOND)?)? == Some(2));
-    assert_eq!(rt; commit(&mut store)?, 8);
-    assert_eq!(rt; store.committed(), 2);
     assert!(rt; begin(&mut store, &[])?.is_none());
-    let expected = pages(
-        alloc,
-        &[
-            TWO,
-            ONE,
-            FIRST,
-            "00000002",
-            "00000023 01 00000001 0000000000000001 A 00 00 00000061
-             00000053 01 00000001 0000000000000002 A 01 A 0000000000000001 01 0000000000000001 A
-             00000062",
-            "00000004",
-        ],
-    )?;
-    assert!(rt; file_of(alloc, store)? == expected);
+    assert!(rt; begin(&mut store, &ops(alloc, FIRST)?)? == Some(1));
+    assert!(rt; begin(&mut store, &[]) == Err(StoreError::Busy));
+    Ok(())
+}
+
+#[test]
+fn commits_are_counted(rt: HostRuntime) -> Result<(), Fail> {
+    let alloc = rt.alloc();
+    let mut store = store(alloc)?;
+    begin(&mut store, &ops(alloc, FIRST)?)?;
+    assert_eq!(rt; commit(&mut store)?, 7);
+    assert_eq!(rt; count(&store), 1);
+    begin(&mut store, &ops(alloc, SECOND)?)?;
+    assert_eq!(rt; commit(&mut store)?, 8);
+    assert_eq!(rt; count(&store), 2);
+    Ok(())
+}
+
+/// The file after a commit of each of these records.
+fn committed(alloc: Global, records: &[&str]) -> Result<Vec<u8>, Fail> {
+    let mut store = store(alloc)?;
+    for record in records {
+        begin(&mut store, &ops(alloc, record)?)?;
+        commit(&mut store)?;
+    }
+    file_of(alloc, store)
+}
+
+#[test]
+fn commits_go_to_the_lowest_free_pages(rt: HostRuntime) -> Result<(), Fail> {
+    let alloc = rt.alloc();
+    let file = committed(alloc, &[FIRST, SECOND])?;
+    let expected = pages(alloc, &[TWO, ONE, FIRST, "00000002", BOTH, "00000004"])?;
+    assert!(rt; file == expected);
+    Ok(())
+}
+
+#[test]
+fn a_third_commit_takes_the_freed_pages(rt: HostRuntime) -> Result<(), Fail> {
+    let alloc = rt.alloc();
+    let file = committed(alloc, &[FIRST, SECOND, THIRD])?;
+    let expected = pages(alloc, &[TWO, THREE, ALL, "00000002", BOTH, "00000004"])?;
+    assert!(rt; file == expected);
     Ok(())
 }
 

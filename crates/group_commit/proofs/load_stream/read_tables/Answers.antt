@@ -44,9 +44,12 @@ pub returns-clause-value : goal.returns-clause-value
 returns-clause-value g c = λ told.
     let file = g.D.DiskFacts.content c.args.disk.now in
     let inside : c.are_within.result ≡ true = search rules in
-    rw (reached_same c.tables-tables.result.now c.args.head.now.tables [] file c.deref.result.now c.deref-2.result.now c.data_pages.result (pages_for 4096 c.args.head.now.stream_length) _
-    c.tables-tables.ensures (test_whole c.tables-tables.result.now file c.args.size (c.requires.size told) ∙ sym c.are_within.ensures ∙ inside)
-    (c.deref.ensures.value ∙ c.in_ok-bytes.ensures.read told) refl (c.deref-2.ensures.value ∙ c.in_ok-found.ensures) (c.data_pages.ensures.value ∙ ap (pages_for 4096) c.stream_length.ensures))
+    rw (
+      reached_same c.tables-tables.result.now c.args.head.now.tables [] file c.deref.result.now c.deref-2.result.now c.data_pages.result (pages_for 4096 c.args.head.now.stream_length) _
+          c.tables-tables.ensures (test_whole c.tables-tables.result.now file c.args.size (c.requires.size told) ∙ sym c.are_within.ensures ∙ inside)
+          (c.deref.ensures.value ∙ c.in_ok-bytes.ensures.read told) refl (c.deref-2.ensures.value ∙ c.in_ok-found.ensures) (c.data_pages.ensures.value ∙ ap (pages_for 4096) c.stream_length.ensures),
+      sym c.tables-tables.ensures,
+    )
     c.reached_by.ensures.value
 
 pub returns-clause-fault : goal.returns-clause-fault

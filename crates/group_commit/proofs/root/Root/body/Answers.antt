@@ -1,5 +1,5 @@
 use Rattle.std.proofs.Common.{ap, ◌∙◌, length}
-use Rattle.group_commit.proofs.OnePageLemmas.{root_size}
+use Rattle.group_commit.proofs.Roots.{root_size}
 use Rattle.group_commit.proofs.root.Root.body.Goals as goal
 
 pub returns-clause-whole : goal.returns-clause-whole

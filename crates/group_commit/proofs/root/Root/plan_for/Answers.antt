@@ -1,6 +1,7 @@
 use Rattle.std.proofs.Common.{ap, sym, ◌∙◌, ◌≡◌, ◌++◌, length}
 use Rattle.change_codec.specs.Stream.{spelled_all}
-use Rattle.group_commit.proofs.BeginLemmas.{room_says, some_records}
+use Rattle.group_commit.proofs.BeginLemmas.{room_says}
+use Rattle.group_commit.proofs.RecordLemmas.{some_records}
 use Rattle.group_commit.proofs.root.Root.plan_for.Goals as goal
 
 put : (c : goal.After-deref) → c.deref.result.now ≡ spelled_all c.args.ops.now

@@ -3,6 +3,7 @@ use Rattle.root_slots.specs.Root.{count_of}
 use Rattle.group_commit.specs.Begin.{is_idle, has_room, begin_due}
 use Rattle.group_commit.proofs.BeginLemmas.{due_of, idle_is}
 use Rattle.group_commit.proofs.DeviceCall.{left_of}
+use Rattle.group_commit.proofs.Doing.{live_idle}
 use Rattle.group_commit.proofs.Sound.{sound_begin}
 use Rattle.group_commit.proofs.store.Store.begin.Goals as goal
 
@@ -18,8 +19,8 @@ room g c = sym c.has_room.ensures ∙ c.if-not-has_room.false
 
 pub invariant_of-self : goal.invariant_of-self
 invariant_of-self g c =
-    sound_begin g.D.DiskFacts _ c.self.inside.slot _ _ c.in_ok-next.field-0.next _ _ _ c.self.invariant (idle_is c.self.inside.phase (idle g c))
-    c.in_ok-next.ensures.room c.in_ok-next.ensures.plan
+    sound_begin g.D.DiskFacts _ c.self.inside.slot _ _ c.in_ok-next.field-0.next _ _ c.self.invariant (idle_is c.self.inside.phase (idle g c))
+    c.in_ok-next.ensures.plans.room c.in_ok-next.ensures.plans.plan
 
 pub returns-clause-answer : goal.returns-clause-answer
 returns-clause-answer g c =
@@ -32,8 +33,13 @@ returns-clause-began g c = λ n is. rw (sym c.self.view_is) (record {
   stale = refl;
   works = c.if-self.false;
   phase = refl;
-  new_pages = c.in_ok-next.ensures.pages;
-  follows = c.in_ok-next.ensures.follows;
+  slot = refl;
+  numbers = c.in_ok-next.ensures.plans.changes;
+  free = c.in_ok-next.ensures.plans.plan.free;
+  lowest = c.in_ok-next.ensures.plans.plan.lowest;
+  follows = c.in_ok-next.ensures.plans.follows;
+  fits = c.in_ok-next.ensures.fits;
+  live_slot = live_idle g.D.DiskFacts _ c.self.inside.slot _ _ c.self.invariant (idle_is c.self.inside.phase (idle g c));
   left = left_of g.D.DiskFacts _ c.self.inside.slot _ _ (invariant_of-self g c);
 })
 

@@ -1,7 +1,8 @@
-use Rattle.std.proofs.Common.{ap, ◌∙◌, true, false, inl, inr, ◌⊎◌}
+use Rattle.std.proofs.Common.{ap, ◌∙◌, true, false, inl, inr, ◌⊎◌, sym, refl}
 use Rattle.group_commit.specs.declared.error.StoreError.TheVariants.{WriteFailed}
 use Rattle.group_commit.proofs.store.Store.close.Goals as goal
 use Rattle.group_commit.proofs.Sound.{sound_close}
+use Rattle.group_commit.proofs.Doing.{reads_one}
 use Rattle.group_commit.proofs.DeviceCall.{device_call}
 
 pub invariant_of-self : goal.invariant_of-self
@@ -27,3 +28,17 @@ pub returns-clause-call : goal.returns-clause-call
 returns-clause-call g c =
     device_call g.D.DiskFacts _ 0 1 0 WriteFailed _ _ _ _ c.self.inside.slot c.self.inside.slot _ _ c.self.view_is c.self.invariant
     (invariant_of-self-in_default g c) (λ file is. is) (c.in_default.ensures).tells (c.in_default.ensures).call (λ told. g.met.D.Disk.lawful c.self.inside.disk told) tt
+
+pub returns-in-Err-clause-does : goal.returns-in-Err-clause-does
+returns-in-Err-clause-does g c =
+    rw (sym c.self.view_is) (λ told. record {
+      is_one = reads_one g.D.DiskFacts _ _ _ c.self.invariant (ap (λ h. h.phase) c.self.view_is ∙ c.requires.phase) told (g.met.D.Disk.lawful c.self.inside.disk told);
+      writes = record { size = refl; torn = c.in-Err.ensures.torn told; written = tt };
+    })
+
+pub returns-clause-does : goal.returns-clause-does
+returns-clause-does g c =
+    rw (sym c.self.view_is) (λ told. record {
+      is_one = reads_one g.D.DiskFacts _ _ _ c.self.invariant (ap (λ h. h.phase) c.self.view_is ∙ c.requires.phase) told (g.met.D.Disk.lawful c.self.inside.disk told);
+      writes = record { size = refl; torn = c.in_default.ensures.torn told; written = c.in_default.ensures.written told };
+    })

@@ -39,3 +39,19 @@ pub returns-clause-call : goal.returns-clause-call
 returns-clause-call g c =
     device_call g.D.DiskFacts _ 0 1 0 WriteFailed _ _ _ _ c.self.inside.slot c.self.inside.slot _ _ c.self.view_is c.self.invariant
     (invariant_of-self-in_default g c) (λ file is. is) (c.in_default.ensures).tells (c.in_default.ensures).call (λ told. g.met.D.Disk.lawful c.self.inside.disk told) tt
+
+pub returns-in-Err-clause-does : goal.returns-in-Err-clause-does
+returns-in-Err-clause-does g c =
+    rw (sym c.self.view_is) (λ told. record {
+      size = (c.self.invariant.plan (not_idle _ (ap (λ h. h.phase) c.self.view_is ∙ c.requires.phase))).size;
+      torn = sized c.body.result.now (ap length c.body.ensures.bytes ∙ (c.self.invariant.plan (not_idle _ (ap (λ h. h.phase) c.self.view_is ∙ c.requires.phase))).size) (c.in-Err.ensures.torn told);
+      written = tt;
+    })
+
+pub returns-clause-does : goal.returns-clause-does
+returns-clause-does g c =
+    rw (sym c.self.view_is) (λ told. record {
+      size = (c.self.invariant.plan (not_idle _ (ap (λ h. h.phase) c.self.view_is ∙ c.requires.phase))).size;
+      torn = sized c.body.result.now (ap length c.body.ensures.bytes ∙ (c.self.invariant.plan (not_idle _ (ap (λ h. h.phase) c.self.view_is ∙ c.requires.phase))).size) (c.in_default.ensures.torn told);
+      written = c.in_default.ensures.written told ∙ ap (overwritten _ _) c.body.ensures.bytes;
+    })

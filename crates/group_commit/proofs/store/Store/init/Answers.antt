@@ -1,7 +1,7 @@
 use Rattle.group_commit.proofs.store.Store.init.Goals as goal
 use Rattle.std.proofs.Common.{ap, sym, ◌∙◌, ◌≡◌, ◌≢◌, refl, arith, length, ◌*◌, []}
 use Rattle.group_commit.proofs.NewFileLemmas.{stands_new}
-use Rattle.group_commit.proofs.OnePageLemmas.{root_size}
+use Rattle.group_commit.proofs.Roots.{root_size}
 use Rattle.group_commit.proofs.DeviceCall.{left_of}
 
 pub invariant_of-result : goal.invariant_of-result

@@ -64,3 +64,29 @@ pub returns-clause-call : goal.returns-clause-call
 returns-clause-call g c =
     device_call g.D.DiskFacts _ 0 1 0 WriteFailed _ _ _ _ c.self.inside.slot c.self.inside.slot _ _ c.self.view_is c.self.invariant
     (invariant_of-self-2 g c) (λ file is. is) c.in_default.ensures.tells c.in_default.ensures.call (λ told. g.met.D.Disk.lawful c.self.inside.disk told) tt
+
+pub returns-in-Err-clause-does : goal.returns-in-Err-clause-does
+returns-in-Err-clause-does g c =
+    rw (sym c.self.view_is) (λ told. record {
+      page = part c.self.inside.fresh.items (4096 * c.args.k) 4096;
+      within = (c.self.invariant.plan (not_idle _ (ap (λ h. h.phase) c.self.view_is ∙ c.requires.phase))).under_way c.args.k (ap (λ h. h.phase) c.self.view_is ∙ c.requires.phase);
+      writes = record {
+        size = ap length (sym (c.bytes_at.ensures.bytes ∙ ap (λ v. part v (4096 * c.args.k) 4096) c.deref-2.ensures.value)) ∙ c.bytes_at.ensures.whole;
+        torn = torn_at _ _ _ _ (ap (λ n. 4096 * n) (c.number_at.ensures ∙ ap (λ v. get_or v c.args.k 0) c.deref.ensures.value)) c.bytes_at.ensures.whole (c.in-Err.ensures.torn told);
+        written = tt;
+      };
+    })
+
+pub returns-clause-does : goal.returns-clause-does
+returns-clause-does g c =
+    rw (sym c.self.view_is) (λ told. record {
+      page = part c.self.inside.fresh.items (4096 * c.args.k) 4096;
+      within = (c.self.invariant.plan (not_idle _ (ap (λ h. h.phase) c.self.view_is ∙ c.requires.phase))).under_way c.args.k (ap (λ h. h.phase) c.self.view_is ∙ c.requires.phase);
+      writes = record {
+        size = ap length (sym (c.bytes_at.ensures.bytes ∙ ap (λ v. part v (4096 * c.args.k) 4096) c.deref-2.ensures.value)) ∙ c.bytes_at.ensures.whole;
+        torn = torn_at _ _ _ _ (ap (λ n. 4096 * n) (c.number_at.ensures ∙ ap (λ v. get_or v c.args.k 0) c.deref.ensures.value)) c.bytes_at.ensures.whole (c.in_default.ensures.torn told);
+        written = c.in_default.ensures.written told
+            ∙ ap (λ n. overwritten (g.D.DiskFacts.content c.self.inside.disk) (4096 * n) c.bytes_at.result.now) (c.number_at.ensures ∙ ap (λ v. get_or v c.args.k 0) c.deref.ensures.value)
+            ∙ ap (overwritten (g.D.DiskFacts.content c.self.inside.disk) (4096 * get_or c.self.inside.numbers.items c.args.k 0)) (c.bytes_at.ensures.bytes ∙ ap (λ v. part v (4096 * c.args.k) 4096) c.deref-2.ensures.value);
+      };
+    })

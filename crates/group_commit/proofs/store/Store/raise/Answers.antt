@@ -1,4 +1,4 @@
-use Rattle.std.proofs.Common.{ap, ◌∙◌, true, false, inl, inr, ◌⊎◌}
+use Rattle.std.proofs.Common.{ap, ◌∙◌, true, false, inl, inr, ◌⊎◌, sym, refl}
 use Rattle.group_commit.specs.declared.error.StoreError.TheVariants.{WriteFailed}
 use Rattle.group_commit.proofs.store.Store.raise.Goals as goal
 use Rattle.group_commit.proofs.Sound.{sound_gate}
@@ -27,3 +27,9 @@ pub returns-clause-call : goal.returns-clause-call
 returns-clause-call g c =
     device_call g.D.DiskFacts _ 0 1 0 WriteFailed _ _ _ _ c.self.inside.slot c.self.inside.slot _ _ c.self.view_is c.self.invariant
     (invariant_of-self-in_default g c) (λ file is. is) (c.in_default.ensures).tells (c.in_default.ensures).call (λ told. g.met.D.Disk.lawful c.self.inside.disk told) tt
+
+pub returns-in-Err-clause-does : goal.returns-in-Err-clause-does
+returns-in-Err-clause-does g c = rw (sym c.self.view_is) (λ told. record { size = refl; torn = c.in-Err.ensures.torn told; written = tt })
+
+pub returns-clause-does : goal.returns-clause-does
+returns-clause-does g c = rw (sym c.self.view_is) (λ told. record { size = refl; torn = c.in_default.ensures.torn told; written = c.in_default.ensures.written told })

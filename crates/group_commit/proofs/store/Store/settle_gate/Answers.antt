@@ -1,4 +1,4 @@
-use Rattle.std.proofs.Common.{◌-◌, ap, ◌∙◌, true, false, inl, inr, ◌⊎◌}
+use Rattle.std.proofs.Common.{◌-◌, ap, ◌∙◌, true, false, inl, inr, ◌⊎◌, sym}
 use Rattle.group_commit.specs.declared.error.StoreError.TheVariants.{SyncFailed}
 use Rattle.group_commit.proofs.store.Store.settle_gate.Goals as goal
 use Rattle.group_commit.proofs.Sound.{sound_sync3, sound_sync_failed}
@@ -27,3 +27,9 @@ pub returns-clause-call : goal.returns-clause-call
 returns-clause-call g c =
     device_call g.D.DiskFacts _ 0 0 1 SyncFailed _ _ _ _ c.self.inside.slot (1 - c.self.inside.slot) _ _ c.self.view_is c.self.invariant
     (invariant_of-self-2 g c) (λ file is. swapped (rw (c.swap.ensures.x_after, c.swap.ensures.y_after) at is)) (c.in_default.ensures).tells (c.in_default.ensures).call (λ told. g.met.D.Disk.lawful c.self.inside.disk told) tt
+
+pub returns-in-Err-clause-does : goal.returns-in-Err-clause-does
+returns-in-Err-clause-does g c = rw (sym c.self.view_is) (λ told. record { settled = tt; unsettled = c.in-Err.ensures.unsettled told })
+
+pub returns-clause-does : goal.returns-clause-does
+returns-clause-does g c = rw (sym c.self.view_is) (λ told. record { settled = c.in_default.ensures.settled told; unsettled = tt })

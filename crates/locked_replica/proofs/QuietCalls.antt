@@ -1,0 +1,212 @@
+-- Calls of a hub that make no device call.
+use Rattle.std.proofs.Common.{◌≡◌, ℕ, ◌+◌, ◌-◌, ◌<◌, ◌≤◌, Bool, true, false, nat_lt, List, [], ◌∷◌, ◌++◌, length, take, refl, sym, ap, ◌∙◌, arith, inl, inr, ◌⊎◌, Option, Some, None}
+use Rattle.std.specs.Prelude.{if◌then◌else◌, IsTrue, ◌↔◌}
+use Rattle.std.proofs.lemmas.Bool.Decides.{nat_tests}
+use Rattle.disk_trait.specs.Calls.{IsLawful, LeavesOnly}
+use Rattle.disk_trait.specs.declared.facts.DiskFacts.{Ghosts}
+use Rattle.op_model.specs.declared.op.Op.{Op}
+use Rattle.op_model.specs.declared.edit.Edit.{Edit}
+use Rattle.op_model.specs.Causality.{clock_of}
+use Rattle.op_model.specs.Machine.{Commit, State, Event, edit, merge, begin, device_step, settle, ack, tell, have, Ticket, Answer, ticket, applied, known, early, acknowledged, operations, clock, refused, settled_to, untold, reach, Step, IsRefusal, edit_answer, merge_answer}
+use Rattle.replica_core.specs.Held.{Held, IsSound, alone, stored, with_edit, with_acked, with_told, with_settled}
+use Rattle.replica_core.specs.Merging.{with_merge, after_merge, answer_of}
+use Rattle.replica_core.specs.declared.merged.Merged.{Merged}
+use Rattle.replica_core.specs.declared.merged.Merged.TheVariants as merged_as
+use Rattle.replica_core.proofs.StepLemmas.{edit_step, edit_step_refused, merge_step, merge_step_refused, ack_step, ack_step_none, tell_step, have_step}
+use Rattle.group_commit.specs.Held.{Held as StoreHeld}
+use Rattle.locked_replica.specs.Hub.{Parts, state_of, version_at, commit_of}
+use Rattle.locked_replica.specs.Fits.{Fits}
+use Rattle.locked_replica.specs.Recovery.{HasAtLeast}
+use Rattle.locked_replica.specs.Calls.{IsCall, calls_in, settled_by}
+use Rattle.locked_replica.proofs.Recovering.{survivor_has_settled}
+use Rattle.locked_replica.proofs.Keeping.{Grows, grows_edit, grows_merge, grows_same, grows_acked, grows_told, fits_grown}
+
+-- what has more has fewer
+pub has_fewer : (n m : ℕ) (h : Held) (file : List ℕ) → n ≤ m → HasAtLeast m h file → HasAtLeast n h file
+has_fewer n m h file fewer has =
+    let enough = has.enough in
+    record { version = has.version; count = has.count; enough = omega arith; within = has.within; image = has.image }
+
+-- a call that leaves the disk as it was
+pub quiet_call : {D : Type 0} (facts : Ghosts D) (event : Event) (answer : Answer) (old new : Parts D) → new.store.disk ≡ old.store.disk
+    → (facts.tells new.store.disk → IsLawful facts new.store.disk) → Fits facts new → new.replica.replica ≡ old.replica.replica
+    → Step old.replica.replica (state_of old) event answer (state_of new)
+    → (more : List Op) → new.replica.list ≡ old.replica.list ++ more
+    → new.replica.settled ≡ settled_by old.replica.settled answer → old.replica.settled ≤ new.replica.settled → calls_in event answer ≡ 0
+    → IsCall facts event answer old new
+quiet_call {D} facts event answer old new same lawful fits owner step more list settled rises none =
+    record {
+      owner = owner;
+      step = step;
+      grows = (more, list);
+      settled = settled;
+      rises = rises;
+      tells = rw same ((λ told. told), (λ told. told));
+      time = λ told. rw (same, none) (omega arith);
+      moments = λ told. rw (sym same) (moments (rw same told));
+      left = λ told file survives. survivor_has_settled facts new file fits told survives;
+    }
+  where
+    has : facts.tells new.store.disk → (file : List ℕ) → facts.survives new.store.disk file → HasAtLeast old.replica.settled new.replica file
+    has told file survives =
+        has_fewer old.replica.settled new.replica.settled new.replica file rises (survivor_has_settled facts new file fits told survives)
+
+    moments : facts.tells new.store.disk → LeavesOnly facts new.store.disk new.store.disk (HasAtLeast old.replica.settled new.replica)
+    moments told =
+        record {
+          later = omega arith;
+          each = λ file left. has told file ((lawful told).only_now file left);
+          before = λ t file earlier left. inl left;
+        }
+
+-- an edit that is answered with a ticket
+pub edit_call : {D : Type 0} (facts : Ghosts D) (h next : Held) (s : StoreHeld D) (session : ℕ) (e : Edit) (t : Ticket)
+    → (facts.tells s.disk → IsLawful facts s.disk) → Fits facts (record { replica = h; store = s }) → s.failed ≡ false
+    → edit_answer h.replica (alone h) e ≡ ticket t → next ≡ with_edit h session e → IsSound next
+    → IsCall facts (edit session e) (ticket t) (record { replica = h; store = s }) (record { replica = next; store = s })
+edit_call facts h next s session e t lawful fits works answer is sound =
+    rw is (
+    let kept = grows_edit h session e in
+    quiet_call facts (edit session e) (ticket t) (record { replica = h; store = s }) (record { replica = with_edit h session e; store = s }) refl lawful
+    (fits_grown facts h (with_edit h session e) s fits (rw is at sound) kept) refl
+    (rw works (edit_step h (with_edit h session e) session e t (version_at h s) (commit_of h s) answer refl))
+    kept.more kept.list refl (omega arith) refl
+    )
+
+-- an edit that is refused
+pub edit_call_refused : {D : Type 0} (facts : Ghosts D) (h : Held) (s : StoreHeld D) (session : ℕ) (e : Edit) (n : ℕ)
+    → (facts.tells s.disk → IsLawful facts s.disk) → Fits facts (record { replica = h; store = s }) → s.failed ≡ false
+    → IsRefusal n (edit_answer h.replica (alone h) e)
+    → IsCall facts (edit session e) (refused n) (record { replica = h; store = s }) (record { replica = h; store = s })
+edit_call_refused facts h s session e n lawful fits works answer =
+    let kept = grows_same h in
+    quiet_call facts (edit session e) (refused n) (record { replica = h; store = s }) (record { replica = h; store = s }) refl lawful fits refl
+    (rw works (edit_step_refused h h session e n (version_at h s) (commit_of h s) answer refl)) kept.more kept.list refl (omega arith) refl
+
+pub edit_call_failed : {D : Type 0} (facts : Ghosts D) (h : Held) (s : StoreHeld D) (session : ℕ) (e : Edit)
+    → (facts.tells s.disk → IsLawful facts s.disk) → Fits facts (record { replica = h; store = s }) → s.failed ≡ true
+    → IsCall facts (edit session e) (refused 9) (record { replica = h; store = s }) (record { replica = h; store = s })
+edit_call_failed facts h s session e lawful fits failed =
+    let kept = grows_same h in
+    quiet_call facts (edit session e) (refused 9) (record { replica = h; store = s }) (record { replica = h; store = s }) refl lawful fits refl
+    (rw failed (refl, refl)) kept.more kept.list refl (omega arith) refl
+
+-- a merge that isn't refused
+pub merge_call : {D : Type 0} (facts : Ghosts D) (h next : Held) (s : StoreHeld D) (peer : ℕ) (op : Op) (m : Merged)
+    → (facts.tells s.disk → IsLawful facts s.disk) → Fits facts (record { replica = h; store = s }) → s.failed ≡ false
+    → merge_answer h.replica (alone h) op ≡ answer_of m → next ≡ after_merge m h peer op → IsSound next
+    → IsCall facts (merge peer op) (answer_of m) (record { replica = h; store = s }) (record { replica = next; store = s })
+merge_call facts h next s peer op merged_as.Applied lawful fits works answer is sound =
+    rw is (
+    let kept = grows_merge h peer op in
+    quiet_call facts (merge peer op) applied (record { replica = h; store = s }) (record { replica = with_merge h peer op; store = s }) refl lawful
+    (fits_grown facts h (with_merge h peer op) s fits (rw is at sound) kept) refl
+    (rw works (merge_step h (with_merge h peer op) peer op merged_as.Applied (version_at h s) (commit_of h s) answer refl))
+    kept.more kept.list refl (omega arith) refl
+    )
+merge_call facts h next s peer op merged_as.Known lawful fits works answer is sound =
+    rw is (
+    let kept = grows_same h in
+    quiet_call facts (merge peer op) known (record { replica = h; store = s }) (record { replica = h; store = s }) refl lawful fits refl
+    (rw works (merge_step h h peer op merged_as.Known (version_at h s) (commit_of h s) answer refl))
+    kept.more kept.list refl (omega arith) refl
+    )
+merge_call facts h next s peer op merged_as.Early lawful fits works answer is sound =
+    rw is (
+    let kept = grows_same h in
+    quiet_call facts (merge peer op) early (record { replica = h; store = s }) (record { replica = h; store = s }) refl lawful fits refl
+    (rw works (merge_step h h peer op merged_as.Early (version_at h s) (commit_of h s) answer refl))
+    kept.more kept.list refl (omega arith) refl
+    )
+
+-- a merge that is refused
+pub merge_call_refused : {D : Type 0} (facts : Ghosts D) (h : Held) (s : StoreHeld D) (peer : ℕ) (op : Op) (n : ℕ)
+    → (facts.tells s.disk → IsLawful facts s.disk) → Fits facts (record { replica = h; store = s }) → s.failed ≡ false
+    → IsRefusal n (merge_answer h.replica (alone h) op)
+    → IsCall facts (merge peer op) (refused n) (record { replica = h; store = s }) (record { replica = h; store = s })
+merge_call_refused facts h s peer op n lawful fits works answer =
+    let kept = grows_same h in
+    quiet_call facts (merge peer op) (refused n) (record { replica = h; store = s }) (record { replica = h; store = s }) refl lawful fits refl
+    (rw works (merge_step_refused h h peer op n (version_at h s) (commit_of h s) answer refl)) kept.more kept.list refl (omega arith) refl
+
+pub merge_call_failed : {D : Type 0} (facts : Ghosts D) (h : Held) (s : StoreHeld D) (peer : ℕ) (op : Op)
+    → (facts.tells s.disk → IsLawful facts s.disk) → Fits facts (record { replica = h; store = s }) → s.failed ≡ true
+    → IsCall facts (merge peer op) (refused 9) (record { replica = h; store = s }) (record { replica = h; store = s })
+merge_call_failed facts h s peer op lawful fits failed =
+    let kept = grows_same h in
+    quiet_call facts (merge peer op) (refused 9) (record { replica = h; store = s }) (record { replica = h; store = s }) refl lawful fits refl
+    (rw failed (refl, refl)) kept.more kept.list refl (omega arith) refl
+
+-- an acknowledgement, also of a hub whose device failed
+pub ack_call : {D : Type 0} (facts : Ghosts D) (h next : Held) (s : StoreHeld D) (t : Ticket) (b : Bool)
+    → (facts.tells s.disk → IsLawful facts s.disk) → Fits facts (record { replica = h; store = s })
+    → IsTrue b ↔ (t.end ≤ h.settled) → next ≡ (if b then with_acked h t.end else h) → IsSound next
+    → IsCall facts (ack t) (acknowledged b) (record { replica = h; store = s }) (record { replica = next; store = s })
+ack_call facts h next s t true lawful fits test is sound =
+    rw is (
+    let kept = grows_acked h t.end in
+    quiet_call facts (ack t) (acknowledged true) (record { replica = h; store = s }) (record { replica = with_acked h t.end; store = s }) refl lawful
+    (fits_grown facts h (with_acked h t.end) s fits (rw is at sound) kept) refl (test.0 refl, refl) kept.more kept.list refl (omega arith) refl
+    )
+ack_call facts h next s t false lawful fits test is sound =
+    rw is (
+    let kept = grows_same h in
+    quiet_call facts (ack t) (acknowledged false) (record { replica = h; store = s }) (record { replica = h; store = s }) refl lawful fits refl
+    (unsettled test.1, refl) kept.more kept.list refl (omega arith) refl
+    )
+  where
+    unsettled : (t.end ≤ h.settled → IsTrue false) → h.settled < t.end
+    unsettled none = grind (arith, nat_tests)
+
+-- a telling of operations
+pub tell_call : {D : Type 0} (facts : Ghosts D) (h next : Held) (s : StoreHeld D) (c : List (ℕ × ℕ)) (ops : List Op)
+    → (facts.tells s.disk → IsLawful facts s.disk) → Fits facts (record { replica = h; store = s })
+    → ops ≡ untold c (alone h) → next ≡ with_told h (reach 64 c (take h.settled h.list)) → IsSound next
+    → IsCall facts (tell c) (operations ops) (record { replica = h; store = s }) (record { replica = next; store = s })
+tell_call facts h next s c ops lawful fits are is sound =
+    rw is (
+    let n = reach 64 c (take h.settled h.list) in
+    let kept = grows_told h n in
+    quiet_call facts (tell c) (operations ops) (record { replica = h; store = s }) (record { replica = with_told h n; store = s }) refl lawful
+    (fits_grown facts h (with_told h n) s fits (rw is at sound) kept) refl (are, refl) kept.more kept.list refl (omega arith) refl
+    )
+
+-- a telling of the clock
+pub have_call : {D : Type 0} (facts : Ghosts D) (h next : Held) (s : StoreHeld D) (c : List (ℕ × ℕ))
+    → (facts.tells s.disk → IsLawful facts s.disk) → Fits facts (record { replica = h; store = s })
+    → c ≡ clock_of (take h.settled h.list) → next ≡ with_told h h.settled → IsSound next
+    → IsCall facts have (clock c) (record { replica = h; store = s }) (record { replica = next; store = s })
+have_call facts h next s c lawful fits is_clock is sound =
+    rw is (
+    let kept = grows_told h h.settled in
+    quiet_call facts have (clock c) (record { replica = h; store = s }) (record { replica = with_told h h.settled; store = s }) refl lawful
+    (fits_grown facts h (with_told h h.settled) s fits (rw is at sound) kept) refl (is_clock, refl) kept.more kept.list refl (omega arith) refl
+    )
+
+-- either of them refused for want of memory
+pub tell_call_refused : {D : Type 0} (facts : Ghosts D) (h : Held) (s : StoreHeld D) (c : List (ℕ × ℕ))
+    → (facts.tells s.disk → IsLawful facts s.disk) → Fits facts (record { replica = h; store = s })
+    → IsCall facts (tell c) (refused 1) (record { replica = h; store = s }) (record { replica = h; store = s })
+tell_call_refused facts h s c lawful fits =
+    let kept = grows_same h in
+    quiet_call facts (tell c) (refused 1) (record { replica = h; store = s }) (record { replica = h; store = s }) refl lawful fits refl (refl, refl) kept.more
+    kept.list refl (omega arith) refl
+
+pub have_call_refused : {D : Type 0} (facts : Ghosts D) (h : Held) (s : StoreHeld D)
+    → (facts.tells s.disk → IsLawful facts s.disk) → Fits facts (record { replica = h; store = s })
+    → IsCall facts have (refused 1) (record { replica = h; store = s }) (record { replica = h; store = s })
+have_call_refused facts h s lawful fits =
+    let kept = grows_same h in
+    quiet_call facts have (refused 1) (record { replica = h; store = s }) (record { replica = h; store = s }) refl lawful fits refl (refl, refl) kept.more
+    kept.list refl (omega arith) refl
+
+-- an edit, and a merge, keep what a hub keeps
+pub edit_kept : {D : Type 0} (facts : Ghosts D) (h next : Held) (s : StoreHeld D) (session : ℕ) (e : Edit) → Fits facts (record { replica = h; store = s })
+    → next ≡ with_edit h session e → IsSound next → Fits facts (record { replica = next; store = s })
+edit_kept facts h next s session e fits is sound = fits_grown facts h next s fits sound (rw is (grows_edit h session e))
+
+pub merge_kept : {D : Type 0} (facts : Ghosts D) (h next : Held) (s : StoreHeld D) (peer : ℕ) (op : Op) (m : Merged)
+    → Fits facts (record { replica = h; store = s }) → next ≡ after_merge m h peer op → IsSound next → Fits facts (record { replica = next; store = s })
+merge_kept facts h next s peer op merged_as.Applied fits is sound = fits_grown facts h next s fits sound (rw is (grows_merge h peer op))
+merge_kept facts h next s peer op merged_as.Known fits is sound = fits_grown facts h next s fits sound (rw is (grows_same h))
+merge_kept facts h next s peer op merged_as.Early fits is sound = fits_grown facts h next s fits sound (rw is (grows_same h))

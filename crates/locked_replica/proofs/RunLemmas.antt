@@ -1,0 +1,181 @@
+-- One call more of a list of calls.
+use Rattle.std.proofs.Common.{◌≡◌, ℕ, suc, zero, ◌+◌, ◌<◌, ◌≤◌, Bool, true, false, nat_le, List, [], ◌∷◌, ◌++◌, length, take, drop, refl, sym, ap, ◌∙◌, arith, append_assoc, length-append, inl, inr, ◌⊎◌}
+use Rattle.std.specs.Prelude.{◌↔◌}
+use Rattle.std.proofs.lemmas.Bool.Decides.{nat_tests}
+use Rattle.std.proofs.lemmas.List.{take-append-le}
+use Rattle.disk_trait.specs.Calls.{IsLawful}
+use Rattle.disk_trait.specs.declared.facts.DiskFacts.{Ghosts}
+use Rattle.op_model.specs.declared.op.Op.{Op}
+use Rattle.op_model.specs.Machine.{State, Event, Answer, Step, Run}
+use Rattle.replica_core.specs.Held.{Held}
+use Rattle.locked_replica.specs.Hub.{Parts, state_of}
+use Rattle.locked_replica.specs.Calls.{IsCall, calls_in, settled_by}
+use Rattle.locked_replica.specs.Recovery.{HasAtLeast}
+use Rattle.locked_replica.specs.Run.{Ran, FrontsStand, calls_made, settled_behind}
+use Rattle.locked_replica.specs.Steps.{event_of, answer_of, events_of}
+use Rattle.locked_replica.specs.declared.hub_step.HubStep.{HubStep}
+use Rattle.locked_replica.specs.declared.hub_reply.HubReply.{HubReply}
+use Rattle.locked_replica.proofs.QuietCalls.{has_fewer}
+
+take_none : {A : Type 0} (k : ℕ) → take {A = A} k [] ≡ []
+take_none zero = refl
+take_none (suc k) = refl
+
+take_all : {A : Type 0} (xs : List A) → take (length xs) xs ≡ xs
+take_all [] = refl
+take_all (x ∷ xs) = ap (λ rest. x ∷ rest) (take_all xs)
+
+-- a run with one step more
+run_more : (replica : ℕ) (s mid next : State) (es : List (Event × Answer)) (e : Event × Answer) → Run replica s es mid → Step replica mid e.0 e.1 next
+    → Run replica s (es ++ e ∷ []) next
+run_more replica s mid next [] e run step = (next, rw run at step, refl)
+run_more replica s mid next (x ∷ es) e run step = (run.0, run.1, run_more replica run.0 mid next es e run.2 step)
+
+settled_more : (n : ℕ) (es : List (Event × Answer)) (e : Event × Answer) → settled_behind n (es ++ e ∷ []) ≡ settled_by (settled_behind n es) e.1
+settled_more n [] e = refl
+settled_more n (x ∷ es) e = settled_more (settled_by n x.1) es e
+
+calls_more : (es : List (Event × Answer)) (e : Event × Answer) → calls_made (es ++ e ∷ []) ≡ calls_made es + calls_in e.0 e.1
+calls_more [] e = omega arith
+calls_more (x ∷ es) e = let rest = calls_more es e in omega (arith, rest)
+
+-- a front of some events made no more calls
+fewer : (k : ℕ) (es : List (Event × Answer)) → calls_made (take k es) ≤ calls_made es
+fewer zero es = omega arith
+fewer (suc k) [] = omega arith
+fewer (suc k) (x ∷ es) = let rest = fewer k es in omega (arith, rest)
+
+-- what is a beginning of the list is one of a longer list
+has_longer : (n : ℕ) (h next : Held) (more : List Op) (file : List ℕ) → next.replica ≡ h.replica → next.list ≡ h.list ++ more → HasAtLeast n h file
+    → HasAtLeast n next file
+has_longer n h next more file owner list has =
+    let within = has.within in
+    let same : take has.count next.list ≡ take has.count h.list = ap (λ ops. take has.count ops) list ∙ take-append-le has.count h.list more within in
+    record {
+      version = has.version;
+      count = has.count;
+      enough = has.enough;
+      within = omega (arith, within, ap length list, length-append h.list more);
+      image = rw (same, owner) has.image;
+    }
+
+-- no call
+pub ran_none : {D : Type 0} (facts : Ghosts D) (hub : Parts D) → (facts.tells hub.store.disk → IsLawful facts hub.store.disk)
+    → (facts.tells hub.store.disk → (file : List ℕ) → facts.survives hub.store.disk file → HasAtLeast hub.replica.settled hub.replica file)
+    → Ran facts hub [] hub
+ran_none facts hub lawful left =
+    record {
+      owner = refl;
+      machine = refl;
+      settled = refl;
+      rising = λ k within. rw (take_none {A = Event × Answer} k) (omega arith);
+      tells = ((λ told. told), (λ told. told));
+      time = λ told. omega arith;
+      fronts = λ told k file within left_now. rw (take_none {A = Event × Answer} k) (stands told file (now k left_now));
+    }
+  where
+    stands : facts.tells hub.store.disk → (file : List ℕ) → facts.left_since hub.store.disk (facts.time hub.store.disk) file
+        → HasAtLeast hub.replica.settled hub.replica file
+    stands told file since = left told file ((lawful told).only_now file since)
+
+    now : {file : List ℕ} (k : ℕ) → facts.left_since hub.store.disk (facts.time hub.store.disk + calls_made (take k [])) file
+        → facts.left_since hub.store.disk (facts.time hub.store.disk) file
+    now k since =
+        let none : facts.time hub.store.disk + calls_made (take k []) ≡ facts.time hub.store.disk = rw (take_none {A = Event × Answer} k) (omega arith) in
+        rw none at since
+
+up_to : (k n : ℕ) → k ≤ n + 1 → (k ≤ n) ⊎ (k ≡ n + 1)
+up_to k n within = by_test (nat_le k n) refl
+  where
+    by_test : (t : Bool) → nat_le k n ≡ t → (k ≤ n) ⊎ (k ≡ n + 1)
+    by_test true is = inl (grind (arith, nat_tests))
+    by_test false is = inr (grind (arith, nat_tests))
+
+-- one call more
+pub ran_more : {D : Type 0} (facts : Ghosts D) (old mid new : Parts D) (es : List (Event × Answer)) (event : Event) (answer : Answer)
+    → (facts.tells new.store.disk → IsLawful facts new.store.disk) → Ran facts old es mid → IsCall facts event answer mid new
+    → Ran facts old (es ++ (event, answer) ∷ []) new
+ran_more facts old mid new es event answer lawful ran call =
+    record {
+      owner = call.owner ∙ ran.owner;
+      machine = run_more old.replica.replica (state_of old) (state_of mid) (state_of new) es (event, answer) ran.machine (rw ran.owner at call.step);
+      settled = its_settled;
+      rising = its_rising;
+      tells = ((λ told. ran.tells.0 (call.tells.0 told)), (λ told. call.tells.1 (ran.tells.1 told)));
+      time = its_time;
+      fronts = its_fronts;
+    }
+  where
+    e : Event × Answer
+    e = (event, answer)
+
+    its_settled : new.replica.settled ≡ settled_behind old.replica.settled (es ++ (event, answer) ∷ [])
+    its_settled = call.settled ∙ ap (λ n. settled_by n answer) ran.settled ∙ sym (settled_more old.replica.settled es (event, answer))
+
+    its_time : facts.tells old.store.disk → facts.time new.store.disk ≡ facts.time old.store.disk + calls_made (es ++ (event, answer) ∷ [])
+    its_time told =
+        let before = ran.time told in
+        let after = call.time (ran.tells.1 told) in
+        omega (arith, before, after, calls_more es (event, answer))
+
+    long : length (es ++ (event, answer) ∷ []) ≡ length es + 1
+    long = length-append es ((event, answer) ∷ [])
+
+    earlier : (k : ℕ) → k ≤ length es → take k (es ++ (event, answer) ∷ []) ≡ take k es
+    earlier k within = take-append-le k es ((event, answer) ∷ []) within
+
+    whole : (k : ℕ) → k ≡ length es + 1 → take k (es ++ (event, answer) ∷ []) ≡ es ++ (event, answer) ∷ []
+    whole k is = ap (λ n. take n (es ++ (event, answer) ∷ [])) (is ∙ sym long) ∙ take_all (es ++ (event, answer) ∷ [])
+
+    its_rising : (k : ℕ) → k ≤ length (es ++ (event, answer) ∷ []) → settled_behind old.replica.settled (take k (es ++ (event, answer) ∷ [])) ≤ new.replica.settled
+    its_rising k within = by_place (up_to k (length es) (rw long at within))
+      where
+        by_place : (k ≤ length es) ⊎ (k ≡ length es + 1) → settled_behind old.replica.settled (take k (es ++ (event, answer) ∷ [])) ≤ new.replica.settled
+        by_place (inl within) = rw (earlier k within) (let was = ran.rising k within in let rises = call.rises in omega (arith, was, rises))
+        by_place (inr is) = rw (whole k is, sym its_settled) (omega arith)
+
+    its_fronts : facts.tells old.store.disk → FrontsStand facts old (es ++ (event, answer) ∷ []) new
+    its_fronts told k file within since = by_place (up_to k (length es) (rw long at within))
+      where
+        told_mid : facts.tells mid.store.disk
+        told_mid = ran.tells.1 told
+
+        of_earlier : (within : k ≤ length es) → facts.left_since new.store.disk (facts.time old.store.disk + calls_made (take k es)) file
+            → HasAtLeast (settled_behind old.replica.settled (take k es)) new.replica file
+        of_earlier within since = either ((call.moments told_mid).before _ file in_time since)
+          where
+            in_time : facts.time old.store.disk + calls_made (take k es) ≤ facts.time mid.store.disk
+            in_time = let before = ran.time told in let few = fewer k es in omega (arith, before, few)
+
+            either : facts.left_since mid.store.disk (facts.time old.store.disk + calls_made (take k es)) file ⊎ HasAtLeast mid.replica.settled new.replica file
+                → HasAtLeast (settled_behind old.replica.settled (take k es)) new.replica file
+            either (inl since) =
+                has_longer _ mid.replica new.replica call.grows.0 file call.owner call.grows.1 (ran.fronts told k file within since)
+            either (inr has) = has_fewer _ mid.replica.settled new.replica file (ran.rising k within) has
+
+        by_place : (k ≤ length es) ⊎ (k ≡ length es + 1) → HasAtLeast (settled_behind old.replica.settled (take k (es ++ (event, answer) ∷ []))) new.replica file
+        by_place (inl within) = rw (earlier k within) (of_earlier within (rw (earlier k within) at since))
+        by_place (inr is) =
+            let told_new = call.tells.1 told_mid in
+            let now : facts.left_since new.store.disk (facts.time new.store.disk) file = rw (whole k is, sym (its_time told)) at since in
+            rw (whole k is, sym its_settled) (call.left told_new file ((lawful told_new).only_now file now))
+
+-- calls with one answer more
+pub events_more : (steps rest : List HubStep) (replies : List HubReply) (step : HubStep) (reply : HubReply) → drop (length replies) steps ≡ step ∷ rest
+    → events_of steps (replies ++ reply ∷ []) ≡ events_of steps replies ++ (event_of step, answer_of reply) ∷ []
+events_more [] rest [] step reply is = absurd (cc)
+events_more [] rest (r ∷ rs) step reply is = absurd (cc)
+events_more (s ∷ ss) rest [] step reply is = first (s ∷ ss) is
+  where
+    first : (all : List HubStep) → all ≡ step ∷ rest → events_of all (reply ∷ []) ≡ events_of all [] ++ (event_of step, answer_of reply) ∷ []
+    first all same = rw same (ends rest)
+      where
+        ends : (rest : List HubStep) → events_of (step ∷ rest) (reply ∷ []) ≡ events_of (step ∷ rest) [] ++ (event_of step, answer_of reply) ∷ []
+        ends [] = refl
+        ends (s ∷ ss) = refl
+events_more (s ∷ ss) rest (r ∷ rs) step reply is = ap (λ es. (event_of s, answer_of r) ∷ es) (events_more ss rest rs step reply is)
+
+-- no answers are no events
+pub events_none : (steps : List HubStep) → events_of steps [] ≡ []
+events_none [] = refl
+events_none (s ∷ ss) = refl

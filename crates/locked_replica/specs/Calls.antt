@@ -1,0 +1,48 @@
+-- What one call of a hub does.
+use Rattle.std.specs.Prelude.{◌≡◌, ◌↔◌, ℕ, ◌+◌, ◌≤◌, ◌==◌, if◌then◌else◌, List, ◌++◌}
+use Rattle.op_model.specs.declared.op.Op.{Op}
+use Rattle.disk_trait.specs.Calls.{LeavesOnly}
+use Rattle.disk_trait.specs.declared.facts.DiskFacts.{Ghosts}
+use Rattle.op_model.specs.Machine.{Event, edit, merge, begin, device_step, settle, ack, tell, have, Answer, idle, goes_on, goes_through, settled_to, refused, Step}
+use Rattle.locked_replica.specs.Hub.{Parts, state_of}
+use Rattle.locked_replica.specs.Recovery.{HasAtLeast}
+
+-- how many device calls the answer to a device step shows: 44 is answered without one
+abbrev pub device_calls : Answer → ℕ
+device_calls goes_on = 1
+device_calls goes_through = 1
+device_calls (refused n) = if n == 44 then 0 else 1
+device_calls a = 0
+
+-- how many device calls an event with this answer makes
+abbrev pub calls_in : Event → Answer → ℕ
+calls_in device_step a = device_calls a
+calls_in (edit session e) a = 0
+calls_in (merge peer op) a = 0
+calls_in begin a = 0
+calls_in settle a = 0
+calls_in (ack t) a = 0
+calls_in (tell c) a = 0
+calls_in have a = 0
+
+-- the settled number behind an answer
+abbrev pub settled_by : ℕ → Answer → ℕ
+settled_by n (settled_to m) = m
+settled_by n a = n
+
+-- A call is one step of the machine, with its answer. The disk's time goes on by the device calls that the answer shows, and a
+-- crash at any moment of the call leaves a beginning of the list that holds all that was settled before it, and a
+-- crash right after it all that is settled then.
+-- The list only grows, and the settled number doesn't fall.
+pub record IsCall {D : Type 0} (facts : Ghosts D) (event : Event) (answer : Answer) (old new : Parts D) : Type 0 where
+  pub owner : new.replica.replica ≡ old.replica.replica
+  pub step : Step old.replica.replica (state_of old) event answer (state_of new)
+  pub grows : (more : List Op) × (new.replica.list ≡ old.replica.list ++ more)
+  pub settled : new.replica.settled ≡ settled_by old.replica.settled answer
+  pub rises : old.replica.settled ≤ new.replica.settled
+  pub tells : facts.tells new.store.disk ↔ facts.tells old.store.disk
+  pub time : facts.tells old.store.disk → facts.time new.store.disk ≡ facts.time old.store.disk + calls_in event answer
+  pub moments : facts.tells old.store.disk
+      → LeavesOnly facts old.store.disk new.store.disk (HasAtLeast old.replica.settled new.replica)
+  pub left : facts.tells new.store.disk → (file : List ℕ) → facts.survives new.store.disk file
+      → HasAtLeast new.replica.settled new.replica file

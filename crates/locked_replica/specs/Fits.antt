@@ -1,0 +1,60 @@
+-- What a hub keeps.
+use Rattle.std.specs.Prelude.{◌≡◌, ℕ, ◌+◌, ◌<◌, ◌≤◌, Bool, true, false, nat_lt, if◌then◌else◌, List, length, take, Contains}
+use Rattle.disk_trait.specs.declared.facts.DiskFacts.{Ghosts}
+use Rattle.change_codec.specs.Stream.{spelled_all, AreOperations}
+use Rattle.op_model.specs.Replay.{reached}
+use Rattle.replica_core.specs.Held.{Held, IsSound}
+use Rattle.replica_core.specs.Steps.{places_left}
+use Rattle.root_slots.specs.Root.{version_of, replica_of, count_of}
+use Rattle.group_commit.specs.Begin.{is_idle}
+use Rattle.group_commit.specs.Commit.{IsLeft}
+use Rattle.group_commit.specs.Saved.{Saved}
+use Rattle.locked_replica.specs.Hub.{Parts, committed}
+
+-- the root is this replica's, and its stream is the records of the first operations of the list, as many as it says
+pub record IsFront (h : Held) (root : Saved) : Type 0 where
+  pub owner : replica_of root.body ≡ h.replica
+  pub within : count_of root.body ≤ length h.list
+  pub stream : root.stream ≡ spelled_all (take (count_of root.body) h.list)
+  pub fits : AreOperations (take (count_of root.body) h.list)
+
+-- how many settlements are due behind a commit or a settlement of the first n operations: one for all behind them
+abbrev pub due_behind : Held → ℕ → ℕ
+due_behind h n = if nat_lt n (length h.list) then 1 else 0
+
+-- a commit of the first n operations can be settled: the list had that length, and there are places for its settlement and for
+-- the one of all behind it
+pub record CanSettle (h : Held) (n : ℕ) : Type 0 where
+  pub more : h.settled < n
+  pub reached : Contains (reached h.opened h.steps) n
+  pub places : 1 + due_behind h n ≤ places_left h.steps
+
+-- the root that the commit under way makes is the next one, of more operations than the live one, which are settled
+pub record IsUnderWay (h : Held) (current next : Saved) : Type 0 where
+  pub settled : h.settled ≡ count_of current.body
+  pub front : IsFront h next
+  pub version : version_of next.body ≡ version_of current.body + 1
+  pub owed : CanSettle h (count_of next.body)
+
+-- no commit is under way: the live root's operations are settled, or those of a commit that is through and can be settled
+pub record IsAtRest (h : Held) (current : Saved) : Type 0 where
+  pub settled : h.settled ≤ count_of current.body
+  pub version : h.settled < count_of current.body → 0 < version_of current.body
+  pub through : h.settled < count_of current.body → CanSettle h (count_of current.body)
+  pub places : h.settled ≡ count_of current.body → due_behind h h.settled ≤ places_left h.steps
+
+-- the commit, if one is under way
+abbrev pub Commits : Bool → Held → Saved → Saved → Type 0
+Commits true h current next = IsAtRest h current
+Commits false h current next = IsUnderWay h current next
+
+-- what every hub keeps
+pub record Fits {D : Type 0} (facts : Ghosts D) (hub : Parts D) : Type 0 where
+  -- the list is causally closed, the kept steps replay, and what is acknowledged and told is settled
+  pub sound : IsSound hub.replica
+  -- the live root holds the first operations of the list
+  pub live : IsFront hub.replica hub.store.current
+  pub commit : Commits (is_idle hub.store.phase) hub.replica hub.store.current hub.store.next
+  -- every file that a crash now may leave has the live root, or in the last phase the one that the commit makes
+  pub left : facts.tells hub.store.disk → (c : List ℕ) → facts.survives hub.store.disk c
+      → IsLeft hub.store.phase hub.store.current hub.store.next c

@@ -1,0 +1,42 @@
+-- A hub as contracts see it, and the state of the machine that it is in.
+use Rattle.std.specs.Prelude.{ℕ, ◌-◌, Bool, true, false, ◌&&◌, nat_lt, if◌then◌else◌, Option, Some, None}
+use Rattle.root_slots.specs.Root.{version_of, count_of}
+use Rattle.op_model.specs.Machine.{Commit, State}
+use Rattle.replica_core.specs.Held.{stored, Held as ReplicaHeld}
+use Rattle.group_commit.specs.Begin.{is_idle}
+use Rattle.group_commit.specs.Held.{Held as StoreHeld}
+
+-- what its replica and its store hold
+pub record Parts (D : Type 0) : Type 0 where
+  pub replica : ReplicaHeld
+  pub store : StoreHeld D
+
+-- how many operations the live root has
+abbrev pub committed : {D : Type 0} → StoreHeld D → ℕ
+committed store = count_of store.current.body
+
+-- A commit is under way, and has as many operations as the next root; or it is through, and not settled yet, where the live root
+-- has more operations than are settled.
+abbrev pub commit_in : Bool → ℕ → ℕ → ℕ → Option Commit
+commit_in false settled live next = Some (record { count = next; through = false })
+commit_in true settled live next = if nat_lt settled live then Some (record { count = live; through = true }) else None
+
+-- the version of the live root, counted from the settlement of a commit that is through
+abbrev pub version_in : Bool → ℕ → ℕ → ℕ → ℕ
+version_in false settled live version = version
+version_in true settled live version = if nat_lt settled live then version - 1 else version
+
+-- the device calls of a commit are all made, and it isn't settled
+abbrev pub is_through : {D : Type 0} → Parts D → Bool
+is_through hub = is_idle hub.store.phase && nat_lt hub.replica.settled (committed hub.store)
+
+-- the commit
+abbrev pub commit_of : {D : Type 0} → ReplicaHeld → StoreHeld D → Option Commit
+commit_of replica store = commit_in (is_idle store.phase) replica.settled (committed store) (count_of store.next.body)
+
+abbrev pub version_at : {D : Type 0} → ReplicaHeld → StoreHeld D → ℕ
+version_at replica store = version_in (is_idle store.phase) replica.settled (committed store) (version_of store.current.body)
+
+-- the machine's state
+abbrev pub state_of : {D : Type 0} → Parts D → State
+state_of hub = record (stored hub.replica (version_at hub.replica hub.store) (commit_of hub.replica hub.store)) { failed = hub.store.failed }

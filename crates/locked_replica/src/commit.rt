@@ -1,0 +1,80 @@
+//! The calls of a hub that commit its list.
+ghost use Rattle.std.specs.Prelude.{◌≡◌, true, false};
+ghost use Rattle.op_model.specs.Machine.{begin as begin_event, device_step as device_event, settle as settle_event};
+ghost use Rattle.locked_replica.specs.Calls.{IsCall};
+ghost use Rattle.locked_replica.specs.Hub.{is_through};
+ghost use Rattle.locked_replica.specs.Steps.{begin_answered, stepped, settle_answered};
+
+use crate::hub::Hub;
+use crate::refusal::HubRefusal;
+use disk_trait::Disk;
+use group_commit::{Phase, StoreError};
+
+impl<D: Disk> Hub<D> {
+    /// Whether the last device call of a commit is made, and the commit isn't settled yet. Takes no
+    /// memory.
+    fn is_through(&self) -> bool
+        ensures { result ≡ is_through self.now }
+    {
+        self.store.phase().is_idle() && (self.replica.settled() as u64) < self.store.committed()
+    }
+
+    /// Begins a commit of all operations that aren't settled, and answers the length of the list that
+    /// it commits; `None` where all are settled. It makes no device call.
+    ///
+    /// Refuses, in this order, with 44 where the device failed, 8 where there is a commit, 7 where
+    /// there is no further version, and 1 where a growth was refused. A refused call changes nothing.
+    /// Costs what `Store::begin` does.
+    pub fn begin(&mut self) -> Result<Option<u64>, HubRefusal>
+        ensures call { IsCall D.DiskFacts begin_event (begin_answered result) self.old self.new }
+    {
+        if self.store.has_failed() {
+            return Err(HubRefusal::Store(StoreError::Failed));
+        }
+        if self.is_through() {
+            return Err(HubRefusal::Store(StoreError::Busy));
+        }
+        let rest = self.replica.list().split_at(self.replica.settled()).1;
+        let begun = match self.store.begin(rest) {
+            Ok(begun) => begun,
+            Err(error) => return Err(HubRefusal::Store(error)),
+        };
+        Ok(begun)
+    }
+
+    /// Makes the next device call of the commit, and answers the phase whose call it was; `Idle`
+    /// where no commit is under way. After the call of `Sync3` the commit is through. Takes no memory.
+    ///
+    /// Refuses with 44 where a device call failed before, and with 51 or 52 where the device fails in
+    /// this one. One write of at most 4,096 bytes or one sync.
+    pub fn device_step(&mut self) -> Result<Phase, HubRefusal>
+        ensures call { IsCall D.DiskFacts device_event (stepped result) self.old self.new }
+        ensures replica { self.new.replica ≡ self.old.replica }
+    {
+        let phase = match self.store.step() {
+            Ok(phase) => phase,
+            Err(error) => return Err(HubRefusal::Store(error)),
+        };
+        Ok(phase)
+    }
+
+    /// Settles the commit that is through, and answers the settled number. Takes no memory.
+    ///
+    /// Refuses with 44 where the device failed, else with 8 where no commit is through. A refused call
+    /// changes nothing.
+    pub fn settle(&mut self) -> Result<u64, HubRefusal>
+        ensures call { IsCall D.DiskFacts settle_event (settle_answered result) self.old self.new }
+        ensures store { self.new.store ≡ self.old.store }
+    {
+        if self.store.has_failed() {
+            return Err(HubRefusal::Store(StoreError::Failed));
+        }
+        if !self.is_through() {
+            return Err(HubRefusal::Store(StoreError::Busy));
+        }
+        let count = self.store.committed();
+        self.replica.settle(count as usize);
+        let _list = self.replica.list();
+        Ok(count)
+    }
+}

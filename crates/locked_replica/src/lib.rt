@@ -1,0 +1,19 @@
+//! A replica and its store as one: what its calls do together is a run of the replica machine, and a
+//! crash at any moment leaves a beginning of its list.
+#![tactic(auto)]
+
+mod commit;
+mod hub;
+mod hub_reply;
+mod hub_step;
+mod opening;
+mod reading;
+mod refusal;
+mod running;
+mod sharing;
+
+pub use hub::Hub;
+pub use hub_reply::HubReply;
+pub use hub_step::HubStep;
+pub use refusal::HubRefusal;
+pub use running::run;

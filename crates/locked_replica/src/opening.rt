@@ -1,0 +1,59 @@
+//! The opening of a hub, and what a crash leaves of it.
+ghost use Rattle.std.specs.Prelude.{◌≡◌, ◌↔◌, List, ℕ, false, IfOk, IfErr};
+ghost use Rattle.root_slots.specs.Root.{version_of};
+ghost use Rattle.group_commit.specs.Loading.{OnlyLooks};
+ghost use Rattle.op_model.specs.Machine.{opened};
+ghost use Rattle.recovery.specs.Faults.{IsFault, failures_of};
+ghost use Rattle.recovery.specs.Image.{IsImage};
+ghost use Rattle.locked_replica.specs.Hub.{state_of};
+ghost use Rattle.locked_replica.specs.Recovery.{HasAtLeast, IsCrash, Recovers};
+
+use crate::hub::Hub;
+use disk_trait::Disk;
+use recovery::{OpenFault, Opened};
+use std::alloc::Global;
+
+impl<D: Disk> Hub<D> {
+    /// Opens the file of a disk: a sync, and then reads alone.
+    ///
+    /// Refuses as `recovery::open` does, with a device number, 42, 43, 45, 46, 47 or 1, and hands the
+    /// disk back. Costs what `recovery::open` does.
+    pub fn open(alloc: Global, disk: D) -> Result<Hub<D>, OpenFault<D>>
+        // The hub is in the state right after opening the file's image.
+        ensures image { D.tells disk → IfOk result (λ hub. IsImage (D.content disk)
+            hub.replica.replica (version_of hub.store.current.body) hub.replica.list) }
+        ensures opened { IfOk result (λ hub.
+            state_of hub ≡ opened hub.replica.list (version_of hub.store.current.body)) }
+        ensures fault { D.tells disk → IfErr result (λ fault. IsFault fault.cause (D.content disk)) }
+        // It writes nothing.
+        ensures looks { D.tells disk
+            → IfOk result (λ hub. OnlyLooks D.DiskFacts 0 1 disk hub.store.disk) }
+        ensures looks_refused { D.tells disk → IfErr result
+            (λ fault. OnlyLooks D.DiskFacts (failures_of fault.cause) 1 disk fault.disk) }
+        ensures tells { IfOk result (λ hub. D.tells hub.store.disk ↔ D.tells disk) }
+        ensures tells_refused { IfErr result (λ fault. D.tells fault.disk ↔ D.tells disk) }
+    {
+        match recovery::open(alloc, disk) {
+            Ok(Opened { replica, store }) => {
+                let _list = replica.list();
+                Ok(Hub { replica, store })
+            }
+            Err(fault) => Err(fault),
+        }
+    }
+
+    /// Tells what the type keeps: every file that a crash now may leave has the image of the committed
+    /// list, in the last phase of a commit that or the commit's; what is opened from it is what the machine's
+    /// crash leaves; and that has all that is settled. Costs nothing.
+    pub fn survivors(&self)
+        ensures image { D.tells self.now.store.disk → (file : List ℕ)
+            → D.survives self.now.store.disk file → Recovers self.now file }
+        ensures crash { D.tells self.now.store.disk → (file : List ℕ)
+            → D.survives self.now.store.disk file → IsCrash self.now file }
+        ensures settled { D.tells self.now.store.disk → (file : List ℕ)
+            → D.survives self.now.store.disk file
+            → HasAtLeast self.now.replica.settled self.now.replica file }
+    {
+        let _failed = self.store.has_failed();
+    }
+}

@@ -1,0 +1,97 @@
+//! What a hub tells of itself.
+ghost use Rattle.std.specs.Prelude.{◌≡◌, List, ℕ, IfOk};
+ghost use Rattle.op_model.specs.Causality.{clock_of};
+ghost use Rattle.op_model.specs.Spans.{spans as spans_of};
+ghost use Rattle.op_model.specs.Text.{text as text_of, rev as rev_of};
+ghost use Rattle.replica_core.specs.Held.{IsSound};
+ghost use Rattle.locked_replica.specs.Hub.{is_through};
+
+use crate::hub::Hub;
+use disk_trait::Disk;
+use op_ids::{Clock, ReplicaId};
+use op_model::{Op, Span, Text};
+use std::alloc::AllocError;
+
+impl<D: Disk> Hub<D> {
+    /// The name of the replica.
+    pub fn replica(&self) -> ReplicaId
+        ensures { result ≡ self.now.replica.replica }
+    {
+        self.replica.replica()
+    }
+
+    /// The operations, in the order of application. The list is causally closed, replaying the kept
+    /// steps gives it, and what is acknowledged and told is settled.
+    pub fn list(&self) -> &[Op]
+        ensures list { result.now ≡ self.now.replica.list }
+        ensures sound { IsSound self.now.replica }
+    {
+        self.replica.list()
+    }
+
+    /// How many operations of each replica the list has.
+    pub fn clock(&self) -> &Clock
+        ensures { result.now ≡ clock_of self.now.replica.list }
+    {
+        self.replica.clock()
+    }
+
+    /// How many operations, from the beginning of the list, are settled.
+    pub fn settled(&self) -> usize
+        ensures { result ≡ self.now.replica.settled }
+    {
+        self.replica.settled()
+    }
+
+    /// The greatest number of operations that an edit answered as settled needed.
+    pub fn acked(&self) -> usize
+        ensures { result ≡ self.now.replica.acked }
+    {
+        self.replica.acked()
+    }
+
+    /// The greatest number of operations that a telling needed.
+    pub fn told(&self) -> usize
+        ensures { result ≡ self.now.replica.told }
+    {
+        self.replica.told()
+    }
+
+    /// Whether the device failed, so that the store must be opened again. Takes no memory.
+    pub fn has_failed(&self) -> bool
+        ensures { result ≡ self.now.store.failed }
+    {
+        self.store.has_failed()
+    }
+
+    /// How many operations a document has. Costs what `Replica::rev` does.
+    pub fn rev(&self, doc: u32) -> usize
+        ensures { result ≡ rev_of self.now.replica.list doc }
+    {
+        self.replica.rev(doc)
+    }
+
+    /// The text of a document, unsettled operations included. An error is want of memory (1). Costs
+    /// what `Replica::text` does.
+    pub fn text(&self, doc: u32) -> Result<Text, AllocError>
+        ensures { IfOk result (λ seen. seen ≡ text_of self.now.replica.list doc) }
+    {
+        self.replica.text(doc)
+    }
+
+    /// The text of a document, cut where the marks change. An error is want of memory (1). Costs what
+    /// `Replica::spans` does.
+    pub fn spans(&self, doc: u32) -> Result<Vec<Span>, AllocError>
+        ensures { IfOk result (λ found. found.items ≡ spans_of self.now.replica.list doc) }
+    {
+        self.replica.spans(doc)
+    }
+
+    /// The disk. What a commit under way has written stays there.
+    pub fn into_disk(self) -> D
+        ensures { result ≡ self.store.disk }
+    {
+        let Hub { store, .. } = self;
+        store.into_disk()
+    }
+}

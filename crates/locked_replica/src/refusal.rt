@@ -1,0 +1,35 @@
+//! Why a hub refuses a call.
+ghost use Rattle.std.specs.Prelude.{◌≡◌};
+
+use group_commit::StoreError;
+use replica_core::Refusal;
+use thiserror::Error;
+
+/// Why a hub refuses a call, which then changes nothing but what it says.
+#[derive(Clone, Copy, Debug, PartialEq, Eq, Error)]
+pub enum HubRefusal {
+    /// 1, 5, 6, 7, 10, 20 to 24: the replica refuses.
+    #[error("{0}")]
+    Replica(Refusal),
+    /// 1, 7, 8, 44, 51, 52: the store refuses, or no commit is through.
+    #[error("{0}")]
+    Store(StoreError),
+    /// 9: the device failed, and the store must be opened again.
+    #[error("failed")]
+    Failed,
+}
+
+impl HubRefusal {
+    ghost use Rattle.locked_replica.specs.Steps.{number_of};
+
+    /// The number of the refusal.
+    pub fn number(self) -> u8
+        ensures { result ≡ number_of self }
+    {
+        match self {
+            HubRefusal::Replica(refusal) => refusal.number(),
+            HubRefusal::Store(error) => error.number(),
+            HubRefusal::Failed => 9,
+        }
+    }
+}

@@ -1,0 +1,74 @@
+-- What an opened file has, and why one isn't opened.
+use Rattle.std.proofs.Common.{◌≡◌, ◌≢◌, ℕ, List, Ok, refl, sym, ap, ◌∙◌, ◌⊎◌, inl, inr}
+use Rattle.disk_trait.specs.declared.facts.DiskFacts.{Ghosts}
+use Rattle.op_model.specs.declared.op.Op.{Op}
+use Rattle.op_model.specs.Causality.{IsCausallyClosed}
+use Rattle.root_slots.specs.Root.{version_of}
+use Rattle.group_commit.specs.Commit.{Is}
+use Rattle.group_commit.specs.Loading.{IsHistory, OnlyLooks}
+use Rattle.group_commit.specs.Saved.{Saved}
+use Rattle.group_commit.specs.declared.open_fault.OpenError.TheVariants.{Memory as LoadMemory}
+use Rattle.replica_core.specs.declared.refusal.Refusal.{Refusal}
+use Rattle.replica_core.specs.declared.refusal.Refusal.TheVariants as refusal
+use Rattle.recovery.specs.Faults.{IsFault, HasBadOperation, failures_of}
+use Rattle.recovery.specs.Image.{IsImage}
+use Rattle.recovery.specs.declared.open_fault.OpenError.{OpenError}
+use Rattle.recovery.specs.declared.open_fault.OpenError.TheVariants.{Load, BadOperation}
+
+-- a file with a root, of which the stream is causally closed operations
+pub image_of : (root : Saved) (file : List ℕ) (replica : ℕ) (ops : List Op) → Is root file → IsHistory root replica ops → IsCausallyClosed ops
+    → IsImage file replica (version_of root.body) ops
+image_of root file replica ops is history closed =
+    record {
+      body = root.body;
+      holds = is ∙ ap (λ bytes. Ok (root.body, bytes)) (sym history.spelled);
+      fits = history.fits;
+      count = history.count;
+      owner = sym history.owner;
+      made = refl;
+      closed = closed;
+    }
+
+-- a file of which they aren't
+pub bad_of : (root : Saved) (file : List ℕ) (replica : ℕ) (ops : List Op) → Is root file → IsHistory root replica ops → (IsCausallyClosed ops → ⊥)
+    → HasBadOperation file
+bad_of root file replica ops is history broken =
+    record {
+      body = root.body;
+      ops = ops;
+      holds = is ∙ ap (λ bytes. Ok (root.body, bytes)) (sym history.spelled);
+      fits = history.fits;
+      count = history.count;
+      broken = broken;
+    }
+
+is_memory : (e : Refusal) → (e ≡ refusal.Memory) ⊎ (e ≢ refusal.Memory)
+is_memory refusal.Memory = inl refl
+is_memory refusal.Range = inr (λ is. absurd (cc))
+is_memory refusal.Stale = inr (λ is. absurd (cc))
+is_memory refusal.Limit = inr (λ is. absurd (cc))
+is_memory refusal.Steps = inr (λ is. absurd (cc))
+is_memory refusal.OwnUnknown = inr (λ is. absurd (cc))
+is_memory refusal.Counter = inr (λ is. absurd (cc))
+is_memory refusal.Names = inr (λ is. absurd (cc))
+is_memory refusal.Document = inr (λ is. absurd (cc))
+is_memory refusal.StoreLimit = inr (λ is. absurd (cc))
+is_memory refusal.BadOperation = inr (λ is. absurd (cc))
+
+-- a list that isn't taken over, for want of memory or for an operation
+pub fault_of : (e : Refusal) (cause : OpenError) (file : List ℕ) → (e ≡ refusal.Memory → cause ≡ Load LoadMemory)
+    → (e ≢ refusal.Memory → cause ≡ BadOperation) → (e ≢ refusal.Memory → HasBadOperation file) → IsFault cause file
+fault_of e cause file memory other bad = by_cause (is_memory e)
+  where
+    by_cause : (e ≡ refusal.Memory) ⊎ (e ≢ refusal.Memory) → IsFault cause file
+    by_cause (inl is) = rw (memory is) (inl tt)
+    by_cause (inr unlike) = rw (other unlike) (bad unlike)
+
+-- neither is a failure of the device
+pub no_failure : (e : Refusal) (cause : OpenError) → (e ≡ refusal.Memory → cause ≡ Load LoadMemory) → (e ≢ refusal.Memory → cause ≡ BadOperation)
+    → failures_of cause ≡ 0
+no_failure e cause memory other = by_cause (is_memory e)
+  where
+    by_cause : (e ≡ refusal.Memory) ⊎ (e ≢ refusal.Memory) → failures_of cause ≡ 0
+    by_cause (inl is) = rw (memory is) refl
+    by_cause (inr unlike) = rw (other unlike) refl

@@ -1,0 +1,34 @@
+-- Why a file has no image.
+use Rattle.std.specs.Prelude.{◌≡◌, ℕ, List, length, Ok}
+use Rattle.op_model.specs.declared.op.Op.{Op}
+use Rattle.op_model.specs.Causality.{IsCausallyClosed}
+use Rattle.change_codec.specs.Stream.{spelled_all, AreOperations}
+use Rattle.root_slots.specs.Root.{count_of}
+use Rattle.group_commit.specs.Image.{stored}
+use Rattle.group_commit.specs.Loading.{IsFirstFault, number_of as number_of_load, failures_of as failures_of_load}
+use Rattle.recovery.specs.declared.open_fault.OpenError.{OpenError}
+use Rattle.recovery.specs.declared.open_fault.OpenError.TheVariants.{Load, BadOperation}
+
+-- each refusal has one number
+abbrev pub number_of : OpenError → ℕ
+number_of (Load error) = number_of_load error
+number_of BadOperation = 47
+
+-- a refusal has met a failure of the device, or not
+abbrev pub failures_of : OpenError → ℕ
+failures_of (Load error) = failures_of_load error
+failures_of BadOperation = 0
+
+-- the file's stream is the records of as many operations as its root says, and these aren't causally closed
+pub record HasBadOperation (file : List ℕ) : Type 0 where
+  pub body : List ℕ
+  pub ops : List Op
+  pub holds : stored file ≡ Ok (body, spelled_all ops)
+  pub fits : AreOperations ops
+  pub count : length ops ≡ count_of body
+  pub broken : IsCausallyClosed ops → ⊥
+
+-- this refusal names the first fault of the file; one of memory or of the device says nothing of it
+abbrev pub IsFault : OpenError → List ℕ → Type 0
+IsFault (Load error) file = IsFirstFault error file
+IsFault BadOperation file = HasBadOperation file

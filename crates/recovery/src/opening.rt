@@ -1,0 +1,88 @@
+//! The opening of a file.
+ghost use Rattle.std.specs.Prelude.{◌≡◌, ◌≢◌, ◌↔◌, List, ℕ, false, IfOk, IfErr};
+ghost use Rattle.root_slots.specs.Root.{version_of};
+ghost use Rattle.group_commit.specs.Commit.{Is, IsLeft};
+ghost use Rattle.group_commit.specs.Loading.{IsHistory, OnlyLooks};
+ghost use Rattle.group_commit.specs.declared.open_fault.OpenError.TheVariants.{Memory as LoadMemory};
+ghost use Rattle.group_commit.specs.declared.phase.Phase.TheVariants.{Idle};
+ghost use Rattle.replica_core.specs.Held.{opened_with};
+ghost use Rattle.recovery.specs.Faults.{IsFault, failures_of};
+ghost use Rattle.recovery.specs.Image.{IsImage};
+
+use crate::open_fault::{OpenError, OpenFault};
+use disk_trait::Disk;
+use group_commit::{Loaded, Store};
+use replica_core::{Refusal, Replica};
+use std::alloc::Global;
+
+/// A file that was opened: the replica that it stands for, and its store.
+#[derive(Drop)]
+pub struct Opened<D: Disk> {
+    pub replica: Replica,
+    pub store: Store<D>,
+}
+
+/// Opens the file of a disk: a sync, and then reads alone.
+///
+/// Refuses with the first of these that it meets: 52 where the sync failed, and 50 where a read did;
+/// 42, 43, 45, 46 where the file has no live root, or the root, its tables or its stream break their
+/// rules; 47 where an operation isn't ready where it stands or fails a check. 1 may stand in place of
+/// any of these where a growth of memory was refused. A refusal hands the disk back.
+///
+/// One sync, one `size`, one read of the two slots and one of each page that the live root reaches,
+/// and what `Replica::from_list` takes for the operations.
+pub fn open<D: Disk>(alloc: Global, disk: D) -> Result<Opened<D>, OpenFault<D>>
+    // The replica is that of the file's image, as it is right after opening.
+    ensures image { D.tells disk → IfOk result (λ it. IsImage (D.content disk) it.replica.replica
+        (version_of it.store.current.body) it.replica.list) }
+    ensures replica { IfOk result
+        (λ it. it.replica ≡ opened_with it.replica.replica it.replica.list) }
+    ensures history { IfOk result
+        (λ it. IsHistory it.store.current it.replica.replica it.replica.list) }
+    ensures idle { IfOk result (λ it. (it.store.phase ≡ Idle) × (it.store.failed ≡ false)) }
+    // A crash leaves what reads give.
+    ensures settled { D.tells disk → IfOk result
+        (λ it. (c : List ℕ) → D.survives it.store.disk c → c ≡ D.content disk) }
+    ensures left { D.tells disk → IfOk result (λ it. (c : List ℕ) → D.survives it.store.disk c
+        → IsLeft it.store.phase it.store.current it.store.next c) }
+    ensures fault { D.tells disk → IfErr result (λ fault. IsFault fault.cause (D.content disk)) }
+    // It writes nothing.
+    ensures looks { D.tells disk
+        → IfOk result (λ it. OnlyLooks D.DiskFacts 0 1 disk it.store.disk) }
+    ensures looks_refused { D.tells disk → IfErr result
+        (λ fault. OnlyLooks D.DiskFacts (failures_of fault.cause) 1 disk fault.disk) }
+    ensures tells { IfOk result (λ it. D.tells it.store.disk ↔ D.tells disk) }
+    ensures tells_refused { IfErr result (λ fault. D.tells fault.disk ↔ D.tells disk) }
+{
+    match Store::load(alloc, disk) {
+        Ok(
+            Loaded {
+                store,
+                replica,
+                ops,
+            },
+        ) => match Replica::from_list(alloc, replica, ops) {
+            Ok(replica) => Ok(Opened { replica, store }),
+            Err(refusal) => Err(OpenFault {
+                cause: cause_of(refusal),
+                disk: store.into_disk(),
+            }),
+        },
+        Err(fault) => Err(OpenFault {
+            cause: OpenError::Load(fault.cause),
+            disk: fault.disk,
+        }),
+    }
+}
+
+// What it means for an opening that a list isn't taken over.
+fn cause_of(refusal: Refusal) -> OpenError
+    ensures memory { refusal ≡ Refusal.Memory → result ≡ OpenError.Load LoadMemory }
+    ensures other { refusal ≢ Refusal.Memory → result ≡ OpenError.BadOperation }
+{
+    if refusal == Refusal::Memory {
+        OpenError::Load(group_commit::OpenError::Memory)
+    } else {
+        OpenError::BadOperation
+    }
+}
