@@ -6,7 +6,7 @@ use Rattle.std.proofs.lemmas.List.{take-append-drop, length-take-le}
 use Rattle.disk_trait.specs.Calls.{IsLawful, LeavesOnly}
 use Rattle.disk_trait.specs.declared.facts.DiskFacts.{Ghosts}
 use Rattle.op_model.specs.declared.op.Op.{Op}
-use Rattle.op_model.specs.Machine.{State, Answer, Event, begin, device_step, settle, idle as idle_answer, goes_on, goes_through, refused, settled_to, settle_answer, Step, begin_answer, opened}
+use Rattle.op_model.specs.Machine.{State, Answer, Event, begin, device_step, settle, idle as idle_answer, goes_on, goes_through, refused, settled_to, settle_answer, Step, begin_answer, begun as begun_answer, opened}
 use Rattle.change_codec.specs.Stream.{spelled_all, AreOperations}
 use Rattle.change_codec.proofs.StreamLaws.{spelled_all-append}
 use Rattle.root_slots.specs.Root.{version_of, replica_of, count_of}
@@ -18,7 +18,10 @@ use Rattle.group_commit.specs.Errors.{number_of}
 use Rattle.group_commit.specs.Held.{gone_on, has_failed, behind_pages, left_at, Held as StoreHeld}
 use Rattle.group_commit.specs.Loading.{IsHistory}
 use Rattle.group_commit.specs.Saved.{Saved}
-use Rattle.group_commit.specs.Step.{IsDeviceCall, error_in, writes_in, syncs_in}
+use Rattle.group_commit.specs.Changes.{changed_pages}
+use Rattle.group_commit.specs.Counts.{writes_from, syncs_from, writes_left, syncs_left, IsUnderWay as IsWriting}
+use Rattle.group_commit.proofs.CountLemmas.{writes_fall, syncs_fall, none_left}
+use Rattle.group_commit.specs.Step.{IsDeviceCall, Does, error_in, writes_in, syncs_in}
 use Rattle.group_commit.specs.declared.error.StoreError.{StoreError}
 use Rattle.group_commit.specs.declared.error.StoreError.TheVariants.{Failed}
 use Rattle.group_commit.specs.declared.phase.Phase.{Phase}
@@ -26,11 +29,11 @@ use Rattle.group_commit.specs.declared.phase.Phase.TheVariants.{Idle, Pages, Clo
 use Rattle.locked_replica.specs.Hub.{Parts, committed, commit_in, version_in, state_of, is_through}
 use Rattle.locked_replica.specs.Fits.{Fits, IsFront, due_behind, CanSettle, IsUnderWay, IsAtRest, Commits}
 use Rattle.locked_replica.specs.Recovery.{HasAtLeast}
-use Rattle.locked_replica.specs.Calls.{IsCall, calls_in, settled_by}
+use Rattle.locked_replica.specs.Calls.{IsCall, Counts, calls_in, settled_by, writes_begun, syncs_begun}
 use Rattle.locked_replica.specs.Steps.{stepped_in}
 use Rattle.locked_replica.proofs.Recovering.{image_of, survivor_has_settled}
 use Rattle.locked_replica.proofs.Keeping.{Grows, grows_same, fits_settled, due_few}
-use Rattle.locked_replica.proofs.QuietCalls.{quiet_call}
+use Rattle.locked_replica.proofs.QuietCalls.{quiet_call, counts_same}
 use Rattle.locked_replica.proofs.RoomLemmas.{room_is_version, none_behind, behind_front}
 use Rattle.locked_replica.proofs.StateLemmas.{state_with, lt_true, lt_false, not_lt, not_through, no_call_due, answer_due, begin_as_due, begin_step, has_commit, due_begun, due_by, was_due, more_than, as_made, has_number, no_number}
 
@@ -132,8 +135,8 @@ device_call : {D : Type 0} {T : Type 0} (facts : Ghosts D) (h : Held) (s new : S
     (answer : Answer) → Fits facts (record { replica = h; store = s }) → is_idle s.phase ≡ false → IsDeviceCall facts writes syncs error result s new
     → Step h.replica (state_of (record { replica = h; store = s })) device_step answer (state_of (record { replica = h; store = new }))
     → calls_in device_step answer ≡ 1 → h.settled ≡ settled_by h.settled answer → Fits facts (record { replica = h; store = new })
-    → IsCall facts device_step answer (record { replica = h; store = s }) (record { replica = h; store = new })
-device_call facts h s new writes syncs error result answer fits busy call step one same after =
+    → Counts facts answer s new → IsCall facts device_step answer (record { replica = h; store = s }) (record { replica = h; store = new })
+device_call facts h s new writes syncs error result answer fits busy call step one same after counts =
     let kept = grows_same h in
     let way : IsUnderWay h s.current s.next = rw busy at fits.commit in
     record {
@@ -147,6 +150,7 @@ device_call facts h s new writes syncs error result answer fits busy call step o
       moments = λ told. moments_of facts s.disk new.disk (IsOneOf s.current s.next) (HasAtLeast h.settled h)
           (λ file is. one_of_has h s.current s.next file fits.sound fits.live way is) (call.moments told);
       left = λ told file survives. survivor_has_settled facts (record { replica = h; store = new }) file after told survives;
+      counts = counts;
     }
 
 -- the commit goes on
@@ -154,31 +158,34 @@ pub call_goes_on : {D : Type 0} {T : Type 0} (facts : Ghosts D) (h : Held) (s ne
     → Fits facts (record { replica = h; store = s }) → s.failed ≡ false → is_idle s.phase ≡ false → IsDeviceCall facts writes syncs error result s new
     → is_idle new.phase ≡ false → new.current ≡ s.current → new.next ≡ s.next → new.failed ≡ false
     → Fits facts (record { replica = h; store = new })
+    → Counts facts goes_on s new
     → IsCall facts device_step goes_on (record { replica = h; store = s }) (record { replica = h; store = new })
-call_goes_on facts h s new writes syncs error result fits works busy call busy' current next works' after =
-    device_call facts h s new writes syncs error result goes_on fits busy call (rw (works, busy, works', busy', current, next) (refl, refl, refl)) refl refl after
+call_goes_on facts h s new writes syncs error result fits works busy call busy' current next works' after counts =
+    device_call facts h s new writes syncs error result goes_on fits busy call (rw (works, busy, works', busy', current, next) (refl, refl, refl)) refl refl after counts
 
 -- the commit is through
 pub call_goes_through : {D : Type 0} {T : Type 0} (facts : Ghosts D) (h : Held) (s new : StoreHeld D) (writes syncs : ℕ) (error : StoreError)
     (result : Result T StoreError) → Fits facts (record { replica = h; store = s }) → s.failed ≡ false → is_idle s.phase ≡ false
     → IsDeviceCall facts writes syncs error result s new → is_idle new.phase ≡ true → new.current ≡ s.next → new.failed ≡ false
     → Fits facts (record { replica = h; store = new })
+    → Counts facts goes_through s new
     → IsCall facts device_step goes_through (record { replica = h; store = s }) (record { replica = h; store = new })
-call_goes_through facts h s new writes syncs error result fits works busy call rest current works' after =
+call_goes_through facts h s new writes syncs error result fits works busy call rest current works' after counts =
     let way : IsUnderWay h s.current s.next = rw busy at fits.commit in
     let more = lt_true h.settled (count_of s.next.body) way.owed.more in
     let before : version_of s.next.body - 1 ≡ version_of s.current.body = let after = way.version in omega (arith, after) in
-    device_call facts h s new writes syncs error result goes_through fits busy call (rw (works, busy, works', rest, current, more, before) (refl, refl, refl)) refl refl after
+    device_call facts h s new writes syncs error result goes_through fits busy call (rw (works, busy, works', rest, current, more, before) (refl, refl, refl)) refl refl after counts
 
 -- the device failed
 pub call_fails : {D : Type 0} {T : Type 0} (facts : Ghosts D) (h : Held) (s new : StoreHeld D) (writes syncs : ℕ) (error : StoreError) (result : Result T StoreError)
     (n : ℕ) → Fits facts (record { replica = h; store = s }) → s.failed ≡ false → is_idle s.phase ≡ false → IsDeviceCall facts writes syncs error result s new
     → is_idle new.phase ≡ false → new.current ≡ s.current → new.next ≡ s.next → new.failed ≡ true → (n ≡ 51) ⊎ (n ≡ 52)
     → Fits facts (record { replica = h; store = new })
+    → Counts facts (refused n) s new
     → IsCall facts device_step (refused n) (record { replica = h; store = s }) (record { replica = h; store = new })
-call_fails facts h s new writes syncs error result n fits works busy call busy' current next failed is after =
+call_fails facts h s new writes syncs error result n fits works busy call busy' current next failed is after counts =
     device_call facts h s new writes syncs error result (refused n) fits busy call
-    (inr (works, rw busy refl, is, rw (busy, failed, busy', current, next) refl)) (one n is) refl after
+    (inr (works, rw busy refl, is, rw (busy, failed, busy', current, next) refl)) (one n is) refl after counts
   where
     one : (n : ℕ) → (n ≡ 51) ⊎ (n ≡ 52) → calls_in device_step (refused n) ≡ 1
     one n (inl is) = rw is refl
@@ -315,6 +322,35 @@ pub record Stepped {D : Type 0} (facts : Ghosts D) (s new : StoreHeld D) (answer
   pub idle : s.failed ≡ false → s.phase ≡ Idle → (answer ≡ Ok Idle) × (new ≡ s)
   pub call : s.failed ≡ false → s.phase ≢ Idle
       → IsDeviceCall {T = Phase} facts (writes_in s.phase) (syncs_in s.phase) (error_in s.phase) answer s new
+  pub does : s.failed ≡ false → facts.tells s.disk → Does {T = Phase} facts answer s.phase s new.disk
+
+-- a page that is written is one of the new ones
+under_way : {D : Type 0} (facts : Ghosts D) (s : StoreHeld D) (new : D) (answer : Result Phase StoreError) → Does {T = Phase} facts answer s.phase s new
+    → IsWriting s
+under_way facts s new answer does k at_page = (subst (λ p. Does {T = Phase} facts answer p s new) at_page does).within
+
+-- a device call that succeeds makes its part of the writes and syncs that are left
+counts_on : {D : Type 0} (facts : Ghosts D) (s new : StoreHeld D) (p : Phase) (answer : Answer) → writes_begun answer new ≡ 0 → syncs_begun answer ≡ 0
+    → s.failed ≡ false → Stepped facts s new (Ok p) → s.phase ≢ Idle → new ≡ gone_on s.phase s new.disk → Counts facts answer s new
+counts_on facts s new p answer none none_syncs works stepped busy gone =
+    record {
+      stays = λ failed. absurd (cc);
+      writes = λ told working.
+          let call = ((stepped.call works busy).call told).writes in
+          let left = writes_fall s new.disk (under_way facts s new.disk (Ok p) (stepped.does works told)) in
+          let after = ap writes_left gone in
+          omega (arith, call, left, after, none);
+      syncs = λ told working.
+          let call = ((stepped.call works busy).call told).syncs in
+          let left = syncs_fall s new.disk in
+          let after = ap syncs_left gone in
+          omega (arith, call, left, after, none_syncs);
+    }
+
+-- of one that fails nothing is said
+counts_failed : {D : Type 0} (facts : Ghosts D) (answer : Answer) (s new : StoreHeld D) → new.failed ≡ true → Counts facts answer s new
+counts_failed facts answer s new failed =
+    record { stays = λ was. failed; writes = λ told working. absurd (cc); syncs = λ told working. absurd (cc) }
 
 err_is : (answer : Result Phase StoreError) (e f : StoreError) → answer ≡ Err e → answer ≡ Err f → e ≡ f
 err_is answer e f is same = cc
@@ -352,7 +388,7 @@ step_made {D} facts h s new p lawful fits stepped made went = rw made (by_kind (
         at_rest =
             subst (λ q. IsCall facts device_step (stepped_in q) (record { replica = h; store = s }) (record { replica = h; store = s })) (sym is) (
             quiet_call facts device_step idle_answer (record { replica = h; store = s }) (record { replica = h; store = s }) refl lawful fits refl
-            (works, rw rest (no_call_due h.settled (committed s) (count_of s.next.body)), refl) kept.more kept.list refl (omega arith) refl
+            (works, rw rest (no_call_due h.settled (committed s) (count_of s.next.body)), refl) kept.more kept.list refl (omega arith) refl (counts_same facts _ s refl refl)
             )
     by_kind (inr (inl is)) =
         let busy : is_idle s.phase ≡ false = ap is_idle is in
@@ -364,7 +400,8 @@ step_made {D} facts h s new p lawful fits stepped made went = rw made (by_kind (
         let after = fits_through facts h s new fits busy rest current its_call.left in (
           after,
           subst (λ q. IsCall facts device_step (stepped_in q) (record { replica = h; store = s }) (record { replica = h; store = new })) (sym is)
-              (call_goes_through facts h s new _ _ _ _ fits works busy its_call rest current works' after),
+              (call_goes_through facts h s new _ _ _ _ fits works busy its_call rest current works' after
+              (counts_on facts s new p goes_through refl refl works stepped (not_idle s.phase busy) gone)),
         )
     by_kind (inr (inr (busy, other, on))) =
         let kept = kept_current s.phase s new.disk other in
@@ -375,7 +412,8 @@ step_made {D} facts h s new p lawful fits stepped made went = rw made (by_kind (
         let its_call = stepped.call works (not_idle s.phase busy) in
         let after = fits_going facts h s new fits busy busy' current next its_call.left in (
           after,
-          rw on (call_goes_on facts h s new _ _ _ _ fits works busy its_call busy' current next works' after),
+          rw on (call_goes_on facts h s new _ _ _ _ fits works busy its_call busy' current next works' after
+              (counts_on facts s new p goes_on refl refl works stepped (not_idle s.phase busy) gone)),
         )
 
 -- a device step that is refused
@@ -393,7 +431,7 @@ step_refused facts h s new e lawful fits stepped gone = by_test s.failed refl
         rw (err_is (Err e) e Failed refl both.0, both.1) (
           fits,
           quiet_call facts device_step (refused 44) (record { replica = h; store = s }) (record { replica = h; store = s }) refl lawful fits refl
-              (inl (failed, refl, refl)) kept.more kept.list refl (omega arith) refl,
+              (inl (failed, refl, refl)) kept.more kept.list refl (omega arith) refl (counts_same facts _ s refl refl),
         )
     by_test false works =
         let some : s.phase ≢ Idle = λ is. both_ways (Err e) e Idle refl (stepped.idle works is).0 in
@@ -407,7 +445,7 @@ step_refused facts h s new e lawful fits stepped gone = by_test s.failed refl
         let after = fits_going facts h s new fits busy busy' current next its_call.left in
         let error = its_call.refused in (
           after,
-          call_fails facts h s new _ _ _ _ (number_of e) fits works busy its_call busy' current next failed (rw error (device_number s.phase)) after,
+          call_fails facts h s new _ _ _ _ (number_of e) fits works busy its_call busy' current next failed (rw error (device_number s.phase)) after (counts_failed facts _ s new failed),
         )
 
 -- a begin of a hub whose device failed, and of one with a commit that is through
@@ -417,7 +455,7 @@ pub begin_failed : {D : Type 0} (facts : Ghosts D) (h : Held) (s : StoreHeld D) 
 begin_failed facts h s lawful fits failed =
     let kept = grows_same h in
     quiet_call facts begin (refused 44) (record { replica = h; store = s }) (record { replica = h; store = s }) refl lawful fits refl
-    (rw failed (refl, refl)) kept.more kept.list refl (omega arith) refl
+    (rw failed (refl, refl)) kept.more kept.list refl (omega arith) refl (counts_same facts _ s refl refl)
 
 pub begin_through : {D : Type 0} (facts : Ghosts D) (h : Held) (s : StoreHeld D) → (facts.tells s.disk → IsLawful facts s.disk)
     → Fits facts (record { replica = h; store = s }) → s.failed ≡ false → (is_idle s.phase && nat_lt h.settled (committed s)) ≡ true
@@ -426,7 +464,33 @@ begin_through facts h s lawful fits works through =
     let kept = grows_same h in
     let some = has_commit (is_idle s.phase) h.settled (committed s) (count_of s.next.body) through in
     quiet_call facts begin (refused 8) (record { replica = h; store = s }) (record { replica = h; store = s }) refl lawful fits refl
-    (rw (works, some) (refl, refl)) kept.more kept.list refl (omega arith) refl
+    (rw (works, some) (refl, refl)) kept.more kept.list refl (omega arith) refl (counts_same facts _ s refl refl)
+
+-- a commit that begins has all its writes and syncs before it
+counts_begun : {D : Type 0} (facts : Ghosts D) (s new : StoreHeld D) (ops : List Op) (n : ℕ) → s.phase ≡ Idle → s.failed ≡ false → Begins facts s ops new
+    → Counts facts (begun_answer n) s new
+counts_begun facts s new ops n idle works b =
+    let none = none_left s idle in
+    let pages : length new.numbers - 0 ≡ length new.numbers = omega arith in
+    let numbers : new.numbers ≡ changed_pages new.current new.next = rw b.current b.numbers in
+    let writes : writes_left new ≡ length (changed_pages new.current new.next) + (if new.stale then 3 else 2) =
+    ap (λ p. writes_from p (length new.numbers) new.stale) b.phase ∙ ap (λ k. k + (if new.stale then 3 else 2)) pages ∙ ap (λ ns. length ns + (if new.stale then 3 else 2)) numbers in
+    let syncs : syncs_left new ≡ 3 = ap syncs_from b.phase in
+    record {
+      stays = λ failed. absurd (cc);
+      writes = λ told working. let same = ap (λ d. facts.writes d) b.disk in omega (arith, same, writes, none.0);
+      syncs = λ told working. let same = ap (λ d. facts.syncs d) b.disk in omega (arith, same, syncs, none.1);
+    }
+
+idle_is : (p : Phase) → is_idle p ≡ true → p ≡ Idle
+idle_is Idle is = refl
+idle_is (Pages k) is = absurd (cc)
+idle_is Close is = absurd (cc)
+idle_is Sync1 is = absurd (cc)
+idle_is Body is = absurd (cc)
+idle_is Sync2 is = absurd (cc)
+idle_is Gate is = absurd (cc)
+idle_is Sync3 is = absurd (cc)
 
 -- what is settled is what the live root has, where no commit is through
 pub all_settled : (idle : Bool) (h : Held) (current next : Saved) → Commits idle h current next → (idle && nat_lt h.settled (count_of current.body)) ≡ false
@@ -495,6 +559,12 @@ begin_made {D} facts h s new answer lawful fits works none is_answer begins stay
     same_settled (Ok None) = refl
     same_settled (Err e) = refl
 
+    -- at rest a commit has no writes and syncs left
+    its_counts : (a : Result (Option ℕ) StoreError) → answer ≡ a → Counts facts (answer_due a) s new
+    its_counts (Ok (Some n)) is = counts_begun facts s new (drop h.settled h.list) n (idle_is s.phase (due n is).0) works (begins n is)
+    its_counts (Ok None) is = rw (stays (no_number answer (ap has_number is))) (counts_same facts _ s refl refl)
+    its_counts (Err e) is = rw (stays (no_number answer (ap has_number is))) (counts_same facts _ s refl refl)
+
     its_call : IsCall facts begin (answer_due answer) (record { replica = h; store = s }) (record { replica = h; store = new })
     its_call =
         let kept = grows_same h in
@@ -503,7 +573,7 @@ begin_made {D} facts h s new answer lawful fits works none is_answer begins stay
         (its_fits answer refl) refl
         (begin_step (state_of (record { replica = h; store = s })) (state_of (record { replica = h; store = new })) (begin_due s (drop h.settled h.list)) answer machine
         is_answer new_state (λ other. ap (λ t. state_of (record { replica = h; store = t })) (stays other)))
-        kept.more kept.list (same_settled answer) (omega arith) refl
+        kept.more kept.list (same_settled answer) (omega arith) refl (its_counts answer refl)
 
 -- the same of the operations that the store was given
 pub begin_given : {D : Type 0} (facts : Ghosts D) (h : Held) (s new : StoreHeld D) (rest : List Op) (answer : Result (Option ℕ) StoreError)
@@ -547,7 +617,7 @@ settle_made facts h next s lawful fits works idle less is sound = rw is (its_fit
     its_call : IsCall facts settle (settled_to (committed s)) (record { replica = h; store = s }) (record { replica = with_settled h (committed s); store = s })
     its_call =
         quiet_call facts settle (settled_to (committed s)) (record { replica = h; store = s }) (record { replica = with_settled h (committed s); store = s }) refl lawful
-        its_fits refl step kept.more kept.list refl (omega (arith, less)) refl
+        its_fits refl step kept.more kept.list refl (omega (arith, less)) refl (counts_same facts _ s refl refl)
 
 pub settle_failed : {D : Type 0} (facts : Ghosts D) (h : Held) (s : StoreHeld D) → (facts.tells s.disk → IsLawful facts s.disk)
     → Fits facts (record { replica = h; store = s }) → s.failed ≡ true
@@ -555,7 +625,7 @@ pub settle_failed : {D : Type 0} (facts : Ghosts D) (h : Held) (s : StoreHeld D)
 settle_failed facts h s lawful fits failed =
     let kept = grows_same h in
     quiet_call facts settle (refused 44) (record { replica = h; store = s }) (record { replica = h; store = s }) refl lawful fits refl
-    (rw failed (refl, refl)) kept.more kept.list refl (omega arith) refl
+    (rw failed (refl, refl)) kept.more kept.list refl (omega arith) refl (counts_same facts _ s refl refl)
 
 pub settle_busy : {D : Type 0} (facts : Ghosts D) (h : Held) (s : StoreHeld D) → (facts.tells s.disk → IsLawful facts s.disk)
     → Fits facts (record { replica = h; store = s }) → s.failed ≡ false → (is_idle s.phase && nat_lt h.settled (committed s)) ≡ false
@@ -564,7 +634,7 @@ settle_busy facts h s lawful fits works none =
     let kept = grows_same h in
     let no_commit = not_through (is_idle s.phase) h.settled (committed s) (count_of s.next.body) none in
     quiet_call facts settle (refused 8) (record { replica = h; store = s }) (record { replica = h; store = s }) refl lawful fits refl
-    (rw (works, no_commit) (refl, refl)) kept.more kept.list refl (omega arith) refl
+    (rw (works, no_commit) (refl, refl)) kept.more kept.list refl (omega arith) refl (counts_same facts _ s refl refl)
 
 -- a hub right after opening
 pub fits_opened : {D : Type 0} (facts : Ghosts D) (h : Held) (s : StoreHeld D) (replica : ℕ) → h ≡ opened_with replica h.list → IsSound h

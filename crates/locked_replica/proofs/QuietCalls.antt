@@ -17,7 +17,7 @@ use Rattle.group_commit.specs.Held.{Held as StoreHeld}
 use Rattle.locked_replica.specs.Hub.{Parts, state_of, version_at, commit_of}
 use Rattle.locked_replica.specs.Fits.{Fits}
 use Rattle.locked_replica.specs.Recovery.{HasAtLeast}
-use Rattle.locked_replica.specs.Calls.{IsCall, calls_in, settled_by}
+use Rattle.locked_replica.specs.Calls.{IsCall, Counts, calls_in, settled_by, writes_begun, syncs_begun}
 use Rattle.locked_replica.proofs.Recovering.{survivor_has_settled}
 use Rattle.locked_replica.proofs.Keeping.{Grows, grows_edit, grows_merge, grows_same, grows_acked, grows_told, fits_grown}
 
@@ -27,14 +27,20 @@ has_fewer n m h file fewer has =
     let enough = has.enough in
     record { version = has.version; count = has.count; enough = omega arith; within = has.within; image = has.image }
 
+-- a call that leaves the store as it was
+pub counts_same : {D : Type 0} (facts : Ghosts D) (answer : Answer) (s : StoreHeld D) → writes_begun answer s ≡ 0 → syncs_begun answer ≡ 0
+    → Counts facts answer s s
+counts_same facts answer s none none_syncs =
+    record { stays = λ failed. failed; writes = λ told works. rw none (omega arith); syncs = λ told works. rw none_syncs (omega arith) }
+
 -- a call that leaves the disk as it was
 pub quiet_call : {D : Type 0} (facts : Ghosts D) (event : Event) (answer : Answer) (old new : Parts D) → new.store.disk ≡ old.store.disk
     → (facts.tells new.store.disk → IsLawful facts new.store.disk) → Fits facts new → new.replica.replica ≡ old.replica.replica
     → Step old.replica.replica (state_of old) event answer (state_of new)
     → (more : List Op) → new.replica.list ≡ old.replica.list ++ more
     → new.replica.settled ≡ settled_by old.replica.settled answer → old.replica.settled ≤ new.replica.settled → calls_in event answer ≡ 0
-    → IsCall facts event answer old new
-quiet_call {D} facts event answer old new same lawful fits owner step more list settled rises none =
+    → Counts facts answer old.store new.store → IsCall facts event answer old new
+quiet_call {D} facts event answer old new same lawful fits owner step more list settled rises none counts =
     record {
       owner = owner;
       step = step;
@@ -45,6 +51,7 @@ quiet_call {D} facts event answer old new same lawful fits owner step more list 
       time = λ told. rw (same, none) (omega arith);
       moments = λ told. rw (sym same) (moments (rw same told));
       left = λ told file survives. survivor_has_settled facts new file fits told survives;
+      counts = counts;
     }
   where
     has : facts.tells new.store.disk → (file : List ℕ) → facts.survives new.store.disk file → HasAtLeast old.replica.settled new.replica file
@@ -70,7 +77,7 @@ edit_call facts h next s session e t lawful fits works answer is sound =
     quiet_call facts (edit session e) (ticket t) (record { replica = h; store = s }) (record { replica = with_edit h session e; store = s }) refl lawful
     (fits_grown facts h (with_edit h session e) s fits (rw is at sound) kept) refl
     (rw works (edit_step h (with_edit h session e) session e t (version_at h s) (commit_of h s) answer refl))
-    kept.more kept.list refl (omega arith) refl
+    kept.more kept.list refl (omega arith) refl (counts_same facts _ s refl refl)
     )
 
 -- an edit that is refused
@@ -81,7 +88,7 @@ pub edit_call_refused : {D : Type 0} (facts : Ghosts D) (h : Held) (s : StoreHel
 edit_call_refused facts h s session e n lawful fits works answer =
     let kept = grows_same h in
     quiet_call facts (edit session e) (refused n) (record { replica = h; store = s }) (record { replica = h; store = s }) refl lawful fits refl
-    (rw works (edit_step_refused h h session e n (version_at h s) (commit_of h s) answer refl)) kept.more kept.list refl (omega arith) refl
+    (rw works (edit_step_refused h h session e n (version_at h s) (commit_of h s) answer refl)) kept.more kept.list refl (omega arith) refl (counts_same facts _ s refl refl)
 
 pub edit_call_failed : {D : Type 0} (facts : Ghosts D) (h : Held) (s : StoreHeld D) (session : ℕ) (e : Edit)
     → (facts.tells s.disk → IsLawful facts s.disk) → Fits facts (record { replica = h; store = s }) → s.failed ≡ true
@@ -89,7 +96,7 @@ pub edit_call_failed : {D : Type 0} (facts : Ghosts D) (h : Held) (s : StoreHeld
 edit_call_failed facts h s session e lawful fits failed =
     let kept = grows_same h in
     quiet_call facts (edit session e) (refused 9) (record { replica = h; store = s }) (record { replica = h; store = s }) refl lawful fits refl
-    (rw failed (refl, refl)) kept.more kept.list refl (omega arith) refl
+    (rw failed (refl, refl)) kept.more kept.list refl (omega arith) refl (counts_same facts _ s refl refl)
 
 -- a merge that isn't refused
 pub merge_call : {D : Type 0} (facts : Ghosts D) (h next : Held) (s : StoreHeld D) (peer : ℕ) (op : Op) (m : Merged)
@@ -102,21 +109,21 @@ merge_call facts h next s peer op merged_as.Applied lawful fits works answer is 
     quiet_call facts (merge peer op) applied (record { replica = h; store = s }) (record { replica = with_merge h peer op; store = s }) refl lawful
     (fits_grown facts h (with_merge h peer op) s fits (rw is at sound) kept) refl
     (rw works (merge_step h (with_merge h peer op) peer op merged_as.Applied (version_at h s) (commit_of h s) answer refl))
-    kept.more kept.list refl (omega arith) refl
+    kept.more kept.list refl (omega arith) refl (counts_same facts _ s refl refl)
     )
 merge_call facts h next s peer op merged_as.Known lawful fits works answer is sound =
     rw is (
     let kept = grows_same h in
     quiet_call facts (merge peer op) known (record { replica = h; store = s }) (record { replica = h; store = s }) refl lawful fits refl
     (rw works (merge_step h h peer op merged_as.Known (version_at h s) (commit_of h s) answer refl))
-    kept.more kept.list refl (omega arith) refl
+    kept.more kept.list refl (omega arith) refl (counts_same facts _ s refl refl)
     )
 merge_call facts h next s peer op merged_as.Early lawful fits works answer is sound =
     rw is (
     let kept = grows_same h in
     quiet_call facts (merge peer op) early (record { replica = h; store = s }) (record { replica = h; store = s }) refl lawful fits refl
     (rw works (merge_step h h peer op merged_as.Early (version_at h s) (commit_of h s) answer refl))
-    kept.more kept.list refl (omega arith) refl
+    kept.more kept.list refl (omega arith) refl (counts_same facts _ s refl refl)
     )
 
 -- a merge that is refused
@@ -127,7 +134,7 @@ pub merge_call_refused : {D : Type 0} (facts : Ghosts D) (h : Held) (s : StoreHe
 merge_call_refused facts h s peer op n lawful fits works answer =
     let kept = grows_same h in
     quiet_call facts (merge peer op) (refused n) (record { replica = h; store = s }) (record { replica = h; store = s }) refl lawful fits refl
-    (rw works (merge_step_refused h h peer op n (version_at h s) (commit_of h s) answer refl)) kept.more kept.list refl (omega arith) refl
+    (rw works (merge_step_refused h h peer op n (version_at h s) (commit_of h s) answer refl)) kept.more kept.list refl (omega arith) refl (counts_same facts _ s refl refl)
 
 pub merge_call_failed : {D : Type 0} (facts : Ghosts D) (h : Held) (s : StoreHeld D) (peer : ℕ) (op : Op)
     → (facts.tells s.disk → IsLawful facts s.disk) → Fits facts (record { replica = h; store = s }) → s.failed ≡ true
@@ -135,7 +142,7 @@ pub merge_call_failed : {D : Type 0} (facts : Ghosts D) (h : Held) (s : StoreHel
 merge_call_failed facts h s peer op lawful fits failed =
     let kept = grows_same h in
     quiet_call facts (merge peer op) (refused 9) (record { replica = h; store = s }) (record { replica = h; store = s }) refl lawful fits refl
-    (rw failed (refl, refl)) kept.more kept.list refl (omega arith) refl
+    (rw failed (refl, refl)) kept.more kept.list refl (omega arith) refl (counts_same facts _ s refl refl)
 
 -- an acknowledgement, also of a hub whose device failed
 pub ack_call : {D : Type 0} (facts : Ghosts D) (h next : Held) (s : StoreHeld D) (t : Ticket) (b : Bool)
@@ -146,13 +153,13 @@ ack_call facts h next s t true lawful fits test is sound =
     rw is (
     let kept = grows_acked h t.end in
     quiet_call facts (ack t) (acknowledged true) (record { replica = h; store = s }) (record { replica = with_acked h t.end; store = s }) refl lawful
-    (fits_grown facts h (with_acked h t.end) s fits (rw is at sound) kept) refl (test.0 refl, refl) kept.more kept.list refl (omega arith) refl
+    (fits_grown facts h (with_acked h t.end) s fits (rw is at sound) kept) refl (test.0 refl, refl) kept.more kept.list refl (omega arith) refl (counts_same facts _ s refl refl)
     )
 ack_call facts h next s t false lawful fits test is sound =
     rw is (
     let kept = grows_same h in
     quiet_call facts (ack t) (acknowledged false) (record { replica = h; store = s }) (record { replica = h; store = s }) refl lawful fits refl
-    (unsettled test.1, refl) kept.more kept.list refl (omega arith) refl
+    (unsettled test.1, refl) kept.more kept.list refl (omega arith) refl (counts_same facts _ s refl refl)
     )
   where
     unsettled : (t.end ≤ h.settled → IsTrue false) → h.settled < t.end
@@ -168,7 +175,7 @@ tell_call facts h next s c ops lawful fits are is sound =
     let n = reach 64 c (take h.settled h.list) in
     let kept = grows_told h n in
     quiet_call facts (tell c) (operations ops) (record { replica = h; store = s }) (record { replica = with_told h n; store = s }) refl lawful
-    (fits_grown facts h (with_told h n) s fits (rw is at sound) kept) refl (are, refl) kept.more kept.list refl (omega arith) refl
+    (fits_grown facts h (with_told h n) s fits (rw is at sound) kept) refl (are, refl) kept.more kept.list refl (omega arith) refl (counts_same facts _ s refl refl)
     )
 
 -- a telling of the clock
@@ -180,7 +187,7 @@ have_call facts h next s c lawful fits is_clock is sound =
     rw is (
     let kept = grows_told h h.settled in
     quiet_call facts have (clock c) (record { replica = h; store = s }) (record { replica = with_told h h.settled; store = s }) refl lawful
-    (fits_grown facts h (with_told h h.settled) s fits (rw is at sound) kept) refl (is_clock, refl) kept.more kept.list refl (omega arith) refl
+    (fits_grown facts h (with_told h h.settled) s fits (rw is at sound) kept) refl (is_clock, refl) kept.more kept.list refl (omega arith) refl (counts_same facts _ s refl refl)
     )
 
 -- either of them refused for want of memory
@@ -190,7 +197,7 @@ pub tell_call_refused : {D : Type 0} (facts : Ghosts D) (h : Held) (s : StoreHel
 tell_call_refused facts h s c lawful fits =
     let kept = grows_same h in
     quiet_call facts (tell c) (refused 1) (record { replica = h; store = s }) (record { replica = h; store = s }) refl lawful fits refl (refl, refl) kept.more
-    kept.list refl (omega arith) refl
+    kept.list refl (omega arith) refl (counts_same facts _ s refl refl)
 
 pub have_call_refused : {D : Type 0} (facts : Ghosts D) (h : Held) (s : StoreHeld D)
     → (facts.tells s.disk → IsLawful facts s.disk) → Fits facts (record { replica = h; store = s })
@@ -198,7 +205,7 @@ pub have_call_refused : {D : Type 0} (facts : Ghosts D) (h : Held) (s : StoreHel
 have_call_refused facts h s lawful fits =
     let kept = grows_same h in
     quiet_call facts have (refused 1) (record { replica = h; store = s }) (record { replica = h; store = s }) refl lawful fits refl (refl, refl) kept.more
-    kept.list refl (omega arith) refl
+    kept.list refl (omega arith) refl (counts_same facts _ s refl refl)
 
 -- an edit, and a merge, keep what a hub keeps
 pub edit_kept : {D : Type 0} (facts : Ghosts D) (h next : Held) (s : StoreHeld D) (session : ℕ) (e : Edit) → Fits facts (record { replica = h; store = s })

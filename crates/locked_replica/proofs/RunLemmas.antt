@@ -9,9 +9,9 @@ use Rattle.op_model.specs.declared.op.Op.{Op}
 use Rattle.op_model.specs.Machine.{State, Event, Answer, Step, Run}
 use Rattle.replica_core.specs.Held.{Held}
 use Rattle.locked_replica.specs.Hub.{Parts, state_of}
-use Rattle.locked_replica.specs.Calls.{IsCall, calls_in, settled_by}
+use Rattle.locked_replica.specs.Calls.{IsCall, Counts, calls_in, settled_by, writes_begun, syncs_begun}
 use Rattle.locked_replica.specs.Recovery.{HasAtLeast}
-use Rattle.locked_replica.specs.Run.{Ran, FrontsStand, calls_made, settled_behind}
+use Rattle.locked_replica.specs.Run.{Ran, Calls, FrontsStand, calls_made, settled_behind, writes_planned, syncs_planned}
 use Rattle.locked_replica.specs.Steps.{event_of, answer_of, events_of}
 use Rattle.locked_replica.specs.declared.hub_step.HubStep.{HubStep}
 use Rattle.locked_replica.specs.declared.hub_reply.HubReply.{HubReply}
@@ -59,6 +59,26 @@ has_longer n h next more file owner list has =
       image = rw (same, owner) has.image;
     }
 
+-- the chain of calls, with one more
+abbrev calls_chain : {D : Type 0} (facts : Ghosts D) (old mid new : Parts D) (es : List (Event × Answer)) (event : Event) (answer : Answer) → Calls facts old es mid
+    → IsCall facts event answer mid new → Calls facts old (es ++ (event, answer) ∷ []) new
+calls_chain facts old mid new [] event answer calls call = (new, rw calls at call, refl)
+calls_chain facts old mid new (e ∷ es) event answer calls call =
+    (calls.0, calls.1, calls_chain facts calls.0 mid new es event answer calls.2 call)
+
+-- one commit that begins more
+writes_more : {D : Type 0} (facts : Ghosts D) (old mid new : Parts D) (es : List (Event × Answer)) (event : Event) (answer : Answer) (calls : Calls facts old es mid)
+    (call : IsCall facts event answer mid new)
+    → writes_planned facts old (es ++ (event, answer) ∷ []) new (calls_chain facts old mid new es event answer calls call)
+    ≡ writes_planned facts old es mid calls + writes_begun answer new.store
+writes_more facts old mid new [] event answer calls call = omega arith
+writes_more facts old mid new (e ∷ es) event answer calls call =
+    let rest = writes_more facts calls.0 mid new es event answer calls.2 call in omega (arith, rest)
+
+syncs_more : (es : List (Event × Answer)) (event : Event) (answer : Answer) → syncs_planned (es ++ (event, answer) ∷ []) ≡ syncs_planned es + syncs_begun answer
+syncs_more [] event answer = omega arith
+syncs_more (e ∷ es) event answer = let rest = syncs_more es event answer in omega (arith, rest)
+
 -- no call
 pub ran_none : {D : Type 0} (facts : Ghosts D) (hub : Parts D) → (facts.tells hub.store.disk → IsLawful facts hub.store.disk)
     → (facts.tells hub.store.disk → (file : List ℕ) → facts.survives hub.store.disk file → HasAtLeast hub.replica.settled hub.replica file)
@@ -71,6 +91,9 @@ ran_none facts hub lawful left =
       rising = λ k within. rw (take_none {A = Event × Answer} k) (omega arith);
       tells = ((λ told. told), (λ told. told));
       time = λ told. omega arith;
+      calls = refl;
+      writes = λ told works. omega arith;
+      syncs = λ told works. omega arith;
       fronts = λ told k file within left_now. rw (take_none {A = Event × Answer} k) (stands told file (now k left_now));
     }
   where
@@ -104,10 +127,28 @@ ran_more facts old mid new es event answer lawful ran call =
       tells = ((λ told. ran.tells.0 (call.tells.0 told)), (λ told. call.tells.1 (ran.tells.1 told)));
       time = its_time;
       fronts = its_fronts;
+      calls = calls_chain facts old mid new es event answer ran.calls call;
+      writes = λ told works.
+          let more = writes_more facts old mid new es event answer ran.calls call in
+          let before = ran.writes told (worked works) in
+          let after = call.counts.writes (ran.tells.1 told) works in
+          omega (arith, more, before, after);
+      syncs = λ told works.
+          let more = syncs_more es event answer in
+          let before = ran.syncs told (worked works) in
+          let after = call.counts.syncs (ran.tells.1 told) works in
+          omega (arith, more, before, after);
     }
   where
-    e : Event × Answer
-    e = (event, answer)
+    worked : new.store.failed ≡ false → mid.store.failed ≡ false
+    worked works = by_test mid.store.failed refl
+      where
+        by_test : (t : Bool) → mid.store.failed ≡ t → mid.store.failed ≡ false
+        by_test true failed = absurd (differ (sym (call.counts.stays failed) ∙ works))
+          where
+            differ : true ≡ false → ⊥
+            differ is = absurd (cc)
+        by_test false is = is
 
     its_settled : new.replica.settled ≡ settled_behind old.replica.settled (es ++ (event, answer) ∷ [])
     its_settled = call.settled ∙ ap (λ n. settled_by n answer) ran.settled ∙ sym (settled_more old.replica.settled es (event, answer))

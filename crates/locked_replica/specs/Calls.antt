@@ -1,9 +1,12 @@
 -- What one call of a hub does.
-use Rattle.std.specs.Prelude.{◌≡◌, ◌↔◌, ℕ, ◌+◌, ◌≤◌, ◌==◌, if◌then◌else◌, List, ◌++◌}
+use Rattle.std.specs.Prelude.{◌≡◌, ◌↔◌, ℕ, ◌+◌, ◌≤◌, ◌==◌, true, false, if◌then◌else◌, List, ◌++◌, length}
 use Rattle.op_model.specs.declared.op.Op.{Op}
 use Rattle.disk_trait.specs.Calls.{LeavesOnly}
 use Rattle.disk_trait.specs.declared.facts.DiskFacts.{Ghosts}
-use Rattle.op_model.specs.Machine.{Event, edit, merge, begin, device_step, settle, ack, tell, have, Answer, idle, goes_on, goes_through, settled_to, refused, Step}
+use Rattle.op_model.specs.Machine.{Event, edit, merge, begin, device_step, settle, ack, tell, have, Answer, begun, idle, goes_on, goes_through, settled_to, refused, Step}
+use Rattle.group_commit.specs.Changes.{changed_pages}
+use Rattle.group_commit.specs.Counts.{writes_left, syncs_left}
+use Rattle.group_commit.specs.Held.{Held as StoreHeld}
 use Rattle.locked_replica.specs.Hub.{Parts, state_of}
 use Rattle.locked_replica.specs.Recovery.{HasAtLeast}
 
@@ -30,6 +33,26 @@ abbrev pub settled_by : ℕ → Answer → ℕ
 settled_by n (settled_to m) = m
 settled_by n a = n
 
+-- How many writes a commit makes that begins with this answer: one for each page whose bytes or entries change or that is new, the
+-- close where the stale gate reads 1, the body and the gate.
+abbrev pub writes_begun : {D : Type 0} → Answer → StoreHeld D → ℕ
+writes_begun (begun n) store = length (changed_pages store.current store.next) + (if store.stale then 3 else 2)
+writes_begun a store = 0
+
+-- and how many syncs
+abbrev pub syncs_begun : Answer → ℕ
+syncs_begun (begun n) = 3
+syncs_begun a = 0
+
+-- The disk's own counts, together with what the commit under way still makes, rise by what a commit makes that begins, as long as
+-- no device call fails. One that failed stays so.
+pub record Counts {D : Type 0} (facts : Ghosts D) (answer : Answer) (old new : StoreHeld D) : Type 0 where
+  pub stays : old.failed ≡ true → new.failed ≡ true
+  pub writes : facts.tells old.disk → new.failed ≡ false
+      → facts.writes new.disk + writes_left new ≡ facts.writes old.disk + writes_left old + writes_begun answer new
+  pub syncs : facts.tells old.disk → new.failed ≡ false
+      → facts.syncs new.disk + syncs_left new ≡ facts.syncs old.disk + syncs_left old + syncs_begun answer
+
 -- A call is one step of the machine, with its answer. The disk's time goes on by the device calls that the answer shows, and a
 -- crash at any moment of the call leaves a beginning of the list that holds all that was settled before it, and a
 -- crash right after it all that is settled then.
@@ -46,3 +69,4 @@ pub record IsCall {D : Type 0} (facts : Ghosts D) (event : Event) (answer : Answ
       → LeavesOnly facts old.store.disk new.store.disk (HasAtLeast old.replica.settled new.replica)
   pub left : facts.tells new.store.disk → (file : List ℕ) → facts.survives new.store.disk file
       → HasAtLeast new.replica.settled new.replica file
+  pub counts : Counts facts answer old.store new.store

@@ -1,8 +1,9 @@
 -- A list of calls of a hub, one after another.
-use Rattle.std.specs.Prelude.{◌≡◌, ◌↔◌, ℕ, ◌+◌, ◌≤◌, List, [], ◌∷◌, length, take}
+use Rattle.std.specs.Prelude.{◌≡◌, ◌↔◌, ℕ, ◌+◌, ◌≤◌, false, List, [], ◌∷◌, length, take}
 use Rattle.disk_trait.specs.declared.facts.DiskFacts.{Ghosts}
+use Rattle.group_commit.specs.Counts.{writes_left, syncs_left}
 use Rattle.op_model.specs.Machine.{Event, Answer, Run}
-use Rattle.locked_replica.specs.Calls.{calls_in, settled_by}
+use Rattle.locked_replica.specs.Calls.{IsCall, calls_in, settled_by, writes_begun, syncs_begun}
 use Rattle.locked_replica.specs.Hub.{Parts, state_of}
 use Rattle.locked_replica.specs.Recovery.{HasAtLeast}
 
@@ -24,6 +25,21 @@ FrontsStand facts old events new =
     → facts.left_since new.store.disk (facts.time old.store.disk + calls_made (take k events)) file
     → HasAtLeast (settled_behind old.replica.settled (take k events)) new.replica file
 
+-- the calls, each with what it made of the hub
+abbrev pub Calls : {D : Type 0} → Ghosts D → Parts D → List (Event × Answer) → Parts D → Type 0
+Calls facts old [] new = new ≡ old
+Calls {D} facts old (e ∷ es) new = (mid : Parts D) × IsCall facts e.0 e.1 old mid × Calls facts mid es new
+
+-- the writes that the commits make which began in these calls
+abbrev pub writes_planned : {D : Type 0} (facts : Ghosts D) (old : Parts D) (events : List (Event × Answer)) (new : Parts D) → Calls facts old events new → ℕ
+writes_planned facts old [] new calls = 0
+writes_planned facts old (e ∷ es) new calls = writes_begun e.1 calls.0.store + writes_planned facts calls.0 es new calls.2
+
+-- and the syncs
+abbrev pub syncs_planned : List (Event × Answer) → ℕ
+syncs_planned [] = 0
+syncs_planned (e ∷ es) = syncs_begun e.1 + syncs_planned es
+
 -- These events and answers were made one after another.
 pub record Ran {D : Type 0} (facts : Ghosts D) (old : Parts D) (events : List (Event × Answer)) (new : Parts D) : Type 0 where
   pub owner : new.replica.replica ≡ old.replica.replica
@@ -37,3 +53,10 @@ pub record Ran {D : Type 0} (facts : Ghosts D) (old : Parts D) (events : List (E
   pub time : facts.tells old.store.disk → facts.time new.store.disk ≡ facts.time old.store.disk + calls_made events
   -- a crash at any moment leaves a beginning of the list, with all that was settled by then
   pub fronts : facts.tells old.store.disk → FrontsStand facts old events new
+  pub calls : Calls facts old events new
+  -- The disk's own counts rose by the writes and syncs of the commits that began, where none has any left, and no device call failed.
+  pub writes : facts.tells old.store.disk → new.store.failed ≡ false
+      → facts.writes new.store.disk + writes_left new.store
+      ≡ facts.writes old.store.disk + writes_left old.store + writes_planned facts old events new calls
+  pub syncs : facts.tells old.store.disk → new.store.failed ≡ false
+      → facts.syncs new.store.disk + syncs_left new.store ≡ facts.syncs old.store.disk + syncs_left old.store + syncs_planned events
