@@ -1,5 +1,5 @@
 -- What one more operation makes of a document's content.
-use Rattle.std.proofs.Common.{◌≡◌, ℕ, zero, suc, ◌-◌, ◌≤◌, ◌==◌, Bool, true, false, not, ◌&&◌, ◌||◌, if◌then◌else◌, List, [], ◌∷◌, ◌++◌, map, filter, Option, Some, None, refl, sym, ◌∙◌, ap, append_assoc, append-nil, arith}
+use Rattle.std.proofs.Common.{◌≡◌, ℕ, zero, suc, ◌-◌, ◌≤◌, ◌==◌, Bool, true, false, not, ◌&&◌, ◌||◌, if◌then◌else◌, List, [], ◌∷◌, ◌++◌, drop, map, filter, Option, Some, None, refl, sym, ◌∙◌, ap, append_assoc, append-nil, arith}
 use Rattle.std.specs.Prelude.{All}
 use Rattle.std.specs.List.{list_any}
 use Rattle.std.proofs.lemmas.List.Folds.{list_any-append}
@@ -14,7 +14,7 @@ use Rattle.op_model.specs.Characters.{character_of, character_in, characters}
 use Rattle.op_model.specs.Walk.{walk, times}
 use Rattle.op_model.specs.Text.{is_removal_of, is_removed}
 use Rattle.op_model.specs.Causality.{named_by}
-use Rattle.op_model.specs.Made.{id_at, first_hidden, behind_visible}
+use Rattle.op_model.specs.Made.{id_at, first_hidden, behind_visible, tombstones_at}
 use Rattle.op_model.specs.Placing as placing
 use Rattle.op_model.specs.Placing.{has_id, has_op_id, Fits, FitInTurn, IsOrderly}
 use Rattle.model_laws.proofs.Ops.{lacks-characters, orderly_placed}
@@ -244,6 +244,15 @@ first_removed-map ops doc (c ∷ cs) = go (first_removed-map ops doc cs) (is_rem
         ≡ map (λ d. d.id) (if hidden then c ∷ first_hidden (is_removed ops doc) cs else [])
     go rest true = ap (λ r. c.id ∷ r) rest
     go rest false = refl
+
+-- the tombstones behind the first so many, by the cells that are left there
+pub run_there : (ops : List Op) (doc count from : ℕ) (run : List Id) (cells again left : List Cell) → cells ≡ content_of ops doc → again ≡ cells
+    → left ≡ drop from again → drop from cells ≡ behind_shown cells count → run ≡ first_removed left
+    → run ≡ map (λ c. c.id) (tombstones_at ops doc count)
+run_there ops doc count from run cells again left same same_again is_left is_behind is_run =
+    is_run
+    ∙ (ap first_removed (is_left ∙ (ap (drop from) same_again ∙ (is_behind ∙ (ap (λ cs. behind_shown cs count) same ∙ behind_shown-map ops doc (walk ops doc) count))))
+    ∙ first_removed-map ops doc (behind_visible (is_removed ops doc) count (walk ops doc)))
 
 -- what a call that places a cell owes
 pub takes_insert : (id : Id) (origin : Option Id) (value : ℕ) (old new : List Cell)

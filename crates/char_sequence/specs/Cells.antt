@@ -70,6 +70,11 @@ abbrev pub first_removed : List Cell → List Id
 first_removed [] = []
 first_removed (c ∷ cs) = if c.is_removed then c.id ∷ first_removed cs else []
 
+-- the last of these ids that a mark ends after, or else this one
+abbrev pub last_ended : (Id → Bool) → Option Id → List Id → Option Id
+last_ended ends before [] = before
+last_ended ends before (id ∷ ids) = last_ended ends (if ends id then Some id else before) ids
+
 -- the values of the cells that a reader sees
 abbrev pub shown_values : List Cell → List ℕ
 shown_values cs = map (λ c. c.value) (shown cs)

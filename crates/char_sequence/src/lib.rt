@@ -2,11 +2,13 @@
 #![tactic(auto)]
 
 mod cell;
+mod ends_after;
 mod error;
 mod search;
 mod sequence;
 
 pub use cell::Cell;
+pub use ends_after::{EndsAfter, NoMarks};
 pub use error::SequenceError;
 pub use sequence::Sequence;
 

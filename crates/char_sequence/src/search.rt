@@ -1,7 +1,8 @@
 ghost use Rattle.std.specs.Prelude.{◌≡◌, ℕ, ◌+◌, ◌≤◌, List, ◌∷◌, ◌++◌, length, take, drop, MatchOption, IfOk, false, true};
-ghost use Rattle.char_sequence.specs.Cells.{past_greater as past_greater_of, inserted, is_known, has_cell, place_of, shown_at, behind_shown, first_removed, shown_values, IsAt};
+ghost use Rattle.char_sequence.specs.Cells.{past_greater as past_greater_of, inserted, is_known, has_cell, place_of, shown_at, behind_shown, first_removed, last_ended as last_ended_of, shown_values, IsAt};
 
 use crate::cell::Cell;
+use crate::ends_after::EndsAfter;
 use op_ids::OpId;
 use std::alloc::{AllocError, Global};
 
@@ -115,6 +116,23 @@ pub fn tombstones(alloc: Global, cells: &[Cell]) -> Result<Vec<OpId>, AllocError
         found.push(cell.id)?;
     }
     Ok(found)
+}
+
+/// Of the tombstones that these cells begin with the last one that a mark ends just after, or else
+/// the character before them.
+pub fn last_ended<M: EndsAfter>(cells: &[Cell], before: Option<OpId>, marks: &M) -> Option<OpId>
+    ensures { result ≡ last_ended_of (M.ends_after marks.now) before (first_removed cells.now) }
+{
+    let mut last = before;
+    for cell in cells {
+        if !cell.is_removed {
+            return last;
+        }
+        if marks.ends_after(cell.id) {
+            last = Some(cell.id);
+        }
+    }
+    last
 }
 
 /// The values of the cells that a reader sees. An error is want of memory (1).

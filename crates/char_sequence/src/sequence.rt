@@ -1,5 +1,5 @@
-ghost use Rattle.std.specs.Prelude.{◌≡◌, ℕ, List, [], Some, map, MatchOption, IfOk, OnOk, OnErr, IsErrOf, ◌↔◌, false, true};
-ghost use Rattle.char_sequence.specs.Cells.{inserted, inserted_run, is_known};
+ghost use Rattle.std.specs.Prelude.{◌≡◌, ℕ, ◌+◌, ◌≤◌, ◌<◌, List, [], Some, map, length, vec_len, vec_capacity, MatchOption, IfOk, OnOk, OnErr, IsErrOf, ◌↔◌, false, true};
+ghost use Rattle.char_sequence.specs.Cells.{inserted, inserted_run, is_known, last_ended as last_ended_of};
 ghost use Rattle.char_sequence.specs.Content.{content_of, is_there, Holds, Takes, TakesRun};
 ghost use Rattle.op_ids.specs.Id.{Id};
 ghost use Rattle.op_model.specs.Places.{index_of};
@@ -10,8 +10,9 @@ ghost use Rattle.op_model.specs.Text.{visible as seen, text as text_of};
 ghost use Rattle.op_model.specs.Made.{id_at, tombstones_at};
 
 use crate::cell::Cell;
+use crate::ends_after::EndsAfter;
 use crate::error::SequenceError;
-use crate::search::{behind, knows, landing, place, shown, tombstones, values};
+use crate::search::{behind, knows, landing, last_ended, place, shown, tombstones, values};
 use op_ids::OpId;
 use op_model::Text;
 use std::alloc::{AllocError, Global};
@@ -82,9 +83,8 @@ impl Sequence {
         if !knows(&self.cells, &origin) {
             return Err(SequenceError::UnknownId);
         }
-        let mut cells = copy(&self.cells)?;
-        insert_run(&mut cells, origin, run)?;
-        self.cells = cells;
+        self.cells.reserve(run.len())?;
+        insert_run(&mut self.cells, origin, run);
         Ok(())
     }
 
@@ -144,6 +144,23 @@ impl Sequence {
         tombstones(*self.cells.allocator(), self.cells.split_at(from).1)
     }
 
+    /// Of the tombstones between the first so many characters that a reader sees and the next one
+    /// the last that a mark ends just after, or else the character before them, which is given.
+    /// Takes no memory. Linear.
+    pub fn last_ended<M: EndsAfter>(
+        &self,
+        count: usize,
+        before: Option<OpId>,
+        marks: &M,
+    ) -> Option<OpId>
+        ensures { (ops : List Op) (doc : ℕ) → self.now ≡ content_of ops doc
+            → result ≡ last_ended_of (M.ends_after marks.now) before
+            (map (λ c. c.id) (tombstones_at ops doc count)) }
+    {
+        let from = behind(&self.cells, count);
+        last_ended(self.cells.split_at(from).1, before, marks)
+    }
+
     /// The text that a reader sees. An error is want of memory (1). Linear.
     pub fn text(&self) -> Result<Text, AllocError>
         ensures { IfOk result (λ text. (ops : List Op) (doc : ℕ) → self.now ≡ content_of ops doc
@@ -179,13 +196,11 @@ fn copy(cells: &Vec<Cell>) -> Result<Vec<Cell>, AllocError>
     cells.clone()
 }
 
-fn insert_run(
-    cells: &mut Vec<Cell>,
-    origin: Option<OpId>,
-    run: &[(OpId, char)],
-) -> Result<(), AllocError>
-    requires { is_known cells.old.items origin ≡ true }
-    ensures { OnOk result (cells.new.items ≡ inserted_run origin run.now cells.old.items) }
+/// Puts a run of inserts behind an origin that is there. There is room for it.
+fn insert_run(cells: &mut Vec<Cell>, origin: Option<OpId>, run: &[(OpId, char)])
+    requires known { is_known cells.old.items origin ≡ true }
+    requires room { vec_len cells.old + length run.now ≤ vec_capacity cells.old }
+    ensures { cells.new.items ≡ inserted_run origin run.now cells.old.items }
 {
     let mut behind = origin;
     for insert in run {
@@ -194,21 +209,24 @@ fn insert_run(
             value: insert.1,
             is_removed: false,
         };
-        insert_known(cells, &behind, &cell)?;
+        insert_known(cells, &behind, &cell);
         behind = Some(cell.id);
     }
-    Ok(())
 }
 
-fn insert_known(cells: &mut Vec<Cell>, origin: &Option<OpId>, cell: &Cell) -> Result<(), AllocError>
-    requires { is_known cells.old.items origin.now ≡ true }
-    ensures { OnOk result (cells.new.items ≡ inserted origin.now cell.now cells.old.items) }
+/// Puts an insert behind an origin that is there. There is room for it.
+fn insert_known(cells: &mut Vec<Cell>, origin: &Option<OpId>, cell: &Cell)
+    requires known { is_known cells.old.items origin.now ≡ true }
+    requires room { vec_len cells.old < vec_capacity cells.old }
+    ensures placed { cells.new.items ≡ inserted origin.now cell.now cells.old.items }
+    ensures len { vec_len cells.new ≡ vec_len cells.old + 1 }
+    ensures room { vec_capacity cells.old ≤ vec_capacity cells.new }
 {
     match landing(cells, origin, cell) {
         None => unreachable!(),
-        Some(at) => {
-            cells.insert(at, *cell)?;
-            Ok(())
-        }
+        Some(at) => match cells.insert(at, *cell) {
+            Ok(()) => {}
+            Err(_) => unreachable!(),
+        },
     }
 }

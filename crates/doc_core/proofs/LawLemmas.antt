@@ -1,5 +1,5 @@
 -- What a list asks of an operation is what its document asks, and other documents stay.
-use Rattle.std.proofs.Common.{◌≡◌, ℕ, ◌+◌, ◌<◌, ◌^◌, Bool, true, false, ◌&&◌, nat_le, List, [], ◌∷◌, ◌++◌, length, length-append, refl, sym, ◌∙◌, arith}
+use Rattle.std.proofs.Common.{◌≡◌, ℕ, ◌+◌, ◌<◌, ◌^◌, Bool, true, false, ◌&&◌, nat_le, List, [], ◌∷◌, ◌++◌, length, length-append, append-nil, refl, sym, ◌∙◌, arith}
 use Rattle.std.specs.Prelude.{◌==◌, ◌≢◌}
 use Rattle.std.specs.List.{list_all}
 use Rattle.std.proofs.lemmas.Bool.Decides.{nat_tests}
@@ -9,9 +9,10 @@ use Rattle.op_model.specs.declared.op.Op.{Op}
 use Rattle.op_ids.specs.Clock.{advanced}
 use Rattle.op_model.specs.Causality.{MayFollow, FollowInTurn, is_in_range, is_within_limits, clock_of, documents}
 use Rattle.op_model.specs.Made.{made, numbered, bodies_of, greatest_counter}
+use Rattle.op_model.specs.Marks.{markings}
 use Rattle.op_model.specs.Records.{stream_length}
 use Rattle.model_laws.proofs.Closed.{follows_fits}
-use Rattle.model_laws.proofs.Growth.{orderly_push, other_rev}
+use Rattle.model_laws.proofs.Growth.{orderly_push, other_rev, markings-append}
 use Rattle.model_laws.proofs.Makes.{made_follow}
 use Rattle.char_sequence.proofs.ContentLemmas.{content_of-other}
 use Rattle.doc_core.specs.declared.doc.Doc.{Doc}
@@ -59,5 +60,6 @@ others_stay d ops op other stands =
         orderly = orderly_push ops d.doc op stands.characters.orderly (λ same. absurd (other same));
         content = stands.characters.content ∙ sym (content_of-other ops d.doc op apart);
       };
+      marks = stands.marks ∙ (sym (append-nil (markings ops d.doc)) ∙ sym (markings-append ops (op ∷ []) d.doc ∙ rw apart refl));
       rev = stands.rev ∙ sym (other_rev ops d.doc op apart);
     }

@@ -1,17 +1,29 @@
 -- Why what is made is what the definition says.
 use Rattle.std.proofs.Common.{◌≡◌, ℕ, zero, suc, ◌+◌, ◌-◌, ◌≤◌, ◌<◌, Bool, true, false, if◌then◌else◌, List, [], ◌∷◌, ◌++◌, length, map, filter, take, drop, length-append, Option, Some, None, refl, sym, ◌∙◌, ap, arith}
+use Rattle.std.specs.Prelude.{nat_le}
 use Rattle.std.proofs.Math.Seq.{drop-nil, take-nil}
+use Rattle.std.proofs.lemmas.Bool.{le-leb}
+use Rattle.std.proofs.lemmas.Bool.Decides.{nat_tests}
+use Rattle.std.specs.List.{list_any}
 use Rattle.op_ids.specs.Id.{Id}
 use Rattle.op_model.specs.declared.op.Op.{Op}
 use Rattle.op_model.specs.declared.op.Body.{Body}
-use Rattle.op_model.specs.declared.op.Body.TheVariants.{Remove}
+use Rattle.op_model.specs.declared.op.Body.TheVariants.{Remove, AddMark, RemoveMark}
+use Rattle.op_model.specs.declared.mark.Mark.{Mark}
+use Rattle.op_model.specs.declared.mark.MarkKey.{MarkKey}
+use Rattle.op_model.specs.declared.anchor.Start.{Start}
+use Rattle.op_model.specs.declared.anchor.End.{End}
 use Rattle.op_model.specs.declared.edit.Edit.{Edit}
 use Rattle.op_model.specs.declared.edit.Change.TheVariants as change
 use Rattle.op_model.specs.declared.character.Character.{Character}
 use Rattle.op_model.specs.Causality.{optional, clock_of}
 use Rattle.op_model.specs.Text.{visible}
-use Rattle.op_model.specs.Made.{id_at, id_before, last_or, tombstones_at, ends_after, origin_of, insert_bodies, numbered, greatest_counter, made}
-use Rattle.doc_core.specs.Making.{IsNext, SaysEnds, last_ended}
+use Rattle.op_model.specs.Made.{id_at, id_before, is_end_after, last_or, tombstones_at, ends_after, origin_of, insert_bodies, numbered, greatest_counter, made, start_of, end_of}
+use Rattle.char_sequence.specs.Cells.{last_ended}
+use Rattle.mark_anchors.proofs.EndLemmas.{kept_ends}
+use Rattle.op_model.specs.declared.marking.Marking.{Marking}
+use Rattle.op_model.specs.Marks.{key_of, markings}
+use Rattle.doc_core.specs.Making.{IsNext}
 
 -- one more of the ids from an index on
 pub ids_more : (cs : List Character) (at n : ℕ)
@@ -23,6 +35,10 @@ ids_more (c ∷ cs) zero (suc n) =
     let up : suc n + 1 ≡ suc (n + 1) = omega arith in
     let here : 0 + suc n ≡ suc (0 + n) = omega arith in
     rw (up, here) (ap (λ ids. c.id ∷ ids) (ids_more cs zero n))
+
+-- the characters that a mark operation of the document ends just after are these
+abbrev SaysEnds : (Id → Bool) → List Op → ℕ → Type 0
+SaysEnds ends ops doc = (id : Id) → ends id ≡ ends_after ops doc id
 
 -- the last of the tombstones that a mark ends after
 pub last_ended-tombstones : (ends : Id → Bool) (ops : List Op) (doc : ℕ) (before : Option Id) (cs : List Character) → SaysEnds ends ops doc
@@ -69,14 +85,16 @@ made_insert ops edit replica doc counter at clock text origin next same_doc same
     rw (same_change, same_doc, next.counted, next.depends, is_origin) refl
 
 -- the tombstone that the definition hangs an insert from
-pub origin_there : (ends : Id → Bool) (ops : List Op) (doc at : ℕ) (before origin : Option Id) (run ids : List Id) → SaysEnds ends ops doc
-    → before ≡ id_before (visible ops doc) at → run ≡ ids → ids ≡ map (λ c. c.id) (tombstones_at ops doc at)
-    → origin ≡ last_ended ends before run → origin ≡ origin_of ops doc at
-origin_there ends ops doc at before origin run ids says is_before same_run is_run is_last =
+pub origin_there : (kept : List Marking) (ops : List Op) (doc at : ℕ) (before origin : Option Id) → kept ≡ markings ops doc
+    → before ≡ id_before (visible ops doc) at
+    → origin ≡ last_ended (λ id. list_any (λ m. is_end_after id m.end) kept) before (map (λ c. c.id) (tombstones_at ops doc at))
+    → origin ≡ origin_of ops doc at
+origin_there kept ops doc at before origin are is_before is_last =
+    let ends : Id → Bool = λ id. list_any (λ m. is_end_after id m.end) kept in
+    let says : SaysEnds ends ops doc = λ id. ap (λ ms. list_any (λ m. is_end_after id m.end) ms) are ∙ kept_ends ops doc id in
     is_last
-    ∙ (ap (last_ended ends before) (same_run ∙ is_run)
     ∙ (last_ended-tombstones ends ops doc before (tombstones_at ops doc at) says
-    ∙ ap (λ first. last_or first (filter (λ c. ends_after ops doc c.id) (tombstones_at ops doc at))) is_before))
+    ∙ ap (λ first. last_or first (filter (λ c. ends_after ops doc c.id) (tombstones_at ops doc at))) is_before)
 
 pub length-insert_bodies : (replica counter : ℕ) (origin : Option Id) (text : List ℕ)
     → length (insert_bodies replica counter origin text) ≡ length text
@@ -106,3 +124,32 @@ found_more cs at i before after found pushed is_found is_before = rw (pushed, is
 pub few_more : (i : ℕ) (before after : List Id) (found : Option Id) → after ≡ before ++ optional found → length before ≤ i → length after ≤ i + 1
 few_more i before after None pushed few = rw pushed (omega (arith, length-append before [], few))
 few_more i before after (Some id) pushed few = rw pushed (omega (arith, length-append before (id ∷ []), few))
+
+-- whether there are so many is seen from what is found
+pub shows_some : (cs : List Character) (n : ℕ) (id : Id) → 0 < n → Some id ≡ id_at cs (n - 1) → true ≡ nat_le n (length cs)
+shows_some cs n id some found = sym (le-leb n (length cs) (before_there cs n id some found).1)
+
+pub shows_none : (cs : List Character) (n : ℕ) → 0 < n → None ≡ id_at cs (n - 1) → false ≡ nat_le n (length cs)
+shows_none cs n some none = sym (not_at_most n (length cs) (before_past cs n some none))
+  where
+    not_at_most : (a b : ℕ) → b < a → nat_le a b ≡ false
+    not_at_most a b less = grind (arith, nat_tests)
+
+-- the visible character before an index
+pub last_there : (cs : List Character) (at : ℕ) (found : Option Id) → 0 < at → found ≡ id_at cs (at - 1) → found ≡ id_before cs at
+last_there cs at found some is_it = is_it ∙ sym (id_before_at cs at some)
+
+-- the operation that a mark makes
+pub made_mark : (ops : List Op) (edit : Edit) (replica doc counter from to : ℕ) (clock : List (ℕ × ℕ)) (mark : Mark) (start : Start) (end : End)
+    → IsNext ops counter clock → edit.doc ≡ doc → edit.change ≡ change.Mark from to mark → start ≡ start_of (visible ops doc) from
+    → end ≡ end_of (visible ops doc) (key_of mark) to
+    → numbered replica doc counter clock (AddMark mark start end ∷ []) ≡ made ops replica edit
+made_mark ops edit replica doc counter from to clock mark start end next same_doc same_change is_start is_end =
+    rw (same_change, same_doc, next.counted, next.depends, is_start, is_end) refl
+
+pub made_unmark : (ops : List Op) (edit : Edit) (replica doc counter from to : ℕ) (clock : List (ℕ × ℕ)) (key : MarkKey) (start : Start) (end : End)
+    → IsNext ops counter clock → edit.doc ≡ doc → edit.change ≡ change.Unmark from to key → start ≡ start_of (visible ops doc) from
+    → end ≡ end_of (visible ops doc) key to
+    → numbered replica doc counter clock (RemoveMark key start end ∷ []) ≡ made ops replica edit
+made_unmark ops edit replica doc counter from to clock key start end next same_doc same_change is_start is_end =
+    rw (same_change, same_doc, next.counted, next.depends, is_start, is_end) refl

@@ -1,17 +1,21 @@
 -- What one more operation makes of a document.
-use Rattle.std.proofs.Common.{◌≡◌, ℕ, ◌+◌, ◌<◌, ◌^◌, true, cond, List, [], ◌∷◌, ◌++◌, length, take, drop, get_or, refl, sym, ◌∙◌, ap, append_assoc, append-nil, arith}
+use Rattle.std.proofs.Common.{◌≡◌, ℕ, ◌+◌, ◌<◌, ◌^◌, true, false, None, cond, List, [], ◌∷◌, ◌++◌, length, take, drop, get_or, refl, sym, ◌∙◌, ap, append_assoc, append-nil, arith}
 use Rattle.std.specs.Prelude.{◌==◌}
 use Rattle.std.specs.Prelude.{Result, Ok, Err, OnOk}
 use Rattle.std.proofs.lemmas.Bool.Decides.{nat_tests}
 use Rattle.std.proofs.lemmas.List.{drop_more, take_more}
 use Rattle.std.proofs.lemmas.List.Sums.{sum_by-append, count_by-le-length, list_all-from_AllPass}
 use Rattle.op_model.specs.declared.op.Op.{Op}
+use Rattle.op_ids.specs.Id.{Id}
 use Rattle.op_model.specs.declared.op.Body.{Body}
+use Rattle.op_model.specs.declared.op.Body.TheVariants.{Insert, Remove, AddMark, RemoveMark}
+use Rattle.op_model.specs.declared.marking.Marking.{Marking}
+use Rattle.op_model.specs.Marks.{markings, marking_of}
 use Rattle.op_model.specs.Causality.{named_by}
 use Rattle.op_model.specs.Characters.{characters}
 use Rattle.op_model.specs.Placing.{has_id, Fits}
 use Rattle.op_model.specs.Text.{rev}
-use Rattle.model_laws.proofs.Growth.{orderly_push}
+use Rattle.model_laws.proofs.Growth.{orderly_push, markings-append}
 use Rattle.char_sequence.specs.declared.cell.Cell.{Cell}
 use Rattle.char_sequence.specs.Content.{Holds, Takes}
 use Rattle.char_sequence.proofs.ContentLemmas.{content_of-marking, is_marking}
@@ -53,13 +57,35 @@ pub fits_there : (ops : List Op) (doc : ℕ) (op : Op) → Fits ops doc op → n
 fits_there ops doc op fits =
     list_all-from_AllPass (λ id. has_id (characters ops doc) id) (named_by op.body) (λ i d here. (fits.names i d here).0)
 
+-- an operation of the document that is no mark operation leaves its mark operations as they are
+no_marking : (id : Id) (b : Body) → is_marking b ≡ false → marking_of id b ≡ None
+no_marking id (Insert origin value) none = refl
+no_marking id (Remove target) none = refl
+no_marking id (AddMark mark start end) none = absurd (cc)
+no_marking id (RemoveMark key start end) none = absurd (cc)
+
+pub markings-push_plain : (ops : List Op) (doc : ℕ) (op : Op) (kept : List Marking) → is_marking op.body ≡ false → kept ≡ markings ops doc
+    → op.doc ≡ doc → kept ≡ markings (ops ++ op ∷ []) doc
+markings-push_plain ops doc op kept plain are same =
+    let own : (op.doc == doc) ≡ true = grind (arith, nat_tests) in
+    let none : markings (op ∷ []) doc ≡ [] = rw (own, no_marking op.id op.body plain) refl in
+    are ∙ (sym (append-nil (markings ops doc)) ∙ (ap (λ more. markings ops doc ++ more) (sym none) ∙ sym (markings-append ops (op ∷ []) doc)))
+
+-- a mark operation of the document comes behind the others
+pub markings-push : (ops : List Op) (doc : ℕ) (op : Op) (old new : List Marking) → new ≡ old ++ markings (op ∷ []) op.doc → old ≡ markings ops doc
+    → op.doc ≡ doc → new ≡ markings (ops ++ op ∷ []) doc
+markings-push ops doc op old new more are same =
+    more ∙ (ap (λ kept. kept ++ markings (op ∷ []) op.doc) are ∙ (ap (λ n. markings ops doc ++ markings (op ∷ []) n) same ∙ sym (markings-append ops (op ∷ []) doc)))
+
 -- the document after one operation
-pub stands_with : (old : Doc) (op : Op) (cells : List Cell) (count : ℕ)
+pub stands_with : (old : Doc) (op : Op) (cells : List Cell) (kept : List Marking) (count : ℕ)
     → ((ops : List Op) (doc : ℕ) → Holds old.sequence ops doc → Fits ops doc op → Holds cells (ops ++ op ∷ []) doc)
+    → ((ops : List Op) (doc : ℕ) → old.anchors ≡ markings ops doc → op.doc ≡ doc → kept ≡ markings (ops ++ op ∷ []) doc)
     → (old.rev < 2 ^ 24 → count ≡ old.rev + 1) → (ops : List Op) → StandsFor old ops → MayCome ops old.doc op
-    → StandsFor (record old { sequence = cells; rev = count }) (ops ++ op ∷ [])
-stands_with old op cells count takes counts ops stands may = record {
+    → StandsFor (record old { sequence = cells; anchors = kept; rev = count }) (ops ++ op ∷ [])
+stands_with old op cells kept count takes marks counts ops stands may = record {
   characters = takes ops old.doc stands.characters may.fits;
+  marks = marks ops old.doc stands.marks may.fits.same;
   rev = counts (rw stands.rev (rev_within ops old.doc may.room))
       ∙ (ap (λ n. n + 1) stands.rev ∙ sym (rev-push ops old.doc op may.fits.same));
 }

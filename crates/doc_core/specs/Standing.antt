@@ -4,6 +4,7 @@ use Rattle.std.specs.List.{list_all}
 use Rattle.op_model.specs.declared.op.Op.{Op}
 use Rattle.op_model.specs.Text.{rev}
 use Rattle.op_model.specs.Causality.{named_by}
+use Rattle.op_model.specs.Marks.{markings}
 use Rattle.op_model.specs.Characters.{characters}
 use Rattle.op_model.specs.Placing.{has_id, Fits}
 use Rattle.char_sequence.specs.Content.{Holds}
@@ -13,9 +14,11 @@ use Rattle.doc_core.specs.declared.doc.Doc.{Doc}
 abbrev pub number_of : Doc → ℕ
 number_of d = d.doc
 
--- the document is what these operations make of it, one after another: it holds their characters, and counts those of its own
+-- the document is what these operations make of it, one after another: it holds their characters, keeps its mark operations, and
+-- counts those of its own
 pub record StandsFor (d : Doc) (ops : List Op) : Type 0 where
   pub characters : Holds d.sequence ops d.doc
+  pub marks : d.anchors ≡ markings ops d.doc
   pub rev : d.rev ≡ rev ops d.doc
 
 -- the document takes an operation after these: it fits, and they are fewer than a store holds

@@ -1,18 +1,22 @@
-ghost use Rattle.std.specs.Prelude.{◌≡◌, ◌<◌, ◌^◌, List, [], IfOk, length};
+ghost use Rattle.std.specs.Prelude.{◌≡◌, ◌+◌, ◌<◌, ◌^◌, List, [], IfOk, length, nat_le};
 ghost use Rattle.op_model.specs.declared.op.Op.{Op};
-ghost use Rattle.op_model.specs.Text.{text as text_of, rev as rev_of};
+ghost use Rattle.op_model.specs.Made.{id_before, is_inside as is_inside_of, origin_of};
+ghost use Rattle.op_model.specs.Text.{text as text_of, rev as rev_of, visible};
 
 use char_sequence::Sequence;
-use op_model::Text;
+use mark_anchors::Anchors;
+use op_ids::OpId;
+use op_model::{Change, Text};
 use std::alloc::{AllocError, Global};
 
 /// A document. It stands for the operations that were applied to it: its characters in the order
-/// of the text, tombstones too, and how many operations it has.
+/// of the text, tombstones too, its mark operations, and how many operations it has.
 #[derive(Debug, Drop)]
 pub struct Doc {
     /// Its number.
     pub(crate) doc: u32,
     pub(crate) sequence: Sequence,
+    pub(crate) anchors: Anchors,
     /// How many operations it has.
     pub(crate) rev: u64,
 }
@@ -28,8 +32,16 @@ impl Doc {
         Doc {
             doc,
             sequence: Sequence::new(alloc),
+            anchors: Anchors::new(alloc),
             rev: 0,
         }
+    }
+
+    /// Its number. Constant.
+    pub fn number(&self) -> u32
+        ensures { result ≡ number_of self.now }
+    {
+        self.doc
     }
 
     /// The text that a reader sees. An error is want of memory (1). Linear in the characters,
@@ -47,5 +59,42 @@ impl Doc {
             → result ≡ rev_of ops (number_of self.now) }
     {
         self.rev
+    }
+
+    /// Whether a reader sees so many characters. Takes no memory. Linear in the characters.
+    pub fn shows(&self, count: usize) -> bool
+        ensures { (ops : List Op) → StandsFor self.now ops
+            → result ≡ nat_le count (length (visible ops (number_of self.now))) }
+    {
+        if count == 0 {
+            return true;
+        }
+        match self.sequence.visible(count - 1) {
+            Some(_) => true,
+            None => false,
+        }
+    }
+
+    /// Whether a change lies within the text. Takes no memory. Linear in the characters.
+    pub fn is_inside(&self, change: &Change) -> bool
+        ensures { (ops : List Op) → StandsFor self.now ops
+            → result ≡ is_inside_of (length (visible ops (number_of self.now))) change.now }
+    {
+        match change {
+            Change::Insert { at, .. } => self.shows(*at as usize),
+            Change::Delete { at, count } => self.shows(*at as usize + count.get() as usize),
+            Change::Mark { from, to, .. } => *from < *to && self.shows(*to as usize),
+            Change::Unmark { from, to, .. } => *from < *to && self.shows(*to as usize),
+        }
+    }
+
+    /// Where an insert behind so many visible characters hangs, the last of which is given. Takes
+    /// no memory. Linear in the characters, and for each tombstone there in the mark operations.
+    pub fn origin(&self, at: usize, before: Option<OpId>) -> Option<OpId>
+        ensures { (ops : List Op) → StandsFor self.now ops
+            → before ≡ id_before (visible ops (number_of self.now)) at
+            → result ≡ origin_of ops (number_of self.now) at }
+    {
+        self.sequence.last_ended(at, before, &self.anchors)
     }
 }

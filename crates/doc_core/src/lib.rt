@@ -3,15 +3,14 @@
 
 mod apply;
 mod doc;
-mod ends_after;
 mod laws;
 mod make;
 mod make_error;
+mod make_mark;
 mod numbering;
 
 pub use char_sequence::SequenceError;
 pub use doc::Doc;
-pub use ends_after::{EndsAfter, NoMarks};
 pub use laws::{followers_may_come, other_operations_stay};
 pub use make_error::MakeError;
 

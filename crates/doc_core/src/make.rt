@@ -7,11 +7,10 @@ ghost use Rattle.op_model.specs.declared.op.Body.TheVariants.{Remove};
 ghost use Rattle.op_model.specs.Causality.{clock_of, optional};
 ghost use Rattle.op_model.specs.Text.{visible};
 ghost use Rattle.doc_core.specs.Limits.{AreTooMany};
-ghost use Rattle.doc_core.specs.Making.{IsNext, SaysEnds, last_ended as last_ended_of};
+ghost use Rattle.doc_core.specs.Making.{IsNext};
 ghost use Rattle.doc_core.specs.Standing.{number_of, StandsFor};
 
 use crate::doc::Doc;
-use crate::ends_after::EndsAfter;
 use crate::make_error::MakeError;
 use crate::numbering::{insert_bodies, numbered, remove_bodies};
 use op_ids::{Clock, MAX_COUNTER, OpId, ReplicaId};
@@ -30,7 +29,7 @@ impl Doc {
     /// text, `Limit` (7) where there are more than 256 characters, or a counter or the clock would
     /// pass its limit. `Memory` (1), where a growth was refused, may stand in place of a clock's
     /// limit. Linear in the characters, tombstones counted.
-    pub fn make_insert<M: EndsAfter>(
+    pub fn make_insert(
         &self,
         alloc: Global,
         replica: ReplicaId,
@@ -38,11 +37,9 @@ impl Doc {
         clock: &Clock,
         at: u32,
         text: &EditText,
-        marks: &M,
     ) -> Result<Vec<Op>, MakeError>
         ensures made { IfOk result (λ made. (ops : List Op) (edit : Edit) → StandsFor self.now ops
-            → IsNext ops counter clock.now → SaysEnds (M.ends_after marks.now) ops (number_of self.now)
-            → edit.doc ≡ number_of self.now → edit.change ≡ change.Insert at text.now
+            → IsNext ops counter clock.now → edit.doc ≡ number_of self.now → edit.change ≡ change.Insert at text.now
             → made.items ≡ made_of ops replica edit) }
         ensures range { (ops : List Op) → StandsFor self.now ops → (IsErrOf result MakeError.Range
             ↔ (is_inside (length (visible ops (number_of self.now)))
@@ -60,7 +57,6 @@ impl Doc {
             at as usize,
             before,
             text.as_slice(),
-            marks,
         )
     }
 
@@ -120,24 +116,8 @@ impl Doc {
         }
     }
 
-    /// Where an insert behind so many visible characters hangs, the last of which is given.
-    fn origin<M: EndsAfter>(
-        &self,
-        at: usize,
-        before: Option<OpId>,
-        marks: &M,
-    ) -> Result<Option<OpId>, AllocError>
-        ensures { IfOk result (λ origin. (ops : List Op) → StandsFor self.now ops
-            → SaysEnds (M.ends_after marks.now) ops (number_of self.now)
-            → before ≡ id_before (visible ops (number_of self.now)) at
-            → origin ≡ origin_of ops (number_of self.now) at) }
-    {
-        let run = self.sequence.run_after(at)?;
-        Ok(last_ended(&run, before, marks))
-    }
-
     /// The inserts of a text at an index within the visible text, behind this visible character.
-    fn typed<M: EndsAfter>(
+    fn typed(
         &self,
         alloc: Global,
         replica: ReplicaId,
@@ -146,10 +126,9 @@ impl Doc {
         at: usize,
         before: Option<OpId>,
         text: &[char],
-        marks: &M,
     ) -> Result<Vec<Op>, MakeError>
         ensures made { IfOk result (λ made. (ops : List Op) (edit : Edit) → StandsFor self.now ops
-            → IsNext ops counter clock.now → SaysEnds (M.ends_after marks.now) ops (number_of self.now)
+            → IsNext ops counter clock.now
             → before ≡ id_before (visible ops (number_of self.now)) at → edit.doc ≡ number_of self.now
             → edit.change ≡ change.Insert at text.now → made.items ≡ made_of ops replica edit) }
         ensures inside { IsErrOf result MakeError.Range → ⊥ }
@@ -158,7 +137,7 @@ impl Doc {
         ensures small { IfOk result (λ _. length text.now ≤ 256) }
     {
         check_size(counter, text.len())?;
-        let origin = self.origin(at, before, marks)?;
+        let origin = self.origin(at, before);
         let bodies = insert_bodies(alloc, replica, counter, origin, text)?;
         let clock = clock.copy()?;
         Ok(numbered(alloc, replica, self.doc, counter, clock, &bodies)?)
@@ -218,7 +197,7 @@ fn push_found(targets: &mut Vec<OpId>, found: Option<OpId>) -> Result<(), AllocE
 
 /// Refuses so many operations from a counter on where they are too many. The only error is
 /// `Limit`.
-fn check_size(counter: u64, size: usize) -> Result<(), MakeError>
+pub fn check_size(counter: u64, size: usize) -> Result<(), MakeError>
     ensures ok { IfOk result (λ _. (size ≤ 256) × (0 < counter) × (counter + size ≤ 2 ^ 48)) }
     ensures limit { IfErr result (λ e. (e ≡ MakeError.Limit)
         × ((256 < size) ⊎ (counter ≡ 0) ⊎ (2 ^ 48 < counter + size))) }
@@ -227,17 +206,4 @@ fn check_size(counter: u64, size: usize) -> Result<(), MakeError>
         return Err(MakeError::Limit);
     }
     Ok(())
-}
-
-/// The last of these tombstones that a mark ends just after, or else the character before them.
-fn last_ended<M: EndsAfter>(run: &[OpId], before: Option<OpId>, marks: &M) -> Option<OpId>
-    ensures { result ≡ last_ended_of (M.ends_after marks.now) before run.now }
-{
-    let mut last = before;
-    for id in run {
-        if marks.ends_after(*id) {
-            last = Some(*id);
-        }
-    }
-    last
 }

@@ -35,19 +35,12 @@ impl Peer {
         })
     }
 
-    fn make_insert<M: EndsAfter>(&self, at: u32, text: &str, marks: &M) -> Result<Vec<Op>, Fail> {
+    fn make_insert(&self, at: u32, text: &str) -> Result<Vec<Op>, Fail> {
         let text = EditText::new(text.chars().collect(self.alloc)?).ok_or("no text")?;
         let next = self.last.wrapping_add(1);
         Ok(
-            self.doc.make_insert(
-                self.alloc,
-                self.replica,
-                next,
-                &self.clock,
-                at,
-                &text,
-                marks,
-            )?,
+            self.doc
+                .make_insert(self.alloc, self.replica, next, &self.clock, at, &text)?,
         )
     }
 
@@ -76,7 +69,7 @@ impl Peer {
     }
 
     fn insert(&mut self, at: u32, text: &str) -> Result<(), Fail> {
-        let made = self.make_insert(at, text, &NoMarks)?;
+        let made = self.make_insert(at, text)?;
         self.keep_edit(made)
     }
 
@@ -148,30 +141,18 @@ impl Peer {
 
     fn insert_many(&mut self, at: u32, size: usize) -> Result<(), Fail> {
         let text = self.many(size)?;
-        let made = self.doc.make_insert(
-            self.alloc,
-            self.replica,
-            1,
-            &self.clock,
-            at,
-            &text,
-            &NoMarks,
-        )?;
+        let made = self
+            .doc
+            .make_insert(self.alloc, self.replica, 1, &self.clock, at, &text)?;
         self.keep_edit(made)
     }
 
     fn insert_refusal(&self, at: u32, size: usize) -> Result<u8, Fail> {
         let text = self.many(size)?;
         let next = self.last.wrapping_add(1);
-        let made = self.doc.make_insert(
-            self.alloc,
-            self.replica,
-            next,
-            &self.clock,
-            at,
-            &text,
-            &NoMarks,
-        );
+        let made = self
+            .doc
+            .make_insert(self.alloc, self.replica, next, &self.clock, at, &text);
         Ok(made.err().map_or(0, |error| error.number()))
     }
 
@@ -185,12 +166,8 @@ impl Peer {
     }
 
     /// The id and the origin of an insert of one character.
-    fn made_origin<M: EndsAfter>(
-        &self,
-        at: u32,
-        marks: &M,
-    ) -> Result<Option<(OpId, Option<OpId>)>, Fail> {
-        let made = self.make_insert(at, "x", marks)?;
+    fn made_origin(&self, at: u32) -> Result<Option<(OpId, Option<OpId>)>, Fail> {
+        let made = self.make_insert(at, "x")?;
         for op in &made {
             if let Body::Insert { origin, .. } = &op.body {
                 return Ok(Some((op.id, *origin)));
@@ -211,20 +188,6 @@ impl Peer {
 
     fn id(&self, counter: u64) -> Result<OpId, Fail> {
         Ok(OpId::try_new(counter, self.replica).ok_or("counter")?)
-    }
-}
-
-/// A mark operation that ends just after this character.
-#[derive(Clone, Copy)]
-struct EndsAfterOne(OpId);
-
-impl EndsAfter for EndsAfterOne {
-    ghost use Rattle.op_ids.specs.Id.{is_same};
-
-    ghost ends_after = { λ ends id. is_same ends.0 id };
-
-    fn ends_after(&self, id: OpId) -> bool {
-        self.0.is_same(id)
     }
 }
 
@@ -299,9 +262,8 @@ fn an_insert_hangs_from_the_tombstone_that_a_link_ends_after(rt: HostRuntime) ->
     a.insert(0, "ab")?;
     a.link(a.id(1)?, a.id(2)?)?;
     a.remove(1, 1)?;
-    let ends = EndsAfterOne(a.id(2)?);
-    assert_eq!(rt; a.made_origin(1, &ends)?, Some((a.id(5)?, Some(a.id(2)?))));
-    let made = a.make_insert(1, "x", &ends)?;
+    assert_eq!(rt; a.made_origin(1)?, Some((a.id(5)?, Some(a.id(2)?))));
+    let made = a.make_insert(1, "x")?;
     a.keep_edit(made)?;
     assert!(rt; a.stand_at(&[1, 2, 5])?);
     assert!(rt; a.shows("ax")?);
@@ -317,9 +279,8 @@ fn an_insert_passes_by_later_tombstones_that_no_mark_ends_after(
     a.link(a.id(1)?, a.id(2)?)?;
     a.remove(1, 1)?;
     a.remove(1, 1)?;
-    let ends = EndsAfterOne(a.id(2)?);
-    assert_eq!(rt; a.made_origin(1, &ends)?, Some((a.id(7)?, Some(a.id(2)?))));
-    let made = a.make_insert(1, "x", &ends)?;
+    assert_eq!(rt; a.made_origin(1)?, Some((a.id(7)?, Some(a.id(2)?))));
+    let made = a.make_insert(1, "x")?;
     a.keep_edit(made)?;
     assert!(rt; a.stand_at(&[1, 2, 7, 3])?);
     assert!(rt; a.shows("ax")?);
@@ -331,7 +292,7 @@ fn an_insert_at_the_beginning_has_no_origin(rt: HostRuntime) -> Result<(), Fail>
     let mut a = Peer::new(rt.alloc(), 1)?;
     a.insert(0, "a")?;
     a.remove(0, 1)?;
-    assert_eq!(rt; a.made_origin(0, &NoMarks)?, Some((a.id(3)?, None)));
+    assert_eq!(rt; a.made_origin(0)?, Some((a.id(3)?, None)));
     a.insert(0, "x")?;
     assert!(rt; a.stand_at(&[3, 1])?);
     Ok(())

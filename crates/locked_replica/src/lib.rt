@@ -11,6 +11,8 @@ mod reading;
 mod refusal;
 mod running;
 mod sharing;
+#[cfg(test)]
+mod tests;
 
 pub use hub::Hub;
 pub use hub_reply::HubReply;

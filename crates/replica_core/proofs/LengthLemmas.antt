@@ -1,5 +1,5 @@
 -- How long the records are that an edit makes.
-use Rattle.std.proofs.Common.{◌≡◌, ℕ, zero, suc, ◌+◌, ◌-◌, ◌*◌, ◌<◌, ◌≤◌, Bool, true, List, [], ◌∷◌, length, map, filter, take, drop, refl, sym, ◌∙◌, ap, Option, Some, None, arith}
+use Rattle.std.proofs.Common.{◌≡◌, ℕ, zero, suc, ◌+◌, ◌-◌, ◌*◌, ◌<◌, ◌≤◌, true, List, [], ◌∷◌, length, map, filter, take, drop, refl, sym, ◌∙◌, ap, Option, Some, None, arith}
 use Rattle.std.specs.Prelude.{◌==◌, ◌&&◌, nat_lt, nat_le, if◌then◌else◌}
 use Rattle.std.proofs.lemmas.List.{length-map}
 use Rattle.std.proofs.lemmas.Bool.Decides.{nat_tests}
@@ -17,10 +17,9 @@ use Rattle.op_model.specs.declared.mark.MarkKey.{MarkKey}
 use Rattle.op_model.specs.Marks.{key_of}
 use Rattle.op_model.specs.declared.character.Character.{Character}
 use Rattle.op_model.specs.Causality.{clock_of}
-use Rattle.op_model.specs.Made.{tombstones_at, is_inside, end_of, behind_visible, first_hidden, ends_after, last_or, id_at, id_before, origin_of, start_before, greatest_counter, numbered, insert_bodies, bodies_of, made, size_of}
+use Rattle.op_model.specs.Made.{tombstones_at, is_inside, end_of, ends_after, last_or, id_at, id_before, origin_of, start_before, end_before, end_after, greatest_counter, numbered, insert_bodies, bodies_of, made, size_of}
 use Rattle.op_model.specs.Records.{origin_length, start_length, end_length, mark_length, key_length, stream_length}
-use Rattle.op_model.specs.Text.{is_removed, visible}
-use Rattle.op_model.specs.Walk.{walk}
+use Rattle.op_model.specs.Text.{visible}
 use Rattle.slow_programs.specs.Asking.{IsAskedRight}
 use Rattle.slow_programs.proofs.EditLemmas.{length-bodies_of}
 use Rattle.replica_core.specs.Deciding.{lengths}
@@ -48,20 +47,48 @@ origin_behind ops doc i some here =
     let there = id_before_there (visible ops doc) i some here in
     rw there.1 (last_or-some there.0 (filter (λ c. ends_after ops doc c.id) (tombstones_at ops doc i)))
 
-behind_visible-none : (hidden : Character → Bool) (cs : List Character) → behind_visible hidden 0 cs ≡ cs
-behind_visible-none hidden [] = refl
-behind_visible-none hidden (c ∷ cs) = refl
+-- no character is before the beginning
+pub none_before : (cs : List Character) (i : ℕ) → i ≤ 0 → None ≡ id_before cs i
+none_before cs zero first = refl
+none_before cs (suc i) first = absurd (omega arith)
 
--- the origin at the beginning: of the first tombstones the last one that some mark ends after
-pub origin_first : (ops : List Op) (doc : ℕ)
-    → origin_of ops doc 0 ≡ last_or None (filter (λ c. ends_after ops doc c.id) (first_hidden (is_removed ops doc) (walk ops doc)))
-origin_first ops doc = rw (behind_visible-none (is_removed ops doc) (walk ops doc)) refl
+-- an end before a character takes 25 bytes, the end of the text one
+pub end_before_there : (cs : List Character) (i : ℕ) → i < length cs → end_length (end_before (id_at cs i)) ≡ 25
+end_before_there cs i here = let there = id_at_there cs i here in rw there.1 refl
 
-pub origin_at_first : (ops : List Op) (doc i : ℕ) (cs : List Character) (found : Option Id) → i ≤ 0 → cs ≡ walk ops doc
-    → found ≡ last_or None (filter (λ c. ends_after ops doc c.id) (first_hidden (is_removed ops doc) cs))
-    → origin_of ops doc i ≡ found
-origin_at_first ops doc zero cs found first is_walk is_it = origin_first ops doc ∙ sym (rw is_walk at is_it)
-origin_at_first ops doc (suc i) cs found first is_walk is_it = absurd (omega arith)
+id_at_past : (cs : List Character) (i : ℕ) → length cs ≤ i → id_at cs i ≡ None
+id_at_past [] i past = refl
+id_at_past (c ∷ cs) zero past = absurd (omega arith)
+id_at_past (c ∷ cs) (suc i) past = id_at_past cs i (omega arith)
+
+pub end_before_past : (cs : List Character) (i : ℕ) → length cs ≤ i → end_length (end_before (id_at cs i)) ≡ 1
+end_before_past cs i past = rw (id_at_past cs i past) refl
+
+-- so does an end after a character
+pub end_after_there : (cs : List Character) (i : ℕ) → 0 < i → i ≤ length cs → end_length (end_after (id_before cs i)) ≡ 25
+end_after_there cs i some here = let there = id_before_there cs i some here in rw there.1 refl
+
+some_last : (n from to : ℕ) → (nat_lt from to && nat_le to n) ≡ true → 0 < to
+some_last n from to inside = grind (arith, nat_tests)
+
+last_within : (n from to : ℕ) → (nat_lt from to && nat_le to n) ≡ true → to ≤ n
+last_within n from to inside = grind (arith, nat_tests)
+
+between : (n from to : ℕ) → (nat_lt from to && nat_le to n) ≡ true → (0 < to) × (to ≤ n)
+between n from to inside = (some_last n from to inside, last_within n from to inside)
+
+-- what lies inside a text
+pub insert_inside : (n at : ℕ) (text : List ℕ) (it : Change) → it ≡ change.Insert at text → is_inside n it ≡ true → at ≤ n
+insert_inside n at text it is_it inside = at_most at n (rw is_it at inside)
+  where
+    at_most : (a b : ℕ) → nat_le a b ≡ true → a ≤ b
+    at_most a b small = grind (arith, nat_tests)
+
+pub mark_inside : (n from to : ℕ) (mark : Mark) (it : Change) → it ≡ change.Mark from to mark → is_inside n it ≡ true → (0 < to) × (to ≤ n)
+mark_inside n from to mark it is_it inside = between n from to (rw is_it at inside)
+
+pub unmark_inside : (n from to : ℕ) (key : MarkKey) (it : Change) → it ≡ change.Unmark from to key → is_inside n it ≡ true → (0 < to) × (to ≤ n)
+unmark_inside n from to key it is_it inside = between n from to (rw is_it at inside)
 
 -- the contents of inserts
 lengths-inserts : (replica counter : ℕ) (origin : Option Id) (x : ℕ) (xs : List ℕ)

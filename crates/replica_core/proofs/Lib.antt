@@ -5,4 +5,8 @@ pub mod FollowLemmas
 pub mod SoundLemmas
 pub mod LimitLemmas
 pub mod LengthLemmas
-pub mod OrderLemmas
+pub mod PlaceLemmas
+pub mod ClimbLemmas
+pub mod MakerLemmas
+pub mod IndexLemmas
+pub mod DocLemmas

@@ -4,13 +4,14 @@ use Rattle.std.specs.Prelude.{◌==◌, ◌≢◌, if◌then◌else◌}
 use Rattle.std.specs.List.{list_all}
 use Rattle.std.proofs.Math.Seq.{take-append_seam}
 use Rattle.std.proofs.lemmas.List.{length-map, length-reverse, take-append-le, map-append, reverse-append}
-use Rattle.std.proofs.lemmas.Bool.{le-leb}
+use Rattle.std.proofs.lemmas.Bool.{le-leb, eq-eqb}
 use Rattle.std.proofs.lemmas.Bool.Decides.{nat_tests}
 use Rattle.op_ids.specs.Clock.{advanced, is_ready}
 use Rattle.op_model.specs.declared.op.Op.{Op}
+use Rattle.op_model.specs.declared.op.Body.{Body}
 use Rattle.op_model.specs.declared.edit.Edit.{Edit}
-use Rattle.op_model.specs.Causality.{clock_of, documents, first_failed, is_counted_up, is_in_range, is_known, is_within_limits, names_inserts, MayFollow}
-use Rattle.op_model.specs.Made.{is_at_rev, is_inside, is_small, made, edit_refusal, size_of}
+use Rattle.op_model.specs.Causality.{clock_of, documents, made_by, first_failed, is_counted_up, is_in_range, is_known, is_within_limits, names_inserts, MayFollow}
+use Rattle.op_model.specs.Made.{is_at_rev, is_inside, is_small, made, numbered, bodies_of, greatest_counter, edit_refusal, size_of}
 use Rattle.op_model.specs.Records.{stream_length}
 use Rattle.op_model.specs.Machine.{merge_answer, applied}
 use Rattle.op_model.specs.Replay.{Joins, Replays}
@@ -20,7 +21,13 @@ use Rattle.model_laws.proofs.Growth.{closed_push}
 use Rattle.model_laws.proofs.Makes.{closed_made}
 use Rattle.model_laws.proofs.Ready.{clock-push}
 use Rattle.slow_programs.specs.Asking.{IsAskedRight}
+use Rattle.doc_core.specs.declared.doc.Doc.{Doc}
+use Rattle.doc_core.specs.Standing.{MayComeInTurn}
+use Rattle.doc_core.proofs.LawLemmas.{may_come, made_come}
+use Rattle.replica_core.specs.declared.index.Index.{Index}
+use Rattle.replica_core.specs.Docs.{numbers, AllStand, AreDocs}
 use Rattle.replica_core.specs.declared.log.Log.{Log}
+use Rattle.replica_core.specs.Indexes.{IsIndexOf}
 use Rattle.replica_core.specs.declared.step.Step.{Step}
 use Rattle.replica_core.specs.declared.step.Step.TheVariants as step
 use Rattle.replica_core.specs.Log.{IsAppended}
@@ -72,6 +79,17 @@ due_fits ops replica e due =
     let small = room_of_operations (list_all is_in_range all) (nat_le (length (clock_of all)) 16) (nat_le (length (documents all)) 1024) (nat_le (length all) 16777216) (nat_le (stream_length all) 1073741824) (due_within ops replica e due) in
     rw length-append at (at_most_from (length all) 16777216 small)
 
+numbered_own : (replica doc counter : ℕ) (clock : List (ℕ × ℕ)) (bs : List Body)
+    → made_by replica (numbered replica doc counter clock bs) ≡ numbered replica doc counter clock bs
+numbered_own replica doc counter clock [] = refl
+numbered_own replica doc counter clock (b ∷ bs) =
+    let op : Op = record { id = record { counter = counter; replica = replica }; doc = doc; deps = clock; body = b } in
+    rw (eq-eqb replica replica refl) (ap (λ rest. op ∷ rest) (numbered_own replica doc (counter + 1) (advanced clock replica) bs))
+
+-- what an edit makes is its replica's
+pub made_own : (ops : List Op) (replica : ℕ) (e : Edit) → made_by replica (made ops replica e) ≡ made ops replica e
+made_own ops replica e = numbered_own replica e.doc (greatest_counter ops + 1) (clock_of ops) (bodies_of ops replica e.doc e.change)
+
 -- what a replica keeps is kept by an edit
 pub IsSound-with_edit : (h : Held) (session : ℕ) (e : Edit) → IsSound h → CanEdit h e → IsSound (with_edit h session e)
 IsSound-with_edit h session e sound can =
@@ -93,18 +111,22 @@ IsSound-with_edit h session e sound can =
     }
 
 -- so are its fields
-pub AreFields-with_edit : (h : Held) (session : ℕ) (e : Edit) (counts_before counts : List (ℕ × ℕ)) (numbers_before numbers : List ℕ) (k m step_room order_room : ℕ)
-    → AreFields h counts_before numbers_before k m → CanEdit h e → 0 < size_of e.change
-    → counts ≡ clock_of (h.list ++ made h.list h.replica e) → numbers ≡ with_number e.doc numbers_before
-    → length h.steps + 3 ≤ step_room → length h.list + length (made h.list h.replica e) ≤ order_room
-    → AreFields (with_edit h session e) counts numbers step_room order_room
-AreFields-with_edit h session e counts_before counts numbers_before numbers k m step_room order_room fields can some is_clock are_numbers step_fits order_fits =
+pub AreFields-with_edit : (h : Held) (session : ℕ) (e : Edit) (counts_before counts : List (ℕ × ℕ)) (docs_before docs : List Doc) (before after : Index)
+    → (k step_room : ℕ) → AreFields h counts_before docs_before before k → CanEdit h e → 0 < size_of e.change
+    → counts ≡ clock_of (h.list ++ made h.list h.replica e) → numbers docs ≡ with_number e.doc (numbers docs_before)
+    → (AreDocs docs_before h.list → MayComeInTurn h.list e.doc (made h.list h.replica e) → AllStand docs (h.list ++ made h.list h.replica e))
+    → (IsIndexOf before h.list → IsIndexOf after (h.list ++ made h.list h.replica e))
+    → length h.steps + 3 ≤ step_room → AreFields (with_edit h session e) counts docs after step_room
+AreFields-with_edit h session e counts_before counts docs_before docs before after k step_room fields can some is_clock are_numbers stand indexed step_fits =
     record {
       sound = IsSound-with_edit h session e fields.sound can;
       clock = is_clock;
-      documents = are_numbers ∙ (ap (with_number e.doc) fields.documents ∙ sym (documents-made h.list h.replica e (due_asks_right h.list h.replica e can.due) some));
+      docs = record {
+        numbers = are_numbers ∙ (ap (with_number e.doc) fields.docs.numbers ∙ sym (documents-made h.list h.replica e (due_asks_right h.list h.replica e can.due) some));
+        stand = stand fields.docs (made_come h.list h.replica e (due_within h.list h.replica e can.due));
+      };
+      index = indexed fields.index;
       steps = omega arith;
-      order = let long = length-append h.list (made h.list h.replica e) in omega arith;
     }
 
 -- what a replica holds behind an edit's operations and its step
@@ -119,20 +141,20 @@ held_of-edit id opened settled acked told session first count old new added e co
 
 -- and that its fields are those
 pub AreFields-edit : (id opened settled acked told session first count : ℕ) (old new : Log) (added : List Op) (e copied : Edit)
-    → (counts_before counts : List (ℕ × ℕ)) (k m : ℕ)
-    → AreFields (held_of id old.list.items opened settled acked told old.steps.items) counts_before old.documents.items k m
+    → (counts_before counts : List (ℕ × ℕ)) (k : ℕ)
+    → AreFields (held_of id old.list.items opened settled acked told old.steps.items) counts_before old.docs.items old.index k
     → CanEdit (held_of id old.list.items opened settled acked told old.steps.items) e → 0 < size_of e.change
     → counts ≡ clock_of (old.list.items ++ made old.list.items id e)
     → IsAppended old new added e.doc (step.Edit session copied first count) → added ≡ made old.list.items id e → copied ≡ e
     → first ≡ length old.list.items → count ≡ size_of e.change
-    → AreFields (held_of id new.list.items opened settled acked told new.steps.items) counts new.documents.items (vec_capacity new.steps) (vec_capacity new.order)
-AreFields-edit id opened settled acked told session first count old new added e copied counts_before counts k m fields can some is_clock is are same at many =
+    → AreFields (held_of id new.list.items opened settled acked told new.steps.items) counts new.docs.items new.index (vec_capacity new.steps)
+AreFields-edit id opened settled acked told session first count old new added e copied counts_before counts k fields can some is_clock is are same at many =
     let h : Held = held_of id old.list.items opened settled acked told old.steps.items in
     let held = held_of-edit id opened settled acked told session first count old new added e copied is are same at many (due_asks_right old.list.items id e can.due) in
     let long : length h.steps ≡ length old.steps.items = length-kept old.steps.items in
     rw held
-    (AreFields-with_edit h session e counts_before counts old.documents.items new.documents.items k m (vec_capacity new.steps) (vec_capacity new.order)
-    fields can some is_clock is.documents (rw long is.step_room) (rw (← are) is.order_room))
+    (AreFields-with_edit h session e counts_before counts old.docs.items new.docs.items old.index new.index k (vec_capacity new.steps)
+    fields can some is_clock is.numbers (λ docs come. rw are at (is.stand docs (rw are come))) (λ was. rw (← are, ← is.list) (is.index was)) (rw long is.step_room))
 
 -- the checks of an operation, where none fails
 abbrev checks : Bool → Bool → Bool → Bool → Option ℕ
@@ -183,12 +205,12 @@ held_of-merge id opened settled acked told peer index old new added op is are at
 
 -- and that its fields are those
 pub AreFields-merge : (id opened settled acked told peer index : ℕ) (old new : Log) (added : List Op) (op : Op)
-    → (counts_before counts : List (ℕ × ℕ)) (k m : ℕ)
-    → AreFields (held_of id old.list.items opened settled acked told old.steps.items) counts_before old.documents.items k m
+    → (counts_before counts : List (ℕ × ℕ)) (k : ℕ)
+    → AreFields (held_of id old.list.items opened settled acked told old.steps.items) counts_before old.docs.items old.index k
     → CanMerge (held_of id old.list.items opened settled acked told old.steps.items) op → counts ≡ advanced counts_before op.id.replica
     → IsAppended old new added op.doc (step.Merge peer index) → added ≡ op ∷ [] → index ≡ length old.list.items
-    → AreFields (held_of id new.list.items opened settled acked told new.steps.items) counts new.documents.items (vec_capacity new.steps) (vec_capacity new.order)
-AreFields-merge id opened settled acked told peer index old new added op counts_before counts k m fields can is_clock is are at =
+    → AreFields (held_of id new.list.items opened settled acked told new.steps.items) counts new.docs.items new.index (vec_capacity new.steps)
+AreFields-merge id opened settled acked told peer index old new added op counts_before counts k fields can is_clock is are at =
     let h : Held = held_of id old.list.items opened settled acked told old.steps.items in
     let held = held_of-merge id opened settled acked told peer index old new added op is are at in
     let long : length h.steps ≡ length old.steps.items = length-kept old.steps.items in
@@ -197,9 +219,12 @@ AreFields-merge id opened settled acked told peer index old new added op counts_
     rw held (record {
       sound = IsSound-with_merge h peer op fields.sound can;
       clock = is_clock ∙ (ap (λ es. advanced es op.id.replica) fields.clock ∙ sym (clock-push old.list.items op));
-      documents = is.documents ∙ (ap (with_number op.doc) fields.documents ∙ sym (documents-push old.list.items op));
+      docs = record {
+        numbers = is.numbers ∙ (ap (with_number op.doc) fields.docs.numbers ∙ sym (documents-push old.list.items op));
+        stand = rw are at (is.stand fields.docs (rw are (may_come old.list.items op.doc op can.joins.follows refl, tt)));
+      };
+      index = rw (← are, ← is.list) (is.index fields.index);
       steps = let room = is.step_room in omega arith;
-      order = let room = is.order_room in omega arith;
     })
 
 differs : (a b : ℕ) → (a == b) ≡ false → a ≢ b
@@ -222,9 +247,10 @@ merge_answer-applied h op new ready other passed places =
     rw (new, other, ready, passed, fits) refl
 
 -- what a replica keeps is kept where it told of settled operations
-pub AreFields-told : (h : Held) (n now : ℕ) (counts : List (ℕ × ℕ)) (numbers : List ℕ) (k m : ℕ) → AreFields h counts numbers k m → n ≤ h.settled
-    → now ≡ max h.told n → AreFields (record h { told = now }) counts numbers k m
-AreFields-told h n now counts numbers k m fields within is_it = record {
+pub AreFields-told : (h : Held) (n now : ℕ) (counts : List (ℕ × ℕ)) (docs : List Doc) (known : Index) (k : ℕ)
+    → AreFields h counts docs known k → n ≤ h.settled
+    → now ≡ max h.told n → AreFields (record h { told = now }) counts docs known k
+AreFields-told h n now counts docs known k fields within is_it = record {
   sound = record {
     closed = fields.sound.closed;
     opened = fields.sound.opened;
@@ -236,7 +262,7 @@ AreFields-told h n now counts numbers k m fields within is_it = record {
     places = fields.sound.places;
   };
   clock = fields.clock;
-  documents = fields.documents;
+  docs = fields.docs;
+  index = fields.index;
   steps = fields.steps;
-  order = fields.order;
 }

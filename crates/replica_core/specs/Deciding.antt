@@ -4,14 +4,19 @@ use Rattle.std.specs.List.{list_all}
 use Rattle.op_ids.specs.Id.{Id}
 use Rattle.op_model.specs.declared.op.Op.{Op}
 use Rattle.op_model.specs.declared.op.Body.{Body}
-use Rattle.op_model.specs.Causality.{IsCausallyClosed, clock_of, documents, is_covered_insert}
+use Rattle.op_model.specs.Causality.{IsCausallyClosed, clock_of, is_covered_insert}
 use Rattle.op_model.specs.Records.{body_length}
+use Rattle.doc_core.specs.declared.doc.Doc.{Doc}
+use Rattle.replica_core.specs.declared.index.Index.{Index}
+use Rattle.replica_core.specs.Docs.{AreDocs}
+use Rattle.replica_core.specs.Indexes.{IsIndexOf}
 
--- a causally closed list, its clock and its documents
-pub record AreKnown (ops : List Op) (counts : List (ℕ × ℕ)) (numbers : List ℕ) : Type 0 where
+-- a causally closed list, its clock, its documents and its index
+pub record AreKnown (ops : List Op) (counts : List (ℕ × ℕ)) (kept : List Doc) (known : Index) : Type 0 where
   pub closed : IsCausallyClosed ops
   pub clock : counts ≡ clock_of ops
-  pub documents : numbers ≡ documents ops
+  pub docs : AreDocs kept ops
+  pub index : IsIndexOf known ops
 
 -- how many bytes the contents of these records take
 abbrev pub lengths : List Body → ℕ

@@ -1,8 +1,12 @@
 -- The fields of a replica.
 use Rattle.std.specs.Prelude.{◌≡◌, ℕ, ◌+◌, ◌≤◌, List, length}
 use Rattle.op_model.specs.declared.op.Op.{Op}
-use Rattle.op_model.specs.Causality.{clock_of, documents}
+use Rattle.op_model.specs.Causality.{clock_of}
+use Rattle.doc_core.specs.declared.doc.Doc.{Doc}
+use Rattle.replica_core.specs.declared.index.Index.{Index}
+use Rattle.replica_core.specs.Docs.{AreDocs}
 use Rattle.replica_core.specs.declared.step.Step.{Step}
+use Rattle.replica_core.specs.Indexes.{IsIndexOf}
 use Rattle.replica_core.specs.Held.{Held, IsSound}
 use Rattle.replica_core.specs.Steps.{kept, places_left}
 
@@ -18,11 +22,10 @@ held_of replica list opened settled acked told steps = record {
   steps = kept steps;
 }
 
--- what a replica holds is sound, and its clock, its documents and its room, for steps and for the order of characters, are
--- those of the list and the steps
-pub record AreFields (h : Held) (counts : List (ℕ × ℕ)) (numbers : List ℕ) (step_room order_room : ℕ) : Type 0 where
+-- what a replica holds is sound, its clock, its documents and its index are those of the list, and there is room for its steps
+pub record AreFields (h : Held) (counts : List (ℕ × ℕ)) (kept_docs : List Doc) (known : Index) (step_room : ℕ) : Type 0 where
   pub sound : IsSound h
   pub clock : counts ≡ clock_of h.list
-  pub documents : numbers ≡ documents h.list
+  pub docs : AreDocs kept_docs h.list
+  pub index : IsIndexOf known h.list
   pub steps : length h.steps + places_left h.steps ≤ step_room
-  pub order : length h.list ≤ order_room

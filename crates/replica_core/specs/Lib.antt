@@ -5,3 +5,6 @@ pub mod Held
 pub mod Steps
 pub mod Refusal
 pub mod Fields
+pub mod Makers
+pub mod Indexes
+pub mod Docs

@@ -2,6 +2,10 @@
 use Rattle.std.specs.Prelude.{◌≡◌, ℕ, ◌+◌, ◌≤◌, List, [], ◌∷◌, ◌++◌, length, vec_len, vec_capacity}
 use Rattle.op_model.specs.declared.op.Op.{Op}
 use Rattle.op_model.specs.Spans.{with_number}
+use Rattle.doc_core.specs.Standing.{MayComeInTurn}
+use Rattle.replica_core.specs.Docs.{numbers, AllStand, AreDocs}
+use Rattle.replica_core.specs.Indexes.{IsIndexOf}
+use Rattle.replica_core.specs.Makers.{room_of}
 use Rattle.replica_core.specs.declared.log.Log.{Log}
 use Rattle.replica_core.specs.declared.step.Step.{Step}
 
@@ -9,21 +13,23 @@ use Rattle.replica_core.specs.declared.step.Step.{Step}
 pub record IsSame (old new : Log) : Type 0 where
   pub list : new.list.items ≡ old.list.items
   pub steps : new.steps.items ≡ old.steps.items
-  pub documents : new.documents.items ≡ old.documents.items
+  pub docs : new.docs.items ≡ old.docs.items
+  pub index : (ops : List Op) → IsIndexOf old.index ops → IsIndexOf new.index ops
+  pub stream : new.index.stream ≡ old.index.stream
   pub step_room : vec_capacity old.steps ≤ vec_capacity new.steps
-  pub order_room : vec_capacity old.order ≤ vec_capacity new.order
 
--- there is room for so many operations of one document, and for the step that makes them with two settlements behind it
-pub record HasRoom (log : Log) (count : ℕ) : Type 0 where
+-- there is room for so many operations of one replica, and for the step that makes them with two settlements behind it
+pub record HasRoom (log : Log) (replica count : ℕ) : Type 0 where
   pub operations : vec_len log.list + count ≤ vec_capacity log.list
   pub steps : vec_len log.steps + 3 ≤ vec_capacity log.steps
-  pub documents : vec_len log.documents + 1 ≤ vec_capacity log.documents
-  pub order : vec_len log.list + count ≤ vec_capacity log.order
+  pub index : count ≤ room_of log.index.makers.items replica
 
 -- these operations of a document, and the step that made them, came behind all others
 pub record IsAppended (old new : Log) (made : List Op) (doc : ℕ) (step : Step) : Type 0 where
   pub list : new.list.items ≡ old.list.items ++ made
   pub steps : new.steps.items ≡ old.steps.items ++ step ∷ []
-  pub documents : new.documents.items ≡ with_number doc old.documents.items
+  pub numbers : numbers new.docs.items ≡ with_number doc (numbers old.docs.items)
+  pub stand : AreDocs old.docs.items old.list.items → MayComeInTurn old.list.items doc made
+      → AllStand new.docs.items (old.list.items ++ made)
+  pub index : IsIndexOf old.index old.list.items → IsIndexOf new.index new.list.items
   pub step_room : length old.steps.items + 3 ≤ vec_capacity new.steps
-  pub order_room : length old.list.items + length made ≤ vec_capacity new.order

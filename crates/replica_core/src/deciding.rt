@@ -1,48 +1,49 @@
-ghost use Rattle.std.specs.Prelude.{◌≡◌, ℕ, ◌+◌, ◌≤◌, ◌<◌, ◌++◌, ◌&&◌, nat_le, true, List, length, MatchOption, Some, None};
-ghost use Rattle.op_ids.specs.Clock.{advanced, is_clock};
-ghost use Rattle.op_model.specs.Causality.{clock_of, documents as documents_of, is_within_limits as is_within_limits_of};
+ghost use Rattle.std.specs.Prelude.{◌≡◌, ℕ, ◌+◌, ◌≤◌, ◌<◌, ◌++◌, ◌&&◌, nat_le, true, length, MatchOption, Some, None};
+ghost use Rattle.doc_core.specs.Standing.{number_of as doc_number, StandsFor};
+ghost use Rattle.op_model.specs.Causality.{is_within_limits as is_within_limits_of};
 ghost use Rattle.op_model.specs.Made.{edit_refusal as edit_refusal_of, made as made_of, size_of};
-ghost use Rattle.op_model.specs.Records.{stream_length};
 ghost use Rattle.op_model.specs.Spans.{with_number};
-ghost use Rattle.op_model.specs.Walk.{walk};
 ghost use Rattle.replica_core.specs.Deciding.{AreKnown};
+ghost use Rattle.replica_core.specs.Docs.{numbers};
 ghost use Rattle.replica_core.specs.Refusal.{number_of};
 ghost use Rattle.slow_programs.specs.Asking.{IsAskedRight};
 
-use crate::lengths::{made_length, shown};
+use crate::docs::has_document;
+use crate::index::Index;
+use crate::lengths::made_length;
 use crate::refusal::Refusal;
+use doc_core::Doc;
 use op_ids::{Clock, MAX_COUNTER, ReplicaId};
-use op_model::{Character, Edit, Op};
-use slow_programs::{
-    MAX_DOCUMENTS, MAX_STREAM_LENGTH, change_size, greatest_counter, has_operations, is_at_rev,
-    is_inside, is_small, place_rising, rev, room_behind,
-};
+use op_model::{Edit, Op};
+use slow_programs::{MAX_STREAM_LENGTH, change_size, has_operations, is_at_rev, is_small};
 
-/// Why an edit is refused, by the first cause: `Stale` (6), `Range` (5), `Limit` (7). Takes no
-/// memory. Quadratic in the list.
+/// Why an edit of a document is refused, by the first cause: `Stale` (6), `Range` (5), `Limit` (7).
+/// Takes no memory. Linear in the document.
 pub fn edit_refusal(
     ops: &[Op],
     clock: &Clock,
-    documents: &[u32],
-    order: &[Character],
+    docs: &[Doc],
+    index: &Index,
+    doc: &Doc,
     replica: ReplicaId,
     edit: &Edit,
 ) -> Option<Refusal>
-    requires known { AreKnown ops.now clock.now documents.now }
-    requires order { order.now ≡ walk ops.now edit.now.doc }
+    requires known { AreKnown ops.now clock.now docs.now index.now }
+    requires stands { StandsFor doc.now ops.now }
+    requires number { doc_number doc.now ≡ edit.now.doc }
     ensures { MatchOption result (edit_refusal_of ops.now replica edit.now ≡ None)
         (λ e. edit_refusal_of ops.now replica edit.now ≡ Some (number_of e)) }
 {
-    if !is_at_rev(rev(ops, edit.doc), &edit.rev) {
+    if !is_at_rev(doc.rev() as usize, &edit.rev) {
         return Some(Refusal::Stale);
     }
-    if !is_inside(shown(ops, edit.doc, order), &edit.change) {
+    if !doc.is_inside(&edit.change) {
         return Some(Refusal::Range);
     }
     if !is_small(&edit.change) {
         return Some(Refusal::Limit);
     }
-    if !is_within_limits(ops, clock, documents, order, replica, edit) {
+    if !is_within_limits(ops, clock, docs, index, doc, replica, edit) {
         return Some(Refusal::Limit);
     }
     None
@@ -52,13 +53,15 @@ pub fn edit_refusal(
 fn is_within_limits(
     ops: &[Op],
     clock: &Clock,
-    documents: &[u32],
-    order: &[Character],
+    docs: &[Doc],
+    index: &Index,
+    doc: &Doc,
     replica: ReplicaId,
     edit: &Edit,
 ) -> bool
-    requires known { AreKnown ops.now clock.now documents.now }
-    requires order { order.now ≡ walk ops.now edit.now.doc }
+    requires known { AreKnown ops.now clock.now docs.now index.now }
+    requires stands { StandsFor doc.now ops.now }
+    requires number { doc_number doc.now ≡ edit.now.doc }
     requires right { IsAskedRight ops.now edit.now }
     ensures { result ≡ is_within_limits_of (ops.now ++ made_of ops.now replica edit.now) }
 {
@@ -66,42 +69,36 @@ fn is_within_limits(
     if edit.doc == 0 {
         return false;
     }
-    if greatest_counter(ops) + count > MAX_COUNTER {
+    if !has_counters(index.greatest, count) {
         return false;
     }
     if !clock.can_advance(replica) {
         return false;
     }
-    let bytes = made_length(ops, clock, order, replica, edit);
-    has_room(ops, documents, edit.doc, count as usize, bytes)
+    let bytes = made_length(doc, clock, replica, edit);
+    has_room(ops, docs, index.stream, edit.doc, count as usize, bytes)
+}
+
+/// Whether there are so many counters above this one.
+fn has_counters(greatest: u64, count: u64) -> bool
+    ensures { result ≡ nat_le (greatest + count) 281474976710655 }
+{
+    count <= MAX_COUNTER && greatest <= MAX_COUNTER - count
 }
 
 /// Whether there is room for so many operations of a document behind the others, with records of so
-/// many bytes.
-pub fn has_room(ops: &[Op], documents: &[u32], doc: u32, count: usize, bytes: u64) -> bool
-    ensures { result ≡ (nat_le (length (with_number doc documents.now)) 1024
+/// many bytes behind a stream of so many.
+pub fn has_room(ops: &[Op], docs: &[Doc], stream: u64, doc: u32, count: usize, bytes: u64) -> bool
+    ensures { result ≡ (nat_le (length (with_number doc (numbers docs.now))) 1024
         && nat_le (length ops.now + count) 16777216
-        && nat_le (stream_length ops.now + bytes) 1073741824) }
+        && nat_le (stream + bytes) 1073741824) }
 {
-    has_document(documents, doc) && has_operations(ops.len(), count) && has_stream(ops, bytes)
+    has_document(docs, doc) && has_operations(ops.len(), count) && has_stream(stream, bytes)
 }
 
-/// Whether there are at most 1,024 documents with this one.
-fn has_document(documents: &[u32], doc: u32) -> bool
-    ensures { result ≡ nat_le (length (with_number doc documents.now)) 1024 }
+/// Whether so many bytes, and then so many more, are at most 2^30 bytes.
+fn has_stream(stream: u64, bytes: u64) -> bool
+    ensures { result ≡ nat_le (stream + bytes) 1073741824 }
 {
-    match place_rising(documents, doc) {
-        Some(_) => documents.len() < MAX_DOCUMENTS,
-        None => documents.len() <= MAX_DOCUMENTS,
-    }
-}
-
-/// Whether the records of the operations, and then so many bytes, are at most 2^30 bytes.
-fn has_stream(ops: &[Op], bytes: u64) -> bool
-    ensures { result ≡ nat_le (stream_length ops.now + bytes) 1073741824 }
-{
-    match room_behind(ops, MAX_STREAM_LENGTH) {
-        Some(room) => bytes <= room,
-        None => false,
-    }
+    stream <= MAX_STREAM_LENGTH && bytes <= MAX_STREAM_LENGTH - stream
 }

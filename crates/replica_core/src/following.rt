@@ -1,12 +1,15 @@
 ghost use Rattle.std.specs.Prelude.{◌≡◌, ℕ, ◌≤◌, ◌<◌, ◌++◌, ◌∷◌, [], ◌&&◌, ◌==◌, nat_lt, true, List, MatchOption, Some, None, IsTrue, ◌↔◌};
 ghost use Rattle.std.specs.List.{list_all};
-ghost use Rattle.op_ids.specs.Id.{is_same};
-ghost use Rattle.op_model.specs.Causality.{MayFollow, clock_of, first_failed as first_failed_of, is_counted_up as is_counted_up_of, is_covered_insert as is_covered_insert_of, is_insert as is_insert_of, is_known as is_known_in, is_within_limits, named_by, named_by_anchor, named_by_end, named_by_start, names_inserts as names_inserts_of};
+ghost use Rattle.op_model.specs.Causality.{IsCausallyClosed, MayFollow, first_failed as first_failed_of, is_counted_up as is_counted_up_of, is_covered_insert as is_covered_insert_of, is_known as is_known_in, is_within_limits, named_by, named_by_anchor, named_by_end, named_by_start, names_inserts as names_inserts_of};
 ghost use Rattle.replica_core.specs.Deciding.{AreKnown, names_all};
+ghost use Rattle.replica_core.specs.Indexes.{IsIndexOf};
 ghost use Rattle.replica_core.specs.Refusal.{number_of};
 
 use crate::deciding::has_room;
+use crate::index::Index;
+use crate::named::{is_covered_insert, op_at};
 use crate::refusal::Refusal;
+use doc_core::Doc;
 use op_ids::{Clock, OpId};
 use op_model::{Anchor, Body, End, Op, Start};
 use slow_programs::record_length;
@@ -19,58 +22,69 @@ pub fn is_known(clock: &Clock, op: &Op) -> bool
     op.deps.get(replica) < clock.get(replica)
 }
 
-/// Whether an operation may follow the others: it is ready, and no check fails. Takes no memory.
-/// Linear in the list.
-pub fn may_follow(ops: &[Op], clock: &Clock, documents: &[u32], op: &Op) -> bool
-    requires { AreKnown ops.now clock.now documents.now }
+/// Whether an operation may follow the others: it is ready, and no check fails. Takes no memory. A
+/// few steps for clocks, and a binary search for each character that it names.
+pub fn may_follow(ops: &[Op], clock: &Clock, docs: &[Doc], index: &Index, op: &Op) -> bool
+    requires { AreKnown ops.now clock.now docs.now index.now }
     ensures { IsTrue result ↔ MayFollow ops.now op.now }
 {
     if !clock.ready(op.id.replica(), &op.deps) {
         return false;
     }
-    match first_failed(ops, clock, documents, op) {
+    match first_failed(ops, clock, docs, index, op) {
         None => true,
         Some(_) => false,
     }
 }
 
 /// Of an operation that is ready, the first check that fails: `Counter` (21), `Names` (22),
-/// `Document` (23), `StoreLimit` (24). Takes no memory. Linear in the list.
-pub fn first_failed(ops: &[Op], clock: &Clock, documents: &[u32], op: &Op) -> Option<Refusal>
-    requires { AreKnown ops.now clock.now documents.now }
+/// `Document` (23), `StoreLimit` (24). Takes no memory. A few steps for clocks, and a binary search
+/// for each character that it names.
+pub fn first_failed(
+    ops: &[Op],
+    clock: &Clock,
+    docs: &[Doc],
+    index: &Index,
+    op: &Op,
+) -> Option<Refusal>
+    requires { AreKnown ops.now clock.now docs.now index.now }
     ensures { MatchOption result (first_failed_of ops.now op.now ≡ None)
         (λ e. first_failed_of ops.now op.now ≡ Some (number_of e)) }
 {
-    if !is_counted_up(ops, op) {
+    if !is_counted_up(ops, index, op) {
         return Some(Refusal::Counter);
     }
-    if !names_inserts(ops, op) {
+    if !names_inserts(ops, index, op) {
         return Some(Refusal::Names);
     }
     if op.doc == 0 {
         return Some(Refusal::Document);
     }
-    if !fits(ops, clock, documents, op) {
+    if !fits(ops, clock, docs, index, op) {
         return Some(Refusal::StoreLimit);
     }
     None
 }
 
-/// Whether the counter is greater than that of each earlier operation of its replica.
-fn is_counted_up(ops: &[Op], op: &Op) -> bool
+/// Whether the counter is greater than that of the last operation of its replica, and so than that
+/// of each earlier one.
+fn is_counted_up(ops: &[Op], index: &Index, op: &Op) -> bool
+    requires closed { IsCausallyClosed ops.now }
+    requires index { IsIndexOf index.now ops.now }
     ensures { result ≡ is_counted_up_of ops.now op.now }
 {
-    for earlier in ops {
-        if earlier.id.replica() == op.id.replica() && earlier.id.counter() >= op.id.counter() {
-            return false;
-        }
+    match index.places_of(op.id.replica()) {
+        Some(places) => places.is_empty()
+            || op_at(ops, places, places.len() - 1).id.counter() < op.id.counter(),
+        None => true,
     }
-    true
 }
 
 /// Whether what an operation names are inserts of its document that its deps cover, with smaller
 /// counters.
-fn names_inserts(ops: &[Op], op: &Op) -> bool
+fn names_inserts(ops: &[Op], index: &Index, op: &Op) -> bool
+    requires closed { IsCausallyClosed ops.now }
+    requires index { IsIndexOf index.now ops.now }
     ensures { result ≡ names_inserts_of ops.now op.now }
 {
     match &op.body {
@@ -78,90 +92,62 @@ fn names_inserts(ops: &[Op], op: &Op) -> bool
         Body::Insert {
             origin: Some(origin),
             ..
-        } => names_insert(ops, op, origin),
-        Body::Remove { target } => names_insert(ops, op, target),
-        Body::AddMark { start, end, .. } => names_at_start(ops, op, start)
-            && names_at_end(ops, op, end),
-        Body::RemoveMark { start, end, .. } => names_at_start(ops, op, start)
-            && names_at_end(ops, op, end),
+        } => names_insert(ops, index, op, origin),
+        Body::Remove { target } => names_insert(ops, index, op, target),
+        Body::AddMark { start, end, .. } => names_at_start(ops, index, op, start)
+            && names_at_end(ops, index, op, end),
+        Body::RemoveMark { start, end, .. } => names_at_start(ops, index, op, start)
+            && names_at_end(ops, index, op, end),
     }
 }
 
-fn names_at_start(ops: &[Op], op: &Op, start: &Start) -> bool
+fn names_at_start(ops: &[Op], index: &Index, op: &Op, start: &Start) -> bool
+    requires closed { IsCausallyClosed ops.now }
+    requires index { IsIndexOf index.now ops.now }
     ensures { result ≡ names_all ops.now op.now (named_by_start start.now) }
 {
     match start {
         Start::OfText => true,
-        Start::From(anchor) => names_at_anchor(ops, op, anchor),
+        Start::From(anchor) => names_at_anchor(ops, index, op, anchor),
     }
 }
 
-fn names_at_end(ops: &[Op], op: &Op, end: &End) -> bool
+fn names_at_end(ops: &[Op], index: &Index, op: &Op, end: &End) -> bool
+    requires closed { IsCausallyClosed ops.now }
+    requires index { IsIndexOf index.now ops.now }
     ensures { result ≡ names_all ops.now op.now (named_by_end end.now) }
 {
     match end {
-        End::To(anchor) => names_at_anchor(ops, op, anchor),
+        End::To(anchor) => names_at_anchor(ops, index, op, anchor),
         End::OfText => true,
     }
 }
 
-fn names_at_anchor(ops: &[Op], op: &Op, anchor: &Anchor) -> bool
+fn names_at_anchor(ops: &[Op], index: &Index, op: &Op, anchor: &Anchor) -> bool
+    requires closed { IsCausallyClosed ops.now }
+    requires index { IsIndexOf index.now ops.now }
     ensures { result ≡ names_all ops.now op.now (named_by_anchor anchor.now) }
 {
     match anchor {
-        Anchor::Before(id) => names_insert(ops, op, id),
-        Anchor::After(id) => names_insert(ops, op, id),
+        Anchor::Before(id) => names_insert(ops, index, op, id),
+        Anchor::After(id) => names_insert(ops, index, op, id),
     }
 }
 
 /// Whether an id that an operation names is that of an insert of its document that its deps cover,
 /// with a smaller counter.
-fn names_insert(ops: &[Op], op: &Op, id: &OpId) -> bool
+fn names_insert(ops: &[Op], index: &Index, op: &Op, id: &OpId) -> bool
+    requires closed { IsCausallyClosed ops.now }
+    requires index { IsIndexOf index.now ops.now }
     ensures { result ≡ (is_covered_insert_of ops.now op.now.deps op.now.doc id.now
         && nat_lt id.now.counter op.now.id.counter) }
 {
-    is_covered_insert(ops, op, id) && id.counter() < op.id.counter()
-}
-
-/// Whether an insert of the operation's document with this id is among the operations that its deps
-/// cover.
-fn is_covered_insert(ops: &[Op], op: &Op, id: &OpId) -> bool
-    ensures { result ≡ is_covered_insert_of ops.now op.now.deps op.now.doc id.now }
-{
-    let mut left = op.deps.get(id.replica());
-    for earlier in ops {
-        if earlier.id.replica() == id.replica() {
-            if left == 0 {
-                return false;
-            }
-            if is_insert_at(earlier, op.doc, id) {
-                return true;
-            }
-            left -= 1;
-        }
-    }
-    false
-}
-
-/// Whether an operation inserts the character of an id into a document.
-fn is_insert_at(op: &Op, doc: u32, id: &OpId) -> bool
-    ensures { result ≡ (is_same op.now.id id.now && op.now.doc == doc && is_insert_of op.now.body) }
-{
-    op.id.is_same(*id) && op.doc == doc && is_insert(&op.body)
-}
-
-fn is_insert(body: &Body) -> bool
-    ensures { result ≡ is_insert_of body.now }
-{
-    match body {
-        Body::Insert { .. } => true,
-        _ => false,
-    }
+    is_covered_insert(ops, index, op, id) && id.counter() < op.id.counter()
 }
 
 /// Whether the operations, and then this one, keep the limits of a store.
-fn fits(ops: &[Op], clock: &Clock, documents: &[u32], op: &Op) -> bool
-    requires known { AreKnown ops.now clock.now documents.now }
+fn fits(ops: &[Op], clock: &Clock, docs: &[Doc], index: &Index, op: &Op) -> bool
+    requires known { AreKnown ops.now clock.now docs.now index.now }
     requires document { 0 < op.now.doc }
     ensures { result ≡ is_within_limits (ops.now ++ op.now ∷ []) }
 {
@@ -169,5 +155,5 @@ fn fits(ops: &[Op], clock: &Clock, documents: &[u32], op: &Op) -> bool
     if !clock.can_advance(op.id.replica()) {
         return false;
     }
-    has_room(ops, documents, op.doc, 1, record_length(op))
+    has_room(ops, docs, index.stream, op.doc, 1, record_length(op))
 }

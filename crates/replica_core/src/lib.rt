@@ -1,13 +1,17 @@
 //! One peer's list of operations, its clock, how much of it is settled, and the steps that made it.
 #![tactic(auto)]
 
+mod counting;
 mod deciding;
+mod docs;
 mod following;
+mod index;
 mod lengths;
 mod log;
+mod maker;
 mod merged;
+mod named;
 mod opening;
-mod order;
 mod refusal;
 mod replica;
 mod step;

@@ -1,10 +1,14 @@
-ghost use Rattle.std.specs.Prelude.{◌≡◌, ◌+◌, ◌≤◌, ◌<◌, [], ◌∷◌, ◌++◌, length, IfOk, OnOk, OnErr, vec_len, vec_capacity};
-ghost use Rattle.op_model.specs.Spans.{with_number};
+ghost use Rattle.std.specs.Prelude.{◌≡◌, ◌+◌, ◌≤◌, ◌<◌, ◌^◌, [], ◌∷◌, ◌++◌, length, IfOk, OnOk, OnErr, vec_len, vec_capacity};
+ghost use Rattle.op_model.specs.Causality.{made_by};
+ghost use Rattle.op_model.specs.Records.{stream_length};
 ghost use Rattle.replica_core.specs.Log.{IsSame, HasRoom, IsAppended};
 
+use crate::docs;
+use crate::index::Index;
 use crate::step::Step;
-use op_model::{Character, Op};
-use slow_programs::place_rising;
+use doc_core::{Doc, SequenceError};
+use op_ids::ReplicaId;
+use op_model::Op;
 use std::alloc::{AllocError, Global};
 
 /// The operations and the steps of a replica, and the room that they need.
@@ -14,53 +18,50 @@ pub struct Log {
     pub list: Vec<Op>,
     /// The steps since opening, oldest first, with room for the settlements that are due.
     pub steps: Vec<Step>,
-    /// The documents that have operations, in rising order.
-    pub documents: Vec<u32>,
-    /// Room for the order of any document's characters.
-    pub order: Vec<Character>,
+    /// The documents that have operations, in rising order of number.
+    pub docs: Vec<Doc>,
+    /// What is known of the list without a pass over it.
+    pub index: Index,
 }
 
 impl Log {
-    /// Puts operations of one document, and the step that made them, behind all others: all of it,
-    /// or nothing where a growth is refused (1).
-    pub fn append(&mut self, made: Vec<Op>, doc: u32, step: Step) -> Result<(), AllocError>
-        requires { length self.old.list.items + length made.items ≤ 16777216 }
+    /// Puts operations of one replica and document, and the step that made them, behind all others:
+    /// all of it, or nothing. `Memory` (1) where a growth is refused, `UnknownId` (60) only where
+    /// the document can't take them.
+    pub fn append(
+        &mut self,
+        made: Vec<Op>,
+        replica: ReplicaId,
+        doc: u32,
+        step: Step,
+    ) -> Result<(), SequenceError>
+        requires few { length self.old.list.items + length made.items ≤ 16777216 }
+        requires own { made_by replica made.items ≡ made.items }
+        requires small { self.old.index.stream + stream_length made.items < 2 ^ 64 }
         ensures ok { OnOk result (IsAppended self.old self.new made.items doc step) }
         ensures err { OnErr result (IsSame self.old self.new) }
     {
         let mut made = made;
-        self.reserve(made.len())?;
-        put_document(&mut self.documents, doc);
+        let alloc = *self.list.allocator();
+        self.reserve(replica, made.len())?;
+        docs::apply(&mut self.docs, alloc, doc, &made)?;
         put_step(&mut self.steps, step);
+        self.index.put_all(&made, replica, self.list.len() as u32);
         put_operations(&mut self.list, &mut made);
         Ok(())
     }
 
-    /// Makes room for so many operations of one document, and for a step with two settlements
-    /// behind it. An error is want of memory (1).
-    fn reserve(&mut self, count: usize) -> Result<(), AllocError>
+    /// Makes room for so many operations of one replica, and for a step with two settlements behind
+    /// it. An error is want of memory (1).
+    fn reserve(&mut self, replica: ReplicaId, count: usize) -> Result<(), AllocError>
         requires { length self.old.list.items + count ≤ 16777216 }
         ensures same { IsSame self.old self.new }
-        ensures room { OnOk result (HasRoom self.new count) }
+        ensures room { OnOk result (HasRoom self.new replica count) }
     {
-        self.order.clear();
-        self.order.reserve(self.list.len() + count)?;
+        let alloc = *self.list.allocator();
         self.list.reserve(count)?;
         self.steps.reserve(3)?;
-        self.documents.reserve(1)
-    }
-}
-
-/// Puts a document among the others, if it isn't there. There is room for it.
-pub fn put_document(documents: &mut Vec<u32>, doc: u32)
-    requires { vec_len documents.old < vec_capacity documents.old }
-    ensures { documents.new.items ≡ with_number doc documents.old.items }
-{
-    if let Some(at) = place_rising(documents, doc) {
-        match documents.insert(at, doc) {
-            Ok(()) => {}
-            Err(_) => unreachable!(),
-        }
+        self.index.reserve(alloc, replica, count)
     }
 }
 

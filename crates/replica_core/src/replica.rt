@@ -1,6 +1,7 @@
 ghost use Rattle.std.specs.Prelude.{◌≡◌, ◌≢◌, ◌↔◌, ℕ, ◌≤◌, ◌<◌, ◌+◌, List, [], length, take, Some, None, IsTrue, IfOk, IfErr, OnOk, OnErr, MatchOption, Contains, if◌then◌else◌};
 ghost use Rattle.op_model.specs.Machine.{edit_answer, merge_answer, merge_answer_unless, reach, untold as untold_of, IsRefusal, ticket, refused};
 ghost use Rattle.op_model.specs.Causality.{clock_of, first_failed as first_failed_of, IsCausallyClosed};
+ghost use Rattle.op_model.specs.Made.{made as made_of};
 ghost use Rattle.op_model.specs.Replay.{reached};
 ghost use Rattle.op_model.specs.Spans.{spans as spans_of};
 ghost use Rattle.op_model.specs.Text.{text as text_of, rev as rev_of};
@@ -9,19 +10,22 @@ ghost use Rattle.replica_core.specs.Merging.{after_merge, answer_of, with_merge,
 ghost use Rattle.replica_core.specs.Refusal.{number_of};
 ghost use Rattle.replica_core.specs.Steps.{places_left};
 
+use crate::counting::count_all;
 use crate::deciding::edit_refusal;
+use crate::docs::find;
 use crate::following::{first_failed, is_known};
+use crate::index::Index;
 use crate::log::{Log, one};
 use crate::merged::Merged;
 use crate::opening::counted;
-use crate::order::put_order;
 use crate::refusal::Refusal;
 use crate::step::Step;
 use crate::telling::untold;
 use crate::ticket::Ticket;
+use doc_core::Doc;
 use op_ids::{Clock, ReplicaId};
 use op_model::{Edit, Op, Span, Text};
-use slow_programs::{change_size, made_with_clock};
+use slow_programs::change_size;
 use std::alloc::{AllocError, Global};
 use std::marker::Model;
 
@@ -53,7 +57,7 @@ impl Model for Replica {
     ghost view = { λ r. held_of r.id r.log.list.items r.opened r.settled r.acked r.told r.log.steps.items };
 
     ghost invariant = { λ r. AreFields (held_of r.id r.log.list.items r.opened r.settled r.acked r.told r.log.steps.items)
-        r.clock r.log.documents.items (vec_capacity r.log.steps) (vec_capacity r.log.order) };
+        r.clock r.log.docs.items r.log.index (vec_capacity r.log.steps) };
 }
 
 impl Replica {
@@ -66,8 +70,8 @@ impl Replica {
             log: Log {
                 list: Vec::new(alloc),
                 steps: Vec::new(alloc),
-                documents: Vec::new(alloc),
-                order: Vec::new(alloc),
+                docs: Vec::new(alloc),
+                index: Index::new(alloc),
             },
             clock: Clock::new(alloc),
             opened: 0,
@@ -79,23 +83,23 @@ impl Replica {
 
     /// The replica as it is after opening a store with this list: all of it is settled.
     /// `BadOperation` (47) exactly where the list isn't causally closed; `Memory` (1) says nothing
-    /// of that. Quadratic in the list.
+    /// of that. For each operation a few steps for clocks, and a binary search for each character that
+    /// it names.
     pub fn from_list(alloc: Global, id: ReplicaId, list: Vec<Op>) -> Result<Replica, Refusal>
         ensures opened { IfOk result (λ r. r ≡ opened_with id list.items) }
         ensures closed { OnOk result (IsCausallyClosed list.items) }
         ensures bad { IfErr result (λ e. e ≢ Refusal.Memory
             → (e ≡ Refusal.BadOperation) × (IsCausallyClosed list.items → ⊥)) }
     {
-        let (clock, documents) = counted(alloc, &list)?;
-        let order = Vec::with_capacity(alloc, list.len())?;
+        let (clock, docs, index) = counted(alloc, &list)?;
         let opened = list.len();
         Ok(Replica {
             id,
             log: Log {
                 list,
                 steps: Vec::new(alloc),
-                documents,
-                order,
+                docs,
+                index,
             },
             clock,
             opened,
@@ -149,19 +153,21 @@ impl Replica {
         self.told
     }
 
-    /// How many operations a document has. Takes no memory. Linear in the list.
+    /// How many operations a document has. Takes no memory. At most a step for each document.
     pub fn rev(&self, doc: u32) -> usize
         ensures { result ≡ rev_of self.now.list doc }
     {
-        slow_programs::rev(&self.log.list, doc)
+        let empty = Doc::new(*self.log.list.allocator(), doc);
+        find(&self.log.docs, &empty).rev() as usize
     }
 
     /// The text of a document, unsettled operations included. An error is want of memory (1).
-    /// Quadratic in the list.
+    /// Linear in the document.
     pub fn text(&self, doc: u32) -> Result<Text, AllocError>
         ensures { IfOk result (λ seen. seen ≡ text_of self.now.list doc) }
     {
-        slow_programs::text(*self.log.list.allocator(), &self.log.list, doc)
+        let empty = Doc::new(*self.log.list.allocator(), doc);
+        find(&self.log.docs, &empty).text()
     }
 
     /// The text of a document, cut where the marks change. An error is want of memory (1). Cubic in
@@ -205,7 +211,8 @@ impl Replica {
 
     /// Makes the operations of a session's edit and puts them behind the list. It is refused by the
     /// first cause, in this order: `Stale` (6), `Range` (5), `Limit` (7), `Steps` (10); `Memory`
-    /// (1) stands only in place of success. A refused edit changes nothing. Quadratic in the list.
+    /// (1) stands only in place of success. A refused edit changes nothing. What the document takes for it, and
+    /// a few steps for clocks.
     pub fn edit(&mut self, session: u64, edit: &Edit) -> Result<Ticket, Refusal>
         ensures made { OnOk result (self.new ≡ with_edit self.old session edit.now) }
         ensures ticket { IfOk result (λ t.
@@ -225,20 +232,16 @@ impl Replica {
     }
 
     /// Why an edit is refused, by the first cause. Takes no memory.
-    fn edit_refusal(&mut self, edit: &Edit) -> Option<Refusal>
-        ensures same { self.new ≡ self.old }
-        ensures cause { MatchOption result (CanEdit self.old edit.now)
-            (λ e. edit_answer self.old.replica (alone self.old) edit.now ≡ refused (number_of e)) }
+    fn edit_refusal(&self, edit: &Edit) -> Option<Refusal>
+        ensures { MatchOption result (CanEdit self.now edit.now)
+            (λ e. edit_answer self.now.replica (alone self.now) edit.now ≡ refused (number_of e)) }
     {
-        let log = &mut self.log;
-        put_order(&log.list, edit.doc, &mut log.order);
+        let log = &self.log;
+        let empty = Doc::new(*log.list.allocator(), edit.doc);
+        let doc = find(&log.docs, &empty);
+        let clock = &self.clock;
         if let Some(refusal) = edit_refusal(
-            &log.list,
-            &self.clock,
-            &log.documents,
-            &log.order,
-            self.id,
-            edit,
+            &log.list, clock, &log.docs, &log.index, doc, self.id, edit,
         ) {
             return Some(refusal);
         }
@@ -256,29 +259,50 @@ impl Replica {
         ensures memory { IfErr result (λ e. e ≡ Refusal.Memory) }
         ensures err { OnErr result (self.new ≡ self.old) }
     {
-        let alloc = *self.log.list.allocator();
-        let count = change_size(&edit.change) as usize;
-        let (made, clock) = match made_with_clock(alloc, &self.log.list, self.id, edit) {
-            Ok(made) => made,
-            // No other cause is left.
+        let made = self.made(edit)?;
+        let mut clock = self.clock.copy()?;
+        // No limit is passed, so only a growth can be refused from here on.
+        match count_all(&mut clock, &made) {
+            Ok(()) => {}
             Err(_) => return Err(Refusal::Memory),
-        };
+        }
         let step = Step::Edit {
             session,
             edit: edit.copy()?,
             first: self.log.list.len(),
-            count,
+            count: change_size(&edit.change) as usize,
         };
-        self.log.append(made, edit.doc, step)?;
+        match self.log.append(made, self.id, edit.doc, step) {
+            Ok(()) => {}
+            Err(_) => return Err(Refusal::Memory),
+        }
         self.clock = clock;
         Ok(())
+    }
+
+    /// The operations of an edit that nothing refuses. An error is want of memory (1).
+    fn made(&self, edit: &Edit) -> Result<Vec<Op>, Refusal>
+        requires { CanEdit self.now edit.now }
+        ensures made { IfOk result (λ made.
+            made.items ≡ made_of self.now.list self.now.replica edit.now) }
+        ensures memory { IfErr result (λ e. e ≡ Refusal.Memory) }
+    {
+        let alloc = *self.log.list.allocator();
+        let empty = Doc::new(alloc, edit.doc);
+        let doc = find(&self.log.docs, &empty);
+        let next = self.log.index.greatest + 1;
+        match doc.make(alloc, self.id, next, &self.clock, &edit.change) {
+            Ok(made) => Ok(made),
+            // Nothing refuses the edit, so only a growth can be refused here.
+            Err(_) => Err(Refusal::Memory),
+        }
     }
 
     /// Puts a peer's operation behind the list, or says that it is there already, or that it comes
     /// early. It is refused by the first cause, in this order: `OwnUnknown` (20), which is tested
     /// before `Early`, `Counter` (21), `Names` (22), `Document` (23), `StoreLimit` (24), `Steps`
-    /// (10); `Memory` (1) stands only in place of `Applied`. A refused merge changes nothing.
-    /// Linear in the list.
+    /// (10); `Memory` (1) stands only in place of `Applied`. A refused merge changes nothing. A few
+    /// steps for clocks, and a binary search for each character that the operation names.
     pub fn merge(&mut self, peer: u64, op: Op) -> Result<Merged, Refusal>
         ensures merged { IfOk result (λ m. self.new ≡ after_merge m self.old peer op) }
         ensures answer { IfOk result (λ m.
@@ -311,7 +335,7 @@ impl Replica {
             ≡ refused (number_of e)) }
     {
         let log = &self.log;
-        if let Some(refusal) = first_failed(&log.list, &self.clock, &log.documents, op) {
+        if let Some(refusal) = first_failed(&log.list, &self.clock, &log.docs, &log.index, op) {
             return Some(refusal);
         }
         if log.steps.len() > MAX_STEPS - 3 {
@@ -335,13 +359,17 @@ impl Replica {
             Ok(()) => {}
             Err(_) => return Err(Refusal::Memory),
         }
+        let replica = op.id.replica();
         let doc = op.doc;
         let step = Step::Merge {
             peer,
             index: self.log.list.len(),
         };
         let made = one(alloc, op)?;
-        self.log.append(made, doc, step)?;
+        match self.log.append(made, replica, doc, step) {
+            Ok(()) => {}
+            Err(_) => return Err(Refusal::Memory),
+        }
         self.clock = clock;
         Ok(())
     }

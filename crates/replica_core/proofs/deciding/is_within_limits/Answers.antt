@@ -1,4 +1,5 @@
-use Rattle.std.proofs.Common.{◌≡◌, ◌∙◌, true, nat_lt, refl, sym, arith}
+use Rattle.std.proofs.Common.{◌≡◌, ℕ, ◌≤◌, ◌<◌, ◌∙◌, true, false, nat_lt, nat_le, refl, sym, arith}
+use Rattle.std.proofs.lemmas.Bool.Decides.{nat_tests}
 use Rattle.std.proofs.lemmas.Bool.{lt-ltb}
 use Rattle.op_ids.specs.Clock.{advanced, is_clock, IsOverfull}
 use Rattle.op_model.specs.Causality.{clock_of}
@@ -10,8 +11,15 @@ pub returns-then-edit-eq0 : goal.returns-then-edit-eq0
 returns-then-edit-eq0 c =
     sym (is_within_limits-no_document c.args.ops.now c.args.replica c.args.edit.now c.requires.right (omega arith) c.if-edit-eq0.true)
 
-pub returns-then-greatest_counter-count-gt-MAX_COUNTER : goal.returns-then-greatest_counter-count-gt-MAX_COUNTER
-returns-then-greatest_counter-count-gt-MAX_COUNTER c =
+at_most : (n last : ℕ) → nat_le n last ≡ true → n ≤ last
+at_most n last small = grind (arith, nat_tests)
+
+beyond : (n last : ℕ) → nat_le n last ≡ false → last < n
+beyond n last large = grind (arith, nat_tests)
+
+pub returns-then-not-has_counters : goal.returns-then-not-has_counters
+returns-then-not-has_counters c =
+    let large = beyond _ _ (rw c.requires.known.index.greatest at (sym c.if-not-has_counters.ensures)) in
     sym (is_within_limits-over c.args.ops.now c.args.replica c.args.edit.now c.requires.right (omega arith) (omega arith))
 
 pub returns-then-not-can_advance : goal.returns-then-not-can_advance
@@ -24,5 +32,6 @@ returns c =
     let fits : is_clock (advanced (clock_of c.args.ops.now) c.args.replica) ≡ true = rw c.requires.known.clock at (sym c.if-not-can_advance.ensures.fits) in
     let there : nat_lt 0 c.args.edit.now.doc ≡ true = lt-ltb 0 c.args.edit.now.doc (omega arith) in
     let small : nat_lt c.args.edit.now.doc 4294967296 ≡ true = lt-ltb c.args.edit.now.doc 4294967296 (omega arith) in
+    let below = at_most _ _ (rw c.requires.known.index.greatest at (sym c.if-not-has_counters.ensures)) in
     let all = is_within_limits-made c.args.ops.now c.args.replica c.args.edit.now 281474976710656 c.requires.known.closed c.requires.right (omega arith) (omega arith) refl there small fits in
-    c.has_room.ensures ∙ (rw (c.requires.known.documents, c.size-count.ensures.value, c.made_length-bytes.ensures) (sym all))
+    c.has_room.ensures ∙ (rw (c.requires.known.docs.numbers, c.requires.known.index.stream, c.size-count.ensures.value, c.made_length-bytes.ensures c.args.ops.now c.requires.stands c.requires.number c.requires.known.clock c.requires.right) (sym all))

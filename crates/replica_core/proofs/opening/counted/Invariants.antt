@@ -3,4 +3,4 @@ use Rattle.replica_core.specs.Deciding.{AreKnown}
 use Rattle.replica_core.proofs.opening.counted.Given as goal
 
 abbrev pub invariant-loop-i : goal.invariant-loop-i
-invariant-loop-i l = AreKnown (take l.i l.list) l.clock l.documents.items
+invariant-loop-i l = AreKnown (take l.i l.list) l.clock l.docs.items l.index

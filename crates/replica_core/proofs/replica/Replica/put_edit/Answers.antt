@@ -1,29 +1,48 @@
-use Rattle.std.proofs.Common.{◌≡◌, ◌<◌, ◌∙◌, length, sym}
+use Rattle.std.proofs.Common.{◌≡◌, ◌<◌, ◌++◌, ◌∙◌, length, ap, rules}
+use Rattle.op_model.specs.Causality.{clock_of}
 use Rattle.op_model.specs.Made.{made, size_of}
-use Rattle.replica_core.proofs.SoundLemmas.{due_fits, due_asks_right, held_of-edit, AreFields-edit}
+use Rattle.replica_core.proofs.FollowLemmas.{stream_fits}
+use Rattle.replica_core.proofs.SoundLemmas.{due_fits, due_within, due_asks_right, made_own, held_of-edit, AreFields-edit}
 use Rattle.replica_core.proofs.replica.Replica.put_edit.Goals as goal
 
-pub append-requires : goal.append-requires
-append-requires c =
-    let items : c.in-Ok.made.0.items ≡ made c.self.inside.log.list.items c.self.inside.id c.args.edit.now = rw c.deref.ensures.value at c.in-Ok.ensures.made in
-    rw items (due_fits c.self.inside.log.list.items c.self.inside.id c.args.edit.now (rw c.deref.ensures.value at c.in-Ok.ensures.due))
+pub append-requires-clause-few : goal.append-requires-clause-few
+append-requires-clause-few c =
+    let items : c.in_ok-made.made.items ≡ made c.self.inside.log.list.items c.self.inside.id c.args.edit.now = rw (← c.self.view_is) at c.in_ok-made.ensures.made in
+    let can = rw (← c.self.view_is) at c.requires in
+    rw items (due_fits c.self.inside.log.list.items c.self.inside.id c.args.edit.now can.due)
+
+pub append-requires-clause-own : goal.append-requires-clause-own
+append-requires-clause-own c =
+    let items : c.in_ok-made.made.items ≡ made c.self.inside.log.list.items c.self.inside.id c.args.edit.now = rw (← c.self.view_is) at c.in_ok-made.ensures.made in
+    rw items (made_own c.self.inside.log.list.items c.self.inside.id c.args.edit.now)
+
+pub append-requires-clause-small : goal.append-requires-clause-small
+append-requires-clause-small c =
+    let items : c.in_ok-made.made.items ≡ made c.self.inside.log.list.items c.self.inside.id c.args.edit.now = rw (← c.self.view_is) at c.in_ok-made.ensures.made in
+    let can = rw (← c.self.view_is) at c.requires in
+    rw items (stream_fits c.self.inside.log.list.items (made c.self.inside.log.list.items c.self.inside.id c.args.edit.now) c.self.inside.log.index.stream
+    (due_within c.self.inside.log.list.items c.self.inside.id c.args.edit.now can.due) c.self.invariant.index.stream)
 
 pub invariant_of-self-2 : goal.invariant_of-self-2
 invariant_of-self-2 c =
-    let items : c.in-Ok.made.0.items ≡ made c.self.inside.log.list.items c.self.inside.id c.args.edit.now = rw c.deref.ensures.value at c.in-Ok.ensures.made in
+    let items : c.in_ok-made.made.items ≡ made c.self.inside.log.list.items c.self.inside.id c.args.edit.now = rw (← c.self.view_is) at c.in_ok-made.ensures.made in
     let can = rw (← c.self.view_is) at c.requires in
-    let some : 0 < size_of c.args.edit.now.change = rw c.size-count.ensures.value at c.size-count.ensures.some in
-    let first : c.len.result ≡ length c.self.inside.log.list.items = c.len.ensures ∙ sym (rw c.deref.ensures.value at c.deref.ensures.len) in
-    AreFields-edit c.self.inside.id c.self.inside.opened c.self.inside.settled c.self.inside.acked c.self.inside.told c.args.session c.len.result c.size-count.result
-    c.self.inside.log c.append.new.self c.in-Ok.made.0.items c.args.edit.now c.in_ok-copy.field-0 _ c.in-Ok.made.1 _ _
-    c.self.invariant can some (rw c.deref.ensures.value at c.in-Ok.ensures.clock) c.in_ok-append.ensures.ok items c.in_ok-copy.ensures first c.size-count.ensures.value
+    let some : 0 < size_of c.args.edit.now.change = rw c.size.ensures.value at c.size.ensures.some in
+    let first : c.len.result ≡ length c.self.inside.log.list.items = search rules in
+    let counts : c.count_all.new.clock ≡ clock_of (c.self.inside.log.list.items ++ made c.self.inside.log.list.items c.self.inside.id c.args.edit.now) =
+    c.in-Ok.ensures c.self.inside.log.list.items (c.in_ok-clock.ensures ∙ c.self.invariant.clock)
+    ∙ ap (λ more. clock_of (c.self.inside.log.list.items ++ more)) (c.deref.ensures.value ∙ items) in
+    AreFields-edit c.self.inside.id c.self.inside.opened c.self.inside.settled c.self.inside.acked c.self.inside.told c.args.session c.len.result c.size.result
+    c.self.inside.log c.append.new.self c.in_ok-made.made.items c.args.edit.now c.in_ok-copy.field-0 _ c.count_all.new.clock _
+    c.self.invariant can some counts c.in-Ok-append.ensures.ok items c.in_ok-copy.ensures first c.size.ensures.value
 
 pub returns-clause-made : goal.returns-clause-made
 returns-clause-made c =
-    let items : c.in-Ok.made.0.items ≡ made c.self.inside.log.list.items c.self.inside.id c.args.edit.now = rw c.deref.ensures.value at c.in-Ok.ensures.made in
-    let right = due_asks_right c.self.inside.log.list.items c.self.inside.id c.args.edit.now (rw c.deref.ensures.value at c.in-Ok.ensures.due) in
-    let first : c.len.result ≡ length c.self.inside.log.list.items = c.len.ensures ∙ sym (rw c.deref.ensures.value at c.deref.ensures.len) in
+    let items : c.in_ok-made.made.items ≡ made c.self.inside.log.list.items c.self.inside.id c.args.edit.now = rw (← c.self.view_is) at c.in_ok-made.ensures.made in
+    let can = rw (← c.self.view_is) at c.requires in
+    let right = due_asks_right c.self.inside.log.list.items c.self.inside.id c.args.edit.now can.due in
+    let first : c.len.result ≡ length c.self.inside.log.list.items = search rules in
     rw (← c.self.view_is)
-    (held_of-edit c.self.inside.id c.self.inside.opened c.self.inside.settled c.self.inside.acked c.self.inside.told c.args.session c.len.result c.size-count.result
-    c.self.inside.log c.append.new.self c.in-Ok.made.0.items c.args.edit.now c.in_ok-copy.field-0
-    c.in_ok-append.ensures.ok items c.in_ok-copy.ensures first c.size-count.ensures.value right)
+    (held_of-edit c.self.inside.id c.self.inside.opened c.self.inside.settled c.self.inside.acked c.self.inside.told c.args.session c.len.result c.size.result
+    c.self.inside.log c.append.new.self c.in_ok-made.made.items c.args.edit.now c.in_ok-copy.field-0
+    c.in-Ok-append.ensures.ok items c.in_ok-copy.ensures first c.size.ensures.value right)

@@ -1,0 +1,209 @@
+"""A plain reader of a page file, written from docs/FORMATS.md alone: what a file stands for, or the number that is due."""
+
+PAGE = 4096
+MAGIC = b"PTXTPG01"
+INSERT, REMOVE, ADD_MARK, REMOVE_MARK = 1, 2, 3, 4
+
+
+class Refused(Exception):
+    """The number of the first broken rule."""
+
+    def __init__(self, number):
+        super().__init__(number)
+        self.number = number
+
+
+def number(data):
+    return int.from_bytes(data, "big")
+
+
+def page(data, at):
+    """A page that lies whole in the file, or nothing."""
+    found = data[PAGE * at : PAGE * at + PAGE]
+    return found if len(found) == PAGE else None
+
+
+def live_body(data):
+    """The body of the live slot."""
+    if len(data) < 2 * PAGE:
+        raise Refused(42)
+    slots = [data[:PAGE], data[PAGE : 2 * PAGE]]
+    is_open = [slot for slot in slots if slot[0] == 1]
+    if not is_open:
+        raise Refused(42)
+    versions = [number(slot[16:24]) for slot in is_open]
+    if len(is_open) == 2 and versions[0] == versions[1]:
+        raise Refused(43)
+    return is_open[versions.index(max(versions))]
+
+
+def root(data):
+    """Replica, length of the stream, number of operations, table pages."""
+    body = live_body(data)
+    length, count = number(body[40:48]), number(body[48:56])
+    tables = number(body[56:60])
+    pages = -(-length // PAGE)
+    good = (
+        body[8:16] == MAGIC
+        and number(body[16:24]) >= 1
+        and any(body[24:40])
+        and length <= 2**30
+        and count <= 2**24
+        and tables == -(-pages // 1024)
+        and not any(body[60:64])
+    )
+    if not good or any(body[64 + 4 * tables :]):
+        raise Refused(43)
+    numbers = [number(body[64 + 4 * i : 68 + 4 * i]) for i in range(tables)]
+    if any(n < 2 for n in numbers) or len(set(numbers)) < len(numbers):
+        raise Refused(43)
+    if any(page(data, n) is None for n in numbers):
+        raise Refused(43)
+    return body[24:40], length, count, numbers
+
+
+def stream(data):
+    """Replica, the bytes of the stream, number of operations."""
+    replica, length, count, tables = root(data)
+    entries = [number(page(data, t)[4 * i : 4 * i + 4]) for t in tables for i in range(1024)]
+    pages = -(-length // PAGE)
+    if any(entries[pages:]):
+        raise Refused(45)
+    named = entries[:pages]
+    reached = tables + named
+    if any(n < 2 for n in named) or len(set(reached)) < len(reached):
+        raise Refused(45)
+    if any(page(data, n) is None for n in named):
+        raise Refused(45)
+    joined = b"".join(page(data, n) for n in named)
+    if any(joined[length:]):
+        raise Refused(46)
+    return replica, joined[:length], count
+
+
+class Fields:
+    """The fields of a record's body, in order."""
+
+    def __init__(self, data):
+        self.data, self.at = data, 0
+
+    def take(self, size):
+        if self.at + size > len(self.data):
+            raise Refused(46)
+        self.at += size
+        return self.data[self.at - size : self.at]
+
+    def number(self, size, low, high):
+        found = number(self.take(size))
+        if not low <= found <= high:
+            raise Refused(46)
+        return found
+
+    def id(self):
+        counter = self.number(8, 1, 2**48 - 1)
+        return counter, self.number(16, 1, 2**128 - 1)
+
+    def anchor(self, bare, other):
+        tag = self.number(1, 0, 3)
+        if tag == other:
+            raise Refused(46)
+        return (tag, None) if tag == bare else (tag, self.id())
+
+
+def operation(body):
+    """One operation: kind, document, id, deps, and the ids that it names."""
+    fields = Fields(body)
+    kind = fields.number(1, INSERT, REMOVE_MARK)
+    doc = fields.number(4, 0, 2**32 - 1)
+    own = fields.id()
+    deps, last = {}, 0
+    for _ in range(fields.number(1, 0, 16)):
+        replica = fields.number(16, last + 1, 2**128 - 1)
+        deps[replica] = fields.number(8, 1, 2**24)
+        last = replica
+    names, value = [], None
+    if kind == INSERT:
+        if fields.number(1, 0, 1):
+            names.append(fields.id())
+        value = fields.number(4, 0, 0x10FFFF)
+        if 0xD800 <= value < 0xE000:
+            raise Refused(46)
+    elif kind == REMOVE:
+        names.append(fields.id())
+    else:
+        mark = fields.number(1, 1, 4)
+        if mark == 3 and kind == ADD_MARK:
+            try:
+                fields.take(fields.number(2, 1, 1024)).decode("utf-8")
+            except UnicodeDecodeError:
+                raise Refused(46) from None
+        if mark == 4:
+            fields.take(16)
+        anchors = [fields.anchor(0, 3), fields.anchor(3, 0)]
+        names += [found for _, found in anchors if found]
+    if fields.at < len(body):
+        raise Refused(46)
+    return kind, doc, own, deps, names, value
+
+
+def operations(data, count):
+    """The operations that the stream is the records of."""
+    ops, at = [], 0
+    while at < len(data):
+        length = number(data[at : at + 4])
+        if at + 4 > len(data) or not 33 <= length <= 1491 or at + 4 + length > len(data):
+            raise Refused(46)
+        ops.append(operation(data[at + 4 : at + 4 + length]))
+        at += 4 + length
+    if len(ops) != count:
+        raise Refused(46)
+    return ops
+
+
+def check_order(ops):
+    """Each operation may follow those before it."""
+    clock, inserts, last, docs = {}, {}, {}, set()
+    for kind, doc, (counter, replica), deps, names, _ in ops:
+        known = clock.get(replica, 0)
+        ready = deps.get(replica, 0) == known and all(clock.get(r, 0) >= n for r, n in deps.items())
+        named = all(
+            inserts.get(name, (0, 0))[0] == doc
+            and inserts[name][1] <= deps.get(name[1], 0)
+            and name[0] < counter
+            for name in names
+        )
+        if not ready or counter <= last.get(replica, 0) or not named or doc == 0:
+            raise Refused(47)
+        clock[replica] = known + 1
+        last[replica] = counter
+        docs.add(doc)
+        if len(clock) > 16 or len(docs) > 1024:
+            raise Refused(47)
+        if kind == INSERT:
+            inserts[counter, replica] = doc, known + 1
+
+
+def image(data):
+    """Replica and operations of a file; `Refused` with the first of 42, 43, 45, 46, 47."""
+    replica, records, count = stream(data)
+    ops = operations(records, count)
+    check_order(ops)
+    return replica, ops
+
+
+def text(ops, doc):
+    """The text of a document: the walk of its insertion tree, without the characters that were removed."""
+    children, removed, values = {}, set(), {}
+    for kind, its_doc, own, _, names, value in ops:
+        if its_doc == doc and kind == INSERT:
+            children.setdefault(names[0] if names else None, []).append(own)
+            values[own] = value
+        elif its_doc == doc and kind == REMOVE:
+            removed.add(names[0])
+    found, left = [], sorted(children.get(None, []))
+    while left:
+        own = left.pop()
+        if own not in removed:
+            found.append(chr(values[own]))
+        left += sorted(children.get(own, []))
+    return "".join(found)

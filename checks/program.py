@@ -1,0 +1,76 @@
+"""Runs of the program, and what they are to give."""
+
+import json
+import os
+import subprocess
+from concurrent.futures import ThreadPoolExecutor
+
+REPLICA = "00000000-0000-4000-8000-000000000001"
+NAME = bytes.fromhex("00000000000040008000000000000001")
+PAGE = 4096
+WORDS = {
+    1: "memory", 4: "field", 9: "failed", 42: "no root", 43: "bad root", 45: "bad table", 46: "bad stream",
+    47: "bad operation", 48: "not empty", 50: "read failed", 51: "write failed", 52: "sync failed",
+    54: "open failed", 70: "socket", 71: "stream",
+}
+
+
+class Checks:
+    """How many checks passed and failed; a failed one is printed."""
+
+    def __init__(self):
+        self.passed = 0
+        self.failed = 0
+
+    def same(self, what, found, wanted):
+        if found == wanted:
+            self.passed += 1
+        else:
+            self.failed += 1
+            print(f"FAILED: {what}: found {str(found)[:400]}, wanted {str(wanted)[:400]}")
+
+    def holds(self, what, is_so):
+        self.same(what, bool(is_so), True)
+
+
+def run(program, *words, lines=b""):
+    """Exit status, standard output, standard error."""
+    ran = subprocess.run([program, *words], input=lines, capture_output=True, timeout=60)
+    return ran.returncode, ran.stdout, ran.stderr
+
+
+def fault(number):
+    """What a refusal that ends the program gives."""
+    return 1, b"", f"peritext: {number} {WORDS[number]}\n".encode()
+
+
+def line(**fields):
+    """A line of a session."""
+    return json.dumps(fields, separators=(",", ":")).encode() + b"\n"
+
+
+def insert(at, text, doc=1):
+    return line(op="insert", doc=doc, at=at, text=text)
+
+
+def new_file(program, name):
+    """A file of a new store."""
+    if os.path.exists(name):
+        os.remove(name)
+    return run(program, "init", name, "--replica", REPLICA)
+
+
+def read(name):
+    with open(name, "rb") as file:
+        return file.read()
+
+
+def write(name, data):
+    with open(name, "wb") as file:
+        file.write(data)
+
+
+def all_of(call, given):
+    """What a call gives for each of these, some at once."""
+    with ThreadPoolExecutor(os.cpu_count() or 2) as pool:
+        return list(pool.map(call, given))

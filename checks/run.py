@@ -1,0 +1,34 @@
+"""Runs the program on real files: python3 checks/run.py PROGRAM. The last line is 'N passed, M failed'."""
+
+import os
+import sys
+import tempfile
+import time
+
+import crafted
+import damage
+import kills
+import words
+from program import Checks
+
+LIMIT = 600
+
+
+def main():
+    program = os.path.abspath(sys.argv[1] if len(sys.argv) > 1 else "bin/peritext")
+    started = time.monotonic()
+    checks = Checks()
+    with tempfile.TemporaryDirectory(prefix="peritext-") as room:
+        os.chdir(room)
+        for group in (words, crafted, damage, kills):
+            before = checks.passed, checks.failed
+            group.check(checks, program, started + LIMIT)
+            took = time.monotonic() - started
+            print(f"{group.__name__}: {checks.passed - before[0]} passed, "
+                  f"{checks.failed - before[1]} failed, at {took:.0f} s")
+    print(f"{checks.passed} passed, {checks.failed} failed")
+    return 1 if checks.failed else 0
+
+
+if __name__ == "__main__":
+    sys.exit(main())

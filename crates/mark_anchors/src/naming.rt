@@ -1,0 +1,76 @@
+ghost use Rattle.std.specs.Prelude.{◌≡◌, ◌↔◌, ℕ, List, ◌++◌, false, IsErrOf, OnErr};
+ghost use Rattle.std.specs.List.{list_all};
+ghost use Rattle.char_sequence.specs.Content.{is_there, Holds};
+ghost use Rattle.mark_anchors.specs.Naming.{named_by_marking};
+ghost use Rattle.op_model.specs.declared.op.Op.{Op};
+ghost use Rattle.op_model.specs.Causality.{optional, named_by_start, named_by_end};
+ghost use Rattle.op_model.specs.Characters.{characters};
+ghost use Rattle.op_model.specs.Placing.{has_id};
+
+use char_sequence::{Sequence, SequenceError};
+use op_ids::OpId;
+use op_model::{Anchor, Body, End, Start};
+
+/// Refuses a mark operation that names a character that isn't there. Takes no memory.
+pub fn check_names(sequence: &Sequence, body: &Body) -> Result<(), SequenceError>
+    ensures unknown { (ops : List Op) (doc : ℕ) → Holds sequence.now ops doc
+        → (IsErrOf result SequenceError.UnknownId
+        ↔ (list_all (λ id. has_id (characters ops doc) id) (named_by_marking body.now) ≡ false)) }
+    ensures memory { IsErrOf result SequenceError.Memory → ⊥ }
+{
+    match body {
+        Body::AddMark { start, end, .. } => check_ends(sequence, start, end),
+        Body::RemoveMark { start, end, .. } => check_ends(sequence, start, end),
+        _ => Ok(()),
+    }
+}
+
+/// Refuses the ends of a mark operation where they name a character that isn't there.
+fn check_ends(sequence: &Sequence, start: &Start, end: &End) -> Result<(), SequenceError>
+    ensures unknown { (ops : List Op) (doc : ℕ) → Holds sequence.now ops doc
+        → (IsErrOf result SequenceError.UnknownId
+        ↔ (list_all (λ id. has_id (characters ops doc) id)
+        (named_by_start start.now ++ named_by_end end.now) ≡ false)) }
+    ensures memory { IsErrOf result SequenceError.Memory → ⊥ }
+{
+    if knows(sequence, &start_id(start)) && knows(sequence, &end_id(end)) {
+        return Ok(());
+    }
+    Err(SequenceError::UnknownId)
+}
+
+/// Whether a character is there; no character always is.
+fn knows(sequence: &Sequence, id: &Option<OpId>) -> bool
+    ensures { (ops : List Op) (doc : ℕ) → Holds sequence.now ops doc
+        → result ≡ is_there ops doc id.now }
+{
+    match id {
+        None => true,
+        Some(id) => match sequence.find(*id) {
+            Some(_) => true,
+            None => false,
+        },
+    }
+}
+
+/// The character that a start names.
+fn start_id(start: &Start) -> Option<OpId>
+    ensures { optional result ≡ named_by_start start.now }
+{
+    match start {
+        Start::OfText => None,
+        Start::From(Anchor::Before(id)) => Some(*id),
+        Start::From(Anchor::After(id)) => Some(*id),
+    }
+}
+
+/// The character that an end names.
+fn end_id(end: &End) -> Option<OpId>
+    ensures { optional result ≡ named_by_end end.now }
+{
+    match end {
+        End::OfText => None,
+        End::To(Anchor::Before(id)) => Some(*id),
+        End::To(Anchor::After(id)) => Some(*id),
+    }
+}

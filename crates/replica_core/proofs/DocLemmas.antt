@@ -1,0 +1,285 @@
+-- The documents of a list, and one of them with more operations.
+use Rattle.std.proofs.Common.{◌≡◌, ℕ, zero, suc, ◌+◌, ◌≤◌, ◌<◌, Bool, true, false, inl, inr, ◌||◌, List, [], ◌∷◌, ◌++◌, length, take, drop, get_or, refl, sym, ◌∙◌, ap, append_assoc, append-nil, arith}
+use Rattle.std.specs.Prelude.{◌==◌, ◌≢◌, slice_set}
+use Rattle.std.specs.List.{list_any}
+use Rattle.std.proofs.lemmas.Bool.{cases_Bool, cases_order, eq-eqb, ne_eqb, lt-ltb, le-ltb, both_ways, or_parts, or_from}
+use Rattle.std.proofs.lemmas.List.{take-append-drop, get_or_read}
+use Rattle.doc_core.specs.declared.doc.Doc.{Doc}
+use Rattle.doc_core.specs.Standing.{number_of, StandsFor, MayComeInTurn}
+use Rattle.doc_core.proofs.LawLemmas.{others_stay}
+use Rattle.op_model.specs.declared.op.Op.{Op}
+use Rattle.op_model.specs.Causality.{documents}
+use Rattle.op_model.specs.Spans.{with_number}
+use Rattle.replica_core.specs.Docs.{numbers, AllStand, AreDocs}
+
+-- all of these are greater than a number
+abbrev AllOver : ℕ → List ℕ → Type 0
+AllOver n [] = Unit {0}
+AllOver n (m ∷ ms) = (n < m) × AllOver n ms
+
+-- they rise
+abbrev IsUp : List ℕ → Type 0
+IsUp [] = Unit {0}
+IsUp (n ∷ ns) = AllOver n ns × IsUp ns
+
+over_chain : (n m : ℕ) (ns : List ℕ) → n < m → AllOver m ns → AllOver n ns
+over_chain n m [] less over = tt
+over_chain n m (k ∷ ns) less over = (let first = over.0 in omega arith, over_chain n m ns less over.1)
+
+over_with : (n m : ℕ) (ns : List ℕ) → n < m → AllOver n ns → AllOver n (with_number m ns)
+over_with n m [] less over = (less, tt)
+over_with n m (k ∷ ns) less over =
+    elim (cases_order m k) [
+      | inl same ↦ simp (le-ltb m k (omega arith), eq-eqb m k same) over
+      | inr o ↦ elim o [
+        | inl below ↦ rw (lt-ltb m k below) (less, over)
+        | inr above ↦ simp (le-ltb m k (omega arith), ne_eqb m k (omega arith)) (over.0, over_with n m ns less over.1)
+      ]
+    ]
+
+up_with : (m : ℕ) (ns : List ℕ) → IsUp ns → IsUp (with_number m ns)
+up_with m [] up = (tt, tt)
+up_with m (k ∷ ns) up =
+    elim (cases_order m k) [
+      | inl same ↦ simp (le-ltb m k (omega arith), eq-eqb m k same) up
+      | inr o ↦ elim o [
+        | inl below ↦ rw (lt-ltb m k below) ((below, over_chain m k ns below up.0), up)
+        | inr above ↦ simp (le-ltb m k (omega arith), ne_eqb m k (omega arith)) (over_with k m ns above up.0, up_with m ns up.1)
+      ]
+    ]
+
+documents_up : (ops : List Op) → IsUp (documents ops)
+documents_up [] = tt
+documents_up (op ∷ ops) = up_with op.doc (documents ops) (documents_up ops)
+
+docs_up : (ds : List Doc) (ops : List Op) → AreDocs ds ops → IsUp (numbers ds)
+docs_up ds ops are = rw (are.numbers) (documents_up ops)
+
+-- a number is one of these
+abbrev pub has : ℕ → List ℕ → Bool
+has n ns = list_any (λ m. m == n) ns
+
+none_over : (n m : ℕ) (ns : List ℕ) → n ≤ m → AllOver m ns → has n ns ≡ false
+none_over n m [] most over = refl
+none_over n m (k ∷ ns) most over =
+    or_from (k == n) (has n ns) (ne_eqb k n (let first = over.0 in omega arith)) (none_over n m ns most over.1)
+
+-- a number that is there changes nothing
+with_same : (n : ℕ) (ns : List ℕ) → IsUp ns → has n ns ≡ true → with_number n ns ≡ ns
+with_same n [] up there = absurd (cc)
+with_same n (k ∷ ns) up there =
+    elim (cases_order n k) [
+      | inl same ↦ simp (le-ltb n k (omega arith), eq-eqb n k same)
+      | inr o ↦ elim o [
+        | inl below ↦ let first : (k == n) ≡ false = ne_eqb k n (omega arith) in
+            let rest : has n ns ≡ false = none_over n k ns (omega arith) up.0 in
+            absurd (both_ways (has n (k ∷ ns)) (or_from (k == n) (has n ns) first rest) there)
+        | inr above ↦ let first : (k == n) ≡ false = ne_eqb k n (omega arith) in
+            let rest : has n ns ≡ true = rw first at there in
+            simp (le-ltb n k (omega arith), ne_eqb n k (omega arith)) (ap (λ ms. k ∷ ms) (with_same n ns up.1 rest))
+      ]
+    ]
+
+longer : (n : ℕ) (front back : List ℕ) → length (front ++ n ∷ back) ≡ suc (length (front ++ back))
+longer n [] back = refl
+longer n (m ∷ front) back = ap suc (longer n front back)
+
+-- a number that has a place of its own isn't there
+lacks_placed : (n at : ℕ) (ns : List ℕ) → IsUp ns → with_number n ns ≡ take at ns ++ n ∷ drop at ns → has n ns ≡ false
+lacks_placed n at ns up placed =
+    elim (cases_Bool (has n ns)) [
+      | inl there ↦ let same = with_same n ns up there in
+          let long = longer n (take at ns) (drop at ns) in
+          let whole = ap length (take-append-drop at ns) in
+          let both = ap length (sym same ∙ placed) in
+          absurd (omega arith)
+      | inr none ↦ none
+    ]
+
+or_swapped : (a b c : Bool) → (a || (b || c)) ≡ (b || (a || c))
+or_swapped true true c = refl
+or_swapped true false c = refl
+or_swapped false true c = refl
+or_swapped false false c = refl
+
+or_twice : (a b : Bool) → (a || b) ≡ (a || (a || b))
+or_twice true b = refl
+or_twice false b = refl
+
+has-with : (n m : ℕ) (ns : List ℕ) → has n (with_number m ns) ≡ ((m == n) || has n ns)
+has-with n m [] = refl
+has-with n m (k ∷ ns) =
+    elim (cases_order m k) [
+      | inl same ↦ simp (le-ltb m k (omega arith), eq-eqb m k same) (rw same (or_twice (k == n) (has n ns)))
+      | inr o ↦ elim o [
+        | inl below ↦ rw (lt-ltb m k below) refl
+        | inr above ↦ simp (le-ltb m k (omega arith), ne_eqb m k (omega arith))
+            (ap (λ rest. (k == n) || rest) (has-with n m ns) ∙ or_swapped (k == n) (m == n) (has n ns))
+      ]
+    ]
+
+-- a document is one of those of a list where some operation is of it
+has-documents : (n : ℕ) (ops : List Op) → has n (documents ops) ≡ list_any (λ op. op.doc == n) ops
+has-documents n [] = refl
+has-documents n (op ∷ ops) = has-with n op.doc (documents ops) ∙ ap (λ rest. (op.doc == n) || rest) (has-documents n ops)
+
+differ : (a b : ℕ) → (a == b) ≡ false → a ≢ b
+differ a b apart same = both_ways (a == b) apart (eq-eqb a b same)
+
+-- operations of other documents leave a document as it is
+pub stays_all : (d : Doc) (before more : List Op) → list_any (λ op. op.doc == number_of d) more ≡ false → StandsFor d before → StandsFor d (before ++ more)
+stays_all d before [] none stands = rw append-nil stands
+stays_all d before (op ∷ more) none stands =
+    let both = or_parts (op.doc == number_of d) (list_any (λ o. o.doc == number_of d) more) none in
+    rw append_assoc at (stays_all d (before ++ op ∷ []) more both.1 (others_stay d before op (differ op.doc (number_of d) both.0) stands))
+
+in_turn_apart : (n doc : ℕ) (list more : List Op) → n ≢ doc → MayComeInTurn list doc more → list_any (λ op. op.doc == n) more ≡ false
+in_turn_apart n doc list [] other come = refl
+in_turn_apart n doc list (op ∷ more) other come =
+    let same = come.0.fits.same in
+    or_from (op.doc == n) (list_any (λ o. o.doc == n) more) (ne_eqb op.doc n (λ e. other (sym e ∙ same)))
+    (in_turn_apart n doc (list ++ op ∷ []) more other come.1)
+
+other_stands : (d : Doc) (doc : ℕ) (list more : List Op) → number_of d ≢ doc → MayComeInTurn list doc more → StandsFor d list → StandsFor d (list ++ more)
+other_stands d doc list more other come stands = stays_all d list more (in_turn_apart (number_of d) doc list more other come) stands
+
+-- the empty document of a number that no document has stands for the list
+pub absent_stands : (ds : List Doc) (d : Doc) (ops : List Op) → AreDocs ds ops → has (number_of d) (numbers ds) ≡ false
+    → StandsFor d [] → StandsFor d ops
+absent_stands ds d ops are lacks empty = stays_all d [] ops (sym (has-documents (number_of d) ops) ∙ rw (are.numbers) at lacks) empty
+
+-- with a number more there is one more
+pub length-placed : (n at : ℕ) (ns : List ℕ) → with_number n ns ≡ take at ns ++ n ∷ drop at ns → length (with_number n ns) ≡ length ns + 1
+length-placed n at ns placed =
+    let long = longer n (take at ns) (drop at ns) in
+    let whole = ap length (take-append-drop at ns) in
+    let both = ap length placed in
+    omega arith
+
+-- each of the documents stands for the list
+pub stands_at : (ds : List Doc) (i : ℕ) (d : Doc) (ops : List Op) → AllStand ds ops → i < length ds → d ≡ get_or ds i d → StandsFor d ops
+stands_at [] i d ops stand there is_it = absurd (omega arith)
+stands_at (x ∷ ds) zero d ops stand there is_it = rw is_it stand.0
+stands_at (x ∷ ds) (suc i) d ops stand there is_it = stands_at ds i d ops stand.1 (omega arith) is_it
+
+over_at : (n : ℕ) (ds : List Doc) (i : ℕ) (d : Doc) → AllOver n (numbers ds) → i < length ds → d ≡ get_or ds i d → n < number_of d
+over_at n [] i d over there is_it = absurd (omega arith)
+over_at n (x ∷ ds) zero d over there is_it = rw is_it over.0
+over_at n (x ∷ ds) (suc i) d over there is_it = over_at n ds i d over.1 (omega arith) is_it
+
+over_stand : (n : ℕ) (ds : List Doc) (list more : List Op) → AllOver n (numbers ds) → MayComeInTurn list n more → AllStand ds list → AllStand ds (list ++ more)
+over_stand n [] list more over come stand = tt
+over_stand n (x ∷ ds) list more over come stand = (
+  other_stands x n list more (λ e. let first = over.0 in absurd (omega arith)) come stand.0,
+  over_stand n ds list more over.1 come stand.1,
+)
+
+-- one of the documents with more operations
+pub stand_set : (ds : List Doc) (i : ℕ) (d new : Doc) (list more : List Op) → IsUp (numbers ds) → i < length ds → d ≡ get_or ds i d
+    → MayComeInTurn list (number_of d) more → AllStand ds list → StandsFor new (list ++ more) → AllStand (slice_set ds i new) (list ++ more)
+stand_set [] i d new list more up there is_it come stand stands = absurd (omega arith)
+stand_set (x ∷ ds) zero d new list more up there is_it come stand stands =
+    let over : AllOver (number_of d) (numbers ds) = rw is_it up.0 in
+    (stands, over_stand (number_of d) ds list more over come stand.1)
+stand_set (x ∷ ds) (suc i) d new list more up there is_it come stand stands =
+    let below = over_at (number_of x) ds i d up.0 (omega arith) is_it in (
+      other_stands x (number_of d) list more (λ e. absurd (omega arith)) come stand.0,
+      stand_set ds i d new list more up.1 (omega arith) is_it come stand.1 stands,
+    )
+
+-- a new document among the others
+lacks_stand : (n : ℕ) (ds : List Doc) (list more : List Op) → has n (numbers ds) ≡ false → MayComeInTurn list n more → AllStand ds list
+    → AllStand ds (list ++ more)
+lacks_stand n [] list more lacks come stand = tt
+lacks_stand n (x ∷ ds) list more lacks come stand =
+    let both = or_parts (number_of x == n) (has n (numbers ds)) lacks in
+    (other_stands x n list more (differ (number_of x) n both.0) come stand.0, lacks_stand n ds list more both.1 come stand.1)
+
+stand_insert : (ds : List Doc) (at : ℕ) (new : Doc) (ops : List Op) → AllStand ds ops → StandsFor new ops → AllStand (take at ds ++ new ∷ drop at ds) ops
+stand_insert ds zero new ops stand stands = (stands, stand)
+stand_insert [] (suc at) new ops stand stands = (stands, tt)
+stand_insert (x ∷ ds) (suc at) new ops stand stands = (stand.0, stand_insert ds at new ops stand.1 stands)
+
+pub numbers_insert : (ds : List Doc) (at : ℕ) (new : Doc) → numbers (take at ds ++ new ∷ drop at ds) ≡ take at (numbers ds) ++ number_of new ∷ drop at (numbers ds)
+numbers_insert ds zero new = refl
+numbers_insert [] (suc at) new = refl
+numbers_insert (x ∷ ds) (suc at) new = ap (λ rest. number_of x ∷ rest) (numbers_insert ds at new)
+
+-- with the operations that it has
+pub stand_new : (ds : List Doc) (at : ℕ) (new : Doc) (doc : ℕ) (list more : List Op) → AreDocs ds list
+    → with_number doc (numbers ds) ≡ take at (numbers ds) ++ doc ∷ drop at (numbers ds)
+    → MayComeInTurn list doc more → StandsFor new (list ++ more) → AllStand (take at ds ++ new ∷ drop at ds) (list ++ more)
+stand_new ds at new doc list more are placed come stands =
+    let lacks = lacks_placed doc at (numbers ds) (docs_up ds list are) placed in
+    stand_insert ds at new (list ++ more) (lacks_stand doc ds list more lacks come are.stand) stands
+
+-- one of them with more operations
+pub stand_more : (ds : List Doc) (i : ℕ) (d new : Doc) (list more : List Op) → AreDocs ds list → i < length ds → d ≡ get_or ds i d
+    → MayComeInTurn list (number_of d) more → (StandsFor d list → StandsFor new (list ++ more)) → AllStand (slice_set ds i new) (list ++ more)
+stand_more ds i d new list more are there is_it come takes =
+    stand_set ds i d new list more (docs_up ds list are) there is_it come are.stand (takes (stands_at ds i d list are.stand there is_it))
+
+pub numbers_set : (ds : List Doc) (i : ℕ) (d new : Doc) → d ≡ get_or ds i d → number_of new ≡ number_of d → numbers (slice_set ds i new) ≡ numbers ds
+numbers_set [] i d new is_it same = refl
+numbers_set (x ∷ ds) zero d new is_it same = let first : d ≡ x = is_it in ap (λ n. n ∷ numbers ds) (same ∙ ap number_of first)
+numbers_set (x ∷ ds) (suc i) d new is_it same = ap (λ rest. number_of x ∷ rest) (numbers_set ds i d new is_it same)
+
+-- a new document stands for the list that has no operation of it
+pub fresh_stands : (ds : List Doc) (at : ℕ) (d : Doc) (doc : ℕ) (ops : List Op) → AreDocs ds ops
+    → with_number doc (numbers ds) ≡ take at (numbers ds) ++ doc ∷ drop at (numbers ds) → number_of d ≡ doc → StandsFor d [] → StandsFor d ops
+fresh_stands ds at d doc ops are placed same empty =
+    absent_stands ds d ops are (rw same (lacks_placed doc at (numbers ds) (docs_up ds ops are) placed)) empty
+
+-- the number of the document at an index
+pub numbers_drop : (ds : List Doc) (i : ℕ) (d : Doc) → i < length ds → d ≡ get_or ds i d → drop i (numbers ds) ≡ number_of d ∷ drop (i + 1) (numbers ds)
+numbers_drop [] i d there is_it = absurd (omega arith)
+numbers_drop (x ∷ ds) zero d there is_it = let first : d ≡ x = is_it in ap (λ n. n ∷ numbers ds) (sym (ap number_of first))
+numbers_drop (x ∷ ds) (suc i) d there is_it =
+    let up : suc i + 1 ≡ suc (i + 1) = omega arith in
+    rw up (numbers_drop ds i d (omega arith) is_it)
+
+numbers_take : (ds : List Doc) (i : ℕ) (d : Doc) → i < length ds → d ≡ get_or ds i d → take (i + 1) (numbers ds) ≡ take i (numbers ds) ++ number_of d ∷ []
+numbers_take [] i d there is_it = absurd (omega arith)
+numbers_take (x ∷ ds) zero d there is_it = let first : d ≡ x = is_it in ap (λ n. n ∷ []) (sym (ap number_of first))
+numbers_take (x ∷ ds) (suc i) d there is_it =
+    let up : suc i + 1 ≡ suc (i + 1) = omega arith in
+    rw up (ap (λ rest. number_of x ∷ rest) (numbers_take ds i d (omega arith) is_it))
+
+-- it goes before a greater one
+pub place_before : (ds : List Doc) (i doc : ℕ) (d : Doc) → i < length ds → d ≡ get_or ds i d → doc < number_of d
+    → with_number doc (numbers ds) ≡ take i (numbers ds) ++ with_number doc (drop i (numbers ds))
+    → with_number doc (numbers ds) ≡ take i (numbers ds) ++ doc ∷ drop i (numbers ds)
+place_before ds i doc d there is_it less so =
+    let rest = numbers_drop ds i d there is_it in
+    so ∙ (rw (rest, lt-ltb doc (number_of d) less) refl)
+
+-- it is there
+pub place_here : (ds : List Doc) (i doc : ℕ) (d : Doc) → i < length ds → d ≡ get_or ds i d → doc ≡ number_of d
+    → with_number doc (numbers ds) ≡ take i (numbers ds) ++ with_number doc (drop i (numbers ds))
+    → with_number doc (numbers ds) ≡ numbers ds
+place_here ds i doc d there is_it same so =
+    let rest = numbers_drop ds i d there is_it in
+    let stays : with_number doc (number_of d ∷ drop (i + 1) (numbers ds)) ≡ number_of d ∷ drop (i + 1) (numbers ds) =
+    simp (le-ltb doc (number_of d) (omega arith), eq-eqb doc (number_of d) same) in
+    so
+    ∙ (ap (λ ns. take i (numbers ds) ++ with_number doc ns) rest
+    ∙ (ap (λ ns. take i (numbers ds) ++ ns) (stays ∙ sym rest) ∙ take-append-drop i (numbers ds)))
+
+-- it goes behind a smaller one
+pub place_on : (ds : List Doc) (i doc : ℕ) (d : Doc) → i < length ds → d ≡ get_or ds i d → number_of d < doc
+    → with_number doc (numbers ds) ≡ take i (numbers ds) ++ with_number doc (drop i (numbers ds))
+    → with_number doc (numbers ds) ≡ take (i + 1) (numbers ds) ++ with_number doc (drop (i + 1) (numbers ds))
+place_on ds i doc d there is_it less so =
+    let rest = numbers_drop ds i d there is_it in
+    let front = numbers_take ds i d there is_it in
+    let goes : with_number doc (number_of d ∷ drop (i + 1) (numbers ds)) ≡ number_of d ∷ with_number doc (drop (i + 1) (numbers ds)) =
+    simp (le-ltb doc (number_of d) (omega arith), ne_eqb doc (number_of d) (omega arith)) in
+    so
+    ∙ (ap (λ ns. take i (numbers ds) ++ with_number doc ns) rest
+    ∙ (ap (λ ns. take i (numbers ds) ++ ns) goes
+    ∙ (sym (append_assoc (take i (numbers ds)) (number_of d ∷ []) (with_number doc (drop (i + 1) (numbers ds))))
+    ∙ ap (λ ns. ns ++ with_number doc (drop (i + 1) (numbers ds))) (sym front))))
+
+-- what stands at an index is one document
+pub same_doc : (ds : List Doc) (i : ℕ) (d e : Doc) → i < length ds → d ≡ get_or ds i d → e ≡ get_or ds i e → e ≡ d
+same_doc ds i d e there is_d is_e = is_e ∙ sym (get_or_read ds i d there is_d e)

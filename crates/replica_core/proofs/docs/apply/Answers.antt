@@ -1,0 +1,38 @@
+use Rattle.std.proofs.Common.{◌≡◌, ◌∙◌, ◌++◌, ◌∷◌, take, drop, sym, ap}
+use Rattle.std.proofs.lemmas.Result.{on_ok_weaker}
+use Rattle.doc_core.specs.Standing.{number_of}
+use Rattle.doc_core.proofs.StandingLemmas.{on_ok_always}
+use Rattle.replica_core.specs.Docs.{numbers}
+use Rattle.replica_core.proofs.DocLemmas.{fresh_stands, numbers_insert, numbers_set, stand_more, stand_new}
+use Rattle.replica_core.proofs.docs.apply.Goals as goal
+
+pub returns-in-Ok-clause-numbers : goal.returns-in-Ok-clause-numbers
+returns-in-Ok-clause-numbers c =
+    let found = rw c.deref.ensures.value at c.in-Ok.ensures in
+    on_ok_always c.apply_edit.result
+    (numbers_set c.args.docs.now.items c.in-Ok.at c.index_mut-it.result.now c.apply_edit.new.self c.index_mut-it.ensures.value c.apply_edit.ensures.number ∙ sym found.2)
+
+pub returns-in-Ok-clause-stand : goal.returns-in-Ok-clause-stand
+returns-in-Ok-clause-stand c =
+    let found = rw c.deref.ensures.value at c.in-Ok.ensures in
+    let same : number_of c.index_mut-it.result.now ≡ c.args.doc = found.1 c.index_mut-it.result.now c.index_mut-it.ensures.value in
+    on_ok_weaker c.apply_edit.result (λ taken. λ list are come.
+    stand_more c.args.docs.now.items c.in-Ok.at c.index_mut-it.result.now c.apply_edit.new.self list c.args.ops.now are found.0 c.index_mut-it.ensures.value
+    (rw same come) (λ stands. taken list stands (rw same come))) c.apply_edit.ensures.taken
+
+pub returns-in-Ok-insert-clause-numbers : goal.returns-in-Ok-insert-clause-numbers
+returns-in-Ok-insert-clause-numbers c =
+    let placed = rw c.deref.ensures.value at c.in-Err.ensures in
+    let same : number_of c.apply_edit-in-Err.new.self ≡ c.args.doc = c.in_ok-apply_edit-in-Err.ensures.number ∙ c.new-it.ensures.number in
+    rw (c.in-Ok-insert.ensures.items, c.in_ok-reserve-in-Err.ensures.items)
+    (numbers_insert c.args.docs.now.items c.in-Err.at c.apply_edit-in-Err.new.self
+    ∙ (ap (λ n. take c.in-Err.at (numbers c.args.docs.now.items) ++ n ∷ drop c.in-Err.at (numbers c.args.docs.now.items)) same ∙ sym placed.1))
+
+pub returns-in-Ok-insert-clause-stand : goal.returns-in-Ok-insert-clause-stand
+returns-in-Ok-insert-clause-stand c = λ list are come.
+    let placed = rw c.deref.ensures.value at c.in-Err.ensures in
+    let same : number_of c.new-it.result ≡ c.args.doc = c.new-it.ensures.number in
+    let fresh = fresh_stands c.args.docs.now.items c.in-Err.at c.new-it.result c.args.doc list are placed.1 same c.new-it.ensures.empty in
+    rw (c.in-Ok-insert.ensures.items, c.in_ok-reserve-in-Err.ensures.items)
+    (stand_new c.args.docs.now.items c.in-Err.at c.apply_edit-in-Err.new.self c.args.doc list c.args.ops.now are placed.1 come
+    (c.in_ok-apply_edit-in-Err.ensures.taken list fresh (rw same come)))

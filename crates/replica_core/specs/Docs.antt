@@ -1,0 +1,20 @@
+-- The documents of a list.
+use Rattle.std.specs.Prelude.{◌≡◌, ℕ, List, [], ◌∷◌, map}
+use Rattle.doc_core.specs.declared.doc.Doc.{Doc}
+use Rattle.doc_core.specs.Standing.{number_of, StandsFor}
+use Rattle.op_model.specs.declared.op.Op.{Op}
+use Rattle.op_model.specs.Causality.{documents}
+
+-- their numbers
+abbrev pub numbers : List Doc → List ℕ
+numbers ds = map number_of ds
+
+-- each of these stands for a list
+abbrev pub AllStand : List Doc → List Op → Type 0
+AllStand [] ops = Unit {0}
+AllStand (d ∷ ds) ops = StandsFor d ops × AllStand ds ops
+
+-- these are the documents of a list: one for each that has operations, in rising order, and each stands for the list
+pub record AreDocs (docs : List Doc) (ops : List Op) : Type 0 where
+  pub numbers : numbers docs ≡ documents ops
+  pub stand : AllStand docs ops

@@ -1,0 +1,85 @@
+ghost use Rattle.std.specs.Prelude.{◌≡◌, ℕ, ◌≤◌, ◌<◌, List, [], ◌∷◌, ◌++◌, length, take, drop, slice_index_or, nat_le, MatchResult, OnOk, OnErr};
+ghost use Rattle.doc_core.specs.declared.doc.Doc.{Doc};
+ghost use Rattle.doc_core.specs.Standing.{number_of, StandsFor, MayComeInTurn};
+ghost use Rattle.op_model.specs.declared.op.Op.{Op};
+ghost use Rattle.op_model.specs.Spans.{with_number};
+ghost use Rattle.replica_core.specs.Docs.{numbers, AllStand, AreDocs};
+
+use doc_core::{Doc, SequenceError};
+use op_model::Op;
+use slow_programs::MAX_DOCUMENTS;
+use std::alloc::Global;
+
+/// Of the documents of a list the one with the number of this empty document, or else the empty
+/// one. Takes no memory. At most a step for each document.
+pub fn find<'a>(docs: &'a [Doc], empty: &'a Doc) -> &'a Doc
+    requires { StandsFor empty.now [] }
+    ensures number { number_of result.now ≡ number_of empty.now }
+    ensures stands { (ops : List Op) → AreDocs docs.now ops → StandsFor result.now ops }
+{
+    for it in docs {
+        if it.number() == empty.number() {
+            return it;
+        }
+    }
+    empty
+}
+
+/// Whether there are at most 1,024 documents with this one.
+pub fn has_document(docs: &[Doc], doc: u32) -> bool
+    ensures { result ≡ nat_le (length (with_number doc (numbers docs.now))) 1024 }
+{
+    match place(docs, doc) {
+        Ok(_) => docs.len() <= MAX_DOCUMENTS,
+        Err(_) => docs.len() < MAX_DOCUMENTS,
+    }
+}
+
+/// Takes operations of one document, whole or not at all. `UnknownId` (60) only where they can't
+/// come after the others, `Memory` (1) where a growth was refused. At most a step for each
+/// document, and what the document itself takes.
+pub fn apply(docs: &mut Vec<Doc>, alloc: Global, doc: u32, ops: &[Op]) -> Result<(), SequenceError>
+    ensures numbers { OnOk result
+        (numbers docs.new.items ≡ with_number doc (numbers docs.old.items)) }
+    ensures stand { OnOk result ((list : List Op) → AreDocs docs.old.items list
+        → MayComeInTurn list doc ops.now → AllStand docs.new.items (list ++ ops.now)) }
+    ensures err { OnErr result (docs.new.items ≡ docs.old.items) }
+{
+    match place(docs, doc) {
+        Ok(at) => {
+            let it = &mut docs[at];
+            it.apply_edit(ops)
+        }
+        Err(at) => {
+            docs.reserve(1)?;
+            let mut it = Doc::new(alloc, doc);
+            it.apply_edit(ops)?;
+            match docs.insert(at, it) {
+                Ok(()) => {}
+                Err(_) => unreachable!(),
+            }
+            Ok(())
+        }
+    }
+}
+
+/// The index of the document of a number, or where it goes among these.
+fn place(docs: &[Doc], doc: u32) -> Result<usize, usize>
+    ensures { MatchResult result
+        (λ at. (at < length docs.now)
+        × ((d : Doc) → d ≡ slice_index_or docs.now at d → number_of d ≡ doc)
+        × (with_number doc (numbers docs.now) ≡ numbers docs.now))
+        (λ at. (at ≤ length docs.now)
+        × (with_number doc (numbers docs.now)
+        ≡ take at (numbers docs.now) ++ doc ∷ drop at (numbers docs.now))) }
+{
+    for (i, it) in docs.iter().enumerate() {
+        if doc < it.number() {
+            return Err(i);
+        }
+        if doc == it.number() {
+            return Ok(i);
+        }
+    }
+    Err(docs.len())
+}

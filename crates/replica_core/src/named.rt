@@ -1,0 +1,85 @@
+ghost use Rattle.std.specs.Prelude.{◌≡◌, ◌<◌, ◌==◌, ◌&&◌, nat_lt, length, take, slice_index_or};
+ghost use Rattle.std.specs.List.{list_any};
+ghost use Rattle.op_ids.specs.Id.{is_same};
+ghost use Rattle.op_model.specs.Causality.{is_covered_insert as is_covered_insert_of, is_insert as is_insert_of, IsCausallyClosed};
+ghost use Rattle.replica_core.specs.Indexes.{IsIndexOf};
+ghost use Rattle.replica_core.specs.Makers.{at_places, AreBelow, Climb};
+
+use crate::index::Index;
+use op_ids::OpId;
+use op_model::{Body, Op};
+
+/// Whether an insert of the operation's document with this id is among the operations that its deps
+/// cover. Takes no memory. A binary search among the operations of the id's replica.
+pub fn is_covered_insert(ops: &[Op], index: &Index, op: &Op, id: &OpId) -> bool
+    requires closed { IsCausallyClosed ops.now }
+    requires index { IsIndexOf index.now ops.now }
+    ensures { result ≡ is_covered_insert_of ops.now op.now.deps op.now.doc id.now }
+{
+    let covered = op.deps.get(id.replica()) as usize;
+    match index.places_of(id.replica()) {
+        Some(places) => has_insert(ops, first(places, covered), op.doc, id),
+        None => false,
+    }
+}
+
+/// The first so many of these indexes, or all of them.
+fn first(places: &[u32], count: usize) -> &[u32]
+    ensures { result.now ≡ take count places.now }
+{
+    if count < places.len() {
+        return places.split_at(count).0;
+    }
+    places
+}
+
+/// Whether one of the operations at these indexes inserts the character of an id into a document.
+/// Their counters rise, so it is searched by halves.
+fn has_insert(ops: &[Op], places: &[u32], doc: u32, id: &OpId) -> bool
+    requires below { AreBelow (length ops.now) places.now }
+    requires climb { Climb (at_places ops.now places.now) }
+    ensures { result ≡ list_any (λ op. is_same op.id id.now && op.doc == doc && is_insert_of op.body)
+        (at_places ops.now places.now) }
+{
+    let wanted = id.counter();
+    let mut rest = places;
+    while !rest.is_empty() {
+        let middle = rest.len() / 2;
+        let op = op_at(ops, rest, middle);
+        let counter = op.id.counter();
+        if counter == wanted {
+            return is_insert_at(op, doc, id);
+        }
+        rest = if counter < wanted {
+            rest.split_at(middle + 1).1
+        } else {
+            rest.split_at(middle).0
+        };
+    }
+    false
+}
+
+/// Of the operations at these indexes the k-th one, counted from 0.
+pub fn op_at<'a>(ops: &'a [Op], places: &[u32], k: usize) -> &'a Op
+    requires below { AreBelow (length ops.now) places.now }
+    requires there { k < length places.now }
+    ensures { result.now ≡ slice_index_or (at_places ops.now places.now) k result.now }
+{
+    &ops[places[k] as usize]
+}
+
+/// Whether an operation inserts the character of an id into a document.
+fn is_insert_at(op: &Op, doc: u32, id: &OpId) -> bool
+    ensures { result ≡ (is_same op.now.id id.now && op.now.doc == doc && is_insert_of op.now.body) }
+{
+    op.id.is_same(*id) && op.doc == doc && is_insert(&op.body)
+}
+
+fn is_insert(body: &Body) -> bool
+    ensures { result ≡ is_insert_of body.now }
+{
+    match body {
+        Body::Insert { .. } => true,
+        _ => false,
+    }
+}
