@@ -3,12 +3,15 @@
 
 # The program's main job over its embedded default, in memory. It proves nothing.
 run:
-	@echo 'There is no program yet: the crates so far are libraries. Nothing ran, and nothing was proved.'
+	cd crates/edit_shell && rt try < stdin
 
-# Everything from nothing: each proof, each must-fail edit, each test.
+# Everything from nothing: each proof, each must-fail edit, each test, the program's stored run. Then the proved program on real files.
 test:
 	rt ci
+	python3 checks/run.py crates/edit_shell/out/edit_shell
 
 # The proved program, as bin/peritext.
 peritext:
-	@echo 'There is no program yet, so there is no bin/peritext.' >&2; exit 1
+	cd crates/edit_shell && rt run < stdin > /dev/null
+	mkdir -p bin
+	cp crates/edit_shell/out/edit_shell bin/peritext

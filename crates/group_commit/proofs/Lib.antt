@@ -22,4 +22,5 @@ pub mod SlotReads
 pub mod Sound
 pub mod Steps
 pub mod StreamReads
+pub mod Streams
 pub mod ZeroLemmas

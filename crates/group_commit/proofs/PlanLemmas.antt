@@ -1,7 +1,9 @@
 -- A plan for the root behind the live one: which pages stay, which are written anew, and that these make the new root.
 use Rattle.std.proofs.Common.{◌≡◌, ◌≢◌, ℕ, zero, suc, ◌+◌, ◌-◌, ◌*◌, ◌/◌, ◌<◌, ◌≤◌, ◌^◌, All, Bool, true, false, ◌||◌, List, [], ◌∷◌, ◌++◌, length, get_or, take, drop, refl, sym, ap, ◌∙◌, inl, inr, arith, length-append, length-take, length-drop, append_assoc}
 use Rattle.std.specs.Prelude.{replicate}
-use Rattle.std.proofs.lemmas.List.{drop_at, drop-append-le, length-replicate, get_or-drop, get_or_append_left}
+use Rattle.std.proofs.Math.Seq.{drop-append-add}
+use Rattle.std.proofs.lemmas.Bool.{cases_lt}
+use Rattle.std.proofs.lemmas.List.{drop_at, drop_all, drop-append-le, length-replicate, get_or-drop, get_or_append_left}
 use Rattle.page_file.specs.Free.{AreLowest}
 use Rattle.page_file.specs.Pages.{page, pages, has, are_pages, are_whole, is_zero, joined, number_bytes}
 use Rattle.page_file.proofs.Apart.{has-append, apart_first, apart_each, each_behind}
@@ -229,3 +231,14 @@ pub next_apart : (current : Saved) (olds new_data new_tables : List ℕ) (kept :
     → are_pages ((take (kept / 1024) (tables_of current.body) ++ new_tables) ++ (take kept olds ++ new_data)) ≡ true
 next_apart current olds new_data new_tables kept had free =
     renewed_apart kept (kept / 1024) (tables_of current.body) olds new_data new_tables (rw (had.reaches) at free)
+
+-- what stands behind a place of two lists, one after the other
+pub drop_both : (n : ℕ) (a b : List ℕ) → drop n (a ++ b) ≡ drop n a ++ drop (n - length a) b
+drop_both n a b = elim (cases_lt n (length a)) [
+  | inl below ↦
+      let none : n - length a ≡ 0 = omega (arith, below) in
+      drop-append-le n a b (omega (arith, below)) ∙ ap (λ k. drop n a ++ drop k b) (sym none)
+  | inr above ↦
+      let place : n ≡ length a + (n - length a) = omega (arith, above) in
+      ap (λ k. drop k (a ++ b)) place ∙ drop-append-add a b (n - length a) ∙ ap (λ f. f ++ drop (n - length a) b) (sym (drop_all n a above))
+]

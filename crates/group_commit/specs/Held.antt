@@ -3,8 +3,8 @@ use Rattle.std.specs.Prelude.{◌≡◌, ◌≢◌, ◌⊎◌, ℕ, ◌+◌, ◌
 use Rattle.disk_trait.specs.declared.facts.DiskFacts.{Ghosts}
 use Rattle.page_file.specs.Free.{AreLowest}
 use Rattle.page_file.specs.Pages.{are_pages}
-use Rattle.root_slots.specs.Root.{version_of}
-use Rattle.group_commit.specs.Saved.{Saved}
+use Rattle.root_slots.specs.Root.{version_of, stream_length_of}
+use Rattle.group_commit.specs.Saved.{Saved, Paged}
 use Rattle.group_commit.specs.Commit.{Stands, Reads, Makes}
 use Rattle.group_commit.specs.declared.phase.Phase.{Phase}
 use Rattle.group_commit.specs.declared.phase.Phase.TheVariants.{Idle, Pages, Close, Sync1, Body, Sync2, Gate, Sync3}
@@ -71,3 +71,10 @@ pub record IsSound {D : Type 0} (facts : Ghosts D) (held : Held D) (slot : ℕ) 
   pub stands : facts.tells held.disk → (c : List ℕ) → facts.survives held.disk c
       → Stands held.phase slot held.stale held.current held.next c
   pub reads : facts.tells held.disk → held.failed ≡ false → Reads held.phase slot held.next numbers fresh (facts.content held.disk)
+
+-- The streams of both roots are fronts of these bytes, which are the live root's, or the next one's while a commit is under way.
+pub record HasStreams (phase : Phase) (current next : Paged) (bytes : List ℕ) : Type 0 where
+  pub current_within : stream_length_of current.body ≤ length bytes
+  pub next_within : stream_length_of next.body ≤ length bytes
+  pub idle : phase ≡ Idle → length bytes ≡ stream_length_of current.body
+  pub under_way : phase ≢ Idle → length bytes ≡ stream_length_of next.body

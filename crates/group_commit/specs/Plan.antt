@@ -21,14 +21,13 @@ pub record Plans (current : Saved) (records : List ℕ) (more : ℕ) (next : Sav
   pub room : length fresh ≡ 4096 * length numbers
   pub changes : numbers ≡ changed_pages current next
 
--- the root behind this one with so many more operations, its stream on these pages
-pub record IsGrown (current : Saved) (more : ℕ) (stream named tables : List ℕ) (next : Saved) : Type 0 where
-  pub bytes : next.stream ≡ stream
+-- the root behind one of this body with so many more operations, its stream on these pages
+pub record IsGrown (body : List ℕ) (more : ℕ) (named tables : List ℕ) (next : Saved) : Type 0 where
   pub has : HasDataPages next named
   pub has_tables : tables_of next.body ≡ tables
-  pub version : version_of next.body ≡ version_of current.body + 1
-  pub replica : replica_of next.body ≡ replica_of current.body
-  pub count : count_of next.body ≡ count_of current.body + more
+  pub version : version_of next.body ≡ version_of body + 1
+  pub replica : replica_of next.body ≡ replica_of body
+  pub count : count_of next.body ≡ count_of body + more
 
 -- How many data pages stay, behind a stream of so many bytes: all of them, or all but the last one where what comes into its rest
 -- isn't zero.

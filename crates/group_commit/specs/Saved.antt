@@ -1,5 +1,5 @@
 -- A root as a file has it.
-use Rattle.std.specs.Prelude.{◌≡◌, ℕ, true, List, ◌++◌, length}
+use Rattle.std.specs.Prelude.{◌≡◌, ℕ, true, List, ◌++◌, length, take}
 use Rattle.page_file.specs.Pages.{are_pages}
 use Rattle.root_slots.specs.Root.{is_root, tables_of, data_count, stream_length_of, pages_for}
 use Rattle.root_slots.specs.Body.{Root, Spells}
@@ -10,17 +10,29 @@ pub record Saved : Type 0 where
   pub stream : List ℕ
   pub pages : List ℕ
 
--- a root's stream is as long as it says, it has as many data pages as that takes, and none of its pages is there twice
-pub record IsInMemory (head : Root) (stream data_pages : List ℕ) : Type 0 where
-  pub long : length stream ≡ head.stream_length
+-- a root without the bytes of its stream
+pub record Paged : Type 0 where
+  pub body : List ℕ
+  pub pages : List ℕ
+
+-- a root with its stream
+abbrev pub with_stream : Paged → List ℕ → Saved
+with_stream root bytes = record { body = root.body; stream = bytes; pages = root.pages }
+
+-- a root whose stream stands at the front of these bytes
+abbrev pub in_front : Paged → List ℕ → Saved
+in_front root bytes = with_stream root (take (stream_length_of root.body) bytes)
+
+-- a root has as many data pages as its stream takes, and none of its pages is there twice
+pub record IsInMemory (head : Root) (data_pages : List ℕ) : Type 0 where
   pub count : length data_pages ≡ pages_for 4096 head.stream_length
   pub apart : are_pages (head.tables ++ data_pages) ≡ true
 
 -- a root in memory: its body says its head
-pub record IsSaved (head : Root) (data_pages : List ℕ) (root : Saved) : Type 0 where
+pub record IsPaged (head : Root) (data_pages : List ℕ) (root : Paged) : Type 0 where
   pub spells : Spells root.body head
   pub reaches : root.pages ≡ head.tables ++ data_pages
-  pub parts : IsInMemory head root.stream data_pages
+  pub parts : IsInMemory head data_pages
 
 -- these are the data pages of a root, and its other pages are its tables
 pub record HasDataPages (root : Saved) (data_pages : List ℕ) : Type 0 where

@@ -3,7 +3,7 @@ ghost use Rattle.std.specs.Prelude.{◌≡◌, ◌≢◌, ℕ, ◌+◌, ◌<◌,
 ghost use Rattle.change_codec.specs.Stream.{spelled_all, AreOperations};
 ghost use Rattle.root_slots.specs.Root.{version_of, count_of};
 ghost use Rattle.group_commit.specs.Begin.{begin_due, has_room, Begins, IsAnswer};
-ghost use Rattle.group_commit.specs.Plan.{Plans};
+ghost use Rattle.group_commit.specs.Saved.{with_stream};
 
 use crate::error::StoreError;
 use crate::phase::Phase;
@@ -14,31 +14,25 @@ use change_codec::{put_ops, stream_length};
 use disk_trait::Disk;
 use op_model::Op;
 use root_slots::{MAX_OPERATIONS, MAX_STREAM};
-use std::alloc::AllocError;
+use std::alloc::{AllocError, Global};
 
-impl Root {
-    // Whether there is a further version, and room for these operations.
-    fn has_room(&self, ops: &[Op]) -> bool
-        ensures { result ≡ has_room self.now ops.now }
-    {
-        self.version() < u64::MAX
-            && self.count() + ops.len() as u64 <= MAX_OPERATIONS
-            && stream_length(ops).saturating_add(self.stream().len() as u64) <= MAX_STREAM
-    }
+// Whether there is a further version behind this root, and room for these operations behind its stream.
+fn has_room(root: &Root, stream: &[u8], ops: &[Op]) -> bool
+    ensures { result ≡ has_room (with_stream root.now stream.now) ops.now }
+{
+    root.version() < u64::MAX
+        && root.count() + ops.len() as u64 <= MAX_OPERATIONS
+        && stream_length(ops).saturating_add(stream.len() as u64) <= MAX_STREAM
+}
 
-    // The root with these operations behind its own, on new pages. An error is want of memory (1).
-    fn plan_for(&self, ops: &[Op]) -> Result<Plan, AllocError>
-        requires some { 0 < length ops.now }
-        requires room { has_room self.now ops.now ≡ true }
-        ensures plans { IfOk result (λ plan. Plans self.now (spelled_all ops.now) (length ops.now)
-            plan.next plan.numbers.items plan.fresh.items) }
-        ensures fits { OnOk result (AreOperations ops.now) }
-    {
-        let alloc = self.allocator();
-        let mut records = Vec::new(alloc);
-        put_ops(ops, &mut records)?;
-        make_plan(alloc, self, &records, ops.len() as u64)
-    }
+// The records of these operations. An error is want of memory (1).
+fn records_of(alloc: Global, ops: &[Op]) -> Result<Vec<u8>, AllocError>
+    ensures records { IfOk result (λ records. records.items ≡ spelled_all ops.now) }
+    ensures fits { OnOk result (AreOperations ops.now) }
+{
+    let mut records = Vec::new(alloc);
+    put_ops(ops, &mut records)?;
+    Ok(records)
 }
 
 impl<D: Disk> Store<D> {
@@ -49,7 +43,8 @@ impl<D: Disk> Store<D> {
     /// way, 7 where the version, the number of operations (2^24) or the stream (2^30 bytes) has no
     /// room, and 1 where a growth was refused. A refused call changes nothing.
     ///
-    /// Costs the bytes of the stream and, for each new page, the pages of the live root.
+    /// Costs the bytes of the records and of the pages that it writes, and a few steps for each page of
+    /// the live root; the stream isn't copied.
     pub fn begin(&mut self, ops: &[Op]) -> Result<Option<u64>, StoreError>
         ensures answer { IsAnswer (begin_due self.old ops.now) result }
         ensures began { (n : ℕ) → result ≡ Ok (Some n)
@@ -65,14 +60,18 @@ impl<D: Disk> Store<D> {
         if ops.is_empty() {
             return Ok(None);
         }
-        if !self.current.has_room(ops) {
+        if !has_room(&self.current, &self.stream, ops) {
             return Err(StoreError::Limit);
         }
+        let alloc = self.current.allocator();
+        let more = ops.len() as u64;
+        let records = records_of(alloc, ops)?;
         let Plan {
             next,
             numbers,
             fresh,
-        } = self.current.plan_for(ops)?;
+        } = make_plan(alloc, &self.current, &self.stream, &records, more)?;
+        self.stream.extend_from_slice(&records)?;
         self.next = next;
         self.numbers = numbers;
         self.fresh = fresh;

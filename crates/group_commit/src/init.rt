@@ -3,7 +3,7 @@ ghost use Rattle.std.specs.Prelude.{◌≡◌, ◌≢◌, ◌+◌, ◌++◌, [],
 ghost use Rattle.disk_trait.specs.Calls.{Keeps};
 ghost use Rattle.disk_trait.specs.File.{overwritten};
 ghost use Rattle.root_slots.specs.Body.{root_of};
-ghost use Rattle.root_slots.specs.Root.{is_root};
+ghost use Rattle.root_slots.specs.Root.{is_root, stream_length_of};
 ghost use Rattle.group_commit.specs.Commit.{IsLeft};
 ghost use Rattle.group_commit.specs.NewFile.{slot_page, new_file, failures_of, Counts};
 ghost use Rattle.group_commit.specs.declared.phase.Phase.TheVariants.{Idle};
@@ -136,8 +136,8 @@ fn empty_roots(alloc: Global, replica: ReplicaId) -> Result<(Root, Root), AllocE
       operations = 0;
       tables = [];
     }) }
-    ensures empty { IfOk result (λ roots. (roots.0.stream ≡ []) × (roots.0.pages ≡ [])
-        × (is_root roots.0.body ≡ true)) }
+    ensures empty { IfOk result (λ roots. (roots.0.pages ≡ [])
+        × (is_root roots.0.body ≡ true) × (stream_length_of roots.1.body ≡ 0)) }
 {
     let current = Root::empty(alloc, replica)?;
     let next = Root::empty(alloc, replica)?;
@@ -158,8 +158,8 @@ fn format<D: Disk>(
       operations = 0;
       tables = [];
     }) }
-    ensures empty { IfOk result (λ roots. (roots.0.stream ≡ []) × (roots.0.pages ≡ [])
-        × (is_root roots.0.body ≡ true)) }
+    ensures empty { IfOk result (λ roots. (roots.0.pages ≡ [])
+        × (is_root roots.0.body ≡ true) × (stream_length_of roots.1.body ≡ 0)) }
     ensures made { D.tells disk.old → IfOk result
         (λ roots. D.content disk.new ≡ new_file roots.0.body) }
     ensures left { D.tells disk.old → IfOk result
@@ -190,8 +190,8 @@ fn begin_file<D: Disk>(
       operations = 0;
       tables = [];
     }) }
-    ensures empty { IfOk result (λ roots. (roots.0.stream ≡ []) × (roots.0.pages ≡ [])
-        × (is_root roots.0.body ≡ true)) }
+    ensures empty { IfOk result (λ roots. (roots.0.pages ≡ [])
+        × (is_root roots.0.body ≡ true) × (stream_length_of roots.1.body ≡ 0)) }
     ensures taken { D.tells disk.old → OnOk result (D.content disk.old ≡ []) }
     ensures not_empty { D.tells disk.old → IfErr result (λ e. e ≡ NotEmpty
         → (D.content disk.old ≢ []) × Keeps D.DiskFacts disk.old disk.new) }
@@ -249,6 +249,7 @@ impl<D: Disk> Store<D> {
                 phase: Phase::Idle,
                 current,
                 next,
+                stream: Vec::new(alloc),
                 slot: 0,
                 stale: false,
                 failed: false,

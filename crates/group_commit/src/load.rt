@@ -33,8 +33,8 @@ impl<D: Disk> Store<D> {
     /// any of these where a growth of memory was refused. A refusal hands the disk back.
     ///
     /// One sync, one `size`, one read of the two slots and one of each page that the live root reaches.
-    /// The stream and the pages' numbers are held in memory, besides the operations. Each page number is
-    /// compared with all others, so these steps grow with the square of the number of pages.
+    /// The stream and the pages' numbers are held in memory, besides the operations. The page numbers are
+    /// sorted, to see that none is there twice.
     pub fn load(alloc: Global, mut disk: D) -> Result<Loaded<D>, OpenFault<D>>
         // The live root of the file, and its operations.
         ensures root { D.tells disk → IfOk result (λ it. Is it.store.current (D.content disk)) }
@@ -65,6 +65,7 @@ impl<D: Disk> Store<D> {
                     phase: Phase::Idle,
                     current: image.current,
                     next: image.next,
+                    stream: image.stream,
                     slot: image.slot,
                     stale: image.stale,
                     failed: false,

@@ -1,8 +1,8 @@
 //! What a file stands for, read from its disk.
 ghost use Rattle.std.specs.Prelude.{◌≡◌, ◌≢◌, ◌⊎◌, ◌*◌, ◌<◌, ◌≤◌, ◌↔◌, ◌++◌, length, get_or, List, ℕ, IfOk, IfErr, Ok};
-ghost use Rattle.root_slots.specs.Root.{replica_of};
+ghost use Rattle.root_slots.specs.Root.{replica_of, stream_length_of};
 ghost use Rattle.root_slots.specs.Body.{IsRoot, Spells, root_of};
-ghost use Rattle.group_commit.specs.Saved.{IsInMemory};
+ghost use Rattle.group_commit.specs.Saved.{IsInMemory, with_stream, in_front};
 ghost use Rattle.group_commit.specs.Image.{stored};
 ghost use Rattle.group_commit.specs.Commit.{Stands};
 ghost use Rattle.group_commit.specs.Loading.{Names, OnlyLooks, failed_in, IsLive, IsHistory, IsFirstFault};
@@ -23,7 +23,7 @@ use std::alloc::{AllocError, Global};
 // The bytes of both slots.
 const SLOTS: usize = 8192;
 
-/// What a file stands for: the live slot, whether the other one is open, its root and its operations. `next`
+/// What a file stands for: the live slot, whether the other one is open, its root, its stream and its operations. `next`
 /// is an empty root, whose place the next commit takes.
 #[derive(Drop)]
 pub(crate) struct Image {
@@ -31,6 +31,7 @@ pub(crate) struct Image {
     pub stale: bool,
     pub current: Root,
     pub next: Root,
+    pub stream: Vec<u8>,
     pub ops: Vec<Op>,
 }
 
@@ -70,16 +71,16 @@ fn bytes_are_small(bytes: &[u8])
 {}
 
 // The two roots of a store that was opened: the live one, and one whose place the next commit takes.
-fn roots(alloc: Global, head: RootBody, stream: Stream) -> Result<(Root, Root), AllocError>
-    requires { IsInMemory head stream.bytes.items stream.data_pages.items }
-    ensures stream { IfOk result (λ it. it.0.stream ≡ stream.bytes.items) }
-    ensures pages { IfOk result (λ it. it.0.pages ≡ head.tables ++ stream.data_pages.items) }
+fn roots(alloc: Global, head: RootBody, data_pages: Vec<u32>) -> Result<(Root, Root), AllocError>
+    requires { IsInMemory head data_pages.items }
+    ensures pages { IfOk result (λ it. it.0.pages ≡ head.tables ++ data_pages.items) }
     ensures says { IfOk result (λ it. root_of it.0.body ≡ head) }
     ensures body { IfOk result (λ it. (root : List ℕ) → ((i : ℕ) → get_or root i 0 < 256)
         → Spells root head → it.0.body ≡ root) }
+    ensures other { IfOk result (λ it. stream_length_of it.1.body ≡ 0) }
 {
     let replica = head.replica();
-    let current = Root::new(alloc, head, stream.bytes, stream.data_pages)?;
+    let current = Root::new(alloc, head, data_pages)?;
     bytes_are_small(current.body());
     Ok((current, Root::empty(alloc, replica)?))
 }
@@ -88,9 +89,13 @@ fn roots(alloc: Global, head: RootBody, stream: Stream) -> Result<(Root, Root), 
 pub(crate) fn read_image<D: Disk>(alloc: Global, disk: &mut D) -> Result<Image, OpenError>
     ensures slot { IfOk result (λ it. it.slot < 2) }
     ensures stands { D.tells disk.old → IfOk result
-        (λ it. Stands Idle it.slot it.stale it.current it.next (D.content disk.old)) }
-    ensures history { IfOk result
-        (λ it. IsHistory it.current (replica_of it.current.body) it.ops.items) }
+        (λ it. Stands Idle it.slot it.stale (with_stream it.current it.stream.items)
+        (in_front it.next it.stream.items) (D.content disk.old)) }
+    ensures history { IfOk result (λ it. IsHistory (with_stream it.current it.stream.items)
+        (replica_of it.current.body) it.ops.items) }
+    ensures long { IfOk result
+        (λ it. length it.stream.items ≡ stream_length_of it.current.body) }
+    ensures other { IfOk result (λ it. stream_length_of it.next.body ≡ 0) }
     ensures fault { D.tells disk.old → IfErr result (λ e. IsFirstFault e (D.content disk.old)) }
     ensures looks { D.tells disk.old
         → OnlyLooks D.DiskFacts (failed_in result) 0 disk.old disk.new }
@@ -100,12 +105,13 @@ pub(crate) fn read_image<D: Disk>(alloc: Global, disk: &mut D) -> Result<Image, 
     let stream = read_stream(alloc, disk, size, &live.head)?;
     let ops = ops_of(alloc, &stream.bytes, live.head.operations())?;
     let Live { slot, stale, head } = live;
-    let (current, next) = roots(alloc, head, stream)?;
+    let (current, next) = roots(alloc, head, stream.data_pages)?;
     Ok(Image {
         slot,
         stale,
         current,
         next,
+        stream: stream.bytes,
         ops,
     })
 }
@@ -115,9 +121,13 @@ pub(crate) fn read_image<D: Disk>(alloc: Global, disk: &mut D) -> Result<Image, 
 pub(crate) fn settle_and_read<D: Disk>(alloc: Global, disk: &mut D) -> Result<Image, OpenError>
     ensures slot { IfOk result (λ it. it.slot < 2) }
     ensures stands { D.tells disk.old → IfOk result
-        (λ it. Stands Idle it.slot it.stale it.current it.next (D.content disk.old)) }
-    ensures history { IfOk result
-        (λ it. IsHistory it.current (replica_of it.current.body) it.ops.items) }
+        (λ it. Stands Idle it.slot it.stale (with_stream it.current it.stream.items)
+        (in_front it.next it.stream.items) (D.content disk.old)) }
+    ensures history { IfOk result (λ it. IsHistory (with_stream it.current it.stream.items)
+        (replica_of it.current.body) it.ops.items) }
+    ensures long { IfOk result
+        (λ it. length it.stream.items ≡ stream_length_of it.current.body) }
+    ensures other { IfOk result (λ it. stream_length_of it.next.body ≡ 0) }
     ensures settled { D.tells disk.old → IfOk result
         (λ it. (c : List ℕ) → D.survives disk.new c → c ≡ D.content disk.old) }
     ensures fault { D.tells disk.old → IfErr result (λ e. IsFirstFault e (D.content disk.old)) }

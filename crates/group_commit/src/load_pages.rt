@@ -6,7 +6,7 @@ ghost use Rattle.group_commit.specs.Loading.{Names, are_within, reached_by};
 ghost use Rattle.group_commit.specs.declared.open_fault.OpenError.TheVariants.{Memory, BadTable};
 
 use crate::open_fault::OpenError;
-use page_file::are_pages;
+use page_file::sort_are_pages;
 use std::alloc::{AllocError, Global};
 
 /// Whether these pages lie whole in a file of so many bytes.
@@ -67,7 +67,7 @@ pub(crate) fn reached_by(
     let mut pages = Vec::new(alloc);
     pages.extend_from_slice(tables)?;
     pages.extend_from_slice(named)?;
-    if !are_pages(&pages) {
+    if !sort_are_pages(&mut pages) {
         return Err(OpenError::BadTable);
     }
     let mut data_pages = Vec::new(alloc);

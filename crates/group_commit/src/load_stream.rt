@@ -99,7 +99,8 @@ pub(crate) fn read_stream<D: Disk>(
         ≡ Ok (head.now.tables ++ it.data_pages.items)) }
     ensures stream { D.tells disk.old
         → IfOk result (λ it. stream_at head.now (D.content disk.old) ≡ Ok it.bytes.items) }
-    ensures parts { IfOk result (λ it. IsInMemory head.now it.bytes.items it.data_pages.items) }
+    ensures parts { IfOk result (λ it. IsInMemory head.now it.data_pages.items) }
+    ensures long { IfOk result (λ it. length it.bytes.items ≡ head.now.stream_length) }
     ensures fault { D.tells disk.old
         → IfErr result (λ e. Names e (stream_at head.now (D.content disk.old))) }
     ensures looks { D.tells disk.old

@@ -116,9 +116,10 @@ fn committed(alloc: Global, commits: u64) -> Result<Vec<u8>, Fail> {
 fn a_commit_writes_the_pages_that_change(rt: HostRuntime) -> Result<(), Fail> {
     let alloc = rt.alloc();
     let mut store = store(alloc, 16)?;
-    assert_eq!(rt; commit(&mut store, &inserts(alloc, 1, 256)?)?, (9, 3));
-    assert_eq!(rt; commit(&mut store, &inserts(alloc, 257, 257)?)?, (5, 3));
-    assert_eq!(rt; commit(&mut store, &inserts(alloc, 258, 258)?)?, (5, 3));
+    for (first, last, writes) in [(1, 256, 9), (257, 257, 5), (258, 258, 5)] {
+        let ops = inserts(alloc, first, last)?;
+        assert_eq!(rt; commit(&mut store, &ops)?, (writes, 3));
+    }
     assert_eq!(rt; file_of(alloc, store)?.len(), 45_056);
     Ok(())
 }
@@ -126,38 +127,22 @@ fn a_commit_writes_the_pages_that_change(rt: HostRuntime) -> Result<(), Fail> {
 #[test]
 fn new_pages_are_the_lowest_free_ones(rt: HostRuntime) -> Result<(), Fail> {
     let alloc = rt.alloc();
-    let first = committed(alloc, 1)?;
-    assert_eq!(rt; first.len(), 36_864);
-    // The live slot's stream length, table page and data pages.
-    assert_eq!(rt; first.get(4142..4144), Some([0x56, 0xd0].as_slice()));
-    assert_eq!(rt;
-        numbers(alloc, &first, 1, 64, 2)?.as_slice(),
-        [8, 0].as_slice()
-    );
-    assert_eq!(rt;
-        numbers(alloc, &first, 8, 0, 7)?.as_slice(),
-        [2, 3, 4, 5, 6, 7, 0].as_slice()
-    );
-    let second = committed(alloc, 2)?;
-    assert_eq!(rt; second.len(), 45_056);
-    assert_eq!(rt;
-        numbers(alloc, &second, 0, 64, 2)?.as_slice(),
-        [10, 0].as_slice()
-    );
-    assert_eq!(rt;
-        numbers(alloc, &second, 10, 0, 7)?.as_slice(),
-        [2, 3, 4, 5, 6, 9, 0].as_slice()
-    );
-    let third = committed(alloc, 3)?;
-    assert_eq!(rt; third.len(), 45_056);
-    assert_eq!(rt;
-        numbers(alloc, &third, 1, 64, 2)?.as_slice(),
-        [8, 0].as_slice()
-    );
-    assert_eq!(rt;
-        numbers(alloc, &third, 8, 0, 7)?.as_slice(),
-        [2, 3, 4, 5, 6, 7, 0].as_slice()
-    );
+    // After so many commits: the size, the live slot, its table page, and the last data page.
+    let cases = [
+        (1, 36_864, 1, 8, 7),
+        (2, 45_056, 0, 10, 9),
+        (3, 45_056, 1, 8, 7),
+    ];
+    for (commits, size, slot, table, last) in cases {
+        let file = committed(alloc, commits)?;
+        let mut found = numbers(alloc, &file, slot, 64, 2)?;
+        found.extend_from_slice(&numbers(alloc, &file, usize::from(table), 0, 7)?)?;
+        assert_eq!(rt; file.len(), size);
+        assert_eq!(rt;
+            found.as_slice(),
+            [table, 0, 2, 3, 4, 5, 6, last, 0].as_slice()
+        );
+    }
     Ok(())
 }
 
@@ -182,13 +167,12 @@ fn a_page_into_which_zeros_come_stays(rt: HostRuntime) -> Result<(), Fail> {
     for counter in 42..49 {
         ops.push(remove(alloc, counter)?)?;
     }
-    assert_eq!(rt; commit(&mut store, &ops)?, (4, 3));
-    assert_eq!(rt; commit(&mut store, &inserts(alloc, 49, 49)?)?, (5, 3));
+    commit(&mut store, &ops)?;
+    let last = inserts(alloc, 49, 49)?;
+    assert_eq!(rt; commit(&mut store, &last)?, (5, 3));
     let file = file_of(alloc, store)?;
-    assert_eq!(rt;
-        numbers(alloc, &file, 5, 0, 3)?.as_slice(),
-        [2, 4, 0].as_slice()
-    );
+    let named = numbers(alloc, &file, 5, 0, 3)?;
+    assert_eq!(rt; named.as_slice(), [2, 4, 0].as_slice());
     Ok(())
 }
 

@@ -1,9 +1,9 @@
 //! What a commit is about to write: the new root, and the new pages.
-ghost use Rattle.std.specs.Prelude.{◌≡◌, ℕ, ◌+◌, ◌*◌, ◌/◌, ◌^◌, ◌≤◌, ◌<◌, ◌++◌, true, false, length, get_or, take, IfOk};
+ghost use Rattle.std.specs.Prelude.{◌≡◌, ℕ, ◌+◌, ◌*◌, ◌/◌, ◌^◌, ◌≤◌, ◌<◌, ◌++◌, true, false, List, length, get_or, take, drop, IfOk};
 ghost use Rattle.page_file.specs.Free.{AreLowest};
 ghost use Rattle.page_file.specs.Pages.{are_pages, is_zero, number_bytes};
-ghost use Rattle.root_slots.specs.Root.{version_of, count_of, tables_of, pages_for};
-ghost use Rattle.group_commit.specs.Saved.{HasDataPages};
+ghost use Rattle.root_slots.specs.Root.{version_of, count_of, stream_length_of, tables_of, pages_for};
+ghost use Rattle.group_commit.specs.Saved.{with_stream};
 ghost use Rattle.group_commit.specs.Plan.{IsNext, Plans, IsGrown, kept_of, filled};
 
 use crate::load_pages::data_pages;
@@ -25,29 +25,42 @@ pub(crate) struct Plan {
 pub(crate) fn make_plan(
     alloc: Global,
     current: &Root,
+    stream: &[u8],
     records: &[u8],
     more: u64,
 ) -> Result<Plan, AllocError>
+    requires long { length stream.now ≡ stream_length_of current.now.body }
     requires some { is_zero records.now ≡ false }
-    requires room { length current.now.stream + length records.now ≤ 1073741824 }
+    requires room { length stream.now + length records.now ≤ 1073741824 }
     requires version { version_of current.now.body < 18446744073709551615 }
     requires count { count_of current.now.body + more ≤ 16777216 }
-    ensures { IfOk result (λ made. Plans current.now records.now more
-        made.next made.numbers.items made.fresh.items) }
+    ensures long { IfOk result
+        (λ made. stream_length_of made.next.body ≡ length stream.now + length records.now) }
+    ensures plan { IfOk result (λ made. Plans (with_stream current.now stream.now) records.now more
+        (with_stream made.next (stream.now ++ records.now)) made.numbers.items made.fresh.items) }
 {
-    let kept = kept_pages(current.stream().len(), records);
-    let stream = joined(alloc, current.stream(), records)?;
-    let new_data = data_pages(stream.len() as u64) - kept;
-    let new_tables = tables_for(stream.len() as u64) as usize - kept / 1024;
+    let kept = kept_pages(stream.len(), records);
+    let long = stream.len() + records.len();
+    let new_data = data_pages(long as u64) - kept;
+    let new_tables = tables_for(long as u64) as usize - kept / 1024;
     let numbers = free_pages(alloc, current, new_data + new_tables)?;
     let (data_numbers, table_numbers) = numbers.split_at(new_data);
     let named = renumbered(alloc, current.data_pages(), kept, data_numbers)?;
     let tables = renumbered(alloc, current.tables(), kept / 1024, table_numbers)?;
     numbers_are_small(&named);
-    let (_, new_bytes) = stream.split_at(4096 * kept);
+    let kept_bytes = 4096 * kept;
+    let old_bytes = behind(stream, kept_bytes);
+    let new_bytes = behind(records, kept_bytes.saturating_sub(stream.len()));
     let (_, new_entries) = named.split_at(1024 * (kept / 1024));
-    let fresh = new_pages(alloc, new_bytes, new_data, new_entries, new_tables)?;
-    let next = root_on(alloc, current, more, stream, named, tables)?;
+    let fresh = new_pages(
+        alloc,
+        old_bytes,
+        new_bytes,
+        new_data,
+        new_entries,
+        new_tables,
+    )?;
+    let next = root_on(alloc, current, more, long as u64, named, tables)?;
     Ok(Plan {
         next,
         numbers,
@@ -84,14 +97,15 @@ fn front(bytes: &[u8], most: usize) -> &[u8]
     }
 }
 
-// These bytes, and those behind them.
-fn joined(alloc: Global, first: &[u8], second: &[u8]) -> Result<Vec<u8>, AllocError>
-    ensures { IfOk result (λ all. all.items ≡ first.now ++ second.now) }
+// The bytes behind the first so many.
+fn behind(bytes: &[u8], at: usize) -> &[u8]
+    ensures { result.now ≡ drop at bytes.now }
 {
-    let mut all = Vec::new(alloc);
-    all.extend_from_slice(first)?;
-    all.extend_from_slice(second)?;
-    Ok(all)
+    if at < bytes.len() {
+        &bytes[at..]
+    } else {
+        &bytes[bytes.len()..]
+    }
 }
 
 // The first so many of these page numbers, and new ones behind them.
@@ -126,53 +140,54 @@ fn free_pages(alloc: Global, current: &Root, count: usize) -> Result<Vec<u32>, A
 // with zeros.
 fn new_pages(
     alloc: Global,
-    bytes: &[u8],
+    old_bytes: &[u8],
+    new_bytes: &[u8],
     data_count: usize,
     numbers: &[u32],
     table_count: usize,
 ) -> Result<Vec<u8>, AllocError>
     requires few { data_count + table_count ≤ 262400 }
-    requires data_room { length bytes.now ≤ 4096 * data_count }
+    requires data_room { length old_bytes.now + length new_bytes.now ≤ 4096 * data_count }
     requires table_room { length numbers.now ≤ 1024 * table_count }
-    ensures { IfOk result (λ fresh. fresh.items ≡ filled (4096 * data_count) bytes.now
+    ensures { IfOk result (λ fresh. fresh.items
+        ≡ filled (4096 * data_count) (old_bytes.now ++ new_bytes.now)
         ++ filled (4096 * table_count) (number_bytes numbers.now)) }
 {
     let mut fresh = Vec::new(alloc);
-    fresh.extend_from_slice(bytes)?;
+    fresh.extend_from_slice(old_bytes)?;
+    fresh.extend_from_slice(new_bytes)?;
     fresh.resize(4096 * data_count, 0)?;
     put_numbers(numbers, &mut fresh)?;
     fresh.resize(4096 * (data_count + table_count), 0)?;
     Ok(fresh)
 }
 
-// The next root, with its stream on these pages.
+// The next root, with a stream of so many bytes on these pages.
 fn root_on(
     alloc: Global,
     current: &Root,
     more: u64,
-    stream: Vec<u8>,
+    long: u64,
     named: Vec<u32>,
     tables: Vec<u32>,
 ) -> Result<Root, AllocError>
-    requires room { length stream.items ≤ 1073741824 }
+    requires room { long ≤ 1073741824 }
     requires version { version_of current.now.body < 18446744073709551615 }
     requires count { count_of current.now.body + more ≤ 16777216 }
-    requires data_pages { length named.items ≡ pages_for 4096 (length stream.items) }
+    requires data_pages { length named.items ≡ pages_for 4096 long }
     requires tables { length tables.items ≡ pages_for 1024 (length named.items) }
     requires apart { are_pages (tables.items ++ named.items) ≡ true }
-    ensures { IfOk result (λ next. IsGrown current.now more stream.items named.items tables.items
-        next) }
+    ensures long { IfOk result (λ next. stream_length_of next.body ≡ long) }
+    ensures grown { IfOk result (λ next. (stream : List ℕ) → length stream ≡ long
+        → IsGrown current.now.body more named.items tables.items (with_stream next stream)) }
 {
     let version = current.version() + 1;
     let count = current.count() + more;
-    match RootBody::new(
-        version,
-        current.replica(),
-        stream.len() as u64,
-        count,
-        tables,
-    ) {
-        Some(head) => Root::new(alloc, head, stream, named),
+    match RootBody::new(version, current.replica(), long, count, tables) {
+        Some(head) => {
+            let next = Root::new(alloc, head, named)?;
+            Ok(next)
+        }
         None => unreachable!(),
     }
 }

@@ -1,42 +1,38 @@
 //! A root in memory.
-ghost use Rattle.std.specs.Prelude.{◌≡◌, ◌≤◌, true, [], ◌++◌, length, IfOk};
+ghost use Rattle.std.specs.Prelude.{◌≡◌, ℕ, ◌≤◌, true, List, [], ◌++◌, length, IfOk};
 ghost use Rattle.root_slots.specs.Body.{root_of};
 ghost use Rattle.root_slots.specs.Root.{is_root, version_of, replica_of, count_of, stream_length_of, tables_of};
-ghost use Rattle.group_commit.specs.Saved.{HasDataPages};
+ghost use Rattle.group_commit.specs.Saved.{HasDataPages, with_stream};
 
 use op_ids::ReplicaId;
 use root_slots::RootBody;
 use std::alloc::{AllocError, Global};
 use std::marker::Model;
 
-/// A root in memory. Contracts see the bytes of its slot's body, its stream and the pages that it
+/// A root in memory, without its stream. Contracts see the bytes of its slot's body and the pages that it
 /// reaches: its table pages, then its data pages.
 #[derive(Debug, Drop)]
 pub struct Root {
     head: RootBody,
     // The 4,088 bytes of its slot from byte 8 on: what the head says.
     body: Vec<u8>,
-    // The bytes of its stream.
-    stream: Vec<u8>,
     // The numbers of its data pages, in the order of the stream.
     data_pages: Vec<u32>,
 }
 
 impl Model for Root {
     ghost use Rattle.std.specs.Prelude.{◌++◌};
-    ghost use Rattle.group_commit.specs.Saved.{Saved, IsSaved};
+    ghost use Rattle.group_commit.specs.Saved.{Paged, IsPaged};
 
-    ghost Value = { Saved };
+    ghost Value = { Paged };
 
     ghost view = { λ r. record {
       body = r.body.items;
-      stream = r.stream.items;
       pages = r.head.tables ++ r.data_pages.items;
     } };
 
-    ghost invariant = { λ r. IsSaved r.head r.data_pages.items (record {
+    ghost invariant = { λ r. IsPaged r.head r.data_pages.items (record {
       body = r.body.items;
-      stream = r.stream.items;
       pages = r.head.tables ++ r.data_pages.items;
     }) };
 }
@@ -48,20 +44,18 @@ impl Root {
     pub(crate) fn new(
         alloc: Global,
         head: RootBody,
-        stream: Vec<u8>,
         data_pages: Vec<u32>,
     ) -> Result<Root, AllocError>
-        requires { IsInMemory head stream.items data_pages.items }
-        ensures stream { IfOk result (λ root. root.stream ≡ stream.items) }
+        requires { IsInMemory head data_pages.items }
         ensures pages { IfOk result (λ root. root.pages ≡ head.tables ++ data_pages.items) }
         ensures says { IfOk result (λ root. root_of root.body ≡ head) }
-        ensures has { IfOk result (λ root. HasDataPages root data_pages.items) }
+        ensures has { IfOk result (λ root. (stream : List ℕ) → length stream ≡ head.stream_length
+            → HasDataPages (with_stream root stream) data_pages.items) }
     {
         let body = head.write(alloc)?;
         Ok(Root {
             head,
             body,
-            stream,
             data_pages,
         })
     }
@@ -69,7 +63,6 @@ impl Root {
     /// The root of a new file: version 1, without operations. Two allocations; an error is want of
     /// memory (1).
     pub(crate) fn empty(alloc: Global, replica: ReplicaId) -> Result<Root, AllocError>
-        ensures stream { IfOk result (λ root. root.stream ≡ []) }
         ensures pages { IfOk result (λ root. root.pages ≡ []) }
         ensures valid { IfOk result (λ root. is_root root.body ≡ true) }
         ensures says { IfOk result (λ root. root_of root.body ≡ record {
@@ -81,7 +74,7 @@ impl Root {
         }) }
     {
         match RootBody::new(1, replica, 0, 0, Vec::new(alloc)) {
-            Some(head) => Root::new(alloc, head, Vec::new(alloc), Vec::new(alloc)),
+            Some(head) => Root::new(alloc, head, Vec::new(alloc)),
             None => unreachable!(),
         }
     }
@@ -110,7 +103,7 @@ impl Root {
 
     /// Where its memory comes from.
     pub(crate) fn allocator(&self) -> Global {
-        *self.stream.allocator()
+        *self.body.allocator()
     }
 
     /// The bytes of the slot's body.
@@ -121,13 +114,12 @@ impl Root {
         &self.body
     }
 
-    /// The bytes of the stream.
-    pub(crate) fn stream(&self) -> &[u8]
-        ensures bytes { result.now ≡ self.now.stream }
-        ensures long { length result.now ≡ stream_length_of self.now.body }
-        ensures most { length result.now ≤ 1073741824 }
+    /// How many bytes its stream has.
+    pub(crate) fn stream_length(&self) -> u64
+        ensures long { result ≡ stream_length_of self.now.body }
+        ensures most { result ≤ 1073741824 }
     {
-        &self.stream
+        self.head.stream_length()
     }
 
     /// The numbers of its table pages, in order.
@@ -139,7 +131,8 @@ impl Root {
 
     /// The numbers of its data pages, in the order of the stream.
     pub(crate) fn data_pages(&self) -> &[u32]
-        ensures { HasDataPages self.now result.now }
+        ensures { (stream : List ℕ) → length stream ≡ stream_length_of self.now.body
+            → HasDataPages (with_stream self.now stream) result.now }
     {
         &self.data_pages
     }

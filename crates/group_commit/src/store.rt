@@ -1,6 +1,7 @@
 //! A store over a disk.
 ghost use Rattle.std.specs.Prelude.{◌≡◌};
-ghost use Rattle.group_commit.specs.Held.{Held, IsSound};
+ghost use Rattle.group_commit.specs.Held.{Held, IsSound, HasStreams};
+ghost use Rattle.group_commit.specs.Saved.{in_front};
 
 use crate::phase::Phase;
 use crate::root::Root;
@@ -14,6 +15,8 @@ pub struct Store<D: Disk> {
     pub(crate) phase: Phase,
     pub(crate) current: Root,
     pub(crate) next: Root,
+    // The streams of both roots: each is a front of these bytes.
+    pub(crate) stream: Vec<u8>,
     // The live slot, 0 or 1.
     pub(crate) slot: u64,
     // Whether the other gate reads 1.
@@ -31,8 +34,8 @@ impl<D: Disk> Model for Store<D> {
       disk = s.disk;
       phase = s.phase;
       slot = s.slot;
-      current = s.current;
-      next = s.next;
+      current = in_front s.current s.stream.items;
+      next = in_front s.next s.stream.items;
       numbers = s.numbers.items;
       stale = s.stale;
       failed = s.failed;
@@ -42,10 +45,10 @@ impl<D: Disk> Model for Store<D> {
       disk = s.disk;
       phase = s.phase;
       slot = s.slot;
-      current = s.current;
-      next = s.next;
+      current = in_front s.current s.stream.items;
+      next = in_front s.next s.stream.items;
       numbers = s.numbers.items;
       stale = s.stale;
       failed = s.failed;
-    }) s.slot s.numbers.items s.fresh.items };
+    }) s.slot s.numbers.items s.fresh.items × HasStreams s.phase s.current s.next s.stream.items };
 }

@@ -132,9 +132,11 @@ fn a_made_file_has_two_slots(rt: HostRuntime) -> Result<(), Fail> {
 fn a_commit_under_way_is_busy(rt: HostRuntime) -> Result<(), Fail> {
     let alloc = rt.alloc();
     let mut store = store(alloc)?;
-    assert!(rt; begin(&mut store, &[])?.is_none());
-    assert!(rt; begin(&mut store, &ops(alloc, FIRST)?)? == Some(1));
-    assert!(rt; begin(&mut store, &[]) == Err(StoreError::Busy));
+    let first = ops(alloc, FIRST)?;
+    let none = begin(&mut store, &[]);
+    let begun = begin(&mut store, &first);
+    let busy = begin(&mut store, &first);
+    assert!(rt; [none, begun, busy] == [Ok(None), Ok(Some(1)), Err(StoreError::Busy)]);
     Ok(())
 }
 
@@ -142,12 +144,11 @@ fn a_commit_under_way_is_busy(rt: HostRuntime) -> Result<(), Fail> {
 fn commits_are_counted(rt: HostRuntime) -> Result<(), Fail> {
     let alloc = rt.alloc();
     let mut store = store(alloc)?;
-    begin(&mut store, &ops(alloc, FIRST)?)?;
-    assert_eq!(rt; commit(&mut store)?, 7);
-    assert_eq!(rt; count(&store), 1);
-    begin(&mut store, &ops(alloc, SECOND)?)?;
-    assert_eq!(rt; commit(&mut store)?, 8);
-    assert_eq!(rt; count(&store), 2);
+    for (record, calls, ops_there) in [(FIRST, 7, 1), (SECOND, 8, 2)] {
+        begin(&mut store, &ops(alloc, record)?)?;
+        assert_eq!(rt; commit(&mut store)?, calls);
+        assert_eq!(rt; count(&store), ops_there);
+    }
     Ok(())
 }
 

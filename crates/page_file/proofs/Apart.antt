@@ -1,6 +1,7 @@
 -- Numbers of pages: which are among some, and that none is there twice.
-use Rattle.std.proofs.Common.{◌≡◌, ◌≢◌, ◌⊎◌, ℕ, zero, suc, ◌+◌, ◌-◌, ◌<◌, ◌≤◌, Bool, true, false, not, ◌&&◌, ◌||◌, List, [], ◌∷◌, ◌++◌, length, get_or, take, drop, refl, sym, ap, ◌∙◌, inl, inr, arith}
+use Rattle.std.proofs.Common.{◌≡◌, ◌≢◌, ◌⊎◌, ℕ, zero, suc, ◌+◌, ◌-◌, ◌<◌, ◌≤◌, Bool, true, false, not, ◌&&◌, ◌||◌, ◌==◌, List, [], ◌∷◌, ◌++◌, length, get_or, take, drop, refl, sym, ap, ◌∙◌, inl, inr, arith}
 use Rattle.std.proofs.lemmas.Bool.Decides.{nat_tests, eqb_tells}
+use Rattle.std.proofs.lemmas.List.{take_more}
 use Rattle.page_file.specs.Pages.{has, are_pages}
 
 -- parts of the test on the first number
@@ -67,3 +68,13 @@ place_of n (m ∷ ms) is_there = elim (eqb_tells n m) [
   | inl is ↦ (0, omega arith, sym is.1)
   | inr other ↦ let rest = place_of n ms (grind (arith, nat_tests)) in (suc rest.0, omega (arith, rest.1), rest.2)
 ]
+
+-- among one number more
+pub has_more : (m : ℕ) (ns : List ℕ) (i : ℕ) → i < length ns → has m (take (i + 1) ns) ≡ (has m (take i ns) || m == get_or ns i 0)
+has_more m ns i within =
+    ap (has m) (take_more ns i 0 within) ∙ has-append m (take i ns) (get_or ns i 0 ∷ []) ∙ one (has m (take i ns)) (m == get_or ns i 0)
+  where
+    one : (a b : Bool) → (a || (b || false)) ≡ (a || b)
+    one true b = refl
+    one false true = refl
+    one false false = refl

@@ -4,4 +4,5 @@ pub mod FreeLemmas
 pub mod Joining
 pub mod NumberLemmas
 pub mod Parts
+pub mod Sorting
 pub mod TableLemmas

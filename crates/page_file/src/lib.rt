@@ -6,7 +6,7 @@ mod free;
 pub mod laws;
 mod numbers;
 
-pub use checks::{are_pages, is_zero};
+pub use checks::{are_pages, is_zero, sort_are_pages};
 pub use free::{lowest_free, lowest_free_pages};
 pub use numbers::{put_numbers, take_numbers};
 

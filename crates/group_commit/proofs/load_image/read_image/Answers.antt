@@ -2,6 +2,7 @@ use Rattle.std.proofs.Common.{rules, ◌≡◌, ℕ, ap, sym, ◌∙◌, refl, i
 use Rattle.std.proofs.lemmas.Result.{err_from_is_err_and}
 use Rattle.root_slots.specs.Root.{count_of}
 use Rattle.root_slots.specs.Slots.{body}
+use Rattle.group_commit.specs.Saved.{with_stream, in_front}
 use Rattle.group_commit.specs.Image.{stored}
 use Rattle.group_commit.specs.Loading.{stream_at, HasNone}
 use Rattle.group_commit.proofs.Faults.{names_on, quiet_ops, fault_of_ops}
@@ -62,18 +63,22 @@ returns-clause-stands g c = λ told.
     let head = c.in_ok-size.field-0.live.head in
     let same = (c.in_ok-size.ensures.looks told).same in
     let told' = c.find_root.ensures.tells.1 told in
-    stands_read file c.in_ok-size.field-0.live.slot c.in_ok-size.field-0.live.stale head c.in_ok-current.current c.in_ok-current.next live
+    stands_read file c.in_ok-size.field-0.live.slot c.in_ok-size.field-0.live.stale head (with_stream c.in_ok-current.current c.in_ok-stream.stream.bytes.items)
+    (in_front c.in_ok-current.next c.in_ok-stream.stream.bytes.items) live
     (c.in_ok-current.ensures.body (body c.in_ok-size.field-0.live.slot file) live.bytes live.spells)
-    (rw (c.in_ok-current.ensures.stream, sym same) (c.in_ok-stream.ensures.stream told'))
+    (rw (sym same) (c.in_ok-stream.ensures.stream told'))
     (rw (c.in_ok-current.ensures.pages, sym same) (c.in_ok-stream.ensures.pages told'))
 
 pub returns-clause-history : goal.returns-clause-history
 returns-clause-history g c = record {
-  spelled = c.in_ok-ops.ensures.spelled ∙ c.deref.ensures.value ∙ sym c.in_ok-current.ensures.stream;
+  spelled = c.in_ok-ops.ensures.spelled ∙ c.deref.ensures.value;
   fits = c.in_ok-ops.ensures.fits;
   count = c.in_ok-ops.ensures.count ∙ c.operations.ensures ∙ ap (λ r. r.operations) (sym c.in_ok-current.ensures.says);
   owner = refl;
 }
+
+pub returns-clause-long : goal.returns-clause-long
+returns-clause-long g c = c.in_ok-stream.ensures.long ∙ ap (λ r. r.stream_length) (sym c.in_ok-current.ensures.says)
 
 pub returns-clause-looks : goal.returns-clause-looks
 returns-clause-looks g c = λ told.

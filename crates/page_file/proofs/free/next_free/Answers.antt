@@ -1,7 +1,5 @@
 use Rattle.std.proofs.Common.{arith}
 use Rattle.page_file.proofs.free.next_free.Goals as goal
-use Rattle.page_file.proofs.Crowded.{one_is_free}
 
 pub unreachable-requires : goal.unreachable-requires
-unreachable-requires c =
-    one_is_free c.args.start c.args.used.now (λ m behind below. c.loop-number.invariant m behind (omega (arith, below, c.loop-number-test.false)))
+unreachable-requires c = c.requires.some (λ m behind below. c.loop-place.invariant m behind (omega (arith, below, c.loop-place-test.false)))

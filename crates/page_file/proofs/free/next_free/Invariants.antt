@@ -1,7 +1,6 @@
-use Rattle.std.proofs.Common.{◌≡◌, ℕ, ◌<◌, ◌≤◌, true}
-use Rattle.page_file.specs.Pages.{has}
+use Rattle.std.proofs.Common.{◌≡◌, ℕ, ◌<◌, ◌≤◌, true, false, get_or}
 use Rattle.page_file.proofs.free.next_free.Given as goal
 
--- each page so far is used
-abbrev pub invariant-loop-number : goal.invariant-loop-number
-invariant-loop-number l = (m : ℕ) → l.start ≤ m → m < l.number → has m l.used ≡ true
+-- each place so far is taken
+abbrev pub invariant-loop-place : goal.invariant-loop-place
+invariant-loop-place l = (m : ℕ) → l.start ≤ m → m < l.place → get_or l.taken m false ≡ true

@@ -1,47 +1,92 @@
-use Rattle.std.proofs.Common.{ap, sym, ◌∙◌, ◌≡◌, ◌<◌, ◌+◌, Ok, Some, false, true, length, inl, refl, arith}
-use Rattle.root_slots.specs.Root.{count_of}
-use Rattle.group_commit.specs.Begin.{is_idle, has_room, begin_due}
-use Rattle.group_commit.proofs.BeginLemmas.{due_of, idle_is}
+use Rattle.std.proofs.Common.{ap, sym, ◌∙◌, ◌≡◌, ◌<◌, ◌≤◌, ◌+◌, ◌++◌, ℕ, List, Ok, Err, Some, false, true, length, length-append, take, inl, inr, refl, arith}
+use Rattle.std.proofs.lemmas.Result.{err_from_is_err_and}
+use Rattle.root_slots.specs.Root.{count_of, stream_length_of}
+use Rattle.change_codec.specs.Stream.{spelled_all}
+use Rattle.page_file.specs.Pages.{is_zero}
+use Rattle.group_commit.specs.Saved.{Saved, with_stream, in_front}
+use Rattle.group_commit.specs.Held.{Held, IsSound}
+use Rattle.group_commit.specs.Plan.{Plans}
+use Rattle.group_commit.specs.Begin.{is_idle, has_room, begin_due, IsBegun}
+use Rattle.group_commit.specs.declared.phase.Phase.TheVariants.{Pages}
+use Rattle.group_commit.proofs.BeginLemmas.{due_of, idle_is, room_says, Room}
 use Rattle.group_commit.proofs.DeviceCall.{left_of}
 use Rattle.group_commit.proofs.Doing.{live_idle}
+use Rattle.group_commit.proofs.RecordLemmas.{some_records}
 use Rattle.group_commit.proofs.Sound.{sound_begin}
+use Rattle.group_commit.proofs.Streams.{streams_begun, front_all, front_more}
 use Rattle.group_commit.proofs.store.Store.begin.Goals as goal
 
--- what was tested
-idle : (g : _) (c : goal.After-count g) → is_idle c.self.inside.phase ≡ true
-idle g c = sym c.is_idle.ensures ∙ c.if-not-is_idle.false
-
-some : (g : _) (c : goal.After-count g) → 0 < length c.args.ops.now
-some g c = grind (arith, c.is_empty.ensures, c.if-is_empty.false)
-
-room : (g : _) (c : goal.After-count g) → has_room c.self.inside.current c.args.ops.now ≡ true
-room g c = sym c.has_room.ensures ∙ c.if-not-has_room.false
+pub make_plan-requires : goal.make_plan-requires
+make_plan-requires g c =
+    let some : 0 < length c.args.ops.now = grind (arith, c.is_empty.ensures, c.if-is_empty.false) in
+    let says : Room (with_stream c.self.inside.current c.self.inside.stream.items) c.args.ops.now = room_says (with_stream c.self.inside.current c.self.inside.stream.items) c.args.ops.now (ap (λ s. has_room (with_stream c.self.inside.current s) c.args.ops.now) (sym c.deref.ensures.value) ∙ sym c.has_room.ensures ∙ c.if-not-has_room.false) in
+    let records : c.deref-3.result.now ≡ spelled_all c.args.ops.now = c.deref-3.ensures.value ∙ c.in_ok-records.ensures.records in
+    record {
+      long = ap length c.deref-2.ensures.value ∙ (c.self.invariant.1.idle (idle_is c.self.inside.phase (sym c.is_idle.ensures ∙ c.if-not-is_idle.false)));
+      some = ap is_zero records ∙ some_records c.args.ops.now some;
+      room = omega (arith, says.stream, ap length c.deref-2.ensures.value, ap length records);
+      version = says.version;
+      count = says.count;
+    }
 
 pub invariant_of-self : goal.invariant_of-self
-invariant_of-self g c =
-    sound_begin g.D.DiskFacts _ c.self.inside.slot _ _ c.in_ok-next.field-0.next _ _ c.self.invariant (idle_is c.self.inside.phase (idle g c))
-    c.in_ok-next.ensures.plans.room c.in_ok-next.ensures.plans.plan
+invariant_of-self g c = rw (c.in_err-extend_from_slice.ensures.items) c.self.invariant
+
+pub returns-in_err-extend_from_slice-clause-answer : goal.returns-in_err-extend_from_slice-clause-answer
+returns-in_err-extend_from_slice-clause-answer g c =
+    let p = err_from_is_err_and c.from_residual-in_err-extend_from_slice.result c.from_residual-in_err-extend_from_slice.ensures.1 in
+    rw (p.1, p.2) (inr (
+      refl,
+      rw (due_of c.args.self.now c.args.ops.now (ap (λ h. h.failed) (sym c.self.view_is) ∙ c.if-self.false) (ap (λ h. is_idle h.phase) (sym c.self.view_is) ∙ sym c.is_idle.ensures ∙ c.if-not-is_idle.false) (grind (arith, c.is_empty.ensures, c.if-is_empty.false))
+          (ap (λ h. has_room h.current c.args.ops.now) (sym c.self.view_is) ∙ ap (λ s. has_room (with_stream c.self.inside.current s) c.args.ops.now) (front_all (stream_length_of c.self.inside.current.body) c.self.inside.stream.items (c.self.invariant.1.idle (idle_is c.self.inside.phase (sym c.is_idle.ensures ∙ c.if-not-is_idle.false)))) ∙ (ap (λ s. has_room (with_stream c.self.inside.current s) c.args.ops.now) (sym c.deref.ensures.value) ∙ sym c.has_room.ensures ∙ c.if-not-has_room.false))) tt,
+    ))
+
+sound_new : (g : _) (c : goal.After-drop-records-2 g)
+    → IsSound g.D.DiskFacts (record {
+      disk = c.self.inside.disk;
+      phase = Pages 0;
+      slot = c.self.inside.slot;
+      current = with_stream c.self.inside.current c.self.inside.stream.items;
+      next = with_stream c.in_ok-next.field-0.next (c.self.inside.stream.items ++ spelled_all c.args.ops.now);
+      numbers = c.in_ok-next.field-0.numbers.items;
+      stale = c.self.inside.stale;
+      failed = c.self.inside.failed;
+    }) c.self.inside.slot c.in_ok-next.field-0.numbers.items c.in_ok-next.field-0.fresh.items
+sound_new g c =
+    let plan = (rw (c.deref-2.ensures.value, c.deref-3.ensures.value ∙ c.in_ok-records.ensures.records) at c.in_ok-next.ensures.plan) in
+    sound_begin g.D.DiskFacts _ c.self.inside.slot _ _ (with_stream c.in_ok-next.field-0.next (c.self.inside.stream.items ++ spelled_all c.args.ops.now)) _ _
+    (rw (front_all (stream_length_of c.self.inside.current.body) c.self.inside.stream.items (c.self.invariant.1.idle (idle_is c.self.inside.phase (sym c.is_idle.ensures ∙ c.if-not-is_idle.false)))) at c.self.invariant.0) (idle_is c.self.inside.phase (sym c.is_idle.ensures ∙ c.if-not-is_idle.false)) plan.room plan.plan
+
+pub invariant_of-self-2 : goal.invariant_of-self-2
+invariant_of-self-2 g c = (
+  rw ((c.in_ok-extend_from_slice.ensures.items ∙ ap (λ r. c.self.inside.stream.items ++ r) (c.deref-4.ensures.value ∙ c.in_ok-records.ensures.records)), front_more (stream_length_of c.self.inside.current.body) c.self.inside.stream.items (spelled_all c.args.ops.now) (c.self.invariant.1.idle (idle_is c.self.inside.phase (sym c.is_idle.ensures ∙ c.if-not-is_idle.false))), front_all (stream_length_of c.in_ok-next.field-0.next.body) (c.self.inside.stream.items ++ spelled_all c.args.ops.now) (sym ((c.in_ok-next.ensures.long ∙ ap (λ s. length s + length c.deref-3.result.now) c.deref-2.ensures.value ∙ ap (λ r. length c.self.inside.stream.items + length r) (c.deref-3.ensures.value ∙ c.in_ok-records.ensures.records)) ∙ sym (length-append c.self.inside.stream.items (spelled_all c.args.ops.now))))) (sound_new g c),
+  rw ((c.in_ok-extend_from_slice.ensures.items ∙ ap (λ r. c.self.inside.stream.items ++ r) (c.deref-4.ensures.value ∙ c.in_ok-records.ensures.records)))
+      (streams_begun c.self.inside.phase c.self.inside.current c.self.inside.next c.in_ok-next.field-0.next c.self.inside.stream.items (spelled_all c.args.ops.now) c.self.invariant.1 (idle_is c.self.inside.phase (sym c.is_idle.ensures ∙ c.if-not-is_idle.false)) (c.in_ok-next.ensures.long ∙ ap (λ s. length s + length c.deref-3.result.now) c.deref-2.ensures.value ∙ ap (λ r. length c.self.inside.stream.items + length r) (c.deref-3.ensures.value ∙ c.in_ok-records.ensures.records))),
+)
 
 pub returns-clause-answer : goal.returns-clause-answer
 returns-clause-answer g c =
-    inl (ap (λ n. Ok (Some (n + length c.args.ops.now))) (c.count.ensures.value ∙ ap (λ h. count_of h.current.body) c.self.view_is) ∙ sym (due_of c.args.self.now c.args.ops.now (ap (λ h. h.failed) (sym c.self.view_is) ∙ c.if-self.false) (ap (λ h. is_idle h.phase) (sym c.self.view_is) ∙ idle g c) (some g c) (ap (λ h. has_room h.current c.args.ops.now) (sym c.self.view_is) ∙ room g c)))
+    inl (ap (λ n. Ok (Some (n + length c.args.ops.now))) (c.count.ensures.value ∙ ap (λ h. count_of h.current.body) c.self.view_is) ∙ sym (due_of c.args.self.now c.args.ops.now (ap (λ h. h.failed) (sym c.self.view_is) ∙ c.if-self.false) (ap (λ h. is_idle h.phase) (sym c.self.view_is) ∙ sym c.is_idle.ensures ∙ c.if-not-is_idle.false) (grind (arith, c.is_empty.ensures, c.if-is_empty.false))
+    (ap (λ h. has_room h.current c.args.ops.now) (sym c.self.view_is) ∙ ap (λ s. has_room (with_stream c.self.inside.current s) c.args.ops.now) (front_all (stream_length_of c.self.inside.current.body) c.self.inside.stream.items (c.self.invariant.1.idle (idle_is c.self.inside.phase (sym c.is_idle.ensures ∙ c.if-not-is_idle.false)))) ∙ (ap (λ s. has_room (with_stream c.self.inside.current s) c.args.ops.now) (sym c.deref.ensures.value) ∙ sym c.has_room.ensures ∙ c.if-not-has_room.false))))
 
 pub returns-clause-began : goal.returns-clause-began
-returns-clause-began g c = λ n is. rw (sym c.self.view_is) (record {
-  disk = refl;
-  current = refl;
-  stale = refl;
-  works = c.if-self.false;
-  phase = refl;
-  slot = refl;
-  numbers = c.in_ok-next.ensures.plans.changes;
-  free = c.in_ok-next.ensures.plans.plan.free;
-  lowest = c.in_ok-next.ensures.plans.plan.lowest;
-  follows = c.in_ok-next.ensures.plans.follows;
-  fits = c.in_ok-next.ensures.fits;
-  live_slot = live_idle g.D.DiskFacts _ c.self.inside.slot _ _ c.self.invariant (idle_is c.self.inside.phase (idle g c));
-  left = left_of g.D.DiskFacts _ c.self.inside.slot _ _ (invariant_of-self g c);
-})
+returns-clause-began g c = λ n is.
+    let plan = (rw (c.deref-2.ensures.value, c.deref-3.ensures.value ∙ c.in_ok-records.ensures.records) at c.in_ok-next.ensures.plan) in
+    rw (sym c.self.view_is, (c.in_ok-extend_from_slice.ensures.items ∙ ap (λ r. c.self.inside.stream.items ++ r) (c.deref-4.ensures.value ∙ c.in_ok-records.ensures.records)), front_more (stream_length_of c.self.inside.current.body) c.self.inside.stream.items (spelled_all c.args.ops.now) (c.self.invariant.1.idle (idle_is c.self.inside.phase (sym c.is_idle.ensures ∙ c.if-not-is_idle.false))), front_all (stream_length_of c.in_ok-next.field-0.next.body) (c.self.inside.stream.items ++ spelled_all c.args.ops.now) (sym ((c.in_ok-next.ensures.long ∙ ap (λ s. length s + length c.deref-3.result.now) c.deref-2.ensures.value ∙ ap (λ r. length c.self.inside.stream.items + length r) (c.deref-3.ensures.value ∙ c.in_ok-records.ensures.records)) ∙ sym (length-append c.self.inside.stream.items (spelled_all c.args.ops.now)))), front_all (stream_length_of c.self.inside.current.body) c.self.inside.stream.items (c.self.invariant.1.idle (idle_is c.self.inside.phase (sym c.is_idle.ensures ∙ c.if-not-is_idle.false)))) (record {
+      disk = refl;
+      current = refl;
+      stale = refl;
+      works = c.if-self.false;
+      phase = refl;
+      slot = refl;
+      numbers = plan.changes;
+      free = plan.plan.free;
+      lowest = plan.plan.lowest;
+      follows = plan.follows;
+      fits = c.in_ok-records.ensures.fits;
+      live_slot = live_idle g.D.DiskFacts _ c.self.inside.slot _ _ c.self.invariant.0 (idle_is c.self.inside.phase (sym c.is_idle.ensures ∙ c.if-not-is_idle.false));
+      left = left_of g.D.DiskFacts _ c.self.inside.slot _ _ (sound_new g c);
+    })
 
 pub returns-clause-same : goal.returns-clause-same
 returns-clause-same g c = λ other. absurd (other _ refl)

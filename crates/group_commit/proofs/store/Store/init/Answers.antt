@@ -1,19 +1,34 @@
 use Rattle.group_commit.proofs.store.Store.init.Goals as goal
-use Rattle.std.proofs.Common.{ap, sym, ◌∙◌, ◌≡◌, ◌≢◌, refl, arith, length, ◌*◌, []}
+use Rattle.std.proofs.Common.{ap, sym, ◌∙◌, ◌≡◌, ◌≢◌, ℕ, List, refl, arith, length, take, ◌*◌, []}
+use Rattle.std.proofs.lemmas.List.{take_all}
+use Rattle.root_slots.specs.Root.{stream_length_of}
+use Rattle.group_commit.specs.Saved.{in_front}
 use Rattle.group_commit.proofs.NewFileLemmas.{stands_new}
 use Rattle.group_commit.proofs.Roots.{root_size}
+use Rattle.group_commit.proofs.Streams.{streams_alone}
 use Rattle.group_commit.proofs.DeviceCall.{left_of}
 
+-- no bytes, up to a place
+none : (n : ℕ) (bytes : List ℕ) → bytes ≡ [] → take n bytes ≡ []
+none n bytes is = ap (take n) is ∙ take_all n [] (omega arith)
+
 pub invariant_of-result : goal.invariant_of-result
-invariant_of-result g c = record {
-  slots = omega arith;
-  room = ap length c.new-in-Ok.ensures.items ∙ ap (λ ns. 4096 * length ns) (sym c.new.ensures.items);
-  plan = λ not_idle. absurd (not_idle refl);
-  stands = λ told file left. rw (c.in-Ok.ensures.left ((c.in-Ok.ensures.tells).0 told) file left)
-      (stands_new c.in-Ok.current c.in-Ok.next 1 c.args.replica c.in-Ok.ensures.empty.2 (root_size c.in-Ok.current.body c.in-Ok.ensures.empty.2)
-      c.in-Ok.ensures.empty.0 c.in-Ok.ensures.empty.1 c.in-Ok.ensures.root);
-  reads = λ told works. tt;
-}
+invariant_of-result g c = (
+  record {
+    slots = omega arith;
+    room = ap length c.new-in-Ok-2.ensures.items ∙ ap (λ ns. 4096 * length ns) (sym c.new-in-Ok.ensures.items);
+    plan = λ not_idle. absurd (not_idle refl);
+    stands = λ told file left. rw (c.in-Ok.ensures.left ((c.in-Ok.ensures.tells).0 told) file left)
+        (stands_new (in_front c.in-Ok.current c.new.result.items) (in_front c.in-Ok.next c.new.result.items) 1 c.args.replica c.in-Ok.ensures.empty.1
+        (root_size c.in-Ok.current.body c.in-Ok.ensures.empty.1) (none (stream_length_of c.in-Ok.current.body) c.new.result.items c.new.ensures.items)
+        c.in-Ok.ensures.empty.0 c.in-Ok.ensures.root);
+    reads = λ told works. tt;
+  },
+  streams_alone c.in-Ok.current c.in-Ok.next c.new.result.items (ap length c.new.ensures.items ∙ sym (ap (λ r. r.stream_length) c.in-Ok.ensures.root)) c.in-Ok.ensures.empty.2,
+)
+
+pub returns-in-Ok-clause-empty : goal.returns-in-Ok-clause-empty
+returns-in-Ok-clause-empty g c = none (stream_length_of c.in-Ok.current.body) c.new.result.items c.new.ensures.items
 
 pub returns-in-Ok-clause-left : goal.returns-in-Ok-clause-left
-returns-in-Ok-clause-left g c = λ told. left_of g.D.DiskFacts _ 0 _ _ (invariant_of-result g c) ((c.in-Ok.ensures.tells).1 told)
+returns-in-Ok-clause-left g c = λ told. left_of g.D.DiskFacts _ 0 _ _ (invariant_of-result g c).0 ((c.in-Ok.ensures.tells).1 told)

@@ -2,6 +2,7 @@ use Rattle.std.proofs.Common.{ap, sym, ◌≡◌, ◌≢◌, ◌<◌, ◌≤◌,
 use Rattle.group_commit.specs.declared.error.StoreError.TheVariants.{WriteFailed}
 use Rattle.group_commit.proofs.store.Store.put.Goals as goal
 use Rattle.group_commit.proofs.Inside.{inside_page}
+use Rattle.group_commit.proofs.Streams.{streams_on, busy_at, busy_behind}
 use Rattle.group_commit.proofs.Sound.{sound_page, sound_page_failed}
 use Rattle.group_commit.proofs.DeviceCall.{device_call}
 use Rattle.disk_trait.specs.File.{part, overwritten}
@@ -27,49 +28,53 @@ counted : (v : Vec ℕ Global) → vec_len v ≡ length v.items
 counted v = search rules
 
 pub number_at-requires : goal.number_at-requires
-number_at-requires g c = record { within = rw (c.deref.ensures.value) ((c.self.invariant.plan (not_idle _ (ap (λ h. h.phase) c.self.view_is ∙ c.requires.phase))).under_way c.args.k (ap (λ h. h.phase) c.self.view_is ∙ c.requires.phase)) }
+number_at-requires g c = record { within = rw (c.deref.ensures.value) ((c.self.invariant.0.plan (not_idle _ (ap (λ h. h.phase) c.self.view_is ∙ c.requires.phase))).under_way c.args.k (ap (λ h. h.phase) c.self.view_is ∙ c.requires.phase)) }
 
 pub bytes_at-requires : goal.bytes_at-requires
 bytes_at-requires g c = record {
-  within = rw (c.deref-2.ensures.value) (whole_within c.args.k _ _ ((c.self.invariant.plan (not_idle _ (ap (λ h. h.phase) c.self.view_is ∙ c.requires.phase))).under_way c.args.k (ap (λ h. h.phase) c.self.view_is ∙ c.requires.phase)) c.self.invariant.room);
+  within = rw (c.deref-2.ensures.value) (whole_within c.args.k _ _ ((c.self.invariant.0.plan (not_idle _ (ap (λ h. h.phase) c.self.view_is ∙ c.requires.phase))).under_way c.args.k (ap (λ h. h.phase) c.self.view_is ∙ c.requires.phase)) c.self.invariant.0.room);
 }
 
 pub write_inside-requires : goal.write_inside-requires
 write_inside-requires g c = record {
-  inside = λ told. rw (c.number_at.ensures ∙ ap (λ v. get_or v c.args.k 0) c.deref.ensures.value) (inside_page g.D.DiskFacts _ c.self.inside.slot _ _ c.args.k c.self.invariant (ap (λ h. h.phase) c.self.view_is ∙ c.requires.phase) told (λ told. g.met.D.Disk.lawful c.self.inside.disk told) (ap (λ h. h.failed) c.self.view_is ∙ c.requires.works));
+  inside = λ told. rw (c.number_at.ensures ∙ ap (λ v. get_or v c.args.k 0) c.deref.ensures.value) (inside_page g.D.DiskFacts _ c.self.inside.slot _ _ c.args.k c.self.invariant.0 (ap (λ h. h.phase) c.self.view_is ∙ c.requires.phase) told (λ told. g.met.D.Disk.lawful c.self.inside.disk told) (ap (λ h. h.failed) c.self.view_is ∙ c.requires.works));
 }
 
 pub invariant_of-self : goal.invariant_of-self
-invariant_of-self g c =
-    sound_page_failed g.D.DiskFacts _ c.self.inside.slot _ _ c.args.k c.write_inside.new.disk c.self.invariant (ap (λ h. h.phase) c.self.view_is ∙ c.requires.phase)
-    c.in-Err.ensures.tells.0 (λ told. torn_at _ _ _ _ (ap (λ n. 4096 * n) (c.number_at.ensures ∙ ap (λ v. get_or v c.args.k 0) c.deref.ensures.value)) c.bytes_at.ensures.whole (c.in-Err.ensures.torn told))
+invariant_of-self g c = (
+  sound_page_failed g.D.DiskFacts _ c.self.inside.slot _ _ c.args.k c.write_inside.new.disk c.self.invariant.0 (ap (λ h. h.phase) c.self.view_is ∙ c.requires.phase)
+      c.in-Err.ensures.tells.0 (λ told. torn_at _ _ _ _ (ap (λ n. 4096 * n) (c.number_at.ensures ∙ ap (λ v. get_or v c.args.k 0) c.deref.ensures.value)) c.bytes_at.ensures.whole (c.in-Err.ensures.torn told)),
+  c.self.invariant.1,
+)
 
 pub returns-in-Err-clause-call : goal.returns-in-Err-clause-call
 returns-in-Err-clause-call g c =
-    device_call g.D.DiskFacts _ 1 1 0 WriteFailed _ _ _ _ c.self.inside.slot c.self.inside.slot _ _ c.self.view_is c.self.invariant
-    (invariant_of-self g c) (λ file is. is) c.in-Err.ensures.tells c.in-Err.ensures.call (λ told. g.met.D.Disk.lawful c.self.inside.disk told) c.in-Err.ensures.refused
+    device_call g.D.DiskFacts _ 1 1 0 WriteFailed _ _ _ _ c.self.inside.slot c.self.inside.slot _ _ c.self.view_is c.self.invariant.0
+    (invariant_of-self g c).0 (λ file is. is) c.in-Err.ensures.tells c.in-Err.ensures.call (λ told. g.met.D.Disk.lawful c.self.inside.disk told) c.in-Err.ensures.refused
 
 pub invariant_of-self-2 : goal.invariant_of-self-2
-invariant_of-self-2 g c =
-    rw (c.behind-self-inside.ensures ∙ ap (λ n. behind_pages (c.args.k + 1) n c.self.inside.stale) (c.len.ensures ∙ counted c.self.inside.numbers))
-    (sound_page g.D.DiskFacts _ c.self.inside.slot _ _ c.args.k c.write_inside.new.disk c.self.invariant (ap (λ h. h.phase) c.self.view_is ∙ c.requires.phase) (λ told. g.met.D.Disk.lawful c.self.inside.disk told)
-    c.in_default.ensures.tells.0 (λ told. torn_at _ _ _ _ (ap (λ n. 4096 * n) (c.number_at.ensures ∙ ap (λ v. get_or v c.args.k 0) c.deref.ensures.value)) c.bytes_at.ensures.whole (c.in_default.ensures.torn told))
-    (λ told. c.in_default.ensures.written told
-    ∙ ap (λ n. overwritten (g.D.DiskFacts.content c.self.inside.disk) (4096 * n) c.bytes_at.result.now) (c.number_at.ensures ∙ ap (λ v. get_or v c.args.k 0) c.deref.ensures.value)
-    ∙ ap (overwritten (g.D.DiskFacts.content c.self.inside.disk) _) (c.bytes_at.ensures.bytes ∙ ap (λ v. part v (4096 * c.args.k) 4096) c.deref-2.ensures.value))
-    (λ told. inside_page g.D.DiskFacts _ c.self.inside.slot _ _ c.args.k c.self.invariant (ap (λ h. h.phase) c.self.view_is ∙ c.requires.phase) told (λ told. g.met.D.Disk.lawful c.self.inside.disk told) (ap (λ h. h.failed) c.self.view_is ∙ c.requires.works))
-    refl (ap (λ h. h.failed) c.self.view_is ∙ c.requires.works))
+invariant_of-self-2 g c = (
+  rw (c.behind-self-inside.ensures ∙ ap (λ n. behind_pages (c.args.k + 1) n c.self.inside.stale) (c.len.ensures ∙ counted c.self.inside.numbers))
+      (sound_page g.D.DiskFacts _ c.self.inside.slot _ _ c.args.k c.write_inside.new.disk c.self.invariant.0 (ap (λ h. h.phase) c.self.view_is ∙ c.requires.phase) (λ told. g.met.D.Disk.lawful c.self.inside.disk told)
+      c.in_default.ensures.tells.0 (λ told. torn_at _ _ _ _ (ap (λ n. 4096 * n) (c.number_at.ensures ∙ ap (λ v. get_or v c.args.k 0) c.deref.ensures.value)) c.bytes_at.ensures.whole (c.in_default.ensures.torn told))
+      (λ told. c.in_default.ensures.written told
+      ∙ ap (λ n. overwritten (g.D.DiskFacts.content c.self.inside.disk) (4096 * n) c.bytes_at.result.now) (c.number_at.ensures ∙ ap (λ v. get_or v c.args.k 0) c.deref.ensures.value)
+      ∙ ap (overwritten (g.D.DiskFacts.content c.self.inside.disk) _) (c.bytes_at.ensures.bytes ∙ ap (λ v. part v (4096 * c.args.k) 4096) c.deref-2.ensures.value))
+      (λ told. inside_page g.D.DiskFacts _ c.self.inside.slot _ _ c.args.k c.self.invariant.0 (ap (λ h. h.phase) c.self.view_is ∙ c.requires.phase) told (λ told. g.met.D.Disk.lawful c.self.inside.disk told) (ap (λ h. h.failed) c.self.view_is ∙ c.requires.works))
+      refl (ap (λ h. h.failed) c.self.view_is ∙ c.requires.works)),
+  streams_on c.self.inside.phase _ c.self.inside.current c.self.inside.next c.self.inside.stream.items c.self.invariant.1 (busy_at c.self.inside.phase (Pages c.args.k) (ap (λ h. h.phase) c.self.view_is ∙ c.requires.phase) (λ is. absurd cc)) (rw (c.behind-self-inside.ensures) (busy_behind _ _ _)),
+)
 
 pub returns-clause-call : goal.returns-clause-call
 returns-clause-call g c =
-    device_call g.D.DiskFacts _ 0 1 0 WriteFailed _ _ _ _ c.self.inside.slot c.self.inside.slot _ _ c.self.view_is c.self.invariant
-    (invariant_of-self-2 g c) (λ file is. is) c.in_default.ensures.tells c.in_default.ensures.call (λ told. g.met.D.Disk.lawful c.self.inside.disk told) tt
+    device_call g.D.DiskFacts _ 0 1 0 WriteFailed _ _ _ _ c.self.inside.slot c.self.inside.slot _ _ c.self.view_is c.self.invariant.0
+    (invariant_of-self-2 g c).0 (λ file is. is) c.in_default.ensures.tells c.in_default.ensures.call (λ told. g.met.D.Disk.lawful c.self.inside.disk told) tt
 
 pub returns-in-Err-clause-does : goal.returns-in-Err-clause-does
 returns-in-Err-clause-does g c =
     rw (sym c.self.view_is) (λ told. record {
       page = part c.self.inside.fresh.items (4096 * c.args.k) 4096;
-      within = (c.self.invariant.plan (not_idle _ (ap (λ h. h.phase) c.self.view_is ∙ c.requires.phase))).under_way c.args.k (ap (λ h. h.phase) c.self.view_is ∙ c.requires.phase);
+      within = (c.self.invariant.0.plan (not_idle _ (ap (λ h. h.phase) c.self.view_is ∙ c.requires.phase))).under_way c.args.k (ap (λ h. h.phase) c.self.view_is ∙ c.requires.phase);
       writes = record {
         size = ap length (sym (c.bytes_at.ensures.bytes ∙ ap (λ v. part v (4096 * c.args.k) 4096) c.deref-2.ensures.value)) ∙ c.bytes_at.ensures.whole;
         torn = torn_at _ _ _ _ (ap (λ n. 4096 * n) (c.number_at.ensures ∙ ap (λ v. get_or v c.args.k 0) c.deref.ensures.value)) c.bytes_at.ensures.whole (c.in-Err.ensures.torn told);
@@ -81,7 +86,7 @@ pub returns-clause-does : goal.returns-clause-does
 returns-clause-does g c =
     rw (sym c.self.view_is) (λ told. record {
       page = part c.self.inside.fresh.items (4096 * c.args.k) 4096;
-      within = (c.self.invariant.plan (not_idle _ (ap (λ h. h.phase) c.self.view_is ∙ c.requires.phase))).under_way c.args.k (ap (λ h. h.phase) c.self.view_is ∙ c.requires.phase);
+      within = (c.self.invariant.0.plan (not_idle _ (ap (λ h. h.phase) c.self.view_is ∙ c.requires.phase))).under_way c.args.k (ap (λ h. h.phase) c.self.view_is ∙ c.requires.phase);
       writes = record {
         size = ap length (sym (c.bytes_at.ensures.bytes ∙ ap (λ v. part v (4096 * c.args.k) 4096) c.deref-2.ensures.value)) ∙ c.bytes_at.ensures.whole;
         torn = torn_at _ _ _ _ (ap (λ n. 4096 * n) (c.number_at.ensures ∙ ap (λ v. get_or v c.args.k 0) c.deref.ensures.value)) c.bytes_at.ensures.whole (c.in_default.ensures.torn told);

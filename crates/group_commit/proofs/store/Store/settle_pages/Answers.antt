@@ -1,28 +1,35 @@
 use Rattle.std.proofs.Common.{ap, ◌∙◌, true, false, inl, inr, ◌⊎◌, sym}
 use Rattle.group_commit.specs.declared.error.StoreError.TheVariants.{SyncFailed}
 use Rattle.group_commit.proofs.store.Store.settle_pages.Goals as goal
+use Rattle.group_commit.specs.declared.phase.Phase.TheVariants.{Sync1}
+use Rattle.group_commit.proofs.Streams.{streams_on, busy_at}
 use Rattle.group_commit.proofs.Sound.{sound_sync1, sound_sync_failed}
 use Rattle.group_commit.proofs.DeviceCall.{device_call}
 
 pub invariant_of-self : goal.invariant_of-self
-invariant_of-self g c = sound_sync_failed g.D.DiskFacts _ c.self.inside.slot _ _ c.settle.new.disk c.self.invariant (c.in-Err.ensures).tells.0 (c.in-Err.ensures).unsettled
+invariant_of-self g c = (
+  sound_sync_failed g.D.DiskFacts _ c.self.inside.slot _ _ c.settle.new.disk c.self.invariant.0 (c.in-Err.ensures).tells.0 (c.in-Err.ensures).unsettled,
+  c.self.invariant.1,
+)
 
 pub returns-in-Err-clause-call : goal.returns-in-Err-clause-call
 returns-in-Err-clause-call g c =
-    device_call g.D.DiskFacts _ 1 0 1 SyncFailed _ _ _ _ c.self.inside.slot c.self.inside.slot _ _ c.self.view_is c.self.invariant
-    (invariant_of-self g c) (λ file is. is) (c.in-Err.ensures).tells (c.in-Err.ensures).call (λ told. g.met.D.Disk.lawful c.self.inside.disk told) (c.in-Err.ensures).refused
+    device_call g.D.DiskFacts _ 1 0 1 SyncFailed _ _ _ _ c.self.inside.slot c.self.inside.slot _ _ c.self.view_is c.self.invariant.0
+    (invariant_of-self g c).0 (λ file is. is) (c.in-Err.ensures).tells (c.in-Err.ensures).call (λ told. g.met.D.Disk.lawful c.self.inside.disk told) (c.in-Err.ensures).refused
 
 pub invariant_of-self-2 : goal.invariant_of-self-2
-invariant_of-self-2 g c =
-    sound_sync1 g.D.DiskFacts _ c.self.inside.slot _ _ c.settle.new.disk c.self.invariant
-    (ap (λ h. h.phase) c.self.view_is ∙ c.requires.phase)
-    (c.in_default.ensures).tells.0 (c.in_default.ensures).settled
-    (λ told. g.met.D.Disk.lawful c.self.inside.disk told) (ap (λ h. h.failed) c.self.view_is ∙ c.requires.works)
+invariant_of-self-2 g c = (
+  sound_sync1 g.D.DiskFacts _ c.self.inside.slot _ _ c.settle.new.disk c.self.invariant.0
+      (ap (λ h. h.phase) c.self.view_is ∙ c.requires.phase)
+      (c.in_default.ensures).tells.0 (c.in_default.ensures).settled
+      (λ told. g.met.D.Disk.lawful c.self.inside.disk told) (ap (λ h. h.failed) c.self.view_is ∙ c.requires.works),
+  streams_on c.self.inside.phase _ c.self.inside.current c.self.inside.next c.self.inside.stream.items c.self.invariant.1 (busy_at c.self.inside.phase Sync1 (ap (λ h. h.phase) c.self.view_is ∙ c.requires.phase) (λ is. absurd cc)) (λ is. absurd cc),
+)
 
 pub returns-clause-call : goal.returns-clause-call
 returns-clause-call g c =
-    device_call g.D.DiskFacts _ 0 0 1 SyncFailed _ _ _ _ c.self.inside.slot c.self.inside.slot _ _ c.self.view_is c.self.invariant
-    (invariant_of-self-2 g c) (λ file is. is) (c.in_default.ensures).tells (c.in_default.ensures).call (λ told. g.met.D.Disk.lawful c.self.inside.disk told) tt
+    device_call g.D.DiskFacts _ 0 0 1 SyncFailed _ _ _ _ c.self.inside.slot c.self.inside.slot _ _ c.self.view_is c.self.invariant.0
+    (invariant_of-self-2 g c).0 (λ file is. is) (c.in_default.ensures).tells (c.in_default.ensures).call (λ told. g.met.D.Disk.lawful c.self.inside.disk told) tt
 
 pub returns-in-Err-clause-does : goal.returns-in-Err-clause-does
 returns-in-Err-clause-does g c = rw (sym c.self.view_is) (λ told. record { settled = tt; unsettled = c.in-Err.ensures.unsettled told })
