@@ -21,8 +21,8 @@ use Rattle.model_laws.proofs.Ops.{lacks-characters, orderly_placed}
 use Rattle.model_laws.proofs.Family.{orderly_once}
 use Rattle.model_laws.proofs.Growth.{orderly_push, other_walk}
 use Rattle.char_sequence.specs.declared.cell.Cell.{Cell}
-use Rattle.char_sequence.specs.Cells.{past_greater, behind, inserted, removed, shown_at, shown_values, shown, behind_shown, first_removed, inserted_run}
-use Rattle.char_sequence.specs.Content.{cell_of, content_of, Takes, TakesRun, IsRun, FitAfter}
+use Rattle.char_sequence.specs.Cells.{past_greater, behind, inserted, removed, shown_at, shown_values, shown, behind_shown, first_removed, inserted_run, removed_all}
+use Rattle.char_sequence.specs.Content.{cell_of, content_of, AreRemoves, Takes, TakesRemoves, TakesRun, IsRun, FitAfter}
 
 -- cells are placed as their characters are
 past_greater-map : (ops : List Op) (doc : ℕ) (c : Character) (ds : List Character)
@@ -281,3 +281,19 @@ run_placed origin (x ∷ xs) ops doc (op ∷ more) orderly fit is_run =
 pub takes_run : (origin : Option Id) (run : List (Id × ℕ)) (old new : List Cell) → new ≡ inserted_run origin run old → TakesRun origin run old new
 takes_run origin run old new placed ops doc more orderly fit is_run same =
     placed ∙ (ap (inserted_run origin run) same ∙ run_placed origin run ops doc more orderly fit is_run)
+
+-- characters removed from the content are the content with the removes
+removes_placed : (ids : List Id) (ops : List Op) (doc : ℕ) (more : List Op) → IsOrderly ops doc → FitAfter ops doc more
+    → AreRemoves ids more → removed_all ids (content_of ops doc) ≡ content_of (ops ++ more) doc
+removes_placed [] ops doc [] orderly fit are = ap (λ all. content_of all doc) (sym (append-nil ops))
+removes_placed [] ops doc (op ∷ more) orderly fit are = absurd are
+removes_placed (id ∷ ids) ops doc [] orderly fit are = absurd are
+removes_placed (id ∷ ids) ops doc (op ∷ more) orderly fit are =
+    let one = content_of-remove ops doc op id orderly fit.0 are.0 in
+    let later = removes_placed ids (ops ++ op ∷ []) doc more (orderly_push ops doc op orderly (λ _. fit.0)) fit.1 are.1 in
+    ap (removed_all ids) (sym one) ∙ (later ∙ ap (λ all. content_of all doc) (append_assoc ops (op ∷ []) more))
+
+-- what a call that removes cells owes
+pub takes_removes : (ids : List Id) (old new : List Cell) → new ≡ removed_all ids old → TakesRemoves ids old new
+takes_removes ids old new gone ops doc more orderly fit are same =
+    gone ∙ (ap (removed_all ids) same ∙ removes_placed ids ops doc more orderly fit are)

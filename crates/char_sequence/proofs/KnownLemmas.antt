@@ -1,8 +1,10 @@
 -- Which ids the content of operations has: those of the document's inserts.
-use Rattle.std.proofs.Common.{◌≡◌, ℕ, ◌+◌, Bool, true, false, ◌||◌, if◌then◌else◌, nat_lt, List, [], ◌∷◌, map, Option, Some, None, refl, sym, ◌∙◌, ap, arith}
+use Rattle.std.proofs.Common.{◌≡◌, ℕ, ◌+◌, ◌<◌, Bool, true, false, ◌&&◌, ◌||◌, if◌then◌else◌, nat_lt, List, [], ◌∷◌, length, map, drop, get_or, Option, Some, None, refl, sym, ◌∙◌, ap, arith}
 use Rattle.std.specs.Option.{MatchOption}
 use Rattle.std.specs.Prelude.{◌↔◌}
-use Rattle.std.proofs.lemmas.Bool.{true≢false}
+use Rattle.std.specs.List.{list_all}
+use Rattle.std.proofs.lemmas.List.{drop_more}
+use Rattle.std.proofs.lemmas.Bool.{and_parts, true≢false}
 use Rattle.std.proofs.lemmas.Bool.Decides.{nat_tests}
 use Rattle.op_ids.specs.Id.{Id, is_same}
 use Rattle.op_model.specs.declared.op.Op.{Op}
@@ -13,7 +15,7 @@ use Rattle.op_model.specs.Placing.{has_id, IsOrderly}
 use Rattle.op_model.specs.Walk.{walk, times}
 use Rattle.model_laws.proofs.Family.{orderly_members}
 use Rattle.char_sequence.specs.declared.cell.Cell.{Cell}
-use Rattle.char_sequence.specs.Cells.{has_cell, is_known, place_of, raised}
+use Rattle.char_sequence.specs.Cells.{has_cell, is_known, place_of, raised, removed, removed_all}
 use Rattle.char_sequence.specs.Content.{cell_of, is_there, Holds}
 
 -- an id is there where it is counted
@@ -79,3 +81,46 @@ unknown_there cells ops doc origin Refused holds refused = rw (is_known-content 
 pub none_refused : (known : Bool) (Refused : Type 0) → (Refused → ⊥) → known ≡ true → (Refused ↔ (known ≡ false))
 none_refused true Refused never is_known = (λ refused. absurd (never refused), λ no. absurd (true≢false no))
 none_refused false Refused never is_known = absurd (true≢false (sym is_known))
+
+all_known-content : (cells : List Cell) (ops : List Op) (doc : ℕ) (ids : List Id) → Holds cells ops doc
+    → list_all (λ id. has_cell cells id) ids ≡ list_all (λ id. is_there ops doc (Some id)) ids
+all_known-content cells ops doc [] holds = refl
+all_known-content cells ops doc (id ∷ ids) holds =
+    ap (λ first. first && list_all (λ n. has_cell cells n) ids) (has_cell-content cells ops doc id holds)
+    ∙ ap (λ rest. has_id (characters ops doc) id && rest) (all_known-content cells ops doc ids holds)
+
+-- the same for several characters
+pub all_unknown_there : (cells : List Cell) (ops : List Op) (doc : ℕ) (ids : List Id) (Refused : Type 0) → Holds cells ops doc
+    → (Refused ↔ (list_all (λ id. has_cell cells id) ids ≡ false)) → (Refused ↔ (list_all (λ id. is_there ops doc (Some id)) ids ≡ false))
+all_unknown_there cells ops doc ids Refused holds refused = rw (all_known-content cells ops doc ids holds) at refused
+
+-- a tombstone is there as before
+pub has_cell-removed : (id other : Id) (cs : List Cell) → has_cell (removed id cs) other ≡ has_cell cs other
+has_cell-removed id other [] = refl
+has_cell-removed id other (c ∷ cs) = go (is_same c.id id) (has_cell-removed id other cs)
+  where
+    go : (same : Bool) → has_cell (removed id cs) other ≡ has_cell cs other
+        → has_cell (if same then record c { is_removed = true } ∷ cs else c ∷ removed id cs) other ≡ has_cell (c ∷ cs) other
+    go true rest = refl
+    go false rest = ap (λ r. is_same c.id other || r) rest
+
+all_cells-removed : (id : Id) (cs : List Cell) (ids : List Id) → list_all (λ n. has_cell (removed id cs) n) ids ≡ list_all (λ n. has_cell cs n) ids
+all_cells-removed id cs [] = refl
+all_cells-removed id cs (n ∷ ids) =
+    ap (λ first. first && list_all (λ m. has_cell (removed id cs) m) ids) (has_cell-removed id n cs)
+    ∙ ap (λ rest. has_cell cs n && rest) (all_cells-removed id cs ids)
+
+-- one of several removes, and then the rest of them
+pub one_of_removes : (ids : List Id) (i : ℕ) (id : Id) (cs ds : List Cell) → i < length ids → id ≡ get_or ids i id → ds ≡ removed id cs
+    → removed_all (drop i ids) cs ≡ removed_all (drop (i + 1) ids) ds
+one_of_removes ids i id cs ds here is_it gone = rw (drop_more ids i id here, ← is_it, gone) refl
+
+pub first_known : (ids : List Id) (i : ℕ) (id : Id) (cs : List Cell) → i < length ids → id ≡ get_or ids i id
+    → list_all (λ n. has_cell cs n) (drop i ids) ≡ true → (has_cell cs id ≡ true) × (list_all (λ n. has_cell cs n) (drop (i + 1) ids) ≡ true)
+first_known ids i id cs here is_it all =
+    and_parts (has_cell cs id) (list_all (λ n. has_cell cs n) (drop (i + 1) ids)) (rw (drop_more ids i id here, ← is_it) at all)
+
+pub rest_known : (ids : List Id) (i : ℕ) (id : Id) (cs ds : List Cell) → i < length ids → id ≡ get_or ids i id → ds ≡ removed id cs
+    → list_all (λ n. has_cell cs n) (drop i ids) ≡ true → list_all (λ n. has_cell ds n) (drop (i + 1) ids) ≡ true
+rest_known ids i id cs ds here is_it gone all =
+    rw (gone, all_cells-removed id cs (drop (i + 1) ids)) (first_known ids i id cs here is_it all).1

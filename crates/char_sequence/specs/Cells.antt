@@ -84,3 +84,8 @@ abbrev pub inserted_run : Option Id → List (Id × ℕ) → List Cell → List 
 inserted_run origin [] cs = cs
 inserted_run origin (x ∷ xs) cs =
     inserted_run (Some x.0) xs (inserted origin (record { id = x.0; value = x.1; is_removed = false }) cs)
+
+-- the cells of these ids as tombstones
+abbrev pub removed_all : List Id → List Cell → List Cell
+removed_all [] cs = cs
+removed_all (id ∷ ids) cs = removed_all ids (removed id cs)

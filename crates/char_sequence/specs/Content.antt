@@ -4,7 +4,7 @@ use Rattle.op_ids.specs.Id.{Id}
 use Rattle.char_sequence.specs.declared.cell.Cell.{Cell}
 use Rattle.op_model.specs.declared.op.Op.{Op}
 use Rattle.op_model.specs.declared.op.Body.{Body}
-use Rattle.op_model.specs.declared.op.Body.TheVariants.{Insert}
+use Rattle.op_model.specs.declared.op.Body.TheVariants.{Insert, Remove}
 use Rattle.op_model.specs.declared.character.Character.{Character}
 use Rattle.op_model.specs.Walk.{walk}
 use Rattle.op_model.specs.Text.{is_removed}
@@ -50,3 +50,15 @@ FitAfter ops doc (op ∷ more) = Fits ops doc op × FitAfter (ops ++ op ∷ []) 
 abbrev pub TakesRun : Option Id → List (Id × ℕ) → List Cell → List Cell → Type 0
 TakesRun origin run old new = (ops : List Op) (doc : ℕ) (more : List Op) → IsOrderly ops doc → FitAfter ops doc more
     → IsRun origin run more → old ≡ content_of ops doc → new ≡ content_of (ops ++ more) doc
+
+-- these operations remove the characters of these ids
+abbrev pub AreRemoves : List Id → List Op → Type 0
+AreRemoves [] [] = Unit {0}
+AreRemoves [] (op ∷ ops) = ⊥
+AreRemoves (id ∷ ids) [] = ⊥
+AreRemoves (id ∷ ids) (op ∷ ops) = (op.body ≡ Remove id) × AreRemoves ids ops
+
+-- From the content of any operations that removes of these characters fit, the call leads to their content with them.
+abbrev pub TakesRemoves : List Id → List Cell → List Cell → Type 0
+TakesRemoves ids old new = (ops : List Op) (doc : ℕ) (more : List Op) → IsOrderly ops doc → FitAfter ops doc more
+    → AreRemoves ids more → old ≡ content_of ops doc → new ≡ content_of (ops ++ more) doc

@@ -1,4 +1,5 @@
 ghost use Rattle.std.specs.Prelude.{◌≡◌, ℕ, ◌+◌, ◌≤◌, List, ◌∷◌, ◌++◌, length, take, drop, MatchOption, IfOk, false, true};
+ghost use Rattle.std.specs.List.{list_all};
 ghost use Rattle.char_sequence.specs.Cells.{past_greater as past_greater_of, inserted, is_known, has_cell, place_of, shown_at, behind_shown, first_removed, last_ended as last_ended_of, shown_values, IsAt};
 
 use crate::cell::Cell;
@@ -30,6 +31,19 @@ pub fn knows(cells: &[Cell], origin: &Option<OpId>) -> bool
             None => false,
         },
     }
+}
+
+/// Whether characters are there.
+pub fn knows_all(cells: &[Cell], ids: &[OpId]) -> bool
+    ensures { result ≡ list_all (λ id. has_cell cells.now id) ids.now }
+{
+    for id in ids {
+        match place(cells, id) {
+            Some(_) => {}
+            None => return false,
+        }
+    }
+    true
 }
 
 /// How many of these cells, from the first on, have greater ids than this cell.

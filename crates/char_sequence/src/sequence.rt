@@ -1,6 +1,7 @@
 ghost use Rattle.std.specs.Prelude.{◌≡◌, ℕ, ◌+◌, ◌≤◌, ◌<◌, List, [], Some, map, length, vec_len, vec_capacity, MatchOption, IfOk, OnOk, OnErr, IsErrOf, ◌↔◌, false, true};
-ghost use Rattle.char_sequence.specs.Cells.{inserted, inserted_run, is_known, last_ended as last_ended_of};
-ghost use Rattle.char_sequence.specs.Content.{content_of, is_there, Holds, Takes, TakesRun};
+ghost use Rattle.std.specs.List.{list_all};
+ghost use Rattle.char_sequence.specs.Cells.{has_cell, inserted, inserted_run, is_known, last_ended as last_ended_of, removed, removed_all};
+ghost use Rattle.char_sequence.specs.Content.{content_of, is_there, Holds, Takes, TakesRemoves, TakesRun};
 ghost use Rattle.op_ids.specs.Id.{Id};
 ghost use Rattle.op_model.specs.Places.{index_of};
 ghost use Rattle.op_model.specs.Walk.{walk};
@@ -12,7 +13,9 @@ ghost use Rattle.op_model.specs.Made.{id_at, tombstones_at};
 use crate::cell::Cell;
 use crate::ends_after::EndsAfter;
 use crate::error::SequenceError;
-use crate::search::{behind, knows, landing, last_ended, place, shown, tombstones, values};
+use crate::search::{
+    behind, knows, knows_all, landing, last_ended, place, shown, tombstones, values,
+};
 use op_ids::OpId;
 use op_model::Text;
 use std::alloc::{AllocError, Global};
@@ -42,6 +45,11 @@ impl Sequence {
         Sequence {
             cells: Vec::new(alloc),
         }
+    }
+
+    /// The allocator that it keeps.
+    pub fn allocator(&self) -> Global {
+        *self.cells.allocator()
     }
 
     /// Takes an insert of a character behind its origin, or at the beginning where there is none.
@@ -104,6 +112,23 @@ impl Sequence {
                 Ok(())
             }
         }
+    }
+
+    /// Takes removes of characters, which stay as tombstones; whole or not at all. `UnknownId` (60)
+    /// where one of them isn't there, which leaves the sequence as it was. Takes no memory. Linear
+    /// for each.
+    pub fn apply_removes(&mut self, ids: &[OpId]) -> Result<(), SequenceError>
+        ensures taken { OnOk result (TakesRemoves ids.now self.old self.new) }
+        ensures unknown { (ops : List Op) (doc : ℕ) → Holds self.old ops doc
+            → (IsErrOf result SequenceError.UnknownId
+            ↔ (list_all (λ id. is_there ops doc (Some id)) ids.now ≡ false)) }
+        ensures err { OnErr result (self.new ≡ self.old) }
+    {
+        if !knows_all(&self.cells, ids) {
+            return Err(SequenceError::UnknownId);
+        }
+        remove_all(&mut self.cells, ids);
+        Ok(())
     }
 
     /// Another sequence with the same content. An error is want of memory (1). Linear.
@@ -228,5 +253,29 @@ fn insert_known(cells: &mut Vec<Cell>, origin: &Option<OpId>, cell: &Cell)
             Ok(()) => {}
             Err(_) => unreachable!(),
         },
+    }
+}
+
+/// Makes characters that are there tombstones.
+fn remove_all(cells: &mut Vec<Cell>, ids: &[OpId])
+    requires { list_all (λ id. has_cell cells.old.items id) ids.now ≡ true }
+    ensures { cells.new.items ≡ removed_all ids.now cells.old.items }
+{
+    for id in ids {
+        remove_known(cells, id);
+    }
+}
+
+/// Makes a character that is there a tombstone.
+fn remove_known(cells: &mut Vec<Cell>, id: &OpId)
+    requires { has_cell cells.old.items id.now ≡ true }
+    ensures { cells.new.items ≡ removed id.now cells.old.items }
+{
+    match place(cells, id) {
+        None => unreachable!(),
+        Some(at) => {
+            let tombstone = &mut cells[at];
+            tombstone.is_removed = true;
+        }
     }
 }

@@ -72,3 +72,41 @@ fn a_run_goes_in_whole_behind_its_origin(rt: HostRuntime) -> Result<(), Fail> {
     assert!(rt; has_text(&rt, &sequence, "azbc")?);
     Ok(())
 }
+
+/// A mark operation that ends just after this character.
+#[derive(Clone, Copy)]
+struct EndsAfterOne(OpId);
+
+impl EndsAfter for EndsAfterOne {
+    ghost use Rattle.op_ids.specs.Id.{is_same};
+
+    ghost ends_after = { λ ends id. is_same ends.0 id };
+
+    fn ends_after(&self, id: OpId) -> bool {
+        self.0.is_same(id)
+    }
+}
+
+#[test]
+fn the_last_tombstone_that_a_mark_ends_after_is_found(rt: HostRuntime) -> Result<(), Fail> {
+    let mut sequence = Sequence::new(rt.alloc());
+    let (a, b, c) = (id(1, 1)?, id(2, 1)?, id(3, 1)?);
+    sequence.apply_run(None, &[(a, 'a'), (b, 'b'), (c, 'c')])?;
+    sequence.apply_removes(&[c, b])?;
+    assert!(rt; has_text(&rt, &sequence, "a")?);
+    assert_eq!(rt; sequence.last_ended(1, Some(a), &EndsAfterOne(b)), Some(b));
+    assert_eq!(rt; sequence.last_ended(1, Some(a), &NoMarks), Some(a));
+    assert_eq!(rt; sequence.last_ended(0, None, &EndsAfterOne(b)), None);
+    Ok(())
+}
+
+#[test]
+fn several_removes_go_whole_or_not_at_all(rt: HostRuntime) -> Result<(), Fail> {
+    let mut sequence = Sequence::new(rt.alloc());
+    let (a, b) = (id(1, 1)?, id(2, 1)?);
+    sequence.apply_run(None, &[(a, 'a'), (b, 'b')])?;
+    let refused = sequence.apply_removes(&[a, id(7, 7)?]);
+    assert_eq!(rt; refused.err().map_or(0, |error| error.number()), 60);
+    assert!(rt; has_text(&rt, &sequence, "ab")?);
+    Ok(())
+}

@@ -2,3 +2,4 @@ pub mod Clocks
 pub mod LawLemmas
 pub mod MakingLemmas
 pub mod StandingLemmas
+pub mod RunLemmas

@@ -44,7 +44,7 @@ on_ok_always (Ok x) q = q
 on_ok_always (Err e) q = tt
 
 -- an operation of the document counts
-rev-push : (ops : List Op) (doc : ℕ) (op : Op) → op.doc ≡ doc → rev (ops ++ op ∷ []) doc ≡ rev ops doc + 1
+pub rev-push : (ops : List Op) (doc : ℕ) (op : Op) → op.doc ≡ doc → rev (ops ++ op ∷ []) doc ≡ rev ops doc + 1
 rev-push ops doc op same =
     let it : (op.doc == doc) ≡ true = grind (arith, nat_tests) in
     sum_by-append (λ o. cond (o.doc == doc) 1 0) ops (op ∷ []) ∙ rw it (omega arith)

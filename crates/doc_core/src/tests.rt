@@ -1,6 +1,6 @@
 use super::*;
 use op_ids::{Clock, OpId, ReplicaId};
-use op_model::{Anchor, Body, EditText, End, Mark, Op, Start, Text, Url};
+use op_model::{Anchor, Body, Change, EditText, End, Mark, MarkKey, Op, Start, Text, Url};
 use slow_programs::{rev, text, walk};
 use std::alloc::Global;
 use std::num::NonZeroU32;
@@ -76,6 +76,29 @@ impl Peer {
     fn remove(&mut self, at: u32, count: u32) -> Result<(), Fail> {
         let made = self.make_remove(at, count)?;
         self.keep_edit(made)
+    }
+
+    /// Makes a change and takes it.
+    fn change(&mut self, change: &Change) -> Result<(), Fail> {
+        let next = self.last.wrapping_add(1);
+        let made = self
+            .doc
+            .make(self.alloc, self.replica, next, &self.clock, change)?;
+        self.keep_edit(made)
+    }
+
+    /// Where the mark operations end that the list has, of each kind the last one.
+    fn ends(&self) -> Result<(Option<End>, Option<End>), Fail> {
+        let mut added = None;
+        let mut removed = None;
+        for op in &self.ops {
+            match &op.body {
+                Body::AddMark { end, .. } => added = Some(*end),
+                Body::RemoveMark { end, .. } => removed = Some(*end),
+                _ => {}
+            }
+        }
+        Ok((added, removed))
     }
 
     /// Takes one operation of another peer.
@@ -242,6 +265,46 @@ fn edits_keep_their_limits(rt: HostRuntime) -> Result<(), Fail> {
     a.insert(255, "bcd")?;
     assert_eq!(rt; a.remove_refusal(0, 257)?, 7);
     assert!(rt; a.agrees()?);
+    Ok(())
+}
+
+#[test]
+fn several_characters_are_removed_at_once(rt: HostRuntime) -> Result<(), Fail> {
+    let mut a = Peer::new(rt.alloc(), 1)?;
+    a.insert(0, "abcd")?;
+    a.remove(1, 2)?;
+    assert!(rt; a.shows("ad")?);
+    assert_eq!(rt; a.doc.rev(), 6);
+    assert!(rt; a.agrees()?);
+    Ok(())
+}
+
+#[test]
+fn a_mark_is_made_and_taken_away(rt: HostRuntime) -> Result<(), Fail> {
+    let mut a = Peer::new(rt.alloc(), 1)?;
+    a.insert(0, "abc")?;
+    a.change(&Change::Mark {
+        from: 0,
+        to: 2,
+        mark: Mark::Strong,
+    })?;
+    a.change(&Change::Unmark {
+        from: 1,
+        to: 3,
+        key: MarkKey::Strong,
+    })?;
+    assert_eq!(rt;
+        a.ends()?,
+        (Some(End::To(Anchor::Before(a.id(3)?))), Some(End::OfText))
+    );
+    assert!(rt;
+        !a.doc.is_inside(&Change::Mark {
+            from: 2,
+            to: 2,
+            mark: Mark::Em
+        })
+    );
+    assert_eq!(rt; a.doc.rev(), 5);
     Ok(())
 }
 

@@ -1,3 +1,4 @@
 pub mod Program
 pub mod Asked
 pub mod Faults
+pub mod Ends

@@ -1,5 +1,6 @@
 use crate::command_line::order;
-use crate::{Order, OrderFault};
+use crate::order::Order;
+use crate::order_fault::OrderFault;
 use op_ids::ReplicaId;
 use std::process::Abort;
 use std::test::Fail;

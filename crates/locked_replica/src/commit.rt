@@ -1,5 +1,6 @@
 //! The calls of a hub that commit its list.
-ghost use Rattle.std.specs.Prelude.{◌≡◌, true, false};
+ghost use Rattle.std.specs.Prelude.{◌≡◌, false, OnOk};
+ghost use Rattle.group_commit.specs.Held.{gone_on};
 ghost use Rattle.op_model.specs.Machine.{begin as begin_event, device_step as device_event, settle as settle_event};
 ghost use Rattle.locked_replica.specs.Calls.{IsCall};
 ghost use Rattle.locked_replica.specs.Hub.{is_through};
@@ -49,6 +50,9 @@ impl<D: Disk> Hub<D> {
     /// this one. One write of at most 4,096 bytes or one sync.
     pub fn device_step(&mut self) -> Result<Phase, HubRefusal>
         ensures call { IsCall D.DiskFacts device_event (stepped result) self.old self.new }
+        // The store goes on to the next phase.
+        ensures went_on { self.old.store.failed ≡ false → OnOk result (self.new.store
+            ≡ gone_on self.old.store.phase self.old.store self.new.store.disk) }
         ensures replica { self.new.replica ≡ self.old.replica }
     {
         let phase = match self.store.step() {

@@ -1,9 +1,13 @@
 -- What an opened file has, and why one isn't opened.
-use Rattle.std.proofs.Common.{◌≡◌, ◌≢◌, ℕ, List, Ok, refl, sym, ap, ◌∙◌, ◌⊎◌, inl, inr}
+use Rattle.std.proofs.Common.{◌≡◌, ◌≢◌, ℕ, List, [], Result, Ok, Err, refl, sym, ap, ◌∙◌, ◌⊎◌, inl, inr}
 use Rattle.disk_trait.specs.declared.facts.DiskFacts.{Ghosts}
 use Rattle.op_model.specs.declared.op.Op.{Op}
 use Rattle.op_model.specs.Causality.{IsCausallyClosed}
-use Rattle.root_slots.specs.Root.{version_of}
+use Rattle.change_codec.specs.Stream.{spelled_all}
+use Rattle.change_codec.proofs.StreamLaws.{spelled_all-determines}
+use Rattle.root_slots.specs.Body.{root_of}
+use Rattle.root_slots.specs.Root.{version_of, replica_of}
+use Rattle.group_commit.specs.Image.{stored}
 use Rattle.group_commit.specs.Commit.{Is}
 use Rattle.group_commit.specs.Loading.{IsHistory, OnlyLooks}
 use Rattle.group_commit.specs.Saved.{Saved}
@@ -72,3 +76,36 @@ no_failure e cause memory other = by_cause (is_memory e)
     by_cause : (e ≡ refusal.Memory) ⊎ (e ≢ refusal.Memory) → failures_of cause ≡ 0
     by_cause (inl is) = rw (memory is) refl
     by_cause (inr unlike) = rw (other unlike) refl
+
+-- a new store stands for the empty list of its replica
+pub empty_image : (root : Saved) (replica : ℕ) (file : List ℕ)
+    → root_of root.body ≡ record { version = 1; replica = replica; stream_length = 0; operations = 0; tables = [] } → root.stream ≡ [] → Is root file
+    → IsImage file replica 1 []
+empty_image root replica file says none is =
+    record {
+      body = root.body;
+      holds = is ∙ ap (λ bytes. Ok (root.body, bytes)) none;
+      fits = tt;
+      count = sym (ap (λ r. r.operations) says);
+      owner = ap (λ r. r.replica) says;
+      made = ap (λ r. r.version) says;
+      closed = tt;
+    }
+
+-- the body and the stream of an answer
+abbrev body_in : Result (List ℕ × List ℕ) ℕ → List ℕ
+body_in (Ok found) = found.0
+body_in (Err n) = []
+
+abbrev bytes_in : Result (List ℕ × List ℕ) ℕ → List ℕ
+bytes_in (Ok found) = found.1
+bytes_in (Err n) = []
+
+-- a file has one image
+pub one_image : (file : List ℕ) (r s v w : ℕ) (a b : List Op) → IsImage file r v a → IsImage file s w b → (r ≡ s) × (v ≡ w) × (a ≡ b)
+one_image file r s v w a b first second =
+    let same = sym first.holds ∙ second.holds in (
+      sym first.owner ∙ ap (λ x. replica_of (body_in x)) same ∙ second.owner,
+      sym first.made ∙ ap (λ x. version_of (body_in x)) same ∙ second.made,
+      spelled_all-determines a b first.fits second.fits (ap bytes_in same),
+    )

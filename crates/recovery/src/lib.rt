@@ -1,10 +1,12 @@
 //! The opening of a page file: the replica that it stands for, and its store.
 #![tactic(auto)]
 
+mod laws;
 mod open_fault;
 mod opening;
 #[cfg(test)]
 mod tests;
 
+pub use laws::{a_file_has_one_image, a_new_store_is_empty};
 pub use open_fault::{OpenError, OpenFault};
 pub use opening::{Opened, open};

@@ -83,8 +83,8 @@ impl Replica {
 
     /// The replica as it is after opening a store with this list: all of it is settled.
     /// `BadOperation` (47) exactly where the list isn't causally closed; `Memory` (1) says nothing
-    /// of that. For each operation a few steps for clocks, and a binary search for each character that
-    /// it names.
+    /// of that. For each operation a few steps for clocks, a binary search for each character that
+    /// it names, and what its document takes for it.
     pub fn from_list(alloc: Global, id: ReplicaId, list: Vec<Op>) -> Result<Replica, Refusal>
         ensures opened { IfOk result (λ r. r ≡ opened_with id list.items) }
         ensures closed { OnOk result (IsCausallyClosed list.items) }
@@ -211,8 +211,8 @@ impl Replica {
 
     /// Makes the operations of a session's edit and puts them behind the list. It is refused by the
     /// first cause, in this order: `Stale` (6), `Range` (5), `Limit` (7), `Steps` (10); `Memory`
-    /// (1) stands only in place of success. A refused edit changes nothing. What the document takes for it, and
-    /// a few steps for clocks.
+    /// (1) stands only in place of success. A refused edit changes nothing. A few steps for clocks,
+    /// and what the document takes for it.
     pub fn edit(&mut self, session: u64, edit: &Edit) -> Result<Ticket, Refusal>
         ensures made { OnOk result (self.new ≡ with_edit self.old session edit.now) }
         ensures ticket { IfOk result (λ t.
@@ -302,7 +302,8 @@ impl Replica {
     /// early. It is refused by the first cause, in this order: `OwnUnknown` (20), which is tested
     /// before `Early`, `Counter` (21), `Names` (22), `Document` (23), `StoreLimit` (24), `Steps`
     /// (10); `Memory` (1) stands only in place of `Applied`. A refused merge changes nothing. A few
-    /// steps for clocks, and a binary search for each character that the operation names.
+    /// steps for clocks, a binary search for each character that the operation names, and what its
+    /// document takes for it.
     pub fn merge(&mut self, peer: u64, op: Op) -> Result<Merged, Refusal>
         ensures merged { IfOk result (λ m. self.new ≡ after_merge m self.old peer op) }
         ensures answer { IfOk result (λ m.

@@ -268,3 +268,78 @@ fn a_list_that_is_not_closed_is_no_replica(rt: HostRuntime) -> Result<(), Fail> 
     assert_eq!(rt; open_refusal(alloc, ops_from(alloc, &b, 1)?)?, 47);
     Ok(())
 }
+
+/// An operation of replica 2 that depends on its first one: an insert.
+fn second_of_b(alloc: Global, counter: u64, doc: u32, origin: Option<OpId>) -> Result<Op, Fail> {
+    let mut deps = Clock::new(alloc);
+    deps.advance(replica_id(2)?)?;
+    Ok(Op {
+        id: OpId::try_new(counter, replica_id(2)?).ok_or("counter")?,
+        doc,
+        deps,
+        body: Body::Insert { origin, value: 'q' },
+    })
+}
+
+#[test]
+fn a_refused_merge_changes_nothing(rt: HostRuntime) -> Result<(), Fail> {
+    let alloc = rt.alloc();
+    let mut a = typed(alloc, 1, "a")?;
+    let mine = op_at(&a, 0)?.id;
+    let b = typed(alloc, 2, "b")?;
+    assert_eq!(rt; merge_from(&mut a, &b, 0)?, 0);
+    assert_eq!(rt; merge(&mut a, second_of_b(alloc, 1, 1, Some(mine))?), 21);
+    assert_eq!(rt; merge(&mut a, second_of_b(alloc, 2, 1, Some(mine))?), 22);
+    assert_eq!(rt; merge(&mut a, second_of_b(alloc, 2, 0, None)?), 23);
+    assert_eq!(rt; len(&a), 2);
+    assert!(rt; has_text(alloc, &a, "ba")?);
+    Ok(())
+}
+
+#[test]
+fn a_seventeenth_replica_is_refused(rt: HostRuntime) -> Result<(), Fail> {
+    let alloc = rt.alloc();
+    let mut a = typed(alloc, 1, "a")?;
+    for last in 2u8..17 {
+        let peer = typed(alloc, last, "x")?;
+        assert_eq!(rt; merge_from(&mut a, &peer, 0)?, 0);
+    }
+    let peer = typed(alloc, 17, "x")?;
+    assert_eq!(rt; merge_from(&mut a, &peer, 0)?, 24);
+    assert_eq!(rt; len(&a), 16);
+    Ok(())
+}
+
+#[test]
+fn merged_texts_are_one(rt: HostRuntime) -> Result<(), Fail> {
+    let alloc = rt.alloc();
+    let mut a = typed(alloc, 1, "x")?;
+    let mut b = empty(alloc, 2)?;
+    assert_eq!(rt; merge_from(&mut b, &a, 0)?, 0);
+    rev_after(&mut a, insert(alloc, 1, "y")?)?;
+    rev_after(&mut b, insert(alloc, 1, "z")?)?;
+    rev_after(&mut a, insert(alloc, 2, "w")?)?;
+    assert_eq!(rt; merge_from(&mut a, &b, 1)?, 0);
+    assert_eq!(rt; merge_from(&mut b, &a, 1)?, 0);
+    assert_eq!(rt; merge_from(&mut b, &a, 2)?, 0);
+    assert!(rt; has_text(alloc, &a, "xzyw")?);
+    assert!(rt; has_text(alloc, &b, "xzyw")?);
+    Ok(())
+}
+
+#[test]
+fn edits_keep_their_limits(rt: HostRuntime) -> Result<(), Fail> {
+    let alloc = rt.alloc();
+    let mut a = empty(alloc, 1)?;
+    let mut long = String::new(alloc);
+    for _ in 0..256 {
+        long.push_str("x")?;
+    }
+    assert_eq!(rt; rev_after(&mut a, insert(alloc, 0, long.as_str())?)?, 256);
+    assert_eq!(rt; refusal(&mut a, 1, None, delete(256, 1)?), 5);
+    assert_eq!(rt; refusal(&mut a, 1, None, delete(255, 2)?), 5);
+    assert_eq!(rt; refusal(&mut a, 1, Some(255), delete(255, 1)?), 6);
+    assert_eq!(rt; refusal(&mut a, 1, Some(256), delete(255, 1)?), 0);
+    assert_eq!(rt; a.rev(1), 257);
+    Ok(())
+}

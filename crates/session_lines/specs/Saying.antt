@@ -128,12 +128,26 @@ said_refused r =
     codes "{\"code\":" ++ (decimal (number_of r)
     ++ (codes ",\"error\":\"" ++ (word_of r ++ codes "\",\"ok\":false}\n")))
 
+-- the answer that tells no more than that all is done
+abbrev pub said_done : List ℕ
+said_done = codes "{\"ok\":true}\n"
+
 -- an answer as text, with its line feed
 abbrev pub said : Answer → List ℕ
 said (answer.Edited rev) = said_edited rev
 said (answer.Text rev text) = said_text rev text
 said (answer.Spans rev spans) = said_listed rev spans
 said (answer.Status applied settled state) = said_status applied settled state
-said answer.Stopped = codes "{\"ok\":true}\n"
-said answer.Done = codes "{\"ok\":true}\n"
+said answer.Stopped = said_done
+said answer.Done = said_done
 said (answer.Refused r) = said_refused r
+
+-- an answer that shows what a document has is as long as that: it needs memory to be said
+abbrev pub is_long : Answer → Bool
+is_long (answer.Edited rev) = false
+is_long (answer.Text rev text) = true
+is_long (answer.Spans rev spans) = true
+is_long (answer.Status applied settled state) = false
+is_long answer.Stopped = false
+is_long answer.Done = false
+is_long (answer.Refused r) = false

@@ -9,6 +9,7 @@ mod kind;
 mod line;
 mod refusal;
 mod request;
+mod short_line;
 mod span_list;
 mod spans;
 #[cfg(test)]

@@ -1,0 +1,126 @@
+//! The program over its command line, files and standard streams.
+
+use crate::command_line::order;
+use crate::ended::status;
+use crate::fault::Fault;
+use crate::order::Order;
+use crate::order_fault::OrderFault;
+use crate::perform::{Performed, perform};
+use disk_trait::{Disk, DiskError, FileDisk, MemDisk};
+use std::fs::File;
+use std::io::{ErrorKind, Write};
+use std::rt::{Env, Files};
+use std::{env, io};
+
+/// The bytes of a store in memory.
+const ROOM: usize = 1_048_576;
+
+/// The device calls of a store in memory.
+const CALLS: usize = 1_024;
+
+/// Runs the program, and gives its exit status: 0; 1 where a refusal ended it, which is written as `peritext: NUMBER WORD`;
+/// 2 with the text of `clap` where the words aren't those of an order.
+pub fn run<R: Env + Files<File = File> + Input + AllocGlobal, W: Write, F: Write>(
+    rt: &R,
+    output: &mut W,
+    faults: &mut F,
+) -> u8 {
+    let alloc = rt.alloc();
+    let given: io::Result<Vec<String>> = match env::args(rt) {
+        Ok(given) => given.collect(alloc).map_err(io::Error::from),
+        Err(error) => Err(error),
+    };
+    let given = match given {
+        Ok(given) => given,
+        Err(error) => return no_words(rt, &error, faults),
+    };
+    match given
+        .iter()
+        .map(|word| word.as_str())
+        .collect::<Vec<&str>>(alloc)
+    {
+        Ok(words) => run_words(rt, &words, output, faults),
+        Err(_) => status(alloc, Err(Fault::Memory), faults),
+    }
+}
+
+/// Tells that the words can't be read.
+fn no_words<R: AllocGlobal, F: Write>(rt: &R, error: &io::Error, faults: &mut F) -> u8 {
+    if error.kind() == ErrorKind::InvalidData {
+        let _ = faults.write_all(b"error: invalid UTF-8 was detected in one or more arguments\n");
+        return 2;
+    }
+    status(rt.alloc(), Err(Fault::Memory), faults)
+}
+
+/// Runs the program for these words.
+fn run_words<R: Files<File = File> + Input + AllocGlobal, W: Write, F: Write>(
+    rt: &R,
+    words: &[&str],
+    output: &mut W,
+    faults: &mut F,
+) -> u8 {
+    match order(rt.alloc(), words) {
+        Ok(order) => run_order(rt, &order, output, faults),
+        Err(OrderFault::Usage(error)) => usage(&error, output, faults),
+        Err(OrderFault::Field) => status(rt.alloc(), Err(Fault::Field), faults),
+        Err(OrderFault::Memory) => status(rt.alloc(), Err(Fault::Memory), faults),
+    }
+}
+
+/// Writes the text of `clap` where it goes: help with status 0, and a fault with 2.
+fn usage<W: Write, F: Write>(error: &clap::Error, output: &mut W, faults: &mut F) -> u8 {
+    if error.use_stderr() {
+        let _ = write!(faults, "{error}");
+        return 2;
+    }
+    let _ = write!(output, "{error}");
+    0
+}
+
+/// Does what an order asks for, over the disk that it names.
+fn run_order<R: Files<File = File> + Input + AllocGlobal, W: Write, F: Write>(
+    rt: &R,
+    order: &Order<'_>,
+    output: &mut W,
+    faults: &mut F,
+) -> u8 {
+    match *order {
+        Order::InMemory => match MemDisk::new(rt.alloc(), ROOM, CALLS) {
+            Ok(disk) => run_on(rt, order, disk, output, faults),
+            Err(_) => status(rt.alloc(), Err(Fault::Memory), faults),
+        },
+        Order::Init { file, .. } => {
+            run_on_file(rt, order, FileDisk::create(rt, file), output, faults)
+        }
+        Order::Edit { file } | Order::Dump { file, .. } => {
+            run_on_file(rt, order, FileDisk::open(rt, file), output, faults)
+        }
+    }
+}
+
+/// Does what an order asks for over a file, where it can be opened.
+fn run_on_file<R: Input + AllocGlobal, W: Write, F: Write>(
+    rt: &R,
+    order: &Order<'_>,
+    opened: Result<FileDisk, DiskError>,
+    output: &mut W,
+    faults: &mut F,
+) -> u8 {
+    match opened {
+        Ok(disk) => run_on(rt, order, disk, output, faults),
+        Err(_) => status(rt.alloc(), Err(Fault::OpenFailed), faults),
+    }
+}
+
+/// Does what an order asks for over a disk.
+fn run_on<R: Input + AllocGlobal, D: Disk + Drop, W: Write, F: Write>(
+    rt: &R,
+    order: &Order<'_>,
+    disk: D,
+    output: &mut W,
+    faults: &mut F,
+) -> u8 {
+    let Performed { status, .. } = perform(rt.alloc(), order, disk, rt.reader(), output, faults);
+    status
+}

@@ -1,0 +1,24 @@
+//! What follows from the definitions: functions that do nothing, whose contracts are the laws.
+ghost use Rattle.std.specs.Prelude.{◌≡◌, ℕ, List, []};
+ghost use Rattle.op_model.specs.declared.op.Op.{Op};
+ghost use Rattle.root_slots.specs.Body.{root_of};
+ghost use Rattle.group_commit.specs.Commit.{Is};
+ghost use Rattle.group_commit.specs.Saved.{Saved};
+ghost use Rattle.recovery.specs.Image.{IsImage};
+
+/// The root of a new store, as `Store::init` makes it, stands for the empty list of its replica.
+pub fn a_new_store_is_empty()
+    ensures { (root : Saved) (replica : ℕ) (file : List ℕ) → root_of root.body ≡ record {
+      version = 1;
+      replica = replica;
+      stream_length = 0;
+      operations = 0;
+      tables = [];
+    } → root.stream ≡ [] → Is root file → IsImage file replica 1 [] }
+{}
+
+/// A file has one image at most.
+pub fn a_file_has_one_image()
+    ensures { (file : List ℕ) (r s v w : ℕ) (a b : List Op) → IsImage file r v a
+        → IsImage file s w b → (r ≡ s) × (v ≡ w) × (a ≡ b) }
+{}

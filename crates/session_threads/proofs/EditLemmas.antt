@@ -1,0 +1,81 @@
+-- What the machine answers to an edit.
+use Rattle.std.proofs.Common.{◌≡◌, ℕ, ◌≤◌, ◌<◌, ◌++◌, Bool, true, false, not, ◌&&◌, List, length, Option, Some, None, IfSome, IsTrue, refl, sym, ap, ◌∙◌, subst, arith, cond}
+use Rattle.std.specs.Prelude.{if◌then◌else◌}
+use Rattle.op_model.specs.declared.edit.Edit.{Edit}
+use Rattle.op_model.specs.Made.{made, edit_refusal, is_at_rev, is_inside, is_small}
+use Rattle.op_model.specs.Machine.{State, Answer, Ticket, ticket, ticket_of, refused, acknowledged, EditStep, AckStep, IsRefusal, edit_answer, edit_answer_unless, has_places, with_edit}
+use Rattle.session_threads.specs.HubCalls.{IsQuiet, is_edit_refusal}
+
+-- ---- a refusal
+
+of_tests : (stale outside over : Bool)
+    → IfSome (if stale then Some 6 else if outside then Some 5 else if over then Some 7 else None) (λ m. IsTrue (is_edit_refusal m))
+of_tests true outside over = refl
+of_tests false true over = refl
+of_tests false false true = refl
+of_tests false false false = tt
+
+by_places : (places : Bool) (t : Ticket) (n : ℕ) → IsRefusal n (if places then ticket t else refused 10) → IsTrue (is_edit_refusal n)
+by_places true t n is = rw is refl
+by_places false t n is = rw is refl
+
+by_cause : (replica : ℕ) (s : State) (e : Edit) (cause : Option ℕ) (n : ℕ) → IfSome cause (λ m. IsTrue (is_edit_refusal m))
+    → IsRefusal n (edit_answer_unless replica s e cause) → IsTrue (is_edit_refusal n)
+by_cause replica s e (Some m) n known is = rw is known
+by_cause replica s e None n known is = by_places (has_places s) _ n is
+
+by_device : (failed : Bool) (answer : Answer) (n : ℕ) → (IsRefusal n answer → IsTrue (is_edit_refusal n))
+    → IsRefusal n (if failed then refused 9 else answer) → IsTrue (is_edit_refusal n)
+by_device true answer n other is = rw is refl
+by_device false answer n other is = other is
+
+-- the machine refuses an edit with one of these numbers
+pub edit_refusals : (replica : ℕ) (s next : State) (session : ℕ) (e : Edit) (n : ℕ)
+    → EditStep replica s session e (refused n) next → IsTrue (is_edit_refusal n)
+edit_refusals replica s next session e n (is, same) =
+    by_device s.failed (edit_answer_unless replica s e (edit_refusal s.list replica e)) n
+    (by_cause replica s e (edit_refusal s.list replica e) n (of_tests _ _ _)) is
+
+-- ---- a ticket
+
+ticket_by_places : (places : Bool) (t due : Ticket) → (if places then ticket due else refused 10) ≡ ticket t → t ≡ due
+ticket_by_places true t due e = cc
+ticket_by_places false t due e = let never : ⊥ = cc in absurd never
+
+ticket_by_cause : (replica : ℕ) (s : State) (e : Edit) (cause : Option ℕ) (t : Ticket)
+    → edit_answer_unless replica s e cause ≡ ticket t → t ≡ ticket_of (s.list ++ made s.list replica e) e.doc
+ticket_by_cause replica s e (Some m) t is = let never : ⊥ = cc in absurd never
+ticket_by_cause replica s e None t is = ticket_by_places (has_places s) t _ is
+
+ticket_by_device : (failed : Bool) (answer : Answer) (t due : Ticket) → (answer ≡ ticket t → t ≡ due)
+    → (if failed then refused 9 else answer) ≡ ticket t → t ≡ due
+ticket_by_device true answer t due other is = let never : ⊥ = cc in absurd never
+ticket_by_device false answer t due other is = other is
+
+-- a ticket ends where the list ends
+pub ticket_ends : (replica : ℕ) (s next : State) (session : ℕ) (e : Edit) (t : Ticket)
+    → EditStep replica s session e (ticket t) next → t.end ≡ length next.list
+ticket_ends replica s next session e t (answer, is) =
+    let due = ticket_of (s.list ++ made s.list replica e) e.doc in
+    let same : t ≡ due = ticket_by_device s.failed _ t due (ticket_by_cause replica s e (edit_refusal s.list replica e) t) answer in
+    ap (λ given. given.end) same ∙ ap (λ state. length state.list) (sym is)
+
+-- an edit begins no commit
+pub edit_is_quiet : (replica : ℕ) (s next : State) (session : ℕ) (e : Edit) (t : Ticket) → IsQuiet s
+    → EditStep replica s session e (ticket t) next → IsQuiet next
+edit_is_quiet replica s next session e t quiet (answer, is) = subst IsQuiet (sym is) quiet
+
+pub refused_is_quiet : (replica : ℕ) (s next : State) (session : ℕ) (e : Edit) (n : ℕ) → IsQuiet s
+    → EditStep replica s session e (refused n) next → IsQuiet next
+refused_is_quiet replica s next session e n quiet (due, is) = subst IsQuiet (sym is) quiet
+
+-- ---- an acknowledgement
+
+-- what is settled is acknowledged
+pub acknowledges : (s next : State) (t : Ticket) (b : Bool) → t.end ≤ s.settled → AckStep s t (acknowledged b) next → b ≡ true
+acknowledges s next t true settled step = refl
+acknowledges s next t false settled (open_end, is) = let never : ⊥ = omega arith in absurd never
+
+pub ack_is_quiet : (s next : State) (t : Ticket) (b : Bool) → IsQuiet s → AckStep s t (acknowledged b) next → IsQuiet next
+ack_is_quiet s next t true quiet (settled, is) = subst IsQuiet (sym is) quiet
+ack_is_quiet s next t false quiet (open_end, is) = subst IsQuiet (sym is) quiet

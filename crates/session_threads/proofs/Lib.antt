@@ -1,0 +1,12 @@
+pub mod BeginLemmas
+pub mod CallLemmas
+pub mod CommitLemmas
+pub mod EditLemmas
+pub mod ExchangeLemmas
+pub mod FeedLemmas
+pub mod GoLemmas
+pub mod LineLemmas
+pub mod OutcomeLemmas
+pub mod RanLemmas
+pub mod ServeLemmas
+pub mod SettleLemmas

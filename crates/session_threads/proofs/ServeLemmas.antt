@@ -1,0 +1,78 @@
+-- What is answered to an edit.
+use Rattle.std.proofs.Common.{◌≡◌, ℕ, ◌≤◌, Bool, true, false, List, ◌∷◌, [], ◌++◌, length, IsTrue, refl, sym, ap, ◌∙◌, subst, inl, inr, arith}
+use Rattle.disk_trait.specs.declared.facts.DiskFacts.{Ghosts}
+use Rattle.op_model.specs.declared.edit.Edit.{Edit}
+use Rattle.op_model.specs.Machine.{State, Event, Answer as Reply, Ticket, edit, ack, ticket, acknowledged, refused}
+use Rattle.locked_replica.specs.Calls.{IsCall}
+use Rattle.locked_replica.specs.Hub.{Parts, state_of}
+use Rattle.session_lines.specs.Saying.{number_of}
+use Rattle.session_lines.specs.declared.answer.Answer.{Answer}
+use Rattle.session_lines.specs.declared.answer.Answer.TheVariants.{Edited, Text, Spans, Status, Stopped, Done, Refused}
+use Rattle.session_lines.specs.declared.refusal.Refusal.{Refusal}
+use Rattle.session_lines.specs.declared.refusal.Refusal.TheVariants.{Failed}
+use Rattle.session_threads.specs.HubCalls.{IsQuiet, Calls, Commits, is_edit_refusal}
+use Rattle.session_threads.specs.HubServing.{session, AnswersEdit, AnswersTicket}
+use Rattle.session_threads.proofs.CallLemmas.{Calls-append, one_call}
+use Rattle.session_threads.proofs.EditLemmas.{edit_refusals, ticket_ends, edit_is_quiet, refused_is_quiet, acknowledges, ack_is_quiet}
+
+module _ {D : Type 0} (facts : Ghosts D) where
+  -- a ticket's answer is the edit's
+  pub answered : (old between new : Parts D) (e : Edit) (t : Ticket) (answer : Answer) → IsCall facts (edit session e) (ticket t) old between
+      → AnswersTicket facts between t answer new → AnswersEdit facts old e answer new
+  answered old between new e t (Edited rev) call (commit, only, calls, same) =
+      record { given = t; commit = commit; only = only; calls = (between, call, calls); same = same }
+  answered old between new e t (Refused refusal) call (commit, only, calls, failed, cause) =
+      inr (failed, record { given = t; commit = commit; only = only; calls = (between, call, calls); cause = cause })
+  answered old between new e t (Text rev text) call never = absurd never
+  answered old between new e t (Spans rev spans) call never = absurd never
+  answered old between new e t (Status applied settled s) call never = absurd never
+  answered old between new e t Stopped call never = absurd never
+  answered old between new e t Done call never = absurd never
+
+  -- a refusal of the hub is answered by its number
+  pub answered_refusal : (old new : Parts D) (e : Edit) (refusal : Refusal) (n : ℕ) → number_of refusal ≡ n
+      → IsCall facts (edit session e) (refused n) old new → AnswersEdit facts old e (Refused refusal) new
+  answered_refusal old new e refusal n same call =
+      inl (one_call facts old new (edit session e) (refused (number_of refusal))
+      (subst (λ k. IsCall facts (edit session e) (refused k) old new) (sym same) call))
+
+  pub can_be_refused : (old new : Parts D) (e : Edit) (n : ℕ) → IsCall facts (edit session e) (refused n) old new → IsTrue (is_edit_refusal n)
+  can_be_refused old new e n call = edit_refusals old.replica.replica (state_of old) (state_of new) session e n call.step
+
+  pub ends_within : (old new : Parts D) (e : Edit) (t : Ticket) → IsCall facts (edit session e) (ticket t) old new → t.end ≤ length new.replica.list
+  ends_within old new e t call =
+      let same = ticket_ends old.replica.replica (state_of old) (state_of new) session e t call.step in omega (arith, same)
+
+  pub quiet_after : (old new : Parts D) (e : Edit) (t : Ticket) → IsQuiet (state_of old) → IsCall facts (edit session e) (ticket t) old new
+      → IsQuiet (state_of new)
+  quiet_after old new e t quiet call = edit_is_quiet old.replica.replica (state_of old) (state_of new) session e t quiet call.step
+
+  pub quiet_refused : (old new : Parts D) (e : Edit) (n : ℕ) → IsQuiet (state_of old) → IsCall facts (edit session e) (refused n) old new
+      → IsQuiet (state_of new)
+  quiet_refused old new e n quiet call = refused_is_quiet old.replica.replica (state_of old) (state_of new) session e n quiet call.step
+
+  -- what all is settled behind is acknowledged
+  pub is_acknowledged : (old between new : Parts D) (t : Ticket) (b : Bool) → t.end ≤ length old.replica.list
+      → between.replica.list ≡ old.replica.list → Commits facts old true between
+      → IsCall facts (ack t) (acknowledged b) between new → b ≡ true
+  is_acknowledged old between new t b within same commits call =
+      let settled : t.end ≤ between.replica.settled = omega (arith, within, ap length same, commits.ends) in
+      acknowledges (state_of between) (state_of new) t b settled call.step
+
+  pub quiet_acknowledged : (old new : Parts D) (t : Ticket) (b : Bool) → IsQuiet (state_of old) → IsCall facts (ack t) (acknowledged b) old new
+      → IsQuiet (state_of new)
+  quiet_acknowledged old new t b quiet call = ack_is_quiet (state_of old) (state_of new) t b quiet call.step
+
+  pub ticket_acknowledged : (old between new : Parts D) (t : Ticket) → Commits facts old true between
+      → IsCall facts (ack t) (acknowledged true) between new → AnswersTicket facts old t (Edited t.rev) new
+  ticket_acknowledged old between new t commits call = (
+    commits.calls.events,
+    commits.calls.only,
+    Calls-append facts old between new commits.calls.events ((ack t, acknowledged true) ∷ []) commits.calls.calls
+        (one_call facts between new (ack t) (acknowledged true) call),
+    refl,
+  )
+
+  pub ticket_left_open : (old new : Parts D) (t : Ticket) → Commits facts old false new → AnswersTicket facts old t (Refused Failed) new
+  ticket_left_open old new t commits =
+      (commits.calls.events, commits.calls.only, commits.calls.calls, refl, commits.ends)

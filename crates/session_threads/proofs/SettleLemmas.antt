@@ -1,0 +1,75 @@
+-- How a commit ends.
+use Rattle.std.proofs.Common.{◌≡◌, ℕ, ◌≤◌, Bool, true, false, List, ◌++◌, length, Result, Ok, Err, refl, sym, ap, ◌∙◌, subst, inl, arith}
+use Rattle.std.specs.Prelude.{is_ok}
+use Rattle.disk_trait.specs.declared.facts.DiskFacts.{Ghosts}
+use Rattle.op_model.specs.Machine.{State, settle, refused, settled_to, SettleStep}
+use Rattle.locked_replica.specs.declared.refusal.HubRefusal.{HubRefusal}
+use Rattle.locked_replica.specs.Calls.{IsCall}
+use Rattle.locked_replica.specs.Hub.{Parts, state_of}
+use Rattle.locked_replica.specs.Steps.{settle_answered, number_of}
+use Rattle.session_threads.specs.declared.begun.Begun.TheVariants.{UnderWay, Settled, Refused}
+use Rattle.session_threads.specs.HubCalls.{IsQuiet, CommitCalls, Begins, GoesThrough, Commits, with_begun, with_through}
+use Rattle.session_threads.proofs.CallLemmas.{more_calls, both_calls}
+use Rattle.session_threads.proofs.CommitLemmas.{state_settled, never_refused, settled_is_quiet}
+
+-- what a commit leaves: its calls and their end, no other commit under way, and the list as it was
+pub record Ended {D : Type 0} (facts : Ghosts D) (old : Parts D) (is_settled : Bool) (new : Parts D) : Type 0 where
+  pub commits : Commits facts old is_settled new
+  pub quiet : IsQuiet (state_of new)
+  pub list : new.replica.list ≡ old.replica.list
+
+both : (b : Bool) → b ≡ true → b ≡ false → ⊥
+both b first second = cc
+
+module _ {D : Type 0} (facts : Ghosts D) where
+  pub ended_settled : (old new : Parts D) → IsQuiet (state_of old) → Begins facts old Settled new → Ended facts old true new
+  ended_settled old new quiet begins =
+      let (same, all) = begins.ends in
+      record {
+        commits = record { calls = begins.calls; ends = subst (λ s. length s.list ≤ s.settled) (sym same) all };
+        quiet = subst IsQuiet (sym same) quiet;
+        list = ap (λ s. s.list) same;
+      }
+
+  pub ended_refused : (old new : Parts D) → IsQuiet (state_of old) → Begins facts old Refused new → Ended facts old false new
+  ended_refused old new quiet begins =
+      let (same, cause) = begins.ends in
+      record {
+        commits = record { calls = begins.calls; ends = cause };
+        quiet = subst IsQuiet (sym same) quiet;
+        list = ap (λ s. s.list) same;
+      }
+
+  -- the device failed in the commit
+  pub ended_wrong : (old between new : Parts D) → Begins facts old UnderWay between → GoesThrough facts between false new
+      → Ended facts old false new
+  ended_wrong old between new begins goes =
+      let (works, begun) = begins.ends in
+      let failed : (state_of new).failed ≡ true = ap (λ s. s.failed) goes.ends in
+      record {
+        commits = record { calls = both_calls facts old between new begins.calls goes.calls; ends = inl failed };
+        quiet = λ still. absurd (both (state_of new).failed failed still);
+        list = ap (λ s. s.list) goes.ends ∙ ap (λ s. s.list) begun;
+      }
+
+  pub ended_through : (old between through new : Parts D) (answer : Result ℕ HubRefusal) → Begins facts old UnderWay between
+      → GoesThrough facts between true through → IsCall facts settle (settle_answered answer) through new
+      → Ended facts old (is_ok answer) new
+  ended_through old between through new (Ok n) begins goes made =
+      let (works, begun) = begins.ends in
+      let before : state_of through ≡ with_through (with_begun (state_of old)) = goes.ends ∙ ap with_through begun in
+      let step = subst (λ s. SettleStep s (settled_to n) (state_of new)) before made.step in
+      let after = state_settled (state_of old) (state_of new) n works step in
+      record {
+        commits = record {
+          calls = more_calls facts old through new settle (settled_to n) (both_calls facts old between through begins.calls goes.calls) tt made;
+          ends = subst (λ s. length s.list ≤ s.settled) (sym after) (omega arith);
+        };
+        quiet = settled_is_quiet (state_of old) (state_of new) after;
+        list = ap (λ s. s.list) after;
+      }
+  ended_through old between through new (Err e) begins goes made =
+      let (works, begun) = begins.ends in
+      let before : state_of through ≡ with_through (with_begun (state_of old)) = goes.ends ∙ ap with_through begun in
+      let step = subst (λ s. SettleStep s (refused (number_of e)) (state_of new)) before made.step in
+      absurd (never_refused (state_of old) (state_of new) (number_of e) works step)

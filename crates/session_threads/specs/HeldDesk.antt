@@ -1,0 +1,8 @@
+-- A desk over a hub that is held alone.
+use Rattle.std.specs.Prelude.{Bool}
+use Rattle.locked_replica.specs.Hub.{Parts}
+
+-- what its hub holds, and whether it was asked to stop
+pub record HeldDesk (D : Type 0) : Type 0 where
+  pub hub : Parts D
+  pub stopping : Bool

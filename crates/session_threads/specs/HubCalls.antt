@@ -1,0 +1,97 @@
+-- Calls of a hub, one after another, and those that commit all that it holds.
+use Rattle.std.specs.Prelude.{◌≡◌, ◌⊎◌, ℕ, ◌-◌, ◌^◌, ◌≤◌, ◌==◌, ◌||◌, Bool, true, false, List, [], ◌∷◌, ◌++◌, length, Option, Some, None, ⊤}
+use Rattle.disk_trait.specs.declared.facts.DiskFacts.{Ghosts}
+use Rattle.op_model.specs.Machine.{State, Event, Answer, edit, merge, begin, device_step, settle, ack, tell, have, refused, is_under_way, through, Commit}
+use Rattle.locked_replica.specs.Calls.{IsCall}
+use Rattle.locked_replica.specs.Hub.{Parts, state_of}
+use Rattle.session_threads.specs.declared.begun.Begun.{Begun}
+use Rattle.session_threads.specs.declared.begun.Begun.TheVariants.{UnderWay, Settled, Refused}
+
+-- no commit is under way, unless the device failed
+abbrev pub IsQuiet : State → Type 0
+IsQuiet s = s.failed ≡ false → s.commit ≡ None
+
+-- an event of a commit
+abbrev pub IsOfCommit : Event → Type 0
+IsOfCommit begin = ⊤
+IsOfCommit device_step = ⊤
+IsOfCommit settle = ⊤
+IsOfCommit (edit session e) = ⊥
+IsOfCommit (merge peer op) = ⊥
+IsOfCommit (ack t) = ⊥
+IsOfCommit (tell c) = ⊥
+IsOfCommit have = ⊥
+
+-- events of a commit, each with its answer
+abbrev pub AreOfCommit : List (Event × Answer) → Type 0
+AreOfCommit [] = ⊤
+AreOfCommit (e ∷ es) = IsOfCommit e.0 × AreOfCommit es
+
+-- the same event with the same answer, so many times
+abbrev pub AreTimes : ℕ → Event × Answer → List (Event × Answer) → Type 0
+AreTimes n e [] = n ≡ 0
+AreTimes n e (x ∷ xs) = (x ≡ e) × AreTimes (n - 1) e xs × (1 ≤ n)
+
+-- events end with these
+abbrev pub EndsWith : List (Event × Answer) → List (Event × Answer) → Type 0
+EndsWith events last = (before : List (Event × Answer)) × (events ≡ before ++ last)
+
+-- Why not all is settled behind these events: the device failed; there is no further version; or a thousand begins in a row found
+-- no memory.
+abbrev pub CannotSettle : State → List (Event × Answer) → Type 0
+CannotSettle s events =
+    (s.failed ≡ true)
+    ⊎ EndsWith events ((begin, refused 7) ∷ [])
+    ⊎ ((last : List (Event × Answer)) × AreTimes 1000 (begin, refused 1) last × EndsWith events last)
+
+-- the numbers that an edit may be refused with
+abbrev pub is_edit_refusal : ℕ → Bool
+is_edit_refusal n = n == 1 || n == 5 || n == 6 || n == 7 || n == 9 || n == 10
+
+-- the state with a commit of all its operations, of which no device call is made
+abbrev pub with_begun : State → State
+with_begun s = record s { commit = Some (record { count = length s.list; through = false }) }
+
+-- the state with its commit through
+abbrev pub with_through : State → State
+with_through s = record s { commit = through s.commit }
+
+module _ {D : Type 0} (facts : Ghosts D) where
+  -- these calls were made, one after another, each with its answer
+  abbrev pub Calls : Parts D → List (Event × Answer) → Parts D → Type 0
+  Calls old [] new = new ≡ old
+  Calls old (e ∷ es) new = (between : Parts D) × IsCall facts e.0 e.1 old between × Calls between es new
+
+  -- calls of a commit alone
+  pub record CommitCalls (old new : Parts D) : Type 0 where
+    pub events : List (Event × Answer)
+    pub calls : Calls old events new
+    pub only : AreOfCommit events
+
+  -- how a begin ends: a commit is begun, all was settled, or there is none
+  abbrev pub BegunAs : State → State → List (Event × Answer) → Begun → Type 0
+  BegunAs old new events UnderWay = (old.failed ≡ false) × (new ≡ with_begun old)
+  BegunAs old new events Settled = (new ≡ old) × (length old.list ≤ old.settled)
+  BegunAs old new events Refused = (new ≡ old) × CannotSettle new events
+
+  pub record Begins (old : Parts D) (begun : Begun) (new : Parts D) : Type 0 where
+    pub calls : CommitCalls old new
+    pub ends : BegunAs (state_of old) (state_of new) calls.events begun
+
+  -- how the device calls of a commit end: it is through, or the device failed
+  abbrev pub GoneThrough : State → State → Bool → Type 0
+  GoneThrough old new true = new ≡ with_through old
+  GoneThrough old new false = new ≡ record old { failed = true }
+
+  pub record GoesThrough (old : Parts D) (is_through : Bool) (new : Parts D) : Type 0 where
+    pub calls : CommitCalls old new
+    pub ends : GoneThrough (state_of old) (state_of new) is_through
+
+  -- all is settled, or the cause why not
+  abbrev pub SettledAs : Parts D → List (Event × Answer) → Bool → Type 0
+  SettledAs new events true = length new.replica.list ≤ new.replica.settled
+  SettledAs new events false = CannotSettle (state_of new) events
+
+  pub record Commits (old : Parts D) (is_settled : Bool) (new : Parts D) : Type 0 where
+    pub calls : CommitCalls old new
+    pub ends : SettledAs new calls.events is_settled

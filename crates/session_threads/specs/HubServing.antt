@@ -1,0 +1,115 @@
+-- What a desk over a hub answers to a command, and what it makes of the hub.
+use Rattle.std.specs.Prelude.{◌≡◌, ◌⊎◌, ℕ, Bool, true, false, List, [], ◌∷◌, ◌++◌, length, if◌then◌else◌}
+use Rattle.disk_trait.specs.declared.facts.DiskFacts.{Ghosts}
+use Rattle.op_model.specs.declared.edit.Edit.{Edit}
+use Rattle.op_model.specs.Text.{text, rev}
+use Rattle.op_model.specs.Spans.{spans}
+use Rattle.op_model.specs.Machine.{Event, Answer as Reply, Ticket, edit, ack, ticket, acknowledged, refused}
+use Rattle.locked_replica.specs.Hub.{Parts, state_of}
+use Rattle.session_lines.specs.Saying.{number_of}
+use Rattle.session_lines.specs.declared.command.Command.{Command}
+use Rattle.session_lines.specs.declared.command.Command.TheVariants as command
+use Rattle.session_lines.specs.declared.answer.Answer.{Answer}
+use Rattle.session_lines.specs.declared.answer.Answer.TheVariants.{Edited, Text, Spans, Status, Stopped, Done, Refused}
+use Rattle.session_lines.specs.declared.answer.State.{State}
+use Rattle.session_lines.specs.declared.answer.State.TheVariants as state
+use Rattle.session_lines.specs.declared.refusal.Refusal.{Refusal}
+use Rattle.session_lines.specs.declared.refusal.Refusal.TheVariants.{Memory, Failed, Stopping}
+use Rattle.session_threads.specs.HeldDesk.{HeldDesk}
+use Rattle.session_threads.specs.HubCalls.{Calls, AreOfCommit, CannotSettle, Commits}
+
+-- the session that the steps of a hub held alone are of
+abbrev pub session : ℕ
+session = 1
+
+-- the text of a document, or want of memory
+abbrev pub ServesText : {D : Type 0} → HeldDesk D → ℕ → Answer → Type 0
+ServesText desk doc answer =
+    let list = desk.hub.replica.list in
+    (answer ≡ Text (rev list doc) (text list doc)) ⊎ (answer ≡ Refused Memory)
+
+-- the spans of a document, or want of memory
+abbrev pub ServesSpans : {D : Type 0} → HeldDesk D → ℕ → Answer → Type 0
+ServesSpans desk doc answer =
+    let list = desk.hub.replica.list in
+    (answer ≡ Spans (rev list doc) (spans list doc)) ⊎ (answer ≡ Refused Memory)
+
+-- whether edits are taken: a failed device is told before a stop
+abbrev pub state_in : Bool → Bool → State
+state_in true stopping = state.Failed
+state_in false true = state.Stopping
+state_in false false = state.Open
+
+-- how far the hub is
+abbrev pub ServesStatus : {D : Type 0} → HeldDesk D → Answer → Type 0
+ServesStatus desk answer =
+    let held = desk.hub.replica in
+    answer ≡ Status (length held.list) held.settled (state_in desk.hub.store.failed desk.stopping)
+
+module _ {D : Type 0} (facts : Ghosts D) where
+  -- the hub gave a ticket for the edit, all was committed, and then the ticket was acknowledged: only so an edit is answered
+  pub record IsAcknowledged (old new : Parts D) (e : Edit) (rev : ℕ) : Type 0 where
+    pub given : Ticket
+    pub commit : List (Event × Reply)
+    pub only : AreOfCommit commit
+    pub calls : Calls facts old ((edit session e, ticket given) ∷ commit ++ (ack given, acknowledged true) ∷ []) new
+    pub same : given.rev ≡ rev
+
+  -- the hub gave a ticket, and then not all could be settled
+  pub record IsLeftOpen (old new : Parts D) (e : Edit) : Type 0 where
+    pub given : Ticket
+    pub commit : List (Event × Reply)
+    pub only : AreOfCommit commit
+    pub calls : Calls facts old ((edit session e, ticket given) ∷ commit) new
+    pub cause : CannotSettle (state_of new) commit
+
+  -- an edit is acknowledged; or the hub refused it so; or it is answered as failed
+  abbrev pub AnswersEdit : Parts D → Edit → Answer → Parts D → Type 0
+  AnswersEdit old e (Edited rev) new = IsAcknowledged old new e rev
+  AnswersEdit old e (Refused refusal) new =
+      Calls facts old ((edit session e, refused (number_of refusal)) ∷ []) new
+      ⊎ ((refusal ≡ Failed) × IsLeftOpen old new e)
+  AnswersEdit old e (Text rev t) new = ⊥
+  AnswersEdit old e (Spans rev s) new = ⊥
+  AnswersEdit old e (Status applied settled s) new = ⊥
+  AnswersEdit old e Stopped new = ⊥
+  AnswersEdit old e Done new = ⊥
+
+  -- behind a ticket, all was committed and it was acknowledged; or not all could be settled
+  abbrev pub AnswersTicket : Parts D → Ticket → Answer → Parts D → Type 0
+  AnswersTicket old given (Edited rev) new =
+      (commit : List (Event × Reply)) × AreOfCommit commit
+      × Calls facts old (commit ++ (ack given, acknowledged true) ∷ []) new × (given.rev ≡ rev)
+  AnswersTicket old given (Refused refusal) new =
+      (commit : List (Event × Reply)) × AreOfCommit commit × Calls facts old commit new
+      × (refusal ≡ Failed) × CannotSettle (state_of new) commit
+  AnswersTicket old given (Text rev t) new = ⊥
+  AnswersTicket old given (Spans rev s) new = ⊥
+  AnswersTicket old given (Status applied settled s) new = ⊥
+  AnswersTicket old given Stopped new = ⊥
+  AnswersTicket old given Done new = ⊥
+
+  -- after a stop an edit is refused, and the hub isn't asked
+  abbrev pub ServesEdit : HeldDesk D → Edit → Answer → HeldDesk D → Type 0
+  ServesEdit old e answer new = elim old.stopping [
+    | true ↦ (answer ≡ Refused Stopping) × (new ≡ old)
+    | false ↦ AnswersEdit old.hub e answer new.hub × (new.stopping ≡ false)
+  ]
+
+  -- a stop is answered where all is settled, or as failed
+  abbrev pub AnswerToStop : Bool → Answer
+  AnswerToStop true = Stopped
+  AnswerToStop false = Refused Failed
+
+  abbrev pub ServesStop : HeldDesk D → Answer → HeldDesk D → Type 0
+  ServesStop old answer new =
+      (is_settled : Bool) × (answer ≡ AnswerToStop is_settled)
+      × Commits facts old.hub is_settled new.hub × (new.stopping ≡ true)
+
+  -- what is answered to a command, and what the desk is then
+  abbrev pub Serves : HeldDesk D → Command → Answer → HeldDesk D → Type 0
+  Serves old (command.Edit e) answer new = ServesEdit old e answer new
+  Serves old (command.Text doc) answer new = ServesText old doc answer × (new ≡ old)
+  Serves old (command.Spans doc) answer new = ServesSpans old doc answer × (new ≡ old)
+  Serves old command.Status answer new = ServesStatus old answer × (new ≡ old)
+  Serves old command.Stop answer new = ServesStop old answer new

@@ -1,0 +1,55 @@
+//! One line and its answer.
+ghost use Rattle.std.specs.Prelude.{◌≡◌, List, ℕ, OnOk, OnErr, Result};
+ghost use Rattle.std.specs.Io.KnownBytes.{Appends};
+ghost use Rattle.session_lines.specs.declared.command.Command.{Command};
+ghost use Rattle.session_lines.specs.declared.refusal.Refusal.{Refusal};
+ghost use Rattle.session_threads.specs.Exchanges.{IsTaken, IsAnswered, Exchange};
+ghost use Rattle.session_threads.specs.Outcomes.{AppendsFront};
+
+use crate::desk::Desk;
+use crate::held_line::HeldLine;
+use crate::room::Room;
+use crate::stream::put;
+use session_lines::{Answer, Command, Refusal, serve_line};
+use std::alloc::Global;
+use std::io;
+use std::io::Write;
+
+/// What a line asks for, or why it isn't served.
+fn take(alloc: Global, line: &HeldLine) -> Result<Command, Refusal>
+    ensures { IsTaken line.now result }
+{
+    match line.as_slice() {
+        Some(line) => serve_line(alloc, line),
+        None => Err(Refusal::Line),
+    }
+}
+
+/// The answer to a line. The desk is asked where the line is a command.
+fn answer<D: Desk>(alloc: Global, line: &HeldLine, desk: &mut D) -> Answer
+    ensures { (taken : Result Command Refusal) × IsTaken line.now taken
+        × IsAnswered D.serves desk.old taken result desk.new }
+{
+    match take(alloc, line) {
+        Ok(command) => desk.serve(alloc, command),
+        Err(refusal) => Answer::Refused(refusal),
+    }
+}
+
+/// Answers the line that is there, and writes the answer.
+pub fn exchange<W: Write, D: Desk>(
+    alloc: Global,
+    room: &mut Room,
+    writer: &mut W,
+    desk: &mut D,
+) -> io::Result<()>
+    ensures line { room.new.line ≡ room.old.line }
+    ensures ok { OnOk result ((text : List ℕ) × Exchange D.serves desk.old room.old.line text desk.new
+        × Appends (W.contents writer.old) (W.contents writer.new) text) }
+    ensures err { OnErr result ((text : List ℕ) × Exchange D.serves desk.old room.old.line text desk.new
+        × AppendsFront (W.contents writer.old) (W.contents writer.new) text) }
+{
+    let answer = answer(alloc, &room.line, desk);
+    room.text.say(alloc, &answer);
+    put(writer, room.text.as_slice())
+}

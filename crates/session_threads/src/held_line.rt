@@ -1,0 +1,68 @@
+//! The line that a session is reading.
+ghost use Rattle.std.specs.Prelude.{◌≡◌, ◌≤◌, List, [], ℕ, Option, Some, None, IfOk};
+ghost use Rattle.std.specs.Prelude.{option_copied, vec_len, vec_capacity, if◌then◌else◌};
+ghost use Rattle.session_threads.specs.Held.{longer};
+
+use std::alloc::{AllocError, Global};
+use std::marker::Model;
+
+/// The longest line that is read, in bytes, without its line feed.
+pub const LONGEST: usize = 65_536;
+
+/// What is there of a line, or that it is too long. Its memory is taken when it is made, so a line grows without.
+#[derive(Drop)]
+pub struct HeldLine {
+    bytes: Vec<u8>,
+    is_too_long: bool,
+}
+
+impl Model for HeldLine {
+    ghost Value = { Option (List ℕ) };
+
+    ghost view = { λ line. if line.is_too_long then None else Some line.bytes.items };
+
+    ghost invariant = { λ line. (vec_len line.bytes ≤ 65536) × (65536 ≤ vec_capacity line.bytes) };
+}
+
+impl HeldLine {
+    /// An empty line.
+    pub fn new(alloc: Global) -> Result<HeldLine, AllocError>
+        ensures { IfOk result (λ line. line ≡ Some []) }
+    {
+        let bytes = Vec::with_capacity(alloc, LONGEST)?;
+        Ok(HeldLine {
+            bytes,
+            is_too_long: false,
+        })
+    }
+
+    /// The bytes that are there, or none where the line is too long.
+    pub fn as_slice(&self) -> Option<&[u8]>
+        ensures { option_copied result ≡ self.now }
+    {
+        if self.is_too_long {
+            return None;
+        }
+        Some(self.bytes.as_slice())
+    }
+
+    /// Puts bytes behind what is there.
+    pub fn push(&mut self, bytes: &[u8])
+        ensures { self.new ≡ longer self.old bytes.now }
+    {
+        if self.bytes.len() + bytes.len() > LONGEST {
+            self.is_too_long = true;
+        }
+        if !self.is_too_long {
+            let _ = self.bytes.extend_from_slice(bytes);
+        }
+    }
+
+    /// Begins another line.
+    pub fn clear(&mut self)
+        ensures { self.new ≡ Some [] }
+    {
+        self.bytes.clear();
+        self.is_too_long = false;
+    }
+}

@@ -1,0 +1,63 @@
+//! An edit of a hub that is held alone.
+ghost use Rattle.std.specs.Prelude.{◌≡◌, ◌≤◌, length, IsTrue};
+ghost use Rattle.locked_replica.specs.Hub.{state_of};
+ghost use Rattle.locked_replica.specs.Steps.{number_of as number_of_hub};
+ghost use Rattle.session_lines.specs.Saying.{number_of};
+ghost use Rattle.session_threads.specs.HubCalls.{IsQuiet, is_edit_refusal};
+ghost use Rattle.session_threads.specs.HubServing.{AnswersEdit, AnswersTicket};
+
+use crate::committing::commit;
+use disk_trait::Disk;
+use locked_replica::{Hub, HubRefusal};
+use op_model::Edit;
+use replica_core::Ticket;
+use session_lines::{Answer, Refusal};
+
+/// The session that the steps of a hub held alone are of.
+const SESSION: u64 = 1;
+
+/// Makes an edit and commits it to the end: it is answered only where it is acknowledged.
+pub fn answer_edit<D: Disk>(hub: &mut Hub<D>, edit: &Edit) -> Answer
+    requires { IsQuiet (state_of hub.old) }
+    ensures answer { AnswersEdit D.DiskFacts hub.old edit.now result hub.new }
+    ensures quiet { IsQuiet (state_of hub.new) }
+{
+    match hub.edit(SESSION, edit) {
+        Ok(ticket) => answer_ticket(hub, ticket),
+        Err(refusal) => Answer::Refused(refusal_of(refusal)),
+    }
+}
+
+/// Commits all that there is, and acknowledges the edit of a ticket.
+fn answer_ticket<D: Disk>(hub: &mut Hub<D>, ticket: Ticket) -> Answer
+    requires quiet { IsQuiet (state_of hub.old) }
+    requires within { ticket.end ≤ length hub.old.replica.list }
+    ensures answer { AnswersTicket D.DiskFacts hub.old ticket result hub.new }
+    ensures quiet { IsQuiet (state_of hub.new) }
+{
+    if !commit(hub) {
+        return Answer::Refused(Refusal::Failed);
+    }
+    if !hub.ack(ticket) {
+        unreachable!();
+    }
+    Answer::Edited {
+        rev: ticket.rev as u64,
+    }
+}
+
+/// Why an edit isn't served, by why a hub refuses it.
+fn refusal_of(refusal: HubRefusal) -> Refusal
+    requires { IsTrue (is_edit_refusal (number_of_hub refusal)) }
+    ensures { number_of result ≡ number_of_hub refusal }
+{
+    match refusal.number() {
+        1 => Refusal::Memory,
+        5 => Refusal::Range,
+        6 => Refusal::Stale,
+        7 => Refusal::Limit,
+        9 => Refusal::Failed,
+        10 => Refusal::Steps,
+        _ => unreachable!(),
+    }
+}

@@ -1,0 +1,95 @@
+//! The commands that a desk over a hub serves.
+ghost use Rattle.session_threads.specs.HubServing.{ServesEdit, ServesText, ServesSpans, ServesStatus, ServesStop};
+
+use crate::committing::commit;
+use crate::desk::Desk;
+use crate::hub_desk::HubDesk;
+use crate::hub_edit::answer_edit;
+use disk_trait::Disk;
+use op_model::Edit;
+use session_lines::{Answer, Command, Refusal, SpanList, State};
+use std::alloc::Global;
+
+impl<D: Disk> Desk for HubDesk<D> {
+    ghost use Rattle.session_threads.specs.HubServing.{Serves};
+
+    ghost serves = { Serves D.DiskFacts };
+
+    fn serve(&mut self, _alloc: Global, command: Command) -> Answer {
+        match command {
+            Command::Edit(edit) => self.edit(&edit),
+            Command::Text { doc } => self.text(doc),
+            Command::Spans { doc } => self.spans(doc),
+            Command::Status => self.status(),
+            Command::Stop => self.stop(),
+        }
+    }
+}
+
+impl<D: Disk> HubDesk<D> {
+    /// Makes an edit, unless the desk was asked to stop.
+    fn edit(&mut self, edit: &Edit) -> Answer
+        ensures { ServesEdit D.DiskFacts self.old edit.now result self.new }
+    {
+        if self.is_stopping {
+            return Answer::Refused(Refusal::Stopping);
+        }
+        answer_edit(&mut self.hub, edit)
+    }
+
+    /// The text of a document.
+    fn text(&self, doc: u32) -> Answer
+        ensures { ServesText self.now doc result }
+    {
+        match self.hub.text(doc) {
+            Ok(text) => Answer::Text {
+                rev: self.hub.rev(doc) as u64,
+                text,
+            },
+            Err(_) => Answer::Refused(Refusal::Memory),
+        }
+    }
+
+    /// The text of a document, cut where its marks change.
+    fn spans(&self, doc: u32) -> Answer
+        ensures { ServesSpans self.now doc result }
+    {
+        match self.hub.spans(doc) {
+            Ok(spans) => Answer::Spans {
+                rev: self.hub.rev(doc) as u64,
+                spans: SpanList::from(spans),
+            },
+            Err(_) => Answer::Refused(Refusal::Memory),
+        }
+    }
+
+    /// How far the hub is.
+    fn status(&self) -> Answer
+        ensures { ServesStatus self.now result }
+    {
+        let state = if self.hub.has_failed() {
+            State::Failed
+        } else if self.is_stopping {
+            State::Stopping
+        } else {
+            State::Open
+        };
+        Answer::Status {
+            applied: self.hub.list().len() as u64,
+            settled: self.hub.settled() as u64,
+            state,
+        }
+    }
+
+    /// Takes no more edits, and settles all that there is.
+    fn stop(&mut self) -> Answer
+        ensures { ServesStop D.DiskFacts self.old result self.new }
+    {
+        self.is_stopping = true;
+        if commit(&mut self.hub) {
+            Answer::Stopped
+        } else {
+            Answer::Refused(Refusal::Failed)
+        }
+    }
+}

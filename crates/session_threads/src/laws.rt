@@ -1,0 +1,18 @@
+//! What follows for the calls that a desk makes of its hub.
+ghost use Rattle.std.specs.Prelude.{List};
+ghost use Rattle.op_model.specs.Machine.{Event, Answer};
+ghost use Rattle.locked_replica.specs.Hub.{Parts};
+ghost use Rattle.locked_replica.specs.Run.{Ran};
+ghost use Rattle.session_threads.specs.HubCalls.{Calls};
+
+use disk_trait::Disk;
+use locked_replica::Hub;
+
+/// Calls of a hub, one after another, are a run: a run of the machine, and a crash at any moment of it leaves a beginning
+/// of the list with all that was settled by then. Costs nothing.
+pub fn calls_are_a_run<D: Disk>(hub: &Hub<D>)
+    ensures { (events : List (Event × Answer)) (new : Parts D) → Calls D.DiskFacts hub.now events new
+        → Ran D.DiskFacts hub.now events new }
+{
+    hub.survivors();
+}

@@ -1,0 +1,26 @@
+//! Sessions: requests are read line by line, a desk serves them, and its answers are written.
+#![tactic(auto)]
+
+mod answer_text;
+mod begun;
+mod committing;
+mod desk;
+mod exchange;
+mod fault;
+mod held_line;
+mod hub_desk;
+mod hub_edit;
+mod hub_serving;
+mod laws;
+mod pieces;
+mod room;
+mod session;
+mod stream;
+#[cfg(test)]
+mod tests;
+
+pub use desk::Desk;
+pub use fault::SessionFault;
+pub use hub_desk::HubDesk;
+pub use laws::calls_are_a_run;
+pub use session::Session;
