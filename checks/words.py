@@ -117,7 +117,53 @@ def check_session(checks, program):
     checks.same("no words", run(program, lines=insert(0, "a")), (0, OK + b'{"ok":true,"rev":1}\n', b""))
 
 
+def mark(first, behind, kind, **more):
+    return line(op="mark", doc=1, **{"from": first, "to": behind}, kind=kind, **more)
+
+
+def unmark(first, behind, kind, **more):
+    return line(op="unmark", doc=1, **{"from": first, "to": behind}, kind=kind, **more)
+
+
+def delete(at, count):
+    return line(op="delete", doc=1, at=at, count=count)
+
+
+def comment(last):
+    return f"00000000-0000-4000-8000-0000000000{last}"
+
+
+# Edits, one after another, and the spans and the number of operations that they give.
+MARKED = [
+    ("strong grows at its end", [insert(0, "abc"), mark(0, 3, "strong"), insert(3, "d")], [{"strong": True, "text": "abcd"}], 5),
+    ("a link keeps its end", [insert(0, "abc"), mark(0, 2, "link", url="u"), insert(2, "x")],
+     [{"link": "u", "text": "ab"}, {"text": "xc"}], 5),
+    ("a link that ends on a tombstone", [insert(0, "ab"), mark(0, 2, "link", url="u"), delete(1, 1), insert(1, "x")],
+     [{"link": "u", "text": "a"}, {"text": "x"}], 5),
+    ("a link over nothing left", [insert(0, "a"), mark(0, 1, "link", url="u"), delete(0, 1), insert(0, "x")], [{"text": "x"}], 4),
+    ("overlapping strong", [insert(0, "The fox jumped"), mark(0, 7, "strong"), mark(4, 14, "strong")],
+     [{"strong": True, "text": "The fox jumped"}], 16),
+    ("overlapping comments",
+     [insert(0, "abc"), mark(0, 2, "comment", id=comment("c1")), mark(1, 3, "comment", id=comment("c2")),
+      unmark(1, 2, "comment", id=comment("c1"))],
+     [{"comments": [comment("c1")], "text": "a"}, {"comments": [comment("c2")], "text": "bc"}], 6),
+    ("an ended strong doesn't grow", [insert(0, "ab"), mark(0, 2, "strong"), unmark(1, 2, "strong"), insert(2, "c")],
+     [{"strong": True, "text": "a"}, {"text": "bc"}], 5),
+    ("em grows before the next character", [insert(0, "abc"), mark(0, 2, "em"), insert(2, "x")],
+     [{"em": True, "text": "abx"}, {"text": "c"}], 5),
+]
+
+
+def check_marks(checks, program):
+    for what, lines, spans, rev in MARKED:
+        new_file(program, "marked")
+        status, output, faults = run(program, "edit", "marked", lines=b"".join(lines) + line(op="spans", doc=1))
+        checks.same(f"status, {what}", (status, faults), (0, b""))
+        checks.same(what, output.splitlines(True)[-1], line(ok=True, rev=rev, spans=spans))
+
+
 def check(checks, program, _until):
     check_words(checks, program)
     check_files(checks, program)
     check_session(checks, program)
+    check_marks(checks, program)
