@@ -1,8 +1,8 @@
-use crate::{OpenError, Opened, open};
-use disk_trait::{Disk, MemDisk};
+use crate::open;
+use disk_trait::MemDisk;
 use group_commit::Store;
 use op_ids::ReplicaId;
-use std::process::Abort;
+use std::alloc::Global;
 use std::test::Fail;
 
 // The replica ending in 01.
@@ -11,18 +11,26 @@ fn first_replica() -> Result<ReplicaId, Fail> {
     Ok(ReplicaId::read(bytes).ok_or("nil")?)
 }
 
+// How many operations a disk opens with, or the number of the refusal.
+fn opened(alloc: Global, disk: MemDisk) -> Result<usize, u8> {
+    match open(alloc, disk) {
+        Ok(it) => {
+            let replica = it.replica;
+            Ok(replica.list().len())
+        }
+        Err(fault) => Err(fault.cause.number()),
+    }
+}
+
 #[test]
 fn a_new_store_opens_empty(rt: HostRuntime) -> Result<(), Fail> {
     let alloc = rt.alloc();
     let disk = MemDisk::new(alloc, 16_384, 100)?;
-    let store = match Store::init(alloc, disk, first_replica()?) {
-        Ok(store) => store,
+    let disk = match Store::init(alloc, disk, first_replica()?) {
+        Ok(store) => store.into_disk(),
         Err(_) => return Err("init")?,
     };
-    match open(alloc, store.into_disk()) {
-        Ok(Opened { replica, .. }) => assert!(rt; replica.list().is_empty()),
-        Err(_) => assert!(rt; false),
-    }
+    assert!(rt; opened(alloc, disk) == Ok(0));
     Ok(())
 }
 
@@ -30,9 +38,6 @@ fn a_new_store_opens_empty(rt: HostRuntime) -> Result<(), Fail> {
 fn an_empty_file_has_no_root(rt: HostRuntime) -> Result<(), Fail> {
     let alloc = rt.alloc();
     let disk = MemDisk::new(alloc, 16_384, 100)?;
-    match open(alloc, disk) {
-        Ok(_) => assert!(rt; false),
-        Err(fault) => assert!(rt; fault.cause.number() == 42),
-    }
+    assert!(rt; opened(alloc, disk) == Err(42));
     Ok(())
 }
