@@ -53,7 +53,7 @@ pub enum Fault {
     #[error("open failed")]
     OpenFailed,
     /// 71: standard input or output failed.
-    #[error("stream failed")]
+    #[error("stream")]
     Stream,
 }
 

@@ -246,7 +246,7 @@ fn a_fault_has_its_word(rt: HostRuntime) -> Result<(), Fail> {
         (Fault::WriteFailed, 51, "write failed"),
         (Fault::SyncFailed, 52, "sync failed"),
         (Fault::OpenFailed, 54, "open failed"),
-        (Fault::Stream, 71, "stream failed"),
+        (Fault::Stream, 71, "stream"),
     ] {
         assert_eq!(rt; fault.number(), number);
         assert_eq!(rt; fault.to_string(alloc)?.as_str(), word);

@@ -127,23 +127,21 @@ fn commits_make_their_calls_in_order(rt: HostRuntime) -> Result<(), Fail> {
     Ok(())
 }
 
-#[test]
-fn a_torn_gate_stays_closed(rt: HostRuntime) -> Result<(), Fail> {
-    let alloc = rt.alloc();
-    // The second commit is stopped in the write of its gate, and leaves a byte 7 there.
+// A hub behind a crash in the gate write of its second commit, which left a byte 7 there.
+fn with_torn_gate(alloc: Global) -> Result<Hub<MemDisk>, Fail> {
     let mut hub = with_first(alloc)?;
     made(alloc, &mut hub, &commit_of(alloc, 1, 'b', 7)?)?;
-    let mut hub = crashed(alloc, hub, Fate::Fill(7))?;
-    assert!(rt; hub.list().len() == 1);
-    // The third one is stopped behind its first page, whose bytes may be anything.
-    made(alloc, &mut hub, &commit_of(alloc, 1, 'c', 1)?)?;
-    let mut hub = crashed(alloc, hub, Fate::Fill(1))?;
-    assert!(rt; hub.list().len() == 1);
-    // The next one goes through without a close.
+    crashed(alloc, hub, Fate::Fill(7))
+}
+
+#[test]
+fn a_torn_gate_is_not_closed(rt: HostRuntime) -> Result<(), Fail> {
+    let alloc = rt.alloc();
+    let mut hub = with_torn_gate(alloc)?;
     let replies = made(alloc, &mut hub, &commit_of(alloc, 1, 'd', 7)?)?;
-    assert!(rt; !phases(alloc, &replies)?.as_slice().contains(&Phase::Close));
-    let hub = crashed(alloc, hub, Fate::Old)?;
-    assert!(rt; hub.list().len() == 2 && hub.settled() == 2);
+    let phases = phases(alloc, &replies)?;
+    assert!(rt; !phases.as_slice().contains(&Phase::Close));
+    assert!(rt; phases.as_slice().contains(&Phase::Sync3));
     Ok(())
 }
 
@@ -183,34 +181,32 @@ fn a_stop_leaves_the_settled_list_or_the_commits(rt: HostRuntime) -> Result<(), 
     Ok(())
 }
 
-#[test]
-fn replicas_that_told_each_other_are_equal(rt: HostRuntime) -> Result<(), Fail> {
-    let alloc = rt.alloc();
-    let mut first = with_first(alloc)?;
-    let mut second = open(alloc, new_disk(alloc, 2)?)?;
-    made(alloc, &mut second, &commit_of(alloc, 0, 'b', 0)?)?;
-    let told = match first.tell(second.clock()) {
-        Ok(ops) => ops,
-        Err(_) => return Err("tell")?,
-    };
+// What a hub with one operation tells a hub with none, as merges, each of them twice.
+fn told_twice(alloc: Global, clock: &Clock) -> Result<Vec<HubStep>, Fail> {
+    let mut hub = with_first(alloc)?;
     let mut merges = Vec::new(alloc);
-    for op in &told {
-        merges.push(HubStep::Merge {
-            peer: 1,
-            op: op.copy()?,
-        })?;
-        merges.push(HubStep::Merge {
-            peer: 1,
-            op: op.copy()?,
-        })?;
+    if let Ok(ops) = hub.tell(clock) {
+        for op in &ops {
+            for _ in 0..2 {
+                let op = op.copy()?;
+                merges.push(HubStep::Merge { peer: 1, op })?;
+            }
+        }
     }
-    merges.push(HubStep::Tell(Clock::new(alloc)))?;
-    merges.push(HubStep::Have)?;
-    let replies = made(alloc, &mut second, &merges)?;
+    Ok(merges)
+}
+
+#[test]
+fn what_is_told_is_merged_once(rt: HostRuntime) -> Result<(), Fail> {
+    let alloc = rt.alloc();
+    let mut hub = open(alloc, new_disk(alloc, 2)?)?;
+    made(alloc, &mut hub, &commit_of(alloc, 0, 'b', 0)?)?;
+    let merges = told_twice(alloc, hub.clock())?;
+    let replies = made(alloc, &mut hub, &merges)?;
     assert!(rt; matches!(replies.first(), Some(HubReply::Merged(Ok(Merged::Applied)))));
-    assert!(rt; matches!(replies.get(1), Some(HubReply::Merged(Ok(Merged::Known)))));
-    let text = second.text(1)?;
+    assert!(rt; matches!(replies.last(), Some(HubReply::Merged(Ok(Merged::Known)))));
+    let text = hub.text(1)?;
     assert!(rt; text.as_slice() == ['b', 'a'].as_slice());
-    assert!(rt; second.rev(1) == 2 && second.spans(1)?.len() == 1);
+    assert!(rt; hub.have().is_ok());
     Ok(())
 }

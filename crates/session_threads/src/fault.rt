@@ -13,7 +13,7 @@ pub enum SessionFault {
     #[error("memory")]
     Memory,
     /// 71: a read or a write failed.
-    #[error("stream failed")]
+    #[error("stream")]
     Stream(io::Error),
 }
 

@@ -214,6 +214,6 @@ fn a_fault_says_what_it_is(rt: HostRuntime) -> Result<(), Fail> {
     assert_eq!(rt; SessionFault::Memory.number(), 1);
     assert_eq!(rt; SessionFault::Memory.to_string(alloc)?.as_str(), "memory");
     let fault = SessionFault::Stream(io::Error::other("broke"));
-    assert_eq!(rt; fault.to_string(alloc)?.as_str(), "stream failed");
+    assert_eq!(rt; fault.to_string(alloc)?.as_str(), "stream");
     Ok(())
 }
