@@ -65,8 +65,8 @@ class Floor:
         return times
 
 
-def edit_round(session):
-    return [session.insert(0, "x") for _ in range(EDITS)]
+def edit_round(session, doc):
+    return [session.insert(0, "x", doc) for _ in range(EDITS)]
 
 
 def main():
@@ -78,23 +78,24 @@ def main():
         rollback, wal = open_sqlite(path("rollback"), "delete"), open_sqlite(path("wal"), "wal")
         floor = Floor(path("floor"))
         empty, large = Session(program, path("empty")), Session(program, path("large"))
-        large.insert(0, "x")
-        found = {name: [] for name in ("floor", "empty", "large", "rollback", "wal")}
+        large.insert(0, "x", 2)
+        found = {name: [] for name in ("floor", "empty", "large", "document", "rollback", "wal")}
         for _ in range(ROUNDS):
             found["floor"] += floor.round()
-            found["empty"] += edit_round(empty)
-            found["large"] += edit_round(large)
+            found["empty"] += edit_round(empty, 1)
+            found["large"] += edit_round(large, 2)
+            found["document"] += edit_round(large, 1)
             found["rollback"] += sqlite_round(rollback)
             found["wal"] += sqlite_round(wal)
         empty.end()
         large.end()
         base = told("the same device calls", found["floor"])
         for what, name in [
-            ("peritext, a new file", "empty"), ("peritext, 100,000 operations", "large"),
+            ("peritext, a new file", "empty"), ("100,000 operations, a small document", "large"), ("and their document", "document"),
             ("sqlite3, rollback journal", "rollback"), ("sqlite3, WAL", "wal"),
         ]:
             rate = told(what, found[name])
-            print(f"{'':34} {rate / base:9.2f} of the device calls")
+            print(f"{'':38} {rate / base:9.2f} of the device calls")
 
 
 if __name__ == "__main__":

@@ -1,25 +1,31 @@
-"""Edits a second on documents of 10^3, 10^4 and 10^5 characters, typed at the end, at the front and at random places.
+"""Edits and merges a second on documents of 10^3, 10^4 and 10^5 characters: at the end, at the front and at random places.
 
-python3 bench/edits.py PROGRAM. The files lie in memory (/dev/shm), so that the disk costs little.
+python3 bench/edits.py PROGRAM [MERGES], where MERGES is the program of crates/merge_bench. Edits go through sessions over files in
+memory (/dev/shm), so that the disk costs little. Merges are made in one process without a disk; their time is that of a run with
+them, less that of the same run without them, the least of three each.
 """
 
 import os
 import random
+import subprocess
 import sys
 import tempfile
+import time
 
 import store_file
 from session import Session, told
 
+COUNTS = (1_000, 10_000, 100_000)
+PLACES = ("end", "front", "random")
 EDITS = 200
+MERGES = 2_000
 
 
-def main():
-    program = os.path.abspath(sys.argv[1])
+def measure_edits(program):
     chance = random.Random(3)
     with tempfile.TemporaryDirectory(dir="/dev/shm") as room:
-        for count in (1_000, 10_000, 100_000):
-            for place in ("end", "front", "random"):
+        for count in COUNTS:
+            for place in PLACES:
                 name = os.path.join(room, "store")
                 store_file.make(name, count)
                 session, times = Session(program, name), []
@@ -29,6 +35,30 @@ def main():
                     times.append(session.insert(at, "y"))
                 session.end()
                 told(f"{count} characters, at the {place}", times)
+
+
+def least(program, line):
+    """The least time of three runs of the program on a line."""
+    times = []
+    for _ in range(3):
+        started = time.perf_counter()
+        subprocess.run([program], input=line.encode(), capture_output=True, check=True)
+        times.append(time.perf_counter() - started)
+    return min(times)
+
+
+def measure_merges(program):
+    for count in COUNTS:
+        for place in PLACES:
+            without = least(program, f"{count} {place} {MERGES} 0\n")
+            took = least(program, f"{count} {place} {MERGES} {MERGES}\n") - without
+            print(f"{count} characters, merges at the {place:6} {MERGES / took:12.0f} /s")
+
+
+def main():
+    measure_edits(os.path.abspath(sys.argv[1]))
+    if len(sys.argv) > 2:
+        measure_merges(os.path.abspath(sys.argv[2]))
 
 
 if __name__ == "__main__":

@@ -19,8 +19,8 @@ class Session:
         took = time.perf_counter() - started
         return json.loads(answer), took
 
-    def insert(self, at, text):
-        answer, took = self.ask(op="insert", doc=1, at=at, text=text)
+    def insert(self, at, text, doc=1):
+        answer, took = self.ask(op="insert", doc=doc, at=at, text=text)
         if not answer["ok"]:
             raise SystemExit(f"an insert was refused: {answer}")
         return took
@@ -38,5 +38,5 @@ def quantile(times, part):
 def told(what, times):
     """Rate, median and 99th percentile of these times."""
     rate = len(times) / sum(times)
-    print(f"{what:34} {rate:9.0f} /s   p50 {quantile(times, 0.5) * 1e6:8.0f} us   p99 {quantile(times, 0.99) * 1e6:8.0f} us")
+    print(f"{what:38} {rate:9.0f} /s   p50 {quantile(times, 0.5) * 1e6:8.0f} us   p99 {quantile(times, 0.99) * 1e6:8.0f} us")
     return rate

@@ -229,6 +229,93 @@ fn a_failed_device_ends_edits_and_not_readings(rt: HostRuntime) -> Result<(), Fa
     Ok(())
 }
 
+/// What a session over a fresh store writes that inserts "a", where the n-th device call fails: the calls of opening are a
+/// sync, a size and a read, those of the commit two pages, a sync, the body, a sync, the gate, a sync.
+fn due_where_fails(n: u64) -> (&'static str, &'static str) {
+    match n {
+        1 => ("", "peritext: 52 sync failed\n"),
+        2 => ("", "peritext: 50 read failed\n"),
+        3 => ("", "peritext: 50 read failed\n"),
+        _ => (
+            "{\"code\":9,\"error\":\"failed\",\"ok\":false}\n",
+            "peritext: 9 failed\n",
+        ),
+    }
+}
+
+/// Opens what a failed call left, and reads the text: the edit is there whole or not at all.
+fn has_nothing_or_a(alloc: Global, disk: MemDisk) -> bool {
+    let read = run(alloc, &EDIT, disk, "{\"op\":\"text\",\"doc\":1}\n");
+    let output = read.output.as_slice();
+    output == b"{\"ok\":true,\"rev\":0,\"text\":\"\"}\n"
+        || output == b"{\"ok\":true,\"rev\":1,\"text\":\"a\"}\n"
+}
+
+/// Whether a session ends as it has to where the n-th device call fails.
+fn ends_where_fails(rt: &(impl Abort + AllocGlobal), n: u64) -> Result<bool, Fail> {
+    let alloc = rt.alloc();
+    let input = "{\"op\":\"insert\",\"doc\":1,\"at\":0,\"text\":\"a\"}\n";
+    let ran = run(alloc, &EDIT, FaultDisk::new(made(rt)?, n), input);
+    let (output, faults) = due_where_fails(n);
+    let is_due = ran.status == 1
+        && ran.output.as_slice() == output.as_bytes()
+        && ran.faults.as_slice() == faults.as_bytes();
+    let disk = ran.disk;
+    Ok(is_due && has_nothing_or_a(alloc, disk.into_inner()))
+}
+
+#[test]
+fn a_device_call_that_fails_is_told_wherever_it_comes(rt: HostRuntime) -> Result<(), Fail> {
+    for n in 1..11 {
+        assert!(rt; ends_where_fails(&rt, n)?, "call {n}");
+    }
+    let unfailed = FaultDisk::new(made(&rt)?, 11);
+    let ran = run(rt.alloc(), &EDIT, unfailed, "{\"op\":\"insert\",\"doc\":1,\"at\":0,\"text\":\"a\"}\n");
+    written(&rt, ran, 0, "{\"ok\":true,\"rev\":1}\n", "");
+    Ok(())
+}
+
+/// The open slot of a fresh store: version 1, the replica, no operations.
+const MADE: &[u8] = b"\x01\0\0\0\0\0\0\0PTXTPG01\0\0\0\0\0\0\0\x01\0\0\0\0\0\0\x40\0\x80\0\0\0\0\0\0\x01";
+
+/// The open slot behind the first commit: version 2, 39 bytes of stream, one operation, the table page 3.
+const ONE: &[u8] = b"\x01\0\0\0\0\0\0\0PTXTPG01\0\0\0\0\0\0\0\x02\0\0\0\0\0\0\x40\0\x80\0\0\0\0\0\0\x01\0\0\0\0\0\0\0\x27\0\0\0\0\0\0\0\x01\0\0\0\x01\0\0\0\0\0\0\0\x03";
+
+/// The record of the first insert: "a" at the beginning of document 1.
+const FIRST: &[u8] = b"\0\0\0\x23\x01\0\0\0\x01\0\0\0\0\0\0\0\x01\0\0\0\0\0\0\x40\0\x80\0\0\0\0\0\0\x01\0\0\0\0\0\x61";
+
+/// Whether a page begins with these bytes, and the rest is zero.
+fn is_filled(page: &[u8], start: &[u8]) -> bool {
+    for (i, byte) in page.iter().enumerate() {
+        if *byte != start.get(i).copied().unwrap_or(0) {
+            return false;
+        }
+    }
+    true
+}
+
+/// Whether the file has just these pages, each filled up with zeros.
+fn has_pages(disk: &mut MemDisk, pages: &[&[u8]]) -> bool {
+    for (n, start) in pages.iter().enumerate() {
+        let mut page = [0; 4096];
+        if disk.read_at(4096 * n as u64, &mut page).is_err() || !is_filled(&page, start) {
+            return false;
+        }
+    }
+    disk.size() == Ok(4096 * pages.len() as u64)
+}
+
+#[test]
+fn the_file_has_these_bytes(rt: HostRuntime) -> Result<(), Fail> {
+    let mut disk = made(&rt)?;
+    assert!(rt; has_pages(&mut disk, &[MADE, b""]));
+    let input = "{\"op\":\"insert\",\"doc\":1,\"at\":0,\"text\":\"a\"}\n";
+    let edited = run(rt.alloc(), &EDIT, disk, input);
+    let mut disk = written(&rt, edited, 0, "{\"ok\":true,\"rev\":1}\n", "");
+    assert!(rt; has_pages(&mut disk, &[MADE, ONE, FIRST, b"\0\0\0\x02"]));
+    Ok(())
+}
+
 #[test]
 fn a_fault_has_its_word(rt: HostRuntime) -> Result<(), Fail> {
     let alloc = rt.alloc();

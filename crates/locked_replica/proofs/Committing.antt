@@ -21,17 +21,17 @@ use Rattle.group_commit.specs.Saved.{Saved}
 use Rattle.group_commit.specs.Changes.{changed_pages}
 use Rattle.group_commit.specs.Counts.{writes_from, syncs_from, writes_left, syncs_left, IsUnderWay as IsWriting}
 use Rattle.group_commit.proofs.CountLemmas.{writes_fall, syncs_fall, none_left}
-use Rattle.group_commit.specs.Step.{IsDeviceCall, Does, error_in, writes_in, syncs_in}
+use Rattle.group_commit.specs.Step.{IsDeviceCall, Does, error_in, failures_in as failures_of, writes_in, syncs_in}
 use Rattle.group_commit.specs.declared.error.StoreError.{StoreError}
 use Rattle.group_commit.specs.declared.error.StoreError.TheVariants.{Failed}
 use Rattle.group_commit.specs.declared.phase.Phase.{Phase}
 use Rattle.group_commit.specs.declared.phase.Phase.TheVariants.{Idle, Pages, Close, Sync1, Body, Sync2, Gate, Sync3}
 use Rattle.locked_replica.specs.Hub.{Parts, committed, commit_in, version_in, state_of, is_through}
 use Rattle.locked_replica.specs.Fits.{Fits, IsFront, due_behind, CanSettle, IsUnderWay, IsAtRest, Commits}
-use Rattle.locked_replica.specs.Recovery.{HasAtLeast}
-use Rattle.locked_replica.specs.Calls.{IsCall, Counts, calls_in, settled_by, writes_begun, syncs_begun}
+use Rattle.locked_replica.specs.Recovery.{HasAtLeast, IsCrash}
+use Rattle.locked_replica.specs.Calls.{IsCall, IsLeftIn, Counts, StoreBegins, StoreSteps, calls_in, failures_in, settled_by, writes_begun, syncs_begun}
 use Rattle.locked_replica.specs.Steps.{stepped_in}
-use Rattle.locked_replica.proofs.Recovering.{image_of, survivor_has_settled}
+use Rattle.locked_replica.proofs.Recovering.{image_of, survivor_has, survivor_has_settled, crash_under_way, crash_next}
 use Rattle.locked_replica.proofs.Keeping.{Grows, grows_same, fits_settled, due_few}
 use Rattle.locked_replica.proofs.QuietCalls.{quiet_call, counts_same}
 use Rattle.locked_replica.proofs.RoomLemmas.{room_is_version, none_behind, behind_front}
@@ -130,13 +130,32 @@ moments_of facts old new P Q weaker leaves =
     either (inl a) = inl a
     either {file = file} (inr p) = inr (weaker file p)
 
+-- and is what the machine's crash leaves
+one_of_crash : {D : Type 0} (facts : Ghosts D) (h : Held) (s : StoreHeld D) (file : List ℕ) → Fits facts (record { replica = h; store = s })
+    → is_idle s.phase ≡ false → IsUnderWay h s.current s.next → IsOneOf s.current s.next file → IsCrash (record { replica = h; store = s }) file
+one_of_crash facts h s file fits busy way (inl is) =
+    record {
+      version = version_of s.current.body;
+      count = committed s;
+      image = image_of h s.current file fits.sound fits.live is;
+      leaves = rw busy (crash_under_way h s.failed (committed s) (version_of s.current.body) (count_of s.next.body) file way.settled);
+    }
+one_of_crash facts h s file fits busy way (inr is) =
+    record {
+      version = version_of s.next.body;
+      count = count_of s.next.body;
+      image = image_of h s.next file fits.sound way.front is;
+      leaves = rw busy (crash_next h s.failed (committed s) (version_of s.current.body) (count_of s.next.body) _ file way.version);
+    }
+
 -- one device call of a commit under way, with what it makes of the hub
 device_call : {D : Type 0} {T : Type 0} (facts : Ghosts D) (h : Held) (s new : StoreHeld D) (writes syncs : ℕ) (error : StoreError) (result : Result T StoreError)
     (answer : Answer) → Fits facts (record { replica = h; store = s }) → is_idle s.phase ≡ false → IsDeviceCall facts writes syncs error result s new
     → Step h.replica (state_of (record { replica = h; store = s })) device_step answer (state_of (record { replica = h; store = new }))
-    → calls_in device_step answer ≡ 1 → h.settled ≡ settled_by h.settled answer → Fits facts (record { replica = h; store = new })
-    → Counts facts answer s new → IsCall facts device_step answer (record { replica = h; store = s }) (record { replica = h; store = new })
-device_call facts h s new writes syncs error result answer fits busy call step one same after counts =
+    → calls_in device_step answer ≡ 1 → failures_of result ≡ failures_in device_step answer → h.settled ≡ settled_by h.settled answer
+    → Fits facts (record { replica = h; store = new }) → Counts facts answer s new → StoreSteps answer s new
+    → IsCall facts device_step answer (record { replica = h; store = s }) (record { replica = h; store = new })
+device_call facts h s new writes syncs error result answer fits busy call step one failing same after counts goes =
     let kept = grows_same h in
     let way : IsUnderWay h s.current s.next = rw busy at fits.commit in
     record {
@@ -145,11 +164,19 @@ device_call facts h s new writes syncs error result answer fits busy call step o
       grows = (kept.more, kept.list);
       settled = same;
       rises = omega arith;
+      sound = fits.sound;
+      store = goes;
       tells = call.tells;
       time = λ told. rw one ((call.call told).one_more);
-      moments = λ told. moments_of facts s.disk new.disk (IsOneOf s.current s.next) (HasAtLeast h.settled h)
-          (λ file is. one_of_has h s.current s.next file fits.sound fits.live way is) (call.moments told);
+      failures = λ told. rw (sym failing) ((call.call told).failures);
+      moments = λ told. moments_of facts s.disk new.disk (IsOneOf s.current s.next)
+          (IsLeftIn (record { replica = h; store = s }) (record { replica = h; store = new }))
+          (λ file is. record {
+            has = one_of_has h s.current s.next file fits.sound fits.live way is;
+            crash = inl (one_of_crash facts h s file fits busy way is);
+          }) (call.moments told);
       left = λ told file survives. survivor_has_settled facts (record { replica = h; store = new }) file after told survives;
+      recovers = λ told file survives. survivor_has facts (record { replica = h; store = new }) file after told survives;
       counts = counts;
     }
 
@@ -158,34 +185,34 @@ pub call_goes_on : {D : Type 0} {T : Type 0} (facts : Ghosts D) (h : Held) (s ne
     → Fits facts (record { replica = h; store = s }) → s.failed ≡ false → is_idle s.phase ≡ false → IsDeviceCall facts writes syncs error result s new
     → is_idle new.phase ≡ false → new.current ≡ s.current → new.next ≡ s.next → new.failed ≡ false
     → Fits facts (record { replica = h; store = new })
-    → Counts facts goes_on s new
+    → Counts facts goes_on s new → failures_of result ≡ 0 → new ≡ gone_on s.phase s new.disk
     → IsCall facts device_step goes_on (record { replica = h; store = s }) (record { replica = h; store = new })
-call_goes_on facts h s new writes syncs error result fits works busy call busy' current next works' after counts =
-    device_call facts h s new writes syncs error result goes_on fits busy call (rw (works, busy, works', busy', current, next) (refl, refl, refl)) refl refl after counts
+call_goes_on facts h s new writes syncs error result fits works busy call busy' current next works' after counts none gone =
+    device_call facts h s new writes syncs error result goes_on fits busy call (rw (works, busy, works', busy', current, next) (refl, refl, refl)) refl none refl after counts gone
 
 -- the commit is through
 pub call_goes_through : {D : Type 0} {T : Type 0} (facts : Ghosts D) (h : Held) (s new : StoreHeld D) (writes syncs : ℕ) (error : StoreError)
     (result : Result T StoreError) → Fits facts (record { replica = h; store = s }) → s.failed ≡ false → is_idle s.phase ≡ false
     → IsDeviceCall facts writes syncs error result s new → is_idle new.phase ≡ true → new.current ≡ s.next → new.failed ≡ false
     → Fits facts (record { replica = h; store = new })
-    → Counts facts goes_through s new
+    → Counts facts goes_through s new → failures_of result ≡ 0 → new ≡ gone_on s.phase s new.disk
     → IsCall facts device_step goes_through (record { replica = h; store = s }) (record { replica = h; store = new })
-call_goes_through facts h s new writes syncs error result fits works busy call rest current works' after counts =
+call_goes_through facts h s new writes syncs error result fits works busy call rest current works' after counts none gone =
     let way : IsUnderWay h s.current s.next = rw busy at fits.commit in
     let more = lt_true h.settled (count_of s.next.body) way.owed.more in
     let before : version_of s.next.body - 1 ≡ version_of s.current.body = let after = way.version in omega (arith, after) in
-    device_call facts h s new writes syncs error result goes_through fits busy call (rw (works, busy, works', rest, current, more, before) (refl, refl, refl)) refl refl after counts
+    device_call facts h s new writes syncs error result goes_through fits busy call (rw (works, busy, works', rest, current, more, before) (refl, refl, refl)) refl none refl after counts gone
 
 -- the device failed
 pub call_fails : {D : Type 0} {T : Type 0} (facts : Ghosts D) (h : Held) (s new : StoreHeld D) (writes syncs : ℕ) (error : StoreError) (result : Result T StoreError)
     (n : ℕ) → Fits facts (record { replica = h; store = s }) → s.failed ≡ false → is_idle s.phase ≡ false → IsDeviceCall facts writes syncs error result s new
     → is_idle new.phase ≡ false → new.current ≡ s.current → new.next ≡ s.next → new.failed ≡ true → (n ≡ 51) ⊎ (n ≡ 52)
     → Fits facts (record { replica = h; store = new })
-    → Counts facts (refused n) s new
+    → Counts facts (refused n) s new → failures_of result ≡ 1 → n ≡ number_of (error_in s.phase) → new ≡ has_failed s new.disk
     → IsCall facts device_step (refused n) (record { replica = h; store = s }) (record { replica = h; store = new })
-call_fails facts h s new writes syncs error result n fits works busy call busy' current next failed is after counts =
+call_fails facts h s new writes syncs error result n fits works busy call busy' current next failed is after counts some number gone =
     device_call facts h s new writes syncs error result (refused n) fits busy call
-    (inr (works, rw busy refl, is, rw (busy, failed, busy', current, next) refl)) (one n is) refl after counts
+    (inr (works, rw busy refl, is, rw (busy, failed, busy', current, next) refl)) (one n is) (some ∙ sym (one n is)) refl after counts (inr (number, gone))
   where
     one : (n : ℕ) → (n ≡ 51) ⊎ (n ≡ 52) → calls_in device_step (refused n) ≡ 1
     one n (inl is) = rw is refl
@@ -388,7 +415,7 @@ step_made {D} facts h s new p lawful fits stepped made went = rw made (by_kind (
         at_rest =
             subst (λ q. IsCall facts device_step (stepped_in q) (record { replica = h; store = s }) (record { replica = h; store = s })) (sym is) (
             quiet_call facts device_step idle_answer (record { replica = h; store = s }) (record { replica = h; store = s }) refl lawful fits refl
-            (works, rw rest (no_call_due h.settled (committed s) (count_of s.next.body)), refl) kept.more kept.list refl (omega arith) refl (counts_same facts _ s refl refl)
+            (works, rw rest (no_call_due h.settled (committed s) (count_of s.next.body)), refl) kept.more kept.list refl (omega arith) refl (counts_same facts _ s refl refl) refl
             )
     by_kind (inr (inl is)) =
         let busy : is_idle s.phase ≡ false = ap is_idle is in
@@ -401,7 +428,7 @@ step_made {D} facts h s new p lawful fits stepped made went = rw made (by_kind (
           after,
           subst (λ q. IsCall facts device_step (stepped_in q) (record { replica = h; store = s }) (record { replica = h; store = new })) (sym is)
               (call_goes_through facts h s new _ _ _ _ fits works busy its_call rest current works' after
-              (counts_on facts s new p goes_through refl refl works stepped (not_idle s.phase busy) gone)),
+              (counts_on facts s new p goes_through refl refl works stepped (not_idle s.phase busy) gone) refl gone),
         )
     by_kind (inr (inr (busy, other, on))) =
         let kept = kept_current s.phase s new.disk other in
@@ -413,7 +440,7 @@ step_made {D} facts h s new p lawful fits stepped made went = rw made (by_kind (
         let after = fits_going facts h s new fits busy busy' current next its_call.left in (
           after,
           rw on (call_goes_on facts h s new _ _ _ _ fits works busy its_call busy' current next works' after
-              (counts_on facts s new p goes_on refl refl works stepped (not_idle s.phase busy) gone)),
+              (counts_on facts s new p goes_on refl refl works stepped (not_idle s.phase busy) gone) refl gone),
         )
 
 -- a device step that is refused
@@ -431,7 +458,7 @@ step_refused facts h s new e lawful fits stepped gone = by_test s.failed refl
         rw (err_is (Err e) e Failed refl both.0, both.1) (
           fits,
           quiet_call facts device_step (refused 44) (record { replica = h; store = s }) (record { replica = h; store = s }) refl lawful fits refl
-              (inl (failed, refl, refl)) kept.more kept.list refl (omega arith) refl (counts_same facts _ s refl refl),
+              (inl (failed, refl, refl)) kept.more kept.list refl (omega arith) refl (counts_same facts _ s refl refl) (inl (refl, refl)),
         )
     by_test false works =
         let some : s.phase ≢ Idle = λ is. both_ways (Err e) e Idle refl (stepped.idle works is).0 in
@@ -445,7 +472,7 @@ step_refused facts h s new e lawful fits stepped gone = by_test s.failed refl
         let after = fits_going facts h s new fits busy busy' current next its_call.left in
         let error = its_call.refused in (
           after,
-          call_fails facts h s new _ _ _ _ (number_of e) fits works busy its_call busy' current next failed (rw error (device_number s.phase)) after (counts_failed facts _ s new failed),
+          call_fails facts h s new _ _ _ _ (number_of e) fits works busy its_call busy' current next failed (rw error (device_number s.phase)) after (counts_failed facts _ s new failed) refl (ap number_of error) gone_so,
         )
 
 -- a begin of a hub whose device failed, and of one with a commit that is through
@@ -455,7 +482,7 @@ pub begin_failed : {D : Type 0} (facts : Ghosts D) (h : Held) (s : StoreHeld D) 
 begin_failed facts h s lawful fits failed =
     let kept = grows_same h in
     quiet_call facts begin (refused 44) (record { replica = h; store = s }) (record { replica = h; store = s }) refl lawful fits refl
-    (rw failed (refl, refl)) kept.more kept.list refl (omega arith) refl (counts_same facts _ s refl refl)
+    (rw failed (refl, refl)) kept.more kept.list refl (omega arith) refl (counts_same facts _ s refl refl) refl
 
 pub begin_through : {D : Type 0} (facts : Ghosts D) (h : Held) (s : StoreHeld D) → (facts.tells s.disk → IsLawful facts s.disk)
     → Fits facts (record { replica = h; store = s }) → s.failed ≡ false → (is_idle s.phase && nat_lt h.settled (committed s)) ≡ true
@@ -464,7 +491,7 @@ begin_through facts h s lawful fits works through =
     let kept = grows_same h in
     let some = has_commit (is_idle s.phase) h.settled (committed s) (count_of s.next.body) through in
     quiet_call facts begin (refused 8) (record { replica = h; store = s }) (record { replica = h; store = s }) refl lawful fits refl
-    (rw (works, some) (refl, refl)) kept.more kept.list refl (omega arith) refl (counts_same facts _ s refl refl)
+    (rw (works, some) (refl, refl)) kept.more kept.list refl (omega arith) refl (counts_same facts _ s refl refl) refl
 
 -- a commit that begins has all its writes and syncs before it
 counts_begun : {D : Type 0} (facts : Ghosts D) (s new : StoreHeld D) (ops : List Op) (n : ℕ) → s.phase ≡ Idle → s.failed ≡ false → Begins facts s ops new
@@ -565,6 +592,11 @@ begin_made {D} facts h s new answer lawful fits works none is_answer begins stay
     its_counts (Ok None) is = rw (stays (no_number answer (ap has_number is))) (counts_same facts _ s refl refl)
     its_counts (Err e) is = rw (stays (no_number answer (ap has_number is))) (counts_same facts _ s refl refl)
 
+    its_goes : (a : Result (Option ℕ) StoreError) → answer ≡ a → StoreBegins facts (answer_due a) (record { replica = h; store = s }) new
+    its_goes (Ok (Some n)) is = begins n is
+    its_goes (Ok None) is = stays (no_number answer (ap has_number is))
+    its_goes (Err e) is = stays (no_number answer (ap has_number is))
+
     its_call : IsCall facts begin (answer_due answer) (record { replica = h; store = s }) (record { replica = h; store = new })
     its_call =
         let kept = grows_same h in
@@ -573,7 +605,7 @@ begin_made {D} facts h s new answer lawful fits works none is_answer begins stay
         (its_fits answer refl) refl
         (begin_step (state_of (record { replica = h; store = s })) (state_of (record { replica = h; store = new })) (begin_due s (drop h.settled h.list)) answer machine
         is_answer new_state (λ other. ap (λ t. state_of (record { replica = h; store = t })) (stays other)))
-        kept.more kept.list (same_settled answer) (omega arith) refl (its_counts answer refl)
+        kept.more kept.list (same_settled answer) (omega arith) refl (its_counts answer refl) (its_goes answer refl)
 
 -- the same of the operations that the store was given
 pub begin_given : {D : Type 0} (facts : Ghosts D) (h : Held) (s new : StoreHeld D) (rest : List Op) (answer : Result (Option ℕ) StoreError)
@@ -617,7 +649,7 @@ settle_made facts h next s lawful fits works idle less is sound = rw is (its_fit
     its_call : IsCall facts settle (settled_to (committed s)) (record { replica = h; store = s }) (record { replica = with_settled h (committed s); store = s })
     its_call =
         quiet_call facts settle (settled_to (committed s)) (record { replica = h; store = s }) (record { replica = with_settled h (committed s); store = s }) refl lawful
-        its_fits refl step kept.more kept.list refl (omega (arith, less)) refl (counts_same facts _ s refl refl)
+        its_fits refl step kept.more kept.list refl (omega (arith, less)) refl (counts_same facts _ s refl refl) refl
 
 pub settle_failed : {D : Type 0} (facts : Ghosts D) (h : Held) (s : StoreHeld D) → (facts.tells s.disk → IsLawful facts s.disk)
     → Fits facts (record { replica = h; store = s }) → s.failed ≡ true
@@ -625,7 +657,7 @@ pub settle_failed : {D : Type 0} (facts : Ghosts D) (h : Held) (s : StoreHeld D)
 settle_failed facts h s lawful fits failed =
     let kept = grows_same h in
     quiet_call facts settle (refused 44) (record { replica = h; store = s }) (record { replica = h; store = s }) refl lawful fits refl
-    (rw failed (refl, refl)) kept.more kept.list refl (omega arith) refl (counts_same facts _ s refl refl)
+    (rw failed (refl, refl)) kept.more kept.list refl (omega arith) refl (counts_same facts _ s refl refl) refl
 
 pub settle_busy : {D : Type 0} (facts : Ghosts D) (h : Held) (s : StoreHeld D) → (facts.tells s.disk → IsLawful facts s.disk)
     → Fits facts (record { replica = h; store = s }) → s.failed ≡ false → (is_idle s.phase && nat_lt h.settled (committed s)) ≡ false
@@ -634,7 +666,7 @@ settle_busy facts h s lawful fits works none =
     let kept = grows_same h in
     let no_commit = not_through (is_idle s.phase) h.settled (committed s) (count_of s.next.body) none in
     quiet_call facts settle (refused 8) (record { replica = h; store = s }) (record { replica = h; store = s }) refl lawful fits refl
-    (rw (works, no_commit) (refl, refl)) kept.more kept.list refl (omega arith) refl (counts_same facts _ s refl refl)
+    (rw (works, no_commit) (refl, refl)) kept.more kept.list refl (omega arith) refl (counts_same facts _ s refl refl) refl
 
 -- a hub right after opening
 pub fits_opened : {D : Type 0} (facts : Ghosts D) (h : Held) (s : StoreHeld D) (replica : ℕ) → h ≡ opened_with replica h.list → IsSound h

@@ -1,5 +1,5 @@
 -- Calls of a hub that make no device call.
-use Rattle.std.proofs.Common.{◌≡◌, ℕ, ◌+◌, ◌-◌, ◌<◌, ◌≤◌, Bool, true, false, nat_lt, List, [], ◌∷◌, ◌++◌, length, take, refl, sym, ap, ◌∙◌, arith, inl, inr, ◌⊎◌, Option, Some, None}
+use Rattle.std.proofs.Common.{◌≡◌, ℕ, ◌+◌, ◌-◌, ◌<◌, ◌≤◌, Bool, true, false, nat_lt, List, [], ◌∷◌, ◌++◌, length, take, refl, sym, ap, subst, ◌∙◌, arith, inl, inr, ◌⊎◌, Option, Some, None}
 use Rattle.std.specs.Prelude.{if◌then◌else◌, IsTrue, ◌↔◌}
 use Rattle.std.proofs.lemmas.Bool.Decides.{nat_tests}
 use Rattle.disk_trait.specs.Calls.{IsLawful, LeavesOnly}
@@ -7,7 +7,7 @@ use Rattle.disk_trait.specs.declared.facts.DiskFacts.{Ghosts}
 use Rattle.op_model.specs.declared.op.Op.{Op}
 use Rattle.op_model.specs.declared.edit.Edit.{Edit}
 use Rattle.op_model.specs.Causality.{clock_of}
-use Rattle.op_model.specs.Machine.{Commit, State, Event, edit, merge, begin, device_step, settle, ack, tell, have, Ticket, Answer, ticket, applied, known, early, acknowledged, operations, clock, refused, settled_to, untold, reach, Step, IsRefusal, edit_answer, merge_answer}
+use Rattle.op_model.specs.Machine.{Commit, State, Event, edit, merge, begin, device_step, settle, ack, tell, have, Ticket, Answer, goes_on, goes_through, ticket, applied, known, early, acknowledged, operations, clock, refused, settled_to, untold, reach, Step, IsRefusal, edit_answer, merge_answer}
 use Rattle.replica_core.specs.Held.{Held, IsSound, alone, stored, with_edit, with_acked, with_told, with_settled}
 use Rattle.replica_core.specs.Merging.{with_merge, after_merge, answer_of}
 use Rattle.replica_core.specs.declared.merged.Merged.{Merged}
@@ -17,8 +17,8 @@ use Rattle.group_commit.specs.Held.{Held as StoreHeld}
 use Rattle.locked_replica.specs.Hub.{Parts, state_of, version_at, commit_of}
 use Rattle.locked_replica.specs.Fits.{Fits}
 use Rattle.locked_replica.specs.Recovery.{HasAtLeast}
-use Rattle.locked_replica.specs.Calls.{IsCall, Counts, calls_in, settled_by, writes_begun, syncs_begun}
-use Rattle.locked_replica.proofs.Recovering.{survivor_has_settled}
+use Rattle.locked_replica.specs.Calls.{IsCall, IsLeftIn, Counts, StoreGoes, calls_in, failures_in, settled_by, writes_begun, syncs_begun}
+use Rattle.locked_replica.proofs.Recovering.{survivor_has, survivor_has_settled, crash_of}
 use Rattle.locked_replica.proofs.Keeping.{Grows, grows_edit, grows_merge, grows_same, grows_acked, grows_told, fits_grown}
 
 -- what has more has fewer
@@ -33,32 +33,53 @@ pub counts_same : {D : Type 0} (facts : Ghosts D) (answer : Answer) (s : StoreHe
 counts_same facts answer s none none_syncs =
     record { stays = λ failed. failed; writes = λ told works. rw none (omega arith); syncs = λ told works. rw none_syncs (omega arith) }
 
+-- no more device calls fail than are made
+few_failures : (event : Event) (answer : Answer) → failures_in event answer ≤ calls_in event answer
+few_failures device_step goes_on = omega arith
+few_failures device_step goes_through = omega arith
+few_failures device_step (refused n) = omega arith
+few_failures device_step answer = omega arith
+few_failures (edit session e) answer = omega arith
+few_failures (merge peer op) answer = omega arith
+few_failures begin answer = omega arith
+few_failures settle answer = omega arith
+few_failures (ack t) answer = omega arith
+few_failures (tell c) answer = omega arith
+few_failures have answer = omega arith
+
 -- a call that leaves the disk as it was
 pub quiet_call : {D : Type 0} (facts : Ghosts D) (event : Event) (answer : Answer) (old new : Parts D) → new.store.disk ≡ old.store.disk
     → (facts.tells new.store.disk → IsLawful facts new.store.disk) → Fits facts new → new.replica.replica ≡ old.replica.replica
     → Step old.replica.replica (state_of old) event answer (state_of new)
     → (more : List Op) → new.replica.list ≡ old.replica.list ++ more
     → new.replica.settled ≡ settled_by old.replica.settled answer → old.replica.settled ≤ new.replica.settled → calls_in event answer ≡ 0
-    → Counts facts answer old.store new.store → IsCall facts event answer old new
-quiet_call {D} facts event answer old new same lawful fits owner step more list settled rises none counts =
+    → Counts facts answer old.store new.store → StoreGoes facts event answer old new.store → IsCall facts event answer old new
+quiet_call {D} facts event answer old new same lawful fits owner step more list settled rises none counts goes =
     record {
       owner = owner;
       step = step;
       grows = (more, list);
       settled = settled;
       rises = rises;
+      sound = fits.sound;
+      store = goes;
       tells = rw same ((λ told. told), (λ told. told));
       time = λ told. rw (same, none) (omega arith);
-      moments = λ told. rw (sym same) (moments (rw same told));
+      failures = λ told. let few = few_failures event answer in rw same (omega (arith, few, none));
+      moments = λ told. subst (λ disk. LeavesOnly facts disk new.store.disk (IsLeftIn old new)) same (moments (rw same told));
       left = λ told file survives. survivor_has_settled facts new file fits told survives;
+      recovers = λ told file survives. survivor_has facts new file fits told survives;
       counts = counts;
     }
   where
-    has : facts.tells new.store.disk → (file : List ℕ) → facts.survives new.store.disk file → HasAtLeast old.replica.settled new.replica file
+    has : facts.tells new.store.disk → (file : List ℕ) → facts.survives new.store.disk file → IsLeftIn old new file
     has told file survives =
-        has_fewer old.replica.settled new.replica.settled new.replica file rises (survivor_has_settled facts new file fits told survives)
+        record {
+          has = has_fewer old.replica.settled new.replica.settled new.replica file rises (survivor_has_settled facts new file fits told survives);
+          crash = inr (crash_of facts new file fits told survives);
+        }
 
-    moments : facts.tells new.store.disk → LeavesOnly facts new.store.disk new.store.disk (HasAtLeast old.replica.settled new.replica)
+    moments : facts.tells new.store.disk → LeavesOnly facts new.store.disk new.store.disk (IsLeftIn old new)
     moments told =
         record {
           later = omega arith;
@@ -77,7 +98,7 @@ edit_call facts h next s session e t lawful fits works answer is sound =
     quiet_call facts (edit session e) (ticket t) (record { replica = h; store = s }) (record { replica = with_edit h session e; store = s }) refl lawful
     (fits_grown facts h (with_edit h session e) s fits (rw is at sound) kept) refl
     (rw works (edit_step h (with_edit h session e) session e t (version_at h s) (commit_of h s) answer refl))
-    kept.more kept.list refl (omega arith) refl (counts_same facts _ s refl refl)
+    kept.more kept.list refl (omega arith) refl (counts_same facts _ s refl refl) refl
     )
 
 -- an edit that is refused
@@ -88,7 +109,7 @@ pub edit_call_refused : {D : Type 0} (facts : Ghosts D) (h : Held) (s : StoreHel
 edit_call_refused facts h s session e n lawful fits works answer =
     let kept = grows_same h in
     quiet_call facts (edit session e) (refused n) (record { replica = h; store = s }) (record { replica = h; store = s }) refl lawful fits refl
-    (rw works (edit_step_refused h h session e n (version_at h s) (commit_of h s) answer refl)) kept.more kept.list refl (omega arith) refl (counts_same facts _ s refl refl)
+    (rw works (edit_step_refused h h session e n (version_at h s) (commit_of h s) answer refl)) kept.more kept.list refl (omega arith) refl (counts_same facts _ s refl refl) refl
 
 pub edit_call_failed : {D : Type 0} (facts : Ghosts D) (h : Held) (s : StoreHeld D) (session : ℕ) (e : Edit)
     → (facts.tells s.disk → IsLawful facts s.disk) → Fits facts (record { replica = h; store = s }) → s.failed ≡ true
@@ -96,7 +117,7 @@ pub edit_call_failed : {D : Type 0} (facts : Ghosts D) (h : Held) (s : StoreHeld
 edit_call_failed facts h s session e lawful fits failed =
     let kept = grows_same h in
     quiet_call facts (edit session e) (refused 9) (record { replica = h; store = s }) (record { replica = h; store = s }) refl lawful fits refl
-    (rw failed (refl, refl)) kept.more kept.list refl (omega arith) refl (counts_same facts _ s refl refl)
+    (rw failed (refl, refl)) kept.more kept.list refl (omega arith) refl (counts_same facts _ s refl refl) refl
 
 -- a merge that isn't refused
 pub merge_call : {D : Type 0} (facts : Ghosts D) (h next : Held) (s : StoreHeld D) (peer : ℕ) (op : Op) (m : Merged)
@@ -109,21 +130,21 @@ merge_call facts h next s peer op merged_as.Applied lawful fits works answer is 
     quiet_call facts (merge peer op) applied (record { replica = h; store = s }) (record { replica = with_merge h peer op; store = s }) refl lawful
     (fits_grown facts h (with_merge h peer op) s fits (rw is at sound) kept) refl
     (rw works (merge_step h (with_merge h peer op) peer op merged_as.Applied (version_at h s) (commit_of h s) answer refl))
-    kept.more kept.list refl (omega arith) refl (counts_same facts _ s refl refl)
+    kept.more kept.list refl (omega arith) refl (counts_same facts _ s refl refl) refl
     )
 merge_call facts h next s peer op merged_as.Known lawful fits works answer is sound =
     rw is (
     let kept = grows_same h in
     quiet_call facts (merge peer op) known (record { replica = h; store = s }) (record { replica = h; store = s }) refl lawful fits refl
     (rw works (merge_step h h peer op merged_as.Known (version_at h s) (commit_of h s) answer refl))
-    kept.more kept.list refl (omega arith) refl (counts_same facts _ s refl refl)
+    kept.more kept.list refl (omega arith) refl (counts_same facts _ s refl refl) refl
     )
 merge_call facts h next s peer op merged_as.Early lawful fits works answer is sound =
     rw is (
     let kept = grows_same h in
     quiet_call facts (merge peer op) early (record { replica = h; store = s }) (record { replica = h; store = s }) refl lawful fits refl
     (rw works (merge_step h h peer op merged_as.Early (version_at h s) (commit_of h s) answer refl))
-    kept.more kept.list refl (omega arith) refl (counts_same facts _ s refl refl)
+    kept.more kept.list refl (omega arith) refl (counts_same facts _ s refl refl) refl
     )
 
 -- a merge that is refused
@@ -134,7 +155,7 @@ pub merge_call_refused : {D : Type 0} (facts : Ghosts D) (h : Held) (s : StoreHe
 merge_call_refused facts h s peer op n lawful fits works answer =
     let kept = grows_same h in
     quiet_call facts (merge peer op) (refused n) (record { replica = h; store = s }) (record { replica = h; store = s }) refl lawful fits refl
-    (rw works (merge_step_refused h h peer op n (version_at h s) (commit_of h s) answer refl)) kept.more kept.list refl (omega arith) refl (counts_same facts _ s refl refl)
+    (rw works (merge_step_refused h h peer op n (version_at h s) (commit_of h s) answer refl)) kept.more kept.list refl (omega arith) refl (counts_same facts _ s refl refl) refl
 
 pub merge_call_failed : {D : Type 0} (facts : Ghosts D) (h : Held) (s : StoreHeld D) (peer : ℕ) (op : Op)
     → (facts.tells s.disk → IsLawful facts s.disk) → Fits facts (record { replica = h; store = s }) → s.failed ≡ true
@@ -142,7 +163,7 @@ pub merge_call_failed : {D : Type 0} (facts : Ghosts D) (h : Held) (s : StoreHel
 merge_call_failed facts h s peer op lawful fits failed =
     let kept = grows_same h in
     quiet_call facts (merge peer op) (refused 9) (record { replica = h; store = s }) (record { replica = h; store = s }) refl lawful fits refl
-    (rw failed (refl, refl)) kept.more kept.list refl (omega arith) refl (counts_same facts _ s refl refl)
+    (rw failed (refl, refl)) kept.more kept.list refl (omega arith) refl (counts_same facts _ s refl refl) refl
 
 -- an acknowledgement, also of a hub whose device failed
 pub ack_call : {D : Type 0} (facts : Ghosts D) (h next : Held) (s : StoreHeld D) (t : Ticket) (b : Bool)
@@ -153,13 +174,13 @@ ack_call facts h next s t true lawful fits test is sound =
     rw is (
     let kept = grows_acked h t.end in
     quiet_call facts (ack t) (acknowledged true) (record { replica = h; store = s }) (record { replica = with_acked h t.end; store = s }) refl lawful
-    (fits_grown facts h (with_acked h t.end) s fits (rw is at sound) kept) refl (test.0 refl, refl) kept.more kept.list refl (omega arith) refl (counts_same facts _ s refl refl)
+    (fits_grown facts h (with_acked h t.end) s fits (rw is at sound) kept) refl (test.0 refl, refl) kept.more kept.list refl (omega arith) refl (counts_same facts _ s refl refl) refl
     )
 ack_call facts h next s t false lawful fits test is sound =
     rw is (
     let kept = grows_same h in
     quiet_call facts (ack t) (acknowledged false) (record { replica = h; store = s }) (record { replica = h; store = s }) refl lawful fits refl
-    (unsettled test.1, refl) kept.more kept.list refl (omega arith) refl (counts_same facts _ s refl refl)
+    (unsettled test.1, refl) kept.more kept.list refl (omega arith) refl (counts_same facts _ s refl refl) refl
     )
   where
     unsettled : (t.end ≤ h.settled → IsTrue false) → h.settled < t.end
@@ -175,7 +196,7 @@ tell_call facts h next s c ops lawful fits are is sound =
     let n = reach 64 c (take h.settled h.list) in
     let kept = grows_told h n in
     quiet_call facts (tell c) (operations ops) (record { replica = h; store = s }) (record { replica = with_told h n; store = s }) refl lawful
-    (fits_grown facts h (with_told h n) s fits (rw is at sound) kept) refl (are, refl) kept.more kept.list refl (omega arith) refl (counts_same facts _ s refl refl)
+    (fits_grown facts h (with_told h n) s fits (rw is at sound) kept) refl (are, refl) kept.more kept.list refl (omega arith) refl (counts_same facts _ s refl refl) refl
     )
 
 -- a telling of the clock
@@ -187,7 +208,7 @@ have_call facts h next s c lawful fits is_clock is sound =
     rw is (
     let kept = grows_told h h.settled in
     quiet_call facts have (clock c) (record { replica = h; store = s }) (record { replica = with_told h h.settled; store = s }) refl lawful
-    (fits_grown facts h (with_told h h.settled) s fits (rw is at sound) kept) refl (is_clock, refl) kept.more kept.list refl (omega arith) refl (counts_same facts _ s refl refl)
+    (fits_grown facts h (with_told h h.settled) s fits (rw is at sound) kept) refl (is_clock, refl) kept.more kept.list refl (omega arith) refl (counts_same facts _ s refl refl) refl
     )
 
 -- either of them refused for want of memory
@@ -197,7 +218,7 @@ pub tell_call_refused : {D : Type 0} (facts : Ghosts D) (h : Held) (s : StoreHel
 tell_call_refused facts h s c lawful fits =
     let kept = grows_same h in
     quiet_call facts (tell c) (refused 1) (record { replica = h; store = s }) (record { replica = h; store = s }) refl lawful fits refl (refl, refl) kept.more
-    kept.list refl (omega arith) refl (counts_same facts _ s refl refl)
+    kept.list refl (omega arith) refl (counts_same facts _ s refl refl) refl
 
 pub have_call_refused : {D : Type 0} (facts : Ghosts D) (h : Held) (s : StoreHeld D)
     → (facts.tells s.disk → IsLawful facts s.disk) → Fits facts (record { replica = h; store = s })
@@ -205,7 +226,7 @@ pub have_call_refused : {D : Type 0} (facts : Ghosts D) (h : Held) (s : StoreHel
 have_call_refused facts h s lawful fits =
     let kept = grows_same h in
     quiet_call facts have (refused 1) (record { replica = h; store = s }) (record { replica = h; store = s }) refl lawful fits refl (refl, refl) kept.more
-    kept.list refl (omega arith) refl (counts_same facts _ s refl refl)
+    kept.list refl (omega arith) refl (counts_same facts _ s refl refl) refl
 
 -- an edit, and a merge, keep what a hub keeps
 pub edit_kept : {D : Type 0} (facts : Ghosts D) (h next : Held) (s : StoreHeld D) (session : ℕ) (e : Edit) → Fits facts (record { replica = h; store = s })

@@ -9,9 +9,9 @@ use Rattle.op_model.specs.declared.op.Op.{Op}
 use Rattle.op_model.specs.Machine.{State, Event, Answer, Step, Run}
 use Rattle.replica_core.specs.Held.{Held}
 use Rattle.locked_replica.specs.Hub.{Parts, state_of}
-use Rattle.locked_replica.specs.Calls.{IsCall, Counts, calls_in, settled_by, writes_begun, syncs_begun}
-use Rattle.locked_replica.specs.Recovery.{HasAtLeast}
-use Rattle.locked_replica.specs.Run.{Ran, Calls, FrontsStand, calls_made, settled_behind, writes_planned, syncs_planned}
+use Rattle.locked_replica.specs.Calls.{IsCall, IsLeftIn, calls_in, settled_by, writes_begun, syncs_begun}
+use Rattle.locked_replica.specs.Recovery.{HasAtLeast, IsCrash}
+use Rattle.locked_replica.specs.Run.{Ran, Calls, CrashesIn, FrontsStand, calls_made, settled_behind, writes_planned, syncs_planned}
 use Rattle.locked_replica.specs.Steps.{event_of, answer_of, events_of}
 use Rattle.locked_replica.specs.declared.hub_step.HubStep.{HubStep}
 use Rattle.locked_replica.specs.declared.hub_reply.HubReply.{HubReply}
@@ -66,6 +66,22 @@ calls_chain facts old mid new [] event answer calls call = (new, rw calls at cal
 calls_chain facts old mid new (e ∷ es) event answer calls call =
     (calls.0, calls.1, calls_chain facts calls.0 mid new es event answer calls.2 call)
 
+-- what a crash leaves in some calls, it leaves in these and one more
+crashes_more : {D : Type 0} (facts : Ghosts D) (old mid new : Parts D) (es : List (Event × Answer)) (event : Event) (answer : Answer) (calls : Calls facts old es mid)
+    (call : IsCall facts event answer mid new) (file : List ℕ) → CrashesIn facts old es mid calls file
+    → CrashesIn facts old (es ++ (event, answer) ∷ []) new (calls_chain facts old mid new es event answer calls call) file
+crashes_more facts old mid new [] event answer calls call file is = inl (rw (sym calls) is)
+crashes_more facts old mid new (e ∷ es) event answer calls call file (inl is) = inl is
+crashes_more facts old mid new (e ∷ es) event answer calls call file (inr is) = inr (crashes_more facts calls.0 mid new es event answer calls.2 call file is)
+
+-- and what it leaves in the last one
+crashes_last : {D : Type 0} (facts : Ghosts D) (old mid new : Parts D) (es : List (Event × Answer)) (event : Event) (answer : Answer) (calls : Calls facts old es mid)
+    (call : IsCall facts event answer mid new) (file : List ℕ) → IsCrash mid file ⊎ IsCrash new file
+    → CrashesIn facts old (es ++ (event, answer) ∷ []) new (calls_chain facts old mid new es event answer calls call) file
+crashes_last facts old mid new [] event answer calls call file (inl is) = inl (rw (sym calls) is)
+crashes_last facts old mid new [] event answer calls call file (inr is) = inr is
+crashes_last facts old mid new (e ∷ es) event answer calls call file is = inr (crashes_last facts calls.0 mid new es event answer calls.2 call file is)
+
 -- one commit that begins more
 writes_more : {D : Type 0} (facts : Ghosts D) (old mid new : Parts D) (es : List (Event × Answer)) (event : Event) (answer : Answer) (calls : Calls facts old es mid)
     (call : IsCall facts event answer mid new)
@@ -82,8 +98,9 @@ syncs_more (e ∷ es) event answer = let rest = syncs_more es event answer in om
 -- no call
 pub ran_none : {D : Type 0} (facts : Ghosts D) (hub : Parts D) → (facts.tells hub.store.disk → IsLawful facts hub.store.disk)
     → (facts.tells hub.store.disk → (file : List ℕ) → facts.survives hub.store.disk file → HasAtLeast hub.replica.settled hub.replica file)
+    → (facts.tells hub.store.disk → (file : List ℕ) → facts.survives hub.store.disk file → IsCrash hub file)
     → Ran facts hub [] hub
-ran_none facts hub lawful left =
+ran_none facts hub lawful left crash =
     record {
       owner = refl;
       machine = refl;
@@ -92,6 +109,7 @@ ran_none facts hub lawful left =
       tells = ((λ told. told), (λ told. told));
       time = λ told. omega arith;
       calls = refl;
+      crashes = λ told file since. crash told file ((lawful told).only_now file since);
       writes = λ told works. omega arith;
       syncs = λ told works. omega arith;
       fronts = λ told k file within left_now. rw (take_none {A = Event × Answer} k) (stands told file (now k left_now));
@@ -128,6 +146,7 @@ ran_more facts old mid new es event answer lawful ran call =
       time = its_time;
       fronts = its_fronts;
       calls = calls_chain facts old mid new es event answer ran.calls call;
+      crashes = its_crashes;
       writes = λ told works.
           let more = writes_more facts old mid new es event answer ran.calls call in
           let before = ran.writes told (worked works) in
@@ -140,6 +159,15 @@ ran_more facts old mid new es event answer lawful ran call =
           omega (arith, more, before, after);
     }
   where
+    its_crashes : facts.tells old.store.disk → (file : List ℕ) → facts.left_since new.store.disk (facts.time old.store.disk) file
+        → CrashesIn facts old (es ++ (event, answer) ∷ []) new (calls_chain facts old mid new es event answer ran.calls call) file
+    its_crashes told file since = either ((call.moments (ran.tells.1 told)).before _ file (let before = ran.time told in omega (arith, before)) since)
+      where
+        either : facts.left_since mid.store.disk (facts.time old.store.disk) file ⊎ IsLeftIn mid new file
+            → CrashesIn facts old (es ++ (event, answer) ∷ []) new (calls_chain facts old mid new es event answer ran.calls call) file
+        either (inl since) = crashes_more facts old mid new es event answer ran.calls call file (ran.crashes told file since)
+        either (inr left) = crashes_last facts old mid new es event answer ran.calls call file left.crash
+
     worked : new.store.failed ≡ false → mid.store.failed ≡ false
     worked works = by_test mid.store.failed refl
       where
@@ -188,11 +216,11 @@ ran_more facts old mid new es event answer lawful ran call =
             in_time : facts.time old.store.disk + calls_made (take k es) ≤ facts.time mid.store.disk
             in_time = let before = ran.time told in let few = fewer k es in omega (arith, before, few)
 
-            either : facts.left_since mid.store.disk (facts.time old.store.disk + calls_made (take k es)) file ⊎ HasAtLeast mid.replica.settled new.replica file
+            either : facts.left_since mid.store.disk (facts.time old.store.disk + calls_made (take k es)) file ⊎ IsLeftIn mid new file
                 → HasAtLeast (settled_behind old.replica.settled (take k es)) new.replica file
             either (inl since) =
                 has_longer _ mid.replica new.replica call.grows.0 file call.owner call.grows.1 (ran.fronts told k file within since)
-            either (inr has) = has_fewer _ mid.replica.settled new.replica file (ran.rising k within) has
+            either (inr left) = has_fewer _ mid.replica.settled new.replica file (ran.rising k within) left.has
 
         by_place : (k ≤ length es) ⊎ (k ≡ length es + 1) → HasAtLeast (settled_behind old.replica.settled (take k (es ++ (event, answer) ∷ []))) new.replica file
         by_place (inl within) = rw (earlier k within) (of_earlier within (rw (earlier k within) at since))

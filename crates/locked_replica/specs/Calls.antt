@@ -1,14 +1,18 @@
 -- What one call of a hub does.
-use Rattle.std.specs.Prelude.{◌≡◌, ◌↔◌, ℕ, ◌+◌, ◌≤◌, ◌==◌, true, false, if◌then◌else◌, List, ◌++◌, length}
+use Rattle.std.specs.Prelude.{◌≡◌, ◌↔◌, ◌⊎◌, ℕ, ◌+◌, ◌≤◌, ◌==◌, true, false, if◌then◌else◌, List, ◌++◌, length, drop}
 use Rattle.op_model.specs.declared.op.Op.{Op}
 use Rattle.disk_trait.specs.Calls.{LeavesOnly}
 use Rattle.disk_trait.specs.declared.facts.DiskFacts.{Ghosts}
 use Rattle.op_model.specs.Machine.{Event, edit, merge, begin, device_step, settle, ack, tell, have, Answer, begun, idle, goes_on, goes_through, settled_to, refused, Step}
+use Rattle.group_commit.specs.Begin.{Begins}
 use Rattle.group_commit.specs.Changes.{changed_pages}
 use Rattle.group_commit.specs.Counts.{writes_left, syncs_left}
-use Rattle.group_commit.specs.Held.{Held as StoreHeld}
+use Rattle.group_commit.specs.Errors.{number_of}
+use Rattle.group_commit.specs.Held.{Held as StoreHeld, gone_on, has_failed}
+use Rattle.group_commit.specs.Step.{error_in}
+use Rattle.replica_core.specs.Held.{IsSound}
 use Rattle.locked_replica.specs.Hub.{Parts, state_of}
-use Rattle.locked_replica.specs.Recovery.{HasAtLeast}
+use Rattle.locked_replica.specs.Recovery.{HasAtLeast, IsCrash, Recovers}
 
 -- how many device calls the answer to a device step shows: 44 is answered without one
 abbrev pub device_calls : Answer → ℕ
@@ -27,6 +31,22 @@ calls_in settle a = 0
 calls_in (ack t) a = 0
 calls_in (tell c) a = 0
 calls_in have a = 0
+
+-- how many of them fail: each that is refused
+abbrev pub device_failures : Answer → ℕ
+device_failures (refused n) = if n == 44 then 0 else 1
+device_failures a = 0
+
+-- how many failures of the device an event with this answer has met
+abbrev pub failures_in : Event → Answer → ℕ
+failures_in device_step a = device_failures a
+failures_in (edit session e) a = 0
+failures_in (merge peer op) a = 0
+failures_in begin a = 0
+failures_in settle a = 0
+failures_in (ack t) a = 0
+failures_in (tell c) a = 0
+failures_in have a = 0
 
 -- the settled number behind an answer
 abbrev pub settled_by : ℕ → Answer → ℕ
@@ -53,20 +73,53 @@ pub record Counts {D : Type 0} (facts : Ghosts D) (answer : Answer) (old new : S
   pub syncs : facts.tells old.disk → new.failed ≡ false
       → facts.syncs new.disk + syncs_left new ≡ facts.syncs old.disk + syncs_left old + syncs_begun answer
 
--- A call is one step of the machine, with its answer. The disk's time goes on by the device calls that the answer shows, and a
--- crash at any moment of the call leaves a beginning of the list that holds all that was settled before it, and a
--- crash right after it all that is settled then.
--- The list only grows, and the settled number doesn't fall.
+-- A begin that is answered with a number has begun a commit of all operations that aren't settled; another one changes nothing.
+abbrev pub StoreBegins : {D : Type 0} → Ghosts D → Answer → Parts D → StoreHeld D → Type 0
+StoreBegins facts (begun n) old new = Begins facts old.store (drop old.replica.settled old.replica.list) new
+StoreBegins facts a old new = new ≡ old.store
+
+-- A device step goes on to the next phase, or is refused: with 44 without a call, else by the failure of its phase.
+abbrev pub StoreSteps : {D : Type 0} → Answer → StoreHeld D → StoreHeld D → Type 0
+StoreSteps goes_on old new = new ≡ gone_on old.phase old new.disk
+StoreSteps goes_through old new = new ≡ gone_on old.phase old new.disk
+StoreSteps (refused n) old new =
+    ((n ≡ 44) × (new ≡ old)) ⊎ ((n ≡ number_of (error_in old.phase)) × (new ≡ has_failed old new.disk))
+StoreSteps a old new = new ≡ old
+
+-- what a call makes of the store: only a begin and a device step change it
+abbrev pub StoreGoes : {D : Type 0} → Ghosts D → Event → Answer → Parts D → StoreHeld D → Type 0
+StoreGoes facts begin a old new = StoreBegins facts a old new
+StoreGoes facts device_step a old new = StoreSteps a old.store new
+StoreGoes facts (edit session e) a old new = new ≡ old.store
+StoreGoes facts (merge peer op) a old new = new ≡ old.store
+StoreGoes facts settle a old new = new ≡ old.store
+StoreGoes facts (ack t) a old new = new ≡ old.store
+StoreGoes facts (tell c) a old new = new ≡ old.store
+StoreGoes facts have a old new = new ≡ old.store
+
+-- What a crash leaves at a moment of a call: a beginning of the list with all that was settled before the call, and just what the
+-- machine's crash leaves before it or after it.
+pub record IsLeftIn {D : Type 0} (old new : Parts D) (file : List ℕ) : Type 0 where
+  pub has : HasAtLeast old.replica.settled new.replica file
+  pub crash : IsCrash old file ⊎ IsCrash new file
+
+-- A call is one step of the machine, with its answer. The list only grows and is causally closed, the settled number doesn't fall, and
+-- what is acknowledged and told is settled. The disk's time goes on by the device calls that the answer shows.
 pub record IsCall {D : Type 0} (facts : Ghosts D) (event : Event) (answer : Answer) (old new : Parts D) : Type 0 where
   pub owner : new.replica.replica ≡ old.replica.replica
   pub step : Step old.replica.replica (state_of old) event answer (state_of new)
   pub grows : (more : List Op) × (new.replica.list ≡ old.replica.list ++ more)
   pub settled : new.replica.settled ≡ settled_by old.replica.settled answer
   pub rises : old.replica.settled ≤ new.replica.settled
+  pub sound : IsSound new.replica
+  pub store : StoreGoes facts event answer old new.store
   pub tells : facts.tells new.store.disk ↔ facts.tells old.store.disk
   pub time : facts.tells old.store.disk → facts.time new.store.disk ≡ facts.time old.store.disk + calls_in event answer
-  pub moments : facts.tells old.store.disk
-      → LeavesOnly facts old.store.disk new.store.disk (HasAtLeast old.replica.settled new.replica)
+  pub failures : facts.tells old.store.disk → facts.failures new.store.disk ≡ facts.failures old.store.disk + failures_in event answer
+  -- a crash at any moment of the call
+  pub moments : facts.tells old.store.disk → LeavesOnly facts old.store.disk new.store.disk (IsLeftIn old new)
+  -- A crash right after it leaves all that is settled then: the committed list, in the last phase of a commit that or the commit's.
   pub left : facts.tells new.store.disk → (file : List ℕ) → facts.survives new.store.disk file
       → HasAtLeast new.replica.settled new.replica file
+  pub recovers : facts.tells new.store.disk → (file : List ℕ) → facts.survives new.store.disk file → Recovers new file
   pub counts : Counts facts answer old.store new.store

@@ -7,6 +7,8 @@ mod hub;
 mod hub_reply;
 mod hub_step;
 mod opening;
+#[cfg(test)]
+mod random_tests;
 mod reading;
 mod refusal;
 mod running;

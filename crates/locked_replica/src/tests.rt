@@ -14,16 +14,26 @@ fn replica(last: u8) -> Result<ReplicaId, Fail> {
     Ok(ReplicaId::read(bytes).ok_or("nil")?)
 }
 
-// A disk with the store of a new replica.
-fn new_disk(alloc: Global, last: u8) -> Result<MemDisk, Fail> {
-    let disk = MemDisk::new(alloc, 65_536, 1_024)?;
+// A disk with the store of a new replica, for a file of so many bytes and so many calls.
+pub(crate) fn new_disk(
+    alloc: Global,
+    last: u8,
+    room: usize,
+    calls: usize,
+) -> Result<MemDisk, Fail> {
+    let disk = MemDisk::new(alloc, room, calls)?;
     match Store::init(alloc, disk, replica(last)?) {
         Ok(store) => Ok(store.into_disk()),
         Err(_) => Err("init")?,
     }
 }
 
-fn open<D: Disk + Drop>(alloc: Global, disk: D) -> Result<Hub<D>, Fail> {
+// One for a few small commits.
+fn small_disk(alloc: Global, last: u8) -> Result<MemDisk, Fail> {
+    new_disk(alloc, last, 65_536, 1_024)
+}
+
+pub(crate) fn open<D: Disk + Drop>(alloc: Global, disk: D) -> Result<Hub<D>, Fail> {
     match Hub::open(alloc, disk) {
         Ok(hub) => Ok(hub),
         Err(_) => Err("open")?,
@@ -76,7 +86,7 @@ fn phases(alloc: Global, replies: &[HubReply]) -> Result<Vec<Phase>, Fail> {
 
 // A hub with "a" settled.
 fn with_first(alloc: Global) -> Result<Hub<MemDisk>, Fail> {
-    let mut hub = open(alloc, new_disk(alloc, 1)?)?;
+    let mut hub = open(alloc, small_disk(alloc, 1)?)?;
     let mut steps = commit_of(alloc, 0, 'a', 7)?;
     steps.push(HubStep::Settle)?;
     made(alloc, &mut hub, &steps)?;
@@ -93,7 +103,7 @@ fn crashed(alloc: Global, hub: Hub<MemDisk>, fate: Fate) -> Result<Hub<MemDisk>,
 #[test]
 fn commits_make_their_calls_in_order(rt: HostRuntime) -> Result<(), Fail> {
     let alloc = rt.alloc();
-    let mut hub = open(alloc, new_disk(alloc, 1)?)?;
+    let mut hub = open(alloc, small_disk(alloc, 1)?)?;
     let mut steps = commit_of(alloc, 0, 'a', 8)?;
     steps.push(HubStep::Settle)?;
     steps.push(HubStep::Ack(Ticket { end: 1, rev: 1 }))?;
@@ -199,7 +209,7 @@ fn told_twice(alloc: Global, clock: &Clock) -> Result<Vec<HubStep>, Fail> {
 #[test]
 fn what_is_told_is_merged_once(rt: HostRuntime) -> Result<(), Fail> {
     let alloc = rt.alloc();
-    let mut hub = open(alloc, new_disk(alloc, 2)?)?;
+    let mut hub = open(alloc, small_disk(alloc, 2)?)?;
     made(alloc, &mut hub, &commit_of(alloc, 0, 'b', 0)?)?;
     let merges = told_twice(alloc, hub.clock())?;
     let replies = made(alloc, &mut hub, &merges)?;

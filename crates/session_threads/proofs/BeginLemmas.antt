@@ -5,7 +5,8 @@ use Rattle.op_model.specs.Machine.{State, Event, Answer, begin, begun, nothing_n
 use Rattle.locked_replica.specs.Calls.{IsCall}
 use Rattle.locked_replica.specs.Hub.{Parts, state_of}
 use Rattle.session_threads.specs.declared.begun.Begun.TheVariants.{UnderWay, Settled, Refused}
-use Rattle.session_threads.specs.HubCalls.{IsQuiet, IsOfCommit, AreOfCommit, AreTimes, Calls, CommitCalls, CannotSettle, Begins, with_begun}
+use Rattle.locked_replica.specs.Run.{Calls}
+use Rattle.session_threads.specs.HubCalls.{IsQuiet, IsOfCommit, AreOfCommit, AreTimes, CommitCalls, CannotSettle, Begins, with_begun}
 use Rattle.session_threads.proofs.CallLemmas.{Calls-append, one_call, more_calls}
 use Rattle.session_threads.proofs.CommitLemmas.{state_begun, nothing_new_settled, begin_refused}
 

@@ -4,7 +4,8 @@ use Rattle.disk_trait.specs.declared.facts.DiskFacts.{Ghosts}
 use Rattle.op_model.specs.Machine.{Event, Answer}
 use Rattle.locked_replica.specs.Calls.{IsCall}
 use Rattle.locked_replica.specs.Hub.{Parts}
-use Rattle.session_threads.specs.HubCalls.{Calls, CommitCalls, IsOfCommit, AreOfCommit}
+use Rattle.locked_replica.specs.Run.{Calls}
+use Rattle.session_threads.specs.HubCalls.{CommitCalls, IsOfCommit, AreOfCommit}
 
 pub AreOfCommit-append : (xs ys : List (Event × Answer)) → AreOfCommit xs → AreOfCommit ys → AreOfCommit (xs ++ ys)
 AreOfCommit-append [] ys first rest = rest

@@ -1,9 +1,11 @@
 pub mod BeginLemmas
 pub mod CallLemmas
+pub mod CallsLeft
 pub mod CommitLemmas
 pub mod EditLemmas
 pub mod ExchangeLemmas
 pub mod FeedLemmas
+pub mod FewerLemmas
 pub mod GoLemmas
 pub mod LineLemmas
 pub mod OutcomeLemmas

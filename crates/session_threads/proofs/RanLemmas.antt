@@ -4,9 +4,8 @@ use Rattle.disk_trait.specs.Calls.{IsLawful}
 use Rattle.disk_trait.specs.declared.facts.DiskFacts.{Ghosts}
 use Rattle.op_model.specs.Machine.{Event, Answer}
 use Rattle.locked_replica.specs.Hub.{Parts}
-use Rattle.locked_replica.specs.Run.{Ran}
+use Rattle.locked_replica.specs.Run.{Ran, Calls}
 use Rattle.locked_replica.proofs.RunLemmas.{ran_more}
-use Rattle.session_threads.specs.HubCalls.{Calls}
 
 -- a run with the calls that follow it
 pub ran_calls : {D : Type 0} (facts : Ghosts D) → ((disk : D) → facts.tells disk → IsLawful facts disk)

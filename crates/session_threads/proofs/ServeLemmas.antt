@@ -10,7 +10,8 @@ use Rattle.session_lines.specs.declared.answer.Answer.{Answer}
 use Rattle.session_lines.specs.declared.answer.Answer.TheVariants.{Edited, Text, Spans, Status, Stopped, Done, Refused}
 use Rattle.session_lines.specs.declared.refusal.Refusal.{Refusal}
 use Rattle.session_lines.specs.declared.refusal.Refusal.TheVariants.{Failed}
-use Rattle.session_threads.specs.HubCalls.{IsQuiet, Calls, Commits, is_edit_refusal}
+use Rattle.locked_replica.specs.Run.{Calls}
+use Rattle.session_threads.specs.HubCalls.{IsQuiet, Commits, is_edit_refusal}
 use Rattle.session_threads.specs.HubServing.{session, AnswersEdit, AnswersTicket}
 use Rattle.session_threads.proofs.CallLemmas.{Calls-append, one_call}
 use Rattle.session_threads.proofs.EditLemmas.{edit_refusals, ticket_ends, edit_is_quiet, refused_is_quiet, acknowledges, ack_is_quiet}

@@ -2,8 +2,8 @@
 use Rattle.std.specs.Prelude.{◌≡◌, ◌⊎◌, ℕ, ◌-◌, ◌^◌, ◌≤◌, ◌==◌, ◌||◌, Bool, true, false, List, [], ◌∷◌, ◌++◌, length, Option, Some, None, ⊤}
 use Rattle.disk_trait.specs.declared.facts.DiskFacts.{Ghosts}
 use Rattle.op_model.specs.Machine.{State, Event, Answer, edit, merge, begin, device_step, settle, ack, tell, have, refused, is_under_way, through, Commit}
-use Rattle.locked_replica.specs.Calls.{IsCall}
 use Rattle.locked_replica.specs.Hub.{Parts, state_of}
+use Rattle.locked_replica.specs.Run.{Calls}
 use Rattle.session_threads.specs.declared.begun.Begun.{Begun}
 use Rattle.session_threads.specs.declared.begun.Begun.TheVariants.{UnderWay, Settled, Refused}
 
@@ -57,15 +57,10 @@ abbrev pub with_through : State → State
 with_through s = record s { commit = through s.commit }
 
 module _ {D : Type 0} (facts : Ghosts D) where
-  -- these calls were made, one after another, each with its answer
-  abbrev pub Calls : Parts D → List (Event × Answer) → Parts D → Type 0
-  Calls old [] new = new ≡ old
-  Calls old (e ∷ es) new = (between : Parts D) × IsCall facts e.0 e.1 old between × Calls between es new
-
   -- calls of a commit alone
   pub record CommitCalls (old new : Parts D) : Type 0 where
     pub events : List (Event × Answer)
-    pub calls : Calls old events new
+    pub calls : Calls facts old events new
     pub only : AreOfCommit events
 
   -- how a begin ends: a commit is begun, all was settled, or there is none

@@ -16,7 +16,8 @@ use Rattle.session_lines.specs.declared.answer.State.TheVariants as state
 use Rattle.session_lines.specs.declared.refusal.Refusal.{Refusal}
 use Rattle.session_lines.specs.declared.refusal.Refusal.TheVariants.{Memory, Failed, Stopping}
 use Rattle.session_threads.specs.HeldDesk.{HeldDesk}
-use Rattle.session_threads.specs.HubCalls.{Calls, AreOfCommit, CannotSettle, Commits}
+use Rattle.locked_replica.specs.Run.{Calls}
+use Rattle.session_threads.specs.HubCalls.{AreOfCommit, CannotSettle, Commits}
 
 -- the session that the steps of a hub held alone are of
 abbrev pub session : ℕ
@@ -97,13 +98,13 @@ module _ {D : Type 0} (facts : Ghosts D) where
   ]
 
   -- a stop is answered where all is settled, or as failed
-  abbrev pub AnswerToStop : Bool → Answer
-  AnswerToStop true = Stopped
-  AnswerToStop false = Refused Failed
+  abbrev pub answer_to_stop : Bool → Answer
+  answer_to_stop true = Stopped
+  answer_to_stop false = Refused Failed
 
   abbrev pub ServesStop : HeldDesk D → Answer → HeldDesk D → Type 0
   ServesStop old answer new =
-      (is_settled : Bool) × (answer ≡ AnswerToStop is_settled)
+      (is_settled : Bool) × (answer ≡ answer_to_stop is_settled)
       × Commits facts old.hub is_settled new.hub × (new.stopping ≡ true)
 
   -- what is answered to a command, and what the desk is then

@@ -1,4 +1,3 @@
-pub mod CallsLeft
 pub mod Exchanges
 pub mod Faults
 pub mod Held

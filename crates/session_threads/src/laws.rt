@@ -2,8 +2,7 @@
 ghost use Rattle.std.specs.Prelude.{List};
 ghost use Rattle.op_model.specs.Machine.{Event, Answer};
 ghost use Rattle.locked_replica.specs.Hub.{Parts};
-ghost use Rattle.locked_replica.specs.Run.{Ran};
-ghost use Rattle.session_threads.specs.HubCalls.{Calls};
+ghost use Rattle.locked_replica.specs.Run.{Calls, Ran};
 
 use disk_trait::Disk;
 use locked_replica::Hub;

@@ -2,7 +2,8 @@
 use Rattle.std.proofs.Common.{◌≡◌, List}
 use Rattle.op_model.specs.Machine.{Event, Answer, begin, refused}
 use Rattle.locked_replica.specs.Hub.{state_of}
-use Rattle.session_threads.specs.HubCalls.{Calls, AreTimes}
+use Rattle.locked_replica.specs.Run.{Calls}
+use Rattle.session_threads.specs.HubCalls.{AreTimes}
 use Rattle.session_threads.proofs.committing.begin.Given as goal
 
 abbrev pub invariant-loop : goal.invariant-loop

@@ -1,4 +1,6 @@
-use Rattle.std.proofs.Common.{◌≡◌, true, false}
+use Rattle.std.proofs.Common.{◌≡◌, true, false, ap, ◌∙◌}
+use Rattle.op_model.specs.Machine.{is_under_way}
+use Rattle.session_threads.proofs.FewerLemmas.{is_working, fewer_left}
 use Rattle.session_threads.proofs.GoLemmas.{gone_through, gone_on, gone_wrong}
 use Rattle.session_threads.proofs.committing.go_through.Goals as goal
 
@@ -16,3 +18,9 @@ loop-phase-preserved g c =
 pub returns-in-Err : goal.returns-in-Err
 returns-in-Err g c =
     gone_wrong g.D.DiskFacts _ _ _ c.loop-phase.invariant.0 c.loop-phase.invariant.1 _ c.requires.works c.in-Err.ensures.call
+
+pub loop-phase-smaller : goal.loop-phase-smaller
+loop-phase-smaller g c =
+    fewer_left c.loop-phase.hub.store c.device_step.new.self.store
+    (is_working c.loop-phase.hub.replica c.loop-phase.hub.store (ap (λ s. is_under_way s.commit) c.loop-phase.invariant.1 ∙ c.requires.under_way))
+    (c.in-Ok.ensures.went_on (ap (λ s. s.failed) c.loop-phase.invariant.1 ∙ c.requires.works))

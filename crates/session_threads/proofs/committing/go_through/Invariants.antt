@@ -1,7 +1,7 @@
 -- The device calls so far left the machine's state, and fewer are left.
 use Rattle.std.proofs.Common.{◌≡◌}
 use Rattle.locked_replica.specs.Hub.{state_of}
-use Rattle.session_threads.specs.CallsLeft.{calls_left}
+use Rattle.session_threads.proofs.CallsLeft.{calls_left}
 use Rattle.session_threads.specs.HubCalls.{CommitCalls}
 use Rattle.session_threads.proofs.committing.go_through.Given as goal
 

@@ -1,0 +1,176 @@
+use crate::Hub;
+use crate::tests::{new_disk, open};
+use disk_trait::MemDisk;
+use group_commit::Phase;
+use op_model::{Change, Edit, EditText};
+use std::alloc::Global;
+use std::num::NonZeroU32;
+use std::test::Fail;
+
+/// The calls of a disk, and the bytes of its file, that the test needs at most.
+const CALLS: usize = 200_000;
+
+const ROOM: usize = 1_048_576;
+
+/// Numbers that look random, each time the same ones.
+#[derive(Drop)]
+struct Draws {
+    state: u64,
+}
+
+impl Draws {
+    /// The next number, below this one.
+    fn below(&mut self, end: usize) -> usize {
+        let product = self.state.wrapping_mul(1_103_515_245);
+        self.state = product.wrapping_add(12_345) % 2_147_483_648;
+        if end == 0 {
+            return 0;
+        }
+        (self.state / 65_536) as usize % end
+    }
+}
+
+/// Three hubs of different replicas.
+#[derive(Drop)]
+struct Peers {
+    a: Hub<MemDisk>,
+    b: Hub<MemDisk>,
+    c: Hub<MemDisk>,
+}
+
+fn new_peers(alloc: Global) -> Result<Peers, Fail> {
+    Ok(Peers {
+        a: open(alloc, new_disk(alloc, 1, ROOM, CALLS)?)?,
+        b: open(alloc, new_disk(alloc, 2, ROOM, CALLS)?)?,
+        c: open(alloc, new_disk(alloc, 3, ROOM, CALLS)?)?,
+    })
+}
+
+/// One or two characters.
+fn letters(alloc: Global, draws: &mut Draws) -> Result<EditText, Fail> {
+    let mut text = Vec::new(alloc);
+    text.push('a')?;
+    if draws.below(2) == 0 {
+        text.push('b')?;
+    }
+    Ok(EditText::new(text).ok_or("a text")?)
+}
+
+/// A removal of a character, or an insert, of a document with so many characters.
+fn change(alloc: Global, draws: &mut Draws, long: usize) -> Result<Change, Fail> {
+    if long > 0 && draws.below(3) == 0 {
+        return Ok(Change::Delete {
+            at: draws.below(long) as u32,
+            count: NonZeroU32::MIN,
+        });
+    }
+    Ok(Change::Insert {
+        at: draws.below(long + 1) as u32,
+        text: letters(alloc, draws)?,
+    })
+}
+
+fn edit(alloc: Global, hub: &mut Hub<MemDisk>, draws: &mut Draws) -> Result<(), Fail> {
+    let long = hub.text(1)?.as_slice().len();
+    let edit = Edit {
+        doc: 1,
+        rev: None,
+        change: change(alloc, draws, long)?,
+    };
+    match hub.edit(1, &edit) {
+        Ok(_) => Ok(()),
+        Err(_) => Err("edit".into()),
+    }
+}
+
+/// Commits all that a hub has, where something isn't settled.
+fn commit(hub: &mut Hub<MemDisk>) -> Result<(), Fail> {
+    if let Ok(Some(_)) = hub.begin() {
+        while let Ok(phase) = hub.device_step() {
+            if phase == Phase::Sync3 {
+                return match hub.settle() {
+                    Ok(_) => Ok(()),
+                    Err(_) => Err("settle".into()),
+                };
+            }
+        }
+        return Err("device".into());
+    }
+    Ok(())
+}
+
+/// What one hub has settled and another one doesn't count is merged there, 64 operations at most. Gives how many.
+fn merge(from: &mut Hub<MemDisk>, to: &mut Hub<MemDisk>) -> Result<usize, Fail> {
+    commit(from)?;
+    let ops = match from.tell(to.clock()) {
+        Ok(ops) => ops,
+        Err(_) => return Err("tell".into()),
+    };
+    let count = ops.len();
+    for op in ops {
+        if to.merge(2, op).is_err() {
+            return Err("merge".into());
+        }
+    }
+    Ok(count)
+}
+
+/// One of the six ways from one hub to another.
+fn merge_one_way(peers: &mut Peers, way: usize) -> Result<usize, Fail> {
+    match way {
+        0 => merge(&mut peers.a, &mut peers.b),
+        1 => merge(&mut peers.b, &mut peers.a),
+        2 => merge(&mut peers.a, &mut peers.c),
+        3 => merge(&mut peers.c, &mut peers.a),
+        4 => merge(&mut peers.b, &mut peers.c),
+        _ => merge(&mut peers.c, &mut peers.b),
+    }
+}
+
+/// An edit of one hub, or merges into it.
+fn event(alloc: Global, peers: &mut Peers, draws: &mut Draws) -> Result<(), Fail> {
+    match draws.below(5) {
+        0 => edit(alloc, &mut peers.a, draws),
+        1 => edit(alloc, &mut peers.b, draws),
+        2 => edit(alloc, &mut peers.c, draws),
+        _ => {
+            let way = draws.below(6);
+            merge_one_way(peers, way)?;
+            Ok(())
+        }
+    }
+}
+
+/// Merges all ways until no hub has anything to tell.
+fn merge_all(peers: &mut Peers) -> Result<(), Fail> {
+    for _ in 0..1_000 {
+        let mut count = 0usize;
+        for way in 0..6 {
+            count = count.saturating_add(merge_one_way(peers, way)?);
+        }
+        if count == 0 {
+            return Ok(());
+        }
+    }
+    Err("no end".into())
+}
+
+/// Whether two hubs show the same.
+fn is_same(one: &Hub<MemDisk>, other: &Hub<MemDisk>) -> Result<bool, Fail> {
+    let is_same_text = one.text(1)?.as_slice() == other.text(1)?.as_slice();
+    Ok(is_same_text && one.rev(1) == other.rev(1) && one.clock() == other.clock())
+}
+
+#[test]
+fn hubs_that_merged_all_show_the_same(rt: HostRuntime) -> Result<(), Fail> {
+    let alloc = rt.alloc();
+    let mut peers = new_peers(alloc)?;
+    let mut draws = Draws { state: 1 };
+    for _ in 0..2_000 {
+        event(alloc, &mut peers, &mut draws)?;
+    }
+    merge_all(&mut peers)?;
+    assert!(rt; is_same(&peers.a, &peers.b)? && is_same(&peers.b, &peers.c)?);
+    assert!(rt; peers.a.rev(1) > 1_000);
+    Ok(())
+}

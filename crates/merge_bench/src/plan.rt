@@ -1,0 +1,86 @@
+//! What is measured.
+
+use crate::place::Place;
+use op_ids::ReplicaId;
+use op_model::{Change, Edit, EditText, Op};
+use replica_core::Replica;
+use std::alloc::Global;
+
+/// The characters of an edit, at most.
+const MOST: u32 = 256;
+
+/// One replica types `count` characters into document 1, and then makes `edits` inserts of one character at a place. Another one
+/// has the first `count` operations, and merges `merges` of those behind them.
+#[derive(Drop)]
+pub struct Plan {
+    count: u32,
+    place: Place,
+    edits: u32,
+    merges: usize,
+}
+
+impl Plan {
+    /// The plan of a line `COUNT PLACE EDITS MERGES`.
+    pub fn read(line: &str) -> Option<Plan> {
+        let mut words = line.split_whitespace();
+        Some(Plan {
+            count: words.next()?.parse().ok()?,
+            place: Place::read(words.next()?)?,
+            edits: words.next()?.parse().ok()?,
+            merges: words.next()?.parse().ok()?,
+        })
+    }
+
+    /// Goes through with it, and gives how many operations the other replica has then; `None` where something is refused.
+    pub fn run(&self, alloc: Global) -> Option<usize> {
+        let mut one = typed(alloc, self.count)?;
+        for number in 0..self.edits {
+            let at = self.place.at(number, self.count.saturating_add(number));
+            insert(alloc, &mut one, at, 1)?;
+        }
+        let (first, rest) = one.list().split_at_checked(self.count as usize)?;
+        let mut other = with_list(alloc, first)?;
+        for op in rest.iter().take(self.merges) {
+            other.merge(1, op.copy().ok()?).ok()?;
+        }
+        Some(other.list().len())
+    }
+}
+
+/// The replica whose id ends in this byte.
+fn id(last: u8) -> Option<ReplicaId> {
+    ReplicaId::read([0, 0, 0, 0, 0, 0, 0x40, 0, 0x80, 0, 0, 0, 0, 0, 0, last])
+}
+
+/// A replica that typed so many characters.
+fn typed(alloc: Global, count: u32) -> Option<Replica> {
+    let mut replica = Replica::new(alloc, id(1)?);
+    let mut at = 0;
+    while at < count {
+        let more = MOST.min(count - at);
+        insert(alloc, &mut replica, at, more)?;
+        at += more;
+    }
+    Some(replica)
+}
+
+/// Inserts so many characters.
+fn insert(alloc: Global, replica: &mut Replica, at: u32, count: u32) -> Option<()> {
+    let text = EditText::new(Vec::from_elem(alloc, 'a', count as usize).ok()?)?;
+    let edit = Edit {
+        doc: 1,
+        rev: None,
+        change: Change::Insert { at, text },
+    };
+    replica.edit(1, &edit).ok()?;
+    Some(())
+}
+
+/// The second replica with these operations.
+fn with_list(alloc: Global, ops: &[Op]) -> Option<Replica> {
+    let mut list = Vec::new(alloc);
+    for op in ops {
+        list.push(op.copy().ok()?).ok()?;
+    }
+    Replica::from_list(alloc, id(2)?, list).ok()
+}
