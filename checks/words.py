@@ -15,9 +15,9 @@ def slot(version, stream=0, operations=0, tables=(), gate=1):
     return (head + b"".join(n.to_bytes(4, "big") for n in tables)).ljust(PAGE, b"\0")
 
 
-def record(counter, deps, origin, value):
-    """The record of an insert of the replica into document 1."""
-    body = b"\1" + (1).to_bytes(4, "big") + counter.to_bytes(8, "big") + NAME + bytes([1 if deps else 0])
+def record(counter, deps, origin, value, doc=1):
+    """The record of an insert of the replica into a document."""
+    body = b"\1" + doc.to_bytes(4, "big") + counter.to_bytes(8, "big") + NAME + bytes([1 if deps else 0])
     body += NAME + deps.to_bytes(8, "big") if deps else b""
     body += b"\1" + origin.to_bytes(8, "big") + NAME if origin else b"\0"
     body += ord(value).to_bytes(4, "big")

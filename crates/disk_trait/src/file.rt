@@ -20,6 +20,8 @@ use std::rt::Files;
 #[derive(Drop)]
 pub struct FileDisk {
     file: File,
+    // The file has at least so many bytes: as many as were seen, since nobody else writes it.
+    inside: u64,
 }
 
 impl FileDisk {
@@ -29,7 +31,7 @@ impl FileDisk {
         ensures { IfErr result (λ e. e ≡ OpenFailed) }
     {
         match OpenOptions::new().read(true).write(true).open(rt, path) {
-            Ok(file) => Ok(FileDisk { file }),
+            Ok(file) => Ok(FileDisk { file, inside: 0 }),
             Err(_) => Err(DiskError::OpenFailed),
         }
     }
@@ -40,9 +42,15 @@ impl FileDisk {
         ensures { IfErr result (λ e. e ≡ OpenFailed) }
     {
         match open_or_make(rt, path) {
-            Ok(file) => Ok(FileDisk { file }),
+            Ok(file) => Ok(FileDisk { file, inside: 0 }),
             Err(_) => Err(DiskError::OpenFailed),
         }
+    }
+
+    /// Whether the file has so many bytes. It is asked only where that isn't known. Refuses with
+    /// 50 where the file can't tell.
+    fn reaches(&mut self, end: u64) -> Result<bool, DiskError> {
+        Ok(end <= self.inside || end <= self.size()?)
     }
 }
 
@@ -81,15 +89,19 @@ impl DiskFacts for FileDisk {
 impl Disk for FileDisk {
     fn size(&mut self) -> Result<u64, DiskError> {
         match self.file.metadata() {
-            Ok(found) => Ok(found.len()),
+            Ok(found) => {
+                self.inside = found.len();
+                Ok(self.inside)
+            }
             Err(_) => Err(DiskError::ReadFailed),
         }
     }
 
     fn read_at(&mut self, pos: u64, bytes: &mut [u8]) -> Result<(), DiskError> {
-        let size = self.size()?;
-        if pos > size || bytes.len() as u64 > size - pos {
-            return Err(DiskError::PastEnd);
+        match self.reaches(pos.saturating_add(bytes.len() as u64)) {
+            Ok(true) => {}
+            Ok(false) => return Err(DiskError::PastEnd),
+            Err(_) => return Err(DiskError::ReadFailed),
         }
         match self.file.read_exact_at(bytes, pos) {
             Ok(()) => Ok(()),
@@ -98,13 +110,16 @@ impl Disk for FileDisk {
     }
 
     fn write_at(&mut self, pos: u64, bytes: &[u8]) -> Result<(), DiskError> {
-        match self.size() {
-            Ok(size) if pos > size => return Err(DiskError::PastEnd),
-            Ok(_) => {}
+        match self.reaches(pos) {
+            Ok(true) => {}
+            Ok(false) => return Err(DiskError::PastEnd),
             Err(_) => return Err(DiskError::WriteFailed),
         }
         match self.file.write_all_at(bytes, pos) {
-            Ok(()) => Ok(()),
+            Ok(()) => {
+                self.inside = self.inside.max(pos.saturating_add(bytes.len() as u64));
+                Ok(())
+            }
             Err(_) => Err(DiskError::WriteFailed),
         }
     }

@@ -1,5 +1,5 @@
 -- What the calls of a store that keeps its rules do, phase by phase, and which slot is live.
-use Rattle.std.proofs.Common.{◌≡◌, ◌≢◌, ℕ, Bool, ◌-◌, ◌*◌, ◌<◌, List, [], ◌∷◌, refl, sym, ap, ◌∙◌, arith, Result, Ok, OnOk}
+use Rattle.std.proofs.Common.{◌≡◌, ◌≢◌, ℕ, Bool, ◌-◌, ◌*◌, ◌<◌, ◌≤◌, List, [], ◌∷◌, length, refl, sym, ap, ◌∙◌, arith, Result, Ok, OnOk}
 use Rattle.disk_trait.specs.Calls.{IsLawful, Tears}
 use Rattle.disk_trait.specs.File.{overwritten}
 use Rattle.disk_trait.specs.declared.facts.DiskFacts.{Ghosts}
@@ -24,6 +24,11 @@ module _ {D : Type 0} (facts : Ghosts D) where
   reads_one held numbers fresh sound is tells lawful =
       one_in_close held.phase held.slot held.stale held.current held.next (facts.content held.disk) is
       (sound.stands tells (facts.content held.disk) lawful.reads_survive)
+
+  -- both slots lie whole in the file as it reads
+  pub slots_whole : (held : Held D) (slot : ℕ) (numbers fresh : List ℕ) → IsSound facts held slot numbers fresh → facts.tells held.disk → IsLawful facts held.disk
+      → 8192 ≤ length (facts.content held.disk)
+  slots_whole held slot numbers fresh sound tells lawful = (sound.stands tells (facts.content held.disk) lawful.reads_survive).whole
 
   -- between two commits the live slot of each survivor is the store's
   pub live_idle : (held : Held D) (slot : ℕ) (numbers fresh : List ℕ) → IsSound facts held slot numbers fresh → held.phase ≡ Idle → facts.tells held.disk

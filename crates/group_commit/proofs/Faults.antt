@@ -1,8 +1,13 @@
 -- Which refusal names which fault.
 use Rattle.std.proofs.Common.{◌≡◌, ◌≢◌, ◌⊎◌, ℕ, List, refl, sym, ap, ◌∙◌, inl, inr, Result, Ok, Err}
-use Rattle.group_commit.specs.Loading.{Names, IsFirstFault, HasNoHistory, HasNone, failures_of}
+use Rattle.group_commit.specs.Loading.{Names, IsFirstFault, HasNoHistory, HasNone, failures_of, of_roots}
 use Rattle.group_commit.specs.Image.{stored}
 use Rattle.root_slots.specs.Root.{count_of}
+use Rattle.root_slots.specs.Live.{live_root}
+use Rattle.root_slots.specs.Faults.{Names as NamesRoot, failures_of as failures_of_roots}
+use Rattle.root_slots.specs.declared.error.RootsError.{RootsError}
+use Rattle.root_slots.specs.declared.error.RootsError.TheVariants.{Memory as RootsMemory, NoRoot as RootsNone, BadRoot as RootsBad, ReadFailed as RootsReadFailed}
+use Rattle.group_commit.proofs.SlotReads.{no_root_stored}
 use Rattle.group_commit.specs.declared.open_fault.OpenError.{OpenError}
 use Rattle.group_commit.specs.declared.open_fault.OpenError.TheVariants.{Memory, NoRoot, BadRoot, BadTable, BadStream, ReadFailed, SyncFailed}
 
@@ -21,12 +26,20 @@ pub names_nothing : {A : Type 0} (e : OpenError) (r : Result A ℕ) → (e ≡ M
 names_nothing e r (inl is) = rw is tt
 names_nothing e r (inr is) = rw is tt
 
--- what names a fault of a slot hasn't met a failure of the device
-pub quiet_slot : (e : OpenError) → (e ≡ Memory) ⊎ (e ≡ NoRoot) ⊎ (e ≡ BadRoot) → failures_of e ≡ 0
-quiet_slot e (inl is) = rw is refl
-quiet_slot e (inr (inl is)) = rw is refl
-quiet_slot e (inr (inr is)) = rw is refl
+-- a refusal of the root slots names the file's first fault, and meets as many failures
+pub names_stored : (e : RootsError) (file : List ℕ) → NamesRoot e (live_root file) → Names (of_roots e) (stored file)
+names_stored RootsMemory file named = tt
+names_stored RootsNone file named = no_root_stored file 42 named
+names_stored RootsBad file named = no_root_stored file 43 named
+names_stored RootsReadFailed file named = tt
 
+pub failures_same : (e : RootsError) → failures_of (of_roots e) ≡ failures_of_roots e
+failures_same RootsMemory = refl
+failures_same RootsNone = refl
+failures_same RootsBad = refl
+failures_same RootsReadFailed = refl
+
+-- what names a fault of the records hasn't met a failure of the device
 pub quiet_ops : (e : OpenError) → (e ≡ Memory) ⊎ (e ≡ BadStream) → failures_of e ≡ 0
 quiet_ops e (inl is) = rw is refl
 quiet_ops e (inr is) = rw is refl

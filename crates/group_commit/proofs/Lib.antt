@@ -8,7 +8,6 @@ pub mod Frame
 pub mod ImageReads
 pub mod Inside
 pub mod KeptLemmas
-pub mod Looking
 pub mod ManyPages
 pub mod NewFileLemmas
 pub mod OneSpelling

@@ -10,7 +10,7 @@ use Rattle.page_file.specs.Pages.{is_zero, are_pages, numbers}
 use Rattle.root_slots.specs.Root.{is_root, magic_of, magic, version_of, replica_of, stream_length_of, count_of, table_count, gap_of, tables_of, data_count, pages_for}
 use Rattle.root_slots.specs.Body.{Root, root_of}
 use Rattle.root_slots.proofs.HeadLemmas.{length-tables, most_tables}
-use Rattle.group_commit.proofs.SlotReads.{small_part, small_take}
+use Rattle.root_slots.proofs.SlotReads.{small_part, small_take}
 
 abbrev Small : List ℕ → Type 0
 Small bytes = (i : ℕ) → get_or bytes i 0 < 256

@@ -1,128 +1,33 @@
--- The two slots, read at once.
-use Rattle.std.proofs.Common.{◌≡◌, ◌≢◌, ◌⊎◌, ℕ, zero, suc, ◌+◌, ◌-◌, ◌*◌, ◌<◌, ◌≤◌, Bool, true, false, not, ◌&&◌, ◌==◌, nat_lt, List, [], ◌∷◌, length, get_or, take, drop, refl, sym, ap, ◌∙◌, arith, Result, Ok, Err, if◌then◌else◌, inl, inr}
-use Rattle.std.proofs.lemmas.Bool.Decides.{nat_tests}
-use Rattle.std.proofs.lemmas.Bool.{le-ltb}
-use Rattle.std.proofs.lemmas.List.{take-take, drop-take, get_or-drop, length-take-le}
-use Rattle.disk_trait.specs.File.{part}
-use Rattle.page_file.specs.Pages.{pages, are_whole, is_zero, are_pages, joined}
-use Rattle.root_slots.specs.Root.{is_root, version_of}
-use Rattle.root_slots.specs.Body.{Root, Spells}
-use Rattle.root_slots.specs.Slots.{first_byte, gate, body, picked, live}
-use Rattle.group_commit.specs.Image.{entries, named, are_tables, stream_in, tables_in, stream, in_slot, with_stream, stored}
-use Rattle.group_commit.specs.Loading.{IsLive, rooted, root_at, live_root}
-
--- a part of the beginning of a file
-part_first : (file : List ℕ) (at n more all : ℕ) → all ≡ at + more → n ≤ more → part (part file 0 all) at n ≡ part file at n
-part_first file at n more all same fits =
-    ap (λ k. take n (drop at (take k file))) same ∙ ap (take n) (drop-take at more file) ∙ take-take n more (drop at file) fits
-
-pub gate_first : (file : List ℕ) (slot : ℕ) → slot < 2 → gate slot (part file 0 8192) ≡ gate slot file
-gate_first file slot below = ap first_byte (part_first file (4096 * slot) 1 (8192 - 4096 * slot) 8192 (omega (arith, below)) (omega (arith, below)))
-
-pub body_first : (file : List ℕ) (slot : ℕ) → slot < 2 → body slot (part file 0 8192) ≡ body slot file
-body_first file slot below = part_first file (4096 * slot + 8) 4088 (8192 - (4096 * slot + 8)) 8192 (omega (arith, below)) (omega (arith, below))
-
--- with both slots there, which one is live depends on them alone
-live_is : (file : List ℕ) → 8192 ≤ length file → live file ≡ picked (gate 0 file) (gate 1 file) (version_of (body 0 file)) (version_of (body 1 file))
-live_is file whole = rw (le-ltb _ _ whole) refl
-
-size_first : (file : List ℕ) (n : ℕ) → n ≤ length file → length (part file 0 n) ≡ n
-size_first file n whole = length-take-le n file whole
-
-pub live_first : (file : List ℕ) → 8192 ≤ length file → live (part file 0 8192) ≡ live file
-live_first file whole =
-    live_is (part file 0 8192) (omega (arith, size_first file 8192 whole))
-    ∙ ap (λ a. picked a (gate 1 (part file 0 8192)) (version_of (body 0 (part file 0 8192))) (version_of (body 1 (part file 0 8192)))) (gate_first file 0 (omega arith))
-    ∙ ap (λ a. picked (gate 0 file) a (version_of (body 0 (part file 0 8192))) (version_of (body 1 (part file 0 8192)))) (gate_first file 1 (omega arith))
-    ∙ ap (λ b. picked (gate 0 file) (gate 1 file) (version_of b) (version_of (body 1 (part file 0 8192)))) (body_first file 0 (omega arith))
-    ∙ ap (λ b. picked (gate 0 file) (gate 1 file) (version_of (body 0 file)) (version_of b)) (body_first file 1 (omega arith))
-    ∙ sym (live_is file whole)
-
--- so what is live in the slots is live in the file
-pub live_on : (file : List ℕ) (slot : ℕ) (stale : Bool) (head : Root) → 8192 ≤ length file → IsLive (part file 0 8192) slot stale head → IsLive file slot stale head
-live_on file slot stale head whole it =
-    record {
-      whole = whole;
-      below = it.below;
-      picked = sym (live_first file whole) ∙ it.picked;
-      other = it.other ∙ ap (λ b. b == 1) (gate_first file (1 - slot) (omega arith));
-      spells = rw (sym (body_first file slot it.below)) it.spells;
-      bytes = rw (sym (body_first file slot it.below)) it.bytes;
-    }
+-- A file without a live root has no stream either.
+use Rattle.std.proofs.Common.{◌≡◌, ℕ, Bool, true, false, List, refl, sym, ap, Result, Ok, Err, if◌then◌else◌}
+use Rattle.root_slots.specs.Root.{is_root}
+use Rattle.root_slots.specs.Slots.{body, live}
+use Rattle.root_slots.specs.Live.{root_at, live_root}
+use Rattle.group_commit.specs.Image.{in_slot, with_stream, stored, stream}
 
 -- the fault of a slot's body, or none
-at_root : (file : List ℕ) (n : ℕ) (found : Result ℕ ℕ) → ((slot : ℕ) → found ≡ Ok slot → slot < 2) → 8192 ≤ length file
-    → root_at (part file 0 8192) found ≡ Err n → in_slot file found ≡ Err n
-at_root file n (Err m) below whole is = by_error m n is
+at_root : (file : List ℕ) (n : ℕ) (found : Result ℕ ℕ) → root_at file found ≡ Err n → in_slot file found ≡ Err n
+at_root file n (Err m) is = ap (λ k. Err k) (ap number_in is)
   where
-    by_error : (m n : ℕ) → root_at (part file 0 8192) (Err m) ≡ Err n → in_slot file (Err m) ≡ Err n
-    by_error m n is = same m n (number is)
-      where
-        number_in : Result (List ℕ) ℕ → ℕ
-        number_in (Ok x) = 0
-        number_in (Err k) = k
-
-        number : root_at (part file 0 8192) (Err m) ≡ Err n → m ≡ n
-        number is = ap number_in is
-
-        same : (m n : ℕ) → m ≡ n → in_slot file (Err m) ≡ Err n
-        same m n eq = ap (λ k. Err k) eq
-at_root file n (Ok slot) below whole is =
-    by_body (is_root (body slot file)) refl
+    number_in : Result (List ℕ) ℕ → ℕ
+    number_in (Ok x) = 0
+    number_in (Err k) = k
+at_root file n (Ok slot) is = by_body (is_root (body slot file)) refl
   where
+    number_in : Result (List ℕ) ℕ → ℕ
+    number_in (Ok x) = 0
+    number_in (Err k) = k
+
     fault : (b : Bool) → (if b then Ok (body slot file) else Err 43) ≡ Err n → (b ≡ false) × (43 ≡ n)
     fault true eq = absurd cc
     fault false eq = (refl, ap number_in eq)
-      where
-        number_in : Result (List ℕ) ℕ → ℕ
-        number_in (Ok x) = 0
-        number_in (Err k) = k
 
-    there : rooted (body slot file) ≡ Err n
-    there = rw (body_first file slot (below slot refl)) at is
+    no : (true ≡ false) × (43 ≡ n) → ⊥
+    no p = absurd cc
 
     by_body : (b : Bool) → is_root (body slot file) ≡ b → in_slot file (Ok slot) ≡ Err n
-    by_body true eq = absurd (no (fault true (rw eq at there)))
-      where
-        no : (true ≡ false) × (43 ≡ n) → ⊥
-        no p = absurd cc
-    by_body false eq = rw (sym (fault false (rw eq at there)).1) (rw eq refl)
+    by_body true eq = absurd (no (fault true (rw eq at is)))
+    by_body false eq = rw (sym (fault false (rw eq at is)).1) (rw eq refl)
 
-pub no_root_stored : (file : List ℕ) (n : ℕ) → ((slot : ℕ) → live file ≡ Ok slot → slot < 2) → 8192 ≤ length file → live_root (part file 0 8192) ≡ Err n → stored file ≡ Err n
-no_root_stored file n below whole is =
-    at_root file n (live file) below whole (rw (live_first file whole) at is)
-
-pub few_bytes : (file : List ℕ) → length file < 8192 → stored file ≡ Err 42
-few_bytes file few = let test : nat_lt (length file) 8192 ≡ true = grind (arith, nat_tests) in rw test refl
-
--- a slot is 0 or 1
-pub live_below : (file : List ℕ) (slot : ℕ) → live file ≡ Ok slot → slot < 2
-live_below file slot is =
-    by_tests (nat_lt (length file) 8192) (gate 0 file == 1) (gate 1 file == 1)
-    (nat_lt (version_of (body 1 file)) (version_of (body 0 file))) (nat_lt (version_of (body 0 file)) (version_of (body 1 file))) is
-  where
-    tested : Bool → Bool → Bool → Bool → Bool → Result ℕ ℕ
-    tested s a b v w = if s then Err 42 else (if a then (if b then (if v then Ok 0 else if w then Ok 1 else Err 43) else Ok 0) else (if b then Ok 1 else Err 42))
-
-    slot_in : Result ℕ ℕ → ℕ
-    slot_in (Ok k) = k
-    slot_in (Err k) = 0
-
-    by_tests : (s a b v w : Bool) → tested s a b v w ≡ Ok slot → slot < 2
-    by_tests true a b v w is = absurd cc
-    by_tests false true true true w is = rw (sym (ap slot_in is)) (omega arith)
-    by_tests false true true false true is = rw (sym (ap slot_in is)) (omega arith)
-    by_tests false true true false false is = absurd cc
-    by_tests false true false v w is = rw (sym (ap slot_in is)) (omega arith)
-    by_tests false false true v w is = rw (sym (ap slot_in is)) (omega arith)
-    by_tests false false false v w is = absurd cc
-
--- bytes of bytes
-pub small_take : (n : ℕ) (bytes : List ℕ) → ((i : ℕ) → get_or bytes i 0 < 256) → (i : ℕ) → get_or (take n bytes) i 0 < 256
-small_take zero bytes small i = omega arith
-small_take (suc n) [] small i = omega arith
-small_take (suc n) (x ∷ bytes) small zero = small 0
-small_take (suc n) (x ∷ bytes) small (suc i) = small_take n bytes (λ k. small (suc k)) i
-
-pub small_part : (bytes : List ℕ) (at n : ℕ) → ((i : ℕ) → get_or bytes i 0 < 256) → (i : ℕ) → get_or (part bytes at n) i 0 < 256
-small_part bytes at n small = small_take n (drop at bytes) (λ i. rw (get_or-drop at bytes i 0) (small (at + i)))
+pub no_root_stored : (file : List ℕ) (n : ℕ) → live_root file ≡ Err n → stored file ≡ Err n
+no_root_stored file n is = at_root file n (live file) is

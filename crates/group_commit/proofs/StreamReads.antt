@@ -44,23 +44,3 @@ few_pages n t l most count size = omega (arith, most_tables n most, count, size,
   where
     data_most : (n : ℕ) → n ≤ 1073741824 → pages_for 4096 n ≤ 262144
     data_most n most = omega (arith, most)
-
--- a root body has the rules of its fields
-pub root_rules : (body : List ℕ) (head : Root) → Spells body head → IsRoot head
-root_rules body head spells =
-    let both = sym (root_is_head body) ∙ spells.valid in
-    let says = head_says body (first (is_head body) (is_rest body) both) in
-    let rest = second (is_head body) (is_rest body) both in
-    rw (sym spells.says) (record {
-      version = says.version;
-      stream = says.stream;
-      operations = says.operations;
-      tables = length-tables body ∙ says.tables;
-      pages = first (are_pages (tables_of body)) _ rest;
-    })
-  where
-    first : (a b : Bool) → (a && b) ≡ true → a ≡ true
-    first a b both = grind (arith, nat_tests)
-
-    second : (a b : Bool) → (a && b) ≡ true → b ≡ true
-    second a b both = grind (arith, nat_tests)

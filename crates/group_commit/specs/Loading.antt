@@ -1,13 +1,13 @@
 -- What a file is loaded as, what a refusal to load it says, and what loading does to the disk.
 use Rattle.std.specs.Prelude.{◌≡◌, ◌≢◌, ◌⊎◌, ℕ, ◌+◌, ◌-◌, ◌*◌, ◌<◌, ◌≤◌, ◌==◌, get_or, nat_le, Bool, true, not, ◌&&◌, if◌then◌else◌, List, [], ◌∷◌, ◌++◌, length, take, drop, Result, Ok, Err, ⊤}
-use Rattle.disk_trait.specs.Calls.{LeavesOnly}
-use Rattle.disk_trait.specs.declared.facts.DiskFacts.{Ghosts}
 use Rattle.op_model.specs.declared.op.Op.{Op}
 use Rattle.change_codec.specs.Stream.{spelled_all, AreOperations}
 use Rattle.page_file.specs.Pages.{pages, are_whole, is_zero, are_pages, joined}
 use Rattle.root_slots.specs.Root.{replica_of, count_of, is_root, pages_for}
-use Rattle.root_slots.specs.Body.{Root, Spells}
-use Rattle.root_slots.specs.Slots.{gate, body, live}
+use Rattle.root_slots.specs.Body.{Root}
+pub use Rattle.root_slots.specs.Looks.{OnlyLooks}
+use Rattle.root_slots.specs.declared.error.RootsError.{RootsError}
+use Rattle.root_slots.specs.declared.error.RootsError.TheVariants.{Memory as RootsMemory, NoRoot as RootsNone, BadRoot as RootsBad, ReadFailed as RootsReadFailed}
 use Rattle.group_commit.specs.Saved.{Saved}
 use Rattle.group_commit.specs.Image.{stored, entries}
 use Rattle.group_commit.specs.declared.open_fault.OpenError.{OpenError}
@@ -32,6 +32,13 @@ failures_of BadTable = 0
 failures_of BadStream = 0
 failures_of ReadFailed = 1
 failures_of SyncFailed = 1
+
+-- a refusal of the root slots is one of the file
+abbrev pub of_roots : RootsError → OpenError
+of_roots RootsMemory = Memory
+of_roots RootsNone = NoRoot
+of_roots RootsBad = BadRoot
+of_roots RootsReadFailed = ReadFailed
 
 -- what a call that answers so has met
 abbrev pub failed_in : {T : Type 0} → Result T OpenError → ℕ
@@ -69,37 +76,6 @@ Names SyncFailed found = ⊤
 -- this refusal names the first fault of the file
 abbrev pub IsFirstFault : OpenError → List ℕ → Type 0
 IsFirstFault error file = Names error (stored file) ⊎ ((error ≡ BadStream) × HasNoHistory file)
-
--- Calls that write nothing, of which so many failed and so many are syncs: reads give the same, and a crash at any moment of
--- them leaves a file that it could leave before.
-pub record OnlyLooks {D : Type 0} (facts : Ghosts D) (more_failures more_syncs : ℕ) (old new : D) : Type 0 where
-  pub same : facts.content new ≡ facts.content old
-  pub no_more : (c : List ℕ) → facts.survives new c → facts.survives old c
-  pub moments : LeavesOnly facts old new (facts.survives old)
-  pub failures : facts.failures new ≡ facts.failures old + more_failures
-  pub writes : facts.writes new ≡ facts.writes old
-  pub syncs : facts.syncs new ≡ facts.syncs old + more_syncs
-
--- the live slot of a file, whether the other one is open too, and what the live one says
-pub record IsLive (file : List ℕ) (slot : ℕ) (stale : Bool) (head : Root) : Type 0 where
-  pub whole : 8192 ≤ length file
-  pub below : slot < 2
-  pub picked : live file ≡ Ok slot
-  pub other : stale ≡ (gate (1 - slot) file == 1)
-  pub spells : Spells (body slot file) head
-  pub bytes : (i : ℕ) → get_or (body slot file) i 0 < 256
-
--- this body, or bad root 43
-abbrev pub rooted : List ℕ → Result (List ℕ) ℕ
-rooted root = if is_root root then Ok root else Err 43
-
-abbrev pub root_at : List ℕ → Result ℕ ℕ → Result (List ℕ) ℕ
-root_at file (Ok slot) = rooted (body slot file)
-root_at file (Err n) = Err n
-
--- the body of the live slot; no root 42, bad root 43
-abbrev pub live_root : List ℕ → Result (List ℕ) ℕ
-live_root file = root_at file (live file)
 
 -- all of these pages lie whole in a file of so many bytes
 abbrev pub are_within : ℕ → List ℕ → Bool

@@ -17,6 +17,7 @@ use crate::root::Root;
 use crate::store::Store;
 use disk_trait::Disk;
 use op_ids::ReplicaId;
+use root_slots::Roots;
 use std::alloc::{AllocError, Global};
 
 const PAGE: usize = 4096;
@@ -250,8 +251,7 @@ impl<D: Disk> Store<D> {
                 current,
                 next,
                 stream: Vec::new(alloc),
-                slot: 0,
-                stale: false,
+                roots: Roots::of_new_file(),
                 failed: false,
                 numbers: Vec::new(alloc),
                 fresh: Vec::new(alloc),

@@ -10,7 +10,6 @@ mod load;
 mod load_image;
 mod load_ops;
 mod load_pages;
-mod load_slot;
 mod load_stream;
 mod open_fault;
 mod phase;

@@ -4,6 +4,7 @@ ghost use Rattle.group_commit.specs.Loading.{number_of};
 ghost use Rattle.group_commit.specs.declared.open_fault.OpenError.TheVariants.{Memory};
 
 use disk_trait::Disk;
+use root_slots::RootsError;
 use std::alloc::AllocError;
 use thiserror::Error;
 
@@ -48,6 +49,21 @@ impl From<AllocError> for OpenError {
 
     fn from(_error: AllocError) -> OpenError {
         OpenError::Memory
+    }
+}
+
+impl From<RootsError> for OpenError {
+    ghost use Rattle.group_commit.specs.Loading.{of_roots};
+
+    ghost from_gives = { λ error e. e ≡ of_roots error };
+
+    fn from(error: RootsError) -> OpenError {
+        match error {
+            RootsError::Memory => OpenError::Memory,
+            RootsError::NoRoot => OpenError::NoRoot,
+            RootsError::BadRoot => OpenError::BadRoot,
+            RootsError::ReadFailed => OpenError::ReadFailed,
+        }
     }
 }
 

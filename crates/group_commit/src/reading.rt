@@ -1,4 +1,4 @@
-//! The device calls of loading: a sync, and reads inside of the file.
+//! The device calls of loading behind those of the root slots: a sync, and reads of pages.
 ghost use Rattle.std.specs.Prelude.{◌≡◌, ◌⊎◌, ◌+◌, ◌*◌, ◌≤◌, ◌↔◌, ◌++◌, true, List, ℕ, length, IfOk, IfErr, OnOk};
 ghost use Rattle.disk_trait.specs.File.{part};
 ghost use Rattle.page_file.specs.Pages.{page, pages, are_whole, joined};
@@ -24,20 +24,6 @@ pub(crate) fn settle_file<D: Disk>(disk: &mut D) -> Result<(), OpenError>
     match disk.sync() {
         Ok(()) => Ok(()),
         Err(_) => Err(OpenError::SyncFailed),
-    }
-}
-
-/// The size of the file. It is refused only where the device failed (50).
-pub(crate) fn size_of<D: Disk>(disk: &mut D) -> Result<u64, OpenError>
-    ensures size { D.tells disk.old → IfOk result (λ n. n ≡ length (D.content disk.old)) }
-    ensures looks { D.tells disk.old
-        → OnlyLooks D.DiskFacts (failed_in result) 0 disk.old disk.new }
-    ensures tells { D.tells disk.new ↔ D.tells disk.old }
-    ensures refused { IfErr result (λ e. e ≡ ReadFailed) }
-{
-    match disk.size() {
-        Ok(size) => Ok(size),
-        Err(_) => Err(OpenError::ReadFailed),
     }
 }
 

@@ -63,7 +63,7 @@ impl<D: Disk> Store<D> {
             self.failed = true;
             return Err(error);
         }
-        self.phase = behind(k + 1, self.numbers.len(), self.stale);
+        self.phase = behind(k + 1, self.numbers.len(), self.roots.is_stale_open());
         Ok(Phase::Pages(k))
     }
 
@@ -79,9 +79,9 @@ impl<D: Disk> Store<D> {
             → Does D.DiskFacts result Close self.old self.new.disk }
     {
         self.phase = Phase::Sync1;
-        if let Err(error) = write_inside(&mut self.disk, PAGE * (1 - self.slot), &[0]) {
+        if let Err(_) = self.roots.close_stale(&mut self.disk) {
             self.failed = true;
-            return Err(error);
+            return Err(StoreError::WriteFailed);
         }
         Ok(Phase::Close)
     }
@@ -117,10 +117,9 @@ impl<D: Disk> Store<D> {
             → Does D.DiskFacts result Body self.old self.new.disk }
     {
         self.phase = Phase::Sync2;
-        let at = PAGE * (1 - self.slot) + 8;
-        if let Err(error) = write_inside(&mut self.disk, at, self.next.body()) {
+        if let Err(_) = self.roots.put_body(&mut self.disk, self.next.body()) {
             self.failed = true;
-            return Err(error);
+            return Err(StoreError::WriteFailed);
         }
         Ok(Phase::Body)
     }
@@ -156,9 +155,9 @@ impl<D: Disk> Store<D> {
             → Does D.DiskFacts result Gate self.old self.new.disk }
     {
         self.phase = Phase::Sync3;
-        if let Err(error) = write_inside(&mut self.disk, PAGE * (1 - self.slot), &[1]) {
+        if let Err(_) = self.roots.open_gate(&mut self.disk) {
             self.failed = true;
-            return Err(error);
+            return Err(StoreError::WriteFailed);
         }
         Ok(Phase::Gate)
     }
@@ -179,8 +178,7 @@ impl<D: Disk> Store<D> {
             return Err(error);
         }
         self.phase = Phase::Idle;
-        self.slot = 1 - self.slot;
-        self.stale = true;
+        self.roots.change_places();
         swap(&mut self.current, &mut self.next);
         Ok(Phase::Sync3)
     }

@@ -6,6 +6,7 @@ ghost use Rattle.group_commit.specs.Saved.{in_front};
 use crate::phase::Phase;
 use crate::root::Root;
 use disk_trait::Disk;
+use root_slots::Roots;
 use std::marker::Model;
 
 /// The live root of a page file on a disk, and the commit under way.
@@ -17,10 +18,8 @@ pub struct Store<D: Disk> {
     pub(crate) next: Root,
     // The streams of both roots: each is a front of these bytes.
     pub(crate) stream: Vec<u8>,
-    // The live slot, 0 or 1.
-    pub(crate) slot: u64,
-    // Whether the other gate reads 1.
-    pub(crate) stale: bool,
+    // Which slot is live, and whether the other gate reads 1.
+    pub(crate) roots: Roots,
     pub(crate) failed: bool,
     // The new pages of the commit: their numbers, and 4,096 bytes each.
     pub(crate) numbers: Vec<u32>,
@@ -33,22 +32,22 @@ impl<D: Disk> Model for Store<D> {
     ghost view = { λ s. record {
       disk = s.disk;
       phase = s.phase;
-      slot = s.slot;
+      slot = s.roots.slot;
       current = in_front s.current s.stream.items;
       next = in_front s.next s.stream.items;
       numbers = s.numbers.items;
-      stale = s.stale;
+      stale = s.roots.stale;
       failed = s.failed;
     } };
 
     ghost invariant = { λ s. IsSound D.DiskFacts (record {
       disk = s.disk;
       phase = s.phase;
-      slot = s.slot;
+      slot = s.roots.slot;
       current = in_front s.current s.stream.items;
       next = in_front s.next s.stream.items;
       numbers = s.numbers.items;
-      stale = s.stale;
+      stale = s.roots.stale;
       failed = s.failed;
-    }) s.slot s.numbers.items s.fresh.items × HasStreams s.phase s.current s.next s.stream.items };
+    }) s.roots.slot s.numbers.items s.fresh.items × HasStreams s.phase s.current s.next s.stream.items };
 }

@@ -1,8 +1,9 @@
 -- What the head of a root body says, and how the rest decides.
 use Rattle.std.proofs.Common.{◌≡◌, ℕ, zero, suc, ◌+◌, ◌*◌, ◌≤◌, Bool, true, false, ◌&&◌, ◌==◌, nat_le, List, length, drop, Option, Some, None, ◌↔◌, IsSome, IfSome, if◌then◌else◌, refl, sym, ap, ◌∙◌, arith}
+use Rattle.std.proofs.lemmas.Bool.Decides.{nat_tests}
 use Rattle.std.proofs.lemmas.Bool.{and_parts, leb-true, eqb-true}
 use Rattle.page_file.specs.Pages.{are_pages, is_zero, numbers}
-use Rattle.root_slots.specs.Body.{Root, IsRoot, root_in, root_of, tables_for}
+use Rattle.root_slots.specs.Body.{Root, IsRoot, Spells, root_in, root_of, tables_for}
 use Rattle.root_slots.specs.Head.{is_head, is_named, are_counts}
 use Rattle.root_slots.specs.Root.{magic_of, magic, version_of, replica_of, stream_length_of, count_of, table_count, gap_of, tables_of, is_root}
 
@@ -131,3 +132,23 @@ found_says body found is = rw is (by_test (is_root body) (root_of body))
     by_test : (b : Bool) (root : Root) → IfSome (if b then Some root else None) (λ r. root ≡ r)
     by_test true root = refl
     by_test false root = tt
+
+-- a root body has the rules of its fields
+pub root_rules : (body : List ℕ) (head : Root) → Spells body head → IsRoot head
+root_rules body head spells =
+    let both = sym (root_is_head body) ∙ spells.valid in
+    let says = head_says body (first (is_head body) (is_rest body) both) in
+    let rest = second (is_head body) (is_rest body) both in
+    rw (sym spells.says) (record {
+      version = says.version;
+      stream = says.stream;
+      operations = says.operations;
+      tables = length-tables body ∙ says.tables;
+      pages = first (are_pages (tables_of body)) _ rest;
+    })
+  where
+    first : (a b : Bool) → (a && b) ≡ true → a ≡ true
+    first a b both = grind (arith, nat_tests)
+
+    second : (a b : Bool) → (a && b) ≡ true → b ≡ true
+    second a b both = grind (arith, nat_tests)

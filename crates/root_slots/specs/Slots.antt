@@ -11,6 +11,13 @@ first_byte (byte ∷ bytes) = byte
 abbrev pub gate : ℕ → List ℕ → ℕ
 gate slot file = first_byte (part file (4096 * slot) 1)
 
+-- where the gate of a slot stands in a file, and where its body begins
+abbrev pub gate_place : ℕ → ℕ
+gate_place slot = 4096 * slot
+
+abbrev pub body_place : ℕ → ℕ
+body_place slot = 4096 * slot + 8
+
 -- the bytes of a slot from byte 8 of its page on
 abbrev pub body : ℕ → List ℕ → List ℕ
 body slot file = part file (4096 * slot + 8) 4088

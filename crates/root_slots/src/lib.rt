@@ -1,12 +1,20 @@
 //! The two root slots of a page file.
 #![tactic(auto)]
 
+mod call;
+mod error;
 mod fields;
 mod root_body;
+mod roots;
+mod slots;
 mod writing;
 
+pub use error::RootsError;
 pub use fields::{BODY_LENGTH, MAX_OPERATIONS, MAX_STREAM, tables_for};
 pub use root_body::RootBody;
+pub use roots::{LoadedRoots, Roots};
 
+#[cfg(test)]
+mod roots_tests;
 #[cfg(test)]
 mod tests;

@@ -7,19 +7,19 @@ use std::test::Fail;
 const NAME: &str = "00000000000040008000000000000001";
 
 /// The body after a file was made.
-const MADE: &str =
+pub const MADE: &str =
     "5054585450473031 0000000000000001 A 0000000000000000 0000000000000000 00000000 00000000";
 
 /// The body after a first commit of one operation.
-const FIRST: &str =
+pub const FIRST: &str =
     "5054585450473031 0000000000000002 A 0000000000000027 0000000000000001 00000001 00000000 00000003";
 
 /// The body after a second commit.
-const SECOND: &str =
+pub const SECOND: &str =
     "5054585450473031 0000000000000003 A 000000000000007e 0000000000000002 00000001 00000000 00000005";
 
 /// The body whose first bytes pieces of hex say, where `A` stands for the replica. The rest is zero.
-fn body_of(alloc: Global, pieces: &str) -> Result<Vec<u8>, Fail> {
+pub fn body_of(alloc: Global, pieces: &str) -> Result<Vec<u8>, Fail> {
     let mut bytes = Vec::new(alloc);
     for piece in pieces.split_whitespace() {
         let digits = if piece == "A" { NAME } else { piece };

@@ -6,7 +6,7 @@ use Rattle.group_commit.specs.Saved.{with_stream, in_front}
 use Rattle.group_commit.specs.Image.{stored}
 use Rattle.group_commit.specs.Loading.{stream_at, HasNone}
 use Rattle.group_commit.proofs.Faults.{names_on, quiet_ops, fault_of_ops}
-use Rattle.group_commit.proofs.Looking.{looks_then, looks_on}
+use Rattle.root_slots.proofs.Looking.{looks_then, looks_on}
 use Rattle.group_commit.proofs.ImageReads.{stream_fault, stored_stream, stands_read}
 use Rattle.group_commit.proofs.load_image.read_image.Goals as goal
 
@@ -14,35 +14,35 @@ pub returns-in_err-stream-clause-fault : goal.returns-in_err-stream-clause-fault
 returns-in_err-stream-clause-fault g c = λ told.
     let p = err_from_is_err_and c.from_residual-in_err-stream.result c.from_residual-in_err-stream.ensures.1 in
     let file = g.D.DiskFacts.content c.args.disk.now in
-    let live = c.in_ok-size.ensures.found told in
-    let named = c.in_err-stream.ensures.fault (c.find_root.ensures.tells.1 told) in
-    rw (p.1, p.2) (inl (names_on _ (stream_at c.in_ok-size.field-0.live.head (g.D.DiskFacts.content c.find_root.new.disk)) (stored file)
-    (λ n is. stream_fault file _ _ c.in_ok-size.field-0.live.head n live (ap (stream_at c.in_ok-size.field-0.live.head) (sym (c.in_ok-size.ensures.looks told).same) ∙ is)) named))
+    let live = c.in_ok-roots.ensures.found told in
+    let named = c.in_err-stream.ensures.fault (c.load_roots.ensures.tells.1 told) in
+    rw (p.1, p.2) (inl (names_on _ (stream_at c.in_ok-roots.field-0.root (g.D.DiskFacts.content c.load_roots.new.disk)) (stored file)
+    (λ n is. stream_fault file _ _ c.in_ok-roots.field-0.root n live (ap (stream_at c.in_ok-roots.field-0.root) (sym (c.in_ok-roots.ensures.looks told).same) ∙ is)) named))
 
 pub returns-in_err-stream-clause-looks : goal.returns-in_err-stream-clause-looks
 returns-in_err-stream-clause-looks g c = λ told.
     let p = err_from_is_err_and c.from_residual-in_err-stream.result c.from_residual-in_err-stream.ensures.1 in
-    rw (p.1, p.2) (looks_on g.D.DiskFacts _ 0 c.args.disk.now c.find_root.new.disk c.read_stream.new.disk (c.in_ok-size.ensures.looks told)
-    (c.in_err-stream.ensures.looks (c.find_root.ensures.tells.1 told)))
+    rw (p.1, p.2) (looks_on g.D.DiskFacts _ 0 c.args.disk.now c.load_roots.new.disk c.read_stream.new.disk (c.in_ok-roots.ensures.looks told)
+    (c.in_err-stream.ensures.looks (c.load_roots.ensures.tells.1 told)))
 
 pub returns-in_err-ops-clause-fault : goal.returns-in_err-ops-clause-fault
 returns-in_err-ops-clause-fault g c = λ told.
     let p = err_from_is_err_and c.from_residual-in_err-ops.result c.from_residual-in_err-ops.ensures.1 in
     let file = g.D.DiskFacts.content c.args.disk.now in
-    let live = c.in_ok-size.ensures.found told in
-    let head = c.in_ok-size.field-0.live.head in
-    let read : stream_at head file ≡ _ = ap (stream_at head) (sym (c.in_ok-size.ensures.looks told).same) ∙ c.in_ok-stream.ensures.stream (c.find_root.ensures.tells.1 told) in
+    let live = c.in_ok-roots.ensures.found told in
+    let head = c.in_ok-roots.field-0.root in
+    let read : stream_at head file ≡ _ = ap (stream_at head) (sym (c.in_ok-roots.ensures.looks told).same) ∙ c.in_ok-stream.ensures.stream (c.load_roots.ensures.tells.1 told) in
     let holds = stored_stream file _ _ head c.in_ok-stream.stream.bytes.items live read in
-    let count : c.operations.result ≡ count_of (body c.in_ok-size.field-0.live.slot file) = c.operations.ensures ∙ ap (λ r. r.operations) (sym live.spells.says) in
-    rw (p.1, p.2) (fault_of_ops file (body c.in_ok-size.field-0.live.slot file) c.in_ok-stream.stream.bytes.items _ c.in_err-ops.ensures.refused holds
+    let count : c.operations.result ≡ count_of (body c.in_ok-roots.field-0.roots.slot file) = c.operations.ensures ∙ ap (λ r. r.operations) (sym live.spells.says) in
+    rw (p.1, p.2) (fault_of_ops file (body c.in_ok-roots.field-0.roots.slot file) c.in_ok-stream.stream.bytes.items _ c.in_err-ops.ensures.refused holds
     (λ other. rw (sym c.deref.ensures.value, sym count) (c.in_err-ops.ensures.none other)))
 
 pub returns-in_err-ops-clause-looks : goal.returns-in_err-ops-clause-looks
 returns-in_err-ops-clause-looks g c = λ told.
     let p = err_from_is_err_and c.from_residual-in_err-ops.result c.from_residual-in_err-ops.ensures.1 in
     rw (p.1, p.2, quiet_ops _ c.in_err-ops.ensures.refused)
-    (looks_then g.D.DiskFacts 0 0 0 0 c.args.disk.now c.find_root.new.disk c.read_stream.new.disk (c.in_ok-size.ensures.looks told)
-    (c.in_ok-stream.ensures.looks (c.find_root.ensures.tells.1 told)))
+    (looks_then g.D.DiskFacts 0 0 0 0 c.args.disk.now c.load_roots.new.disk c.read_stream.new.disk (c.in_ok-roots.ensures.looks told)
+    (c.in_ok-stream.ensures.looks (c.load_roots.ensures.tells.1 told)))
 
 pub returns-in_err-current-clause-fault : goal.returns-in_err-current-clause-fault
 returns-in_err-current-clause-fault g c = λ told.
@@ -53,19 +53,19 @@ pub returns-in_err-current-clause-looks : goal.returns-in_err-current-clause-loo
 returns-in_err-current-clause-looks g c = λ told.
     let p = err_from_is_err_and c.from_residual-in_err-current.result c.from_residual-in_err-current.ensures.1 in
     rw (p.1, p.2)
-    (looks_then g.D.DiskFacts 0 0 0 0 c.args.disk.now c.find_root.new.disk c.read_stream.new.disk (c.in_ok-size.ensures.looks told)
-    (c.in_ok-stream.ensures.looks (c.find_root.ensures.tells.1 told)))
+    (looks_then g.D.DiskFacts 0 0 0 0 c.args.disk.now c.load_roots.new.disk c.read_stream.new.disk (c.in_ok-roots.ensures.looks told)
+    (c.in_ok-stream.ensures.looks (c.load_roots.ensures.tells.1 told)))
 
 pub returns-clause-stands : goal.returns-clause-stands
 returns-clause-stands g c = λ told.
     let file = g.D.DiskFacts.content c.args.disk.now in
-    let live = c.in_ok-size.ensures.found told in
-    let head = c.in_ok-size.field-0.live.head in
-    let same = (c.in_ok-size.ensures.looks told).same in
-    let told' = c.find_root.ensures.tells.1 told in
-    stands_read file c.in_ok-size.field-0.live.slot c.in_ok-size.field-0.live.stale head (with_stream c.in_ok-current.current c.in_ok-stream.stream.bytes.items)
+    let live = c.in_ok-roots.ensures.found told in
+    let head = c.in_ok-roots.field-0.root in
+    let same = (c.in_ok-roots.ensures.looks told).same in
+    let told' = c.load_roots.ensures.tells.1 told in
+    stands_read file c.in_ok-roots.field-0.roots.slot c.in_ok-roots.field-0.roots.stale head (with_stream c.in_ok-current.current c.in_ok-stream.stream.bytes.items)
     (in_front c.in_ok-current.next c.in_ok-stream.stream.bytes.items) live
-    (c.in_ok-current.ensures.body (body c.in_ok-size.field-0.live.slot file) live.bytes live.spells)
+    (c.in_ok-current.ensures.body (body c.in_ok-roots.field-0.roots.slot file) live.bytes live.spells)
     (rw (sym same) (c.in_ok-stream.ensures.stream told'))
     (rw (c.in_ok-current.ensures.pages, sym same) (c.in_ok-stream.ensures.pages told'))
 
@@ -82,9 +82,9 @@ returns-clause-long g c = c.in_ok-stream.ensures.long ∙ ap (λ r. r.stream_len
 
 pub returns-clause-looks : goal.returns-clause-looks
 returns-clause-looks g c = λ told.
-    looks_then g.D.DiskFacts 0 0 0 0 c.args.disk.now c.find_root.new.disk c.read_stream.new.disk (c.in_ok-size.ensures.looks told)
-    (c.in_ok-stream.ensures.looks (c.find_root.ensures.tells.1 told))
+    looks_then g.D.DiskFacts 0 0 0 0 c.args.disk.now c.load_roots.new.disk c.read_stream.new.disk (c.in_ok-roots.ensures.looks told)
+    (c.in_ok-stream.ensures.looks (c.load_roots.ensures.tells.1 told))
 
 pub returns-clause-tells : goal.returns-clause-tells
 returns-clause-tells g c =
-    (λ told. c.find_root.ensures.tells.0 (c.read_stream.ensures.tells.0 told), λ told. c.read_stream.ensures.tells.1 (c.find_root.ensures.tells.1 told))
+    (λ told. c.load_roots.ensures.tells.0 (c.read_stream.ensures.tells.0 told), λ told. c.read_stream.ensures.tells.1 (c.load_roots.ensures.tells.1 told))

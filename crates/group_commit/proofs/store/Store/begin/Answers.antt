@@ -45,16 +45,16 @@ sound_new : (g : _) (c : goal.After-drop-records-2 g)
     → IsSound g.D.DiskFacts (record {
       disk = c.self.inside.disk;
       phase = Pages 0;
-      slot = c.self.inside.slot;
+      slot = c.self.inside.roots.slot;
       current = with_stream c.self.inside.current c.self.inside.stream.items;
       next = with_stream c.in_ok-next.field-0.next (c.self.inside.stream.items ++ spelled_all c.args.ops.now);
       numbers = c.in_ok-next.field-0.numbers.items;
-      stale = c.self.inside.stale;
+      stale = c.self.inside.roots.stale;
       failed = c.self.inside.failed;
-    }) c.self.inside.slot c.in_ok-next.field-0.numbers.items c.in_ok-next.field-0.fresh.items
+    }) c.self.inside.roots.slot c.in_ok-next.field-0.numbers.items c.in_ok-next.field-0.fresh.items
 sound_new g c =
     let plan = (rw (c.deref-2.ensures.value, c.deref-3.ensures.value ∙ c.in_ok-records.ensures.records) at c.in_ok-next.ensures.plan) in
-    sound_begin g.D.DiskFacts _ c.self.inside.slot _ _ (with_stream c.in_ok-next.field-0.next (c.self.inside.stream.items ++ spelled_all c.args.ops.now)) _ _
+    sound_begin g.D.DiskFacts _ c.self.inside.roots.slot _ _ (with_stream c.in_ok-next.field-0.next (c.self.inside.stream.items ++ spelled_all c.args.ops.now)) _ _
     (rw (front_all (stream_length_of c.self.inside.current.body) c.self.inside.stream.items (c.self.invariant.1.idle (idle_is c.self.inside.phase (sym c.is_idle.ensures ∙ c.if-not-is_idle.false)))) at c.self.invariant.0) (idle_is c.self.inside.phase (sym c.is_idle.ensures ∙ c.if-not-is_idle.false)) plan.room plan.plan
 
 pub invariant_of-self-2 : goal.invariant_of-self-2
@@ -84,8 +84,8 @@ returns-clause-began g c = λ n is.
       lowest = plan.plan.lowest;
       follows = plan.follows;
       fits = c.in_ok-records.ensures.fits;
-      live_slot = live_idle g.D.DiskFacts _ c.self.inside.slot _ _ c.self.invariant.0 (idle_is c.self.inside.phase (sym c.is_idle.ensures ∙ c.if-not-is_idle.false));
-      left = left_of g.D.DiskFacts _ c.self.inside.slot _ _ (sound_new g c);
+      live_slot = live_idle g.D.DiskFacts _ c.self.inside.roots.slot _ _ c.self.invariant.0 (idle_is c.self.inside.phase (sym c.is_idle.ensures ∙ c.if-not-is_idle.false));
+      left = left_of g.D.DiskFacts _ c.self.inside.roots.slot _ _ (sound_new g c);
     })
 
 pub returns-clause-same : goal.returns-clause-same

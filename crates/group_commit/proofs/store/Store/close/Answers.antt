@@ -4,47 +4,53 @@ use Rattle.group_commit.proofs.store.Store.close.Goals as goal
 use Rattle.group_commit.specs.declared.phase.Phase.TheVariants.{Close}
 use Rattle.group_commit.proofs.Streams.{streams_on, busy_at}
 use Rattle.group_commit.proofs.Sound.{sound_close}
-use Rattle.group_commit.proofs.Doing.{reads_one}
+use Rattle.group_commit.proofs.Doing.{reads_one, slots_whole}
 use Rattle.group_commit.proofs.DeviceCall.{device_call}
+
+pub close_stale-requires : goal.close_stale-requires
+close_stale-requires g c = record {
+  whole = λ told. slots_whole g.D.DiskFacts _ c.self.inside.roots.slot _ _ c.self.invariant.0 told (g.met.D.Disk.lawful c.self.inside.disk told);
+  reads_one = λ told. reads_one g.D.DiskFacts _ _ _ c.self.invariant.0 (ap (λ h. h.phase) c.self.view_is ∙ c.requires.phase) told (g.met.D.Disk.lawful c.self.inside.disk told);
+}
 
 pub invariant_of-self : goal.invariant_of-self
 invariant_of-self g c = (
-  sound_close g.D.DiskFacts _ c.self.inside.slot _ _ true c.write_inside.new.disk c.self.invariant.0
+  sound_close g.D.DiskFacts _ c.self.inside.roots.slot _ _ true c.close_stale.new.disk c.self.invariant.0
       (ap (λ h. h.phase) c.self.view_is ∙ c.requires.phase)
-      (c.in-Err.ensures).tells.0 (c.in-Err.ensures).torn (λ told ok. absurd cc)
+      (c.in-Err.ensures).tells.0 (λ told. (c.in-Err.ensures.writes told).torn) (λ told ok. absurd cc)
       (λ told. g.met.D.Disk.lawful c.self.inside.disk told) (ap (λ h. h.failed) c.self.view_is ∙ c.requires.works),
   streams_on c.self.inside.phase _ c.self.inside.current c.self.inside.next c.self.inside.stream.items c.self.invariant.1 (busy_at c.self.inside.phase Close (ap (λ h. h.phase) c.self.view_is ∙ c.requires.phase) (λ is. absurd cc)) (λ is. absurd cc),
 )
 
 pub returns-in-Err-clause-call : goal.returns-in-Err-clause-call
 returns-in-Err-clause-call g c =
-    device_call g.D.DiskFacts _ 1 1 0 WriteFailed _ _ _ _ c.self.inside.slot c.self.inside.slot _ _ c.self.view_is c.self.invariant.0
-    (invariant_of-self g c).0 (λ file is. is) (c.in-Err.ensures).tells (c.in-Err.ensures).call (λ told. g.met.D.Disk.lawful c.self.inside.disk told) (c.in-Err.ensures).refused
+    device_call g.D.DiskFacts _ 1 1 0 WriteFailed _ _ _ _ c.self.inside.roots.slot c.self.inside.roots.slot _ _ c.self.view_is c.self.invariant.0
+    (invariant_of-self g c).0 (λ file is. is) (c.in-Err.ensures).tells (λ told. (c.in-Err.ensures.writes told).call) (λ told. g.met.D.Disk.lawful c.self.inside.disk told) refl
 
 pub invariant_of-self-in_default : goal.invariant_of-self-in_default
 invariant_of-self-in_default g c = (
-  sound_close g.D.DiskFacts _ c.self.inside.slot _ _ c.self.inside.failed c.write_inside.new.disk c.self.invariant.0
+  sound_close g.D.DiskFacts _ c.self.inside.roots.slot _ _ c.self.inside.failed c.close_stale.new.disk c.self.invariant.0
       (ap (λ h. h.phase) c.self.view_is ∙ c.requires.phase)
-      (c.in_default.ensures).tells.0 (c.in_default.ensures).torn (λ told ok. (c.in_default.ensures).written told)
+      (c.in_default.ensures).tells.0 (λ told. (c.in_default.ensures.writes told).torn) (λ told ok. (c.in_default.ensures.writes told).written)
       (λ told. g.met.D.Disk.lawful c.self.inside.disk told) (ap (λ h. h.failed) c.self.view_is ∙ c.requires.works),
   streams_on c.self.inside.phase _ c.self.inside.current c.self.inside.next c.self.inside.stream.items c.self.invariant.1 (busy_at c.self.inside.phase Close (ap (λ h. h.phase) c.self.view_is ∙ c.requires.phase) (λ is. absurd cc)) (λ is. absurd cc),
 )
 
 pub returns-clause-call : goal.returns-clause-call
 returns-clause-call g c =
-    device_call g.D.DiskFacts _ 0 1 0 WriteFailed _ _ _ _ c.self.inside.slot c.self.inside.slot _ _ c.self.view_is c.self.invariant.0
-    (invariant_of-self-in_default g c).0 (λ file is. is) (c.in_default.ensures).tells (c.in_default.ensures).call (λ told. g.met.D.Disk.lawful c.self.inside.disk told) tt
+    device_call g.D.DiskFacts _ 0 1 0 WriteFailed _ _ _ _ c.self.inside.roots.slot c.self.inside.roots.slot _ _ c.self.view_is c.self.invariant.0
+    (invariant_of-self-in_default g c).0 (λ file is. is) (c.in_default.ensures).tells (λ told. (c.in_default.ensures.writes told).call) (λ told. g.met.D.Disk.lawful c.self.inside.disk told) tt
 
 pub returns-in-Err-clause-does : goal.returns-in-Err-clause-does
 returns-in-Err-clause-does g c =
     rw (sym c.self.view_is) (λ told. record {
       is_one = reads_one g.D.DiskFacts _ _ _ c.self.invariant.0 (ap (λ h. h.phase) c.self.view_is ∙ c.requires.phase) told (g.met.D.Disk.lawful c.self.inside.disk told);
-      writes = record { size = refl; torn = c.in-Err.ensures.torn told; written = tt };
+      writes = record { size = refl; torn = (c.in-Err.ensures.writes told).torn; written = tt };
     })
 
 pub returns-clause-does : goal.returns-clause-does
 returns-clause-does g c =
     rw (sym c.self.view_is) (λ told. record {
       is_one = reads_one g.D.DiskFacts _ _ _ c.self.invariant.0 (ap (λ h. h.phase) c.self.view_is ∙ c.requires.phase) told (g.met.D.Disk.lawful c.self.inside.disk told);
-      writes = record { size = refl; torn = c.in_default.ensures.torn told; written = c.in_default.ensures.written told };
+      writes = record { size = refl; torn = (c.in_default.ensures.writes told).torn; written = (c.in_default.ensures.writes told).written };
     })

@@ -15,10 +15,10 @@ none n bytes is = ap (take n) is ∙ take_all n [] (omega arith)
 pub invariant_of-result : goal.invariant_of-result
 invariant_of-result g c = (
   record {
-    slots = omega arith;
+    slots = omega (arith, c.of_new_file.ensures.live);
     room = ap length c.new-in-Ok-2.ensures.items ∙ ap (λ ns. 4096 * length ns) (sym c.new-in-Ok.ensures.items);
     plan = λ not_idle. absurd (not_idle refl);
-    stands = λ told file left. rw (c.in-Ok.ensures.left ((c.in-Ok.ensures.tells).0 told) file left)
+    stands = λ told file left. rw (c.of_new_file.ensures.live, c.of_new_file.ensures.closed, c.in-Ok.ensures.left ((c.in-Ok.ensures.tells).0 told) file left)
         (stands_new (in_front c.in-Ok.current c.new.result.items) (in_front c.in-Ok.next c.new.result.items) 1 c.args.replica c.in-Ok.ensures.empty.1
         (root_size c.in-Ok.current.body c.in-Ok.ensures.empty.1) (none (stream_length_of c.in-Ok.current.body) c.new.result.items c.new.ensures.items)
         c.in-Ok.ensures.empty.0 c.in-Ok.ensures.root);
@@ -31,4 +31,4 @@ pub returns-in-Ok-clause-empty : goal.returns-in-Ok-clause-empty
 returns-in-Ok-clause-empty g c = none (stream_length_of c.in-Ok.current.body) c.new.result.items c.new.ensures.items
 
 pub returns-in-Ok-clause-left : goal.returns-in-Ok-clause-left
-returns-in-Ok-clause-left g c = λ told. left_of g.D.DiskFacts _ 0 _ _ (invariant_of-result g c).0 ((c.in-Ok.ensures.tells).1 told)
+returns-in-Ok-clause-left g c = λ told. left_of g.D.DiskFacts _ c.of_new_file.result.slot _ _ (invariant_of-result g c).0 ((c.in-Ok.ensures.tells).1 told)

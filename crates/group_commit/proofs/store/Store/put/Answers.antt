@@ -37,37 +37,37 @@ bytes_at-requires g c = record {
 
 pub write_inside-requires : goal.write_inside-requires
 write_inside-requires g c = record {
-  inside = λ told. rw (c.number_at.ensures ∙ ap (λ v. get_or v c.args.k 0) c.deref.ensures.value) (inside_page g.D.DiskFacts _ c.self.inside.slot _ _ c.args.k c.self.invariant.0 (ap (λ h. h.phase) c.self.view_is ∙ c.requires.phase) told (λ told. g.met.D.Disk.lawful c.self.inside.disk told) (ap (λ h. h.failed) c.self.view_is ∙ c.requires.works));
+  inside = λ told. rw (c.number_at.ensures ∙ ap (λ v. get_or v c.args.k 0) c.deref.ensures.value) (inside_page g.D.DiskFacts _ c.self.inside.roots.slot _ _ c.args.k c.self.invariant.0 (ap (λ h. h.phase) c.self.view_is ∙ c.requires.phase) told (λ told. g.met.D.Disk.lawful c.self.inside.disk told) (ap (λ h. h.failed) c.self.view_is ∙ c.requires.works));
 }
 
 pub invariant_of-self : goal.invariant_of-self
 invariant_of-self g c = (
-  sound_page_failed g.D.DiskFacts _ c.self.inside.slot _ _ c.args.k c.write_inside.new.disk c.self.invariant.0 (ap (λ h. h.phase) c.self.view_is ∙ c.requires.phase)
+  sound_page_failed g.D.DiskFacts _ c.self.inside.roots.slot _ _ c.args.k c.write_inside.new.disk c.self.invariant.0 (ap (λ h. h.phase) c.self.view_is ∙ c.requires.phase)
       c.in-Err.ensures.tells.0 (λ told. torn_at _ _ _ _ (ap (λ n. 4096 * n) (c.number_at.ensures ∙ ap (λ v. get_or v c.args.k 0) c.deref.ensures.value)) c.bytes_at.ensures.whole (c.in-Err.ensures.torn told)),
   c.self.invariant.1,
 )
 
 pub returns-in-Err-clause-call : goal.returns-in-Err-clause-call
 returns-in-Err-clause-call g c =
-    device_call g.D.DiskFacts _ 1 1 0 WriteFailed _ _ _ _ c.self.inside.slot c.self.inside.slot _ _ c.self.view_is c.self.invariant.0
+    device_call g.D.DiskFacts _ 1 1 0 WriteFailed _ _ _ _ c.self.inside.roots.slot c.self.inside.roots.slot _ _ c.self.view_is c.self.invariant.0
     (invariant_of-self g c).0 (λ file is. is) c.in-Err.ensures.tells c.in-Err.ensures.call (λ told. g.met.D.Disk.lawful c.self.inside.disk told) c.in-Err.ensures.refused
 
 pub invariant_of-self-2 : goal.invariant_of-self-2
 invariant_of-self-2 g c = (
-  rw (c.behind-self-inside.ensures ∙ ap (λ n. behind_pages (c.args.k + 1) n c.self.inside.stale) (c.len.ensures ∙ counted c.self.inside.numbers))
-      (sound_page g.D.DiskFacts _ c.self.inside.slot _ _ c.args.k c.write_inside.new.disk c.self.invariant.0 (ap (λ h. h.phase) c.self.view_is ∙ c.requires.phase) (λ told. g.met.D.Disk.lawful c.self.inside.disk told)
+  rw (c.behind-self-inside.ensures ∙ ap (behind_pages (c.args.k + 1) c.len.result) c.is_stale_open.ensures ∙ ap (λ n. behind_pages (c.args.k + 1) n c.self.inside.roots.stale) (c.len.ensures ∙ counted c.self.inside.numbers))
+      (sound_page g.D.DiskFacts _ c.self.inside.roots.slot _ _ c.args.k c.write_inside.new.disk c.self.invariant.0 (ap (λ h. h.phase) c.self.view_is ∙ c.requires.phase) (λ told. g.met.D.Disk.lawful c.self.inside.disk told)
       c.in_default.ensures.tells.0 (λ told. torn_at _ _ _ _ (ap (λ n. 4096 * n) (c.number_at.ensures ∙ ap (λ v. get_or v c.args.k 0) c.deref.ensures.value)) c.bytes_at.ensures.whole (c.in_default.ensures.torn told))
       (λ told. c.in_default.ensures.written told
       ∙ ap (λ n. overwritten (g.D.DiskFacts.content c.self.inside.disk) (4096 * n) c.bytes_at.result.now) (c.number_at.ensures ∙ ap (λ v. get_or v c.args.k 0) c.deref.ensures.value)
       ∙ ap (overwritten (g.D.DiskFacts.content c.self.inside.disk) _) (c.bytes_at.ensures.bytes ∙ ap (λ v. part v (4096 * c.args.k) 4096) c.deref-2.ensures.value))
-      (λ told. inside_page g.D.DiskFacts _ c.self.inside.slot _ _ c.args.k c.self.invariant.0 (ap (λ h. h.phase) c.self.view_is ∙ c.requires.phase) told (λ told. g.met.D.Disk.lawful c.self.inside.disk told) (ap (λ h. h.failed) c.self.view_is ∙ c.requires.works))
+      (λ told. inside_page g.D.DiskFacts _ c.self.inside.roots.slot _ _ c.args.k c.self.invariant.0 (ap (λ h. h.phase) c.self.view_is ∙ c.requires.phase) told (λ told. g.met.D.Disk.lawful c.self.inside.disk told) (ap (λ h. h.failed) c.self.view_is ∙ c.requires.works))
       refl (ap (λ h. h.failed) c.self.view_is ∙ c.requires.works)),
   streams_on c.self.inside.phase _ c.self.inside.current c.self.inside.next c.self.inside.stream.items c.self.invariant.1 (busy_at c.self.inside.phase (Pages c.args.k) (ap (λ h. h.phase) c.self.view_is ∙ c.requires.phase) (λ is. absurd cc)) (rw (c.behind-self-inside.ensures) (busy_behind _ _ _)),
 )
 
 pub returns-clause-call : goal.returns-clause-call
 returns-clause-call g c =
-    device_call g.D.DiskFacts _ 0 1 0 WriteFailed _ _ _ _ c.self.inside.slot c.self.inside.slot _ _ c.self.view_is c.self.invariant.0
+    device_call g.D.DiskFacts _ 0 1 0 WriteFailed _ _ _ _ c.self.inside.roots.slot c.self.inside.roots.slot _ _ c.self.view_is c.self.invariant.0
     (invariant_of-self-2 g c).0 (λ file is. is) c.in_default.ensures.tells c.in_default.ensures.call (λ told. g.met.D.Disk.lawful c.self.inside.disk told) tt
 
 pub returns-in-Err-clause-does : goal.returns-in-Err-clause-does

@@ -1,10 +1,10 @@
 use Rattle.std.proofs.Common.{rules, ◌≡◌, ◌+◌, ◌*◌, ◌-◌, ap, sym, ◌∙◌, arith, inl, inr}
 use Rattle.std.proofs.lemmas.Result.{err_from_is_err_and}
 use Rattle.root_slots.specs.Slots.{body, live}
-use Rattle.group_commit.specs.Loading.{rooted, root_at, live_root}
-use Rattle.group_commit.proofs.Faults.{names_on}
-use Rattle.group_commit.proofs.SlotReads.{small_part}
-use Rattle.group_commit.proofs.load_slot.live_root.Goals as goal
+use Rattle.root_slots.specs.Live.{rooted, root_at, live_root}
+use Rattle.root_slots.proofs.Faults.{names_on}
+use Rattle.root_slots.proofs.SlotReads.{small_part}
+use Rattle.root_slots.proofs.slots.live_root.Goals as goal
 
 pub returns-in_err-slot-clause-fault : goal.returns-in_err-slot-clause-fault
 returns-in_err-slot-clause-fault c =
@@ -16,16 +16,16 @@ returns-in_err-slot-clause-refused c =
     let p = err_from_is_err_and c.from_residual.result c.from_residual.ensures.1 in
     rw (p.1, p.2) (inr c.in_err-slot.ensures.refused)
 
-pub returns-in_err-head-clause-fault : goal.returns-in_err-head-clause-fault
-returns-in_err-head-clause-fault c =
-    let p = err_from_is_err_and c.from_residual-in_err-head.result c.from_residual-in_err-head.ensures.1 in
+pub returns-in_err-root-clause-fault : goal.returns-in_err-root-clause-fault
+returns-in_err-root-clause-fault c =
+    let p = err_from_is_err_and c.from_residual-in_err-root.result c.from_residual-in_err-root.ensures.1 in
     rw (p.1, p.2) (names_on _ (rooted c.body_at.result.now) (live_root c.args.slots.now)
-    (λ n is. ap (root_at c.args.slots.now) c.in_ok-slot.ensures.slot ∙ ap rooted (sym c.body_at.ensures.body) ∙ is) c.in_err-head.ensures.fault)
+    (λ n is. ap (root_at c.args.slots.now) c.in_ok-slot.ensures.slot ∙ ap rooted (sym c.body_at.ensures.body) ∙ is) c.in_err-root.ensures.fault)
 
-pub returns-in_err-head-clause-refused : goal.returns-in_err-head-clause-refused
-returns-in_err-head-clause-refused c =
-    let p = err_from_is_err_and c.from_residual-in_err-head.result c.from_residual-in_err-head.ensures.1 in
-    rw (p.1, p.2) (elim c.in_err-head.ensures.refused [ inl memory ↦ inl memory | inr bad ↦ inr (inr bad) ])
+pub returns-in_err-root-clause-refused : goal.returns-in_err-root-clause-refused
+returns-in_err-root-clause-refused c =
+    let p = err_from_is_err_and c.from_residual-in_err-root.result c.from_residual-in_err-root.ensures.1 in
+    rw (p.1, p.2) (elim c.in_err-root.ensures.refused [ inl memory ↦ inl memory | inr bad ↦ inr (inr bad) ])
 
 pub returns-clause-found : goal.returns-clause-found
 returns-clause-found c = record {
@@ -33,6 +33,6 @@ returns-clause-found c = record {
   below = c.in_ok-slot.ensures.below;
   picked = c.in_ok-slot.ensures.slot;
   other = c.is_open-stale.ensures;
-  spells = rw (sym c.body_at.ensures.body) c.in_ok-head.ensures.says;
+  spells = rw (sym c.body_at.ensures.body) c.in_ok-root.ensures.says;
   bytes = small_part c.args.slots.now (4096 * c.in_ok-slot.slot + 8) 4088 (λ i. omega (arith, c.type_inv.slots i));
 }

@@ -1,24 +1,25 @@
-//! Which root slot is live, and what it says.
+//! Which root slot is live, of the bytes of both, and what it says.
 ghost use Rattle.std.specs.Prelude.{◌≡◌, ◌⊎◌, ◌-◌, ◌<◌, ◌==◌, true, length, IfOk, IfErr, Ok};
 ghost use Rattle.root_slots.specs.Body.{IsRoot, Spells};
-ghost use Rattle.root_slots.specs.Root.{version_of, is_root};
+ghost use Rattle.root_slots.specs.Root.{version_of};
 ghost use Rattle.root_slots.specs.Slots.{gate, body, greater, live};
-ghost use Rattle.group_commit.specs.Loading.{Names, IsLive, rooted, live_root};
-ghost use Rattle.group_commit.specs.declared.open_fault.OpenError.TheVariants.{Memory, NoRoot, BadRoot};
+ghost use Rattle.root_slots.specs.Live.{IsLive, rooted, live_root};
+ghost use Rattle.root_slots.specs.Faults.{Names};
+ghost use Rattle.root_slots.specs.declared.error.RootsError.TheVariants.{Memory, NoRoot, BadRoot};
 
-use crate::open_fault::OpenError;
-use root_slots::RootBody;
+use crate::error::RootsError;
+use crate::root_body::RootBody;
 use std::alloc::{AllocError, Global};
 
 /// The live slot, whether the other one is open too, and what the live one says.
 #[derive(Drop)]
-pub(crate) struct Live {
+pub struct Live {
     pub slot: u64,
     pub stale: bool,
-    pub head: RootBody,
+    pub root: RootBody,
 }
 
-/// Whether a slot is open, of the bytes of both.
+// Whether a slot is open, of the bytes of both.
 fn is_open(slots: &[u8], slot: u64) -> bool
     requires slot { slot < 2 }
     requires both { length slots.now ≡ 8192 }
@@ -27,7 +28,7 @@ fn is_open(slots: &[u8], slot: u64) -> bool
     slots[4096 * slot as usize] == 1
 }
 
-/// The body of a slot, of the bytes of both.
+// The body of a slot, of the bytes of both.
 fn body_at(slots: &[u8], slot: u64) -> &[u8]
     requires slot { slot < 2 }
     requires both { length slots.now ≡ 8192 }
@@ -39,7 +40,7 @@ fn body_at(slots: &[u8], slot: u64) -> &[u8]
     body
 }
 
-/// The version that a slot's body says, also where it isn't a root body.
+// The version that a slot's body says, also where it isn't a root body.
 fn version_at(body: &[u8]) -> u64
     requires { length body.now ≡ 4088 }
     ensures { result ≡ version_of body.now }
@@ -49,8 +50,8 @@ fn version_at(body: &[u8]) -> u64
     u64::from_be_bytes(*bytes)
 }
 
-/// The slot with the greater version, or 43 where they are equal.
-fn greater(version0: u64, version1: u64) -> Result<u64, OpenError>
+// The slot with the greater version, or 43 where they are equal.
+fn greater(version0: u64, version1: u64) -> Result<u64, RootsError>
     ensures slot { IfOk result (λ slot. greater version0 version1 ≡ Ok slot) }
     ensures below { IfOk result (λ slot. slot < 2) }
     ensures fault { IfErr result (λ e. Names e (greater version0 version1)) }
@@ -61,13 +62,13 @@ fn greater(version0: u64, version1: u64) -> Result<u64, OpenError>
     } else if version0 < version1 {
         Ok(1)
     } else {
-        Err(OpenError::BadRoot)
+        Err(RootsError::BadRoot)
     }
 }
 
-/// Which slot is live, of the bytes of both: the open one, of two the one with the greater version. 42 where
-/// none is open, and 43 where two are with equal versions.
-fn live_slot(slots: &[u8]) -> Result<u64, OpenError>
+// Which slot is live, of the bytes of both: the open one, of two the one with the greater version. 42 where
+// none is open, and 43 where two are with equal versions.
+fn live_slot(slots: &[u8]) -> Result<u64, RootsError>
     requires { length slots.now ≡ 8192 }
     ensures slot { IfOk result (λ slot. live slots.now ≡ Ok slot) }
     ensures below { IfOk result (λ slot. slot < 2) }
@@ -83,35 +84,35 @@ fn live_slot(slots: &[u8]) -> Result<u64, OpenError>
     } else if open1 {
         Ok(1)
     } else {
-        Err(OpenError::NoRoot)
+        Err(RootsError::NoRoot)
     }
 }
 
-/// What a body says, or 43 where it is no root body; 1 for want of memory.
-fn head_of(alloc: Global, body: &[u8]) -> Result<RootBody, OpenError>
-    ensures says { IfOk result (λ head. Spells body.now head) }
-    ensures valid { IfOk result (λ head. IsRoot head) }
+// What a body says, or 43 where it is no root body; 1 for want of memory.
+fn root_of(alloc: Global, body: &[u8]) -> Result<RootBody, RootsError>
+    ensures says { IfOk result (λ root. Spells body.now root) }
+    ensures valid { IfOk result (λ root. IsRoot root) }
     ensures fault { IfErr result (λ e. Names e (rooted body.now)) }
     ensures refused { IfErr result (λ e. (e ≡ Memory) ⊎ (e ≡ BadRoot)) }
 {
     match RootBody::read(alloc, body) {
-        Ok(Some(head)) => Ok(head),
-        Ok(None) => Err(OpenError::BadRoot),
-        Err(_) => Err(OpenError::Memory),
+        Ok(Some(root)) => Ok(root),
+        Ok(None) => Err(RootsError::BadRoot),
+        Err(_) => Err(RootsError::Memory),
     }
 }
 
 /// The live slot and what it says, of the bytes of both slots. 42 where none is open; 43 where two are with
 /// equal versions, or the live one holds no root body; 1 for want of memory.
-pub(crate) fn live_root(alloc: Global, slots: &[u8]) -> Result<Live, OpenError>
+pub fn live_root(alloc: Global, slots: &[u8]) -> Result<Live, RootsError>
     requires { length slots.now ≡ 8192 }
-    ensures found { IfOk result (λ it. IsLive slots.now it.slot it.stale it.head) }
-    ensures valid { IfOk result (λ it. IsRoot it.head) }
+    ensures found { IfOk result (λ it. IsLive slots.now it.slot it.stale it.root) }
+    ensures valid { IfOk result (λ it. IsRoot it.root) }
     ensures fault { IfErr result (λ e. Names e (live_root slots.now)) }
     ensures refused { IfErr result (λ e. (e ≡ Memory) ⊎ (e ≡ NoRoot) ⊎ (e ≡ BadRoot)) }
 {
     let slot = live_slot(slots)?;
-    let head = head_of(alloc, body_at(slots, slot))?;
+    let root = root_of(alloc, body_at(slots, slot))?;
     let stale = is_open(slots, 1 - slot);
-    Ok(Live { slot, stale, head })
+    Ok(Live { slot, stale, root })
 }

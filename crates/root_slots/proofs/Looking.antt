@@ -3,7 +3,7 @@ use Rattle.std.proofs.Common.{◌≡◌, ℕ, ◌+◌, List, refl, sym, ◌∙�
 use Rattle.disk_trait.specs.Calls.{IsCall, IsLawful, Keeps, Settles, LeavesOnly}
 use Rattle.disk_trait.specs.declared.facts.DiskFacts.{Ghosts}
 use Rattle.disk_trait.proofs.Moments.{moments_of_none, moments_of_call, moments_then}
-use Rattle.group_commit.specs.Loading.{OnlyLooks}
+use Rattle.root_slots.specs.Looks.{OnlyLooks}
 use Rattle.std.proofs.Common.{inl, inr}
 
 -- what a crash may leave at all moments, it may leave by a wider rule too

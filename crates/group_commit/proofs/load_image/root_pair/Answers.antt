@@ -1,7 +1,7 @@
 use Rattle.std.proofs.Common.{◌≡◌, ◌<◌, ℕ, true, get_or, ap, sym, ◌∙◌}
 use Rattle.root_slots.specs.Root.{is_root}
 use Rattle.group_commit.proofs.OneSpelling.{bodies_same}
-use Rattle.group_commit.proofs.load_image.roots.Goals as goal
+use Rattle.group_commit.proofs.load_image.root_pair.Goals as goal
 
 pub returns-clause-body : goal.returns-clause-body
 returns-clause-body c = λ root bytes spells.

@@ -1,0 +1,11 @@
+use Rattle.std.proofs.Common.{◌≡◌, sym}
+use Rattle.group_commit.proofs.Faults.{names_stored, failures_same}
+use Rattle.group_commit.proofs.load_image.load_roots.Goals as goal
+
+pub returns-in-Err-clause-fault : goal.returns-in-Err-clause-fault
+returns-in-Err-clause-fault g c = λ told.
+    rw (c.from.ensures) (names_stored c.in-Err.error (g.D.DiskFacts.content c.args.disk.now) (c.in-Err.ensures.fault told))
+
+pub returns-in-Err-clause-looks : goal.returns-in-Err-clause-looks
+returns-in-Err-clause-looks g c = λ told.
+    rw (c.from.ensures, failures_same c.in-Err.error) (c.in-Err.ensures.looks told)

@@ -1,0 +1,30 @@
+-- Why the root slots of a file aren't loaded.
+use Rattle.std.specs.Prelude.{◌≡◌, ℕ, Result, Ok, Err, ⊤}
+use Rattle.root_slots.specs.declared.error.RootsError.{RootsError}
+use Rattle.root_slots.specs.declared.error.RootsError.TheVariants.{Memory, NoRoot, BadRoot, ReadFailed}
+
+-- each refusal has one number
+abbrev pub number_of : RootsError → ℕ
+number_of Memory = 1
+number_of NoRoot = 42
+number_of BadRoot = 43
+number_of ReadFailed = 50
+
+-- a refusal has met a failure of the device, or not
+abbrev pub failures_of : RootsError → ℕ
+failures_of Memory = 0
+failures_of NoRoot = 0
+failures_of BadRoot = 0
+failures_of ReadFailed = 1
+
+-- what a load that answers so has met
+abbrev pub failed_in : {T : Type 0} → Result T RootsError → ℕ
+failed_in (Ok x) = 0
+failed_in (Err e) = failures_of e
+
+-- this refusal names the first fault of what was sought in a file; one of memory or of the device says nothing of it
+abbrev pub Names : {T : Type 0} → RootsError → Result T ℕ → Type 0
+Names Memory found = ⊤
+Names NoRoot found = found ≡ Err 42
+Names BadRoot found = found ≡ Err 43
+Names ReadFailed found = ⊤

@@ -1,0 +1,31 @@
+-- Which root slot of a file is live, and what it says.
+use Rattle.std.specs.Prelude.{◌≡◌, ℕ, ◌-◌, ◌<◌, ◌≤◌, ◌==◌, get_or, Bool, if◌then◌else◌, List, length, Result, Ok, Err}
+use Rattle.root_slots.specs.Root.{is_root}
+use Rattle.root_slots.specs.Body.{Root, Spells}
+use Rattle.root_slots.specs.Slots.{gate, body, live}
+
+-- which slot is live, 0 or 1, and whether the other one's gate reads 1
+pub record SlotPair : Type 0 where
+  pub slot : ℕ
+  pub stale : Bool
+
+-- the live slot of a file, whether the other one is open too, and what the live one says
+pub record IsLive (file : List ℕ) (slot : ℕ) (stale : Bool) (head : Root) : Type 0 where
+  pub whole : 8192 ≤ length file
+  pub below : slot < 2
+  pub picked : live file ≡ Ok slot
+  pub other : stale ≡ (gate (1 - slot) file == 1)
+  pub spells : Spells (body slot file) head
+  pub bytes : (i : ℕ) → get_or (body slot file) i 0 < 256
+
+-- this body, or bad root 43
+abbrev pub rooted : List ℕ → Result (List ℕ) ℕ
+rooted root = if is_root root then Ok root else Err 43
+
+abbrev pub root_at : List ℕ → Result ℕ ℕ → Result (List ℕ) ℕ
+root_at file (Ok slot) = rooted (body slot file)
+root_at file (Err n) = Err n
+
+-- the body of the live slot; no root 42, bad root 43
+abbrev pub live_root : List ℕ → Result (List ℕ) ℕ
+live_root file = root_at file (live file)

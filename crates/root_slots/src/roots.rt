@@ -1,0 +1,169 @@
+//! The two root slots of a file.
+ghost use Rattle.std.specs.Prelude.{◌≡◌, ◌-◌, ◌<◌, ◌≤◌, ◌↔◌, ℕ, [], ◌∷◌, true, false, length, IfOk, IfErr};
+ghost use Rattle.disk_trait.specs.declared.error.DiskError.TheVariants.{WriteFailed};
+ghost use Rattle.root_slots.specs.Body.{IsRoot};
+ghost use Rattle.root_slots.specs.Slots.{gate, gate_place, body_place};
+ghost use Rattle.root_slots.specs.Live.{IsLive, live_root};
+ghost use Rattle.root_slots.specs.Faults.{Names, failed_in};
+ghost use Rattle.root_slots.specs.Looks.{OnlyLooks};
+ghost use Rattle.root_slots.specs.Writing.{Writes};
+
+use crate::call::{read_inside, size_of, write_inside};
+use crate::error::RootsError;
+use crate::root_body::RootBody;
+use crate::slots::{Live, live_root};
+use disk_trait::{Disk, DiskError};
+use std::alloc::Global;
+use std::marker::Model;
+
+// The bytes of a page, and of both slots.
+const PAGE: u64 = 4096;
+
+const SLOTS: usize = 8192;
+
+/// The two root slots of a file: which one is live, and whether the other one's gate reads 1. That
+/// other one is the stale slot: the next root is written there. Contracts see the record of both.
+#[derive(Debug, Drop)]
+pub struct Roots {
+    // The live slot, 0 or 1.
+    slot: u64,
+    // Whether the gate of the stale slot reads 1.
+    stale: bool,
+}
+
+impl Model for Roots {
+    ghost use Rattle.std.specs.Prelude.{◌<◌};
+    ghost use Rattle.root_slots.specs.Live.{SlotPair};
+
+    ghost Value = { SlotPair };
+
+    ghost view = { λ r. record {
+      slot = r.slot;
+      stale = r.stale;
+    } };
+
+    ghost invariant = { λ r. r.slot < 2 };
+}
+
+/// The root slots of a file, the root that the live one holds, and the file's size in bytes.
+#[derive(Debug, Drop)]
+pub struct LoadedRoots {
+    pub roots: Roots,
+    pub root: RootBody,
+    pub file_size: u64,
+}
+
+impl Roots {
+    /// The root slots of a file that was just made: the first one is live, the second one closed.
+    /// Takes no memory.
+    pub fn of_new_file() -> Roots
+        ensures live { result.slot ≡ 0 }
+        ensures closed { result.stale ≡ false }
+    {
+        Roots {
+            slot: 0,
+            stale: false,
+        }
+    }
+
+    /// The root slots of a file, and the root that the live one holds. It writes nothing.
+    ///
+    /// Refuses with the first of these that it meets: 50 where the device failed; 42 where the file
+    /// has fewer than 8,192 bytes or no gate is open; 43 where both gates are open with equal
+    /// versions, or the live slot holds no root body. 1 may stand in place of 43 where a growth of
+    /// memory was refused.
+    ///
+    /// One `size` and one read of 8,192 bytes. It allocates the numbers of the root's table pages.
+    pub fn load<D: Disk>(alloc: Global, disk: &mut D) -> Result<LoadedRoots, RootsError>
+        ensures live { D.tells disk.old → IfOk result (λ it. IsLive (D.content disk.old)
+            it.roots.slot it.roots.stale it.root) }
+        ensures size { D.tells disk.old
+            → IfOk result (λ it. it.file_size ≡ length (D.content disk.old)) }
+        ensures below { IfOk result (λ it. it.roots.slot < 2) }
+        ensures valid { IfOk result (λ it. IsRoot it.root) }
+        ensures fault { D.tells disk.old
+            → IfErr result (λ e. Names e (live_root (D.content disk.old))) }
+        ensures looks { D.tells disk.old
+            → OnlyLooks D.DiskFacts (failed_in result) 0 disk.old disk.new }
+        ensures tells { D.tells disk.new ↔ D.tells disk.old }
+    {
+        let file_size = size_of(disk)?;
+        if file_size < 8192 {
+            return Err(RootsError::NoRoot);
+        }
+        let mut slots = [0; SLOTS];
+        read_inside(disk, 0, &mut slots)?;
+        let Live { slot, stale, root } = live_root(alloc, &slots)?;
+        let roots = Roots { slot, stale };
+        Ok(LoadedRoots {
+            roots,
+            root,
+            file_size,
+        })
+    }
+
+    /// The slot that is live: 0 or 1. Takes no memory.
+    pub fn slot(&self) -> u64
+        ensures slot { result ≡ self.now.slot }
+        ensures below { result < 2 }
+    {
+        self.slot
+    }
+
+    /// Whether the gate of the stale slot read 1 when the slots were loaded or last changed places.
+    /// Takes no memory.
+    pub fn is_stale_open(&self) -> bool
+        ensures { result ≡ self.now.stale }
+    {
+        self.stale
+    }
+
+    /// Closes the stale slot: one write of the byte 0 into its gate, which has to read 1. Refuses with
+    /// 51 where the device failed: then the gate holds any byte. Takes no memory.
+    pub fn close_stale<D: Disk>(&self, disk: &mut D) -> Result<(), DiskError>
+        requires whole { D.tells disk.old → 8192 ≤ length (D.content disk.old) }
+        requires reads_one { D.tells disk.old
+            → gate (1 - self.now.slot) (D.content disk.old) ≡ 1 }
+        ensures writes { D.tells disk.old → Writes D.DiskFacts result
+            (gate_place (1 - self.now.slot)) (0 ∷ []) disk.old disk.new }
+        ensures tells { D.tells disk.new ↔ D.tells disk.old }
+        ensures refused { IfErr result (λ e. e ≡ WriteFailed) }
+    {
+        write_inside(disk, PAGE * (1 - self.slot), &[0])
+    }
+
+    /// Writes the body of the next root, 4,088 bytes, into the stale slot behind its gate: one write.
+    /// Refuses with 51 where the device failed: then the body holds any bytes. Takes no memory.
+    pub fn put_body<D: Disk>(&self, disk: &mut D, body: &[u8]) -> Result<(), DiskError>
+        requires whole { D.tells disk.old → 8192 ≤ length (D.content disk.old) }
+        requires long { length body.now ≡ 4088 }
+        ensures writes { D.tells disk.old → Writes D.DiskFacts result
+            (body_place (1 - self.now.slot)) body.now disk.old disk.new }
+        ensures tells { D.tells disk.new ↔ D.tells disk.old }
+        ensures refused { IfErr result (λ e. e ≡ WriteFailed) }
+    {
+        write_inside(disk, PAGE * (1 - self.slot) + 8, body)
+    }
+
+    /// Opens the stale slot: one write of the byte 1 into its gate. Refuses with 51 where the device
+    /// failed: then the gate holds any byte. Takes no memory.
+    pub fn open_gate<D: Disk>(&self, disk: &mut D) -> Result<(), DiskError>
+        requires whole { D.tells disk.old → 8192 ≤ length (D.content disk.old) }
+        ensures writes { D.tells disk.old → Writes D.DiskFacts result
+            (gate_place (1 - self.now.slot)) (1 ∷ []) disk.old disk.new }
+        ensures tells { D.tells disk.new ↔ D.tells disk.old }
+        ensures refused { IfErr result (λ e. e ≡ WriteFailed) }
+    {
+        write_inside(disk, PAGE * (1 - self.slot), &[1])
+    }
+
+    /// The slots change places: the stale one, whose gate was opened and settled, is live, and the one
+    /// that was live is open too. It makes no device call. Takes no memory.
+    pub fn change_places(&mut self)
+        ensures slot { self.new.slot ≡ 1 - self.old.slot }
+        ensures stale { self.new.stale ≡ true }
+    {
+        self.slot = 1 - self.slot;
+        self.stale = true;
+    }
+}
