@@ -1,16 +1,13 @@
 -- What the calls of a store that keeps its rules do, phase by phase, and which slot is live.
-use Rattle.std.proofs.Common.{◌≡◌, ◌≢◌, ℕ, Bool, ◌-◌, ◌*◌, ◌<◌, ◌≤◌, List, [], ◌∷◌, length, refl, sym, ap, ◌∙◌, arith, Result, Ok, OnOk}
-use Rattle.disk_trait.specs.Calls.{IsLawful, Tears}
-use Rattle.disk_trait.specs.File.{overwritten}
+use Rattle.std.proofs.Common.{◌≡◌, ℕ, Bool, ◌-◌, ◌≤◌, List, length, Ok}
+use Rattle.disk_trait.specs.Calls.{IsLawful}
 use Rattle.disk_trait.specs.declared.facts.DiskFacts.{Ghosts}
 use Rattle.root_slots.specs.Slots.{gate, live}
 use Rattle.group_commit.specs.Saved.{Saved}
 use Rattle.group_commit.specs.Commit.{Stands}
 use Rattle.group_commit.specs.Held.{Held, IsSound}
-use Rattle.group_commit.specs.Step.{Writes, Closes}
-use Rattle.group_commit.specs.declared.error.StoreError.{StoreError}
 use Rattle.group_commit.specs.declared.phase.Phase.{Phase}
-use Rattle.group_commit.specs.declared.phase.Phase.TheVariants.{Idle, Pages, Close}
+use Rattle.group_commit.specs.declared.phase.Phase.TheVariants.{Idle, Close}
 use Rattle.group_commit.proofs.Steps.{live_by_older}
 
 -- in phase Close the stale gate reads 1

@@ -1,6 +1,6 @@
 -- Which refusal names which fault.
-use Rattle.std.proofs.Common.{◌≡◌, ◌≢◌, ◌⊎◌, ℕ, List, refl, sym, ap, ◌∙◌, inl, inr, Result, Ok, Err}
-use Rattle.group_commit.specs.Loading.{Names, IsFirstFault, HasNoHistory, HasNone, failures_of, of_roots}
+use Rattle.std.proofs.Common.{◌≡◌, ◌≢◌, ◌⊎◌, ℕ, List, refl, sym, ◌∙◌, inl, inr, Result, Ok, Err}
+use Rattle.group_commit.specs.Loading.{Names, IsFirstFault, HasNone, failures_of, of_roots}
 use Rattle.group_commit.specs.Image.{stored}
 use Rattle.root_slots.specs.Root.{count_of}
 use Rattle.root_slots.specs.Live.{live_root}

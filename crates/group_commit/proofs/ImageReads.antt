@@ -1,17 +1,17 @@
 -- What a file stands for, from what was read of it.
-use Rattle.std.proofs.Common.{◌≡◌, ◌≢◌, ◌⊎◌, ℕ, zero, suc, ◌+◌, ◌-◌, ◌*◌, ◌<◌, ◌≤◌, Bool, true, false, not, ◌&&◌, ◌==◌, nat_lt, List, [], ◌∷◌, ◌++◌, length, take, drop, refl, sym, ap, ◌∙◌, arith, Result, Ok, Err, if◌then◌else◌, inl, inr}
+use Rattle.std.proofs.Common.{◌≡◌, ◌≢◌, ℕ, zero, suc, ◌-◌, ◌<◌, Bool, true, false, not, ◌&&◌, ◌==◌, nat_lt, List, [], ◌++◌, length, take, drop, refl, sym, ap, ◌∙◌, arith, Result, Ok, Err, if◌then◌else◌}
 use Rattle.std.proofs.lemmas.Bool.Decides.{nat_tests}
 use Rattle.std.proofs.lemmas.List.{drop_at}
-use Rattle.page_file.specs.Pages.{pages, are_whole, is_zero, are_pages, joined}
-use Rattle.root_slots.specs.Root.{is_root, tables_of, stream_length_of, data_count, pages_for, version_of}
-use Rattle.root_slots.specs.Body.{Root, Spells, root_of}
-use Rattle.root_slots.specs.Slots.{gate, body, greater, picked, live}
+use Rattle.page_file.specs.Pages.{pages, are_whole, is_zero, joined}
+use Rattle.root_slots.specs.Root.{is_root, tables_of, stream_length_of, data_count, version_of}
+use Rattle.root_slots.specs.Body.{Root, Spells}
+use Rattle.root_slots.specs.Slots.{gate, body, live}
 use Rattle.root_slots.specs.Live.{IsLive}
 use Rattle.group_commit.specs.Saved.{Saved}
-use Rattle.group_commit.specs.Image.{entries, named, are_tables, stream_in, tables_in, stream, reached, Stores, in_slot, with_stream, stored}
-use Rattle.group_commit.specs.Commit.{HasPages, Stands, IsOlder, IsAsBefore}
+use Rattle.group_commit.specs.Image.{named, are_tables, tables_in, stream, reached, Stores, in_slot, with_stream, stored}
+use Rattle.group_commit.specs.Commit.{Stands}
 use Rattle.group_commit.specs.declared.phase.Phase.TheVariants.{Idle}
-use Rattle.group_commit.specs.Loading.{reached_by, reached_in, stream_of, stream_behind, reached_of, stream_at}
+use Rattle.group_commit.specs.Loading.{reached_in, stream_of, stream_behind, reached_of, stream_at}
 
 -- the stream of a root body, step by step
 stream_steps : (file root : List ℕ) → is_root root ≡ true

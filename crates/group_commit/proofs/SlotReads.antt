@@ -3,7 +3,7 @@ use Rattle.std.proofs.Common.{◌≡◌, ℕ, Bool, true, false, List, refl, sym
 use Rattle.root_slots.specs.Root.{is_root}
 use Rattle.root_slots.specs.Slots.{body, live}
 use Rattle.root_slots.specs.Live.{root_at, live_root}
-use Rattle.group_commit.specs.Image.{in_slot, with_stream, stored, stream}
+use Rattle.group_commit.specs.Image.{in_slot, stored}
 
 -- the fault of a slot's body, or none
 at_root : (file : List ℕ) (n : ℕ) (found : Result ℕ ℕ) → root_at file found ≡ Err n → in_slot file found ≡ Err n

@@ -1,14 +1,11 @@
 -- What table pages and data pages say, step by step.
-use Rattle.std.proofs.Common.{◌≡◌, ◌≢◌, ◌⊎◌, ℕ, ◌+◌, ◌-◌, ◌*◌, ◌/◌, ◌<◌, ◌≤◌, Bool, true, false, not, ◌&&◌, List, [], ◌∷◌, ◌++◌, length, take, drop, refl, sym, ap, ◌∙◌, arith, Result, Ok, Err, if◌then◌else◌}
-use Rattle.std.proofs.lemmas.Bool.Decides.{nat_tests}
-use Rattle.std.proofs.lemmas.List.{drop_at}
-use Rattle.page_file.specs.Pages.{pages, are_whole, is_zero, are_pages, joined}
-use Rattle.root_slots.specs.Root.{is_root, tables_of, stream_length_of, data_count, pages_for}
-use Rattle.root_slots.specs.Body.{Root, IsRoot, Spells, root_of, tables_for}
-use Rattle.root_slots.proofs.HeadLemmas.{is_rest, root_is_head, head_says, most_tables, length-tables}
-use Rattle.root_slots.specs.Head.{is_head}
-use Rattle.group_commit.specs.Image.{entries, named, are_tables, stream_in, tables_in, stream, reached, Stores}
-use Rattle.group_commit.specs.Loading.{are_within, reached_by, reached_in, stream_of, stream_behind, reached_of, stream_at}
+use Rattle.std.proofs.Common.{◌≡◌, ℕ, ◌+◌, ◌*◌, ◌≤◌, true, false, List, length, take, drop, refl, sym, ap, ◌∙◌, arith, Ok, Err}
+use Rattle.page_file.specs.Pages.{pages, are_whole, is_zero, joined}
+use Rattle.root_slots.specs.Root.{pages_for}
+use Rattle.root_slots.specs.Body.{tables_for}
+use Rattle.root_slots.proofs.HeadLemmas.{most_tables}
+use Rattle.group_commit.specs.Image.{entries}
+use Rattle.group_commit.specs.Loading.{are_within, reached_by, reached_in, stream_of}
 use Rattle.group_commit.proofs.PageReads.{within_whole}
 
 -- the test of sizes, in a file of this size

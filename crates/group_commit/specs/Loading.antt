@@ -1,9 +1,9 @@
 -- What a file is loaded as, what a refusal to load it says, and what loading does to the disk.
-use Rattle.std.specs.Prelude.{◌≡◌, ◌≢◌, ◌⊎◌, ℕ, ◌+◌, ◌-◌, ◌*◌, ◌<◌, ◌≤◌, ◌==◌, get_or, nat_le, Bool, true, not, ◌&&◌, if◌then◌else◌, List, [], ◌∷◌, ◌++◌, length, take, drop, Result, Ok, Err, ⊤}
+use Rattle.std.specs.Prelude.{◌≡◌, ◌≢◌, ◌⊎◌, ℕ, ◌+◌, ◌*◌, nat_le, Bool, true, not, ◌&&◌, if◌then◌else◌, List, [], ◌∷◌, ◌++◌, length, take, drop, Result, Ok, Err, ⊤}
 use Rattle.op_model.specs.declared.op.Op.{Op}
 use Rattle.change_codec.specs.Stream.{spelled_all, AreOperations}
 use Rattle.page_file.specs.Pages.{pages, are_whole, is_zero, are_pages, joined}
-use Rattle.root_slots.specs.Root.{replica_of, count_of, is_root, pages_for}
+use Rattle.root_slots.specs.Root.{replica_of, count_of, pages_for}
 use Rattle.root_slots.specs.Body.{Root}
 pub use Rattle.root_slots.specs.Looks.{OnlyLooks}
 use Rattle.root_slots.specs.declared.error.RootsError.{RootsError}

@@ -1,5 +1,5 @@
 -- Which refusal names which fault.
-use Rattle.std.proofs.Common.{◌≡◌, ◌⊎◌, ℕ, refl, inl, inr, Result, Ok, Err}
+use Rattle.std.proofs.Common.{◌≡◌, ◌⊎◌, ℕ, refl, inl, inr, Result, Err}
 use Rattle.root_slots.specs.Faults.{Names, failures_of}
 use Rattle.root_slots.specs.declared.error.RootsError.{RootsError}
 use Rattle.root_slots.specs.declared.error.RootsError.TheVariants.{Memory, NoRoot, BadRoot, ReadFailed}

@@ -1,6 +1,5 @@
 -- The two slots, read at once.
 use Rattle.std.proofs.Common.{◌≡◌, ℕ, zero, suc, ◌+◌, ◌-◌, ◌*◌, ◌<◌, ◌≤◌, Bool, true, false, ◌==◌, nat_lt, List, [], ◌∷◌, length, get_or, take, drop, refl, sym, ap, ◌∙◌, arith, Result, Ok, Err, if◌then◌else◌}
-use Rattle.std.proofs.lemmas.Bool.Decides.{nat_tests}
 use Rattle.std.proofs.lemmas.Bool.{le-ltb}
 use Rattle.std.proofs.lemmas.List.{take-take, drop-take, get_or-drop, length-take-le}
 use Rattle.disk_trait.specs.File.{part}
@@ -78,10 +77,6 @@ root_at_first file (Ok slot) below = ap rooted (body_first file slot (below slot
 pub live_root_first : (file : List ℕ) → 8192 ≤ length file → live_root (part file 0 8192) ≡ live_root file
 live_root_first file whole =
     ap (root_at (part file 0 8192)) (live_first file whole) ∙ root_at_first file (live file) (live_below file)
-
--- a file with fewer bytes has no root
-pub few_bytes : (file : List ℕ) → length file < 8192 → live_root file ≡ Err 42
-few_bytes file few = let test : nat_lt (length file) 8192 ≡ true = grind (arith, nat_tests) in rw test refl
 
 -- bytes of bytes
 pub small_take : (n : ℕ) (bytes : List ℕ) → ((i : ℕ) → get_or bytes i 0 < 256) → (i : ℕ) → get_or (take n bytes) i 0 < 256

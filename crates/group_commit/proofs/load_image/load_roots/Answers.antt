@@ -1,4 +1,3 @@
-use Rattle.std.proofs.Common.{◌≡◌, sym}
 use Rattle.group_commit.proofs.Faults.{names_stored, failures_same}
 use Rattle.group_commit.proofs.load_image.load_roots.Goals as goal
 

@@ -1,10 +1,10 @@
-use Rattle.std.proofs.Common.{rules, ◌≡◌, ℕ, ap, sym, ◌∙◌, refl, inl, inr}
+use Rattle.std.proofs.Common.{◌≡◌, ap, sym, ◌∙◌, refl, inl}
 use Rattle.std.proofs.lemmas.Result.{err_from_is_err_and}
 use Rattle.root_slots.specs.Root.{count_of}
 use Rattle.root_slots.specs.Slots.{body}
 use Rattle.group_commit.specs.Saved.{with_stream, in_front}
 use Rattle.group_commit.specs.Image.{stored}
-use Rattle.group_commit.specs.Loading.{stream_at, HasNone}
+use Rattle.group_commit.specs.Loading.{stream_at}
 use Rattle.group_commit.proofs.Faults.{names_on, quiet_ops, fault_of_ops}
 use Rattle.root_slots.proofs.Looking.{looks_then, looks_on}
 use Rattle.group_commit.proofs.ImageReads.{stream_fault, stored_stream, stands_read}

@@ -1,6 +1,4 @@
-use Rattle.std.proofs.Common.{rules, ◌≡◌, ◌+◌, ◌*◌, ◌++◌, ap, sym, ◌∙◌, arith}
-use Rattle.page_file.specs.Pages.{page, pages, joined}
-use Rattle.root_slots.specs.Looks.{OnlyLooks}
+use Rattle.std.proofs.Common.{arith}
 use Rattle.root_slots.proofs.Looking.{looks_then}
 use Rattle.group_commit.proofs.PageReads.{next_inside, next_whole, next_read}
 use Rattle.group_commit.proofs.reading.read_pages.Goals as goal

@@ -1,6 +1,6 @@
-use Rattle.std.proofs.Common.{rules, ◌≡◌, ◌+◌, ◌*◌, ◌-◌, ap, sym, ◌∙◌, arith, inl, inr}
+use Rattle.std.proofs.Common.{◌+◌, ◌*◌, ap, sym, ◌∙◌, arith, inl, inr}
 use Rattle.std.proofs.lemmas.Result.{err_from_is_err_and}
-use Rattle.root_slots.specs.Slots.{body, live}
+use Rattle.root_slots.specs.Slots.{live}
 use Rattle.root_slots.specs.Live.{rooted, root_at, live_root}
 use Rattle.root_slots.proofs.Faults.{names_on}
 use Rattle.root_slots.proofs.SlotReads.{small_part}

@@ -1,12 +1,11 @@
-use Rattle.std.proofs.Common.{ap, sym, ◌∙◌, ◌≡◌, ◌<◌, ◌≤◌, ◌+◌, ◌++◌, ℕ, List, Ok, Err, Some, false, true, length, length-append, take, inl, inr, refl, arith}
+use Rattle.std.proofs.Common.{ap, sym, ◌∙◌, ◌≡◌, ◌<◌, ◌+◌, ◌++◌, Ok, Some, length, length-append, inl, inr, refl, arith}
 use Rattle.std.proofs.lemmas.Result.{err_from_is_err_and}
 use Rattle.root_slots.specs.Root.{count_of, stream_length_of}
 use Rattle.change_codec.specs.Stream.{spelled_all}
 use Rattle.page_file.specs.Pages.{is_zero}
-use Rattle.group_commit.specs.Saved.{Saved, with_stream, in_front}
-use Rattle.group_commit.specs.Held.{Held, IsSound}
-use Rattle.group_commit.specs.Plan.{Plans}
-use Rattle.group_commit.specs.Begin.{is_idle, has_room, begin_due, IsBegun}
+use Rattle.group_commit.specs.Saved.{with_stream}
+use Rattle.group_commit.specs.Held.{IsSound}
+use Rattle.group_commit.specs.Begin.{is_idle, has_room}
 use Rattle.group_commit.specs.declared.phase.Phase.TheVariants.{Pages}
 use Rattle.group_commit.proofs.BeginLemmas.{due_of, idle_is, room_says, Room}
 use Rattle.group_commit.proofs.DeviceCall.{left_of}

@@ -1,4 +1,4 @@
-use Rattle.std.proofs.Common.{ap, ◌∙◌, true, false, inl, inr, ◌⊎◌, sym, refl}
+use Rattle.std.proofs.Common.{ap, ◌∙◌, true, sym, refl}
 use Rattle.group_commit.specs.declared.error.StoreError.TheVariants.{WriteFailed}
 use Rattle.group_commit.proofs.store.Store.close.Goals as goal
 use Rattle.group_commit.specs.declared.phase.Phase.TheVariants.{Close}

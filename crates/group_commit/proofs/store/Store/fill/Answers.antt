@@ -1,4 +1,4 @@
-use Rattle.std.proofs.Common.{refl, ap, sym, ◌≡◌, ◌≢◌, ℕ, List, length, ◌∙◌, true, false, inl, inr, ◌⊎◌}
+use Rattle.std.proofs.Common.{refl, ap, sym, ◌≡◌, ◌≢◌, ℕ, List, length, ◌∙◌, true}
 use Rattle.disk_trait.specs.File.{overwritten}
 use Rattle.disk_trait.specs.Calls.{Tears}
 use Rattle.disk_trait.specs.declared.facts.DiskFacts.{Ghosts}

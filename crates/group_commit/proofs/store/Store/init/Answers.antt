@@ -1,5 +1,5 @@
 use Rattle.group_commit.proofs.store.Store.init.Goals as goal
-use Rattle.std.proofs.Common.{ap, sym, ◌∙◌, ◌≡◌, ◌≢◌, ℕ, List, refl, arith, length, take, ◌*◌, []}
+use Rattle.std.proofs.Common.{ap, sym, ◌∙◌, ◌≡◌, ℕ, List, refl, arith, length, take, ◌*◌, []}
 use Rattle.std.proofs.lemmas.List.{take_all}
 use Rattle.root_slots.specs.Root.{stream_length_of}
 use Rattle.group_commit.specs.Saved.{in_front}

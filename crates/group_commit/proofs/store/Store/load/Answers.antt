@@ -1,4 +1,4 @@
-use Rattle.std.proofs.Common.{◌≡◌, ap, sym, ◌∙◌, refl, arith, length, take}
+use Rattle.std.proofs.Common.{refl}
 use Rattle.root_slots.specs.Root.{stream_length_of}
 use Rattle.group_commit.specs.Saved.{with_stream, in_front}
 use Rattle.group_commit.proofs.Steps.{is_idle, live_by_older}

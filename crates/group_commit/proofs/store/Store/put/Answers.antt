@@ -1,4 +1,4 @@
-use Rattle.std.proofs.Common.{ap, sym, ◌≡◌, ◌≢◌, ◌<◌, ◌≤◌, ◌*◌, ◌+◌, ℕ, List, length, get_or, refl, arith, ◌∙◌, true, false, inl, inr, ◌⊎◌}
+use Rattle.std.proofs.Common.{ap, sym, ◌≡◌, ◌≢◌, ◌<◌, ◌≤◌, ◌*◌, ◌+◌, ℕ, length, get_or, refl, arith, ◌∙◌}
 use Rattle.group_commit.specs.declared.error.StoreError.TheVariants.{WriteFailed}
 use Rattle.group_commit.proofs.store.Store.put.Goals as goal
 use Rattle.group_commit.proofs.Inside.{inside_page}

@@ -1,4 +1,4 @@
-use Rattle.std.proofs.Common.{ap, ◌∙◌, true, false, inl, inr, ◌⊎◌, sym}
+use Rattle.std.proofs.Common.{ap, ◌∙◌, sym}
 use Rattle.group_commit.specs.declared.error.StoreError.TheVariants.{SyncFailed}
 use Rattle.group_commit.proofs.store.Store.settle_body.Goals as goal
 use Rattle.group_commit.specs.declared.phase.Phase.TheVariants.{Sync2}
