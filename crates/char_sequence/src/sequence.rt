@@ -47,6 +47,13 @@ impl Sequence {
         }
     }
 
+    /// The sequence with these cells. Constant.
+    pub(crate) fn from_cells(cells: Vec<Cell>) -> Sequence
+        ensures { result ≡ cells.items }
+    {
+        Sequence { cells }
+    }
+
     /// The allocator that it keeps.
     pub fn allocator(&self) -> Global {
         *self.cells.allocator()

@@ -110,3 +110,43 @@ fn several_removes_go_whole_or_not_at_all(rt: HostRuntime) -> Result<(), Fail> {
     assert!(rt; has_text(&rt, &sequence, "ab")?);
     Ok(())
 }
+
+/// Whether a weave holds what a sequence shows.
+fn is_woven(rt: &HostRuntime, weave: &Weave, expected: &Sequence) -> Result<bool, Fail> {
+    let woven = weave.sequence(rt.alloc())?;
+    Ok(woven.text()? == expected.text()? && woven.run_after(1)? == expected.run_after(1)?)
+}
+
+#[test]
+fn a_weave_holds_what_a_sequence_does(rt: HostRuntime) -> Result<(), Fail> {
+    let mut weave = Weave::new(rt.alloc())?;
+    let mut sequence = Sequence::new(rt.alloc());
+    let inserts = [
+        (id(1, 1)?, None, 'x'),
+        (id(2, 1)?, Some(id(1, 1)?), 'y'),
+        (id(2, 2)?, Some(id(1, 1)?), 'z'),
+        (id(5, 2)?, Some(id(1, 1)?), 'v'),
+        (id(3, 1)?, Some(id(2, 1)?), 'w'),
+        (id(4, 1)?, None, 'u'),
+    ];
+    for insert in &inserts {
+        weave.insert(insert.0, insert.1, insert.2)?;
+        sequence.apply_insert(insert.0, insert.1, insert.2)?;
+    }
+    weave.remove(id(5, 2)?)?;
+    sequence.apply_remove(id(5, 2)?)?;
+    assert!(rt; has_text(&rt, &sequence, "uxzyw")?);
+    assert!(rt; is_woven(&rt, &weave, &sequence)?);
+    Ok(())
+}
+
+#[test]
+fn a_weave_refuses_an_unknown_id(rt: HostRuntime) -> Result<(), Fail> {
+    let mut weave = Weave::new(rt.alloc())?;
+    weave.insert(id(1, 1)?, None, 'a')?;
+    let refused = weave.insert(id(3, 1)?, Some(id(2, 2)?), 'b');
+    assert_eq!(rt; refused.err().map_or(0, |error| error.number()), 60);
+    let refused = weave.remove(id(2, 1)?);
+    assert_eq!(rt; refused.err().map_or(0, |error| error.number()), 60);
+    Ok(())
+}

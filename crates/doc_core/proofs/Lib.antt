@@ -3,3 +3,4 @@ pub mod LawLemmas
 pub mod MakingLemmas
 pub mod StandingLemmas
 pub mod RunLemmas
+pub mod DraftLemmas

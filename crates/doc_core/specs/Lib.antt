@@ -2,3 +2,4 @@ pub mod Limits
 pub mod Making
 pub mod Refusal
 pub mod Standing
+pub mod Drafting

@@ -3,6 +3,7 @@
 
 mod apply;
 mod doc;
+mod draft;
 mod laws;
 mod make;
 mod make_error;
@@ -11,6 +12,7 @@ mod numbering;
 
 pub use char_sequence::SequenceError;
 pub use doc::Doc;
+pub use draft::Draft;
 pub use laws::{followers_may_come, other_operations_stay};
 pub use make_error::MakeError;
 

@@ -4,23 +4,13 @@ use Rattle.disk_trait.specs.Calls.{IsCall, IsLawful}
 use Rattle.disk_trait.specs.declared.facts.DiskFacts.{Ghosts}
 use Rattle.disk_trait.proofs.Moments.{moments_of_call}
 use Rattle.group_commit.specs.Saved.{Saved}
-use Rattle.group_commit.specs.Commit.{Stands, Is, IsOneOf, IsLeft}
+use Rattle.group_commit.specs.Commit.{Stands, IsLeft}
 use Rattle.group_commit.specs.Held.{Held, IsPlan, IsSound}
-use Rattle.group_commit.specs.Step.{failures_in, IsDeviceCall}
+use Rattle.group_commit.specs.Step.{failures_in, IsDeviceCall, IsLeftAround}
 use Rattle.group_commit.specs.declared.error.StoreError.{StoreError}
 use Rattle.group_commit.specs.declared.phase.Phase.{Phase}
 use Rattle.group_commit.specs.declared.phase.Phase.TheVariants.{Idle, Pages, Close, Sync1, Body, Sync2, Gate, Sync3}
 use Rattle.group_commit.proofs.Steps.{is_left, is_idle}
-
-one_of : (p : Phase) (current next : Saved) (c : List ℕ) → IsLeft p current next c → IsOneOf current next c
-one_of Idle current next c is = inl is
-one_of (Pages k) current next c is = inl is
-one_of Close current next c is = inl is
-one_of Sync1 current next c is = inl is
-one_of Body current next c is = inl is
-one_of Sync2 current next c is = inl is
-one_of Gate current next c is = inl is
-one_of Sync3 current next c is = is
 
 -- in each phase the image is the live root or the next one
 left_in : (p : Phase) (slot : ℕ) (stale : Bool) (current next : Saved) (numbers fresh : List ℕ) (c : List ℕ) → slot < 2
@@ -41,26 +31,21 @@ module _ {D : Type 0} (facts : Ghosts D) where
   left_of held slot numbers fresh sound tells c left =
       left_in held.phase slot held.stale held.current held.next numbers fresh c sound.slots sound.plan (sound.stands tells c left)
 
-  pub shown_by : (held : Held D) (slot : ℕ) (numbers fresh : List ℕ) → IsSound facts held slot numbers fresh → facts.tells held.disk
-      → (c : List ℕ) → facts.survives held.disk c → IsOneOf held.current held.next c
-  shown_by held slot numbers fresh sound tells c left = one_of held.phase held.current held.next c (left_of held slot numbers fresh sound tells c left)
-
-  -- a device call between two sound stores with the same two roots
+  -- a device call between two sound stores
   pub device_call : (T : Type 0) (failures writes syncs : ℕ) (error : StoreError) (result : Result T StoreError) (inside old new : Held D) (slot slot' : ℕ)
       (numbers fresh : List ℕ) → inside ≡ old
       → IsSound facts inside slot numbers fresh → IsSound facts new slot' numbers fresh
-      → ((c : List ℕ) → IsOneOf new.current new.next c → IsOneOf inside.current inside.next c)
       → (facts.tells new.disk ↔ facts.tells inside.disk)
       → (facts.tells inside.disk → IsCall facts (failures_in result) writes syncs inside.disk new.disk)
       → (facts.tells inside.disk → IsLawful facts inside.disk) → IfErr result (λ e. e ≡ error)
       → IsDeviceCall facts writes syncs error result old new
-  device_call T failures writes syncs error result inside old new slot slot' numbers fresh same sound sound' roots told call lawful refused =
+  device_call T failures writes syncs error result inside old new slot slot' numbers fresh same sound sound' told call lawful refused =
       rw (sym same) (record {
         tells = told;
         call = call;
-        moments = λ tells. moments_of_call facts (IsOneOf inside.current inside.next) inside.disk new.disk (lawful tells) (call tells)
-            (shown_by inside slot numbers fresh sound tells)
-            (λ c left. roots c (shown_by new slot' numbers fresh sound' (told.1 tells) c left));
+        moments = λ tells. moments_of_call facts (IsLeftAround inside new) inside.disk new.disk (lawful tells) (call tells)
+            (λ c left. inl (left_of inside slot numbers fresh sound tells c left))
+            (λ c left. inr (left_of new slot' numbers fresh sound' (told.1 tells) c left));
         left = left_of new slot' numbers fresh sound';
         refused = refused;
       })

@@ -1,10 +1,10 @@
 -- What a step of a commit does to the disk below the store.
-use Rattle.std.specs.Prelude.{◌≡◌, ◌↔◌, ◌<◌, ℕ, ◌+◌, ◌-◌, ◌*◌, List, [], ◌∷◌, length, get_or, Result, Ok, Err, IfErr, OnOk, OnErr}
+use Rattle.std.specs.Prelude.{◌≡◌, ◌⊎◌, ◌↔◌, ◌<◌, ℕ, ◌+◌, ◌-◌, ◌*◌, List, [], ◌∷◌, length, get_or, Result, Ok, Err, IfErr, OnOk, OnErr}
 use Rattle.disk_trait.specs.File.{overwritten}
 use Rattle.disk_trait.specs.Calls.{IsCall, LeavesOnly, Tears, Settles, Keeps}
 use Rattle.disk_trait.specs.declared.facts.DiskFacts.{Ghosts}
 use Rattle.root_slots.specs.Slots.{gate}
-use Rattle.group_commit.specs.Commit.{IsOneOf, IsLeft}
+use Rattle.group_commit.specs.Commit.{IsLeft}
 use Rattle.group_commit.specs.Held.{Held}
 use Rattle.group_commit.specs.declared.error.StoreError.{StoreError}
 use Rattle.group_commit.specs.declared.error.StoreError.TheVariants.{WriteFailed, SyncFailed}
@@ -16,13 +16,17 @@ abbrev pub failures_in : {T : Type 0} → Result T StoreError → ℕ
 failures_in (Ok x) = 0
 failures_in (Err e) = 1
 
+-- what a crash leaves before a call, or behind it
+abbrev pub IsLeftAround : {D : Type 0} → Held D → Held D → List ℕ → Type 0
+IsLeftAround old new file = IsLeft old.phase old.current old.next file ⊎ IsLeft new.phase new.current new.next file
+
 -- One device call, with so many writes and syncs. It is refused with this error alone, and only where the device failed. A crash
--- at any moment of it leaves a file that has the live root, or the one that the commit makes.
+-- at any moment of it leaves what one before it or behind it does.
 pub record IsDeviceCall {D : Type 0} {T : Type 0} (facts : Ghosts D) (writes syncs : ℕ) (error : StoreError) (result : Result T StoreError)
     (old new : Held D) : Type 0 where
   pub tells : facts.tells new.disk ↔ facts.tells old.disk
   pub call : facts.tells old.disk → IsCall facts (failures_in result) writes syncs old.disk new.disk
-  pub moments : facts.tells old.disk → LeavesOnly facts old.disk new.disk (IsOneOf old.current old.next)
+  pub moments : facts.tells old.disk → LeavesOnly facts old.disk new.disk (IsLeftAround old new)
   -- what a crash right after it leaves
   pub left : facts.tells new.disk → (c : List ℕ) → facts.survives new.disk c → IsLeft new.phase new.current new.next c
   pub refused : IfErr result (λ e. e ≡ error)

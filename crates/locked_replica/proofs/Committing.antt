@@ -13,7 +13,7 @@ use Rattle.root_slots.specs.Root.{version_of, replica_of, count_of}
 use Rattle.replica_core.specs.Held.{Held, IsSound, opened_with, stored, with_settled}
 use Rattle.replica_core.proofs.ReachedLemmas.{length_is_reached}
 use Rattle.group_commit.specs.Begin.{is_idle, is_none, has_room, begin_due, Begins, IsAnswer}
-use Rattle.group_commit.specs.Commit.{IsOneOf, IsLeft}
+use Rattle.group_commit.specs.Commit.{IsLeft}
 use Rattle.group_commit.specs.Errors.{number_of}
 use Rattle.group_commit.specs.Held.{gone_on, has_failed, behind_pages, left_at, Held as StoreHeld}
 use Rattle.group_commit.specs.Loading.{IsHistory}
@@ -21,17 +21,16 @@ use Rattle.group_commit.specs.Saved.{Saved}
 use Rattle.group_commit.specs.Changes.{changed_pages}
 use Rattle.group_commit.specs.Counts.{writes_from, syncs_from, writes_left, syncs_left, IsUnderWay as IsWriting}
 use Rattle.group_commit.proofs.CountLemmas.{writes_fall, syncs_fall, none_left}
-use Rattle.group_commit.specs.Step.{IsDeviceCall, Does, error_in, failures_in as failures_of, writes_in, syncs_in}
+use Rattle.group_commit.specs.Step.{IsDeviceCall, IsLeftAround, Does, error_in, failures_in as failures_of, writes_in, syncs_in}
 use Rattle.group_commit.specs.declared.error.StoreError.{StoreError}
 use Rattle.group_commit.specs.declared.error.StoreError.TheVariants.{Failed}
 use Rattle.group_commit.specs.declared.phase.Phase.{Phase}
 use Rattle.group_commit.specs.declared.phase.Phase.TheVariants.{Idle, Pages, Close, Sync1, Body, Sync2, Gate, Sync3}
 use Rattle.locked_replica.specs.Hub.{Parts, committed, commit_in, version_in, state_of, is_through}
 use Rattle.locked_replica.specs.Fits.{Fits, IsFront, due_behind, CanSettle, IsUnderWay, IsAtRest, Commits}
-use Rattle.locked_replica.specs.Recovery.{HasAtLeast, IsCrash}
-use Rattle.locked_replica.specs.Calls.{IsCall, IsLeftIn, Counts, StoreBegins, StoreSteps, calls_in, failures_in, settled_by, writes_begun, syncs_begun}
+use Rattle.locked_replica.specs.Calls.{IsCall, IsLeftIn, Counts, StepsOn, StepsFail, StoreBegins, StoreSteps, calls_in, failures_in, settled_by, writes_begun, syncs_begun}
 use Rattle.locked_replica.specs.Steps.{stepped_in}
-use Rattle.locked_replica.proofs.Recovering.{image_of, survivor_has, survivor_has_settled, crash_under_way, crash_next}
+use Rattle.locked_replica.proofs.Recovering.{survivor_has_settled, survivor_is_left, left_of, left_has}
 use Rattle.locked_replica.proofs.Keeping.{Grows, grows_same, fits_settled, due_few}
 use Rattle.locked_replica.proofs.QuietCalls.{quiet_call, counts_same}
 use Rattle.locked_replica.proofs.RoomLemmas.{room_is_version, none_behind, behind_front}
@@ -95,28 +94,6 @@ fits_begun facts h s new fits rest settled more begun =
       left = begun.left;
     }
 
--- a file with either root has what is settled
-one_of_has : (h : Held) (current next : Saved) (file : List ℕ) → IsSound h → IsFront h current → IsUnderWay h current next → IsOneOf current next file
-    → HasAtLeast h.settled h file
-one_of_has h current next file sound live way (inl is) =
-    let same = way.settled in
-    record {
-      version = version_of current.body;
-      count = count_of current.body;
-      enough = omega (arith, same);
-      within = live.within;
-      image = image_of h current file sound live is;
-    }
-one_of_has h current next file sound live way (inr is) =
-    let more = way.owed.more in
-    record {
-      version = version_of next.body;
-      count = count_of next.body;
-      enough = omega (arith, more);
-      within = way.front.within;
-      image = image_of h next file sound way.front is;
-    }
-
 moments_of : {D : Type 0} (facts : Ghosts D) (old new : D) (P Q : List ℕ → Type 0) → ((file : List ℕ) → P file → Q file) → LeavesOnly facts old new P
     → LeavesOnly facts old new Q
 moments_of facts old new P Q weaker leaves =
@@ -130,34 +107,15 @@ moments_of facts old new P Q weaker leaves =
     either (inl a) = inl a
     either {file = file} (inr p) = inr (weaker file p)
 
--- and is what the machine's crash leaves
-one_of_crash : {D : Type 0} (facts : Ghosts D) (h : Held) (s : StoreHeld D) (file : List ℕ) → Fits facts (record { replica = h; store = s })
-    → is_idle s.phase ≡ false → IsUnderWay h s.current s.next → IsOneOf s.current s.next file → IsCrash (record { replica = h; store = s }) file
-one_of_crash facts h s file fits busy way (inl is) =
-    record {
-      version = version_of s.current.body;
-      count = committed s;
-      image = image_of h s.current file fits.sound fits.live is;
-      leaves = rw busy (crash_under_way h s.failed (committed s) (version_of s.current.body) (count_of s.next.body) file way.settled);
-    }
-one_of_crash facts h s file fits busy way (inr is) =
-    record {
-      version = version_of s.next.body;
-      count = count_of s.next.body;
-      image = image_of h s.next file fits.sound way.front is;
-      leaves = rw busy (crash_next h s.failed (committed s) (version_of s.current.body) (count_of s.next.body) _ file way.version);
-    }
-
 -- one device call of a commit under way, with what it makes of the hub
 device_call : {D : Type 0} {T : Type 0} (facts : Ghosts D) (h : Held) (s new : StoreHeld D) (writes syncs : ℕ) (error : StoreError) (result : Result T StoreError)
     (answer : Answer) → Fits facts (record { replica = h; store = s }) → is_idle s.phase ≡ false → IsDeviceCall facts writes syncs error result s new
     → Step h.replica (state_of (record { replica = h; store = s })) device_step answer (state_of (record { replica = h; store = new }))
     → calls_in device_step answer ≡ 1 → failures_of result ≡ failures_in device_step answer → h.settled ≡ settled_by h.settled answer
-    → Fits facts (record { replica = h; store = new }) → Counts facts answer s new → StoreSteps answer s new
+    → Fits facts (record { replica = h; store = new }) → Counts facts answer s new → StoreSteps facts answer s new
     → IsCall facts device_step answer (record { replica = h; store = s }) (record { replica = h; store = new })
 device_call facts h s new writes syncs error result answer fits busy call step one failing same after counts goes =
     let kept = grows_same h in
-    let way : IsUnderWay h s.current s.next = rw busy at fits.commit in
     record {
       owner = refl;
       step = step;
@@ -169,50 +127,54 @@ device_call facts h s new writes syncs error result answer fits busy call step o
       tells = call.tells;
       time = λ told. rw one ((call.call told).one_more);
       failures = λ told. rw (sym failing) ((call.call told).failures);
-      moments = λ told. moments_of facts s.disk new.disk (IsOneOf s.current s.next)
-          (IsLeftIn (record { replica = h; store = s }) (record { replica = h; store = new }))
-          (λ file is. record {
-            has = one_of_has h s.current s.next file fits.sound fits.live way is;
-            crash = inl (one_of_crash facts h s file fits busy way is);
-          }) (call.moments told);
+      moments = λ told. moments_of facts s.disk new.disk (IsLeftAround s new) (IsLeftIn (record { replica = h; store = s }) (record { replica = h; store = new })) around
+          (call.moments told);
       left = λ told file survives. survivor_has_settled facts (record { replica = h; store = new }) file after told survives;
-      recovers = λ told file survives. survivor_has facts (record { replica = h; store = new }) file after told survives;
+      is_left = λ told file survives. survivor_is_left facts (record { replica = h; store = new }) file after told survives;
       counts = counts;
     }
+  where
+    around : (file : List ℕ) → IsLeftAround s new file → IsLeftIn (record { replica = h; store = s }) (record { replica = h; store = new }) file
+    around file (inl is) =
+        let left = left_of facts (record { replica = h; store = s }) file fits is in
+        record { has = left_has facts (record { replica = h; store = s }) file fits left; around = inl left }
+    around file (inr is) =
+        let left = left_of facts (record { replica = h; store = new }) file after is in
+        record { has = left_has facts (record { replica = h; store = new }) file after left; around = inr left }
 
 -- the commit goes on
 pub call_goes_on : {D : Type 0} {T : Type 0} (facts : Ghosts D) (h : Held) (s new : StoreHeld D) (writes syncs : ℕ) (error : StoreError) (result : Result T StoreError)
     → Fits facts (record { replica = h; store = s }) → s.failed ≡ false → is_idle s.phase ≡ false → IsDeviceCall facts writes syncs error result s new
     → is_idle new.phase ≡ false → new.current ≡ s.current → new.next ≡ s.next → new.failed ≡ false
     → Fits facts (record { replica = h; store = new })
-    → Counts facts goes_on s new → failures_of result ≡ 0 → new ≡ gone_on s.phase s new.disk
+    → Counts facts goes_on s new → failures_of result ≡ 0 → StepsOn facts s new
     → IsCall facts device_step goes_on (record { replica = h; store = s }) (record { replica = h; store = new })
-call_goes_on facts h s new writes syncs error result fits works busy call busy' current next works' after counts none gone =
-    device_call facts h s new writes syncs error result goes_on fits busy call (rw (works, busy, works', busy', current, next) (refl, refl, refl)) refl none refl after counts gone
+call_goes_on facts h s new writes syncs error result fits works busy call busy' current next works' after counts none goes =
+    device_call facts h s new writes syncs error result goes_on fits busy call (rw (works, busy, works', busy', current, next) (refl, refl, refl)) refl none refl after counts goes
 
 -- the commit is through
 pub call_goes_through : {D : Type 0} {T : Type 0} (facts : Ghosts D) (h : Held) (s new : StoreHeld D) (writes syncs : ℕ) (error : StoreError)
     (result : Result T StoreError) → Fits facts (record { replica = h; store = s }) → s.failed ≡ false → is_idle s.phase ≡ false
     → IsDeviceCall facts writes syncs error result s new → is_idle new.phase ≡ true → new.current ≡ s.next → new.failed ≡ false
     → Fits facts (record { replica = h; store = new })
-    → Counts facts goes_through s new → failures_of result ≡ 0 → new ≡ gone_on s.phase s new.disk
+    → Counts facts goes_through s new → failures_of result ≡ 0 → StepsOn facts s new
     → IsCall facts device_step goes_through (record { replica = h; store = s }) (record { replica = h; store = new })
-call_goes_through facts h s new writes syncs error result fits works busy call rest current works' after counts none gone =
+call_goes_through facts h s new writes syncs error result fits works busy call rest current works' after counts none goes =
     let way : IsUnderWay h s.current s.next = rw busy at fits.commit in
     let more = lt_true h.settled (count_of s.next.body) way.owed.more in
     let before : version_of s.next.body - 1 ≡ version_of s.current.body = let after = way.version in omega (arith, after) in
-    device_call facts h s new writes syncs error result goes_through fits busy call (rw (works, busy, works', rest, current, more, before) (refl, refl, refl)) refl none refl after counts gone
+    device_call facts h s new writes syncs error result goes_through fits busy call (rw (works, busy, works', rest, current, more, before) (refl, refl, refl)) refl none refl after counts goes
 
 -- the device failed
 pub call_fails : {D : Type 0} {T : Type 0} (facts : Ghosts D) (h : Held) (s new : StoreHeld D) (writes syncs : ℕ) (error : StoreError) (result : Result T StoreError)
     (n : ℕ) → Fits facts (record { replica = h; store = s }) → s.failed ≡ false → is_idle s.phase ≡ false → IsDeviceCall facts writes syncs error result s new
     → is_idle new.phase ≡ false → new.current ≡ s.current → new.next ≡ s.next → new.failed ≡ true → (n ≡ 51) ⊎ (n ≡ 52)
     → Fits facts (record { replica = h; store = new })
-    → Counts facts (refused n) s new → failures_of result ≡ 1 → n ≡ number_of (error_in s.phase) → new ≡ has_failed s new.disk
+    → Counts facts (refused n) s new → failures_of result ≡ 1 → StepsFail facts n s new
     → IsCall facts device_step (refused n) (record { replica = h; store = s }) (record { replica = h; store = new })
-call_fails facts h s new writes syncs error result n fits works busy call busy' current next failed is after counts some number gone =
+call_fails facts h s new writes syncs error result n fits works busy call busy' current next failed is after counts some goes =
     device_call facts h s new writes syncs error result (refused n) fits busy call
-    (inr (works, rw busy refl, is, rw (busy, failed, busy', current, next) refl)) (one n is) (some ∙ sym (one n is)) refl after counts (inr (number, gone))
+    (inr (works, rw busy refl, is, rw (busy, failed, busy', current, next) refl)) (one n is) (some ∙ sym (one n is)) refl after counts (inr goes)
   where
     one : (n : ℕ) → (n ≡ 51) ⊎ (n ≡ 52) → calls_in device_step (refused n) ≡ 1
     one n (inl is) = rw is refl
@@ -401,6 +363,9 @@ step_made {D} facts h s new p lawful fits stepped made went = rw made (by_kind (
     gone : new ≡ gone_on s.phase s new.disk
     gone = went works
 
+    steps : StepsOn facts s new
+    steps = record { next = gone; does = λ told. subst (λ q. Does {T = Phase} facts (Ok q) s.phase s new.disk) made (stepped.does works told) }
+
     by_kind : (s.phase ≡ Idle) ⊎ ((s.phase ≡ Sync3) ⊎ ((is_idle s.phase ≡ false) × (s.phase ≢ Sync3) × (stepped_in s.phase ≡ goes_on)))
         → Makes facts device_step (stepped_in s.phase) (record { replica = h; store = s }) (record { replica = h; store = new })
     by_kind (inl is) = rw (stepped.idle works is).1 (fits, at_rest)
@@ -428,7 +393,7 @@ step_made {D} facts h s new p lawful fits stepped made went = rw made (by_kind (
           after,
           subst (λ q. IsCall facts device_step (stepped_in q) (record { replica = h; store = s }) (record { replica = h; store = new })) (sym is)
               (call_goes_through facts h s new _ _ _ _ fits works busy its_call rest current works' after
-              (counts_on facts s new p goes_through refl refl works stepped (not_idle s.phase busy) gone) refl gone),
+              (counts_on facts s new p goes_through refl refl works stepped (not_idle s.phase busy) gone) refl steps),
         )
     by_kind (inr (inr (busy, other, on))) =
         let kept = kept_current s.phase s new.disk other in
@@ -440,7 +405,7 @@ step_made {D} facts h s new p lawful fits stepped made went = rw made (by_kind (
         let after = fits_going facts h s new fits busy busy' current next its_call.left in (
           after,
           rw on (call_goes_on facts h s new _ _ _ _ fits works busy its_call busy' current next works' after
-              (counts_on facts s new p goes_on refl refl works stepped (not_idle s.phase busy) gone) refl gone),
+              (counts_on facts s new p goes_on refl refl works stepped (not_idle s.phase busy) gone) refl steps),
         )
 
 -- a device step that is refused
@@ -472,7 +437,11 @@ step_refused facts h s new e lawful fits stepped gone = by_test s.failed refl
         let after = fits_going facts h s new fits busy busy' current next its_call.left in
         let error = its_call.refused in (
           after,
-          call_fails facts h s new _ _ _ _ (number_of e) fits works busy its_call busy' current next failed (rw error (device_number s.phase)) after (counts_failed facts _ s new failed) refl (ap number_of error) gone_so,
+          call_fails facts h s new _ _ _ _ (number_of e) fits works busy its_call busy' current next failed (rw error (device_number s.phase)) after (counts_failed facts _ s new failed) refl (record {
+            number = ap number_of error;
+            next = gone_so;
+            does = λ told. subst (λ q. Does {T = Phase} facts (Err q) s.phase s new.disk) error (stepped.does works told);
+          }),
         )
 
 -- a begin of a hub whose device failed, and of one with a commit that is through

@@ -18,7 +18,7 @@ use Rattle.locked_replica.specs.Hub.{Parts, state_of, version_at, commit_of}
 use Rattle.locked_replica.specs.Fits.{Fits}
 use Rattle.locked_replica.specs.Recovery.{HasAtLeast}
 use Rattle.locked_replica.specs.Calls.{IsCall, IsLeftIn, Counts, StoreGoes, calls_in, failures_in, settled_by, writes_begun, syncs_begun}
-use Rattle.locked_replica.proofs.Recovering.{survivor_has, survivor_has_settled, crash_of}
+use Rattle.locked_replica.proofs.Recovering.{survivor_has_settled, survivor_is_left}
 use Rattle.locked_replica.proofs.Keeping.{Grows, grows_edit, grows_merge, grows_same, grows_acked, grows_told, fits_grown}
 
 -- what has more has fewer
@@ -68,7 +68,7 @@ quiet_call {D} facts event answer old new same lawful fits owner step more list 
       failures = λ told. let few = few_failures event answer in rw same (omega (arith, few, none));
       moments = λ told. subst (λ disk. LeavesOnly facts disk new.store.disk (IsLeftIn old new)) same (moments (rw same told));
       left = λ told file survives. survivor_has_settled facts new file fits told survives;
-      recovers = λ told file survives. survivor_has facts new file fits told survives;
+      is_left = λ told file survives. survivor_is_left facts new file fits told survives;
       counts = counts;
     }
   where
@@ -76,7 +76,7 @@ quiet_call {D} facts event answer old new same lawful fits owner step more list 
     has told file survives =
         record {
           has = has_fewer old.replica.settled new.replica.settled new.replica file rises (survivor_has_settled facts new file fits told survives);
-          crash = inr (crash_of facts new file fits told survives);
+          around = inr (survivor_is_left facts new file fits told survives);
         }
 
     moments : facts.tells new.store.disk → LeavesOnly facts new.store.disk new.store.disk (IsLeftIn old new)

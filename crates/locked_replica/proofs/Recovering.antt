@@ -20,6 +20,7 @@ use Rattle.recovery.specs.Image.{IsImage}
 use Rattle.locked_replica.specs.Hub.{Parts, committed, commit_in, version_in, state_of}
 use Rattle.locked_replica.specs.Fits.{Fits, IsFront, IsUnderWay, IsAtRest, Commits}
 use Rattle.locked_replica.specs.Recovery.{HasRootOf, RecoversIn, Recovers, IsCrash, HasAtLeast}
+use Rattle.locked_replica.specs.Calls.{IsLeftOf}
 
 -- a front of a causally closed list is closed
 closed_take : (n : ℕ) (ops : List Op) → IsCausallyClosed ops → IsCausallyClosed (take n ops)
@@ -125,11 +126,9 @@ pub crash_next : (h : Held) (failed : Bool) (live version next after : ℕ) (fil
     → CrashLeaves (state_with h failed (version_in false h.settled live version) (commit_in false h.settled live next)) (opened (take next h.list) after)
 crash_next h failed live version next after file same = inr (ap (λ v. opened (take next h.list) v) same)
 
--- what is opened from a survivor is what the machine's crash leaves
-pub crash_of : {D : Type 0} (facts : Ghosts D) (hub : Parts D) (file : List ℕ) → Fits facts hub → facts.tells hub.store.disk → facts.survives hub.store.disk file
-    → IsCrash hub file
-crash_of {D} facts hub file fits told survives =
-    by_phase hub.store.phase fits.commit (survivor_has facts hub file fits told survives)
+-- what is opened from a file with such an image is what the machine's crash leaves
+crash_recovered : {D : Type 0} (facts : Ghosts D) (hub : Parts D) (file : List ℕ) → Fits facts hub → Recovers hub file → IsCrash hub file
+crash_recovered {D} facts hub file fits recovered = by_phase hub.store.phase fits.commit recovered
   where
     h : Held
     h = hub.replica
@@ -178,3 +177,23 @@ crash_of {D} facts hub file fits told survives =
     by_phase Body commit image = current_of Body image (under_way commit)
     by_phase Sync2 commit image = current_of Sync2 image (under_way commit)
     by_phase Gate commit image = current_of Gate image (under_way commit)
+
+pub crash_of : {D : Type 0} (facts : Ghosts D) (hub : Parts D) (file : List ℕ) → Fits facts hub → facts.tells hub.store.disk → facts.survives hub.store.disk file
+    → IsCrash hub file
+crash_of facts hub file fits told survives = crash_recovered facts hub file fits (survivor_has facts hub file fits told survives)
+
+-- what the store says of a file that a crash leaves is so of the hub
+pub left_of : {D : Type 0} (facts : Ghosts D) (hub : Parts D) (file : List ℕ) → Fits facts hub → IsLeft hub.store.phase hub.store.current hub.store.next file
+    → IsLeftOf hub file
+left_of facts hub file fits is =
+    let recovered : Recovers hub file = recovers hub.store.phase hub.replica hub.store.current hub.store.next file fits.sound fits.live fits.commit is in
+    record { recovers = recovered; crash = crash_recovered facts hub file fits recovered }
+
+pub left_has : {D : Type 0} (facts : Ghosts D) (hub : Parts D) (file : List ℕ) → Fits facts hub → IsLeftOf hub file
+    → HasAtLeast hub.replica.settled hub.replica file
+left_has facts hub file fits left =
+    at_least hub.store.phase hub.replica hub.store.current hub.store.next file fits.live fits.commit left.recovers
+
+pub survivor_is_left : {D : Type 0} (facts : Ghosts D) (hub : Parts D) (file : List ℕ) → Fits facts hub → facts.tells hub.store.disk
+    → facts.survives hub.store.disk file → IsLeftOf hub file
+survivor_is_left facts hub file fits told survives = left_of facts hub file fits (fits.left told file survives)

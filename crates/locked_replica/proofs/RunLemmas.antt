@@ -9,8 +9,8 @@ use Rattle.op_model.specs.declared.op.Op.{Op}
 use Rattle.op_model.specs.Machine.{State, Event, Answer, Step, Run}
 use Rattle.replica_core.specs.Held.{Held}
 use Rattle.locked_replica.specs.Hub.{Parts, state_of}
-use Rattle.locked_replica.specs.Calls.{IsCall, IsLeftIn, calls_in, settled_by, writes_begun, syncs_begun}
-use Rattle.locked_replica.specs.Recovery.{HasAtLeast, IsCrash}
+use Rattle.locked_replica.specs.Calls.{IsCall, IsLeftIn, IsLeftOf, calls_in, settled_by, writes_begun, syncs_begun}
+use Rattle.locked_replica.specs.Recovery.{HasAtLeast, IsCrash, Recovers}
 use Rattle.locked_replica.specs.Run.{Ran, Calls, CrashesIn, FrontsStand, calls_made, settled_behind, writes_planned, syncs_planned}
 use Rattle.locked_replica.specs.Steps.{event_of, answer_of, events_of}
 use Rattle.locked_replica.specs.declared.hub_step.HubStep.{HubStep}
@@ -76,7 +76,7 @@ crashes_more facts old mid new (e ∷ es) event answer calls call file (inr is) 
 
 -- and what it leaves in the last one
 crashes_last : {D : Type 0} (facts : Ghosts D) (old mid new : Parts D) (es : List (Event × Answer)) (event : Event) (answer : Answer) (calls : Calls facts old es mid)
-    (call : IsCall facts event answer mid new) (file : List ℕ) → IsCrash mid file ⊎ IsCrash new file
+    (call : IsCall facts event answer mid new) (file : List ℕ) → IsLeftOf mid file ⊎ IsLeftOf new file
     → CrashesIn facts old (es ++ (event, answer) ∷ []) new (calls_chain facts old mid new es event answer calls call) file
 crashes_last facts old mid new [] event answer calls call file (inl is) = inl (rw (sym calls) is)
 crashes_last facts old mid new [] event answer calls call file (inr is) = inr is
@@ -98,9 +98,10 @@ syncs_more (e ∷ es) event answer = let rest = syncs_more es event answer in om
 -- no call
 pub ran_none : {D : Type 0} (facts : Ghosts D) (hub : Parts D) → (facts.tells hub.store.disk → IsLawful facts hub.store.disk)
     → (facts.tells hub.store.disk → (file : List ℕ) → facts.survives hub.store.disk file → HasAtLeast hub.replica.settled hub.replica file)
+    → (facts.tells hub.store.disk → (file : List ℕ) → facts.survives hub.store.disk file → Recovers hub file)
     → (facts.tells hub.store.disk → (file : List ℕ) → facts.survives hub.store.disk file → IsCrash hub file)
     → Ran facts hub [] hub
-ran_none facts hub lawful left crash =
+ran_none facts hub lawful left recovered crash =
     record {
       owner = refl;
       machine = refl;
@@ -109,7 +110,8 @@ ran_none facts hub lawful left crash =
       tells = ((λ told. told), (λ told. told));
       time = λ told. omega arith;
       calls = refl;
-      crashes = λ told file since. crash told file ((lawful told).only_now file since);
+      crashes = λ told file since.
+          let now = (lawful told).only_now file since in record { recovers = recovered told file now; crash = crash told file now };
       writes = λ told works. omega arith;
       syncs = λ told works. omega arith;
       fronts = λ told k file within left_now. rw (take_none {A = Event × Answer} k) (stands told file (now k left_now));
@@ -166,7 +168,7 @@ ran_more facts old mid new es event answer lawful ran call =
         either : facts.left_since mid.store.disk (facts.time old.store.disk) file ⊎ IsLeftIn mid new file
             → CrashesIn facts old (es ++ (event, answer) ∷ []) new (calls_chain facts old mid new es event answer ran.calls call) file
         either (inl since) = crashes_more facts old mid new es event answer ran.calls call file (ran.crashes told file since)
-        either (inr left) = crashes_last facts old mid new es event answer ran.calls call file left.crash
+        either (inr left) = crashes_last facts old mid new es event answer ran.calls call file left.around
 
     worked : new.store.failed ≡ false → mid.store.failed ≡ false
     worked works = by_test mid.store.failed refl

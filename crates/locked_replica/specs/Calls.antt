@@ -1,5 +1,5 @@
 -- What one call of a hub does.
-use Rattle.std.specs.Prelude.{◌≡◌, ◌↔◌, ◌⊎◌, ℕ, ◌+◌, ◌≤◌, ◌==◌, true, false, if◌then◌else◌, List, ◌++◌, length, drop}
+use Rattle.std.specs.Prelude.{◌≡◌, ◌↔◌, ◌⊎◌, ℕ, ◌+◌, ◌≤◌, ◌==◌, true, false, if◌then◌else◌, List, ◌++◌, length, drop, Ok, Err}
 use Rattle.op_model.specs.declared.op.Op.{Op}
 use Rattle.disk_trait.specs.Calls.{LeavesOnly}
 use Rattle.disk_trait.specs.declared.facts.DiskFacts.{Ghosts}
@@ -9,7 +9,8 @@ use Rattle.group_commit.specs.Changes.{changed_pages}
 use Rattle.group_commit.specs.Counts.{writes_left, syncs_left}
 use Rattle.group_commit.specs.Errors.{number_of}
 use Rattle.group_commit.specs.Held.{Held as StoreHeld, gone_on, has_failed}
-use Rattle.group_commit.specs.Step.{error_in}
+use Rattle.group_commit.specs.Step.{error_in, Does}
+use Rattle.group_commit.specs.declared.phase.Phase.{Phase}
 use Rattle.replica_core.specs.Held.{IsSound}
 use Rattle.locked_replica.specs.Hub.{Parts, state_of}
 use Rattle.locked_replica.specs.Recovery.{HasAtLeast, IsCrash, Recovers}
@@ -78,18 +79,28 @@ abbrev pub StoreBegins : {D : Type 0} → Ghosts D → Answer → Parts D → St
 StoreBegins facts (begun n) old new = Begins facts old.store (drop old.replica.settled old.replica.list) new
 StoreBegins facts a old new = new ≡ old.store
 
--- A device step goes on to the next phase, or is refused: with 44 without a call, else by the failure of its phase.
-abbrev pub StoreSteps : {D : Type 0} → Answer → StoreHeld D → StoreHeld D → Type 0
-StoreSteps goes_on old new = new ≡ gone_on old.phase old new.disk
-StoreSteps goes_through old new = new ≡ gone_on old.phase old new.disk
-StoreSteps (refused n) old new =
-    ((n ≡ 44) × (new ≡ old)) ⊎ ((n ≡ number_of (error_in old.phase)) × (new ≡ has_failed old new.disk))
-StoreSteps a old new = new ≡ old
+-- A device step that succeeds made the call of its phase, and goes on to the next one.
+pub record StepsOn {D : Type 0} (facts : Ghosts D) (old new : StoreHeld D) : Type 0 where
+  pub next : new ≡ gone_on old.phase old new.disk
+  pub does : facts.tells old.disk → Does {T = Phase} facts (Ok old.phase) old.phase old new.disk
 
--- what a call makes of the store: only a begin and a device step change it
+-- One that fails has the number of its phase's failure; a write may be torn, in its range alone.
+pub record StepsFail {D : Type 0} (facts : Ghosts D) (n : ℕ) (old new : StoreHeld D) : Type 0 where
+  pub number : n ≡ number_of (error_in old.phase)
+  pub next : new ≡ has_failed old new.disk
+  pub does : facts.tells old.disk → Does {T = Phase} facts (Err (error_in old.phase)) old.phase old new.disk
+
+-- a device step goes on, or it is refused: with 44 without a call, else because it failed
+abbrev pub StoreSteps : {D : Type 0} → Ghosts D → Answer → StoreHeld D → StoreHeld D → Type 0
+StoreSteps facts goes_on old new = StepsOn facts old new
+StoreSteps facts goes_through old new = StepsOn facts old new
+StoreSteps facts (refused n) old new = ((n ≡ 44) × (new ≡ old)) ⊎ StepsFail facts n old new
+StoreSteps facts a old new = new ≡ old
+
+-- What a call makes of the store: only a begin and a device step change it, and only a device step touches the disk.
 abbrev pub StoreGoes : {D : Type 0} → Ghosts D → Event → Answer → Parts D → StoreHeld D → Type 0
 StoreGoes facts begin a old new = StoreBegins facts a old new
-StoreGoes facts device_step a old new = StoreSteps a old.store new
+StoreGoes facts device_step a old new = StoreSteps facts a old.store new
 StoreGoes facts (edit session e) a old new = new ≡ old.store
 StoreGoes facts (merge peer op) a old new = new ≡ old.store
 StoreGoes facts settle a old new = new ≡ old.store
@@ -97,11 +108,17 @@ StoreGoes facts (ack t) a old new = new ≡ old.store
 StoreGoes facts (tell c) a old new = new ≡ old.store
 StoreGoes facts have a old new = new ≡ old.store
 
--- What a crash leaves at a moment of a call: a beginning of the list with all that was settled before the call, and just what the
--- machine's crash leaves before it or after it.
+-- The file is one that a crash leaves of this hub: the committed list, in the last phase of a commit that or the commit's, and what
+-- the machine's crash leaves.
+pub record IsLeftOf {D : Type 0} (hub : Parts D) (file : List ℕ) : Type 0 where
+  pub recovers : Recovers hub file
+  pub crash : IsCrash hub file
+
+-- What a crash leaves at a moment of a call: a beginning of the list with all that was settled before the call, and what a crash
+-- leaves of the hub before the call or after it.
 pub record IsLeftIn {D : Type 0} (old new : Parts D) (file : List ℕ) : Type 0 where
   pub has : HasAtLeast old.replica.settled new.replica file
-  pub crash : IsCrash old file ⊎ IsCrash new file
+  pub around : IsLeftOf old file ⊎ IsLeftOf new file
 
 -- A call is one step of the machine, with its answer. The list only grows and is causally closed, the settled number doesn't fall, and
 -- what is acknowledged and told is settled. The disk's time goes on by the device calls that the answer shows.
@@ -118,8 +135,8 @@ pub record IsCall {D : Type 0} (facts : Ghosts D) (event : Event) (answer : Answ
   pub failures : facts.tells old.store.disk → facts.failures new.store.disk ≡ facts.failures old.store.disk + failures_in event answer
   -- a crash at any moment of the call
   pub moments : facts.tells old.store.disk → LeavesOnly facts old.store.disk new.store.disk (IsLeftIn old new)
-  -- A crash right after it leaves all that is settled then: the committed list, in the last phase of a commit that or the commit's.
+  -- a crash right after it, which leaves all that is settled then
   pub left : facts.tells new.store.disk → (file : List ℕ) → facts.survives new.store.disk file
       → HasAtLeast new.replica.settled new.replica file
-  pub recovers : facts.tells new.store.disk → (file : List ℕ) → facts.survives new.store.disk file → Recovers new file
+  pub is_left : facts.tells new.store.disk → (file : List ℕ) → facts.survives new.store.disk file → IsLeftOf new file
   pub counts : Counts facts answer old.store new.store

@@ -3,9 +3,9 @@ use Rattle.std.specs.Prelude.{◌≡◌, ◌↔◌, ◌⊎◌, ℕ, ◌+◌, ◌
 use Rattle.disk_trait.specs.declared.facts.DiskFacts.{Ghosts}
 use Rattle.group_commit.specs.Counts.{writes_left, syncs_left}
 use Rattle.op_model.specs.Machine.{Event, Answer, Run}
-use Rattle.locked_replica.specs.Calls.{IsCall, calls_in, settled_by, writes_begun, syncs_begun}
+use Rattle.locked_replica.specs.Calls.{IsCall, IsLeftOf, calls_in, settled_by, writes_begun, syncs_begun}
 use Rattle.locked_replica.specs.Hub.{Parts, state_of}
-use Rattle.locked_replica.specs.Recovery.{HasAtLeast, IsCrash}
+use Rattle.locked_replica.specs.Recovery.{HasAtLeast}
 
 -- how many device calls these events made, by their answers
 abbrev pub calls_made : List (Event × Answer) → ℕ
@@ -30,10 +30,10 @@ abbrev pub Calls : {D : Type 0} → Ghosts D → Parts D → List (Event × Answ
 Calls facts old [] new = new ≡ old
 Calls {D} facts old (e ∷ es) new = (mid : Parts D) × IsCall facts e.0 e.1 old mid × Calls facts mid es new
 
--- what is opened from the file is what the machine's crash leaves before some of these calls, or after all of them
+-- the file is one that a crash leaves before some of these calls, or after all of them
 abbrev pub CrashesIn : {D : Type 0} (facts : Ghosts D) (old : Parts D) (events : List (Event × Answer)) (new : Parts D) → Calls facts old events new → List ℕ → Type 0
-CrashesIn facts old [] new calls file = IsCrash new file
-CrashesIn facts old (e ∷ es) new calls file = IsCrash old file ⊎ CrashesIn facts calls.0 es new calls.2 file
+CrashesIn facts old [] new calls file = IsLeftOf new file
+CrashesIn facts old (e ∷ es) new calls file = IsLeftOf old file ⊎ CrashesIn facts calls.0 es new calls.2 file
 
 -- the writes that the commits make which began in these calls
 abbrev pub writes_planned : {D : Type 0} (facts : Ghosts D) (old : Parts D) (events : List (Event × Answer)) (new : Parts D) → Calls facts old events new → ℕ
@@ -59,7 +59,7 @@ pub record Ran {D : Type 0} (facts : Ghosts D) (old : Parts D) (events : List (E
   -- a crash at any moment leaves a beginning of the list, with all that was settled by then
   pub fronts : facts.tells old.store.disk → FrontsStand facts old events new
   pub calls : Calls facts old events new
-  -- and what is opened then is what the machine's crash leaves somewhere in these calls: no edit is there in part
+  -- and just what one leaves before some call or after all: no edit is there in part
   pub crashes : facts.tells old.store.disk → (file : List ℕ) → facts.left_since new.store.disk (facts.time old.store.disk) file
       → CrashesIn facts old events new calls file
   -- The disk's own counts rose by the writes and syncs of the commits that began, where none has any left, and no device call failed.

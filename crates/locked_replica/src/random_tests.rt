@@ -20,13 +20,13 @@ struct Draws {
 
 impl Draws {
     /// The next number, below this one.
-    fn below(&mut self, end: usize) -> usize {
+    fn below(&mut self, end: u32) -> u32 {
         let product = self.state.wrapping_mul(1_103_515_245);
         self.state = product.wrapping_add(12_345) % 2_147_483_648;
         if end == 0 {
             return 0;
         }
-        (self.state / 65_536) as usize % end
+        u32::try_from(self.state / 65_536 % u64::from(end)).unwrap_or(0)
     }
 }
 
@@ -57,21 +57,21 @@ fn letters(alloc: Global, draws: &mut Draws) -> Result<EditText, Fail> {
 }
 
 /// A removal of a character, or an insert, of a document with so many characters.
-fn change(alloc: Global, draws: &mut Draws, long: usize) -> Result<Change, Fail> {
+fn change(alloc: Global, draws: &mut Draws, long: u32) -> Result<Change, Fail> {
     if long > 0 && draws.below(3) == 0 {
         return Ok(Change::Delete {
-            at: draws.below(long) as u32,
+            at: draws.below(long),
             count: NonZeroU32::MIN,
         });
     }
     Ok(Change::Insert {
-        at: draws.below(long + 1) as u32,
+        at: draws.below(long.saturating_add(1)),
         text: letters(alloc, draws)?,
     })
 }
 
 fn edit(alloc: Global, hub: &mut Hub<MemDisk>, draws: &mut Draws) -> Result<(), Fail> {
-    let long = hub.text(1)?.as_slice().len();
+    let long = u32::try_from(hub.text(1)?.as_slice().len()).unwrap_or(u32::MAX);
     let edit = Edit {
         doc: 1,
         rev: None,
@@ -83,18 +83,25 @@ fn edit(alloc: Global, hub: &mut Hub<MemDisk>, draws: &mut Draws) -> Result<(), 
     }
 }
 
+/// Makes the device calls of a commit.
+fn make_calls(hub: &mut Hub<MemDisk>) -> Result<(), Fail> {
+    for _ in 0..1_000 {
+        match hub.device_step() {
+            Ok(Phase::Sync3) => return Ok(()),
+            Ok(_) => {}
+            Err(_) => return Err("device".into()),
+        }
+    }
+    Err("no end".into())
+}
+
 /// Commits all that a hub has, where something isn't settled.
 fn commit(hub: &mut Hub<MemDisk>) -> Result<(), Fail> {
     if let Ok(Some(_)) = hub.begin() {
-        while let Ok(phase) = hub.device_step() {
-            if phase == Phase::Sync3 {
-                return match hub.settle() {
-                    Ok(_) => Ok(()),
-                    Err(_) => Err("settle".into()),
-                };
-            }
+        make_calls(hub)?;
+        if hub.settle().is_err() {
+            return Err("settle".into());
         }
-        return Err("device".into());
     }
     Ok(())
 }
@@ -116,7 +123,7 @@ fn merge(from: &mut Hub<MemDisk>, to: &mut Hub<MemDisk>) -> Result<usize, Fail> 
 }
 
 /// One of the six ways from one hub to another.
-fn merge_one_way(peers: &mut Peers, way: usize) -> Result<usize, Fail> {
+fn merge_one_way(peers: &mut Peers, way: u32) -> Result<usize, Fail> {
     match way {
         0 => merge(&mut peers.a, &mut peers.b),
         1 => merge(&mut peers.b, &mut peers.a),

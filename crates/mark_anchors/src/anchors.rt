@@ -52,6 +52,17 @@ impl Anchors {
         ensures err { OnErr result (self.new ≡ self.old) }
     {
         check_names(sequence, &op.body)?;
+        self.keep(op)?;
+        Ok(())
+    }
+
+    /// Keeps a mark operation whose characters are known to be there; another operation adds
+    /// nothing. An error is want of memory (1), and leaves the anchors as they were. Constant, but
+    /// for the copy of a URL.
+    pub fn keep(&mut self, op: &Op) -> Result<(), AllocError>
+        ensures taken { OnOk result (self.new ≡ self.old ++ markings (op.now ∷ []) op.now.doc) }
+        ensures err { OnErr result (self.new ≡ self.old) }
+    {
         match op.marking()? {
             Some(marking) => self.markings.push(marking).map_err(AllocError::from)?,
             None => {}

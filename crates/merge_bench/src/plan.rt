@@ -55,11 +55,12 @@ fn id(last: u8) -> Option<ReplicaId> {
 /// A replica that typed so many characters.
 fn typed(alloc: Global, count: u32) -> Option<Replica> {
     let mut replica = Replica::new(alloc, id(1)?);
-    let mut at = 0;
-    while at < count {
-        let more = MOST.min(count - at);
-        insert(alloc, &mut replica, at, more)?;
-        at += more;
+    for edit in 0..count / MOST {
+        insert(alloc, &mut replica, edit.saturating_mul(MOST), MOST)?;
+    }
+    let rest = count % MOST;
+    if rest > 0 {
+        insert(alloc, &mut replica, count - rest, rest)?;
     }
     Some(replica)
 }

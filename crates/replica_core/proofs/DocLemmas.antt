@@ -13,12 +13,12 @@ use Rattle.op_model.specs.Spans.{with_number}
 use Rattle.replica_core.specs.Docs.{numbers, AllStand, AreDocs}
 
 -- all of these are greater than a number
-abbrev AllOver : ℕ → List ℕ → Type 0
+abbrev pub AllOver : ℕ → List ℕ → Type 0
 AllOver n [] = Unit {0}
 AllOver n (m ∷ ms) = (n < m) × AllOver n ms
 
 -- they rise
-abbrev IsUp : List ℕ → Type 0
+abbrev pub IsUp : List ℕ → Type 0
 IsUp [] = Unit {0}
 IsUp (n ∷ ns) = AllOver n ns × IsUp ns
 
@@ -48,7 +48,7 @@ up_with m (k ∷ ns) up =
       ]
     ]
 
-documents_up : (ops : List Op) → IsUp (documents ops)
+pub documents_up : (ops : List Op) → IsUp (documents ops)
 documents_up [] = tt
 documents_up (op ∷ ops) = up_with op.doc (documents ops) (documents_up ops)
 
@@ -122,6 +122,23 @@ has-with n m (k ∷ ns) =
 has-documents : (n : ℕ) (ops : List Op) → has n (documents ops) ≡ list_any (λ op. op.doc == n) ops
 has-documents n [] = refl
 has-documents n (op ∷ ops) = has-with n op.doc (documents ops) ∙ ap (λ rest. (op.doc == n) || rest) (has-documents n ops)
+
+any_at : (list : List Op) (i : ℕ) (op : Op) → i < length list → op ≡ get_or list i op → list_any (λ o. o.doc == op.doc) list ≡ true
+any_at [] i op here is_it = absurd (omega arith)
+any_at (x ∷ list) zero op here is_it =
+    let same : (x.doc == op.doc) ≡ true = eq-eqb x.doc op.doc (ap (λ (o : Op). o.doc) (sym is_it)) in
+    rw same refl
+any_at (x ∷ list) (suc i) op here is_it = or_later (x.doc == op.doc) (list_any (λ o. o.doc == op.doc) list) (any_at list i op (omega arith) is_it)
+  where
+    or_later : (a b : Bool) → b ≡ true → (a || b) ≡ true
+    or_later true b later = refl
+    or_later false b later = later
+
+-- the document of an operation is one of those of its list
+pub doc_there : (list : List Op) (i : ℕ) (op : Op) → i < length list → op ≡ get_or list i op
+    → with_number op.doc (documents list) ≡ documents list
+doc_there list i op here is_it =
+    with_same op.doc (documents list) (documents_up list) (has-documents op.doc list ∙ any_at list i op here is_it)
 
 differ : (a b : ℕ) → (a == b) ≡ false → a ≢ b
 differ a b apart same = both_ways (a == b) apart (eq-eqb a b same)

@@ -7,35 +7,24 @@ use Rattle.op_model.specs.Causality.{MayFollow, FollowInTurn, IsCausallyClosed, 
 use Rattle.std.proofs.lemmas.Bool.{and_parts}
 use Rattle.op_model.specs.Made.{greatest_counter}
 use Rattle.op_model.specs.Records.{stream_length, record_length}
-use Rattle.op_model.specs.Spans.{with_number}
 use Rattle.op_ids.specs.Clock.{advanced}
 use Rattle.std.proofs.lemmas.List.{drop_more, take_more, take-append-drop}
-use Rattle.doc_core.specs.declared.doc.Doc.{Doc}
-use Rattle.doc_core.specs.Standing.{MayComeInTurn}
-use Rattle.doc_core.proofs.LawLemmas.{may_come}
-use Rattle.replica_core.specs.Docs.{numbers, AllStand, AreDocs}
 use Rattle.model_laws.proofs.Growth.{closed_push, closed_front, closed_rest}
 use Rattle.model_laws.proofs.Ready.{clock-push}
 use Rattle.slow_programs.proofs.LimitLemmas.{stream_length-append}
 use Rattle.replica_core.specs.declared.index.Index.{Index}
-use Rattle.replica_core.specs.Deciding.{AreKnown}
+use Rattle.replica_core.specs.Deciding.{AreCounted}
 use Rattle.replica_core.specs.Indexes.{IsIndexOf}
-use Rattle.replica_core.proofs.LimitLemmas.{documents-push, closed_within}
+use Rattle.replica_core.proofs.LimitLemmas.{closed_within}
 
--- what is known of a list with an operation that may follow
-pub AreKnown-push : (ops : List Op) (counts : List (ℕ × ℕ)) (docs more : List Doc) (before after : Index) (op : Op)
-    → AreKnown ops counts docs before → MayFollow ops op → numbers more ≡ with_number op.doc (numbers docs)
-    → (AreDocs docs ops → MayComeInTurn ops op.doc (op ∷ []) → AllStand more (ops ++ op ∷ []))
-    → (IsIndexOf before ops → IsIndexOf after (ops ++ op ∷ []))
-    → AreKnown (ops ++ op ∷ []) (advanced counts op.id.replica) more after
-AreKnown-push ops counts docs more before after op known follows are_numbers stand indexed = record {
-  closed = closed_push ops op known.closed follows;
-  clock = ap (λ es. advanced es op.id.replica) known.clock ∙ sym (clock-push ops op);
-  docs = record {
-    numbers = are_numbers ∙ (ap (with_number op.doc) known.docs.numbers ∙ sym (documents-push ops op));
-    stand = stand known.docs (may_come ops op.doc op follows refl, tt);
-  };
-  index = indexed known.index;
+-- what is counted of a list with an operation that may follow
+pub AreCounted-push : (ops : List Op) (counts : List (ℕ × ℕ)) (before after : Index) (op : Op)
+    → AreCounted ops counts before → MayFollow ops op → (IsIndexOf before ops → IsIndexOf after (ops ++ op ∷ []))
+    → AreCounted (ops ++ op ∷ []) (advanced counts op.id.replica) after
+AreCounted-push ops counts before after op counted follows indexed = record {
+  closed = closed_push ops op counted.closed follows;
+  clock = ap (λ es. advanced es op.id.replica) counted.clock ∙ sym (clock-push ops op);
+  index = indexed counted.index;
 }
 
 -- an operation of a closed list may follow those before it
@@ -46,10 +35,6 @@ follows_front ops i op closed here is_it =
     let cut = rw (← whole) at closed in
     let rest : FollowInTurn (take i ops) (drop i ops) = closed_rest (take i ops) (drop i ops) cut in
     (closed_front (take i ops) (drop i ops) cut, (rw (drop_more ops i op here, ← is_it) at rest).0)
-
--- the one operation at an index
-pub one_at : (ops : List Op) (i : ℕ) (op : Op) → i < length ops → op ≡ get_or ops i op → take 1 (drop i ops) ≡ op ∷ []
-one_at ops i op here is_it = rw (drop_more ops i op here, ← is_it) refl
 
 two_last : (a b c d e : Bool) → (a && (b && c && d && e)) ≡ true → e ≡ true
 two_last a b c d e all = grind (arith, nat_tests)

@@ -10,3 +10,5 @@ pub mod ClimbLemmas
 pub mod MakerLemmas
 pub mod IndexLemmas
 pub mod DocLemmas
+pub mod NumberLemmas
+pub mod DraftLemmas

@@ -11,6 +11,12 @@ use Rattle.replica_core.specs.declared.index.Index.{Index}
 use Rattle.replica_core.specs.Docs.{AreDocs}
 use Rattle.replica_core.specs.Indexes.{IsIndexOf}
 
+-- a causally closed list, its clock and its index
+pub record AreCounted (ops : List Op) (counts : List (ℕ × ℕ)) (known : Index) : Type 0 where
+  pub closed : IsCausallyClosed ops
+  pub clock : counts ≡ clock_of ops
+  pub index : IsIndexOf known ops
+
 -- a causally closed list, its clock, its documents and its index
 pub record AreKnown (ops : List Op) (counts : List (ℕ × ℕ)) (kept : List Doc) (known : Index) : Type 0 where
   pub closed : IsCausallyClosed ops

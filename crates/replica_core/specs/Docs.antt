@@ -1,6 +1,8 @@
 -- The documents of a list.
 use Rattle.std.specs.Prelude.{◌≡◌, ℕ, List, [], ◌∷◌, map}
 use Rattle.doc_core.specs.declared.doc.Doc.{Doc}
+use Rattle.doc_core.specs.declared.draft.Draft.{Draft}
+use Rattle.doc_core.specs.Drafting.{draft_number, IsDraftOf}
 use Rattle.doc_core.specs.Standing.{number_of, StandsFor}
 use Rattle.op_model.specs.declared.op.Op.{Op}
 use Rattle.op_model.specs.Causality.{documents}
@@ -18,3 +20,12 @@ AllStand (d ∷ ds) ops = StandsFor d ops × AllStand ds ops
 pub record AreDocs (docs : List Doc) (ops : List Op) : Type 0 where
   pub numbers : numbers docs ≡ documents ops
   pub stand : AllStand docs ops
+
+-- the numbers of drafts
+abbrev pub draft_numbers : List Draft → List ℕ
+draft_numbers ds = map draft_number ds
+
+-- each of these is a draft of a list
+abbrev pub AllDrafts : List Draft → List Op → Type 0
+AllDrafts [] ops = Unit {0}
+AllDrafts (d ∷ ds) ops = IsDraftOf d ops × AllDrafts ds ops

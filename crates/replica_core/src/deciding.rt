@@ -2,9 +2,7 @@ ghost use Rattle.std.specs.Prelude.{◌≡◌, ℕ, ◌+◌, ◌≤◌, ◌<◌,
 ghost use Rattle.doc_core.specs.Standing.{number_of as doc_number, StandsFor};
 ghost use Rattle.op_model.specs.Causality.{is_within_limits as is_within_limits_of};
 ghost use Rattle.op_model.specs.Made.{edit_refusal as edit_refusal_of, made as made_of, size_of};
-ghost use Rattle.op_model.specs.Spans.{with_number};
 ghost use Rattle.replica_core.specs.Deciding.{AreKnown};
-ghost use Rattle.replica_core.specs.Docs.{numbers};
 ghost use Rattle.replica_core.specs.Refusal.{number_of};
 ghost use Rattle.slow_programs.specs.Asking.{IsAskedRight};
 
@@ -76,7 +74,8 @@ fn is_within_limits(
         return false;
     }
     let bytes = made_length(doc, clock, replica, edit);
-    has_room(ops, docs, index.stream, edit.doc, count as usize, bytes)
+    let has_place = has_document(docs, edit.doc);
+    has_room(ops, has_place, index.stream, count as usize, bytes)
 }
 
 /// Whether there are so many counters above this one.
@@ -86,14 +85,13 @@ fn has_counters(greatest: u64, count: u64) -> bool
     count <= MAX_COUNTER && greatest <= MAX_COUNTER - count
 }
 
-/// Whether there is room for so many operations of a document behind the others, with records of so
-/// many bytes behind a stream of so many.
-pub fn has_room(ops: &[Op], docs: &[Doc], stream: u64, doc: u32, count: usize, bytes: u64) -> bool
-    ensures { result ≡ (nat_le (length (with_number doc (numbers docs.now))) 1024
-        && nat_le (length ops.now + count) 16777216
+/// Whether there is room for so many operations behind the others, where their document has a place
+/// or not, with records of so many bytes behind a stream of so many.
+pub fn has_room(ops: &[Op], has_place: bool, stream: u64, count: usize, bytes: u64) -> bool
+    ensures { result ≡ (has_place && nat_le (length ops.now + count) 16777216
         && nat_le (stream + bytes) 1073741824) }
 {
-    has_document(docs, doc) && has_operations(ops.len(), count) && has_stream(stream, bytes)
+    has_place && has_operations(ops.len(), count) && has_stream(stream, bytes)
 }
 
 /// Whether so many bytes, and then so many more, are at most 2^30 bytes.

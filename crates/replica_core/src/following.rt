@@ -1,7 +1,8 @@
-ghost use Rattle.std.specs.Prelude.{◌≡◌, ℕ, ◌≤◌, ◌<◌, ◌++◌, ◌∷◌, [], ◌&&◌, ◌==◌, nat_lt, true, List, MatchOption, Some, None, IsTrue, ◌↔◌};
+ghost use Rattle.std.specs.Prelude.{◌≡◌, ℕ, ◌≤◌, ◌<◌, ◌++◌, ◌∷◌, [], ◌&&◌, ◌==◌, nat_le, nat_lt, length, true, List, MatchOption, Some, None, IsTrue, ◌↔◌};
 ghost use Rattle.std.specs.List.{list_all};
-ghost use Rattle.op_model.specs.Causality.{IsCausallyClosed, MayFollow, first_failed as first_failed_of, is_counted_up as is_counted_up_of, is_covered_insert as is_covered_insert_of, is_known as is_known_in, is_within_limits, named_by, named_by_anchor, named_by_end, named_by_start, names_inserts as names_inserts_of};
-ghost use Rattle.replica_core.specs.Deciding.{AreKnown, names_all};
+ghost use Rattle.op_model.specs.Causality.{IsCausallyClosed, MayFollow, documents, first_failed as first_failed_of, is_counted_up as is_counted_up_of, is_covered_insert as is_covered_insert_of, is_known as is_known_in, is_within_limits, named_by, named_by_anchor, named_by_end, named_by_start, names_inserts as names_inserts_of};
+ghost use Rattle.op_model.specs.Spans.{with_number};
+ghost use Rattle.replica_core.specs.Deciding.{AreCounted, names_all};
 ghost use Rattle.replica_core.specs.Indexes.{IsIndexOf};
 ghost use Rattle.replica_core.specs.Refusal.{number_of};
 
@@ -9,7 +10,6 @@ use crate::deciding::has_room;
 use crate::index::Index;
 use crate::named::{is_covered_insert, op_at};
 use crate::refusal::Refusal;
-use doc_core::Doc;
 use op_ids::{Clock, OpId};
 use op_model::{Anchor, Body, End, Op, Start};
 use slow_programs::record_length;
@@ -22,32 +22,36 @@ pub fn is_known(clock: &Clock, op: &Op) -> bool
     op.deps.get(replica) < clock.get(replica)
 }
 
-/// Whether an operation may follow the others: it is ready, and no check fails. Takes no memory. A
-/// few steps for clocks, and a binary search for each character that it names.
-pub fn may_follow(ops: &[Op], clock: &Clock, docs: &[Doc], index: &Index, op: &Op) -> bool
-    requires { AreKnown ops.now clock.now docs.now index.now }
+/// Whether an operation may follow the others, where it is known whether there are at most 1,024
+/// documents with its own: it is ready, and no check fails. Takes no memory. A few steps for
+/// clocks, and a binary search for each character that it names.
+pub fn may_follow(ops: &[Op], clock: &Clock, index: &Index, op: &Op, has_place: bool) -> bool
+    requires counted { AreCounted ops.now clock.now index.now }
+    requires place { has_place ≡ nat_le (length (with_number op.now.doc (documents ops.now))) 1024 }
     ensures { IsTrue result ↔ MayFollow ops.now op.now }
 {
     if !clock.ready(op.id.replica(), &op.deps) {
         return false;
     }
-    match first_failed(ops, clock, docs, index, op) {
+    match first_failed(ops, clock, index, op, has_place) {
         None => true,
         Some(_) => false,
     }
 }
 
 /// Of an operation that is ready, the first check that fails: `Counter` (21), `Names` (22),
-/// `Document` (23), `StoreLimit` (24). Takes no memory. A few steps for clocks, and a binary search
+/// `Document` (23), `StoreLimit` (24); it is known whether there are at most 1,024 documents with
+/// its own. Takes no memory. A few steps for clocks, and a binary search
 /// for each character that it names.
 pub fn first_failed(
     ops: &[Op],
     clock: &Clock,
-    docs: &[Doc],
     index: &Index,
     op: &Op,
+    has_place: bool,
 ) -> Option<Refusal>
-    requires { AreKnown ops.now clock.now docs.now index.now }
+    requires counted { AreCounted ops.now clock.now index.now }
+    requires place { has_place ≡ nat_le (length (with_number op.now.doc (documents ops.now))) 1024 }
     ensures { MatchOption result (first_failed_of ops.now op.now ≡ None)
         (λ e. first_failed_of ops.now op.now ≡ Some (number_of e)) }
 {
@@ -60,7 +64,7 @@ pub fn first_failed(
     if op.doc == 0 {
         return Some(Refusal::Document);
     }
-    if !fits(ops, clock, docs, index, op) {
+    if !fits(ops, clock, index, op, has_place) {
         return Some(Refusal::StoreLimit);
     }
     None
@@ -146,14 +150,16 @@ fn names_insert(ops: &[Op], index: &Index, op: &Op, id: &OpId) -> bool
 }
 
 /// Whether the operations, and then this one, keep the limits of a store.
-fn fits(ops: &[Op], clock: &Clock, docs: &[Doc], index: &Index, op: &Op) -> bool
-    requires known { AreKnown ops.now clock.now docs.now index.now }
+fn fits(ops: &[Op], clock: &Clock, index: &Index, op: &Op, has_place: bool) -> bool
+    requires known { AreCounted ops.now clock.now index.now }
+    requires place { has_place ≡ nat_le (length (with_number op.now.doc (documents ops.now))) 1024 }
     requires document { 0 < op.now.doc }
     ensures { result ≡ is_within_limits (ops.now ++ op.now ∷ []) }
 {
     let _counter = op.id.counter();
+    let _document = op.doc;
     if !clock.can_advance(op.id.replica()) {
         return false;
     }
-    has_room(ops, docs, index.stream, op.doc, 1, record_length(op))
+    has_room(ops, has_place, index.stream, 1, record_length(op))
 }

@@ -4,6 +4,7 @@
 mod counting;
 mod deciding;
 mod docs;
+mod drafts;
 mod following;
 mod index;
 mod lengths;
@@ -11,6 +12,7 @@ mod log;
 mod maker;
 mod merged;
 mod named;
+mod numbers;
 mod opening;
 mod refusal;
 mod replica;

@@ -1,17 +1,15 @@
-ghost use Rattle.std.specs.Prelude.{◌≡◌, ◌≢◌, ◌+◌, ◌<◌, ◌^◌, List, [], ◌∷◌, ◌++◌, length, IfOk, IfErr, OnOk};
+ghost use Rattle.std.specs.Prelude.{◌≡◌, ◌≢◌, ◌+◌, ◌<◌, ◌^◌, List, ◌∷◌, [], ◌++◌, length, IfOk, IfErr, OnOk};
 ghost use Rattle.op_ids.specs.Clock.{advanced};
 ghost use Rattle.op_model.specs.declared.op.Op.{Op};
-ghost use Rattle.op_model.specs.Causality.{IsCausallyClosed};
+ghost use Rattle.op_model.specs.Causality.{documents, IsCausallyClosed};
 ghost use Rattle.op_model.specs.Records.{record_length};
-ghost use Rattle.replica_core.specs.Deciding.{AreKnown};
-ghost use Rattle.doc_core.specs.Standing.{MayComeInTurn};
-ghost use Rattle.op_model.specs.Spans.{with_number};
-ghost use Rattle.replica_core.specs.Docs.{numbers, AllStand, AreDocs};
+ghost use Rattle.replica_core.specs.Deciding.{AreCounted, AreKnown};
 ghost use Rattle.replica_core.specs.Indexes.{IsIndexOf};
 
-use crate::docs;
+use crate::drafts::documents_of;
 use crate::following::may_follow;
 use crate::index::Index;
+use crate::numbers::{add, has_number};
 use crate::refusal::Refusal;
 use doc_core::Doc;
 use op_ids::Clock;
@@ -19,39 +17,38 @@ use op_model::Op;
 use std::alloc::Global;
 
 /// The clock, the documents and the index of a causally closed list. `BadOperation` (47) exactly
-/// where the list isn't; `Memory` (1) says nothing of that.
+/// where the list isn't; `Memory` (1) says nothing of that. The list is gone through twice: what
+/// may follow is decided before a document takes anything.
 pub fn counted(alloc: Global, list: &[Op]) -> Result<(Clock, Vec<Doc>, Index), Refusal>
     ensures known { IfOk result (λ found. AreKnown list.now found.0 found.1.items found.2) }
     ensures bad { IfErr result (λ e. e ≢ Refusal.Memory
         → (e ≡ Refusal.BadOperation) × (IsCausallyClosed list.now → ⊥)) }
 {
-    let mut clock = Clock::new(alloc);
-    let mut docs = Vec::new(alloc);
-    let mut index = Index::new(alloc);
-    for i in 0..list.len() {
-        let op = &list[i];
-        if !may_follow(list.split_at(i).0, &clock, &docs, &index, op) {
-            return Err(Refusal::BadOperation);
-        }
-        let one = list.split_at(i).1.split_at(1).0;
-        take_op(alloc, &mut docs, op.doc, one)?;
-        count(alloc, &mut clock, &mut index, op, i)?;
-    }
+    let (clock, numbers, index) = checked(alloc, list)?;
+    let docs = documents_of(alloc, list, &numbers)?;
     Ok((clock, docs, index))
 }
 
-/// Gives operations to their document. An error is want of memory (1): the document can take them.
-fn take_op(alloc: Global, docs: &mut Vec<Doc>, doc: u32, ops: &[Op]) -> Result<(), Refusal>
-    ensures numbers { OnOk result
-        (numbers docs.new.items ≡ with_number doc (numbers docs.old.items)) }
-    ensures stand { OnOk result ((list : List Op) → AreDocs docs.old.items list
-        → MayComeInTurn list doc ops.now → AllStand docs.new.items (list ++ ops.now)) }
-    ensures memory { IfErr result (λ e. e ≡ Refusal.Memory) }
+/// The clock, the documents' numbers and the index of a causally closed list. Refuses as `counted`.
+fn checked(alloc: Global, list: &[Op]) -> Result<(Clock, Vec<u32>, Index), Refusal>
+    ensures counted { IfOk result (λ found. AreCounted list.now found.0 found.2) }
+    ensures numbers { IfOk result (λ found. found.1.items ≡ documents list.now) }
+    ensures bad { IfErr result (λ e. e ≢ Refusal.Memory
+        → (e ≡ Refusal.BadOperation) × (IsCausallyClosed list.now → ⊥)) }
 {
-    match docs::apply(docs, alloc, doc, ops) {
-        Ok(()) => Ok(()),
-        Err(_) => Err(Refusal::Memory),
+    let mut clock = Clock::new(alloc);
+    let mut numbers = Vec::new(alloc);
+    let mut index = Index::new(alloc);
+    for i in 0..list.len() {
+        let op = &list[i];
+        let has_place = has_number(&numbers, op.doc);
+        if !may_follow(list.split_at(i).0, &clock, &index, op, has_place) {
+            return Err(Refusal::BadOperation);
+        }
+        add(&mut numbers, op.doc)?;
+        count(alloc, &mut clock, &mut index, op, i)?;
     }
+    Ok((clock, numbers, index))
 }
 
 /// Counts an operation that may follow so many that are counted. An error is want of memory (1).

@@ -12,7 +12,7 @@ ghost use Rattle.replica_core.specs.Steps.{places_left};
 
 use crate::counting::count_all;
 use crate::deciding::edit_refusal;
-use crate::docs::find;
+use crate::docs::{find, has_document};
 use crate::following::{first_failed, is_known};
 use crate::index::Index;
 use crate::log::{Log, one};
@@ -336,7 +336,8 @@ impl Replica {
             ≡ refused (number_of e)) }
     {
         let log = &self.log;
-        if let Some(refusal) = first_failed(&log.list, &self.clock, &log.docs, &log.index, op) {
+        let has_place = has_document(&log.docs, op.doc);
+        if let Some(refusal) = first_failed(&log.list, &self.clock, &log.index, op, has_place) {
             return Some(refusal);
         }
         if log.steps.len() > MAX_STEPS - 3 {

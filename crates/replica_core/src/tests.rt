@@ -343,3 +343,69 @@ fn edits_keep_their_limits(rt: HostRuntime) -> Result<(), Fail> {
     assert_eq!(rt; a.rev(1), 257);
     Ok(())
 }
+
+/// Gives a peer the operations of another one.
+fn merge_all(to: &mut Replica, from: &Replica) -> Result<(), Fail> {
+    for index in 0..len(from) {
+        merge_from(to, from, index)?;
+    }
+    Ok(())
+}
+
+/// Edits a document of a peer at an index: an insert, a delete and a mark. A refusal fails the test.
+fn edit_at(alloc: Global, peer: &mut Replica, doc: u32, at: u32) -> Result<(), Fail> {
+    let inserted = refusal(peer, doc, None, insert(alloc, at, "abcde")?);
+    let deleted = refusal(peer, doc, None, delete(at, 2)?);
+    let mark = Change::Mark {
+        from: 1,
+        to: 4,
+        mark: Mark::Strong,
+    };
+    let marked = refusal(peer, doc, None, mark);
+    if inserted.max(deleted).max(marked) == 0 {
+        return Ok(());
+    }
+    Err("refused")?
+}
+
+/// Edits both documents of three peers, and gives each the operations of the others.
+fn exchange(alloc: Global, peers: [&mut Replica; 3], at: u32) -> Result<(), Fail> {
+    let [a, b, c] = peers;
+    for doc in 1u32..3 {
+        edit_at(alloc, a, doc, at)?;
+        edit_at(alloc, b, doc, 7 - at)?;
+        edit_at(alloc, c, doc, 4)?;
+    }
+    merge_all(a, b)?;
+    merge_all(a, c)?;
+    merge_all(b, a)?;
+    merge_all(c, a)
+}
+
+/// A peer that has 304 operations of three peers on two documents.
+fn merged(alloc: Global) -> Result<Replica, Fail> {
+    let mut a = typed(alloc, 1, "abcdefgh")?;
+    refusal(&mut a, 2, None, insert(alloc, 0, "ijklmnop")?);
+    let mut b = empty(alloc, 2)?;
+    let mut c = empty(alloc, 3)?;
+    merge_all(&mut b, &a)?;
+    merge_all(&mut c, &a)?;
+    for at in 0u32..6 {
+        exchange(alloc, [&mut a, &mut b, &mut c], at)?;
+    }
+    Ok(a)
+}
+
+/// Whether a document of two replicas has one text and one number of operations.
+fn is_same(a: &Replica, b: &Replica, doc: u32) -> Result<bool, Fail> {
+    Ok(a.text(doc)? == b.text(doc)? && a.rev(doc) == b.rev(doc))
+}
+
+#[test]
+fn an_opened_list_is_as_it_was_merged(rt: HostRuntime) -> Result<(), Fail> {
+    let merged = merged(rt.alloc())?;
+    let opened = opened(rt.alloc(), &merged)?;
+    assert_eq!(rt; len(&opened), 304);
+    assert!(rt; is_same(&opened, &merged, 1)? && is_same(&opened, &merged, 2)?);
+    Ok(())
+}

@@ -8,7 +8,7 @@ use Rattle.locked_replica.specs.Steps.{event_of, answer_of, events_of}
 use Rattle.locked_replica.proofs.running.run.Goals as goal
 
 pub loop-step-init : goal.loop-step-init
-loop-step-init g c = record { count = rw c.in_ok-replies.ensures.items (omega arith); room = search rules; ran = rw c.in_ok-replies.ensures.items ((rw (events_none c.args.steps.now) (ran_none g.D.DiskFacts c.args.hub.now (λ told. g.met.D.Disk.lawful c.args.hub.now.store.disk told) c.survivors.ensures.settled c.survivors.ensures.crash))) }
+loop-step-init g c = record { count = rw c.in_ok-replies.ensures.items (omega arith); room = search rules; ran = rw c.in_ok-replies.ensures.items ((rw (events_none c.args.steps.now) (ran_none g.D.DiskFacts c.args.hub.now (λ told. g.met.D.Disk.lawful c.args.hub.now.store.disk told) c.survivors.ensures.settled c.survivors.ensures.image c.survivors.ensures.crash))) }
 
 pub loop-step-preserved : goal.loop-step-preserved
 loop-step-preserved g c =
@@ -27,7 +27,7 @@ loop-step-preserved g c =
 
 pub returns-in_err-replies-clause-beginning : goal.returns-in_err-replies-clause-beginning
 returns-in_err-replies-clause-beginning g c =
-    let p = err_from_is_err_and c.from_residual.result c.from_residual.ensures.1 in rw p.1 ([], (rw (events_none c.args.steps.now) (ran_none g.D.DiskFacts c.args.hub.now (λ told. g.met.D.Disk.lawful c.args.hub.now.store.disk told) c.survivors.ensures.settled c.survivors.ensures.crash)))
+    let p = err_from_is_err_and c.from_residual.result c.from_residual.ensures.1 in rw p.1 ([], (rw (events_none c.args.steps.now) (ran_none g.D.DiskFacts c.args.hub.now (λ told. g.met.D.Disk.lawful c.args.hub.now.store.disk told) c.survivors.ensures.settled c.survivors.ensures.image c.survivors.ensures.crash)))
 
 pub returns-in_err-reply-clause-beginning : goal.returns-in_err-reply-clause-beginning
 returns-in_err-reply-clause-beginning g c =

@@ -34,4 +34,4 @@ returns c =
     let small : nat_lt c.args.edit.now.doc 4294967296 ≡ true = lt-ltb c.args.edit.now.doc 4294967296 (omega arith) in
     let below = at_most _ _ (rw c.requires.known.index.greatest at (sym c.if-not-has_counters.ensures)) in
     let all = is_within_limits-made c.args.ops.now c.args.replica c.args.edit.now 281474976710656 c.requires.known.closed c.requires.right (omega arith) (omega arith) refl there small fits in
-    c.has_room.ensures ∙ (rw (c.requires.known.docs.numbers, c.requires.known.index.stream, c.size-count.ensures.value, c.made_length-bytes.ensures c.args.ops.now c.requires.stands c.requires.number c.requires.known.clock c.requires.right) (sym all))
+    c.has_room.ensures ∙ (rw (c.has_document-has_place.ensures, c.requires.known.docs.numbers, c.requires.known.index.stream, c.size-count.ensures.value, c.made_length-bytes.ensures c.args.ops.now c.requires.stands c.requires.number c.requires.known.clock c.requires.right) (sym all))

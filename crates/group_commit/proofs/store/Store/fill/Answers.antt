@@ -36,7 +36,7 @@ invariant_of-self g c = (
 pub returns-in-Err-clause-call : goal.returns-in-Err-clause-call
 returns-in-Err-clause-call g c =
     device_call g.D.DiskFacts _ 1 1 0 WriteFailed _ _ _ _ c.self.inside.roots.slot c.self.inside.roots.slot _ _ c.self.view_is c.self.invariant.0
-    (invariant_of-self g c).0 (λ file is. is) (c.in-Err.ensures).tells (λ told. (c.in-Err.ensures.writes told).call) (λ told. g.met.D.Disk.lawful c.self.inside.disk told) refl
+    (invariant_of-self g c).0 (c.in-Err.ensures).tells (λ told. (c.in-Err.ensures.writes told).call) (λ told. g.met.D.Disk.lawful c.self.inside.disk told) refl
 
 pub invariant_of-self-in_default : goal.invariant_of-self-in_default
 invariant_of-self-in_default g c = (
@@ -50,7 +50,7 @@ invariant_of-self-in_default g c = (
 pub returns-clause-call : goal.returns-clause-call
 returns-clause-call g c =
     device_call g.D.DiskFacts _ 0 1 0 WriteFailed _ _ _ _ c.self.inside.roots.slot c.self.inside.roots.slot _ _ c.self.view_is c.self.invariant.0
-    (invariant_of-self-in_default g c).0 (λ file is. is) (c.in_default.ensures).tells (λ told. (c.in_default.ensures.writes told).call) (λ told. g.met.D.Disk.lawful c.self.inside.disk told) tt
+    (invariant_of-self-in_default g c).0 (c.in_default.ensures).tells (λ told. (c.in_default.ensures.writes told).call) (λ told. g.met.D.Disk.lawful c.self.inside.disk told) tt
 
 pub returns-in-Err-clause-does : goal.returns-in-Err-clause-does
 returns-in-Err-clause-does g c =

@@ -15,7 +15,7 @@ invariant_of-self g c = (
 pub returns-in-Err-clause-call : goal.returns-in-Err-clause-call
 returns-in-Err-clause-call g c =
     device_call g.D.DiskFacts _ 1 0 1 SyncFailed _ _ _ _ c.self.inside.roots.slot c.self.inside.roots.slot _ _ c.self.view_is c.self.invariant.0
-    (invariant_of-self g c).0 (λ file is. is) (c.in-Err.ensures).tells (c.in-Err.ensures).call (λ told. g.met.D.Disk.lawful c.self.inside.disk told) (c.in-Err.ensures).refused
+    (invariant_of-self g c).0 (c.in-Err.ensures).tells (c.in-Err.ensures).call (λ told. g.met.D.Disk.lawful c.self.inside.disk told) (c.in-Err.ensures).refused
 
 pub invariant_of-self-2 : goal.invariant_of-self-2
 invariant_of-self-2 g c = (
@@ -29,7 +29,7 @@ invariant_of-self-2 g c = (
 pub returns-clause-call : goal.returns-clause-call
 returns-clause-call g c =
     device_call g.D.DiskFacts _ 0 0 1 SyncFailed _ _ _ _ c.self.inside.roots.slot c.self.inside.roots.slot _ _ c.self.view_is c.self.invariant.0
-    (invariant_of-self-2 g c).0 (λ file is. is) (c.in_default.ensures).tells (c.in_default.ensures).call (λ told. g.met.D.Disk.lawful c.self.inside.disk told) tt
+    (invariant_of-self-2 g c).0 (c.in_default.ensures).tells (c.in_default.ensures).call (λ told. g.met.D.Disk.lawful c.self.inside.disk told) tt
 
 pub returns-in-Err-clause-does : goal.returns-in-Err-clause-does
 returns-in-Err-clause-does g c = rw (sym c.self.view_is) (λ told. record { settled = tt; unsettled = c.in-Err.ensures.unsettled told })

@@ -1,0 +1,170 @@
+ghost use Rattle.std.specs.Prelude.{◌≡◌, ◌↔◌, ℕ, ◌++◌, ◌∷◌, ◌<◌, List, [], Some, length, vec_len, vec_capacity, slice_set, MatchOption, IfOk, OnOk, OnErr, IsErrOf, true, false};
+ghost use Rattle.op_model.specs.declared.op.Op.{Op};
+ghost use Rattle.op_model.specs.declared.op.Body.TheVariants.{Insert, Remove};
+ghost use Rattle.op_ids.specs.Id.{Id, is_same};
+ghost use Rattle.char_sequence.specs.declared.cell.Cell.{Cell};
+ghost use Rattle.char_sequence.specs.Cells.{has_cell, is_known};
+ghost use Rattle.char_sequence.specs.Content.{is_there, Holds};
+ghost use Rattle.char_sequence.specs.Links.{cell_at as cell_at_place};
+ghost use Rattle.char_sequence.specs.Weave.{AreOnce, IsWeaveOf, Starts, TakesIn};
+
+use crate::cell::Cell;
+use crate::error::SequenceError;
+use crate::links::{cell_at, next_of, past, tie};
+use crate::search::place;
+use crate::sequence::Sequence;
+use crate::trail::{Trail, hinted, note};
+use op_ids::{OpId, ReplicaId};
+use std::alloc::{AllocError, Global};
+
+/// The most characters of a document, so that a place is a number of 32 bits.
+const MAX_CELLS: usize = 4_294_967_294;
+
+/// The characters of one document while many operations are taken, one after another: where a
+/// `Sequence` moves all that stands behind an insert, this links it in. Each character keeps its
+/// place in the order in which it came; 36 bytes a character, and 4 for the hint by which it is
+/// found.
+#[derive(Debug, Drop)]
+pub struct Weave {
+    /// The characters in the order in which they came.
+    cells: Vec<Cell>,
+    /// By place, counted from 1, the place of the character behind it in the text, or 0 behind the
+    /// last one. The entry at 0 is the first character's.
+    next: Vec<u32>,
+    trails: Vec<Trail>,
+}
+
+impl Weave {
+    /// The weave of an empty document. An error is want of memory (1).
+    pub fn new(alloc: Global) -> Result<Weave, AllocError>
+        ensures { IfOk result (λ w. IsWeaveOf w []) }
+    {
+        let mut next = Vec::new(alloc);
+        next.push(0)?;
+        Ok(Weave {
+            cells: Vec::new(alloc),
+            next,
+            trails: Vec::new(alloc),
+        })
+    }
+
+    /// Takes an insert of a character behind its origin, or at the beginning where there is none.
+    /// `UnknownId` (60) where the origin isn't there, `Memory` (1) where a growth was refused or
+    /// there are 2^32 - 2 characters; both leave the characters as they were. A binary search for
+    /// the origin, and a step for each greater id that follows it.
+    pub fn insert(
+        &mut self,
+        id: OpId,
+        origin: Option<OpId>,
+        value: char,
+    ) -> Result<(), SequenceError>
+        ensures taken { OnOk result (TakesIn id (Insert origin value) self.old self.new) }
+        ensures unknown { (ops : List Op) (doc : ℕ) (cells : List Cell) → IsWeaveOf self.old cells
+            → Holds cells ops doc
+            → (IsErrOf result SequenceError.UnknownId ↔ (is_there ops doc origin ≡ false)) }
+        ensures err { OnErr result ((cells : List Cell) → IsWeaveOf self.old cells
+            → IsWeaveOf self.new cells) }
+    {
+        let from = match self.start_of(&origin) {
+            Some(from) => from,
+            None => return Err(SequenceError::UnknownId),
+        };
+        let cell = Cell {
+            id,
+            value,
+            is_removed: false,
+        };
+        let slot = self.make_room(id.replica())?;
+        let at = past(&self.cells, &self.next, from, &cell);
+        let behind = next_of(&self.next, at);
+        self.cells.push_reserved(cell);
+        self.next.push_reserved(behind);
+        tie(&mut self.next, at, slot);
+        Ok(())
+    }
+
+    /// Takes a remove of a character, which stays as a tombstone. `UnknownId` (60) where it isn't
+    /// there, which leaves the characters as they were. Takes no memory. A binary search.
+    pub fn remove(&mut self, id: OpId) -> Result<(), SequenceError>
+        ensures taken { OnOk result ((by : Id) → TakesIn by (Remove id) self.old self.new) }
+        ensures unknown { (ops : List Op) (doc : ℕ) (cells : List Cell) → IsWeaveOf self.old cells
+            → Holds cells ops doc
+            → (IsErrOf result SequenceError.UnknownId ↔ (is_there ops doc (Some id) ≡ false)) }
+        ensures err { OnErr result (self.new ≡ self.old) }
+    {
+        let at = match self.place_of(&id) {
+            Some(at) => at,
+            None => return Err(SequenceError::UnknownId),
+        };
+        let cell = &mut self.cells[at - 1];
+        cell.is_removed = true;
+        Ok(())
+    }
+
+    /// The sequence of these characters. An error is want of memory (1). A step for each.
+    pub fn sequence(&self, alloc: Global) -> Result<Sequence, AllocError>
+        ensures { IfOk result (λ s. (cells : List Cell) → IsWeaveOf self.now cells → s ≡ cells) }
+    {
+        let mut cells = Vec::with_capacity(alloc, self.cells.len())?;
+        let mut at = 0;
+        for _ in 0..self.cells.len() {
+            at = next_of(&self.next, at) as usize;
+            match cell_at(&self.cells, at) {
+                Some(cell) => cells.push(cell)?,
+                None => return Ok(Sequence::from_cells(cells)),
+            }
+        }
+        Ok(Sequence::from_cells(cells))
+    }
+
+    /// The place where what hangs from an origin begins, or `None` where the origin isn't there.
+    fn start_of(&self, origin: &Option<OpId>) -> Option<usize>
+        ensures { (cells : List Cell) (w : IsWeaveOf self.now cells) → MatchOption result
+            (is_known cells origin.now ≡ false) (λ from. (is_known cells origin.now ≡ true)
+            × (AreOnce cells → Starts w.order cells origin.now from)) }
+    {
+        match origin {
+            None => Some(0),
+            Some(id) => self.place_of(id),
+        }
+    }
+
+    /// The place of the character of an id, counted from 1, or `None` where there is none. A binary
+    /// search; a search of all only where the hint is wrong.
+    fn place_of(&self, id: &OpId) -> Option<usize>
+        ensures { MatchOption result (has_cell self.now.cells.items id.now ≡ false)
+            (λ at. (c : Cell) × (cell_at_place self.now.cells.items at ≡ Some c)
+            × (is_same c.id id.now ≡ true)) }
+    {
+        let hint = hinted(&self.trails, &self.cells, id);
+        if let Some(cell) = cell_at(&self.cells, hint) {
+            if cell.id.is_same(*id) {
+                return Some(hint);
+            }
+        }
+        match place(&self.cells, id) {
+            Some(i) => Some(i + 1),
+            None => None,
+        }
+    }
+
+    /// Makes room for a character of a replica, and gives its place. An error is want of memory
+    /// (1); the characters stay as they are.
+    fn make_room(&mut self, replica: ReplicaId) -> Result<u32, AllocError>
+        ensures cells { self.new.cells.items ≡ self.old.cells.items }
+        ensures next { self.new.next.items ≡ self.old.next.items }
+        ensures room { OnOk result ((vec_len self.new.cells < vec_capacity self.new.cells)
+            × (vec_len self.new.next < vec_capacity self.new.next)) }
+        ensures slot { IfOk result (λ slot. slot ≡ length self.old.next.items) }
+    {
+        let slot = self.next.len();
+        if slot > MAX_CELLS {
+            return Err(AllocError);
+        }
+        self.cells.reserve(1)?;
+        self.next.reserve(1)?;
+        let alloc = *self.cells.allocator();
+        note(&mut self.trails, alloc, replica, slot as u32)?;
+        Ok(slot as u32)
+    }
+}

@@ -1,0 +1,84 @@
+-- The drafts of the documents of a list, and one of them with an operation more.
+use Rattle.std.proofs.Common.{◌≡◌, ℕ, zero, suc, ◌+◌, ◌<◌, List, [], ◌∷◌, ◌++◌, length, take, get_or, refl, sym, ◌∙◌, ap, arith}
+use Rattle.std.specs.Prelude.{slice_set}
+use Rattle.std.proofs.lemmas.List.{take_more}
+use Rattle.doc_core.specs.declared.doc.Doc.{Doc}
+use Rattle.doc_core.specs.declared.draft.Draft.{Draft}
+use Rattle.doc_core.specs.Drafting.{draft_number, IsDraftOf}
+use Rattle.doc_core.specs.Standing.{number_of, MayCome, StandsFor}
+use Rattle.doc_core.proofs.DraftLemmas.{draft_stays}
+use Rattle.op_model.specs.declared.op.Op.{Op}
+use Rattle.replica_core.specs.Docs.{draft_numbers, numbers, AllDrafts, AllStand}
+use Rattle.replica_core.proofs.DocLemmas.{AllOver, IsUp}
+
+-- one more draft
+pub numbers_push : (ds : List Draft) (d : Draft) → draft_numbers (ds ++ d ∷ []) ≡ draft_numbers ds ++ draft_number d ∷ []
+numbers_push [] d = refl
+numbers_push (x ∷ ds) d = ap (λ rest. draft_number x ∷ rest) (numbers_push ds d)
+
+pub drafts_push : (ds : List Draft) (d : Draft) (ops : List Op) → AllDrafts ds ops → IsDraftOf d ops → AllDrafts (ds ++ d ∷ []) ops
+drafts_push [] d ops all draft = (draft, tt)
+drafts_push (x ∷ ds) d ops all draft = (all.0, drafts_push ds d ops all.1 draft)
+
+-- one more document
+pub docs_push : (ds : List Doc) (d : Doc) → numbers (ds ++ d ∷ []) ≡ numbers ds ++ number_of d ∷ []
+docs_push [] d = refl
+docs_push (x ∷ ds) d = ap (λ rest. number_of x ∷ rest) (docs_push ds d)
+
+pub stand_push : (ds : List Doc) (d : Doc) (ops : List Op) → AllStand ds ops → StandsFor d ops → AllStand (ds ++ d ∷ []) ops
+stand_push [] d ops all stands = (stands, tt)
+stand_push (x ∷ ds) d ops all stands = (all.0, stand_push ds d ops all.1 stands)
+
+pub draft_at : (ds : List Draft) (i : ℕ) (d : Draft) (ops : List Op) → AllDrafts ds ops → i < length ds → d ≡ get_or ds i d → IsDraftOf d ops
+draft_at [] i d ops all here is_it = absurd (omega arith)
+draft_at (x ∷ ds) zero d ops all here is_it = rw is_it all.0
+draft_at (x ∷ ds) (suc i) d ops all here is_it = draft_at ds i d ops all.1 (omega arith) is_it
+
+-- one of the drafts changed, with its number as it was
+pub numbers_put : (ds : List Draft) (i : ℕ) (d new : Draft) → d ≡ get_or ds i d → draft_number new ≡ draft_number d
+    → draft_numbers (slice_set ds i new) ≡ draft_numbers ds
+numbers_put [] i d new is_it same = refl
+numbers_put (x ∷ ds) zero d new is_it same = let first : d ≡ x = is_it in ap (λ n. n ∷ draft_numbers ds) (same ∙ ap draft_number first)
+numbers_put (x ∷ ds) (suc i) d new is_it same = ap (λ rest. draft_number x ∷ rest) (numbers_put ds i d new is_it same)
+
+-- the number at an index is that of the draft there
+pub number_at : (ds : List Draft) (i : ℕ) (d : Draft) (n : ℕ) → i < length ds → d ≡ get_or ds i d → n ≡ get_or (draft_numbers ds) i n
+    → n ≡ draft_number d
+number_at [] i d n here is_it is_n = absurd (omega arith)
+number_at (x ∷ ds) zero d n here is_it is_n = let first : d ≡ x = is_it in is_n ∙ sym (ap draft_number first)
+number_at (x ∷ ds) (suc i) d n here is_it is_n = number_at ds i d n (omega arith) is_it is_n
+
+over_number : (n : ℕ) (ds : List Draft) (i : ℕ) (d : Draft) → AllOver n (draft_numbers ds) → i < length ds → d ≡ get_or ds i d → n < draft_number d
+over_number n [] i d over here is_it = absurd (omega arith)
+over_number n (x ∷ ds) zero d over here is_it = rw is_it over.0
+over_number n (x ∷ ds) (suc i) d over here is_it = over_number n ds i d over.1 (omega arith) is_it
+
+over_stay : (ds : List Draft) (list : List Op) (op : Op) → AllOver op.doc (draft_numbers ds) → AllDrafts ds list → AllDrafts ds (list ++ op ∷ [])
+over_stay [] list op over all = tt
+over_stay (x ∷ ds) list op over all = (
+  draft_stays x list op (λ same. let first = over.0 in absurd (omega arith)) all.0,
+  over_stay ds list op over.1 all.1,
+)
+
+-- one of the drafts with an operation more
+pub draft_put : (ds : List Draft) (i : ℕ) (d new : Draft) (list : List Op) (op : Op) → IsUp (draft_numbers ds) → i < length ds → d ≡ get_or ds i d
+    → op.doc ≡ draft_number d → AllDrafts ds list → (IsDraftOf d list → IsDraftOf new (list ++ op ∷ []))
+    → AllDrafts (slice_set ds i new) (list ++ op ∷ [])
+draft_put [] i d new list op up here is_it same all takes = absurd (omega arith)
+draft_put (x ∷ ds) zero d new list op up here is_it same all takes =
+    let first : d ≡ x = is_it in
+    let over : AllOver op.doc (draft_numbers ds) = rw (same, first) up.0 in
+    (takes (rw first all.0), over_stay ds list op over all.1)
+draft_put (x ∷ ds) (suc i) d new list op up here is_it same all takes =
+    let below = over_number (draft_number x) ds i d up.0 (omega arith) is_it in (
+      draft_stays x list op (λ e. absurd (omega arith)) all.0,
+      draft_put ds i d new list op up.1 (omega arith) is_it same all.1 takes,
+    )
+
+-- the first so many and the next one
+pub take_push : (list : List Op) (i : ℕ) (op : Op) → i < length list → op ≡ get_or list i op → take (i + 1) list ≡ take i list ++ op ∷ []
+take_push list i op here is_it = rw (take_more list i op here, ← is_it) refl
+
+-- what may come to a document may come to the one of the same number
+pub may_come_at : (ops : List Op) (n m : ℕ) (op : Op) → n ≡ m → MayCome ops n op → MayCome ops m op
+may_come_at ops n m op same may = rw (sym same) may

@@ -1,0 +1,38 @@
+use Rattle.std.proofs.Common.{◌≡◌, ◌∙◌, ap, length, take, refl, sym}
+use Rattle.std.proofs.lemmas.Bool.{false≢true}
+use Rattle.op_model.specs.Causality.{MayFollow}
+use Rattle.op_model.specs.Spans.{with_number}
+use Rattle.replica_core.proofs.DraftLemmas.{take_push}
+use Rattle.replica_core.proofs.FollowLemmas.{AreCounted-push, follows_front, record_fits}
+use Rattle.replica_core.proofs.LimitLemmas.{documents-push}
+use Rattle.replica_core.proofs.opening.checked.Goals as goal
+
+pub count-requires-clause-small : goal.count-requires-clause-small
+count-requires-clause-small c =
+    let says = rw c.split_at.ensures.front at c.if-not-may_follow.ensures in
+    let follows : MayFollow (take c.loop-i.i c.args.list.now) c.index-list-i.result = says.0 refl in
+    record_fits (take c.loop-i.i c.args.list.now) c.index-list-i.result c.loop-i.index.stream follows c.loop-i.invariant.counted.index.stream
+
+pub returns-then-not-may_follow-clause-bad : goal.returns-then-not-may_follow-clause-bad
+returns-then-not-may_follow-clause-bad c = λ _. (
+  refl,
+  λ closed.
+      let follows = follows_front c.args.list.now c.loop-i.i c.index-list-i.result closed c.loop-i-test.true c.index-list-i.is in
+      let says = rw c.split_at.ensures.front at c.if-not-may_follow.ensures in
+      false≢true (says.1 follows.1),
+)
+
+pub loop-i-preserved : goal.loop-i-preserved
+loop-i-preserved c =
+    let says = rw c.split_at.ensures.front at c.if-not-may_follow.ensures in
+    let follows : MayFollow (take c.loop-i.i c.args.list.now) c.index-list-i.result = says.0 refl in
+    let long : length (take c.loop-i.i c.args.list.now) ≡ c.loop-i.i = rw c.split_at.ensures.front at c.split_at.ensures.front_len in
+    let grown = take_push c.args.list.now c.loop-i.i c.index-list-i.result c.loop-i-test.true c.index-list-i.is in
+    record {
+      counted = rw (grown, c.in_ok-count.ensures.clock)
+          (AreCounted-push (take c.loop-i.i c.args.list.now) c.loop-i.clock c.loop-i.index c.count.new.index c.index-list-i.result c.loop-i.invariant.counted
+          follows (λ is. c.in_ok-count.ensures.index (take c.loop-i.i c.args.list.now) is long));
+      numbers = rw grown
+          (c.in_ok-add.ensures.added
+          ∙ (ap (with_number c.index-list-i.result.doc) c.loop-i.invariant.numbers ∙ sym (documents-push (take c.loop-i.i c.args.list.now) c.index-list-i.result)));
+    }

@@ -1,0 +1,92 @@
+ghost use Rattle.std.specs.Prelude.{◌≡◌, List, [], ◌∷◌, ◌++◌, IfOk, IfErr, OnOk};
+ghost use Rattle.doc_core.specs.Standing.{MayCome};
+ghost use Rattle.op_model.specs.declared.op.Op.{Op};
+ghost use Rattle.op_model.specs.Causality.{documents, IsCausallyClosed};
+ghost use Rattle.op_model.specs.Spans.{with_number};
+ghost use Rattle.replica_core.specs.Docs.{draft_numbers, numbers as doc_numbers, AllDrafts, AllStand, AreDocs};
+
+use crate::numbers::place;
+use crate::refusal::Refusal;
+use doc_core::{Doc, Draft};
+use op_model::Op;
+use std::alloc::{AllocError, Global};
+
+/// The documents of a causally closed list, whose numbers are given. An error is want of memory
+/// (1). For each operation a search for its document, and what the document's draft takes for it.
+pub fn documents_of(alloc: Global, list: &[Op], numbers: &[u32]) -> Result<Vec<Doc>, Refusal>
+    requires closed { IsCausallyClosed list.now }
+    requires numbers { numbers.now ≡ documents list.now }
+    ensures docs { IfOk result (λ docs. AreDocs docs.items list.now) }
+    ensures memory { IfErr result (λ e. e ≡ Refusal.Memory) }
+{
+    let mut drafts = empty(alloc, numbers)?;
+    apply_all(&mut drafts, numbers, list)?;
+    let docs = finished(alloc, &drafts)?;
+    Ok(docs)
+}
+
+/// The drafts of documents without operations. An error is want of memory (1).
+fn empty(alloc: Global, numbers: &[u32]) -> Result<Vec<Draft>, AllocError>
+    ensures numbers { IfOk result (λ drafts. draft_numbers drafts.items ≡ numbers.now) }
+    ensures drafts { IfOk result (λ drafts. AllDrafts drafts.items []) }
+{
+    let mut drafts = Vec::with_capacity(alloc, numbers.len())?;
+    for number in numbers {
+        let draft = Draft::new(alloc, *number)?;
+        drafts.push(draft)?;
+    }
+    Ok(drafts)
+}
+
+/// Gives each operation of a list to its document's draft. An error is want of memory (1).
+fn apply_all(drafts: &mut Vec<Draft>, numbers: &[u32], list: &[Op]) -> Result<(), Refusal>
+    requires closed { IsCausallyClosed list.now }
+    requires numbers { numbers.now ≡ documents list.now }
+    requires drafts { draft_numbers drafts.old.items ≡ numbers.now }
+    requires empty { AllDrafts drafts.old.items [] }
+    ensures numbers { OnOk result (draft_numbers drafts.new.items ≡ numbers.now) }
+    ensures drafts { OnOk result (AllDrafts drafts.new.items list.now) }
+    ensures memory { IfErr result (λ e. e ≡ Refusal.Memory) }
+{
+    for op in list {
+        apply(drafts, numbers, op)?;
+    }
+    Ok(())
+}
+
+/// Gives an operation to its document's draft. An error is want of memory (1): the draft can take
+/// it.
+fn apply(drafts: &mut Vec<Draft>, numbers: &[u32], op: &Op) -> Result<(), Refusal>
+    requires numbers { draft_numbers drafts.old.items ≡ numbers.now }
+    requires there { with_number op.now.doc numbers.now ≡ numbers.now }
+    ensures numbers { OnOk result (draft_numbers drafts.new.items ≡ numbers.now) }
+    ensures drafts { OnOk result ((ops all : List Op) → numbers.now ≡ documents all
+        → AllDrafts drafts.old.items ops → MayCome ops op.now.doc op.now
+        → AllDrafts drafts.new.items (ops ++ op.now ∷ [])) }
+    ensures memory { IfErr result (λ e. e ≡ Refusal.Memory) }
+{
+    match place(numbers, op.doc) {
+        Err(_) => unreachable!(),
+        Ok(at) => {
+            let draft = &mut drafts[at];
+            match draft.apply(op) {
+                Ok(()) => Ok(()),
+                Err(_) => Err(Refusal::Memory),
+            }
+        }
+    }
+}
+
+/// The documents of drafts. An error is want of memory (1).
+fn finished(alloc: Global, drafts: &[Draft]) -> Result<Vec<Doc>, AllocError>
+    ensures numbers { IfOk result (λ docs. doc_numbers docs.items ≡ draft_numbers drafts.now) }
+    ensures stand { IfOk result (λ docs. (ops : List Op) → AllDrafts drafts.now ops
+        → AllStand docs.items ops) }
+{
+    let mut docs = Vec::with_capacity(alloc, drafts.len())?;
+    for draft in drafts {
+        let doc = draft.finish(alloc)?;
+        docs.push(doc)?;
+    }
+    Ok(docs)
+}
