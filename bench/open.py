@@ -1,7 +1,10 @@
-"""Time and memory of opening a file of 10^4, 10^5 and 10^6 operations: python3 bench/open.py PROGRAM [FOLDER]."""
+"""Time and memory of opening files of many operations: python3 bench/open.py PROGRAM [FOLDER [COUNT ..]].
+
+The files are of 10^4, 10^5 and 10^6 inserts of one replica, typed at the end, at the front, at random places, and in 1,000
+documents in turn. Each is opened by a dump of a document that has no operations. The memory is the greatest resident set of the
+program, and is given for each operation beside its record in the file."""
 
 import os
-import resource
 import subprocess
 import sys
 import tempfile
@@ -10,21 +13,30 @@ import time
 import store_file
 
 
+def opened(program, name):
+    """The seconds and the bytes of memory that a dump takes, and its status."""
+    started = time.perf_counter()
+    run = subprocess.Popen([program, "dump", name, "2000"], stdout=subprocess.DEVNULL, stderr=subprocess.DEVNULL)
+    _, status, usage = os.wait4(run.pid, 0)
+    return time.perf_counter() - started, usage.ru_maxrss * 1024, os.waitstatus_to_exitcode(status)
+
+
 def main():
     program = os.path.abspath(sys.argv[1])
+    counts = [int(word) for word in sys.argv[3:]] or [10_000, 100_000, 1_000_000]
     with tempfile.TemporaryDirectory(dir=sys.argv[2] if len(sys.argv) > 2 else ".") as room:
-        for count in (10_000, 100_000, 1_000_000):
-            name = os.path.join(room, str(count))
-            store_file.make(name, count)
-            started = time.perf_counter()
-            shown = subprocess.run([program, "dump", name, "2"], capture_output=True)
-            took = time.perf_counter() - started
-            most = resource.getrusage(resource.RUSAGE_CHILDREN).ru_maxrss * 1024
-            print(
-                f"{count:9} operations, {os.path.getsize(name):11} bytes: {took:7.3f} s, {took / count * 1e6:6.2f} us an operation, "
-                f"{most / count:7.0f} bytes of memory an operation, status {shown.returncode}"
-            )
-            os.remove(name)
+        for shape in store_file.SHAPES:
+            for count in counts:
+                name = os.path.join(room, str(count))
+                store_file.make(name, count, shape)
+                took, memory, status = opened(program, name)
+                size = os.path.getsize(name)
+                print(
+                    f"{shape:9} {count:9} operations, {size:11} bytes: {took:7.3f} s, {took / count * 1e6:6.2f} us and "
+                    f"{memory / count:5.0f} bytes of memory an operation, {(memory - size) / count:5.0f} beside its record, status {status}",
+                    flush=True,
+                )
+                os.remove(name)
 
 
 if __name__ == "__main__":

@@ -1,15 +1,32 @@
 """Files of stores with many operations, written from docs/FORMATS.md, for the measurements beside this file."""
 
+import random
+
 PAGE = 4096
 NAME = bytes.fromhex("00000000000040008000000000000001")
 
 
-def record(counter):
-    """The record of an insert behind the one before it, into document 1."""
+SHAPES = ("end", "front", "random", "documents")
+
+
+def origin_of(counter, shape, chance):
+    """The counter of the insert that an insert hangs from, or 0 at the beginning."""
+    if shape == "front":
+        return 0
+    if shape == "random":
+        return chance.randrange(counter)
+    if shape == "documents":
+        return max(counter - 1000, 0)
+    return counter - 1
+
+
+def record(counter, doc=1, origin=None):
+    """The record of an insert behind the one of another counter, or the one before it; 0 is the beginning."""
     before = counter - 1
-    body = b"\1\0\0\0\1" + counter.to_bytes(8, "big") + NAME
+    origin = before if origin is None else origin
+    body = b"\1" + doc.to_bytes(4, "big") + counter.to_bytes(8, "big") + NAME
     body += b"\1" + NAME + before.to_bytes(8, "big") if before else b"\0"
-    body += b"\1" + before.to_bytes(8, "big") + NAME if before else b"\0"
+    body += b"\1" + origin.to_bytes(8, "big") + NAME if origin else b"\0"
     body += (97 + counter % 26).to_bytes(4, "big")
     return len(body).to_bytes(4, "big") + body
 
@@ -20,9 +37,13 @@ def slot(version, length, count, tables):
     return (head + b"".join(n.to_bytes(4, "big") for n in tables)).ljust(PAGE, b"\0")
 
 
-def make(name, count):
-    """A file of a store whose document 1 has so many characters."""
-    stream = b"".join(record(i) for i in range(1, count + 1))
+def make(name, count, shape="end"):
+    """A file of a store that has so many characters, in document 1, or in the documents from 1 to 1,000."""
+    chance = random.Random(count)
+    docs = 1000 if shape == "documents" else 1
+    stream = b"".join(
+        record(i, 1 + (i - 1) % docs, origin_of(i, shape, chance)) for i in range(1, count + 1)
+    )
     pages = -(-len(stream) // PAGE)
     tables = -(-pages // 1024)
     data = list(range(2, 2 + pages))

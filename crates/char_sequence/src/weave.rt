@@ -49,9 +49,11 @@ impl Weave {
     }
 
     /// Takes an insert of a character behind its origin, or at the beginning where there is none.
-    /// `UnknownId` (60) where the origin isn't there, `Memory` (1) where a growth was refused or
-    /// there are 2^32 - 2 characters; both leave the characters as they were. A binary search for
-    /// the origin, and a step for each greater id that follows it.
+    /// `UnknownId` (60) where the origin isn't there, `Memory` (1) where a growth was refused; both
+    /// leave the characters as they were. 2^32 - 2 characters are the limit of a weave, which
+    /// answers `Memory` (1) too; a list of operations has at most 2^24. A binary search for the
+    /// origin, of all characters only where the hint is wrong, and a step for each greater id that
+    /// follows it.
     pub fn insert(
         &mut self,
         id: OpId,
@@ -84,7 +86,8 @@ impl Weave {
     }
 
     /// Takes a remove of a character, which stays as a tombstone. `UnknownId` (60) where it isn't
-    /// there, which leaves the characters as they were. Takes no memory. A binary search.
+    /// there, which leaves the characters as they were. Takes no memory. A binary search; a search
+    /// of all only where the hint is wrong.
     pub fn remove(&mut self, id: OpId) -> Result<(), SequenceError>
         ensures taken { OnOk result ((by : Id) → TakesIn by (Remove id) self.old self.new) }
         ensures unknown { (ops : List Op) (doc : ℕ) (cells : List Cell) → IsWeaveOf self.old cells
@@ -149,7 +152,7 @@ impl Weave {
     }
 
     /// Makes room for a character of a replica, and gives its place. An error is want of memory
-    /// (1); the characters stay as they are.
+    /// (1), or the limit of a weave; the characters stay as they are.
     fn make_room(&mut self, replica: ReplicaId) -> Result<u32, AllocError>
         ensures cells { self.new.cells.items ≡ self.old.cells.items }
         ensures next { self.new.next.items ≡ self.old.next.items }

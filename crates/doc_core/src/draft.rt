@@ -59,16 +59,18 @@ impl Draft {
         Ok(())
     }
 
-    /// The document. An error is want of memory (1). A step for each character and each mark.
-    pub fn finish(&self, alloc: Global) -> Result<Doc, AllocError>
-        ensures number { IfOk result (λ d. number_of d ≡ draft_number self.now) }
-        ensures stands { IfOk result (λ d. (ops : List Op) → IsDraftOf self.now ops
+    /// The document, in place of the draft: it keeps the draft's marks, and the weave is let go. An
+    /// error is want of memory (1). A step for each character.
+    pub fn finish(self, alloc: Global) -> Result<Doc, AllocError>
+        ensures number { IfOk result (λ d. number_of d ≡ draft_number self) }
+        ensures stands { IfOk result (λ d. (ops : List Op) → IsDraftOf self ops
             → StandsFor d ops) }
     {
+        let sequence = self.weave.sequence(alloc)?;
         Ok(Doc {
             doc: self.doc,
-            sequence: self.weave.sequence(alloc)?,
-            anchors: self.anchors.copy()?,
+            sequence,
+            anchors: self.anchors,
             rev: self.rev,
         })
     }

@@ -247,8 +247,8 @@ fn due_where_fails(n: u64) -> (&'static str, &'static str) {
 fn has_nothing_or_a(alloc: Global, disk: MemDisk) -> bool {
     let read = run(alloc, &EDIT, disk, "{\"op\":\"text\",\"doc\":1}\n");
     let output = read.output.as_slice();
-    output == b"{\"ok\":true,\"rev\":0,\"text\":\"\"}\n"
-        || output == b"{\"ok\":true,\"rev\":1,\"text\":\"a\"}\n"
+    output == "{\"ok\":true,\"rev\":0,\"text\":\"\"}\n".as_bytes()
+        || output == "{\"ok\":true,\"rev\":1,\"text\":\"a\"}\n".as_bytes()
 }
 
 /// Whether a session ends as it has to where the n-th device call fails.
@@ -270,19 +270,27 @@ fn a_device_call_that_fails_is_told_wherever_it_comes(rt: HostRuntime) -> Result
         assert!(rt; ends_where_fails(&rt, n)?, "call {n}");
     }
     let unfailed = FaultDisk::new(made(&rt)?, 11);
-    let ran = run(rt.alloc(), &EDIT, unfailed, "{\"op\":\"insert\",\"doc\":1,\"at\":0,\"text\":\"a\"}\n");
+    let ran = run(
+        rt.alloc(),
+        &EDIT,
+        unfailed,
+        "{\"op\":\"insert\",\"doc\":1,\"at\":0,\"text\":\"a\"}\n",
+    );
     written(&rt, ran, 0, "{\"ok\":true,\"rev\":1}\n", "");
     Ok(())
 }
 
 /// The open slot of a fresh store: version 1, the replica, no operations.
-const MADE: &[u8] = b"\x01\0\0\0\0\0\0\0PTXTPG01\0\0\0\0\0\0\0\x01\0\0\0\0\0\0\x40\0\x80\0\0\0\0\0\0\x01";
+const MADE: &[u8] =
+    b"\x01\0\0\0\0\0\0\0PTXTPG01\0\0\0\0\0\0\0\x01\0\0\0\0\0\0\x40\0\x80\0\0\0\0\0\0\x01";
 
 /// The open slot behind the first commit: version 2, 39 bytes of stream, one operation, the table page 3.
-const ONE: &[u8] = b"\x01\0\0\0\0\0\0\0PTXTPG01\0\0\0\0\0\0\0\x02\0\0\0\0\0\0\x40\0\x80\0\0\0\0\0\0\x01\0\0\0\0\0\0\0\x27\0\0\0\0\0\0\0\x01\0\0\0\x01\0\0\0\0\0\0\0\x03";
+const ONE: &[u8] =
+    b"\x01\0\0\0\0\0\0\0PTXTPG01\0\0\0\0\0\0\0\x02\0\0\0\0\0\0\x40\0\x80\0\0\0\0\0\0\x01\0\0\0\0\0\0\0\x27\0\0\0\0\0\0\0\x01\0\0\0\x01\0\0\0\0\0\0\0\x03";
 
 /// The record of the first insert: "a" at the beginning of document 1.
-const FIRST: &[u8] = b"\0\0\0\x23\x01\0\0\0\x01\0\0\0\0\0\0\0\x01\0\0\0\0\0\0\x40\0\x80\0\0\0\0\0\0\x01\0\0\0\0\0\x61";
+const FIRST: &[u8] =
+    b"\0\0\0\x23\x01\0\0\0\x01\0\0\0\0\0\0\0\x01\0\0\0\0\0\0\x40\0\x80\0\0\0\0\0\0\x01\0\0\0\0\0\x61";
 
 /// Whether a page begins with these bytes, and the rest is zero.
 fn is_filled(page: &[u8], start: &[u8]) -> bool {
@@ -294,15 +302,20 @@ fn is_filled(page: &[u8], start: &[u8]) -> bool {
     true
 }
 
+/// Where the page of this number begins.
+fn place(number: usize) -> u64 {
+    (number as u64).saturating_mul(4096)
+}
+
 /// Whether the file has just these pages, each filled up with zeros.
 fn has_pages(disk: &mut MemDisk, pages: &[&[u8]]) -> bool {
-    for (n, start) in pages.iter().enumerate() {
+    for (number, start) in pages.iter().enumerate() {
         let mut page = [0; 4096];
-        if disk.read_at(4096 * n as u64, &mut page).is_err() || !is_filled(&page, start) {
+        if disk.read_at(place(number), &mut page).is_err() || !is_filled(&page, start) {
             return false;
         }
     }
-    disk.size() == Ok(4096 * pages.len() as u64)
+    disk.size() == Ok(place(pages.len()))
 }
 
 #[test]

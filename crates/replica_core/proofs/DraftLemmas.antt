@@ -20,10 +20,11 @@ pub drafts_push : (ds : List Draft) (d : Draft) (ops : List Op) → AllDrafts ds
 drafts_push [] d ops all draft = (draft, tt)
 drafts_push (x ∷ ds) d ops all draft = (all.0, drafts_push ds d ops all.1 draft)
 
--- one more document
-pub docs_push : (ds : List Doc) (d : Doc) → numbers (ds ++ d ∷ []) ≡ numbers ds ++ number_of d ∷ []
-docs_push [] d = refl
-docs_push (x ∷ ds) d = ap (λ rest. number_of x ∷ rest) (docs_push ds d)
+-- one more document, that of the next draft
+pub docs_push : (ds : List Doc) (d : Doc) (x : Draft) (rest : List Draft) → number_of d ≡ draft_number x
+    → numbers (ds ++ d ∷ []) ++ draft_numbers rest ≡ numbers ds ++ draft_numbers (x ∷ rest)
+docs_push [] d x rest same = ap (λ n. n ∷ draft_numbers rest) same
+docs_push (y ∷ ds) d x rest same = ap (λ more. number_of y ∷ more) (docs_push ds d x rest same)
 
 pub stand_push : (ds : List Doc) (d : Doc) (ops : List Op) → AllStand ds ops → StandsFor d ops → AllStand (ds ++ d ∷ []) ops
 stand_push [] d ops all stands = (stands, tt)
@@ -82,3 +83,8 @@ take_push list i op here is_it = rw (take_more list i op here, ← is_it) refl
 -- what may come to a document may come to the one of the same number
 pub may_come_at : (ops : List Op) (n m : ℕ) (op : Op) → n ≡ m → MayCome ops n op → MayCome ops m op
 may_come_at ops n m op same may = rw (sym same) may
+
+-- the draft at an index takes an operation of its number that may come
+pub draft_takes : (ds : List Draft) (i : ℕ) (d : Draft) (op : Op) (ops : List Op) → i < length ds → d ≡ get_or ds i d → op.doc ≡ draft_number d
+    → AllDrafts ds ops → MayCome ops op.doc op → IsDraftOf d ops × MayCome ops (draft_number d) op
+draft_takes ds i d op ops here is_it same all may = (draft_at ds i d ops all here is_it, may_come_at ops op.doc (draft_number d) op same may)

@@ -1,7 +1,7 @@
 -- The limits of a store behind an edit.
 use Rattle.std.proofs.Common.{◌≡◌, ℕ, ◌+◌, ◌≤◌, ◌<◌, Bool, true, false, ◌&&◌, nat_le, nat_lt, List, [], ◌∷◌, ◌++◌, length, refl, sym, ◌∙◌, ap, append_assoc, append-nil, arith}
 use Rattle.std.specs.List.{list_all}
-use Rattle.std.proofs.lemmas.Bool.{lt-ltb, le-leb}
+use Rattle.std.proofs.lemmas.Bool.{false≢true, lt-ltb, le-leb}
 use Rattle.std.proofs.lemmas.Bool.Decides.{nat_tests}
 use Rattle.std.proofs.lemmas.List.Folds.{list_all-append}
 use Rattle.op_ids.specs.Clock.{advanced, is_clock, IsOverfull}
@@ -9,7 +9,7 @@ use Rattle.op_ids.proofs.ClockLemmas.{is_clock_parts}
 use Rattle.op_model.specs.declared.op.Op.{Op}
 use Rattle.op_model.specs.declared.op.Body.{Body}
 use Rattle.op_model.specs.declared.edit.Edit.{Edit}
-use Rattle.op_model.specs.Causality.{clock_of, documents, is_in_range, has_room, is_within_limits, FollowInTurn, IsCausallyClosed}
+use Rattle.op_model.specs.Causality.{clock_of, documents, is_in_range, has_room, is_within_limits, FollowInTurn, IsCausallyClosed, MayFollow}
 use Rattle.op_model.specs.Made.{greatest_counter, numbered, bodies_of, made, size_of}
 use Rattle.op_model.specs.Records.{stream_length, record_length}
 use Rattle.model_laws.proofs.Ready.{clock-push}
@@ -166,6 +166,13 @@ is_within_limits-push ops op closed in_range fits =
 -- an operation that the clock can't count is beyond the limits
 pub is_within_limits-push_overfull : (ops : List Op) (op : Op) → IsOverfull (advanced (clock_of ops) op.id.replica) → is_within_limits (ops ++ op ∷ []) ≡ false
 is_within_limits-push_overfull ops op full = is_within_limits-full (ops ++ op ∷ []) (rw (clock-push ops op) full)
+
+-- so the clock can count an operation that may follow
+pub never_overfull : (ops : List Op) (op : Op) (clock : List (ℕ × ℕ)) → MayFollow ops op → clock ≡ clock_of ops
+    → IsOverfull (advanced clock op.id.replica) → ⊥
+never_overfull ops op clock follows is_it full =
+    let over : IsOverfull (advanced (clock_of ops) op.id.replica) = rw is_it at full in
+    false≢true (sym (is_within_limits-push_overfull ops op over) ∙ follows.limits)
 
 -- a counter and a document in range
 pub is_in_range-parts : (op : Op) (last most : ℕ) → 0 < op.id.counter → op.id.counter < last → last ≡ 281474976710656 → 0 < op.doc → op.doc < most → most ≡ 4294967296

@@ -7,7 +7,7 @@ ghost use Rattle.replica_core.specs.Docs.{draft_numbers, numbers as doc_numbers,
 
 use crate::numbers::place;
 use crate::refusal::Refusal;
-use doc_core::{Doc, Draft};
+use doc_core::{Doc, Draft, SequenceError};
 use op_model::Op;
 use std::alloc::{AllocError, Global};
 
@@ -21,7 +21,7 @@ pub fn documents_of(alloc: Global, list: &[Op], numbers: &[u32]) -> Result<Vec<D
 {
     let mut drafts = empty(alloc, numbers)?;
     apply_all(&mut drafts, numbers, list)?;
-    let docs = finished(alloc, &drafts)?;
+    let docs = finished(alloc, drafts)?;
     Ok(docs)
 }
 
@@ -59,6 +59,8 @@ fn apply_all(drafts: &mut Vec<Draft>, numbers: &[u32], list: &[Op]) -> Result<()
 fn apply(drafts: &mut Vec<Draft>, numbers: &[u32], op: &Op) -> Result<(), Refusal>
     requires numbers { draft_numbers drafts.old.items ≡ numbers.now }
     requires there { with_number op.now.doc numbers.now ≡ numbers.now }
+    requires may_come { (ops : List Op) × AllDrafts drafts.old.items ops
+        × MayCome ops op.now.doc op.now }
     ensures numbers { OnOk result (draft_numbers drafts.new.items ≡ numbers.now) }
     ensures drafts { OnOk result ((ops all : List Op) → numbers.now ≡ documents all
         → AllDrafts drafts.old.items ops → MayCome ops op.now.doc op.now
@@ -71,16 +73,18 @@ fn apply(drafts: &mut Vec<Draft>, numbers: &[u32], op: &Op) -> Result<(), Refusa
             let draft = &mut drafts[at];
             match draft.apply(op) {
                 Ok(()) => Ok(()),
-                Err(_) => Err(Refusal::Memory),
+                Err(SequenceError::Memory) => Err(Refusal::Memory),
+                Err(SequenceError::UnknownId) => unreachable!(),
             }
         }
     }
 }
 
-/// The documents of drafts. An error is want of memory (1).
-fn finished(alloc: Global, drafts: &[Draft]) -> Result<Vec<Doc>, AllocError>
-    ensures numbers { IfOk result (λ docs. doc_numbers docs.items ≡ draft_numbers drafts.now) }
-    ensures stand { IfOk result (λ docs. (ops : List Op) → AllDrafts drafts.now ops
+/// The documents of drafts. One after another, so that a weave is let go before the next document
+/// takes memory. An error is want of memory (1).
+fn finished(alloc: Global, drafts: Vec<Draft>) -> Result<Vec<Doc>, AllocError>
+    ensures numbers { IfOk result (λ docs. doc_numbers docs.items ≡ draft_numbers drafts.items) }
+    ensures stand { IfOk result (λ docs. (ops : List Op) → AllDrafts drafts.items ops
         → AllStand docs.items ops) }
 {
     let mut docs = Vec::with_capacity(alloc, drafts.len())?;

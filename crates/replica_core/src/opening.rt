@@ -1,5 +1,5 @@
 ghost use Rattle.std.specs.Prelude.{◌≡◌, ◌≢◌, ◌+◌, ◌<◌, ◌^◌, List, ◌∷◌, [], ◌++◌, length, IfOk, IfErr, OnOk};
-ghost use Rattle.op_ids.specs.Clock.{advanced};
+ghost use Rattle.op_ids.specs.Clock.{advanced, IsOverfull};
 ghost use Rattle.op_model.specs.declared.op.Op.{Op};
 ghost use Rattle.op_model.specs.Causality.{documents, IsCausallyClosed};
 ghost use Rattle.op_model.specs.Records.{record_length};
@@ -12,7 +12,7 @@ use crate::index::Index;
 use crate::numbers::{add, has_number};
 use crate::refusal::Refusal;
 use doc_core::Doc;
-use op_ids::Clock;
+use op_ids::{Clock, ClockError};
 use op_model::Op;
 use std::alloc::Global;
 
@@ -51,7 +51,7 @@ fn checked(alloc: Global, list: &[Op]) -> Result<(Clock, Vec<u32>, Index), Refus
     Ok((clock, numbers, index))
 }
 
-/// Counts an operation that may follow so many that are counted. An error is want of memory (1).
+/// Counts an operation that may follow so many that are counted; so the clock can count it. An error is want of memory (1).
 fn count(
     alloc: Global,
     clock: &mut Clock,
@@ -59,6 +59,7 @@ fn count(
     op: &Op,
     behind: usize,
 ) -> Result<(), Refusal>
+    requires counts { IsOverfull (advanced clock.old op.now.id.replica) → ⊥ }
     requires few { behind < 2 ^ 32 }
     requires small { index.old.stream + record_length op.now < 2 ^ 64 }
     ensures clock { OnOk result (clock.new ≡ advanced clock.old op.now.id.replica) }
@@ -69,7 +70,8 @@ fn count(
     index.reserve(alloc, op.id.replica(), 1)?;
     match clock.advance(op.id.replica()) {
         Ok(()) => {}
-        Err(_) => return Err(Refusal::Memory),
+        Err(ClockError::Memory) => return Err(Refusal::Memory),
+        Err(ClockError::Limit) => unreachable!(),
     }
     index.put(op, behind as u32);
     Ok(())

@@ -1,5 +1,5 @@
 -- Which refusal names which fault.
-use Rattle.std.proofs.Common.{◌≡◌, ◌⊎◌, ℕ, refl, inl, inr, Result, Err}
+use Rattle.std.proofs.Common.{◌≡◌, ◌⊎◌, ℕ, refl, inl, inr, Result, Ok, Err, IsOk}
 use Rattle.root_slots.specs.Faults.{Names, failures_of}
 use Rattle.root_slots.specs.declared.error.RootsError.{RootsError}
 use Rattle.root_slots.specs.declared.error.RootsError.TheVariants.{Memory, NoRoot, BadRoot, ReadFailed}
@@ -16,3 +16,12 @@ pub quiet_slot : (e : RootsError) → (e ≡ Memory) ⊎ (e ≡ NoRoot) ⊎ (e �
 quiet_slot e (inl is) = rw is refl
 quiet_slot e (inr (inl is)) = rw is refl
 quiet_slot e (inr (inr is)) = rw is refl
+
+-- a refusal of the slots alone isn't one of memory
+pub not_memory : {P : Type 0} (e : RootsError) → (e ≡ NoRoot) ⊎ (e ≡ BadRoot) → e ≡ Memory → P
+not_memory e (inl is) memory = absurd cc
+not_memory e (inr is) memory = absurd cc
+
+-- a value was found
+pub found_ok : {T E : Type 0} (r : Result T E) (x : T) → r ≡ Ok x → IsOk r
+found_ok r x is = rw is refl

@@ -1,5 +1,6 @@
 pub mod Faults
 pub mod HeadLemmas
+pub mod LiveLemmas
 pub mod Looking
 pub mod SlotReads
 pub mod SpellingLemmas

@@ -5,4 +5,5 @@ pub mod Live
 pub mod Looks
 pub mod Root
 pub mod Slots
+pub mod Survivors
 pub mod Writing

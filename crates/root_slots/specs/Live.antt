@@ -22,6 +22,7 @@ pub record IsLive (file : List ℕ) (slot : ℕ) (stale : Bool) (head : Root) : 
 abbrev pub rooted : List ℕ → Result (List ℕ) ℕ
 rooted root = if is_root root then Ok root else Err 43
 
+-- the body of the slot that was found, or why none was
 abbrev pub root_at : List ℕ → Result ℕ ℕ → Result (List ℕ) ℕ
 root_at file (Ok slot) = rooted (body slot file)
 root_at file (Err n) = Err n

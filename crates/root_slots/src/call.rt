@@ -24,7 +24,8 @@ pub fn size_of<D: Disk>(disk: &mut D) -> Result<u64, RootsError>
     }
 }
 
-/// Reads bytes that lie in the file. Of a disk that tells it is refused only where the device failed (50).
+/// Reads bytes that lie in the file. Of a disk that tells it is refused only where the device
+/// failed (50).
 pub fn read_inside<D: Disk>(disk: &mut D, at: u64, bytes: &mut [u8]) -> Result<(), RootsError>
     requires inside { D.tells disk.old → at + length bytes.old ≤ length (D.content disk.old) }
     ensures read { D.tells disk.old
@@ -40,8 +41,8 @@ pub fn read_inside<D: Disk>(disk: &mut D, at: u64, bytes: &mut [u8]) -> Result<(
     }
 }
 
-/// Writes bytes at an offset in the file or at its end. Of a disk that tells it is refused only where the
-/// device failed (51).
+/// Writes bytes at an offset in the file or at its end. Of a disk that tells it is refused only
+/// where the device failed (51).
 pub fn write_inside<D: Disk>(disk: &mut D, at: u64, bytes: &[u8]) -> Result<(), DiskError>
     requires inside { D.tells disk.old → at ≤ length (D.content disk.old) }
     ensures writes { D.tells disk.old

@@ -1,12 +1,15 @@
 //! The two root slots of a file.
-ghost use Rattle.std.specs.Prelude.{◌≡◌, ◌-◌, ◌<◌, ◌≤◌, ◌↔◌, ℕ, [], ◌∷◌, true, false, length, IfOk, IfErr};
+ghost use Rattle.std.specs.Prelude.{◌≡◌, ◌-◌, ◌<◌, ◌≤◌, ◌↔◌, [], ◌∷◌, true, false, length, IfOk, IfErr, IsOk, OnOk};
 ghost use Rattle.disk_trait.specs.declared.error.DiskError.TheVariants.{WriteFailed};
 ghost use Rattle.root_slots.specs.Body.{IsRoot};
-ghost use Rattle.root_slots.specs.Slots.{gate, gate_place, body_place};
+ghost use Rattle.root_slots.specs.Slots.{gate, gate_place, body_place, live};
 ghost use Rattle.root_slots.specs.Live.{IsLive, live_root};
 ghost use Rattle.root_slots.specs.Faults.{Names, failed_in};
 ghost use Rattle.root_slots.specs.Looks.{OnlyLooks};
+ghost use Rattle.root_slots.specs.Survivors.{Leaves, IsNewer, Lives, LivesAlone, LivesOrOther};
+ghost use Rattle.root_slots.specs.Survivors.{LivesOverOpen, LivesBeforeNewer};
 ghost use Rattle.root_slots.specs.Writing.{Writes};
+ghost use Rattle.root_slots.specs.declared.error.RootsError.TheVariants.{Memory};
 
 use crate::call::{read_inside, size_of, write_inside};
 use crate::error::RootsError;
@@ -23,6 +26,9 @@ const SLOTS: usize = 8192;
 
 /// The two root slots of a file: which one is live, and whether the other one's gate reads 1. That
 /// other one is the stale slot: the next root is written there. Contracts see the record of both.
+///
+/// The next root takes `close_stale` where the stale gate reads 1, a sync, `put_body`, a sync,
+/// `open_gate`, a sync, and `change_places`.
 #[derive(Debug, Drop)]
 pub struct Roots {
     // The live slot, 0 or 1.
@@ -54,8 +60,9 @@ pub struct LoadedRoots {
 }
 
 impl Roots {
-    /// The root slots of a file that was just made: the first one is live, the second one closed.
-    /// Takes no memory.
+    /// The root slots of a file that `Store::init` just made: the gate of slot 0 reads 1, and that
+    /// of slot 1 doesn't. It reads no file, so that it is right of such a one alone. Takes no
+    /// memory.
     pub fn of_new_file() -> Roots
         ensures live { result.slot ≡ 0 }
         ensures closed { result.stale ≡ false }
@@ -70,8 +77,8 @@ impl Roots {
     ///
     /// Refuses with the first of these that it meets: 50 where the device failed; 42 where the file
     /// has fewer than 8,192 bytes or no gate is open; 43 where both gates are open with equal
-    /// versions, or the live slot holds no root body. 1 may stand in place of 43 where a growth of
-    /// memory was refused.
+    /// versions, or the live slot holds no root body. 1 where a growth of memory was refused: only
+    /// where a slot is live, and it says nothing of that slot's body.
     ///
     /// One `size` and one read of 8,192 bytes. It allocates the numbers of the root's table pages.
     pub fn load<D: Disk>(alloc: Global, disk: &mut D) -> Result<LoadedRoots, RootsError>
@@ -83,6 +90,8 @@ impl Roots {
         ensures valid { IfOk result (λ it. IsRoot it.root) }
         ensures fault { D.tells disk.old
             → IfErr result (λ e. Names e (live_root (D.content disk.old))) }
+        ensures memory { D.tells disk.old
+            → IfErr result (λ e. e ≡ Memory → IsOk (live (D.content disk.old))) }
         ensures looks { D.tells disk.old
             → OnlyLooks D.DiskFacts (failed_in result) 0 disk.old disk.new }
         ensures tells { D.tells disk.new ↔ D.tells disk.old }
@@ -118,47 +127,67 @@ impl Roots {
         self.stale
     }
 
-    /// Closes the stale slot: one write of the byte 0 into its gate, which has to read 1. Refuses with
-    /// 51 where the device failed: then the gate holds any byte. Takes no memory.
+    /// Closes the stale slot: one write of the byte 0 into its gate, which has to read 1. Refuses
+    /// with 51 where the device failed: then the gate holds any byte. Takes no memory.
     pub fn close_stale<D: Disk>(&self, disk: &mut D) -> Result<(), DiskError>
         requires whole { D.tells disk.old → 8192 ≤ length (D.content disk.old) }
         requires reads_one { D.tells disk.old
             → gate (1 - self.now.slot) (D.content disk.old) ≡ 1 }
         ensures writes { D.tells disk.old → Writes D.DiskFacts result
             (gate_place (1 - self.now.slot)) (0 ∷ []) disk.old disk.new }
+        ensures live { D.tells disk.old
+            → Leaves D.DiskFacts disk.old (LivesOverOpen self.now.slot)
+            → Leaves D.DiskFacts disk.new (Lives self.now.slot) }
+        ensures closed { D.tells disk.old
+            → Leaves D.DiskFacts disk.old (LivesOverOpen self.now.slot)
+            → OnOk result (LivesAlone self.now.slot (D.content disk.new)) }
         ensures tells { D.tells disk.new ↔ D.tells disk.old }
         ensures refused { IfErr result (λ e. e ≡ WriteFailed) }
     {
         write_inside(disk, PAGE * (1 - self.slot), &[0])
     }
 
-    /// Writes the body of the next root, 4,088 bytes, into the stale slot behind its gate: one write.
-    /// Refuses with 51 where the device failed: then the body holds any bytes. Takes no memory.
+    /// Writes the body of the next root, 4,088 bytes, into the stale slot behind its gate: one
+    /// write. Refuses with 51 where the device failed: then the body holds any bytes. Takes no
+    /// memory.
     pub fn put_body<D: Disk>(&self, disk: &mut D, body: &[u8]) -> Result<(), DiskError>
         requires whole { D.tells disk.old → 8192 ≤ length (D.content disk.old) }
         requires long { length body.now ≡ 4088 }
         ensures writes { D.tells disk.old → Writes D.DiskFacts result
             (body_place (1 - self.now.slot)) body.now disk.old disk.new }
+        ensures live { D.tells disk.old
+            → Leaves D.DiskFacts disk.old (LivesAlone self.now.slot)
+            → Leaves D.DiskFacts disk.new (LivesAlone self.now.slot) }
+        ensures put { D.tells disk.old
+            → Leaves D.DiskFacts disk.old (LivesAlone self.now.slot)
+            → IsNewer self.now.slot (D.content disk.old) body.now
+            → OnOk result (LivesBeforeNewer self.now.slot (D.content disk.new)) }
         ensures tells { D.tells disk.new ↔ D.tells disk.old }
         ensures refused { IfErr result (λ e. e ≡ WriteFailed) }
     {
         write_inside(disk, PAGE * (1 - self.slot) + 8, body)
     }
 
-    /// Opens the stale slot: one write of the byte 1 into its gate. Refuses with 51 where the device
-    /// failed: then the gate holds any byte. Takes no memory.
+    /// Opens the stale slot: one write of the byte 1 into its gate. Refuses with 51 where the
+    /// device failed: then the gate holds any byte. Takes no memory.
     pub fn open_gate<D: Disk>(&self, disk: &mut D) -> Result<(), DiskError>
         requires whole { D.tells disk.old → 8192 ≤ length (D.content disk.old) }
         ensures writes { D.tells disk.old → Writes D.DiskFacts result
             (gate_place (1 - self.now.slot)) (1 ∷ []) disk.old disk.new }
+        ensures live { D.tells disk.old
+            → Leaves D.DiskFacts disk.old (LivesBeforeNewer self.now.slot)
+            → Leaves D.DiskFacts disk.new (LivesOrOther self.now.slot) }
+        ensures opened { D.tells disk.old
+            → Leaves D.DiskFacts disk.old (LivesBeforeNewer self.now.slot)
+            → OnOk result (Lives (1 - self.now.slot) (D.content disk.new)) }
         ensures tells { D.tells disk.new ↔ D.tells disk.old }
         ensures refused { IfErr result (λ e. e ≡ WriteFailed) }
     {
         write_inside(disk, PAGE * (1 - self.slot), &[1])
     }
 
-    /// The slots change places: the stale one, whose gate was opened and settled, is live, and the one
-    /// that was live is open too. It makes no device call. Takes no memory.
+    /// The slots change places: the stale one, whose gate was opened and settled, is live, and the
+    /// one that was live is open too. It makes no device call. Takes no memory.
     pub fn change_places(&mut self)
         ensures slot { self.new.slot ≡ 1 - self.old.slot }
         ensures stale { self.new.stale ≡ true }

@@ -1,5 +1,5 @@
 //! Which root slot is live, of the bytes of both, and what it says.
-ghost use Rattle.std.specs.Prelude.{◌≡◌, ◌⊎◌, ◌-◌, ◌<◌, ◌==◌, true, length, IfOk, IfErr, Ok};
+ghost use Rattle.std.specs.Prelude.{◌≡◌, ◌⊎◌, ◌-◌, ◌<◌, ◌==◌, true, length, IfOk, IfErr, IsOk, Ok};
 ghost use Rattle.root_slots.specs.Body.{IsRoot, Spells};
 ghost use Rattle.root_slots.specs.Root.{version_of};
 ghost use Rattle.root_slots.specs.Slots.{gate, body, greater, live};
@@ -66,8 +66,8 @@ fn greater(version0: u64, version1: u64) -> Result<u64, RootsError>
     }
 }
 
-// Which slot is live, of the bytes of both: the open one, of two the one with the greater version. 42 where
-// none is open, and 43 where two are with equal versions.
+// Which slot is live, of the bytes of both: the open one, of two the one with the greater version.
+// 42 where none is open, and 43 where two are with equal versions.
 fn live_slot(slots: &[u8]) -> Result<u64, RootsError>
     requires { length slots.now ≡ 8192 }
     ensures slot { IfOk result (λ slot. live slots.now ≡ Ok slot) }
@@ -102,13 +102,14 @@ fn root_of(alloc: Global, body: &[u8]) -> Result<RootBody, RootsError>
     }
 }
 
-/// The live slot and what it says, of the bytes of both slots. 42 where none is open; 43 where two are with
-/// equal versions, or the live one holds no root body; 1 for want of memory.
+/// The live slot and what it says, of the bytes of both slots. 42 where none is open; 43 where two
+/// are with equal versions, or the live one holds no root body; 1 for want of memory.
 pub fn live_root(alloc: Global, slots: &[u8]) -> Result<Live, RootsError>
     requires { length slots.now ≡ 8192 }
     ensures found { IfOk result (λ it. IsLive slots.now it.slot it.stale it.root) }
     ensures valid { IfOk result (λ it. IsRoot it.root) }
     ensures fault { IfErr result (λ e. Names e (live_root slots.now)) }
+    ensures memory { IfErr result (λ e. e ≡ Memory → IsOk (live slots.now)) }
     ensures refused { IfErr result (λ e. (e ≡ Memory) ⊎ (e ≡ NoRoot) ⊎ (e ≡ BadRoot)) }
 {
     let slot = live_slot(slots)?;

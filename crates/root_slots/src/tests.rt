@@ -18,7 +18,8 @@ pub const FIRST: &str =
 pub const SECOND: &str =
     "5054585450473031 0000000000000003 A 000000000000007e 0000000000000002 00000001 00000000 00000005";
 
-/// The body whose first bytes pieces of hex say, where `A` stands for the replica. The rest is zero.
+/// The body whose first bytes pieces of hex say, where `A` stands for the replica. The rest is
+/// zero.
 pub fn body_of(alloc: Global, pieces: &str) -> Result<Vec<u8>, Fail> {
     let mut bytes = Vec::new(alloc);
     for piece in pieces.split_whitespace() {

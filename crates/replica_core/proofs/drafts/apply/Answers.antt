@@ -1,9 +1,9 @@
-use Rattle.std.proofs.Common.{◌≡◌, ◌<◌, ◌∙◌, ap, length, arith}
+use Rattle.std.proofs.Common.{◌≡◌, ◌<◌, ◌∙◌, Err, ap, length, arith}
 use Rattle.std.proofs.lemmas.List.{length-map}
 use Rattle.doc_core.specs.Drafting.{draft_number}
 use Rattle.replica_core.specs.Docs.{draft_numbers}
 use Rattle.replica_core.proofs.DocLemmas.{IsUp, documents_up}
-use Rattle.replica_core.proofs.DraftLemmas.{draft_put, may_come_at, number_at, numbers_put}
+use Rattle.replica_core.proofs.DraftLemmas.{draft_put, draft_takes, may_come_at, number_at, numbers_put}
 use Rattle.replica_core.proofs.drafts.apply.Goals as goal
 
 pub returns-in-Ok-apply-clause-numbers : goal.returns-in-Ok-apply-clause-numbers
@@ -23,3 +23,16 @@ returns-in-Ok-apply-clause-drafts c = λ ops all are drafts may.
     let up : IsUp (draft_numbers c.args.drafts.now.items) = rw (c.requires.numbers, are) (documents_up all) in
     draft_put c.args.drafts.now.items c.in-Ok.at c.index_mut-draft.result.now c.apply.new.self ops c.args.op.now up here c.index_mut-draft.ensures.value
     same drafts (λ draft. c.in-Ok-apply.ensures.taken ops draft (may_come_at ops c.args.op.now.doc (draft_number c.index_mut-draft.result.now) c.args.op.now same may))
+
+pub unreachable-requires-in-Err-UnknownId : goal.unreachable-requires-in-Err-UnknownId
+unreachable-requires-in-Err-UnknownId c =
+    let many = length-map c.args.drafts.now.items draft_number in
+    let as_many = ap length c.requires.numbers in
+    let there = c.in-Ok.ensures.0 in
+    let here : c.in-Ok.at < length c.args.drafts.now.items = omega arith in
+    let same : c.args.op.now.doc ≡ draft_number c.index_mut-draft.result.now =
+    number_at c.args.drafts.now.items c.in-Ok.at c.index_mut-draft.result.now c.args.op.now.doc here c.index_mut-draft.ensures.value
+    (rw (c.requires.numbers) c.in-Ok.ensures.1) in
+    let takes = draft_takes c.args.drafts.now.items c.in-Ok.at c.index_mut-draft.result.now c.args.op.now c.requires.may_come.0 here c.index_mut-draft.ensures.value same
+    c.requires.may_come.1 c.requires.may_come.2 in
+    c.in-Err-UnknownId.ensures.known (ap Err c.in-Err-UnknownId.field-0-is) c.requires.may_come.0 takes.0 takes.1

@@ -9,6 +9,14 @@ pub apply-requires-clause-there : goal.apply-requires-clause-there
 apply-requires-clause-there c =
     rw c.requires.numbers (doc_there c.args.list.now c.loop-op.op-index c.op-item.result c.loop-op-test.true c.op-item.is)
 
+pub apply-requires-clause-may_come : goal.apply-requires-clause-may_come
+apply-requires-clause-may_come c =
+    let front = follows_front c.args.list.now c.loop-op.op-index c.op-item.result c.requires.closed c.loop-op-test.true c.op-item.is in (
+      take c.loop-op.op-index c.args.list.now,
+      c.loop-op.invariant.drafts,
+      may_come (take c.loop-op.op-index c.args.list.now) c.op-item.result.doc c.op-item.result front.1 refl,
+    )
+
 pub loop-op-preserved : goal.loop-op-preserved
 loop-op-preserved c =
     let front = follows_front c.args.list.now c.loop-op.op-index c.op-item.result c.requires.closed c.loop-op-test.true c.op-item.is in

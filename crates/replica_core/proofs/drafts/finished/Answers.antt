@@ -1,18 +1,20 @@
-use Rattle.std.proofs.Common.{◌∙◌, ap, sym, ◌++◌, ◌∷◌, [], take}
-use Rattle.std.proofs.lemmas.List.{take_more}
-use Rattle.doc_core.specs.Standing.{number_of}
-use Rattle.replica_core.specs.Docs.{draft_numbers}
-use Rattle.replica_core.proofs.DraftLemmas.{docs_push, draft_at, numbers_push, stand_push}
+use Rattle.std.proofs.Common.{◌≡◌, ◌∙◌, ◌∷◌, ap, sym}
+use Rattle.std.specs.Vec.Iter.{into_iter_items}
+use Rattle.doc_core.specs.declared.draft.Draft.{Draft}
+use Rattle.replica_core.specs.Docs.{draft_numbers, numbers}
+use Rattle.replica_core.proofs.DraftLemmas.{docs_push, stand_push}
 use Rattle.replica_core.proofs.drafts.finished.Goals as goal
 
 pub loop-draft-preserved : goal.loop-draft-preserved
-loop-draft-preserved c = record {
-  numbers = rw (c.in_ok-push.ensures.items, take_more c.args.drafts.now c.loop-draft.draft-index c.draft-item.result c.loop-draft-test.true, ← c.draft-item.is)
-      (docs_push c.loop-draft.docs.items c.in_ok-doc.doc
-      ∙ (ap (λ ns. ns ++ number_of c.in_ok-doc.doc ∷ []) c.loop-draft.invariant.numbers
-      ∙ (ap (λ n. draft_numbers (take c.loop-draft.draft-index c.args.drafts.now) ++ n ∷ []) c.in_ok-doc.ensures.number
-      ∙ sym (numbers_push (take c.loop-draft.draft-index c.args.drafts.now) c.draft-item.result))));
-  stand = λ ops all. rw c.in_ok-push.ensures.items
-      (stand_push c.loop-draft.docs.items c.in_ok-doc.doc ops (c.loop-draft.invariant.stand ops all)
-      (c.in_ok-doc.ensures.stands ops (draft_at c.args.drafts.now c.loop-draft.draft-index c.draft-item.result ops all c.loop-draft-test.true c.draft-item.is)));
-}
+loop-draft-preserved c =
+    let at = c.loop-draft in
+    let steps : into_iter_items at.draft-iterator ≡ c.in-Some.draft ∷ into_iter_items c.next.new.self = c.in-Some.ensures.steps.0 in
+    record {
+      numbers = rw (c.in_ok-push.ensures.items)
+          (docs_push at.docs.items c.in_ok-doc.doc c.in-Some.draft (into_iter_items c.next.new.self) c.in_ok-doc.ensures.number ∙ rw steps at at.invariant.numbers);
+      stand = λ ops all.
+          let drafts = rw steps at (at.invariant.drafts ops all) in
+          rw (c.in_ok-push.ensures.items)
+          (stand_push at.docs.items c.in_ok-doc.doc ops (at.invariant.stand ops all) (c.in_ok-doc.ensures.stands ops drafts.0));
+      drafts = λ ops all. let drafts = rw steps at (at.invariant.drafts ops all) in drafts.1;
+    }

@@ -4,7 +4,7 @@ use Rattle.op_model.specs.Causality.{MayFollow}
 use Rattle.op_model.specs.Spans.{with_number}
 use Rattle.replica_core.proofs.DraftLemmas.{take_push}
 use Rattle.replica_core.proofs.FollowLemmas.{AreCounted-push, follows_front, record_fits}
-use Rattle.replica_core.proofs.LimitLemmas.{documents-push}
+use Rattle.replica_core.proofs.LimitLemmas.{documents-push, never_overfull}
 use Rattle.replica_core.proofs.opening.checked.Goals as goal
 
 pub count-requires-clause-small : goal.count-requires-clause-small
@@ -12,6 +12,12 @@ count-requires-clause-small c =
     let says = rw c.split_at.ensures.front at c.if-not-may_follow.ensures in
     let follows : MayFollow (take c.loop-i.i c.args.list.now) c.index-list-i.result = says.0 refl in
     record_fits (take c.loop-i.i c.args.list.now) c.index-list-i.result c.loop-i.index.stream follows c.loop-i.invariant.counted.index.stream
+
+pub count-requires-clause-counts : goal.count-requires-clause-counts
+count-requires-clause-counts c = λ full.
+    let says = rw c.split_at.ensures.front at c.if-not-may_follow.ensures in
+    let follows : MayFollow (take c.loop-i.i c.args.list.now) c.index-list-i.result = says.0 refl in
+    never_overfull (take c.loop-i.i c.args.list.now) c.index-list-i.result c.loop-i.clock follows c.loop-i.invariant.counted.clock full
 
 pub returns-then-not-may_follow-clause-bad : goal.returns-then-not-may_follow-clause-bad
 returns-then-not-may_follow-clause-bad c = λ _. (

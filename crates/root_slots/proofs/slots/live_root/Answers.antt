@@ -2,7 +2,7 @@ use Rattle.std.proofs.Common.{◌+◌, ◌*◌, ap, sym, ◌∙◌, arith, inl, 
 use Rattle.std.proofs.lemmas.Result.{err_from_is_err_and}
 use Rattle.root_slots.specs.Slots.{live}
 use Rattle.root_slots.specs.Live.{rooted, root_at, live_root}
-use Rattle.root_slots.proofs.Faults.{names_on}
+use Rattle.root_slots.proofs.Faults.{names_on, not_memory, found_ok}
 use Rattle.root_slots.proofs.SlotReads.{small_part}
 use Rattle.root_slots.proofs.slots.live_root.Goals as goal
 
@@ -26,6 +26,16 @@ pub returns-in_err-root-clause-refused : goal.returns-in_err-root-clause-refused
 returns-in_err-root-clause-refused c =
     let p = err_from_is_err_and c.from_residual-in_err-root.result c.from_residual-in_err-root.ensures.1 in
     rw (p.1, p.2) (elim c.in_err-root.ensures.refused [ inl memory ↦ inl memory | inr bad ↦ inr (inr bad) ])
+
+pub returns-in_err-slot-clause-memory : goal.returns-in_err-slot-clause-memory
+returns-in_err-slot-clause-memory c =
+    let p = err_from_is_err_and c.from_residual.result c.from_residual.ensures.1 in
+    rw (p.1, p.2) (not_memory _ c.in_err-slot.ensures.refused)
+
+pub returns-in_err-root-clause-memory : goal.returns-in_err-root-clause-memory
+returns-in_err-root-clause-memory c =
+    let p = err_from_is_err_and c.from_residual-in_err-root.result c.from_residual-in_err-root.ensures.1 in
+    rw (p.1, p.2) (λ memory. found_ok _ c.in_ok-slot.slot c.in_ok-slot.ensures.slot)
 
 pub returns-clause-found : goal.returns-clause-found
 returns-clause-found c = record {

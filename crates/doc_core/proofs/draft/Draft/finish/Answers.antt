@@ -5,8 +5,8 @@ pub returns-clause-stands : goal.returns-clause-stands
 returns-clause-stands c = λ ops draft. record {
   characters = record {
     orderly = draft.orderly;
-    content = c.in_ok-sequence.ensures (content_of ops c.args.self.now.doc) draft.characters;
+    content = c.in_ok-sequence.ensures (content_of ops c.args.self.doc) draft.characters;
   };
-  marks = rw c.in_ok-copy.ensures draft.marks;
+  marks = draft.marks;
   rev = draft.rev;
 }
