@@ -10,17 +10,7 @@ use Rattle.doc_core.proofs.LawLemmas.{others_stay}
 use Rattle.op_model.specs.declared.op.Op.{Op}
 use Rattle.op_model.specs.Causality.{documents}
 use Rattle.op_model.specs.Spans.{with_number}
-use Rattle.replica_core.specs.Docs.{numbers, AllStand, AreDocs}
-
--- all of these are greater than a number
-abbrev pub AllOver : ℕ → List ℕ → Type 0
-AllOver n [] = Unit {0}
-AllOver n (m ∷ ms) = (n < m) × AllOver n ms
-
--- they rise
-abbrev pub IsUp : List ℕ → Type 0
-IsUp [] = Unit {0}
-IsUp (n ∷ ns) = AllOver n ns × IsUp ns
+use Rattle.replica_core.specs.Docs.{numbers, AllOver, AllStand, AreDocs, IsUp}
 
 over_chain : (n m : ℕ) (ns : List ℕ) → n < m → AllOver m ns → AllOver n ns
 over_chain n m [] less over = tt

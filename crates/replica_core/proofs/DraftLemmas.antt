@@ -8,8 +8,7 @@ use Rattle.doc_core.specs.Drafting.{draft_number, IsDraftOf}
 use Rattle.doc_core.specs.Standing.{number_of, MayCome, StandsFor}
 use Rattle.doc_core.proofs.DraftLemmas.{draft_stays}
 use Rattle.op_model.specs.declared.op.Op.{Op}
-use Rattle.replica_core.specs.Docs.{draft_numbers, numbers, AllDrafts, AllStand}
-use Rattle.replica_core.proofs.DocLemmas.{AllOver, IsUp}
+use Rattle.replica_core.specs.Docs.{draft_numbers, numbers, AllDrafts, AllOver, AllStand, IsUp}
 
 -- one more draft
 pub numbers_push : (ds : List Draft) (d : Draft) → draft_numbers (ds ++ d ∷ []) ≡ draft_numbers ds ++ draft_number d ∷ []

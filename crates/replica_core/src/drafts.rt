@@ -3,7 +3,7 @@ ghost use Rattle.doc_core.specs.Standing.{MayCome};
 ghost use Rattle.op_model.specs.declared.op.Op.{Op};
 ghost use Rattle.op_model.specs.Causality.{documents, IsCausallyClosed};
 ghost use Rattle.op_model.specs.Spans.{with_number};
-ghost use Rattle.replica_core.specs.Docs.{draft_numbers, numbers as doc_numbers, AllDrafts, AllStand, AreDocs};
+ghost use Rattle.replica_core.specs.Docs.{draft_numbers, numbers as doc_numbers, AllDrafts, AllStand, AreDocs, IsUp};
 
 use crate::numbers::place;
 use crate::refusal::Refusal;
@@ -12,7 +12,7 @@ use op_model::Op;
 use std::alloc::{AllocError, Global};
 
 /// The documents of a causally closed list, whose numbers are given. An error is want of memory
-/// (1). For each operation a search for its document, and what the document's draft takes for it.
+/// (1). For each operation a search by halves for its document, and what its draft takes for it.
 pub fn documents_of(alloc: Global, list: &[Op], numbers: &[u32]) -> Result<Vec<Doc>, Refusal>
     requires closed { IsCausallyClosed list.now }
     requires numbers { numbers.now ≡ documents list.now }
@@ -54,17 +54,17 @@ fn apply_all(drafts: &mut Vec<Draft>, numbers: &[u32], list: &[Op]) -> Result<()
     Ok(())
 }
 
-/// Gives an operation to its document's draft. An error is want of memory (1): the draft can take
-/// it.
+/// Gives an operation that may come to its document's draft. An error is want of memory (1). A
+/// search by halves for the document, and what its draft takes for it.
 fn apply(drafts: &mut Vec<Draft>, numbers: &[u32], op: &Op) -> Result<(), Refusal>
     requires numbers { draft_numbers drafts.old.items ≡ numbers.now }
+    requires rising { IsUp numbers.now }
     requires there { with_number op.now.doc numbers.now ≡ numbers.now }
     requires may_come { (ops : List Op) × AllDrafts drafts.old.items ops
         × MayCome ops op.now.doc op.now }
     ensures numbers { OnOk result (draft_numbers drafts.new.items ≡ numbers.now) }
-    ensures drafts { OnOk result ((ops all : List Op) → numbers.now ≡ documents all
-        → AllDrafts drafts.old.items ops → MayCome ops op.now.doc op.now
-        → AllDrafts drafts.new.items (ops ++ op.now ∷ [])) }
+    ensures drafts { OnOk result ((ops : List Op) → AllDrafts drafts.old.items ops
+        → MayCome ops op.now.doc op.now → AllDrafts drafts.new.items (ops ++ op.now ∷ [])) }
     ensures memory { IfErr result (λ e. e ≡ Refusal.Memory) }
 {
     match place(numbers, op.doc) {

@@ -9,11 +9,12 @@ ghost use Rattle.replica_core.specs.Indexes.{IsIndexOf};
 use crate::drafts::documents_of;
 use crate::following::may_follow;
 use crate::index::Index;
-use crate::numbers::{add, has_number};
+use crate::numbers::add;
 use crate::refusal::Refusal;
 use doc_core::Doc;
 use op_ids::{Clock, ClockError};
 use op_model::Op;
+use slow_programs::MAX_DOCUMENTS;
 use std::alloc::Global;
 
 /// The clock, the documents and the index of a causally closed list. `BadOperation` (47) exactly
@@ -41,17 +42,18 @@ fn checked(alloc: Global, list: &[Op]) -> Result<(Clock, Vec<u32>, Index), Refus
     let mut index = Index::new(alloc);
     for i in 0..list.len() {
         let op = &list[i];
-        let has_place = has_number(&numbers, op.doc);
+        add(&mut numbers, op.doc)?;
+        let has_place = numbers.len() <= MAX_DOCUMENTS;
         if !may_follow(list.split_at(i).0, &clock, &index, op, has_place) {
             return Err(Refusal::BadOperation);
         }
-        add(&mut numbers, op.doc)?;
         count(alloc, &mut clock, &mut index, op, i)?;
     }
     Ok((clock, numbers, index))
 }
 
-/// Counts an operation that may follow so many that are counted; so the clock can count it. An error is want of memory (1).
+/// Counts an operation that may follow so many that are counted, so that the clock has room for it.
+/// An error is want of memory (1).
 fn count(
     alloc: Global,
     clock: &mut Clock,

@@ -1,8 +1,7 @@
 use Rattle.std.proofs.Common.{◌≡◌, ◌<◌, ◌∙◌, Err, ap, length, arith}
 use Rattle.std.proofs.lemmas.List.{length-map}
 use Rattle.doc_core.specs.Drafting.{draft_number}
-use Rattle.replica_core.specs.Docs.{draft_numbers}
-use Rattle.replica_core.proofs.DocLemmas.{IsUp, documents_up}
+use Rattle.replica_core.specs.Docs.{draft_numbers, IsUp}
 use Rattle.replica_core.proofs.DraftLemmas.{draft_put, draft_takes, may_come_at, number_at, numbers_put}
 use Rattle.replica_core.proofs.drafts.apply.Goals as goal
 
@@ -12,7 +11,7 @@ returns-in-Ok-apply-clause-numbers c =
     ∙ c.requires.numbers
 
 pub returns-in-Ok-apply-clause-drafts : goal.returns-in-Ok-apply-clause-drafts
-returns-in-Ok-apply-clause-drafts c = λ ops all are drafts may.
+returns-in-Ok-apply-clause-drafts c = λ ops drafts may.
     let many = length-map c.args.drafts.now.items draft_number in
     let as_many = ap length c.requires.numbers in
     let there = c.in-Ok.ensures.0 in
@@ -20,7 +19,7 @@ returns-in-Ok-apply-clause-drafts c = λ ops all are drafts may.
     let same : c.args.op.now.doc ≡ draft_number c.index_mut-draft.result.now =
     number_at c.args.drafts.now.items c.in-Ok.at c.index_mut-draft.result.now c.args.op.now.doc here c.index_mut-draft.ensures.value
     (rw (c.requires.numbers) c.in-Ok.ensures.1) in
-    let up : IsUp (draft_numbers c.args.drafts.now.items) = rw (c.requires.numbers, are) (documents_up all) in
+    let up : IsUp (draft_numbers c.args.drafts.now.items) = rw (c.requires.numbers) c.requires.rising in
     draft_put c.args.drafts.now.items c.in-Ok.at c.index_mut-draft.result.now c.apply.new.self ops c.args.op.now up here c.index_mut-draft.ensures.value
     same drafts (λ draft. c.in-Ok-apply.ensures.taken ops draft (may_come_at ops c.args.op.now.doc (draft_number c.index_mut-draft.result.now) c.args.op.now same may))
 

@@ -2,6 +2,7 @@ use Rattle.std.proofs.Common.{◌≡◌, ◌∙◌, ap, length, take, refl, sym}
 use Rattle.std.proofs.lemmas.Bool.{false≢true}
 use Rattle.op_model.specs.Causality.{MayFollow}
 use Rattle.op_model.specs.Spans.{with_number}
+use Rattle.replica_core.proofs.DocLemmas.{documents_up}
 use Rattle.replica_core.proofs.DraftLemmas.{take_push}
 use Rattle.replica_core.proofs.FollowLemmas.{AreCounted-push, follows_front, record_fits}
 use Rattle.replica_core.proofs.LimitLemmas.{documents-push, never_overfull}
@@ -12,6 +13,9 @@ count-requires-clause-small c =
     let says = rw c.split_at.ensures.front at c.if-not-may_follow.ensures in
     let follows : MayFollow (take c.loop-i.i c.args.list.now) c.index-list-i.result = says.0 refl in
     record_fits (take c.loop-i.i c.args.list.now) c.index-list-i.result c.loop-i.index.stream follows c.loop-i.invariant.counted.index.stream
+
+pub add-requires : goal.add-requires
+add-requires c = rw c.loop-i.invariant.numbers (documents_up (take c.loop-i.i c.args.list.now))
 
 pub count-requires-clause-counts : goal.count-requires-clause-counts
 count-requires-clause-counts c = λ full.
