@@ -1,5 +1,5 @@
 -- Each step of a commit that succeeds makes its part of the writes and syncs that are left.
-use Rattle.std.proofs.Common.{◌≡◌, ◌≢◌, ℕ, ◌+◌, ◌-◌, ◌<◌, ◌≤◌, Bool, true, false, nat_lt, length, refl, sym, ap, ◌∙◌, arith, if◌then◌else◌}
+use Rattle.std.proofs.Common.{◌≡◌, ℕ, ◌+◌, ◌-◌, ◌<◌, ◌≤◌, Bool, true, false, nat_lt, length, refl, ap, arith, if◌then◌else◌}
 use Rattle.std.proofs.lemmas.Bool.{ltb-true, ltb-false}
 use Rattle.group_commit.specs.Counts.{writes_from, syncs_from, writes_left, syncs_left, IsUnderWay}
 use Rattle.group_commit.specs.Held.{Held, behind_pages, gone_on}

@@ -1,5 +1,5 @@
 -- What each step of a commit does to the disk.
-use Rattle.std.proofs.Common.{◌≡◌, ◌≢◌, ◌⊎◌, ◌↔◌, ℕ, Bool, ◌<◌, List, refl, sym, ap, ◌∙◌, inl, inr, arith, Result, IfErr}
+use Rattle.std.proofs.Common.{◌≡◌, ◌≢◌, ◌↔◌, ℕ, Bool, ◌<◌, List, sym, inl, inr, Result, IfErr}
 use Rattle.disk_trait.specs.Calls.{IsCall, IsLawful}
 use Rattle.disk_trait.specs.declared.facts.DiskFacts.{Ghosts}
 use Rattle.disk_trait.proofs.Moments.{moments_of_call}

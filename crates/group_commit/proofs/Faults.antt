@@ -1,6 +1,9 @@
 -- Which refusal names which fault.
 use Rattle.std.proofs.Common.{◌≡◌, ◌≢◌, ◌⊎◌, ℕ, List, refl, sym, ◌∙◌, inl, inr, Result, Ok, Err}
-use Rattle.group_commit.specs.Loading.{Names, IsFirstFault, HasNone, failures_of, of_roots}
+use Rattle.group_commit.specs.Loading.{Names, IsFirstFault, HasNone, failures_of, of_roots, of_pages}
+use Rattle.page_file.specs.PageError.{failures_of as failures_of_pages}
+use Rattle.page_file.specs.declared.error.PageError.{PageError}
+use Rattle.page_file.specs.declared.error.PageError.TheVariants.{Memory as PagesMemory, BadTable as PagesBad, ReadFailed as PagesReadFailed}
 use Rattle.group_commit.specs.Image.{stored}
 use Rattle.root_slots.specs.Root.{count_of}
 use Rattle.root_slots.specs.Live.{live_root}
@@ -53,3 +56,15 @@ fault_of_ops file body bytes e (inr is) holds none =
   where
     other : BadStream ≡ Memory → ⊥
     other is = absurd cc
+
+-- a refusal of the pages names the file's fault, and meets as many failures
+pub names_pages : {A : Type 0} (e : PageError) (r : Result A ℕ) → (e ≡ PagesMemory) ⊎ ((e ≡ PagesBad) ⊎ (e ≡ PagesReadFailed)) → (e ≡ PagesBad → r ≡ Err 45)
+    → Names (of_pages e) r
+names_pages e r (inl is) bad = rw is tt
+names_pages e r (inr (inl is)) bad = rw is (bad is)
+names_pages e r (inr (inr is)) bad = rw is tt
+
+pub failures_pages : (e : PageError) → (e ≡ PagesMemory) ⊎ ((e ≡ PagesBad) ⊎ (e ≡ PagesReadFailed)) → failures_of_pages e ≡ failures_of (of_pages e)
+failures_pages e (inl is) = rw is refl
+failures_pages e (inr (inl is)) = rw is refl
+failures_pages e (inr (inr is)) = rw is refl

@@ -1,9 +1,7 @@
 -- A root's stream depends on the pages that it reaches alone.
-use Rattle.std.proofs.Common.{◌≡◌, ◌≢◌, ℕ, ◌+◌, ◌-◌, ◌*◌, ◌<◌, ◌≤◌, Bool, true, false, not, ◌&&◌, List, [], ◌∷◌, ◌++◌, length, take, drop, refl, sym, ap, ◌∙◌, inl, inr, arith, Result, Ok, Err, if◌then◌else◌}
+use Rattle.std.proofs.Common.{◌≡◌, ℕ, Bool, true, false, not, ◌&&◌, List, [], ◌∷◌, ◌++◌, take, drop, refl, sym, ap, ◌∙◌, arith, Result, Ok, Err, if◌then◌else◌}
 use Rattle.std.proofs.lemmas.Bool.Decides.{nat_tests}
-use Rattle.disk_trait.specs.File.{Torn}
-use Rattle.page_file.specs.Pages.{pages, has, are_pages, are_whole, is_zero, joined}
-use Rattle.page_file.proofs.Parts.{pages_other, pages_behind}
+use Rattle.page_file.specs.Pages.{pages, are_pages, are_whole, is_zero, joined}
 use Rattle.root_slots.specs.Root.{is_root, tables_of, stream_length_of, data_count}
 use Rattle.group_commit.specs.Image.{entries, named, are_tables, stream_in, tables_in, stream, reached, Stores}
 

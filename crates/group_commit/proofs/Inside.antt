@@ -1,17 +1,17 @@
 -- No write of a commit begins past the end of the file.
-use Rattle.std.proofs.Common.{◌≡◌, ◌≢◌, ◌⊎◌, ℕ, zero, suc, ◌+◌, ◌-◌, ◌*◌, ◌<◌, ◌≤◌, Bool, true, false, ◌==◌, ◌&&◌, ◌||◌, List, [], ◌∷◌, ◌++◌, length, get_or, take, drop, refl, sym, ap, ◌∙◌, inl, inr, arith, length-take, length-drop}
+use Rattle.std.proofs.Common.{◌≡◌, ℕ, ◌+◌, ◌-◌, ◌*◌, ◌<◌, ◌≤◌, true, false, ◌==◌, List, [], ◌∷◌, ◌++◌, length, get_or, take, drop, sym, ◌∙◌, inl, inr, arith, length-take, length-drop}
 use Rattle.std.proofs.lemmas.Bool.Decides.{nat_tests}
 use Rattle.std.proofs.lemmas.Bool.{or_cases, cases_lt}
 use Rattle.std.proofs.lemmas.List.{get_or-take}
 use Rattle.disk_trait.specs.File.{part}
 use Rattle.disk_trait.specs.Calls.{IsLawful}
 use Rattle.disk_trait.specs.declared.facts.DiskFacts.{Ghosts}
-use Rattle.page_file.specs.Pages.{page, pages, has, are_pages, are_whole}
+use Rattle.page_file.specs.Pages.{page, pages, has, are_whole}
 use Rattle.page_file.proofs.Apart.{apart_first, each_behind, place_of, has-append}
 use Rattle.root_slots.specs.Root.{tables_of}
 use Rattle.group_commit.specs.Saved.{Saved}
 use Rattle.group_commit.specs.Image.{tables_in, named}
-use Rattle.group_commit.specs.Commit.{HasPages, Stands, ReadAs, Reads}
+use Rattle.group_commit.specs.Commit.{HasPages, ReadAs, Reads}
 use Rattle.group_commit.specs.Held.{Held, IsSound}
 use Rattle.group_commit.specs.declared.phase.Phase.{Phase}
 use Rattle.group_commit.specs.declared.phase.Phase.TheVariants.{Idle, Pages}

@@ -12,6 +12,7 @@ pub mod ManyPages
 pub mod NewFileLemmas
 pub mod OneSpelling
 pub mod PageReads
+pub mod PagingLemmas
 pub mod PlanLemmas
 pub mod RecordLemmas
 pub mod Renewing

@@ -1,13 +1,11 @@
 -- Pages one behind the other, and the numbers in them.
-use Rattle.std.proofs.Common.{◌≡◌, ◌≢◌, ℕ, zero, suc, ◌+◌, ◌-◌, ◌*◌, ◌/◌, ◌<◌, ◌≤◌, ◌^◌, Bool, true, false, not, ◌==◌, ◌&&◌, All, List, [], ◌∷◌, ◌++◌, length, get_or, take, drop, refl, sym, ap, ◌∙◌, inl, inr, arith, length-append, length-take, length-drop, append_assoc, Result, Ok, Err}
+use Rattle.std.proofs.Common.{◌≡◌, ℕ, zero, suc, ◌+◌, ◌-◌, ◌*◌, ◌<◌, ◌≤◌, ◌^◌, Bool, true, ◌==◌, ◌&&◌, All, List, [], ◌∷◌, ◌++◌, length, take, drop, refl, sym, ap, ◌∙◌, arith, length-append, length-take, length-drop, append_assoc}
 use Rattle.std.specs.Prelude.{replicate}
-use Rattle.std.specs.Int.{w32, from_be_bytes, to_be_bytes}
+use Rattle.std.specs.Int.{w32, from_be_bytes}
 use Rattle.std.proofs.lemmas.Bool.Decides.{nat_tests, Decides-eqb}
-use Rattle.std.proofs.lemmas.List.{take-take, drop-take, drop-drop, take_at, drop_at, take_all, drop_all, append-nil, take-append-le, drop-append-le, take-append-drop, take-replicate, drop-replicate}
-use Rattle.disk_trait.specs.File.{part}
-use Rattle.page_file.specs.Pages.{page, pages, has, are_pages, are_whole, is_whole, is_zero, joined, numbers, number_bytes}
+use Rattle.std.proofs.lemmas.List.{drop-drop, drop_at, take-append-le, drop-append-le, take-append-drop, take-replicate, drop-replicate}
+use Rattle.page_file.specs.Pages.{page, pages, are_whole, is_zero, joined, numbers, number_bytes}
 use Rattle.page_file.proofs.NumberLemmas.{numbers_again, length-number_bytes}
-use Rattle.page_file.proofs.TableLemmas.{take-numbers, drop-numbers, zero-numbers, zero-replicate}
 use Rattle.group_commit.specs.Image.{entries}
 use Rattle.group_commit.specs.Commit.{ReadAs}
 

@@ -1,15 +1,15 @@
 -- The file of a new store has an empty root.
-use Rattle.std.proofs.Common.{◌≡◌, ◌≢◌, ℕ, zero, suc, ◌+◌, ◌-◌, ◌*◌, ◌<◌, ◌≤◌, true, false, List, [], ◌∷◌, ◌++◌, length, take, drop, refl, sym, ap, ◌∙◌, arith, length-append, append_assoc, Ok}
+use Rattle.std.proofs.Common.{◌≡◌, ◌≢◌, ℕ, zero, suc, ◌+◌, true, false, List, [], ◌∷◌, ◌++◌, length, take, drop, refl, sym, ap, ◌∙◌, arith, length-append, Ok}
 use Rattle.std.specs.Prelude.{replicate}
 use Rattle.std.proofs.lemmas.List.{take_all, drop_all, take_at, drop_at, append-nil, take-replicate}
-use Rattle.disk_trait.specs.File.{part, overwritten}
+use Rattle.disk_trait.specs.File.{overwritten}
 use Rattle.page_file.specs.Pages.{pages, are_pages, is_zero, joined}
 use Rattle.root_slots.specs.Body.{root_of}
 use Rattle.root_slots.specs.Root.{is_root, tables_of, data_count, stream_length_of}
 use Rattle.root_slots.specs.Slots.{first_byte, gate, body}
 use Rattle.group_commit.specs.Saved.{Saved}
-use Rattle.group_commit.specs.Image.{Stores, stream, stream_in, tables_in, named, reached, entries}
-use Rattle.group_commit.specs.Commit.{HasPages, Stands, StaleSlot, IsOlder, IsAsBefore}
+use Rattle.group_commit.specs.Image.{stream_in, tables_in, named, entries}
+use Rattle.group_commit.specs.Commit.{Stands}
 use Rattle.group_commit.specs.NewFile.{slot_page, new_file}
 use Rattle.group_commit.specs.declared.phase.Phase.TheVariants.{Idle}
 use Rattle.group_commit.proofs.Roots.{stream_there}

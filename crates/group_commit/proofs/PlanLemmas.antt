@@ -1,27 +1,24 @@
 -- A plan for the root behind the live one: which pages stay, which are written anew, and that these make the new root.
-use Rattle.std.proofs.Common.{◌≡◌, ◌≢◌, ℕ, zero, suc, ◌+◌, ◌-◌, ◌*◌, ◌/◌, ◌<◌, ◌≤◌, ◌^◌, All, Bool, true, false, ◌||◌, List, [], ◌∷◌, ◌++◌, length, get_or, take, drop, refl, sym, ap, ◌∙◌, inl, inr, arith, length-append, length-take, length-drop, append_assoc}
+use Rattle.std.proofs.Common.{◌≡◌, ℕ, ◌+◌, ◌-◌, ◌*◌, ◌/◌, ◌<◌, ◌≤◌, ◌^◌, Bool, true, false, ◌||◌, List, ◌++◌, length, get_or, take, drop, refl, sym, ap, ◌∙◌, inl, inr, arith, length-append, length-take, length-drop}
 use Rattle.std.specs.Prelude.{replicate}
 use Rattle.std.proofs.Math.Seq.{drop-append-add}
 use Rattle.std.proofs.lemmas.Bool.{cases_lt}
 use Rattle.std.proofs.lemmas.List.{drop_at, drop_all, drop-append-le, length-replicate, get_or-drop, get_or_append_left}
 use Rattle.page_file.specs.Free.{AreLowest}
-use Rattle.page_file.specs.Pages.{page, pages, has, are_pages, are_whole, is_zero, joined, number_bytes}
+use Rattle.page_file.specs.Pages.{pages, has, are_pages, is_zero, joined, number_bytes}
 use Rattle.page_file.proofs.Apart.{has-append, apart_first, apart_each, each_behind}
 use Rattle.page_file.proofs.Joining.{renewed_apart}
 use Rattle.page_file.proofs.NumberLemmas.{length-number_bytes}
-use Rattle.root_slots.specs.Root.{is_root, tables_of, table_count, data_count, pages_for, stream_length_of, version_of}
-use Rattle.root_slots.specs.Body.{tables_for}
+use Rattle.root_slots.specs.Root.{tables_of, table_count, pages_for}
 use Rattle.root_slots.proofs.HeadLemmas.{length-tables}
 use Rattle.root_slots.proofs.SpellingLemmas.{all_words}
 use Rattle.group_commit.specs.Saved.{Saved, HasDataPages}
-use Rattle.group_commit.specs.Changes.{cut, changed, parts, data_of, changed_data, changed_tables, changed_pages}
-use Rattle.group_commit.specs.Commit.{HasPages, ReadAs, Makes}
-use Rattle.group_commit.specs.Held.{IsPlan}
+use Rattle.group_commit.specs.Changes.{cut, changed, parts, data_of, changed_data, changed_tables}
+use Rattle.group_commit.specs.Commit.{Makes}
 use Rattle.group_commit.specs.Plan.{IsNext, Plans, kept_of, filled}
-use Rattle.group_commit.specs.declared.phase.Phase.{Phase}
 use Rattle.group_commit.specs.declared.phase.Phase.TheVariants.{Pages}
 use Rattle.group_commit.proofs.CutLemmas.{cut_changed}
-use Rattle.group_commit.proofs.KeptLemmas.{kept_is, more_pages, data_front, data_stays, tables_stay, pages_hold, pages_near}
+use Rattle.group_commit.proofs.KeptLemmas.{kept_is, more_pages, data_front, data_stays, tables_stay, pages_hold}
 use Rattle.group_commit.proofs.ManyPages.{length-pages, length-joined}
 use Rattle.group_commit.proofs.Renewing.{Renews, renewed}
 use Rattle.group_commit.proofs.Roots.{HasBoth, stored_by, both_of, root_size, root_tables}

@@ -1,7 +1,7 @@
 -- A root whose last pages are new is stored, where its first pages are those of the root before.
-use Rattle.std.proofs.Common.{◌≡◌, ◌≢◌, ℕ, zero, suc, ◌+◌, ◌-◌, ◌*◌, ◌/◌, ◌<◌, ◌≤◌, ◌^◌, Bool, true, false, ◌&&◌, All, List, [], ◌∷◌, ◌++◌, length, get_or, take, drop, refl, sym, ap, ◌∙◌, arith, length-append, length-take, length-drop, append_assoc}
+use Rattle.std.proofs.Common.{◌≡◌, ℕ, zero, suc, ◌+◌, ◌*◌, ◌<◌, ◌≤◌, ◌^◌, true, All, List, [], ◌∷◌, ◌++◌, length, take, drop, refl, sym, ap, ◌∙◌, arith, length-append, length-take, append_assoc}
 use Rattle.std.specs.Prelude.{replicate}
-use Rattle.std.proofs.lemmas.List.{take-take, take_at, drop_at, take_all, take-append-drop, take-append-le}
+use Rattle.std.proofs.lemmas.List.{take-take, take_at, drop_at, take-append-drop, take-append-le}
 use Rattle.page_file.specs.Pages.{page, pages, are_whole, joined, numbers, number_bytes}
 use Rattle.root_slots.proofs.HeadLemmas.{length-numbers}
 use Rattle.group_commit.specs.Image.{entries}

@@ -1,15 +1,15 @@
 -- What a stored root says of its pages, and when a root is stored.
-use Rattle.std.proofs.Common.{◌≡◌, ◌≢◌, ℕ, zero, suc, ◌+◌, ◌-◌, ◌*◌, ◌/◌, ◌<◌, ◌≤◌, Bool, true, false, not, ◌&&◌, List, [], ◌∷◌, ◌++◌, length, get_or, take, drop, refl, sym, ap, ◌∙◌, arith, length-append, length-take, length-drop, append_assoc, Result, Ok, Err, if◌then◌else◌}
+use Rattle.std.proofs.Common.{◌≡◌, ℕ, ◌+◌, ◌≤◌, Bool, true, not, ◌&&◌, List, [], ◌∷◌, ◌++◌, length, take, drop, refl, sym, ap, ◌∙◌, arith, length-append, Result, Ok, Err, if◌then◌else◌}
 use Rattle.std.specs.Prelude.{replicate}
-use Rattle.std.proofs.lemmas.List.{take_at, drop_at, take_all, take-append-drop}
-use Rattle.page_file.specs.Pages.{page, pages, are_pages, are_whole, is_zero, joined}
+use Rattle.std.proofs.lemmas.List.{take_at, drop_at, take-append-drop}
+use Rattle.page_file.specs.Pages.{pages, are_pages, are_whole, is_zero, joined}
 use Rattle.page_file.proofs.TableLemmas.{zero-replicate}
 use Rattle.std.proofs.lemmas.Bool.Decides.{nat_tests}
 use Rattle.root_slots.specs.Head.{is_head}
 use Rattle.root_slots.specs.Root.{is_root, tables_of, data_count, pages_for, stream_length_of}
 use Rattle.root_slots.proofs.HeadLemmas.{is_rest, root_is_head, head_says, length-tables, most_tables}
 use Rattle.group_commit.specs.Saved.{Saved, HasDataPages}
-use Rattle.group_commit.specs.Image.{entries, named, are_tables, stream_in, tables_in, stream, reached, Stores}
+use Rattle.group_commit.specs.Image.{entries, named, are_tables, stream_in, tables_in, Stores}
 use Rattle.group_commit.proofs.Frame.{reading_of}
 use Rattle.group_commit.proofs.ManyPages.{zeros_are}
 

@@ -1,11 +1,11 @@
 -- Which slots a write leaves as they were, and which slot is live.
-use Rattle.std.proofs.Common.{◌≡◌, ◌≢◌, ◌⊎◌, ℕ, zero, suc, ◌+◌, ◌-◌, ◌*◌, ◌<◌, ◌≤◌, Bool, true, false, ◌==◌, nat_lt, List, [], ◌∷◌, ◌++◌, length, take, drop, refl, sym, ap, ◌∙◌, inl, inr, arith, Result, Ok, Err, if◌then◌else◌}
+use Rattle.std.proofs.Common.{◌≡◌, ◌≢◌, ℕ, zero, suc, ◌+◌, ◌-◌, ◌*◌, ◌<◌, ◌≤◌, Bool, true, false, nat_lt, List, [], ◌∷◌, length, refl, ap, ◌∙◌, inl, inr, arith, Result, Ok, Err, if◌then◌else◌}
 use Rattle.std.proofs.lemmas.Bool.Decides.{nat_tests}
 use Rattle.std.proofs.lemmas.Bool.{le-ltb}
-use Rattle.disk_trait.specs.File.{part, Torn, overwritten}
+use Rattle.disk_trait.specs.File.{Torn, overwritten}
 use Rattle.page_file.proofs.Parts.{part_outside, part_written}
 use Rattle.root_slots.specs.Root.{version_of}
-use Rattle.root_slots.specs.Slots.{first_byte, gate, body, greater, picked, live}
+use Rattle.root_slots.specs.Slots.{first_byte, gate, body, picked, live}
 
 -- a slot in a file is as in another one
 pub record SameSlot (slot : ℕ) (d c : List ℕ) : Type 0 where

@@ -1,5 +1,5 @@
 -- Each device call of a commit keeps what a store keeps.
-use Rattle.std.proofs.Common.{◌≡◌, ◌≢◌, ◌⊎◌, ℕ, zero, suc, ◌+◌, ◌-◌, ◌*◌, ◌<◌, ◌≤◌, Bool, true, false, nat_lt, List, [], ◌∷◌, ◌++◌, length, get_or, take, drop, refl, sym, ap, ◌∙◌, inl, inr, arith, length-take, length-drop, if◌then◌else◌}
+use Rattle.std.proofs.Common.{◌≡◌, ◌≢◌, ℕ, ◌+◌, ◌-◌, ◌*◌, ◌<◌, ◌≤◌, Bool, true, false, nat_lt, List, [], ◌∷◌, length, get_or, drop, refl, sym, ap, ◌∙◌, arith, length-take, length-drop, if◌then◌else◌}
 use Rattle.std.proofs.lemmas.Bool.{ltb-true, ltb-false}
 use Rattle.disk_trait.specs.File.{part, Torn, overwritten}
 use Rattle.disk_trait.specs.Calls.{Tears, Settles, Keeps, IsLawful}
@@ -8,10 +8,9 @@ use Rattle.page_file.specs.Pages.{page, has, are_pages}
 use Rattle.page_file.proofs.Apart.{apart_first, apart_each, each_behind}
 use Rattle.page_file.proofs.Parts.{part_written}
 use Rattle.root_slots.specs.Slots.{gate, body}
-use Rattle.root_slots.specs.Root.{version_of}
 use Rattle.group_commit.specs.Saved.{Saved}
-use Rattle.group_commit.specs.Commit.{HasPages, Stands, ReadAs, Reads, Makes}
-use Rattle.group_commit.specs.Held.{Held, behind_pages, gone_on, has_failed, left_at, IsPlan, IsSound}
+use Rattle.group_commit.specs.Commit.{Stands, ReadAs, Reads}
+use Rattle.group_commit.specs.Held.{Held, behind_pages, gone_on, IsPlan, IsSound}
 use Rattle.group_commit.specs.declared.phase.Phase.{Phase}
 use Rattle.group_commit.specs.declared.phase.Phase.TheVariants.{Idle, Pages, Close, Sync1, Body, Sync2, Gate, Sync3}
 use Rattle.group_commit.proofs.SlotLemmas.{gate_written}

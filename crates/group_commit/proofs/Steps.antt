@@ -1,19 +1,19 @@
 -- What each device call of a commit makes of what a file has.
-use Rattle.std.proofs.Common.{◌≡◌, ◌≢◌, ◌⊎◌, ℕ, zero, suc, ◌+◌, ◌-◌, ◌*◌, ◌<◌, ◌≤◌, Bool, true, false, List, [], ◌∷◌, ◌++◌, length, get_or, take, drop, refl, sym, ap, ◌∙◌, inl, inr, arith, Result, Ok, Err}
+use Rattle.std.proofs.Common.{◌≡◌, ◌≢◌, ℕ, ◌+◌, ◌-◌, ◌*◌, ◌<◌, ◌≤◌, Bool, true, false, List, length, get_or, refl, sym, ap, ◌∙◌, inl, inr, arith, Ok}
 use Rattle.std.proofs.lemmas.Bool.{cases_eq, cases_lt}
-use Rattle.disk_trait.specs.File.{part, Torn, overwritten}
+use Rattle.disk_trait.specs.File.{part, Torn}
 use Rattle.page_file.specs.Pages.{page, pages, has, are_pages}
-use Rattle.page_file.proofs.Parts.{pages_other, pages_behind, page_other, part_written, part_outside}
+use Rattle.page_file.proofs.Parts.{pages_other, pages_behind, page_other, part_outside}
 use Rattle.page_file.proofs.Apart.{no_two, each_behind}
 use Rattle.root_slots.specs.Root.{version_of}
 use Rattle.root_slots.specs.Slots.{gate, body, live}
-use Rattle.group_commit.specs.Image.{stored, in_slot, with_stream, stream, tables_in, named, Stores}
+use Rattle.group_commit.specs.Image.{stored, in_slot, with_stream, stream, tables_in, named}
 use Rattle.group_commit.specs.Saved.{Saved}
-use Rattle.group_commit.specs.Commit.{HasPages, IsOlder, IsAsBefore, StaleSlot, Stands, ReadAs, Reads, Makes, Is, IsLeft}
+use Rattle.group_commit.specs.Commit.{HasPages, IsOlder, Stands, ReadAs, Reads, Makes, Is, IsLeft}
 use Rattle.group_commit.specs.declared.phase.Phase.{Phase}
 use Rattle.group_commit.specs.declared.phase.Phase.TheVariants.{Idle, Pages, Close, Sync1, Body, Sync2, Gate, Sync3}
 use Rattle.group_commit.proofs.Frame.{stores_same, reading_of}
-use Rattle.group_commit.proofs.SlotLemmas.{SameSlot, slot_before_pages, slot_beside, body_behind_gate, gate_before_body, gate_written, other_of_other, live_alone, live_greater}
+use Rattle.group_commit.proofs.SlotLemmas.{SameSlot, slot_before_pages, slot_beside, body_behind_gate, gate_before_body, other_of_other, live_alone, live_greater}
 
 -- a stored root's pages lie behind the slots, none of them twice
 pub pages_apart : (root : Saved) (file : List ℕ) → HasPages root file → are_pages root.pages ≡ true

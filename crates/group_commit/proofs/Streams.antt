@@ -1,11 +1,11 @@
 -- The buffer of both roots' streams, through the phases.
-use Rattle.std.proofs.Common.{◌≡◌, ◌≢◌, ℕ, ◌+◌, ◌<◌, ◌≤◌, Bool, true, false, nat_lt, List, ◌++◌, length, take, refl, sym, ap, ◌∙◌, arith, length-append, if◌then◌else◌}
+use Rattle.std.proofs.Common.{◌≡◌, ◌≢◌, ℕ, ◌+◌, Bool, true, false, nat_lt, List, ◌++◌, length, take, refl, sym, ◌∙◌, arith, length-append, if◌then◌else◌}
 use Rattle.std.proofs.lemmas.List.{take_all, take_at}
 use Rattle.root_slots.specs.Root.{stream_length_of}
 use Rattle.group_commit.specs.Saved.{Paged}
 use Rattle.group_commit.specs.Held.{HasStreams, behind_pages}
 use Rattle.group_commit.specs.declared.phase.Phase.{Phase}
-use Rattle.group_commit.specs.declared.phase.Phase.TheVariants.{Idle, Pages, Close, Sync1, Body, Sync2, Gate, Sync3}
+use Rattle.group_commit.specs.declared.phase.Phase.TheVariants.{Idle, Pages, Close, Sync1}
 
 -- the commit goes on
 pub streams_on : (p p' : Phase) (current next : Paged) (bytes : List ℕ) → HasStreams p current next bytes → p ≢ Idle → p' ≢ Idle → HasStreams p' current next bytes

@@ -1,5 +1,5 @@
 -- How many writes and syncs a commit still makes.
-use Rattle.std.specs.Prelude.{◌≡◌, ◌<◌, ℕ, ◌+◌, ◌-◌, Bool, true, false, length, if◌then◌else◌}
+use Rattle.std.specs.Prelude.{◌≡◌, ◌<◌, ℕ, ◌+◌, ◌-◌, Bool, length, if◌then◌else◌}
 use Rattle.group_commit.specs.Held.{Held}
 use Rattle.group_commit.specs.declared.phase.Phase.{Phase}
 use Rattle.group_commit.specs.declared.phase.Phase.TheVariants.{Idle, Pages, Close, Sync1, Body, Sync2, Gate, Sync3}

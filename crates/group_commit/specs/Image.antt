@@ -1,14 +1,10 @@
 -- What a file of pages stands for, before its records are read: the body of its live slot, and the stream of bytes that the
 -- pages hold which that body names.
-use Rattle.std.specs.Prelude.{◌≡◌, ℕ, Bool, not, ◌&&◌, if◌then◌else◌, List, [], ◌∷◌, ◌++◌, drop, take, Result, Ok, Err}
-use Rattle.page_file.specs.Pages.{pages, are_whole, is_zero, are_pages, numbers, joined}
+use Rattle.std.specs.Prelude.{◌≡◌, ℕ, Bool, not, ◌&&◌, if◌then◌else◌, List, ◌++◌, drop, take, Result, Ok, Err}
+use Rattle.page_file.specs.Pages.{pages, are_whole, is_zero, are_pages, joined}
+pub use Rattle.page_file.specs.Tables.{entries}
 use Rattle.root_slots.specs.Root.{is_root, tables_of, data_count, stream_length_of}
 use Rattle.root_slots.specs.Slots.{body, live}
-
--- the numbers that table pages hold, 1,024 each
-abbrev pub entries : List (List ℕ) → List ℕ
-entries [] = []
-entries (bytes ∷ rest) = numbers 1024 bytes ++ entries rest
 
 -- the data pages that a body and its table pages name, in the order of the stream
 abbrev pub named : List ℕ → List (List ℕ) → List ℕ

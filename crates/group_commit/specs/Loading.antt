@@ -1,15 +1,18 @@
 -- What a file is loaded as, what a refusal to load it says, and what loading does to the disk.
-use Rattle.std.specs.Prelude.{◌≡◌, ◌≢◌, ◌⊎◌, ℕ, ◌+◌, ◌*◌, nat_le, Bool, true, not, ◌&&◌, if◌then◌else◌, List, [], ◌∷◌, ◌++◌, length, take, drop, Result, Ok, Err, ⊤}
+use Rattle.std.specs.Prelude.{◌≡◌, ◌≢◌, ◌⊎◌, ℕ, ◌+◌, ◌*◌, nat_le, Bool, true, not, ◌&&◌, if◌then◌else◌, List, [], ◌∷◌, length, take, drop, Result, Ok, Err, ⊤}
 use Rattle.op_model.specs.declared.op.Op.{Op}
 use Rattle.change_codec.specs.Stream.{spelled_all, AreOperations}
-use Rattle.page_file.specs.Pages.{pages, are_whole, is_zero, are_pages, joined}
+use Rattle.page_file.specs.Pages.{pages, are_whole, is_zero, joined}
 use Rattle.root_slots.specs.Root.{replica_of, count_of, pages_for}
 use Rattle.root_slots.specs.Body.{Root}
-pub use Rattle.root_slots.specs.Looks.{OnlyLooks}
+pub use Rattle.page_file.specs.Looks.{OnlyLooks}
+pub use Rattle.page_file.specs.Tables.{reached_by, reached_in}
+use Rattle.page_file.specs.declared.error.PageError.{PageError}
+use Rattle.page_file.specs.declared.error.PageError.TheVariants.{Memory as PagesMemory, PageNumber as PagesNumber, NoPage as PagesNone, BadTable as PagesBad, ReadFailed as PagesReadFailed, WriteFailed as PagesWriteFailed}
 use Rattle.root_slots.specs.declared.error.RootsError.{RootsError}
 use Rattle.root_slots.specs.declared.error.RootsError.TheVariants.{Memory as RootsMemory, NoRoot as RootsNone, BadRoot as RootsBad, ReadFailed as RootsReadFailed}
 use Rattle.group_commit.specs.Saved.{Saved}
-use Rattle.group_commit.specs.Image.{stored, entries}
+use Rattle.group_commit.specs.Image.{stored}
 use Rattle.group_commit.specs.declared.open_fault.OpenError.{OpenError}
 use Rattle.group_commit.specs.declared.open_fault.OpenError.TheVariants.{Memory, NoRoot, BadRoot, BadTable, BadStream, ReadFailed, SyncFailed}
 
@@ -39,6 +42,15 @@ of_roots RootsMemory = Memory
 of_roots RootsNone = NoRoot
 of_roots RootsBad = BadRoot
 of_roots RootsReadFailed = ReadFailed
+
+-- a refusal of the pages is one of the file
+abbrev pub of_pages : PageError → OpenError
+of_pages PagesMemory = Memory
+of_pages PagesNumber = ReadFailed
+of_pages PagesNone = ReadFailed
+of_pages PagesBad = BadTable
+of_pages PagesReadFailed = ReadFailed
+of_pages PagesWriteFailed = ReadFailed
 
 -- what a call that answers so has met
 abbrev pub failed_in : {T : Type 0} → Result T OpenError → ℕ
@@ -81,15 +93,6 @@ IsFirstFault error file = Names error (stored file) ⊎ ((error ≡ BadStream) �
 abbrev pub are_within : ℕ → List ℕ → Bool
 are_within size [] = true
 are_within size (n ∷ ns) = nat_le (4096 * n + 4096) size && are_within size ns
-
--- the pages that a root reaches, by the numbers in its table pages; bad table 45
-abbrev pub reached_by : List ℕ → ℕ → List ℕ → Result (List ℕ) ℕ
-reached_by tables count found =
-    if not (is_zero (drop count found) && are_pages (tables ++ take count found)) then Err 45 else Ok (tables ++ take count found)
-
--- the pages that a root with these table pages and so many data pages reaches in a file; bad root 43, bad table 45
-abbrev pub reached_in : List ℕ → ℕ → List ℕ → Result (List ℕ) ℕ
-reached_in tables count file = if not (are_whole (pages tables file)) then Err 43 else reached_by tables count (entries (pages tables file))
 
 -- the stream of so many bytes in these data pages; bad table 45, bad stream 46
 abbrev pub stream_of : ℕ → List (List ℕ) → Result (List ℕ) ℕ

@@ -43,8 +43,9 @@ impl<D: Disk> Store<D> {
     /// way, 7 where the version, the number of operations (2^24) or the stream (2^30 bytes) has no
     /// room, and 1 where a growth was refused. A refused call changes nothing.
     ///
-    /// Costs the bytes of the records and of the pages that it writes, and a few steps for each page of
-    /// the live root; the stream isn't copied.
+    /// Costs the bytes of the records and of the pages that it writes, and a copy of the numbers of the data
+    /// pages that stay, four bytes each. The stream isn't copied, and free pages are found without a look
+    /// at each page.
     pub fn begin(&mut self, ops: &[Op]) -> Result<Option<u64>, StoreError>
         ensures answer { IsAnswer (begin_due self.old ops.now) result }
         ensures began { (n : ℕ) → result ≡ Ok (Some n)
@@ -68,11 +69,23 @@ impl<D: Disk> Store<D> {
         let records = records_of(alloc, ops)?;
         let Plan {
             next,
+            kept,
+            new_data,
             numbers,
             fresh,
-        } = make_plan(alloc, &self.current, &self.stream, &records, more)?;
+        } = make_plan(
+            alloc,
+            &self.current,
+            &self.pages,
+            &self.stream,
+            &records,
+            more,
+        )?;
+        self.pages.reserve(numbers.len())?;
         self.stream.extend_from_slice(&records)?;
         self.next = next;
+        self.kept = kept;
+        self.new_data = new_data;
         self.numbers = numbers;
         self.fresh = fresh;
         self.phase = Phase::Pages(0);

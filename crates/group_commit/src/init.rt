@@ -17,6 +17,7 @@ use crate::root::Root;
 use crate::store::Store;
 use disk_trait::Disk;
 use op_ids::ReplicaId;
+use page_file::Pages;
 use root_slots::Roots;
 use std::alloc::{AllocError, Global};
 
@@ -129,7 +130,7 @@ fn make_file<D: Disk>(alloc: Global, disk: &mut D, body: &[u8]) -> Result<(), In
 
 // The two roots of a new store: the live one, and one in the place of a commit's. An error is want of
 // memory (1).
-fn empty_roots(alloc: Global, replica: ReplicaId) -> Result<(Root, Root), AllocError>
+fn empty_roots(alloc: Global, replica: ReplicaId) -> Result<(Root, Root, Pages), AllocError>
     ensures root { IfOk result (λ roots. root_of roots.0.body ≡ record {
       version = 1;
       replica = replica;
@@ -139,10 +140,13 @@ fn empty_roots(alloc: Global, replica: ReplicaId) -> Result<(Root, Root), AllocE
     }) }
     ensures empty { IfOk result (λ roots. (roots.0.pages ≡ [])
         × (is_root roots.0.body ≡ true) × (stream_length_of roots.1.body ≡ 0)) }
+    ensures index { IfOk result (λ roots. (roots.2.tables ≡ []) × (roots.2.data_pages ≡ [])
+        × (roots.2.taken ≡ [])) }
 {
     let current = Root::empty(alloc, replica)?;
     let next = Root::empty(alloc, replica)?;
-    Ok((current, next))
+    let pages = Pages::new(alloc)?;
+    Ok((current, next, pages))
 }
 
 // Makes the file of a disk without bytes, and gives the roots of its store.
@@ -150,7 +154,7 @@ fn format<D: Disk>(
     alloc: Global,
     disk: &mut D,
     replica: ReplicaId,
-) -> Result<(Root, Root), InitError>
+) -> Result<(Root, Root, Pages), InitError>
     requires empty { D.tells disk.old → D.content disk.old ≡ [] }
     ensures root { IfOk result (λ roots. root_of roots.0.body ≡ record {
       version = 1;
@@ -161,6 +165,8 @@ fn format<D: Disk>(
     }) }
     ensures empty { IfOk result (λ roots. (roots.0.pages ≡ [])
         × (is_root roots.0.body ≡ true) × (stream_length_of roots.1.body ≡ 0)) }
+    ensures index { IfOk result (λ roots. (roots.2.tables ≡ []) × (roots.2.data_pages ≡ [])
+        × (roots.2.taken ≡ [])) }
     ensures made { D.tells disk.old → IfOk result
         (λ roots. D.content disk.new ≡ new_file roots.0.body) }
     ensures left { D.tells disk.old → IfOk result
@@ -183,7 +189,7 @@ fn begin_file<D: Disk>(
     alloc: Global,
     disk: &mut D,
     replica: ReplicaId,
-) -> Result<(Root, Root), InitError>
+) -> Result<(Root, Root, Pages), InitError>
     ensures root { IfOk result (λ roots. root_of roots.0.body ≡ record {
       version = 1;
       replica = replica;
@@ -193,6 +199,8 @@ fn begin_file<D: Disk>(
     }) }
     ensures empty { IfOk result (λ roots. (roots.0.pages ≡ [])
         × (is_root roots.0.body ≡ true) × (stream_length_of roots.1.body ≡ 0)) }
+    ensures index { IfOk result (λ roots. (roots.2.tables ≡ []) × (roots.2.data_pages ≡ [])
+        × (roots.2.taken ≡ [])) }
     ensures taken { D.tells disk.old → OnOk result (D.content disk.old ≡ []) }
     ensures not_empty { D.tells disk.old → IfErr result (λ e. e ≡ NotEmpty
         → (D.content disk.old ≢ []) × Keeps D.DiskFacts disk.old disk.new) }
@@ -245,11 +253,14 @@ impl<D: Disk> Store<D> {
     {
         let mut disk = disk;
         match begin_file(alloc, &mut disk, replica) {
-            Ok((current, next)) => Ok(Store {
+            Ok((current, next, pages)) => Ok(Store {
                 disk,
                 phase: Phase::Idle,
                 current,
                 next,
+                pages,
+                kept: 0,
+                new_data: 0,
                 stream: Vec::new(alloc),
                 roots: Roots::of_new_file(),
                 failed: false,

@@ -1,9 +1,10 @@
 //! What a file stands for, read from its disk.
-ghost use Rattle.std.specs.Prelude.{◌≡◌, ◌≢◌, ◌⊎◌, ◌*◌, ◌<◌, ◌≤◌, ◌↔◌, ◌++◌, length, get_or, List, ℕ, IfOk, IfErr, Ok};
+ghost use Rattle.std.specs.Prelude.{◌≡◌, ◌≢◌, ◌⊎◌, ◌*◌, ◌<◌, ◌≤◌, ◌↔◌, ◌++◌, [], length, get_or, List, ℕ, IfOk, IfErr, Ok};
 ghost use Rattle.root_slots.specs.Root.{replica_of, stream_length_of};
 ghost use Rattle.root_slots.specs.Body.{IsRoot, Spells, root_of};
 ghost use Rattle.group_commit.specs.Saved.{IsInMemory, with_stream, in_front};
 ghost use Rattle.group_commit.specs.Image.{stored};
+ghost use Rattle.group_commit.specs.Paging.{IsIndexOf};
 ghost use Rattle.group_commit.specs.Commit.{Stands};
 ghost use Rattle.root_slots.specs.Live.{IsLive};
 ghost use Rattle.group_commit.specs.Loading.{Names, OnlyLooks, failed_in, IsHistory, IsFirstFault};
@@ -17,6 +18,7 @@ use crate::reading::settle_file;
 use crate::root::Root;
 use disk_trait::Disk;
 use op_model::Op;
+use page_file::Pages;
 use root_slots::{LoadedRoots, RootBody, Roots};
 use std::alloc::{AllocError, Global};
 
@@ -27,6 +29,7 @@ pub(crate) struct Image {
     pub roots: Roots,
     pub current: Root,
     pub next: Root,
+    pub pages: Pages,
     pub stream: Vec<u8>,
     pub ops: Vec<Op>,
 }
@@ -76,6 +79,20 @@ fn root_pair(
     Ok((current, Root::empty(alloc, replica)?))
 }
 
+// The same, with the data pages of an index.
+fn roots_on(alloc: Global, head: RootBody, pages: &Pages) -> Result<(Root, Root), AllocError>
+    requires { IsInMemory head pages.now.data_pages }
+    ensures pages { IfOk result (λ it. it.0.pages ≡ head.tables ++ pages.now.data_pages) }
+    ensures says { IfOk result (λ it. root_of it.0.body ≡ head) }
+    ensures body { IfOk result (λ it. (root : List ℕ) → ((i : ℕ) → get_or root i 0 < 256)
+        → Spells root head → it.0.body ≡ root) }
+    ensures other { IfOk result (λ it. stream_length_of it.1.body ≡ 0) }
+{
+    let (_, data_pages) = pages.live();
+    let data_pages = Vec::from_slice(alloc, data_pages)?;
+    root_pair(alloc, head, data_pages)
+}
+
 /// What a file stands for. It refuses as [`Store::load`](crate::Store::load) does.
 pub(crate) fn read_image<D: Disk>(alloc: Global, disk: &mut D) -> Result<Image, OpenError>
     ensures slot { IfOk result (λ it. it.roots.slot < 2) }
@@ -87,6 +104,8 @@ pub(crate) fn read_image<D: Disk>(alloc: Global, disk: &mut D) -> Result<Image, 
     ensures long { IfOk result
         (λ it. length it.stream.items ≡ stream_length_of it.current.body) }
     ensures other { IfOk result (λ it. stream_length_of it.next.body ≡ 0) }
+    ensures index { IfOk result
+        (λ it. (IsIndexOf it.current it.pages) × (it.pages.taken ≡ [])) }
     ensures fault { D.tells disk.old → IfErr result (λ e. IsFirstFault e (D.content disk.old)) }
     ensures looks { D.tells disk.old
         → OnlyLooks D.DiskFacts (failed_in result) 0 disk.old disk.new }
@@ -99,11 +118,12 @@ pub(crate) fn read_image<D: Disk>(alloc: Global, disk: &mut D) -> Result<Image, 
     } = load_roots(alloc, disk)?;
     let stream = read_stream(alloc, disk, file_size, &root)?;
     let ops = ops_of(alloc, &stream.bytes, root.operations())?;
-    let (current, next) = root_pair(alloc, root, stream.data_pages)?;
+    let (current, next) = roots_on(alloc, root, &stream.pages)?;
     Ok(Image {
         roots,
         current,
         next,
+        pages: stream.pages,
         stream: stream.bytes,
         ops,
     })
@@ -121,6 +141,8 @@ pub(crate) fn settle_and_read<D: Disk>(alloc: Global, disk: &mut D) -> Result<Im
     ensures long { IfOk result
         (λ it. length it.stream.items ≡ stream_length_of it.current.body) }
     ensures other { IfOk result (λ it. stream_length_of it.next.body ≡ 0) }
+    ensures index { IfOk result
+        (λ it. (IsIndexOf it.current it.pages) × (it.pages.taken ≡ [])) }
     ensures settled { D.tells disk.old → IfOk result
         (λ it. (c : List ℕ) → D.survives disk.new c → c ≡ D.content disk.old) }
     ensures fault { D.tells disk.old → IfErr result (λ e. IsFirstFault e (D.content disk.old)) }

@@ -1,41 +1,43 @@
 //! The stream that a root names, page by page.
-ghost use Rattle.std.specs.Prelude.{◌≡◌, ◌⊎◌, ◌+◌, ◌*◌, ◌≤◌, ◌↔◌, ◌++◌, true, length, IfOk, IfErr, Ok};
+ghost use Rattle.std.specs.Prelude.{◌≡◌, ◌⊎◌, ◌+◌, ◌*◌, ◌≤◌, ◌↔◌, ◌++◌, true, [], length, IfOk, IfErr, Ok};
 ghost use Rattle.page_file.specs.Pages.{pages, are_pages};
 ghost use Rattle.root_slots.specs.Root.{pages_for};
 ghost use Rattle.root_slots.specs.Body.{IsRoot};
 ghost use Rattle.group_commit.specs.Saved.{IsInMemory};
 ghost use Rattle.group_commit.specs.Loading.{Names, OnlyLooks, failed_in, reached_of, stream_of, stream_at};
 
-use crate::load_pages::{are_within, data_pages, reached_by};
+use crate::load_pages::{are_within, data_pages};
 use crate::open_fault::OpenError;
 use crate::reading::read_pages;
 use disk_trait::Disk;
-use page_file::{is_zero, take_numbers};
+use page_file::{Pages, is_zero};
 use root_slots::RootBody;
 use std::alloc::{AllocError, Global};
 
-/// The data pages of a root, and the stream that they hold.
+/// The pages of a root, and the stream that they hold.
 #[derive(Drop)]
 pub(crate) struct Stream {
-    pub data_pages: Vec<u32>,
+    pub pages: Pages,
     pub bytes: Vec<u8>,
 }
 
-// The data pages of a root. 43 where a table page isn't whole in the file, 45 where the table pages
-// break their rules, 50 where a read failed, 1 for want of memory.
+// The pages of a root. 43 where a table page isn't whole in the file, 45 where the table pages break their
+// rules, 50 where a read failed, 1 for want of memory.
 fn read_tables<D: Disk>(
     alloc: Global,
     disk: &mut D,
     size: u64,
     head: &RootBody,
-) -> Result<Vec<u32>, OpenError>
+) -> Result<Pages, OpenError>
     requires size { D.tells disk.old → size ≡ length (D.content disk.old) }
     requires valid { IsRoot head.now }
     ensures value { D.tells disk.old
-        → IfOk result (λ ns. reached_of head.now (D.content disk.old)
-        ≡ Ok (head.now.tables ++ ns.items)) }
-    ensures apart { IfOk result (λ ns. are_pages (head.now.tables ++ ns.items) ≡ true) }
-    ensures size { IfOk result (λ ns. length ns.items ≡ pages_for 4096 head.now.stream_length) }
+        → IfOk result (λ it. reached_of head.now (D.content disk.old)
+        ≡ Ok (head.now.tables ++ it.data_pages)) }
+    ensures apart { IfOk result (λ it. are_pages (head.now.tables ++ it.data_pages) ≡ true) }
+    ensures size { IfOk result
+        (λ it. length it.data_pages ≡ pages_for 4096 head.now.stream_length) }
+    ensures index { IfOk result (λ it. (it.tables ≡ head.now.tables) × (it.taken ≡ [])) }
     ensures fault { D.tells disk.old
         → IfErr result (λ e. Names e (reached_of head.now (D.content disk.old))) }
     ensures looks { D.tells disk.old
@@ -46,9 +48,11 @@ fn read_tables<D: Disk>(
     if !are_within(tables, size) {
         return Err(OpenError::BadRoot);
     }
-    let bytes = read_pages(alloc, disk, tables)?;
-    let found = take_numbers(alloc, &bytes, 1024 * tables.len())?;
-    reached_by(alloc, tables, data_pages(head.stream_length()), &found)
+    let count = data_pages(head.stream_length()) as u64;
+    match Pages::load(alloc, disk, tables, count) {
+        Ok(pages) => Ok(pages),
+        Err(error) => Err(OpenError::from(error)),
+    }
 }
 
 // The stream of so many bytes that these data pages hold. 45 where one isn't whole in the file, 46 where the
@@ -96,10 +100,12 @@ pub(crate) fn read_stream<D: Disk>(
     requires valid { IsRoot head.now }
     ensures pages { D.tells disk.old
         → IfOk result (λ it. reached_of head.now (D.content disk.old)
-        ≡ Ok (head.now.tables ++ it.data_pages.items)) }
+        ≡ Ok (head.now.tables ++ it.pages.data_pages)) }
     ensures stream { D.tells disk.old
         → IfOk result (λ it. stream_at head.now (D.content disk.old) ≡ Ok it.bytes.items) }
-    ensures parts { IfOk result (λ it. IsInMemory head.now it.data_pages.items) }
+    ensures parts { IfOk result (λ it. IsInMemory head.now it.pages.data_pages) }
+    ensures index { IfOk result
+        (λ it. (it.pages.tables ≡ head.now.tables) × (it.pages.taken ≡ [])) }
     ensures long { IfOk result (λ it. length it.bytes.items ≡ head.now.stream_length) }
     ensures fault { D.tells disk.old
         → IfErr result (λ e. Names e (stream_at head.now (D.content disk.old))) }
@@ -107,7 +113,8 @@ pub(crate) fn read_stream<D: Disk>(
         → OnlyLooks D.DiskFacts (failed_in result) 0 disk.old disk.new }
     ensures tells { D.tells disk.new ↔ D.tells disk.old }
 {
-    let data_pages = read_tables(alloc, disk, size, head)?;
-    let bytes = read_data(alloc, disk, size, head.stream_length(), &data_pages)?;
-    Ok(Stream { data_pages, bytes })
+    let pages = read_tables(alloc, disk, size, head)?;
+    let (_, data_pages) = pages.live();
+    let bytes = read_data(alloc, disk, size, head.stream_length(), data_pages)?;
+    Ok(Stream { pages, bytes })
 }

@@ -4,6 +4,7 @@ ghost use Rattle.group_commit.specs.Loading.{number_of};
 ghost use Rattle.group_commit.specs.declared.open_fault.OpenError.TheVariants.{Memory};
 
 use disk_trait::Disk;
+use page_file::PageError;
 use root_slots::RootsError;
 use std::alloc::AllocError;
 use thiserror::Error;
@@ -63,6 +64,20 @@ impl From<RootsError> for OpenError {
             RootsError::NoRoot => OpenError::NoRoot,
             RootsError::BadRoot => OpenError::BadRoot,
             RootsError::ReadFailed => OpenError::ReadFailed,
+        }
+    }
+}
+
+impl From<PageError> for OpenError {
+    ghost use Rattle.group_commit.specs.Loading.{of_pages};
+
+    ghost from_gives = { λ error e. e ≡ of_pages error };
+
+    fn from(error: PageError) -> OpenError {
+        match error {
+            PageError::Memory => OpenError::Memory,
+            PageError::BadTable => OpenError::BadTable,
+            _ => OpenError::ReadFailed,
         }
     }
 }

@@ -1,14 +1,15 @@
 //! What a commit is about to write: the new root, and the new pages.
-ghost use Rattle.std.specs.Prelude.{◌≡◌, ℕ, ◌+◌, ◌*◌, ◌/◌, ◌^◌, ◌≤◌, ◌<◌, ◌++◌, true, false, List, length, get_or, take, drop, IfOk};
+ghost use Rattle.std.specs.Prelude.{◌≡◌, ℕ, ◌+◌, ◌*◌, ◌/◌, ◌^◌, ◌≤◌, ◌<◌, ◌++◌, true, false, [], List, length, get_or, take, drop, IfOk};
 ghost use Rattle.page_file.specs.Free.{AreLowest};
 ghost use Rattle.page_file.specs.Pages.{are_pages, is_zero, number_bytes};
 ghost use Rattle.root_slots.specs.Root.{version_of, count_of, stream_length_of, tables_of, pages_for};
+ghost use Rattle.group_commit.specs.Paging.{IsIndexOf, IsRenewed};
 ghost use Rattle.group_commit.specs.Saved.{with_stream};
 ghost use Rattle.group_commit.specs.Plan.{IsNext, Plans, IsGrown, kept_of, filled};
 
 use crate::load_pages::data_pages;
 use crate::root::Root;
-use page_file::{is_zero, lowest_free_pages, put_numbers};
+use page_file::{Pages, is_zero, put_numbers};
 use root_slots::{RootBody, tables_for};
 use std::alloc::{AllocError, Global};
 
@@ -16,6 +17,9 @@ use std::alloc::{AllocError, Global};
 #[derive(Drop)]
 pub(crate) struct Plan {
     pub next: Root,
+    // So many data pages stay, and so many new ones come behind them.
+    pub kept: usize,
+    pub new_data: usize,
     pub numbers: Vec<u32>,
     pub fresh: Vec<u8>,
 }
@@ -25,10 +29,13 @@ pub(crate) struct Plan {
 pub(crate) fn make_plan(
     alloc: Global,
     current: &Root,
+    pages: &Pages,
     stream: &[u8],
     records: &[u8],
     more: u64,
 ) -> Result<Plan, AllocError>
+    requires index { IsIndexOf current.now pages.now }
+    requires none { pages.now.taken ≡ [] }
     requires long { length stream.now ≡ stream_length_of current.now.body }
     requires some { is_zero records.now ≡ false }
     requires room { length stream.now + length records.now ≤ 1073741824 }
@@ -38,12 +45,15 @@ pub(crate) fn make_plan(
         (λ made. stream_length_of made.next.body ≡ length stream.now + length records.now) }
     ensures plan { IfOk result (λ made. Plans (with_stream current.now stream.now) records.now more
         (with_stream made.next (stream.now ++ records.now)) made.numbers.items made.fresh.items) }
+    ensures renews { IfOk result
+        (λ made. IsRenewed made.kept made.new_data made.numbers.items pages.now made.next) }
+    ensures few { IfOk result (λ made. length made.numbers.items ≤ 262400) }
 {
     let kept = kept_pages(stream.len(), records);
     let long = stream.len() + records.len();
     let new_data = data_pages(long as u64) - kept;
     let new_tables = tables_for(long as u64) as usize - kept / 1024;
-    let numbers = free_pages(alloc, current, new_data + new_tables)?;
+    let numbers = free_pages(current, pages, new_data + new_tables)?;
     let (data_numbers, table_numbers) = numbers.split_at(new_data);
     let named = renumbered(alloc, current.data_pages(), kept, data_numbers)?;
     let tables = renumbered(alloc, current.tables(), kept / 1024, table_numbers)?;
@@ -63,6 +73,8 @@ pub(crate) fn make_plan(
     let next = root_on(alloc, current, more, long as u64, named, tables)?;
     Ok(Plan {
         next,
+        kept,
+        new_data,
         numbers,
         fresh,
     })
@@ -125,15 +137,16 @@ fn renumbered(
 }
 
 // So many lowest pages that the root doesn't reach.
-fn free_pages(alloc: Global, current: &Root, count: usize) -> Result<Vec<u32>, AllocError>
+fn free_pages(current: &Root, pages: &Pages, count: usize) -> Result<Vec<u32>, AllocError>
     requires few { count ≤ 262400 }
+    requires index { IsIndexOf current.now pages.now }
+    requires none { pages.now.taken ≡ [] }
     ensures count { IfOk result (λ found. length found.items ≡ count) }
     ensures apart { IfOk result (λ found. are_pages (found.items ++ current.now.pages) ≡ true) }
     ensures lowest { IfOk result (λ found. AreLowest current.now.pages found.items) }
 {
-    let tables = current.tables();
-    let used = renumbered(alloc, tables, tables.len(), current.data_pages())?;
-    lowest_free_pages(alloc, &used, count)
+    let _reached = current.data_pages();
+    pages.lowest_free_pages(count)
 }
 
 // The bytes of so many data pages and, behind them, of the table pages with these numbers, each filled

@@ -6,15 +6,12 @@ ghost use Rattle.group_commit.specs.Step.{IsDeviceCall, Does, writes_in, syncs_i
 ghost use Rattle.group_commit.specs.declared.phase.Phase.TheVariants.{Idle, Pages, Close, Sync1, Body, Sync2, Gate, Sync3};
 ghost use Rattle.group_commit.specs.declared.error.StoreError.TheVariants.{Failed, WriteFailed, SyncFailed};
 
-use crate::call::{settle, write_inside};
+use crate::call::{put_page, settle};
 use crate::error::StoreError;
 use crate::phase::Phase;
 use crate::store::Store;
 use disk_trait::Disk;
 use std::mem::swap;
-
-// The bytes of a page.
-const PAGE: u64 = 4096;
 
 // The phase behind so many written pages.
 fn behind(written: usize, pages: usize, stale: bool) -> Phase
@@ -58,8 +55,12 @@ impl<D: Disk> Store<D> {
         ensures does { D.tells self.old.disk
             → Does D.DiskFacts result (Pages k) self.old self.new.disk }
     {
-        let at = PAGE * number_at(&self.numbers, k) as u64;
-        if let Err(error) = write_inside(&mut self.disk, at, bytes_at(&self.fresh, k)) {
+        if let Err(error) = put_page(
+            &mut self.pages,
+            &mut self.disk,
+            number_at(&self.numbers, k),
+            bytes_at(&self.fresh, k),
+        ) {
             self.failed = true;
             return Err(error);
         }
@@ -179,6 +180,7 @@ impl<D: Disk> Store<D> {
         }
         self.phase = Phase::Idle;
         self.roots.change_places();
+        self.pages.adopt(self.kept / 1024, self.kept, self.new_data);
         swap(&mut self.current, &mut self.next);
         Ok(Phase::Sync3)
     }

@@ -1,11 +1,13 @@
 //! A store over a disk.
 ghost use Rattle.std.specs.Prelude.{◌≡◌};
 ghost use Rattle.group_commit.specs.Held.{Held, IsSound, HasStreams};
+ghost use Rattle.group_commit.specs.Paging.{IsPaging};
 ghost use Rattle.group_commit.specs.Saved.{in_front};
 
 use crate::phase::Phase;
 use crate::root::Root;
 use disk_trait::Disk;
+use page_file::Pages;
 use root_slots::Roots;
 use std::marker::Model;
 
@@ -16,6 +18,11 @@ pub struct Store<D: Disk> {
     pub(crate) phase: Phase,
     pub(crate) current: Root,
     pub(crate) next: Root,
+    // The pages of the live root, and those that the commit has taken.
+    pub(crate) pages: Pages,
+    // So many data pages of the live root stay in the next one, and so many new ones come behind them.
+    pub(crate) kept: usize,
+    pub(crate) new_data: usize,
     // The streams of both roots: each is a front of these bytes.
     pub(crate) stream: Vec<u8>,
     // Which slot is live, and whether the other gate reads 1.
@@ -49,5 +56,6 @@ impl<D: Disk> Model for Store<D> {
       numbers = s.numbers.items;
       stale = s.roots.stale;
       failed = s.failed;
-    }) s.roots.slot s.numbers.items s.fresh.items × HasStreams s.phase s.current s.next s.stream.items };
+    }) s.roots.slot s.numbers.items s.fresh.items × HasStreams s.phase s.current s.next s.stream.items
+        × IsPaging s.phase s.failed s.numbers.items s.kept s.new_data s.current s.next s.pages };
 }

@@ -1,12 +1,12 @@
 -- The lowest free pages, one after another.
-use Rattle.std.proofs.Common.{◌≡◌, ◌≢◌, ◌⊎◌, ℕ, zero, suc, ◌+◌, ◌-◌, ◌<◌, ◌≤◌, Bool, true, false, not, ◌&&◌, ◌||◌, ◌==◌, List, [], ◌∷◌, ◌++◌, length, get_or, take, refl, sym, ap, ◌∙◌, inl, inr, arith, length-append, append_assoc}
+use Rattle.std.proofs.Common.{◌≡◌, ◌≢◌, ℕ, ◌+◌, ◌-◌, ◌<◌, ◌≤◌, Bool, true, false, ◌||◌, List, [], ◌∷◌, ◌++◌, length, get_or, take, refl, sym, ap, ◌∙◌, inl, inr, arith, length-append, append_assoc}
 use Rattle.std.proofs.lemmas.Bool.{cases_lt, cases_eq}
 use Rattle.std.proofs.lemmas.Bool.Decides.{nat_tests}
-use Rattle.std.proofs.lemmas.List.{take_at, take-append-le, get_or_append_left, get_or-append_right}
+use Rattle.std.proofs.lemmas.List.{take_at, take-append-le, get_or_append_left}
 use Rattle.page_file.specs.Pages.{has, are_pages}
 use Rattle.page_file.specs.Free.{IsNextFree, AreLowest, count_below}
 use Rattle.page_file.proofs.Apart.{has-append, first_behind, first_once, rest_apart}
-use Rattle.page_file.proofs.Crowded.{filled, count_within, count_rises}
+use Rattle.page_file.proofs.Crowded.{filled, count_rises}
 
 -- the pages found so far, and where the search goes on
 pub record Found (used found : List ℕ) (start : ℕ) : Type 0 where
@@ -28,7 +28,8 @@ found_none used apart = record {
   none = λ m above. refl;
 }
 
-put_apart : (n : ℕ) (fs used : List ℕ) → are_pages (fs ++ used) ≡ true → 2 ≤ n → has n fs ≡ false → has n used ≡ false
+-- one number more between others
+pub put_apart : (n : ℕ) (fs used : List ℕ) → are_pages (fs ++ used) ≡ true → 2 ≤ n → has n fs ≡ false → has n used ≡ false
     → are_pages (fs ++ n ∷ used) ≡ true
 put_apart n [] used apart behind lacks free = grind (arith, nat_tests)
 put_apart n (f ∷ fs) used apart behind lacks free =

@@ -1,8 +1,14 @@
+pub mod AdoptLemmas
 pub mod Apart
 pub mod Crowded
 pub mod FreeLemmas
+pub mod GapLemmas
+pub mod IndexLemmas
 pub mod Joining
+pub mod Looking
 pub mod NumberLemmas
+pub mod PageReads
 pub mod Parts
 pub mod Sorting
 pub mod TableLemmas
+pub mod Times

@@ -1,77 +1,13 @@
 -- Numbers in another order are pages where they were, and sorted ones where they rise.
-use Rattle.std.proofs.Common.{◌≡◌, ◌≢◌, ℕ, zero, suc, ◌+◌, ◌-◌, ◌<◌, ◌≤◌, Bool, true, false, not, ◌&&◌, ◌||◌, ◌==◌, nat_le, All, List, [], ◌∷◌, length, get_or, refl, sym, ap, ◌∙◌, inl, inr, arith, if◌then◌else◌}
-use Rattle.std.specs.List.{sum_by}
+use Rattle.std.proofs.Common.{◌≡◌, ◌≢◌, ℕ, suc, ◌+◌, ◌<◌, ◌≤◌, Bool, true, false, ◌&&◌, ◌==◌, nat_le, nat_lt, All, List, [], ◌∷◌, length, get_or, refl, sym, ap, ◌∙◌, arith, if◌then◌else◌}
 use Rattle.std.specs.List.Sorted.{IsPermutation, IsNonDecreasing}
 use Rattle.std.proofs.lemmas.List.Sorted.{sum_by-IsPermutation, All-permutation, IsPermutation-sym}
-use Rattle.std.proofs.lemmas.List.Sums.{sum_by-cons}
 use Rattle.std.proofs.lemmas.Grind.{get_or_default_zero}
-use Rattle.std.proofs.lemmas.Bool.{or_cases}
 use Rattle.std.proofs.lemmas.Bool.Decides.{nat_tests}
 use Rattle.page_file.specs.Pages.{has, are_pages}
 use Rattle.page_file.specs.Rising.{is_rising}
-use Rattle.page_file.proofs.Apart.{first_behind, first_once, rest_apart, each_behind}
-
--- how often a number is there
-times : ℕ → List ℕ → ℕ
-times n [] = 0
-times n (m ∷ ms) = (if n == m then 1 else 0) + times n ms
-
-times_is : (n : ℕ) (ns : List ℕ) → sum_by (λ m. if n == m then 1 else 0) ns ≡ times n ns
-unfolding times
-times_is n [] = refl
-times_is n (m ∷ ms) = sum_by-cons (λ k. if n == k then 1 else 0) m ms ∙ ap (λ t. (if n == m then 1 else 0) + t) (times_is n ms)
-
-never : (n : ℕ) (ns : List ℕ) → has n ns ≡ false → times n ns ≡ 0
-unfolding times
-never n [] lacks = refl
-never n (m ∷ ms) lacks = let rest = never n ms (other n m ms lacks) in grind (arith, nat_tests)
-  where
-    other : (n m : ℕ) (ms : List ℕ) → has n (m ∷ ms) ≡ false → has n ms ≡ false
-    other n m ms lacks = grind (arith, nat_tests)
-
-some_times : (n : ℕ) (ns : List ℕ) → has n ns ≡ true → 1 ≤ times n ns
-unfolding times
-some_times n [] is = absurd cc
-some_times n (m ∷ ms) is = elim (or_cases (n == m) (has n ms) is) [
-  | inl same ↦ grind (arith, nat_tests)
-  | inr later ↦ let rest = some_times n ms later in omega (arith, rest)
-]
-
--- each page is there once
-once : (ns : List ℕ) → are_pages ns ≡ true → (n : ℕ) → times n ns ≤ 1
-unfolding times
-once [] apart n = omega arith
-once (m ∷ ms) apart n = by_test (n == m) refl (once ms (rest_apart m ms apart) n)
-  where
-    same_number : (n m : ℕ) → (n == m) ≡ true → n ≡ m
-    same_number n m is = grind (arith, nat_tests)
-
-    by_test : (t : Bool) → (n == m) ≡ t → times n ms ≤ 1 → (if n == m then 1 else 0) + times n ms ≤ 1
-    by_test true is rest =
-        let none : times n ms ≡ 0 = never n ms (ap (λ k. has k ms) (same_number n m is) ∙ first_once m ms apart) in
-        rw (is, none) (omega arith)
-    by_test false is rest = rw (is) (omega (arith, rest))
-
--- numbers behind the slots, each there once
-apart_if : (ns : List ℕ) → ((i : ℕ) → i < length ns → 2 ≤ get_or ns i 0) → ((n : ℕ) → times n ns ≤ 1) → are_pages ns ≡ true
-unfolding times
-apart_if [] behind single = refl
-apart_if (m ∷ ms) behind single =
-    let rest = apart_if ms (λ i within. behind (suc i) (omega (arith, within))) (λ n. omega (arith, single n)) in
-    let first : 2 ≤ m = behind 0 (omega arith) in
-    let lacks : has m ms ≡ false = by_test (has m ms) refl in
-    grind (arith, nat_tests)
-  where
-    here : (m : ℕ) → (m == m) ≡ true
-    here m = grind (arith, nat_tests)
-
-    by_test : (t : Bool) → has m ms ≡ t → has m ms ≡ false
-    by_test true there =
-        let more = some_times m ms there in
-        let all : (if m == m then 1 else 0) + times m ms ≤ 1 = single m in
-        let two : 1 + times m ms ≤ 1 = rw (here m) at all in
-        absurd (omega (arith, more, two))
-    by_test false lacks = lacks
+use Rattle.page_file.proofs.Apart.{first_once, rest_apart, each_behind}
+use Rattle.page_file.proofs.Times.{times_is, once, apart_if, has_times}
 
 moved : (xs ys : List ℕ) → IsPermutation xs ys → are_pages xs ≡ true → are_pages ys ≡ true
 moved xs ys permutes apart =
@@ -135,6 +71,11 @@ apart_rising least (m ∷ k ∷ ms) sorted above apart =
 
     by_parts : (a b : Bool) → a ≡ true → b ≡ true → (a && b) ≡ true
     by_parts a b one two = rw (one, two) refl
+
+-- and the same numbers are there
+pub has_permuted : (n : ℕ) (xs ys : List ℕ) → IsPermutation xs ys → has n ys ≡ has n xs
+has_permuted n xs ys permutes =
+    has_times n ys ∙ ap (λ k. nat_lt 0 k) (sym (times_is n ys) ∙ sum_by-IsPermutation (λ m. if n == m then 1 else 0) xs ys permutes ∙ times_is n xs) ∙ sym (has_times n xs)
 
 -- sorted numbers are pages where they rise from 2 on
 pub sorted_apart : (ns : List ℕ) → IsNonDecreasing ns → is_rising 2 ns ≡ are_pages ns

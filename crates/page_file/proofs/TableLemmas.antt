@@ -1,6 +1,5 @@
 -- The numbers at the front of many, and those behind them.
-use Rattle.std.proofs.Common.{◌≡◌, ℕ, zero, suc, ◌+◌, ◌-◌, ◌*◌, ◌<◌, ◌≤◌, true, ◌&&◌, List, [], ◌∷◌, ◌++◌, length, take, drop, refl, sym, ap, ◌∙◌, arith}
-use Rattle.std.proofs.lemmas.Bool.Decides.{nat_tests}
+use Rattle.std.proofs.Common.{◌≡◌, ℕ, zero, suc, ◌+◌, ◌-◌, ◌*◌, ◌≤◌, true, List, ◌∷◌, length, take, drop, refl, ap, ◌∙◌, arith}
 use Rattle.std.proofs.lemmas.List.{drop-drop, take-replicate, drop-replicate}
 use Rattle.std.specs.Prelude.{replicate}
 use Rattle.std.specs.Int.{w32, from_be_bytes}
@@ -33,3 +32,8 @@ zero-numbers (suc n) m within =
 pub zero-replicate : (n : ℕ) → is_zero (replicate n 0) ≡ true
 zero-replicate zero = refl
 zero-replicate (suc n) = zero-replicate n
+
+-- so many numbers are read
+pub length-numbers : (n : ℕ) (bytes : List ℕ) → length (numbers n bytes) ≡ n
+length-numbers zero bytes = refl
+length-numbers (suc n) bytes = ap suc (length-numbers n (drop 4 bytes))

@@ -1,3 +1,9 @@
 pub mod Free
+pub mod Gaps
+pub mod Index
+pub mod Looks
+pub mod PageError
 pub mod Pages
+pub mod Putting
 pub mod Rising
+pub mod Tables

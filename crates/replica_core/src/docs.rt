@@ -1,4 +1,4 @@
-ghost use Rattle.std.specs.Prelude.{◌≡◌, ℕ, ◌≤◌, ◌<◌, List, [], ◌∷◌, ◌++◌, length, take, drop, slice_index_or, nat_le, MatchResult, OnOk, OnErr};
+ghost use Rattle.std.specs.Prelude.{◌≡◌, ℕ, ◌≤◌, ◌<◌, List, [], ◌∷◌, ◌++◌, length, take, drop, slice_index_or, nat_le, MatchResult, OnOk, OnErr, IsErrOf};
 ghost use Rattle.doc_core.specs.declared.doc.Doc.{Doc};
 ghost use Rattle.doc_core.specs.Standing.{number_of, StandsFor, MayComeInTurn};
 ghost use Rattle.op_model.specs.declared.op.Op.{Op};
@@ -43,6 +43,8 @@ pub fn apply(docs: &mut Vec<Doc>, alloc: Global, doc: u32, ops: &[Op]) -> Result
         (numbers docs.new.items ≡ with_number doc (numbers docs.old.items)) }
     ensures stand { OnOk result ((list : List Op) → AreDocs docs.old.items list
         → MayComeInTurn list doc ops.now → AllStand docs.new.items (list ++ ops.now)) }
+    ensures known { IsErrOf result SequenceError.UnknownId → (list : List Op)
+        → AreDocs docs.old.items list → MayComeInTurn list doc ops.now → ⊥ }
     ensures err { OnErr result (docs.new.items ≡ docs.old.items) }
 {
     match place(docs, doc) {
@@ -53,7 +55,10 @@ pub fn apply(docs: &mut Vec<Doc>, alloc: Global, doc: u32, ops: &[Op]) -> Result
         Err(at) => {
             docs.reserve(1)?;
             let mut it = Doc::new(alloc, doc);
-            it.apply_edit(ops)?;
+            match it.apply_edit(ops) {
+                Ok(()) => {}
+                Err(e) => return Err(e),
+            }
             match docs.insert(at, it) {
                 Ok(()) => {}
                 Err(_) => unreachable!(),

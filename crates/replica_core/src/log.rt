@@ -1,6 +1,8 @@
-ghost use Rattle.std.specs.Prelude.{◌≡◌, ◌+◌, ◌≤◌, ◌<◌, ◌^◌, [], ◌∷◌, ◌++◌, length, IfOk, OnOk, OnErr, vec_len, vec_capacity};
+ghost use Rattle.std.specs.Prelude.{◌≡◌, ◌+◌, ◌≤◌, ◌<◌, ◌^◌, [], ◌∷◌, ◌++◌, length, IfOk, OnOk, OnErr, IsErrOf, vec_len, vec_capacity};
+ghost use Rattle.doc_core.specs.Standing.{MayComeInTurn};
 ghost use Rattle.op_model.specs.Causality.{made_by};
 ghost use Rattle.op_model.specs.Records.{stream_length};
+ghost use Rattle.replica_core.specs.Docs.{AreDocs};
 ghost use Rattle.replica_core.specs.Log.{IsSame, HasRoom, IsAppended};
 
 use crate::docs;
@@ -39,6 +41,9 @@ impl Log {
         requires own { made_by replica made.items ≡ made.items }
         requires small { self.old.index.stream + stream_length made.items < 2 ^ 64 }
         ensures ok { OnOk result (IsAppended self.old self.new made.items doc step) }
+        ensures known { IsErrOf result SequenceError.UnknownId
+            → AreDocs self.old.docs.items self.old.list.items
+            → MayComeInTurn self.old.list.items doc made.items → ⊥ }
         ensures err { OnErr result (IsSame self.old self.new) }
     {
         let mut made = made;

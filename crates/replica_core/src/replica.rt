@@ -22,7 +22,7 @@ use crate::refusal::Refusal;
 use crate::step::Step;
 use crate::telling::untold;
 use crate::ticket::Ticket;
-use doc_core::Doc;
+use doc_core::{Doc, SequenceError};
 use op_ids::{Clock, ReplicaId};
 use op_model::{Edit, Op, Span, Text};
 use slow_programs::change_size;
@@ -274,7 +274,8 @@ impl Replica {
         };
         match self.log.append(made, self.id, edit.doc, step) {
             Ok(()) => {}
-            Err(_) => return Err(Refusal::Memory),
+            Err(SequenceError::Memory) => return Err(Refusal::Memory),
+            Err(SequenceError::UnknownId) => unreachable!(),
         }
         self.clock = clock;
         Ok(())
@@ -370,7 +371,8 @@ impl Replica {
         let made = one(alloc, op)?;
         match self.log.append(made, replica, doc, step) {
             Ok(()) => {}
-            Err(_) => return Err(Refusal::Memory),
+            Err(SequenceError::Memory) => return Err(Refusal::Memory),
+            Err(SequenceError::UnknownId) => unreachable!(),
         }
         self.clock = clock;
         Ok(())

@@ -1,6 +1,5 @@
 pub mod Faults
 pub mod HeadLemmas
 pub mod LiveLemmas
-pub mod Looking
 pub mod SlotReads
 pub mod SpellingLemmas

@@ -3,7 +3,7 @@ ghost use Rattle.std.specs.Prelude.{◌≡◌, ◌+◌, ◌≤◌, ◌↔◌, le
 ghost use Rattle.disk_trait.specs.File.{part};
 ghost use Rattle.disk_trait.specs.declared.error.DiskError.TheVariants.{WriteFailed};
 ghost use Rattle.root_slots.specs.Faults.{failed_in};
-ghost use Rattle.root_slots.specs.Looks.{OnlyLooks};
+ghost use Rattle.page_file.specs.Looks.{OnlyLooks};
 ghost use Rattle.root_slots.specs.Writing.{Writes};
 ghost use Rattle.root_slots.specs.declared.error.RootsError.TheVariants.{ReadFailed};
 

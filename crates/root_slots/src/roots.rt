@@ -5,7 +5,7 @@ ghost use Rattle.root_slots.specs.Body.{IsRoot};
 ghost use Rattle.root_slots.specs.Slots.{gate, gate_place, body_place, live};
 ghost use Rattle.root_slots.specs.Live.{IsLive, live_root};
 ghost use Rattle.root_slots.specs.Faults.{Names, failed_in};
-ghost use Rattle.root_slots.specs.Looks.{OnlyLooks};
+ghost use Rattle.page_file.specs.Looks.{OnlyLooks};
 ghost use Rattle.root_slots.specs.Survivors.{Leaves, IsNewer, Lives, LivesAlone, LivesOrOther};
 ghost use Rattle.root_slots.specs.Survivors.{LivesOverOpen, LivesBeforeNewer};
 ghost use Rattle.root_slots.specs.Writing.{Writes};

@@ -1,4 +1,4 @@
-use Rattle.std.proofs.Common.{◌≡◌, ap, sym, ◌∙◌, refl, inl}
+use Rattle.std.proofs.Common.{◌≡◌, ◌++◌, ap, sym, ◌∙◌, refl, inl}
 use Rattle.std.proofs.lemmas.Result.{err_from_is_err_and}
 use Rattle.root_slots.specs.Root.{count_of}
 use Rattle.root_slots.specs.Slots.{body}
@@ -6,7 +6,7 @@ use Rattle.group_commit.specs.Saved.{with_stream, in_front}
 use Rattle.group_commit.specs.Image.{stored}
 use Rattle.group_commit.specs.Loading.{stream_at}
 use Rattle.group_commit.proofs.Faults.{names_on, quiet_ops, fault_of_ops}
-use Rattle.root_slots.proofs.Looking.{looks_then, looks_on}
+use Rattle.page_file.proofs.Looking.{looks_then, looks_on}
 use Rattle.group_commit.proofs.ImageReads.{stream_fault, stored_stream, stands_read}
 use Rattle.group_commit.proofs.load_image.read_image.Goals as goal
 
@@ -88,3 +88,12 @@ returns-clause-looks g c = λ told.
 pub returns-clause-tells : goal.returns-clause-tells
 returns-clause-tells g c =
     (λ told. c.load_roots.ensures.tells.0 (c.read_stream.ensures.tells.0 told), λ told. c.read_stream.ensures.tells.1 (c.load_roots.ensures.tells.1 told))
+
+pub returns-clause-index : goal.returns-clause-index
+returns-clause-index g c = (
+  record {
+    tables = c.in_ok-stream.ensures.index.0 ∙ ap (λ r. r.tables) (sym c.in_ok-current.ensures.says);
+    live = ap (λ t. t ++ c.in_ok-stream.stream.pages.data_pages) c.in_ok-stream.ensures.index.0 ∙ sym c.in_ok-current.ensures.pages;
+  },
+  c.in_ok-stream.ensures.index.1,
+)

@@ -1,5 +1,5 @@
-use Rattle.std.proofs.Common.{rules, ◌≡◌, ap, sym, ◌∙◌, true, false, take, drop}
-use Rattle.page_file.specs.Pages.{pages, are_whole, is_zero, joined}
+use Rattle.std.proofs.Common.{rules, ◌≡◌, ap, sym, ◌∙◌, true, false, drop}
+use Rattle.page_file.specs.Pages.{pages, is_zero}
 use Rattle.group_commit.proofs.StreamReads.{test_whole, not_whole, not_zero, is_stream}
 use Rattle.group_commit.proofs.load_stream.read_data.Goals as goal
 

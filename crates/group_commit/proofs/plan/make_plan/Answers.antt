@@ -1,10 +1,11 @@
-use Rattle.std.proofs.Common.{rules, refl, ◌≡◌, ◌+◌, ◌*◌, ◌/◌, ◌-◌, ◌≤◌, ◌<◌, ◌^◌, ◌++◌, ℕ, List, ap, sym, ◌∙◌, arith, get_or, take, drop, length, length-append, length-take, length-drop}
+use Rattle.std.proofs.Common.{refl, ◌≡◌, ◌+◌, ◌*◌, ◌/◌, ◌-◌, ◌≤◌, ◌<◌, ◌^◌, ◌++◌, ℕ, List, ap, sym, ◌∙◌, arith, get_or, take, drop, length, length-append, length-take, length-drop}
 use Rattle.std.proofs.lemmas.List.{take-append-drop}
 use Rattle.page_file.specs.Pages.{number_bytes}
 use Rattle.root_slots.specs.Root.{pages_for, tables_of}
 use Rattle.group_commit.specs.Saved.{with_stream}
-use Rattle.group_commit.specs.Plan.{kept_of, filled}
+use Rattle.group_commit.specs.Plan.{filled}
 use Rattle.group_commit.proofs.KeptLemmas.{Grows, grown}
+use Rattle.group_commit.proofs.PagingLemmas.{renews_by}
 use Rattle.group_commit.proofs.PlanLemmas.{plan_of, next_apart, Follows, drop_both}
 use Rattle.group_commit.proofs.Roots.{root_tables}
 use Rattle.group_commit.proofs.plan.make_plan.Goals as goal
@@ -21,6 +22,18 @@ data_fits kept p a b l m pages_are rest more = omega (arith, pages_are, rest, mo
 
 entries_fit : (p kept t l : ℕ) → t ≡ pages_for 1024 p → l ≡ p - 1024 * (kept / 1024) → l ≤ 1024 * (t - kept / 1024)
 entries_fit p kept t l tables_are rest = omega (arith, tables_are, rest)
+
+pub overflow_sub-new_data : goal.overflow_sub-new_data
+overflow_sub-new_data c =
+    let grows : Grows (length c.args.stream.now) (length c.args.stream.now + length c.args.records.now) c.kept_pages-kept.result =
+    grown (length c.args.stream.now) (length c.args.stream.now + length c.args.records.now) c.args.records.now c.kept_pages-kept.result c.kept_pages-kept.ensures c.requires.some refl c.requires.room in
+    omega (arith, grows.grows, c.data_pages.ensures.value)
+
+pub overflow_sub-new_tables : goal.overflow_sub-new_tables
+overflow_sub-new_tables c =
+    let grows : Grows (length c.args.stream.now) (length c.args.stream.now + length c.args.records.now) c.kept_pages-kept.result =
+    grown (length c.args.stream.now) (length c.args.stream.now + length c.args.records.now) c.args.records.now c.kept_pages-kept.result c.kept_pages-kept.ensures c.requires.some refl c.requires.room in
+    kept_tables c.kept_pages-kept.result c.data_pages.result c.tables_for.result (omega (arith, grows.grows, c.data_pages.ensures.value)) (c.tables_for.ensures.value ∙ ap (pages_for 1024) (sym c.data_pages.ensures.value))
 
 pub renumbered-requires : goal.renumbered-requires
 renumbered-requires c =
@@ -162,3 +175,22 @@ returns-clause-plan c =
     rw (numbers, fresh)
     (plan_of (with_stream c.args.current.now c.args.stream.now) (with_stream c.in_ok-next.next (c.args.stream.now ++ c.args.records.now)) c.args.records.now c.args.more c.kept_pages-kept.result c.data_pages-2.result.now c.split_at.result.0.now c.split_at.result.1.now follows
     (rw numbers at c.in_ok-numbers.ensures.lowest) small)
+
+pub returns-clause-renews : goal.returns-clause-renews
+returns-clause-renews c =
+    let grows : Grows (length c.args.stream.now) (length c.args.stream.now + length c.args.records.now) c.kept_pages-kept.result =
+    grown (length c.args.stream.now) (length c.args.stream.now + length c.args.records.now) c.args.records.now c.kept_pages-kept.result c.kept_pages-kept.ensures c.requires.some refl c.requires.room in
+    let olds : length c.data_pages-2.result.now ≡ pages_for 4096 (length c.args.stream.now) =
+    (c.data_pages-2.ensures c.args.stream.now c.requires.long).count ∙ ap (pages_for 4096) (sym (c.data_pages-2.ensures c.args.stream.now c.requires.long).long) in
+    let old_tables : length c.tables.result.now ≡ pages_for 1024 (length c.data_pages-2.result.now) =
+    ap length c.tables.ensures ∙ root_tables c.args.current.now.body (c.data_pages-2.ensures c.args.stream.now c.requires.long).valid ∙ ap (pages_for 1024) (sym (c.data_pages-2.ensures c.args.stream.now c.requires.long).count) in
+    let on = c.in_ok-next.ensures.grown (c.args.stream.now ++ c.args.records.now) (length-append c.args.stream.now c.args.records.now) in
+    renews_by c.kept_pages-kept.result (c.data_pages.result - c.kept_pages-kept.result) c.in_ok-numbers.numbers.items c.split_at.result.0.now c.split_at.result.1.now
+    c.in_ok-tables.tables.items c.in_ok-named.named.items c.data_pages-2.result.now c.args.pages.now c.args.current.now c.in_ok-next.next c.requires.index
+    (c.data_pages-2.ensures c.args.stream.now c.requires.long).reaches
+    (c.split_at.ensures.front ∙ ap (take (c.data_pages.result - c.kept_pages-kept.result)) c.deref.ensures.value)
+    (c.split_at.ensures.back ∙ ap (drop (c.data_pages.result - c.kept_pages-kept.result)) c.deref.ensures.value)
+    (c.in_ok-tables.ensures ∙ ap (λ ts. take (c.kept_pages-kept.result / 1024) ts ++ c.split_at.result.1.now) c.tables.ensures) c.in_ok-named.ensures on.has_tables on.has.reaches
+    (kept_tables c.kept_pages-kept.result (length c.data_pages-2.result.now) (length (tables_of c.args.current.now.body)) (omega (arith, grows.within, olds)) (ap length (sym c.tables.ensures) ∙ old_tables))
+    (omega (arith, grows.within, olds))
+    (omega (arith, c.in_ok-numbers.ensures.count))

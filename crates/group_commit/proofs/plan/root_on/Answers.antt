@@ -1,4 +1,4 @@
-use Rattle.std.proofs.Common.{rules, ◌≡◌, ◌+◌, ◌≤◌, ℕ, true, false, ap, sym, ◌∙◌, arith, length}
+use Rattle.std.proofs.Common.{◌≡◌, ◌+◌, true, false, ap, sym, ◌∙◌, arith}
 use Rattle.page_file.proofs.Apart.{apart_first}
 use Rattle.root_slots.specs.Root.{pages_for}
 use Rattle.group_commit.proofs.plan.root_on.Goals as goal

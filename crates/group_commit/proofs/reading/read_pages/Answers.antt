@@ -1,5 +1,5 @@
 use Rattle.std.proofs.Common.{arith}
-use Rattle.root_slots.proofs.Looking.{looks_then}
+use Rattle.page_file.proofs.Looking.{looks_then}
 use Rattle.group_commit.proofs.PageReads.{next_inside, next_whole, next_read}
 use Rattle.group_commit.proofs.reading.read_pages.Goals as goal
 

@@ -1,6 +1,6 @@
 use Rattle.std.proofs.Common.{◌≡◌, ◌↔◌, ◌*◌, ◌++◌, length, true, drop}
 use Rattle.page_file.specs.Pages.{pages, are_whole, joined}
-use Rattle.root_slots.specs.Looks.{OnlyLooks}
+use Rattle.page_file.specs.Looks.{OnlyLooks}
 use Rattle.group_commit.proofs.reading.read_pages.Given as goal
 
 -- what is read, and the pages that are left, are all of them

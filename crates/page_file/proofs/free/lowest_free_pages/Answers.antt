@@ -1,5 +1,5 @@
-use Rattle.std.proofs.Common.{ℕ, List, ◌≡◌, ◌+◌, ◌-◌, ◌<◌, ◌≤◌, ◌++◌, ◌∷◌, [], true, false, get_or, ap, sym, ◌∙◌, arith, length, length-append}
-use Rattle.page_file.specs.Free.{count_below, IsNextFree}
+use Rattle.std.proofs.Common.{ℕ, List, ◌≡◌, ◌+◌, ◌-◌, ◌<◌, ◌≤◌, ◌∷◌, [], true, false, get_or, ap, sym, ◌∙◌, arith, length, length-append}
+use Rattle.page_file.specs.Free.{IsNextFree}
 use Rattle.page_file.specs.Pages.{has}
 use Rattle.page_file.proofs.Crowded.{count_within, filled}
 use Rattle.page_file.proofs.FreeLemmas.{Found, found_more}

@@ -3,7 +3,7 @@ use Rattle.std.proofs.lemmas.Result.{on_ok_weaker}
 use Rattle.doc_core.specs.Standing.{number_of}
 use Rattle.doc_core.proofs.StandingLemmas.{on_ok_always}
 use Rattle.replica_core.specs.Docs.{numbers}
-use Rattle.replica_core.proofs.DocLemmas.{fresh_stands, numbers_insert, numbers_set, stand_more, stand_new}
+use Rattle.replica_core.proofs.DocLemmas.{fresh_stands, numbers_insert, numbers_set, stand_more, stand_new, stands_at}
 use Rattle.replica_core.proofs.docs.apply.Goals as goal
 
 pub returns-in-Ok-clause-numbers : goal.returns-in-Ok-clause-numbers
@@ -23,7 +23,7 @@ returns-in-Ok-clause-stand c =
 pub returns-in-Ok-insert-clause-numbers : goal.returns-in-Ok-insert-clause-numbers
 returns-in-Ok-insert-clause-numbers c =
     let placed = rw c.deref.ensures.value at c.in-Err.ensures in
-    let same : number_of c.apply_edit-in-Err.new.self ≡ c.args.doc = c.in_ok-apply_edit-in-Err.ensures.number ∙ c.new-it.ensures.number in
+    let same : number_of c.apply_edit-in-Err.new.self ≡ c.args.doc = c.in-Ok-apply_edit.ensures.number ∙ c.new-it.ensures.number in
     rw (c.in-Ok-insert.ensures.items, c.in_ok-reserve-in-Err.ensures.items)
     (numbers_insert c.args.docs.now.items c.in-Err.at c.apply_edit-in-Err.new.self
     ∙ (ap (λ n. take c.in-Err.at (numbers c.args.docs.now.items) ++ n ∷ drop c.in-Err.at (numbers c.args.docs.now.items)) same ∙ sym placed.1))
@@ -35,4 +35,18 @@ returns-in-Ok-insert-clause-stand c = λ list are come.
     let fresh = fresh_stands c.args.docs.now.items c.in-Err.at c.new-it.result c.args.doc list are placed.1 same c.new-it.ensures.empty in
     rw (c.in-Ok-insert.ensures.items, c.in_ok-reserve-in-Err.ensures.items)
     (stand_new c.args.docs.now.items c.in-Err.at c.apply_edit-in-Err.new.self c.args.doc list c.args.ops.now are placed.1 come
-    (c.in_ok-apply_edit-in-Err.ensures.taken list fresh (rw same come)))
+    (c.in-Ok-apply_edit.ensures.taken list fresh (rw same come)))
+
+pub returns-in-Ok-clause-known : goal.returns-in-Ok-clause-known
+returns-in-Ok-clause-known c = λ unknown list are come.
+    let found = rw c.deref.ensures.value at c.in-Ok.ensures in
+    let same : number_of c.index_mut-it.result.now ≡ c.args.doc = found.1 c.index_mut-it.result.now c.index_mut-it.ensures.value in
+    c.apply_edit.ensures.known unknown list
+    (stands_at c.args.docs.now.items c.in-Ok.at c.index_mut-it.result.now list are.stand found.0 c.index_mut-it.ensures.value) (rw same come)
+
+pub returns-in-Err-apply_edit-clause-known : goal.returns-in-Err-apply_edit-clause-known
+returns-in-Err-apply_edit-clause-known c = λ unknown list are come.
+    let placed = rw c.deref.ensures.value at c.in-Err.ensures in
+    let same : number_of c.new-it.result ≡ c.args.doc = c.new-it.ensures.number in
+    let fresh = fresh_stands c.args.docs.now.items c.in-Err.at c.new-it.result c.args.doc list are placed.1 same c.new-it.ensures.empty in
+    c.in-Err-apply_edit.ensures.known unknown list fresh (rw same come)

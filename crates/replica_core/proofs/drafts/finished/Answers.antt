@@ -1,7 +1,5 @@
-use Rattle.std.proofs.Common.{◌≡◌, ◌∙◌, ◌∷◌, ap, sym}
+use Rattle.std.proofs.Common.{◌≡◌, ◌∙◌, ◌∷◌}
 use Rattle.std.specs.Vec.Iter.{into_iter_items}
-use Rattle.doc_core.specs.declared.draft.Draft.{Draft}
-use Rattle.replica_core.specs.Docs.{draft_numbers, numbers}
 use Rattle.replica_core.proofs.DraftLemmas.{docs_push, stand_push}
 use Rattle.replica_core.proofs.drafts.finished.Goals as goal
 

@@ -1,4 +1,6 @@
-use Rattle.std.proofs.Common.{ap, sym, ◌∙◌, ◌≡◌, ◌<◌, ◌+◌, ◌++◌, Ok, Some, length, length-append, inl, inr, refl, arith}
+use Rattle.std.proofs.Common.{rules, ℕ, ap, sym, ◌∙◌, ◌≡◌, ◌<◌, ◌+◌, ◌++◌, Ok, Some, length, length-append, inl, inr, refl, arith}
+use Rattle.std.specs.Prelude.{Vec, vec_len}
+use Rattle.std.specs.declared.alloc.Global.{Global}
 use Rattle.std.proofs.lemmas.Result.{err_from_is_err_and}
 use Rattle.root_slots.specs.Root.{count_of, stream_length_of}
 use Rattle.change_codec.specs.Stream.{spelled_all}
@@ -10,10 +12,15 @@ use Rattle.group_commit.specs.declared.phase.Phase.TheVariants.{Pages}
 use Rattle.group_commit.proofs.BeginLemmas.{due_of, idle_is, room_says, Room}
 use Rattle.group_commit.proofs.DeviceCall.{left_of}
 use Rattle.group_commit.proofs.Doing.{live_idle}
+use Rattle.group_commit.specs.Paging.{taken_in}
+use Rattle.group_commit.proofs.PagingLemmas.{paging_begun, paging_roomy}
 use Rattle.group_commit.proofs.RecordLemmas.{some_records}
 use Rattle.group_commit.proofs.Sound.{sound_begin}
 use Rattle.group_commit.proofs.Streams.{streams_begun, front_all, front_more}
 use Rattle.group_commit.proofs.store.Store.begin.Goals as goal
+
+counted : (v : Vec ℕ Global) → vec_len v ≡ length v.items
+counted v = search rules
 
 pub make_plan-requires : goal.make_plan-requires
 make_plan-requires g c =
@@ -21,6 +28,8 @@ make_plan-requires g c =
     let says : Room (with_stream c.self.inside.current c.self.inside.stream.items) c.args.ops.now = room_says (with_stream c.self.inside.current c.self.inside.stream.items) c.args.ops.now (ap (λ s. has_room (with_stream c.self.inside.current s) c.args.ops.now) (sym c.deref.ensures.value) ∙ sym c.has_room.ensures ∙ c.if-not-has_room.false) in
     let records : c.deref-3.result.now ≡ spelled_all c.args.ops.now = c.deref-3.ensures.value ∙ c.in_ok-records.ensures.records in
     record {
+      index = c.self.invariant.2.is_index;
+      none = c.self.invariant.2.taken c.if-self.false ∙ ap (λ q. taken_in q c.self.inside.numbers.items) (idle_is c.self.inside.phase (sym c.is_idle.ensures ∙ c.if-not-is_idle.false));
       long = ap length c.deref-2.ensures.value ∙ (c.self.invariant.1.idle (idle_is c.self.inside.phase (sym c.is_idle.ensures ∙ c.if-not-is_idle.false)));
       some = ap is_zero records ∙ some_records c.args.ops.now some;
       room = omega (arith, says.stream, ap length c.deref-2.ensures.value, ap length records);
@@ -29,7 +38,19 @@ make_plan-requires g c =
     }
 
 pub invariant_of-self : goal.invariant_of-self
-invariant_of-self g c = rw (c.in_err-extend_from_slice.ensures.items) c.self.invariant
+invariant_of-self g c = (c.self.invariant.0, c.self.invariant.1, paging_roomy _ _ _ _ _ _ _ _ _ c.self.invariant.2 (idle_is c.self.inside.phase (sym c.is_idle.ensures ∙ c.if-not-is_idle.false)) c.in_err-reserve.ensures.same)
+
+pub invariant_of-self-in_err-extend_from_slice : goal.invariant_of-self-in_err-extend_from_slice
+invariant_of-self-in_err-extend_from_slice g c = rw (c.in_err-extend_from_slice.ensures.items) (c.self.invariant.0, c.self.invariant.1, paging_roomy _ _ _ _ _ _ _ _ _ c.self.invariant.2 (idle_is c.self.inside.phase (sym c.is_idle.ensures ∙ c.if-not-is_idle.false)) c.in_ok-reserve.ensures.same)
+
+pub returns-in_err-reserve-clause-answer : goal.returns-in_err-reserve-clause-answer
+returns-in_err-reserve-clause-answer g c =
+    let p = err_from_is_err_and c.from_residual-in_err-reserve.result c.from_residual-in_err-reserve.ensures.1 in
+    rw (p.1, p.2) (inr (
+      refl,
+      rw (due_of c.args.self.now c.args.ops.now (ap (λ h. h.failed) (sym c.self.view_is) ∙ c.if-self.false) (ap (λ h. is_idle h.phase) (sym c.self.view_is) ∙ sym c.is_idle.ensures ∙ c.if-not-is_idle.false) (grind (arith, c.is_empty.ensures, c.if-is_empty.false))
+          (ap (λ h. has_room h.current c.args.ops.now) (sym c.self.view_is) ∙ ap (λ s. has_room (with_stream c.self.inside.current s) c.args.ops.now) (front_all (stream_length_of c.self.inside.current.body) c.self.inside.stream.items (c.self.invariant.1.idle (idle_is c.self.inside.phase (sym c.is_idle.ensures ∙ c.if-not-is_idle.false)))) ∙ (ap (λ s. has_room (with_stream c.self.inside.current s) c.args.ops.now) (sym c.deref.ensures.value) ∙ sym c.has_room.ensures ∙ c.if-not-has_room.false))) tt,
+    ))
 
 pub returns-in_err-extend_from_slice-clause-answer : goal.returns-in_err-extend_from_slice-clause-answer
 returns-in_err-extend_from_slice-clause-answer g c =
@@ -61,6 +82,7 @@ invariant_of-self-2 g c = (
   rw ((c.in_ok-extend_from_slice.ensures.items ∙ ap (λ r. c.self.inside.stream.items ++ r) (c.deref-4.ensures.value ∙ c.in_ok-records.ensures.records)), front_more (stream_length_of c.self.inside.current.body) c.self.inside.stream.items (spelled_all c.args.ops.now) (c.self.invariant.1.idle (idle_is c.self.inside.phase (sym c.is_idle.ensures ∙ c.if-not-is_idle.false))), front_all (stream_length_of c.in_ok-next.field-0.next.body) (c.self.inside.stream.items ++ spelled_all c.args.ops.now) (sym ((c.in_ok-next.ensures.long ∙ ap (λ s. length s + length c.deref-3.result.now) c.deref-2.ensures.value ∙ ap (λ r. length c.self.inside.stream.items + length r) (c.deref-3.ensures.value ∙ c.in_ok-records.ensures.records)) ∙ sym (length-append c.self.inside.stream.items (spelled_all c.args.ops.now))))) (sound_new g c),
   rw ((c.in_ok-extend_from_slice.ensures.items ∙ ap (λ r. c.self.inside.stream.items ++ r) (c.deref-4.ensures.value ∙ c.in_ok-records.ensures.records)))
       (streams_begun c.self.inside.phase c.self.inside.current c.self.inside.next c.in_ok-next.field-0.next c.self.inside.stream.items (spelled_all c.args.ops.now) c.self.invariant.1 (idle_is c.self.inside.phase (sym c.is_idle.ensures ∙ c.if-not-is_idle.false)) (c.in_ok-next.ensures.long ∙ ap (λ s. length s + length c.deref-3.result.now) c.deref-2.ensures.value ∙ ap (λ r. length c.self.inside.stream.items + length r) (c.deref-3.ensures.value ∙ c.in_ok-records.ensures.records))),
+  paging_begun _ _ _ _ _ _ _ _ _ _ _ _ _ c.self.invariant.2 (idle_is c.self.inside.phase (sym c.is_idle.ensures ∙ c.if-not-is_idle.false)) c.if-self.false c.in_ok-next.ensures.renews c.in_ok-reserve.ensures.same (omega (arith, c.in_ok-reserve.ensures.room, c.len.ensures, counted c.in_ok-next.field-0.numbers)),
 )
 
 pub returns-clause-answer : goal.returns-clause-answer

@@ -3,9 +3,10 @@ use Rattle.disk_trait.specs.File.{overwritten}
 use Rattle.disk_trait.specs.Calls.{Tears}
 use Rattle.disk_trait.specs.declared.facts.DiskFacts.{Ghosts}
 use Rattle.group_commit.specs.declared.phase.Phase.{Phase}
-use Rattle.group_commit.specs.declared.phase.Phase.TheVariants.{Idle, Body}
+use Rattle.group_commit.specs.declared.phase.Phase.TheVariants.{Idle, Body, Sync2}
 use Rattle.group_commit.specs.declared.error.StoreError.TheVariants.{WriteFailed}
 use Rattle.group_commit.proofs.store.Store.fill.Goals as goal
+use Rattle.group_commit.proofs.PagingLemmas.{paging_failed, paging_on}
 use Rattle.group_commit.proofs.Streams.{streams_on, busy_at}
 use Rattle.group_commit.proofs.Sound.{sound_body}
 use Rattle.group_commit.proofs.Doing.{slots_whole}
@@ -31,6 +32,7 @@ invariant_of-self g c = (
       (c.in-Err.ensures).tells.0 (λ told. sized c.body.result.now (ap length c.body.ensures.bytes ∙ (c.self.invariant.0.plan (not_idle _ (ap (λ h. h.phase) c.self.view_is ∙ c.requires.phase))).size) ((c.in-Err.ensures.writes told).torn)) (λ told ok. absurd cc)
       (λ told. g.met.D.Disk.lawful c.self.inside.disk told),
   streams_on c.self.inside.phase _ c.self.inside.current c.self.inside.next c.self.inside.stream.items c.self.invariant.1 (busy_at c.self.inside.phase Body (ap (λ h. h.phase) c.self.view_is ∙ c.requires.phase) (λ is. absurd cc)) (λ is. absurd cc),
+  paging_failed _ Body _ _ _ _ _ _ _ _ _ c.self.invariant.2 (ap (λ h. h.phase) c.self.view_is ∙ c.requires.phase) (λ is. absurd cc) refl refl,
 )
 
 pub returns-in-Err-clause-call : goal.returns-in-Err-clause-call
@@ -45,6 +47,7 @@ invariant_of-self-in_default g c = (
       (c.in_default.ensures).tells.0 (λ told. sized c.body.result.now (ap length c.body.ensures.bytes ∙ (c.self.invariant.0.plan (not_idle _ (ap (λ h. h.phase) c.self.view_is ∙ c.requires.phase))).size) ((c.in_default.ensures.writes told).torn)) (λ told ok. (c.in_default.ensures.writes told).written ∙ ap (overwritten _ _) c.body.ensures.bytes)
       (λ told. g.met.D.Disk.lawful c.self.inside.disk told),
   streams_on c.self.inside.phase _ c.self.inside.current c.self.inside.next c.self.inside.stream.items c.self.invariant.1 (busy_at c.self.inside.phase Body (ap (λ h. h.phase) c.self.view_is ∙ c.requires.phase) (λ is. absurd cc)) (λ is. absurd cc),
+  paging_on _ Body Sync2 _ _ _ _ _ _ _ c.self.invariant.2 (ap (λ h. h.phase) c.self.view_is ∙ c.requires.phase) (λ is. absurd cc) refl (λ k is. absurd cc),
 )
 
 pub returns-clause-call : goal.returns-clause-call

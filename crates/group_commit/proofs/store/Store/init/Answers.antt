@@ -5,6 +5,7 @@ use Rattle.root_slots.specs.Root.{stream_length_of}
 use Rattle.group_commit.specs.Saved.{in_front}
 use Rattle.group_commit.proofs.NewFileLemmas.{stands_new}
 use Rattle.group_commit.proofs.Roots.{root_size}
+use Rattle.group_commit.proofs.PagingLemmas.{paging_alone}
 use Rattle.group_commit.proofs.Streams.{streams_alone}
 use Rattle.group_commit.proofs.DeviceCall.{left_of}
 
@@ -25,6 +26,10 @@ invariant_of-result g c = (
     reads = λ told works. tt;
   },
   streams_alone c.in-Ok.current c.in-Ok.next c.new.result.items (ap length c.new.ensures.items ∙ sym (ap (λ r. r.stream_length) c.in-Ok.ensures.root)) c.in-Ok.ensures.empty.2,
+  paging_alone _ _ _ _ _ _ _ (record {
+    tables = c.in-Ok.ensures.index.0 ∙ sym (ap (λ r. r.tables) c.in-Ok.ensures.root);
+    live = rw (c.in-Ok.ensures.index.0, c.in-Ok.ensures.index.1) (sym c.in-Ok.ensures.empty.0);
+  }) c.in-Ok.ensures.index.2,
 )
 
 pub returns-in-Ok-clause-empty : goal.returns-in-Ok-clause-empty

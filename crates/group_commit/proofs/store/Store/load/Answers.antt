@@ -2,6 +2,7 @@ use Rattle.std.proofs.Common.{refl}
 use Rattle.root_slots.specs.Root.{stream_length_of}
 use Rattle.group_commit.specs.Saved.{with_stream, in_front}
 use Rattle.group_commit.proofs.Steps.{is_idle, live_by_older}
+use Rattle.group_commit.proofs.PagingLemmas.{paging_alone}
 use Rattle.group_commit.proofs.Streams.{streams_alone, front_all}
 use Rattle.group_commit.proofs.store.Store.load.Goals as goal
 
@@ -17,6 +18,7 @@ invariant_of-store g c = (
     reads = λ told works. tt;
   },
   streams_alone c.in-Ok.image.current c.in-Ok.image.next c.in-Ok.image.stream.items c.in-Ok.ensures.long c.in-Ok.ensures.other,
+  paging_alone _ _ _ _ _ _ _ c.in-Ok.ensures.index.0 c.in-Ok.ensures.index.1,
 )
 
 pub returns-in-Ok-clause-root : goal.returns-in-Ok-clause-root

@@ -2,6 +2,7 @@ use Rattle.std.proofs.Common.{ap, sym, ◌≡◌, ◌≢◌, ◌<◌, ◌≤◌,
 use Rattle.group_commit.specs.declared.error.StoreError.TheVariants.{WriteFailed}
 use Rattle.group_commit.proofs.store.Store.put.Goals as goal
 use Rattle.group_commit.proofs.Inside.{inside_page}
+use Rattle.group_commit.proofs.PagingLemmas.{paging_failed, paging_put, next_free, next_room}
 use Rattle.group_commit.proofs.Streams.{streams_on, busy_at, busy_behind}
 use Rattle.group_commit.proofs.Sound.{sound_page, sound_page_failed}
 use Rattle.group_commit.proofs.DeviceCall.{device_call}
@@ -35,16 +36,20 @@ bytes_at-requires g c = record {
   within = rw (c.deref-2.ensures.value) (whole_within c.args.k _ _ ((c.self.invariant.0.plan (not_idle _ (ap (λ h. h.phase) c.self.view_is ∙ c.requires.phase))).under_way c.args.k (ap (λ h. h.phase) c.self.view_is ∙ c.requires.phase)) c.self.invariant.0.room);
 }
 
-pub write_inside-requires : goal.write_inside-requires
-write_inside-requires g c = record {
+pub put_page-requires : goal.put_page-requires
+put_page-requires g c = record {
+  free = next_free _ c.args.k _ _ _ _ c.number_at.result _ _ _ c.self.invariant.2 (ap (λ h. h.phase) c.self.view_is ∙ c.requires.phase) (ap (λ h. h.failed) c.self.view_is ∙ c.requires.works) ((c.self.invariant.0.plan (not_idle _ (ap (λ h. h.phase) c.self.view_is ∙ c.requires.phase))).under_way c.args.k (ap (λ h. h.phase) c.self.view_is ∙ c.requires.phase)) (c.number_at.ensures ∙ ap (λ v. get_or v c.args.k 0) c.deref.ensures.value) (c.self.invariant.0.plan (not_idle _ (ap (λ h. h.phase) c.self.view_is ∙ c.requires.phase))).free;
+  room = next_room _ c.args.k _ _ _ _ _ _ _ c.self.invariant.2 (ap (λ h. h.phase) c.self.view_is ∙ c.requires.phase) (ap (λ h. h.failed) c.self.view_is ∙ c.requires.works) ((c.self.invariant.0.plan (not_idle _ (ap (λ h. h.phase) c.self.view_is ∙ c.requires.phase))).under_way c.args.k (ap (λ h. h.phase) c.self.view_is ∙ c.requires.phase));
+  size = c.bytes_at.ensures.whole;
   inside = λ told. rw (c.number_at.ensures ∙ ap (λ v. get_or v c.args.k 0) c.deref.ensures.value) (inside_page g.D.DiskFacts _ c.self.inside.roots.slot _ _ c.args.k c.self.invariant.0 (ap (λ h. h.phase) c.self.view_is ∙ c.requires.phase) told (λ told. g.met.D.Disk.lawful c.self.inside.disk told) (ap (λ h. h.failed) c.self.view_is ∙ c.requires.works));
 }
 
 pub invariant_of-self : goal.invariant_of-self
 invariant_of-self g c = (
-  sound_page_failed g.D.DiskFacts _ c.self.inside.roots.slot _ _ c.args.k c.write_inside.new.disk c.self.invariant.0 (ap (λ h. h.phase) c.self.view_is ∙ c.requires.phase)
+  sound_page_failed g.D.DiskFacts _ c.self.inside.roots.slot _ _ c.args.k c.put_page.new.disk c.self.invariant.0 (ap (λ h. h.phase) c.self.view_is ∙ c.requires.phase)
       c.in-Err.ensures.tells.0 (λ told. torn_at _ _ _ _ (ap (λ n. 4096 * n) (c.number_at.ensures ∙ ap (λ v. get_or v c.args.k 0) c.deref.ensures.value)) c.bytes_at.ensures.whole (c.in-Err.ensures.torn told)),
   c.self.invariant.1,
+  paging_failed _ (Pages c.args.k) _ _ _ _ _ _ _ _ _ c.self.invariant.2 (ap (λ h. h.phase) c.self.view_is ∙ c.requires.phase) (λ is. absurd cc) c.in-Err.ensures.live.0 c.in-Err.ensures.live.1,
 )
 
 pub returns-in-Err-clause-call : goal.returns-in-Err-clause-call
@@ -55,7 +60,7 @@ returns-in-Err-clause-call g c =
 pub invariant_of-self-2 : goal.invariant_of-self-2
 invariant_of-self-2 g c = (
   rw (c.behind-self-inside.ensures ∙ ap (behind_pages (c.args.k + 1) c.len.result) c.is_stale_open.ensures ∙ ap (λ n. behind_pages (c.args.k + 1) n c.self.inside.roots.stale) (c.len.ensures ∙ counted c.self.inside.numbers))
-      (sound_page g.D.DiskFacts _ c.self.inside.roots.slot _ _ c.args.k c.write_inside.new.disk c.self.invariant.0 (ap (λ h. h.phase) c.self.view_is ∙ c.requires.phase) (λ told. g.met.D.Disk.lawful c.self.inside.disk told)
+      (sound_page g.D.DiskFacts _ c.self.inside.roots.slot _ _ c.args.k c.put_page.new.disk c.self.invariant.0 (ap (λ h. h.phase) c.self.view_is ∙ c.requires.phase) (λ told. g.met.D.Disk.lawful c.self.inside.disk told)
       c.in_default.ensures.tells.0 (λ told. torn_at _ _ _ _ (ap (λ n. 4096 * n) (c.number_at.ensures ∙ ap (λ v. get_or v c.args.k 0) c.deref.ensures.value)) c.bytes_at.ensures.whole (c.in_default.ensures.torn told))
       (λ told. c.in_default.ensures.written told
       ∙ ap (λ n. overwritten (g.D.DiskFacts.content c.self.inside.disk) (4096 * n) c.bytes_at.result.now) (c.number_at.ensures ∙ ap (λ v. get_or v c.args.k 0) c.deref.ensures.value)
@@ -63,6 +68,8 @@ invariant_of-self-2 g c = (
       (λ told. inside_page g.D.DiskFacts _ c.self.inside.roots.slot _ _ c.args.k c.self.invariant.0 (ap (λ h. h.phase) c.self.view_is ∙ c.requires.phase) told (λ told. g.met.D.Disk.lawful c.self.inside.disk told) (ap (λ h. h.failed) c.self.view_is ∙ c.requires.works))
       refl (ap (λ h. h.failed) c.self.view_is ∙ c.requires.works)),
   streams_on c.self.inside.phase _ c.self.inside.current c.self.inside.next c.self.inside.stream.items c.self.invariant.1 (busy_at c.self.inside.phase (Pages c.args.k) (ap (λ h. h.phase) c.self.view_is ∙ c.requires.phase) (λ is. absurd cc)) (rw (c.behind-self-inside.ensures) (busy_behind _ _ _)),
+  rw (c.behind-self-inside.ensures ∙ ap (behind_pages (c.args.k + 1) c.len.result) c.is_stale_open.ensures ∙ ap (λ n. behind_pages (c.args.k + 1) n c.self.inside.roots.stale) (c.len.ensures ∙ counted c.self.inside.numbers))
+      (paging_put _ c.args.k c.self.inside.roots.stale _ _ _ _ c.number_at.result _ _ _ _ c.self.invariant.2 (ap (λ h. h.phase) c.self.view_is ∙ c.requires.phase) (ap (λ h. h.failed) c.self.view_is ∙ c.requires.works) ((c.self.invariant.0.plan (not_idle _ (ap (λ h. h.phase) c.self.view_is ∙ c.requires.phase))).under_way c.args.k (ap (λ h. h.phase) c.self.view_is ∙ c.requires.phase)) (c.number_at.ensures ∙ ap (λ v. get_or v c.args.k 0) c.deref.ensures.value) c.in_default.ensures.taken),
 )
 
 pub returns-clause-call : goal.returns-clause-call

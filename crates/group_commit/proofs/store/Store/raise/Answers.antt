@@ -1,7 +1,8 @@
 use Rattle.std.proofs.Common.{ap, ◌∙◌, true, sym, refl}
 use Rattle.group_commit.specs.declared.error.StoreError.TheVariants.{WriteFailed}
 use Rattle.group_commit.proofs.store.Store.raise.Goals as goal
-use Rattle.group_commit.specs.declared.phase.Phase.TheVariants.{Gate}
+use Rattle.group_commit.specs.declared.phase.Phase.TheVariants.{Gate, Sync3}
+use Rattle.group_commit.proofs.PagingLemmas.{paging_failed, paging_on}
 use Rattle.group_commit.proofs.Streams.{streams_on, busy_at}
 use Rattle.group_commit.proofs.Sound.{sound_gate}
 use Rattle.group_commit.proofs.Doing.{slots_whole}
@@ -19,6 +20,7 @@ invariant_of-self g c = (
       (c.in-Err.ensures).tells.0 (λ told. (c.in-Err.ensures.writes told).torn) (λ told ok. absurd cc)
       (λ told. g.met.D.Disk.lawful c.self.inside.disk told),
   streams_on c.self.inside.phase _ c.self.inside.current c.self.inside.next c.self.inside.stream.items c.self.invariant.1 (busy_at c.self.inside.phase Gate (ap (λ h. h.phase) c.self.view_is ∙ c.requires.phase) (λ is. absurd cc)) (λ is. absurd cc),
+  paging_failed _ Gate _ _ _ _ _ _ _ _ _ c.self.invariant.2 (ap (λ h. h.phase) c.self.view_is ∙ c.requires.phase) (λ is. absurd cc) refl refl,
 )
 
 pub returns-in-Err-clause-call : goal.returns-in-Err-clause-call
@@ -33,6 +35,7 @@ invariant_of-self-in_default g c = (
       (c.in_default.ensures).tells.0 (λ told. (c.in_default.ensures.writes told).torn) (λ told ok. (c.in_default.ensures.writes told).written)
       (λ told. g.met.D.Disk.lawful c.self.inside.disk told),
   streams_on c.self.inside.phase _ c.self.inside.current c.self.inside.next c.self.inside.stream.items c.self.invariant.1 (busy_at c.self.inside.phase Gate (ap (λ h. h.phase) c.self.view_is ∙ c.requires.phase) (λ is. absurd cc)) (λ is. absurd cc),
+  paging_on _ Gate Sync3 _ _ _ _ _ _ _ c.self.invariant.2 (ap (λ h. h.phase) c.self.view_is ∙ c.requires.phase) (λ is. absurd cc) refl (λ k is. absurd cc),
 )
 
 pub returns-clause-call : goal.returns-clause-call

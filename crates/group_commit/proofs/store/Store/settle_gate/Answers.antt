@@ -1,21 +1,36 @@
-use Rattle.std.proofs.Common.{ap, ◌∙◌, inl, inr, ◌⊎◌, sym}
+use Rattle.std.proofs.Common.{refl, ◌≡◌, ap, ◌∙◌, inl, inr, ◌⊎◌, sym}
 use Rattle.group_commit.specs.declared.error.StoreError.TheVariants.{SyncFailed}
 use Rattle.group_commit.proofs.store.Store.settle_gate.Goals as goal
-use Rattle.group_commit.specs.declared.phase.Phase.TheVariants.{Sync3}
+use Rattle.group_commit.specs.declared.phase.Phase.TheVariants.{Idle, Sync3}
+use Rattle.group_commit.specs.Paging.{taken_in}
+use Rattle.group_commit.proofs.PagingLemmas.{paging_failed, paging_through}
 use Rattle.group_commit.proofs.Streams.{streams_through, busy_at}
 use Rattle.group_commit.proofs.Sound.{sound_sync3, sound_sync_failed}
 use Rattle.group_commit.proofs.DeviceCall.{device_call}
+
+not_idle : Sync3 ≡ Idle → ⊥
+not_idle is = absurd cc
 
 pub invariant_of-self : goal.invariant_of-self
 invariant_of-self g c = (
   sound_sync_failed g.D.DiskFacts _ c.self.inside.roots.slot _ _ c.settle.new.disk c.self.invariant.0 (c.in-Err.ensures).tells.0 (c.in-Err.ensures).unsettled,
   c.self.invariant.1,
+  paging_failed _ Sync3 _ _ _ _ _ _ _ _ _ c.self.invariant.2 (ap (λ h. h.phase) c.self.view_is ∙ c.requires.phase) (λ is. absurd cc) refl refl,
 )
 
 pub returns-in-Err-clause-call : goal.returns-in-Err-clause-call
 returns-in-Err-clause-call g c =
     device_call g.D.DiskFacts _ 1 0 1 SyncFailed _ _ _ _ c.self.inside.roots.slot c.self.inside.roots.slot _ _ c.self.view_is c.self.invariant.0
     (invariant_of-self g c).0 (c.in-Err.ensures).tells (c.in-Err.ensures).call (λ told. g.met.D.Disk.lawful c.self.inside.disk told) (c.in-Err.ensures).refused
+
+pub adopt-requires : goal.adopt-requires
+adopt-requires g c =
+    let renews = c.self.invariant.2.renews (λ idle. not_idle (sym (ap (λ h. h.phase) c.self.view_is ∙ c.requires.phase) ∙ idle)) in
+    record {
+      tables = renews.tables_within;
+      data_pages = renews.within;
+      taken = rw (c.self.invariant.2.taken (ap (λ h. h.failed) c.self.view_is ∙ c.requires.works) ∙ ap (λ q. taken_in q c.self.inside.numbers.items) (ap (λ h. h.phase) c.self.view_is ∙ c.requires.phase)) renews.new_within;
+    }
 
 pub invariant_of-self-2 : goal.invariant_of-self-2
 invariant_of-self-2 g c = (
@@ -24,6 +39,7 @@ invariant_of-self-2 g c = (
       (c.in_default.ensures).tells.0 (c.in_default.ensures).settled
       (λ told. g.met.D.Disk.lawful c.self.inside.disk told) (ap (λ h. h.failed) c.self.view_is ∙ c.requires.works)),
   rw (c.swap.ensures.x_after, c.swap.ensures.y_after) (streams_through c.self.inside.phase c.self.inside.current c.self.inside.next c.self.inside.stream.items c.self.invariant.1 (busy_at c.self.inside.phase Sync3 (ap (λ h. h.phase) c.self.view_is ∙ c.requires.phase) (λ is. absurd cc))),
+  rw (c.swap.ensures.x_after, c.swap.ensures.y_after) (paging_through _ _ _ _ _ _ _ _ _ c.self.invariant.2 (ap (λ h. h.phase) c.self.view_is ∙ c.requires.phase) (ap (λ h. h.failed) c.self.view_is ∙ c.requires.works) c.adopt.ensures),
 )
 
 pub returns-clause-call : goal.returns-clause-call

@@ -1,4 +1,5 @@
-use Rattle.std.proofs.Common.{◌≡◌, ◌<◌, ◌++◌, ◌∙◌, length, ap, rules}
+use Rattle.std.proofs.Common.{◌≡◌, ◌<◌, ◌++◌, ◌∙◌, length, ap, Err, rules}
+use Rattle.doc_core.proofs.LawLemmas.{made_come}
 use Rattle.op_model.specs.Causality.{clock_of}
 use Rattle.op_model.specs.Made.{made, size_of}
 use Rattle.replica_core.proofs.FollowLemmas.{stream_fits}
@@ -46,3 +47,10 @@ returns-clause-made c =
     (held_of-edit c.self.inside.id c.self.inside.opened c.self.inside.settled c.self.inside.acked c.self.inside.told c.args.session c.len.result c.size.result
     c.self.inside.log c.append.new.self c.in_ok-made.made.items c.args.edit.now c.in_ok-copy.field-0
     c.in-Ok-append.ensures.ok items c.in_ok-copy.ensures first c.size.ensures.value right)
+
+pub unreachable-requires : goal.unreachable-requires
+unreachable-requires c =
+    let items : c.in_ok-made.made.items ≡ made c.self.inside.log.list.items c.self.inside.id c.args.edit.now = rw (← c.self.view_is) at c.in_ok-made.ensures.made in
+    let can = rw (← c.self.view_is) at c.requires in
+    let come = made_come c.self.inside.log.list.items c.self.inside.id c.args.edit.now (due_within c.self.inside.log.list.items c.self.inside.id c.args.edit.now can.due) in
+    c.append.ensures.known (c.in-Err-UnknownId.is ∙ ap Err c.in-Err-UnknownId.field-0-is) c.self.invariant.docs (rw items come)

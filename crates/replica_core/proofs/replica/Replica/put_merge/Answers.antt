@@ -1,4 +1,5 @@
-use Rattle.std.proofs.Common.{◌≡◌, [], ◌∷◌, length, rules}
+use Rattle.std.proofs.Common.{◌≡◌, [], ◌∷◌, ◌∙◌, length, ap, Err, refl, rules}
+use Rattle.doc_core.proofs.LawLemmas.{may_come}
 use Rattle.op_ids.specs.Clock.{advanced}
 use Rattle.replica_core.proofs.FollowLemmas.{stream_fits}
 use Rattle.replica_core.proofs.SoundLemmas.{AreFields-merge}
@@ -17,3 +18,9 @@ invariant_of-self-2 c =
     AreFields-merge c.self.inside.id c.self.inside.opened c.self.inside.settled c.self.inside.acked c.self.inside.told c.args.peer c.len.result
     c.self.inside.log c.append.new.self c.in_ok-made.made.items c.args.op c.self.inside.clock c.advance.new.self _
     c.self.invariant can counts c.in-Ok-append.ensures.ok c.in_ok-made.ensures at
+
+pub unreachable-requires : goal.unreachable-requires
+unreachable-requires c =
+    let can = rw (← c.self.view_is) at c.requires in
+    let come = may_come c.self.inside.log.list.items c.args.op.doc c.args.op can.joins.follows refl in
+    c.append.ensures.known (c.in-Err-UnknownId.is ∙ ap Err c.in-Err-UnknownId.field-0-is) c.self.invariant.docs (rw c.in_ok-made.ensures (come, tt))

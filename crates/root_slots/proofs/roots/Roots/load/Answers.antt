@@ -4,7 +4,7 @@ use Rattle.disk_trait.specs.File.{part}
 use Rattle.root_slots.specs.Slots.{live}
 use Rattle.root_slots.specs.Live.{live_root}
 use Rattle.root_slots.proofs.Faults.{names_on, quiet_slot}
-use Rattle.root_slots.proofs.Looking.{looks_then}
+use Rattle.page_file.proofs.Looking.{looks_then}
 use Rattle.root_slots.proofs.SlotReads.{live_root_first, live_first, live_on}
 use Rattle.root_slots.proofs.roots.Roots.load.Goals as goal
 

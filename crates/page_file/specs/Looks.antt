@@ -1,4 +1,4 @@
--- What calls do to a disk that write nothing.
+-- What calls that write nothing do to a disk.
 use Rattle.std.specs.Prelude.{◌≡◌, ℕ, ◌+◌, List}
 use Rattle.disk_trait.specs.Calls.{LeavesOnly}
 use Rattle.disk_trait.specs.declared.facts.DiskFacts.{Ghosts}

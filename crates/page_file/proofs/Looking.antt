@@ -3,7 +3,7 @@ use Rattle.std.proofs.Common.{ℕ, ◌+◌, List, ◌∙◌, arith}
 use Rattle.disk_trait.specs.Calls.{LeavesOnly}
 use Rattle.disk_trait.specs.declared.facts.DiskFacts.{Ghosts}
 use Rattle.disk_trait.proofs.Moments.{moments_then}
-use Rattle.root_slots.specs.Looks.{OnlyLooks}
+use Rattle.page_file.specs.Looks.{OnlyLooks}
 use Rattle.std.proofs.Common.{inl, inr}
 
 -- what a crash may leave at all moments, it may leave by a wider rule too

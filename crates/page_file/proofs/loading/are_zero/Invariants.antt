@@ -1,6 +1,6 @@
 use Rattle.std.proofs.Common.{◌≡◌, drop}
 use Rattle.page_file.specs.Pages.{is_zero}
-use Rattle.group_commit.proofs.load_pages.are_zero.Given as goal
+use Rattle.page_file.proofs.loading.are_zero.Given as goal
 
 -- what was passed is zero
 abbrev pub invariant-loop-number : goal.invariant-loop-number

@@ -1,0 +1,207 @@
+//! The live pages of a file, read from its table pages.
+ghost use Rattle.std.specs.Prelude.{◌≡◌, ◌⊎◌, ◌+◌, ◌*◌, ◌<◌, ◌≤◌, ◌↔◌, ◌++◌, true, false, [], length, Ok, Err, IfOk, IfErr, OnOk, vec_len, vec_capacity};
+ghost use Rattle.std.specs.List.Sorted.{IsPermutation};
+ghost use Rattle.disk_trait.specs.File.{part};
+ghost use Rattle.page_file.specs.Index.{live, AreOthers};
+ghost use Rattle.page_file.specs.Looks.{OnlyLooks};
+ghost use Rattle.page_file.specs.Pages.{page, pages, are_whole, joined, is_zero, are_pages};
+ghost use Rattle.page_file.specs.Putting.{failures_in};
+ghost use Rattle.page_file.specs.Tables.{reached_by, reached_in};
+ghost use Rattle.page_file.specs.declared.error.PageError.TheVariants.{Memory, BadTable, ReadFailed};
+
+use crate::error::PageError;
+use crate::gaps::{Gap, all_pages, take_page};
+use crate::numbers::take_numbers;
+use crate::pages::Pages;
+use disk_trait::Disk;
+use std::alloc::{AllocError, Global};
+
+// The bytes of a page.
+const PAGE: u64 = 4096;
+
+// Reads bytes that lie in the file. Refused with 50 where the device failed.
+fn read_inside<D: Disk>(disk: &mut D, at: u64, bytes: &mut [u8]) -> Result<(), PageError>
+    requires inside { D.tells disk.old → at + length bytes.old ≤ length (D.content disk.old) }
+    ensures read { D.tells disk.old
+        → OnOk result (bytes.new ≡ part (D.content disk.old) at (length bytes.old)) }
+    ensures looks { D.tells disk.old
+        → OnlyLooks D.DiskFacts (failures_in result) 0 disk.old disk.new }
+    ensures tells { D.tells disk.new ↔ D.tells disk.old }
+    ensures refused { IfErr result (λ e. e ≡ ReadFailed) }
+{
+    match disk.read_at(at, bytes) {
+        Ok(()) => Ok(()),
+        Err(_) => Err(PageError::ReadFailed),
+    }
+}
+
+// Appends the bytes of a page that lies whole in the file. Refused with 1 for want of memory, and with 50
+// where the device failed.
+fn append_page<D: Disk>(disk: &mut D, number: u32, out: &mut Vec<u8>) -> Result<(), PageError>
+    requires inside { D.tells disk.old → 4096 * number + 4096 ≤ length (D.content disk.old) }
+    ensures read { D.tells disk.old
+        → OnOk result (out.new.items ≡ out.old.items ++ page number (D.content disk.old)) }
+    ensures size { OnOk result (length out.new.items ≡ length out.old.items + 4096) }
+    ensures looks { D.tells disk.old
+        → OnlyLooks D.DiskFacts (failures_in result) 0 disk.old disk.new }
+    ensures tells { D.tells disk.new ↔ D.tells disk.old }
+    ensures refused { IfErr result (λ e. (e ≡ Memory) ⊎ (e ≡ ReadFailed)) }
+{
+    let mut bytes = [0; 4096];
+    read_inside(disk, PAGE * u64::from(number), &mut bytes)?;
+    out.extend_from_slice(&bytes)?;
+    Ok(())
+}
+
+// The bytes of pages that lie whole in the file, one behind the other. Refused with 1 for want of memory, and
+// with 50 where the device failed.
+fn read_pages<D: Disk>(alloc: Global, disk: &mut D, numbers: &[u32]) -> Result<Vec<u8>, PageError>
+    requires whole { D.tells disk.old → are_whole (pages numbers.now (D.content disk.old)) ≡ true }
+    ensures read { D.tells disk.old
+        → IfOk result (λ bytes. bytes.items ≡ joined (pages numbers.now (D.content disk.old))) }
+    ensures size { IfOk result (λ bytes. length bytes.items ≡ 4096 * length numbers.now) }
+    ensures looks { D.tells disk.old
+        → OnlyLooks D.DiskFacts (failures_in result) 0 disk.old disk.new }
+    ensures tells { D.tells disk.new ↔ D.tells disk.old }
+    ensures refused { IfErr result (λ e. (e ≡ Memory) ⊎ (e ≡ ReadFailed)) }
+{
+    let mut bytes = Vec::new(alloc);
+    for number in numbers {
+        append_page(disk, *number, &mut bytes)?;
+    }
+    Ok(bytes)
+}
+
+// Whether all of these numbers are zero.
+fn are_zero(numbers: &[u32]) -> bool
+    ensures { result ≡ is_zero numbers.now }
+{
+    for number in numbers {
+        if *number != 0 {
+            return false;
+        }
+    }
+    true
+}
+
+// Takes pages out of ranges that have all pages, and answers whether they lie behind the root slots and none of
+// them is there twice. The last ones come first: where the pages rise, each costs a few steps.
+fn take_pages(gaps: &mut Vec<Gap>, pages: &[u32]) -> bool
+    requires all { AreOthers [] gaps.old.items }
+    requires room { vec_len gaps.old + length pages.now ≤ vec_capacity gaps.old }
+    ensures value { result ≡ are_pages pages.now }
+    ensures others { result ≡ true → AreOthers pages.now gaps.new.items }
+    ensures size { vec_len gaps.new ≤ vec_len gaps.old + length pages.now }
+    ensures capacity { vec_capacity gaps.old ≤ vec_capacity gaps.new }
+{
+    for passed in 0..pages.len() {
+        let page = pages[pages.len() - passed - 1];
+        if !take_page(gaps, u64::from(page)) {
+            return false;
+        }
+    }
+    true
+}
+
+// These pages, sorted. An error is want of memory (1).
+fn sorted_of(alloc: Global, tables: &[u32], named: &[u32]) -> Result<Vec<u32>, AllocError>
+    ensures same { IfOk result
+        (λ sorted. IsPermutation (tables.now ++ named.now) sorted.items) }
+    ensures size { IfOk result
+        (λ sorted. vec_len sorted ≡ length tables.now + length named.now) }
+{
+    let mut sorted = Vec::new(alloc);
+    sorted.extend_from_slice(tables)?;
+    sorted.extend_from_slice(named)?;
+    sorted.sort_unstable();
+    Ok(sorted)
+}
+
+// The live pages of a root with these table pages and data pages. Refused with 45 where one of them is a root
+// slot or stands twice, and with 1 for want of memory.
+fn index_of(alloc: Global, tables: &[u32], named: &[u32]) -> Result<Pages, PageError>
+    requires few { length tables.now + length named.now ≤ 1073741824 }
+    ensures value { IfOk result (λ it. it ≡ record {
+      tables = tables.now;
+      data_pages = named.now;
+      taken = [];
+      room = 0;
+    }) }
+    ensures apart { IfOk result (λ _. are_pages (tables.now ++ named.now) ≡ true) }
+    ensures fault { IfErr result
+        (λ e. e ≡ BadTable → are_pages (tables.now ++ named.now) ≡ false) }
+    ensures refused { IfErr result (λ e. (e ≡ Memory) ⊎ (e ≡ BadTable)) }
+{
+    let sorted = sorted_of(alloc, tables, named)?;
+    let mut gaps = all_pages(alloc, 2 * sorted.len())?;
+    if !take_pages(&mut gaps, &sorted) {
+        return Err(PageError::BadTable);
+    }
+    Ok(Pages {
+        tables: Vec::from_slice(alloc, tables)?,
+        data_pages: Vec::from_slice(alloc, named)?,
+        taken: Vec::new(alloc),
+        gaps,
+        room: 0,
+    })
+}
+
+// The live pages of a root with these table pages, in which so many numbers are found, of so many data pages.
+// Refused with 45 where a page is a root slot or stands twice, where a number is left behind the data pages, or
+// where there are fewer; and with 1 for want of memory.
+fn pages_of(alloc: Global, tables: &[u32], count: u64, found: &[u32]) -> Result<Pages, PageError>
+    requires few { length tables.now + length found.now ≤ 1073741824 }
+    ensures value { IfOk result (λ it. reached_by tables.now count found.now ≡ Ok (live it)) }
+    ensures apart { IfOk result (λ it. are_pages (live it) ≡ true) }
+    ensures parts { IfOk result (λ it. (it.tables ≡ tables.now) × (length it.data_pages ≡ count)
+        × (it.taken ≡ []) × (it.room ≡ 0)) }
+    ensures fault { IfErr result (λ e. e ≡ BadTable → (length found.now < count)
+        ⊎ (reached_by tables.now count found.now ≡ Err 45)) }
+    ensures refused { IfErr result (λ e. (e ≡ Memory) ⊎ (e ≡ BadTable)) }
+{
+    if count > found.len() as u64 {
+        return Err(PageError::BadTable);
+    }
+    let (named, rest) = found.split_at(count as usize);
+    if !are_zero(rest) {
+        return Err(PageError::BadTable);
+    }
+    index_of(alloc, tables, named)
+}
+
+impl Pages {
+    /// The live pages of a root: these table pages, which lie whole in the file, and the data pages that they
+    /// name. It reads each table page once, in 4,096 bytes of memory a page, and besides takes some 36 bytes of
+    /// memory a live page, and the steps of a sort.
+    ///
+    /// Refuses with 45 where a page is a root slot or stands twice, where a number is left behind those of
+    /// the data pages, or where there are fewer; with 50 where the device failed; and with 1 for want of
+    /// memory.
+    pub fn load<D: Disk>(
+        alloc: Global,
+        disk: &mut D,
+        tables: &[u32],
+        data_pages: u64,
+    ) -> Result<Pages, PageError>
+        requires whole { D.tells disk.old
+            → are_whole (pages tables.now (D.content disk.old)) ≡ true }
+        requires few { length tables.now ≤ 256 }
+        ensures value { D.tells disk.old → IfOk result
+            (λ it. reached_in tables.now data_pages (D.content disk.old) ≡ Ok (live it)) }
+        ensures apart { IfOk result (λ it. are_pages (live it) ≡ true) }
+        ensures parts { IfOk result (λ it. (it.tables ≡ tables.now)
+            × (length it.data_pages ≡ data_pages) × (it.taken ≡ []) × (it.room ≡ 0)) }
+        ensures fault { D.tells disk.old → IfErr result (λ e. e ≡ BadTable
+            → (1024 * length tables.now < data_pages)
+            ⊎ (reached_in tables.now data_pages (D.content disk.old) ≡ Err 45)) }
+        ensures refused { IfErr result
+            (λ e. (e ≡ Memory) ⊎ ((e ≡ BadTable) ⊎ (e ≡ ReadFailed))) }
+        ensures looks { D.tells disk.old
+            → OnlyLooks D.DiskFacts (failures_in result) 0 disk.old disk.new }
+        ensures tells { D.tells disk.new ↔ D.tells disk.old }
+    {
+        let bytes = read_pages(alloc, disk, tables)?;
+        let found = take_numbers(alloc, &bytes, 1024 * tables.len())?;
+        pages_of(alloc, tables, data_pages, &found)
+    }
+}
