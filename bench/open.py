@@ -4,6 +4,7 @@ The files are of 10^4, 10^5 and 10^6 inserts of one replica, typed at the end, a
 documents in turn. Each is opened by a dump of a document that has no operations. The memory is the greatest resident set of the
 program, and is given for each operation beside its record in the file."""
 
+import multiprocessing
 import os
 import subprocess
 import sys
@@ -11,6 +12,13 @@ import tempfile
 import time
 
 import store_file
+
+
+def make(name, count, shape):
+    """Makes a file in a process of its own, whose memory the opening doesn't inherit."""
+    maker = multiprocessing.get_context("spawn").Process(target=store_file.make, args=(name, count, shape))
+    maker.start()
+    maker.join()
 
 
 def opened(program, name):
@@ -28,7 +36,7 @@ def main():
         for shape in store_file.SHAPES:
             for count in counts:
                 name = os.path.join(room, str(count))
-                store_file.make(name, count, shape)
+                make(name, count, shape)
                 took, memory, status = opened(program, name)
                 size = os.path.getsize(name)
                 print(

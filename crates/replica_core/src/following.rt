@@ -41,8 +41,8 @@ pub fn may_follow(ops: &[Op], clock: &Clock, index: &Index, op: &Op, has_place: 
 
 /// Of an operation that is ready, the first check that fails: `Counter` (21), `Names` (22),
 /// `Document` (23), `StoreLimit` (24); it is known whether there are at most 1,024 documents with
-/// its own. Takes no memory. A few steps for clocks, and a binary search
-/// for each character that it names.
+/// its own. Takes no memory. A few steps for clocks, and a binary search for each character that it
+/// names.
 pub fn first_failed(
     ops: &[Op],
     clock: &Clock,

@@ -10,7 +10,8 @@ use op_ids::OpId;
 use op_model::{Body, Op};
 
 /// Whether an insert of the operation's document with this id is among the operations that its deps
-/// cover. Takes no memory. A binary search among the operations of the id's replica.
+/// cover. Takes no memory. A few steps where the id's replica edits alone, else a binary search among
+/// its operations.
 pub fn is_covered_insert(ops: &[Op], index: &Index, op: &Op, id: &OpId) -> bool
     requires closed { IsCausallyClosed ops.now }
     requires index { IsIndexOf index.now ops.now }
@@ -34,8 +35,38 @@ fn first(places: &[u32], count: usize) -> &[u32]
 }
 
 /// Whether one of the operations at these indexes inserts the character of an id into a document.
-/// Their counters rise, so it is searched by halves.
+/// It is looked for first where it stands if their replica made all counters in between.
 fn has_insert(ops: &[Op], places: &[u32], doc: u32, id: &OpId) -> bool
+    requires below { AreBelow (length ops.now) places.now }
+    requires climb { Climb (at_places ops.now places.now) }
+    ensures { result ≡ list_any (λ op. is_same op.id id.now && op.doc == doc && is_insert_of op.body)
+        (at_places ops.now places.now) }
+{
+    let guess = guessed(ops, places, id.counter());
+    if guess < places.len() {
+        let op = op_at(ops, places, guess);
+        if op.id.counter() == id.counter() {
+            return is_insert_at(op, doc, id);
+        }
+    }
+    has_insert_by_halves(ops, places, doc, id)
+}
+
+/// Which of the operations at these indexes has a counter, if their replica made all counters in
+/// between.
+fn guessed(ops: &[Op], places: &[u32], counter: u64) -> usize
+    requires { AreBelow (length ops.now) places.now }
+{
+    if places.is_empty() {
+        return 0;
+    }
+    let first = op_at(ops, places, 0).id.counter();
+    counter.saturating_sub(first) as usize
+}
+
+/// Whether one of the operations at these indexes inserts the character of an id into a document.
+/// Their counters rise, so it is searched by halves.
+fn has_insert_by_halves(ops: &[Op], places: &[u32], doc: u32, id: &OpId) -> bool
     requires below { AreBelow (length ops.now) places.now }
     requires climb { Climb (at_places ops.now places.now) }
     ensures { result ≡ list_any (λ op. is_same op.id id.now && op.doc == doc && is_insert_of op.body)

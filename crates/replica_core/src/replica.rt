@@ -83,8 +83,10 @@ impl Replica {
 
     /// The replica as it is after opening a store with this list: all of it is settled.
     /// `BadOperation` (47) exactly where the list isn't causally closed; `Memory` (1) says nothing
-    /// of that. For each operation a few steps for clocks, a binary search for each character that
-    /// it names, and what its document takes for it.
+    /// of that. Two passes over the list: for each operation a few steps for clocks, a search
+    /// by halves for its document, a binary search for each character that it names (a few steps where its
+    /// replica edits alone), and for an insert a step for each greater id that follows its origin.
+    /// For each character 72 bytes, of which 40 are given back.
     pub fn from_list(alloc: Global, id: ReplicaId, list: Vec<Op>) -> Result<Replica, Refusal>
         ensures opened { IfOk result (λ r. r ≡ opened_with id list.items) }
         ensures closed { OnOk result (IsCausallyClosed list.items) }

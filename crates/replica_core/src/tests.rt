@@ -369,11 +369,16 @@ fn edit_at(alloc: Global, peer: &mut Replica, doc: u32, at: u32) -> Result<(), F
 }
 
 /// Edits both documents of three peers, and gives each the operations of the others.
-fn exchange(alloc: Global, peers: [&mut Replica; 3], at: u32) -> Result<(), Fail> {
-    let [a, b, c] = peers;
+fn exchange(
+    alloc: Global,
+    a: &mut Replica,
+    b: &mut Replica,
+    c: &mut Replica,
+    at: u32,
+) -> Result<(), Fail> {
     for doc in 1u32..3 {
         edit_at(alloc, a, doc, at)?;
-        edit_at(alloc, b, doc, 7 - at)?;
+        edit_at(alloc, b, doc, at / 2)?;
         edit_at(alloc, c, doc, 4)?;
     }
     merge_all(a, b)?;
@@ -391,7 +396,7 @@ fn merged(alloc: Global) -> Result<Replica, Fail> {
     merge_all(&mut b, &a)?;
     merge_all(&mut c, &a)?;
     for at in 0u32..6 {
-        exchange(alloc, [&mut a, &mut b, &mut c], at)?;
+        exchange(alloc, &mut a, &mut b, &mut c, at)?;
     }
     Ok(a)
 }

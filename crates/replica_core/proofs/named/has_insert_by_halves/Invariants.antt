@@ -4,7 +4,7 @@ use Rattle.std.specs.List.{list_any}
 use Rattle.op_ids.specs.Id.{is_same}
 use Rattle.op_model.specs.Causality.{is_insert}
 use Rattle.replica_core.specs.Makers.{at_places, AreBelow, Climb}
-use Rattle.replica_core.proofs.named.has_insert.Given as goal
+use Rattle.replica_core.proofs.named.has_insert_by_halves.Given as goal
 
 -- the rest decides
 abbrev pub invariant-loop-rest : goal.invariant-loop-rest
