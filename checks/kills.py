@@ -8,7 +8,7 @@ import subprocess
 import threading
 import time
 
-from program import PAGE, insert, new_file, run, write
+from program import PAGE, insert, line, new_file, run, write
 from words import record, slot, table
 
 # Of a kind of killed sessions: how many, of how many edits each, of how many characters, and up to how many edits in a file.
@@ -25,10 +25,11 @@ def token(i, length):
 
 
 def text_of(program, name):
-    status, output, faults = run(program, "dump", name, "1")
+    """The text that a session finds. A dump shows the spans too, which take long for a large document."""
+    status, output, faults = run(program, "edit", name, lines=line(op="text", doc=1))
     if status != 0:
         return faults.decode()
-    return json.loads(output.splitlines()[0])["text"]
+    return json.loads(output)["text"]
 
 
 def killed_session(program, name, lines, after):
