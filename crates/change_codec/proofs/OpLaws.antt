@@ -11,6 +11,7 @@ use Rattle.change_codec.specs.declared.codec_error.CodecError.TheVariants.{Lengt
 use Rattle.change_codec.specs.declared.head.Head.{Head}
 use Rattle.change_codec.specs.declared.content.Kind.{Kind}
 use Rattle.change_codec.specs.declared.content.Kind.TheVariants as kind
+use Rattle.change_codec.specs.Heads.{kind_of, head_of}
 use Rattle.change_codec.specs.Spelling.{number_bytes, id_bytes, deps_bytes, origin_bytes, mark_bytes, key_bytes, start_bytes, end_bytes, kind_byte, content_bytes, body_bytes}
 use Rattle.change_codec.specs.Reading.{◌>>=◌, number_at, id_at, deps_at, origin_at, scalar_at, mark_at, key_at, span_at, kind_at, content_at, body_at, head_at, op_at}
 use Rattle.change_codec.specs.Fits.{IsId, IsContent, IsOperation}
@@ -25,13 +26,6 @@ tag_of kind.Insert = 1
 tag_of kind.Remove = 2
 tag_of kind.AddMark = 3
 tag_of kind.RemoveMark = 4
-
--- the kind of an operation's record
-abbrev kind_of : Body → Kind
-kind_of (Insert origin value) = kind.Insert
-kind_of (Remove target) = kind.Remove
-kind_of (AddMark mark from to) = kind.AddMark
-kind_of (RemoveMark mark from to) = kind.RemoveMark
 
 kind_takes : (bytes : List ℕ) (x : Kind × List ℕ) → IsBytes bytes → kind_at bytes ≡ Ok x → Takes bytes (tag_of x.0 ∷ []) x.1
 unfolding kind_at
@@ -159,4 +153,22 @@ op_again op fits =
       id_again op.id (deps_bytes op.deps ++ content_bytes op.body) fits.id,
       deps_again op.deps (content_bytes op.body) fits.deps fits.replicas,
       body_again op.body fits.body,
+    ) refl
+
+-- what a body begins with, whatever follows it
+pub head_again : (op : Op) (rest : List ℕ) → IsOperation op
+    → head_at (body_bytes op ++ rest) ≡ Ok (head_of op, (deps_bytes op.deps ++ content_bytes op.body) ++ rest)
+unfolding head_at body_bytes
+head_again op rest fits =
+    let tail = (deps_bytes op.deps ++ content_bytes op.body) ++ rest in
+    let doc = number_bytes w32 op.doc in
+    let id = id_bytes op.id in
+    let regrouped : (doc ++ (id ++ (deps_bytes op.deps ++ content_bytes op.body))) ++ rest ≡ doc ++ (id ++ tail) =
+    append_assoc doc (id ++ (deps_bytes op.deps ++ content_bytes op.body)) rest
+    ∙ ap (λ (w : List ℕ). doc ++ w) (append_assoc id (deps_bytes op.deps ++ content_bytes op.body) rest) in
+    ap (λ (w : List ℕ). head_at (kind_byte op.body ∷ w)) regrouped
+    ∙ rw (
+      kind_again op.body (doc ++ (id ++ tail)),
+      number_again w32 (2 ^ 32) wide32 op.doc (id ++ tail) fits.doc,
+      id_again op.id tail fits.id,
     ) refl

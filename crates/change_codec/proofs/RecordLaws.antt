@@ -22,13 +22,15 @@ use Rattle.op_model.specs.declared.mark.MarkKey.TheVariants as key
 use Rattle.change_codec.specs.declared.codec_error.CodecError.{CodecError}
 use Rattle.change_codec.specs.declared.codec_error.CodecError.TheVariants.{Memory, Length}
 use Rattle.change_codec.specs.Spelling.{number_bytes, body_bytes, spelled}
+use Rattle.change_codec.specs.declared.head.Head.{Head}
+use Rattle.change_codec.specs.Heads.{head_of}
 use Rattle.change_codec.specs.Fits.{IsMark, IsContent, IsOperation}
-use Rattle.change_codec.specs.Reading.{◌>>=◌, op_at}
-use Rattle.change_codec.specs.Record.{record_at, length_at, taken, first_fault, fault_of, IsPartial, Begins, BeginsWithSome, Answers}
+use Rattle.change_codec.specs.Reading.{◌>>=◌, head_at, op_at}
+use Rattle.change_codec.specs.Record.{record_at, length_at, taken, found_length, first_fault, fault_of, IsPartial, Begins, BeginsWithSome, Answers}
 use Rattle.change_codec.proofs.Steps.{IsBytes, IsBytes-take, IsBytes-drop, bind_ok, done}
 use Rattle.change_codec.proofs.Numbers.{wide32}
-use Rattle.change_codec.proofs.Lengths.{length_body}
-use Rattle.change_codec.proofs.OpLaws.{op_takes, op_again}
+use Rattle.change_codec.proofs.Lengths.{length_body, length_spelled}
+use Rattle.change_codec.proofs.OpLaws.{op_takes, op_again, head_again}
 use Rattle.change_codec.proofs.Clean.{no_memory}
 
 -- ---- how long a body is
@@ -278,3 +280,55 @@ pub memory_some : (bytes : List ℕ) (r : Result (Option (Op × ℕ)) CodecError
 memory_some bytes (Ok found) fits answers is = absurd cc
 memory_some bytes (Err d) fits (inl fault) is = absurd (no_memory bytes (fault ∙ is))
 memory_some bytes (Err d) fits (inr (memory, found)) is = (found.0.0, found.0.1, taken_begins bytes found.0.0 found.0.1 fits found.1)
+
+-- ---- what is known of a record without an operation
+
+-- what was found has its length
+skipped_begins : (bytes : List ℕ) (n : ℕ) → IsBytes bytes → found_length (taken bytes) ≡ Some n → (op : Op) × Begins bytes op n
+skipped_begins bytes n fits is =
+    let found = found_is (taken bytes) n is in
+    (found.0, taken_begins bytes found.0 n fits found.1)
+  where
+    found_is : (r : Result (Option (Op × ℕ)) CodecError) (n : ℕ) → found_length r ≡ Some n → (op : Op) × (r ≡ Ok (Some (op, n)))
+    found_is (Ok (Some f)) n is = (f.0, let same : f.1 ≡ n = cc in ap (λ (k : ℕ). done (Some (f.0, k))) same)
+    found_is (Ok None) n is = absurd cc
+    found_is (Err e) n is = absurd cc
+
+-- the same of an answer
+pub skipped_some : (bytes : List ℕ) (r : Option ℕ) → IsBytes bytes → r ≡ found_length (taken bytes) → IfSome r (λ n. (op : Op) × Begins bytes op n)
+skipped_some bytes (Some n) fits is = skipped_begins bytes n fits (sym is)
+skipped_some bytes None fits is = tt
+
+-- where nothing was found, there is none
+pub none_skipped : (bytes : List ℕ) (op : Op) (n : ℕ) → found_length (taken bytes) ≡ None → Begins bytes op n → ⊥
+none_skipped bytes op n none begins =
+    let found : found_length (taken bytes) ≡ Some n = ap found_length (begins_taken bytes op n begins) in
+    cc
+
+-- the head stands behind the length
+pub head_behind : (bytes : List ℕ) (op : Op) (n : ℕ) → Begins bytes op n → (rest : List ℕ) × (head_at (drop 4 bytes) ≡ Ok (head_of op, rest))
+unfolding spelled number_bytes
+head_behind bytes op n b =
+    let front : List ℕ = to_be_bytes w32 (length (body_bytes op)) in
+    let rest = drop n bytes in
+    let whole : (front ++ body_bytes op) ++ rest ≡ bytes = ap (λ (w : List ℕ). w ++ rest) (sym b.spelled_so) ∙ take-append-drop n bytes in
+    let behind : drop 4 bytes ≡ body_bytes op ++ rest = ap (drop 4) (sym whole ∙ append_assoc front (body_bytes op) rest) ∙ drop_at front (body_bytes op ++ rest) 4 refl in
+    (_, ap head_at behind ∙ head_again op rest b.fits)
+
+-- a record begins with four bytes
+pub begins_four : (bytes : List ℕ) (op : Op) (n : ℕ) → Begins bytes op n → 4 ≤ length bytes
+begins_four bytes op n b = omega (arith, ap length b.spelled_so, length-take n bytes, length_spelled op, b.whole)
+
+-- what was read as a head is the operation's
+pub read_head : (bytes : List ℕ) (op : Op) (n : ℕ) (head : Head) (rest : List ℕ) → Begins bytes op n → head_at (drop 4 bytes) ≡ Ok (head, rest) → head ≡ head_of op
+read_head bytes op n head rest b read = let same = head_is (head, rest) (head_of op, behind.0) (sym read ∙ behind.1) in same
+  where
+    behind : (rest : List ℕ) × (head_at (drop 4 bytes) ≡ Ok (head_of op, rest))
+    behind = head_behind bytes op n b
+
+    head_is : (x y : Head × List ℕ) → done x ≡ done y → x.0 ≡ y.0
+    head_is x y e = cc
+
+-- a head can be read
+pub some_head : (bytes : List ℕ) (op : Op) (n : ℕ) (e : CodecError) → Begins bytes op n → head_at (drop 4 bytes) ≡ Err e → ⊥
+some_head bytes op n e b read = let behind = head_behind bytes op n b in let found = behind.1 in cc

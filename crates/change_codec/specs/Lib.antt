@@ -1,6 +1,7 @@
 pub mod Spelling
 pub mod Writing
 pub mod Fits
+pub mod Heads
 pub mod Reading
 pub mod Lent
 pub mod Record

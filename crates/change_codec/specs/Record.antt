@@ -49,3 +49,9 @@ BeginsWithSome bytes = (op : Op) × (n : ℕ) × Begins bytes op n
 abbrev pub Answers : Result (Option (Op × ℕ)) CodecError → Result (Option (Op × ℕ)) CodecError → Type 0
 Answers (Ok found) read = read ≡ Ok found
 Answers (Err e) read = (read ≡ Err e) ⊎ ((e ≡ Memory) × ((found : Op × ℕ) × (read ≡ Ok (Some found))))
+
+-- how many bytes the operation takes that was found, if one was
+abbrev pub found_length : Result (Option (Op × ℕ)) CodecError → Option ℕ
+found_length (Ok (Some found)) = Some found.1
+found_length (Ok None) = None
+found_length (Err e) = None

@@ -12,13 +12,17 @@ pub mod laws;
 mod mark;
 mod measure;
 mod number;
+mod peek;
 mod record;
 mod stream;
 mod stream_error;
 
 pub use codec_error::CodecError;
+pub use content::Kind;
 pub use fits::every_op_has_a_spelling;
+pub use head::Head;
 pub use measure::record_len;
+pub use peek::{record_head, skip_op};
 pub use record::{put_op, take_op};
 pub use stream::{put_ops, stream_length, take_ops};
 pub use stream_error::StreamError;

@@ -304,3 +304,21 @@ fn what_is_no_stream_is_refused(rt: HostRuntime) -> Result<(), Fail> {
     }
     Ok(())
 }
+
+#[test]
+fn a_record_is_passed_without_memory(rt: HostRuntime) -> Result<(), Fail> {
+    let bytes = bytes_of(rt.alloc(), STRONG_TO_THE_END)?;
+    assert_eq!(rt; skip_op(&bytes), Some(85));
+    let head = head_of(&bytes)?;
+    assert!(rt; head.kind == Kind::AddMark);
+    assert_eq!(rt; head.doc, 1);
+    assert_eq!(rt; head.id, id(2)?);
+    assert!(rt; skip_op(&bytes[..bytes.len() / 2]).is_none());
+    Ok(())
+}
+
+/// What the record at the front begins with.
+fn head_of(bytes: &[u8]) -> Result<Head, Fail> {
+    skip_op(bytes).ok_or("no record")?;
+    Ok(record_head(bytes))
+}

@@ -9,6 +9,7 @@ pub mod ImageReads
 pub mod Inside
 pub mod KeptLemmas
 pub mod ManyPages
+pub mod NamedLemmas
 pub mod NewFileLemmas
 pub mod OneSpelling
 pub mod PageReads
@@ -23,4 +24,6 @@ pub mod Sound
 pub mod Steps
 pub mod StreamReads
 pub mod Streams
+pub mod TailLemmas
+pub mod WrittenWalks
 pub mod ZeroLemmas

@@ -1,5 +1,5 @@
 -- A root as a file has it.
-use Rattle.std.specs.Prelude.{◌≡◌, ℕ, true, List, ◌++◌, length, take}
+use Rattle.std.specs.Prelude.{◌≡◌, ℕ, ◌*◌, ◌/◌, true, List, ◌++◌, length, take, drop}
 use Rattle.page_file.specs.Pages.{are_pages}
 use Rattle.root_slots.specs.Root.{is_root, tables_of, data_count, stream_length_of, pages_for}
 use Rattle.root_slots.specs.Body.{Root, Spells}
@@ -22,6 +22,10 @@ with_stream root bytes = record { body = root.body; stream = bytes; pages = root
 -- a root whose stream stands at the front of these bytes
 abbrev pub in_front : Paged → List ℕ → Saved
 in_front root bytes = with_stream root (take (stream_length_of root.body) bytes)
+
+-- the bytes of a stream behind its full pages: fewer than 4,096, and none where it ends at a page's end
+abbrev pub tail_of : List ℕ → List ℕ
+tail_of bytes = drop (4096 * (length bytes / 4096)) bytes
 
 -- a root has as many data pages as its stream takes, and none of its pages is there twice
 pub record IsInMemory (head : Root) (data_pages : List ℕ) : Type 0 where

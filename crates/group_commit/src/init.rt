@@ -15,6 +15,7 @@ use crate::init_fault::{InitError, InitFault};
 use crate::phase::Phase;
 use crate::root::Root;
 use crate::store::Store;
+use crate::stream_tail::StreamTail;
 use disk_trait::Disk;
 use op_ids::ReplicaId;
 use page_file::Pages;
@@ -261,7 +262,7 @@ impl<D: Disk> Store<D> {
                 pages,
                 kept: 0,
                 new_data: 0,
-                stream: Vec::new(alloc),
+                stream: StreamTail::new(alloc),
                 roots: Roots::of_new_file(),
                 failed: false,
                 numbers: Vec::new(alloc),

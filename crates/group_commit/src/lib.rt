@@ -19,6 +19,8 @@ mod root;
 mod state;
 mod step;
 mod store;
+mod stream_tail;
+mod written;
 
 pub use error::StoreError;
 pub use init_fault::{InitError, InitFault};

@@ -11,7 +11,7 @@ use crate::phase::Phase;
 use crate::store::Store;
 use disk_trait::Disk;
 use op_ids::ReplicaId;
-use op_model::Op;
+use op_list::OpList;
 use std::alloc::Global;
 
 /// A file that was opened: its store, the replica that it belongs to, and its operations.
@@ -19,7 +19,7 @@ use std::alloc::Global;
 pub struct Loaded<D: Disk> {
     pub store: Store<D>,
     pub replica: ReplicaId,
-    pub ops: Vec<Op>,
+    pub ops: OpList,
 }
 
 impl<D: Disk> Store<D> {
@@ -33,12 +33,13 @@ impl<D: Disk> Store<D> {
     /// any of these where a growth of memory was refused. A refusal hands the disk back.
     ///
     /// One sync, one `size`, one read of the two slots and one of each page that the live root reaches.
-    /// The stream and the pages' numbers are held in memory, besides the operations. The page numbers are
-    /// sorted, to see that none is there twice.
+    /// The stream is held in memory once, as the records of its operations; the store itself holds its bytes
+    /// behind the full pages, fewer than 4,096, and the pages' numbers, four bytes each. These are sorted, to
+    /// see that none is there twice.
     pub fn load(alloc: Global, mut disk: D) -> Result<Loaded<D>, OpenFault<D>>
         // The live root of the file, and its operations.
         ensures root { D.tells disk → IfOk result (λ it. Is it.store.current (D.content disk)) }
-        ensures history { IfOk result (λ it. IsHistory it.store.current it.replica it.ops.items) }
+        ensures history { IfOk result (λ it. IsHistory it.store.current it.replica it.ops) }
         ensures idle { IfOk result (λ it. (it.store.phase ≡ Idle) × (it.store.failed ≡ false)) }
         ensures slot { D.tells disk → IfOk result
             (λ it. live (D.content disk) ≡ Ok it.store.slot) }

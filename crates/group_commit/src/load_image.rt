@@ -16,8 +16,10 @@ use crate::load_stream::{Stream, read_stream};
 use crate::open_fault::OpenError;
 use crate::reading::settle_file;
 use crate::root::Root;
+use crate::stream_tail::StreamTail;
+use crate::written::Written;
 use disk_trait::Disk;
-use op_model::Op;
+use op_list::OpList;
 use page_file::Pages;
 use root_slots::{LoadedRoots, RootBody, Roots};
 use std::alloc::{AllocError, Global};
@@ -30,8 +32,8 @@ pub(crate) struct Image {
     pub current: Root,
     pub next: Root,
     pub pages: Pages,
-    pub stream: Vec<u8>,
-    pub ops: Vec<Op>,
+    pub stream: StreamTail,
+    pub ops: OpList,
 }
 
 // The root slots of a file, and its live root. 42 where it has fewer than 8,192 bytes or no open slot; 43
@@ -64,7 +66,7 @@ fn bytes_are_small(bytes: &[u8])
 fn root_pair(
     alloc: Global,
     head: RootBody,
-    data_pages: Vec<u32>,
+    data_pages: Written<u32>,
 ) -> Result<(Root, Root), AllocError>
     requires { IsInMemory head data_pages.items }
     ensures pages { IfOk result (λ it. it.0.pages ≡ head.tables ++ data_pages.items) }
@@ -89,20 +91,19 @@ fn roots_on(alloc: Global, head: RootBody, pages: &Pages) -> Result<(Root, Root)
     ensures other { IfOk result (λ it. stream_length_of it.1.body ≡ 0) }
 {
     let (_, data_pages) = pages.live();
-    let data_pages = Vec::from_slice(alloc, data_pages)?;
-    root_pair(alloc, head, data_pages)
+    root_pair(alloc, head, Written::new().and(data_pages))
 }
 
 /// What a file stands for. It refuses as [`Store::load`](crate::Store::load) does.
 pub(crate) fn read_image<D: Disk>(alloc: Global, disk: &mut D) -> Result<Image, OpenError>
     ensures slot { IfOk result (λ it. it.roots.slot < 2) }
     ensures stands { D.tells disk.old → IfOk result
-        (λ it. Stands Idle it.roots.slot it.roots.stale (with_stream it.current it.stream.items)
-        (in_front it.next it.stream.items) (D.content disk.old)) }
-    ensures history { IfOk result (λ it. IsHistory (with_stream it.current it.stream.items)
-        (replica_of it.current.body) it.ops.items) }
+        (λ it. Stands Idle it.roots.slot it.roots.stale (with_stream it.current it.stream)
+        (in_front it.next it.stream) (D.content disk.old)) }
+    ensures history { IfOk result (λ it. IsHistory (with_stream it.current it.stream)
+        (replica_of it.current.body) it.ops) }
     ensures long { IfOk result
-        (λ it. length it.stream.items ≡ stream_length_of it.current.body) }
+        (λ it. length it.stream ≡ stream_length_of it.current.body) }
     ensures other { IfOk result (λ it. stream_length_of it.next.body ≡ 0) }
     ensures index { IfOk result
         (λ it. (IsIndexOf it.current it.pages) × (it.pages.taken ≡ [])) }
@@ -116,15 +117,16 @@ pub(crate) fn read_image<D: Disk>(alloc: Global, disk: &mut D) -> Result<Image, 
         root,
         file_size,
     } = load_roots(alloc, disk)?;
-    let stream = read_stream(alloc, disk, file_size, &root)?;
-    let ops = ops_of(alloc, &stream.bytes, root.operations())?;
-    let (current, next) = roots_on(alloc, root, &stream.pages)?;
+    let Stream { pages, bytes } = read_stream(alloc, disk, file_size, &root)?;
+    let stream = StreamTail::new(alloc).and(&bytes)?;
+    let ops = ops_of(alloc, bytes, root.operations())?;
+    let (current, next) = roots_on(alloc, root, &pages)?;
     Ok(Image {
         roots,
         current,
         next,
-        pages: stream.pages,
-        stream: stream.bytes,
+        pages,
+        stream,
         ops,
     })
 }
@@ -134,12 +136,12 @@ pub(crate) fn read_image<D: Disk>(alloc: Global, disk: &mut D) -> Result<Image, 
 pub(crate) fn settle_and_read<D: Disk>(alloc: Global, disk: &mut D) -> Result<Image, OpenError>
     ensures slot { IfOk result (λ it. it.roots.slot < 2) }
     ensures stands { D.tells disk.old → IfOk result
-        (λ it. Stands Idle it.roots.slot it.roots.stale (with_stream it.current it.stream.items)
-        (in_front it.next it.stream.items) (D.content disk.old)) }
-    ensures history { IfOk result (λ it. IsHistory (with_stream it.current it.stream.items)
-        (replica_of it.current.body) it.ops.items) }
+        (λ it. Stands Idle it.roots.slot it.roots.stale (with_stream it.current it.stream)
+        (in_front it.next it.stream) (D.content disk.old)) }
+    ensures history { IfOk result (λ it. IsHistory (with_stream it.current it.stream)
+        (replica_of it.current.body) it.ops) }
     ensures long { IfOk result
-        (λ it. length it.stream.items ≡ stream_length_of it.current.body) }
+        (λ it. length it.stream ≡ stream_length_of it.current.body) }
     ensures other { IfOk result (λ it. stream_length_of it.next.body ≡ 0) }
     ensures index { IfOk result
         (λ it. (IsIndexOf it.current it.pages) × (it.pages.taken ≡ [])) }

@@ -1,25 +1,26 @@
 //! The operations of a stream.
-ghost use Rattle.std.specs.Prelude.{◌≡◌, ◌≢◌, ◌⊎◌, List, length, IfOk, IfErr};
+ghost use Rattle.std.specs.Prelude.{◌≡◌, ◌≢◌, ◌≤◌, ◌⊎◌, List, length, IfOk, IfErr};
 ghost use Rattle.op_model.specs.declared.op.Op.{Op as Operation};
 ghost use Rattle.change_codec.specs.Stream.{spelled_all, AreOperations};
 ghost use Rattle.group_commit.specs.Loading.{HasNone};
 ghost use Rattle.group_commit.specs.declared.open_fault.OpenError.TheVariants.{Memory, BadStream};
 
 use crate::open_fault::OpenError;
-use change_codec::{StreamError, take_ops};
-use op_model::Op;
+use change_codec::StreamError;
+use op_list::OpList;
 use std::alloc::Global;
 
 /// The operations whose records a stream is, as many as there have to be; 46 where it isn't, and 1 for want
-/// of memory.
-pub(crate) fn ops_of(alloc: Global, stream: &[u8], count: u64) -> Result<Vec<Op>, OpenError>
-    ensures spelled { IfOk result (λ ops. spelled_all ops.items ≡ stream.now) }
-    ensures fits { IfOk result (λ ops. AreOperations ops.items) }
-    ensures count { IfOk result (λ ops. length ops.items ≡ count) }
-    ensures none { IfErr result (λ e. e ≢ Memory → HasNone stream.now count) }
+/// of memory. The bytes stay where they are.
+pub(crate) fn ops_of(alloc: Global, stream: Vec<u8>, count: u64) -> Result<OpList, OpenError>
+    requires { length stream.items ≤ 1073741824 }
+    ensures spelled { IfOk result (λ ops. spelled_all ops ≡ stream.items) }
+    ensures fits { IfOk result (λ ops. AreOperations ops) }
+    ensures count { IfOk result (λ ops. length ops ≡ count) }
+    ensures none { IfErr result (λ e. e ≢ Memory → HasNone stream.items count) }
     ensures refused { IfErr result (λ e. (e ≡ Memory) ⊎ (e ≡ BadStream)) }
 {
-    match take_ops(alloc, stream) {
+    match OpList::read(alloc, stream) {
         Ok(ops) => {
             if ops.len() as u64 == count {
                 Ok(ops)

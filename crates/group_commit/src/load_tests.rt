@@ -74,7 +74,7 @@ fn number_of<D: Disk + Drop>(alloc: Global, disk: D) -> u8 {
 fn has_records(alloc: Global, disk: MemDisk, count: usize, records: &str) -> Result<bool, Fail> {
     let loaded = Store::load(alloc, disk).ok().ok_or("refused")?;
     let mut bytes = Vec::new(alloc);
-    put_ops(&loaded.ops, &mut bytes)?;
+    put_ops(&loaded.ops.as_slice().copy_from(alloc, 0)?, &mut bytes)?;
     let name = bytes_of(alloc, NAME)?;
     Ok(
         loaded.ops.len() == count

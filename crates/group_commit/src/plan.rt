@@ -4,11 +4,13 @@ ghost use Rattle.page_file.specs.Free.{AreLowest};
 ghost use Rattle.page_file.specs.Pages.{are_pages, is_zero, number_bytes};
 ghost use Rattle.root_slots.specs.Root.{version_of, count_of, stream_length_of, tables_of, pages_for};
 ghost use Rattle.group_commit.specs.Paging.{IsIndexOf, IsRenewed};
-ghost use Rattle.group_commit.specs.Saved.{with_stream};
+ghost use Rattle.group_commit.specs.Saved.{HasDataPages, with_stream};
 ghost use Rattle.group_commit.specs.Plan.{IsNext, Plans, IsGrown, kept_of, filled};
 
 use crate::load_pages::data_pages;
 use crate::root::Root;
+use crate::stream_tail::{StreamTail, behind};
+use crate::written::Written;
 use page_file::{Pages, is_zero, put_numbers};
 use root_slots::{RootBody, tables_for};
 use std::alloc::{AllocError, Global};
@@ -30,7 +32,7 @@ pub(crate) fn make_plan(
     alloc: Global,
     current: &Root,
     pages: &Pages,
-    stream: &[u8],
+    stream: &StreamTail,
     records: &[u8],
     more: u64,
 ) -> Result<Plan, AllocError>
@@ -49,27 +51,20 @@ pub(crate) fn make_plan(
         (λ made. IsRenewed made.kept made.new_data made.numbers.items pages.now made.next) }
     ensures few { IfOk result (λ made. length made.numbers.items ≤ 262400) }
 {
-    let kept = kept_pages(stream.len(), records);
-    let long = stream.len() + records.len();
+    let old_long = current.stream_length() as usize;
+    let kept = kept_pages(old_long, records);
+    let long = old_long + records.len();
     let new_data = data_pages(long as u64) - kept;
     let new_tables = tables_for(long as u64) as usize - kept / 1024;
     let numbers = free_pages(current, pages, new_data + new_tables)?;
     let (data_numbers, table_numbers) = numbers.split_at(new_data);
-    let named = renumbered(alloc, current.data_pages(), kept, data_numbers)?;
+    let olds = live_data_pages(current, pages);
+    let DataPages { named, entries } = renamed(alloc, olds, kept, data_numbers)?;
     let tables = renumbered(alloc, current.tables(), kept / 1024, table_numbers)?;
-    numbers_are_small(&named);
     let kept_bytes = 4096 * kept;
-    let old_bytes = behind(stream, kept_bytes);
-    let new_bytes = behind(records, kept_bytes.saturating_sub(stream.len()));
-    let (_, new_entries) = named.split_at(1024 * (kept / 1024));
-    let fresh = new_pages(
-        alloc,
-        old_bytes,
-        new_bytes,
-        new_data,
-        new_entries,
-        new_tables,
-    )?;
+    let old_bytes = rest_behind(stream, old_long, kept_bytes);
+    let new_bytes = behind(records, kept_bytes.saturating_sub(old_long));
+    let fresh = new_pages(alloc, old_bytes, new_bytes, new_data, &entries, new_tables)?;
     let next = root_on(alloc, current, more, long as u64, named, tables)?;
     Ok(Plan {
         next,
@@ -109,15 +104,50 @@ fn front(bytes: &[u8], most: usize) -> &[u8]
     }
 }
 
-// The bytes behind the first so many.
-fn behind(bytes: &[u8], at: usize) -> &[u8]
-    ensures { result.now ≡ drop at bytes.now }
+// The bytes of a stream of so many bytes behind the pages that stay, the full ones among them.
+fn rest_behind(stream: &StreamTail, long: usize, kept_bytes: usize) -> &[u8]
+    requires long { length stream.now ≡ long }
+    requires full { 4096 * (long / 4096) ≤ kept_bytes }
+    ensures { result.now ≡ drop kept_bytes stream.now }
 {
-    if at < bytes.len() {
-        &bytes[at..]
-    } else {
-        &bytes[bytes.len()..]
-    }
+    let full_bytes = 4096 * (long / 4096);
+    behind(stream.tail(), kept_bytes - full_bytes)
+}
+
+// The data pages of the live root.
+fn live_data_pages<'a>(current: &Root, pages: &'a Pages) -> &'a [u32]
+    requires { IsIndexOf current.now pages.now }
+    ensures { (stream : List ℕ) → length stream ≡ stream_length_of current.now.body
+        → HasDataPages (with_stream current.now stream) result.now }
+{
+    let _named = current.data_pages();
+    let (_, data_pages) = pages.live();
+    data_pages
+}
+
+// The data pages of the next root: all as proofs see them, and in memory those that its new table
+// pages name.
+#[derive(Drop)]
+struct DataPages {
+    named: Written<u32>,
+    entries: Vec<u32>,
+}
+
+// The first so many of these data pages, and new ones behind them. The entries are fewer than 1,024
+// of those, and the new ones. An error is want of memory (1).
+fn renamed(alloc: Global, olds: &[u32], kept: usize, news: &[u32]) -> Result<DataPages, AllocError>
+    requires { kept ≤ length olds.now }
+    ensures named { IfOk result (λ it. it.named.items ≡ take kept olds.now ++ news.now) }
+    ensures entries { IfOk result (λ it. it.entries.items
+        ≡ drop (1024 * (kept / 1024)) (take kept olds.now ++ news.now)) }
+    ensures small { (i : ℕ) → get_or (take kept olds.now ++ news.now) i 0 < 2 ^ 32 }
+{
+    numbers_are_small(olds);
+    numbers_are_small(news);
+    let first = 1024 * (kept / 1024);
+    let entries = renumbered(alloc, &olds[first..], kept - first, news)?;
+    let named = Written::new().and(&olds[..kept]).and(news);
+    Ok(DataPages { named, entries })
 }
 
 // The first so many of these page numbers, and new ones behind them.
@@ -181,7 +211,7 @@ fn root_on(
     current: &Root,
     more: u64,
     long: u64,
-    named: Vec<u32>,
+    named: Written<u32>,
     tables: Vec<u32>,
 ) -> Result<Root, AllocError>
     requires room { long ≤ 1073741824 }

@@ -4,20 +4,22 @@ ghost use Rattle.root_slots.specs.Body.{root_of};
 ghost use Rattle.root_slots.specs.Root.{is_root, version_of, replica_of, count_of, stream_length_of, tables_of};
 ghost use Rattle.group_commit.specs.Saved.{HasDataPages, with_stream};
 
+use crate::written::Written;
 use op_ids::ReplicaId;
 use root_slots::RootBody;
 use std::alloc::{AllocError, Global};
 use std::marker::Model;
 
-/// A root in memory, without its stream. Contracts see the bytes of its slot's body and the pages that it
-/// reaches: its table pages, then its data pages.
-#[derive(Debug, Drop)]
+/// A root in memory, without its stream. Contracts see the bytes of its slot's body and the pages
+/// that it reaches: its table pages, then its data pages, which take no memory here.
+#[derive(Drop)]
 pub struct Root {
     head: RootBody,
     // The 4,088 bytes of its slot from byte 8 on: what the head says.
     body: Vec<u8>,
-    // The numbers of its data pages, in the order of the stream.
-    data_pages: Vec<u32>,
+    // The numbers of its data pages, in the order of the stream. Only proofs read them: the store
+    // keeps those of its live root in `Pages`.
+    data_pages: Written<u32>,
 }
 
 impl Model for Root {
@@ -44,7 +46,7 @@ impl Root {
     pub(crate) fn new(
         alloc: Global,
         head: RootBody,
-        data_pages: Vec<u32>,
+        data_pages: Written<u32>,
     ) -> Result<Root, AllocError>
         requires { IsInMemory head data_pages.items }
         ensures pages { IfOk result (λ root. root.pages ≡ head.tables ++ data_pages.items) }
@@ -74,7 +76,7 @@ impl Root {
         }) }
     {
         match RootBody::new(1, replica, 0, 0, Vec::new(alloc)) {
-            Some(head) => Root::new(alloc, head, Vec::new(alloc)),
+            Some(head) => Root::new(alloc, head, Written::new()),
             None => unreachable!(),
         }
     }
@@ -129,10 +131,10 @@ impl Root {
         self.head.tables()
     }
 
-    /// The numbers of its data pages, in the order of the stream.
-    pub(crate) fn data_pages(&self) -> &[u32]
+    /// The numbers of its data pages, in the order of the stream, as proofs see them.
+    pub(crate) fn data_pages(&self) -> &Written<u32>
         ensures { (stream : List ℕ) → length stream ≡ stream_length_of self.now.body
-            → HasDataPages (with_stream self.now stream) result.now }
+            → HasDataPages (with_stream self.now stream) result.now.items }
     {
         &self.data_pages
     }

@@ -1,5 +1,6 @@
 //! How far a store is.
-ghost use Rattle.std.specs.Prelude.{◌≡◌};
+ghost use Rattle.std.specs.Prelude.{◌≡◌, nat_lt};
+ghost use Rattle.root_slots.specs.Root.{version_of};
 
 use crate::phase::Phase;
 use crate::store::Store;
@@ -18,5 +19,12 @@ impl<D: Disk> Store<D> {
         ensures { result ≡ self.now.failed }
     {
         self.failed
+    }
+
+    /// Whether there is a further version behind the live root's. Takes no memory.
+    pub fn has_next_version(&self) -> bool
+        ensures { result ≡ nat_lt (version_of self.now.current.body) 18446744073709551615 }
+    {
+        self.current.version() < u64::MAX
     }
 }

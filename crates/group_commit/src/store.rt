@@ -6,6 +6,7 @@ ghost use Rattle.group_commit.specs.Saved.{in_front};
 
 use crate::phase::Phase;
 use crate::root::Root;
+use crate::stream_tail::StreamTail;
 use disk_trait::Disk;
 use page_file::Pages;
 use root_slots::Roots;
@@ -24,7 +25,7 @@ pub struct Store<D: Disk> {
     pub(crate) kept: usize,
     pub(crate) new_data: usize,
     // The streams of both roots: each is a front of these bytes.
-    pub(crate) stream: Vec<u8>,
+    pub(crate) stream: StreamTail,
     // Which slot is live, and whether the other gate reads 1.
     pub(crate) roots: Roots,
     pub(crate) failed: bool,
@@ -40,8 +41,8 @@ impl<D: Disk> Model for Store<D> {
       disk = s.disk;
       phase = s.phase;
       slot = s.roots.slot;
-      current = in_front s.current s.stream.items;
-      next = in_front s.next s.stream.items;
+      current = in_front s.current s.stream;
+      next = in_front s.next s.stream;
       numbers = s.numbers.items;
       stale = s.roots.stale;
       failed = s.failed;
@@ -51,11 +52,11 @@ impl<D: Disk> Model for Store<D> {
       disk = s.disk;
       phase = s.phase;
       slot = s.roots.slot;
-      current = in_front s.current s.stream.items;
-      next = in_front s.next s.stream.items;
+      current = in_front s.current s.stream;
+      next = in_front s.next s.stream;
       numbers = s.numbers.items;
       stale = s.roots.stale;
       failed = s.failed;
-    }) s.roots.slot s.numbers.items s.fresh.items × HasStreams s.phase s.current s.next s.stream.items
+    }) s.roots.slot s.numbers.items s.fresh.items × HasStreams s.phase s.current s.next s.stream
         × IsPaging s.phase s.failed s.numbers.items s.kept s.new_data s.current s.next s.pages };
 }

@@ -4,4 +4,5 @@ pub mod QuietCalls
 pub mod StateLemmas
 pub mod RoomLemmas
 pub mod Committing
+pub mod Beginning
 pub mod RunLemmas

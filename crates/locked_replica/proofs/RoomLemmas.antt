@@ -34,7 +34,7 @@ and_last a b c d e all = grind (arith, nat_tests)
 at_most : (n most : ℕ) → nat_le n most ≡ true → n ≤ most
 at_most n most small = grind (arith, nat_tests)
 
-le_true : (n most : ℕ) → n ≤ most → nat_le n most ≡ true
+pub le_true : (n most : ℕ) → n ≤ most → nat_le n most ≡ true
 le_true n most small = grind (arith, nat_tests)
 
 -- at most 2^24 operations, and 2^30 bytes of records

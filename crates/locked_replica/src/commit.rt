@@ -25,7 +25,8 @@ impl<D: Disk> Hub<D> {
     ///
     /// Refuses, in this order, with 44 where the device failed, 8 where there is a commit, 7 where
     /// there is no further version, and 1 where a growth was refused. A refused call changes nothing.
-    /// Costs what `Store::begin` does.
+    /// Reads the operations that aren't settled, linear in their records, and costs what `Store::begin`
+    /// does.
     pub fn begin(&mut self) -> Result<Option<u64>, HubRefusal>
         ensures call { IsCall D.DiskFacts begin_event (begin_answered result) self.old self.new }
     {
@@ -35,8 +36,20 @@ impl<D: Disk> Hub<D> {
         if self.is_through() {
             return Err(HubRefusal::Store(StoreError::Busy));
         }
-        let rest = self.replica.list().split_at(self.replica.settled()).1;
-        let begun = match self.store.begin(rest) {
+        if !self.store.phase().is_idle() {
+            return Err(HubRefusal::Store(StoreError::Busy));
+        }
+        if self.replica.list().len() <= self.replica.settled() {
+            return Ok(None);
+        }
+        if !self.store.has_next_version() {
+            return Err(HubRefusal::Store(StoreError::Limit));
+        }
+        let rest = match self.replica.unsettled() {
+            Ok(rest) => rest,
+            Err(_) => return Err(HubRefusal::Store(StoreError::Memory)),
+        };
+        let begun = match self.store.begin(&rest) {
             Ok(begun) => begun,
             Err(error) => return Err(HubRefusal::Store(error)),
         };

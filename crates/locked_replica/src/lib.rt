@@ -6,6 +6,8 @@ mod commit;
 mod hub;
 mod hub_reply;
 mod hub_step;
+#[cfg(test)]
+mod merge_tests;
 mod opening;
 #[cfg(test)]
 mod random_tests;

@@ -96,7 +96,7 @@ fn make_calls(hub: &mut Hub<MemDisk>) -> Result<(), Fail> {
 }
 
 /// Commits all that a hub has, where something isn't settled.
-fn commit(hub: &mut Hub<MemDisk>) -> Result<(), Fail> {
+pub(crate) fn commit(hub: &mut Hub<MemDisk>) -> Result<(), Fail> {
     if let Ok(Some(_)) = hub.begin() {
         make_calls(hub)?;
         if hub.settle().is_err() {
@@ -107,7 +107,7 @@ fn commit(hub: &mut Hub<MemDisk>) -> Result<(), Fail> {
 }
 
 /// What one hub has settled and another one doesn't count is merged there, 64 operations at most. Gives how many.
-fn merge(from: &mut Hub<MemDisk>, to: &mut Hub<MemDisk>) -> Result<usize, Fail> {
+pub(crate) fn merge(from: &mut Hub<MemDisk>, to: &mut Hub<MemDisk>) -> Result<usize, Fail> {
     commit(from)?;
     let ops = match from.tell(to.clock()) {
         Ok(ops) => ops,

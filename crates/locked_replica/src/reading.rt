@@ -9,7 +9,8 @@ ghost use Rattle.locked_replica.specs.Hub.{is_through};
 use crate::hub::Hub;
 use disk_trait::Disk;
 use op_ids::{Clock, ReplicaId};
-use op_model::{Op, Span, Text};
+use op_list::OpSlice;
+use op_model::{Span, Text};
 use std::alloc::AllocError;
 
 impl<D: Disk> Hub<D> {
@@ -22,8 +23,8 @@ impl<D: Disk> Hub<D> {
 
     /// The operations, in the order of application. The list is causally closed, replaying the kept
     /// steps gives it, and what is acknowledged and told is settled.
-    pub fn list(&self) -> &[Op]
-        ensures list { result.now ≡ self.now.replica.list }
+    pub fn list(&self) -> OpSlice<'_>
+        ensures list { result ≡ self.now.replica.list }
         ensures sound { IsSound self.now.replica }
     {
         self.replica.list()

@@ -1,8 +1,11 @@
 //! What is measured.
+ghost use Rattle.std.specs.Prelude.{◌<◌, ◌^◌};
+ghost use Rattle.op_model.specs.Records.{stream_length};
 
 use crate::place::Place;
 use op_ids::ReplicaId;
-use op_model::{Change, Edit, EditText, Op};
+use op_list::{OpList, OpSlice};
+use op_model::{Change, Edit, EditText};
 use replica_core::Replica;
 use std::alloc::Global;
 
@@ -38,10 +41,15 @@ impl Plan {
             let at = self.place.at(number, self.count.saturating_add(number));
             insert(alloc, &mut one, at, 1)?;
         }
-        let (first, rest) = one.list().split_at_checked(self.count as usize)?;
-        let mut other = with_list(alloc, first)?;
-        for op in rest.iter().take(self.merges) {
-            other.merge(1, op.copy().ok()?).ok()?;
+        let list = one.list();
+        let first = self.count as usize;
+        if first > list.len() {
+            return None;
+        }
+        let mut other = with_list(alloc, &list.front(first))?;
+        let last = first.saturating_add(self.merges).min(list.len());
+        for i in first..last {
+            other.merge(1, list.get(alloc, i).ok()?).ok()?;
         }
         Some(other.list().len())
     }
@@ -78,10 +86,10 @@ fn insert(alloc: Global, replica: &mut Replica, at: u32, count: u32) -> Option<(
 }
 
 /// The second replica with these operations.
-fn with_list(alloc: Global, ops: &[Op]) -> Option<Replica> {
-    let mut list = Vec::new(alloc);
-    for op in ops {
-        list.push(op.copy().ok()?).ok()?;
-    }
+fn with_list(alloc: Global, ops: &OpSlice<'_>) -> Option<Replica>
+    requires { stream_length ops.now < 2 ^ 32 }
+{
+    let mut list = OpList::new(alloc);
+    list.append(&ops.copy_from(alloc, 0).ok()?).ok()?;
     Replica::from_list(alloc, id(2)?, list).ok()
 }

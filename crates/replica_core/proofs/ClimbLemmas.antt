@@ -6,12 +6,15 @@ use Rattle.std.proofs.lemmas.Bool.{cases_Bool, and_parts, and_from, and_left, or
 use Rattle.std.proofs.lemmas.Bool.Decides.{nat_tests}
 use Rattle.std.proofs.lemmas.List.Folds.{list_all-append}
 use Rattle.std.proofs.lemmas.List.Elements.{filter-append}
+use Rattle.op_list.specs.declared.head.OpHead.{OpHead}
+use Rattle.op_list.specs.Heads.{head_of, heads}
 use Rattle.op_model.specs.declared.op.Op.{Op}
 use Rattle.op_model.specs.Causality.{made_by, is_counted_up, MayFollow, FollowInTurn, IsCausallyClosed}
 use Rattle.op_ids.specs.Id.{Id, is_same}
 use Rattle.op_model.specs.Causality.{is_insert}
 use Rattle.replica_core.specs.Makers.{at_places, AreBelow, Climb}
 use Rattle.replica_core.proofs.PlaceLemmas.{at_take, at_drop, at_length, below_take, below_drop}
+use Rattle.replica_core.proofs.HeadLemmas.{head_back}
 
 all_take : (q : Op → Bool) (k : ℕ) (xs : List Op) → list_all q xs ≡ true → list_all q (take k xs) ≡ true
 all_take q zero xs all = refl
@@ -160,49 +163,65 @@ pub record IsLeft (p : Op → Bool) (ops : List Op) (places rest : List ℕ) : T
   pub below : AreBelow (length ops) rest
   pub climb : Climb (at_places ops rest)
 
+counter_of : (h : OpHead) (x : Op) → h ≡ head_of x → h.id.counter ≡ x.id.counter
+counter_of h x is_head = ap (λ (g : OpHead). g.id.counter) is_head
+
 there_too : (ops : List Op) (rest : List ℕ) (k : ℕ) → AreBelow (length ops) rest → k < length rest → k < length (at_places ops rest)
 there_too ops rest k below there = let long = at_length ops rest below in omega arith
 
 -- the half behind a smaller counter is left
-pub left_behind : (p : Op → Bool) (c : ℕ) (ops : List Op) (places rest back : List ℕ) (k : ℕ) (x : Op) → IsOnlyAt c p → IsLeft p ops places rest
-    → k < length rest → x ≡ get_or (at_places ops rest) k x → x.id.counter < c → back ≡ drop (k + 1) rest → IsLeft p ops places back
-left_behind p c ops places rest back k x only left there is_it below is_back =
+pub left_behind : (p : Op → Bool) (c : ℕ) (ops : List Op) (places rest back : List ℕ) (k : ℕ) (h : OpHead) → IsOnlyAt c p → IsLeft p ops places rest
+    → k < length rest → h ≡ get_or (heads (at_places ops rest)) k h → h.id.counter < c → back ≡ drop (k + 1) rest → IsLeft p ops places back
+left_behind p c ops places rest back k h only left there is_it below is_back =
     let same = at_drop ops (k + 1) rest left.below in
+    let here = there_too ops rest k left.below there in
+    let x = head_back (at_places ops rest) k h here is_it in
+    let counter = counter_of h x.0 x.2 in
     record {
       decides = left.decides
-          ∙ (any_right p c (at_places ops rest) k x only left.climb (there_too ops rest k left.below there) is_it below
+          ∙ (any_right p c (at_places ops rest) k x.0 only left.climb here x.1 (omega arith)
           ∙ ap (list_any p) (sym same ∙ ap (at_places ops) (sym is_back)));
       below = rw is_back (below_drop (length ops) (k + 1) rest left.below);
       climb = rw (is_back, same) (climb_drop (k + 1) (at_places ops rest) left.climb);
     }
 
 -- the half before a greater counter is left
-pub left_before : (p : Op → Bool) (c : ℕ) (ops : List Op) (places rest front : List ℕ) (k : ℕ) (x : Op) → IsOnlyAt c p → IsLeft p ops places rest
-    → k < length rest → x ≡ get_or (at_places ops rest) k x → c < x.id.counter → front ≡ take k rest → IsLeft p ops places front
-left_before p c ops places rest front k x only left there is_it above is_front =
+pub left_before : (p : Op → Bool) (c : ℕ) (ops : List Op) (places rest front : List ℕ) (k : ℕ) (h : OpHead) → IsOnlyAt c p → IsLeft p ops places rest
+    → k < length rest → h ≡ get_or (heads (at_places ops rest)) k h → c < h.id.counter → front ≡ take k rest → IsLeft p ops places front
+left_before p c ops places rest front k h only left there is_it above is_front =
     let same = at_take ops k rest left.below in
+    let here = there_too ops rest k left.below there in
+    let x = head_back (at_places ops rest) k h here is_it in
+    let counter = counter_of h x.0 x.2 in
     record {
       decides = left.decides
-          ∙ (any_left p c (at_places ops rest) k x only left.climb (there_too ops rest k left.below there) is_it above
+          ∙ (any_left p c (at_places ops rest) k x.0 only left.climb here x.1 (omega arith)
           ∙ ap (list_any p) (sym same ∙ ap (at_places ops) (sym is_front)));
       below = rw is_front (below_take (length ops) k rest left.below);
       climb = rw (is_front, same) (climb_take k (at_places ops rest) left.climb);
     }
 
 -- the one with the counter decides
-pub left_here : (p : Op → Bool) (c : ℕ) (ops : List Op) (places rest : List ℕ) (k : ℕ) (x : Op) → IsOnlyAt c p → IsLeft p ops places rest
-    → k < length rest → x ≡ get_or (at_places ops rest) k x → x.id.counter ≡ c → list_any p (at_places ops places) ≡ p x
-left_here p c ops places rest k x only left there is_it same =
-    left.decides ∙ any_here p c (at_places ops rest) k x only left.climb (there_too ops rest k left.below there) is_it same
+pub left_here : (q : OpHead → Bool) (c : ℕ) (ops : List Op) (places rest : List ℕ) (k : ℕ) (h : OpHead) → IsOnlyAt c (λ op. q (head_of op))
+    → IsLeft (λ op. q (head_of op)) ops places rest → k < length rest → h ≡ get_or (heads (at_places ops rest)) k h → h.id.counter ≡ c
+    → list_any (λ op. q (head_of op)) (at_places ops places) ≡ q h
+left_here q c ops places rest k h only left there is_it same =
+    let here = there_too ops rest k left.below there in
+    let x = head_back (at_places ops rest) k h here is_it in
+    let counter = counter_of h x.0 x.2 in
+    left.decides
+    ∙ (any_here (λ op. q (head_of op)) c (at_places ops rest) k x.0 only left.climb here x.1 (omega arith) ∙ ap q (sym x.2))
 
 -- the last operation of a replica decides on the counter of its next one
-pub last_decides : (ops : List Op) (places : List ℕ) (k : ℕ) (x op : Op) → IsCausallyClosed ops → AreBelow (length ops) places
-    → at_places ops places ≡ made_by op.id.replica ops → suc k ≡ length places → x ≡ get_or (at_places ops places) k x
-    → is_counted_up ops op ≡ nat_lt x.id.counter op.id.counter
-last_decides ops places k x op closed below made long is_it =
+pub last_decides : (ops : List Op) (places : List ℕ) (k : ℕ) (h : OpHead) (op : Op) → IsCausallyClosed ops → AreBelow (length ops) places
+    → at_places ops places ≡ made_by op.id.replica ops → suc k ≡ length places → h ≡ get_or (heads (at_places ops places)) k h
+    → is_counted_up ops op ≡ nat_lt h.id.counter op.id.counter
+last_decides ops places k h op closed below made long is_it =
     let all = at_length ops places below in
+    let x = head_back (at_places ops places) k h (omega arith) is_it in
     ap (list_all (λ earlier. nat_lt earlier.id.counter op.id.counter)) (sym made)
-    ∙ all_last (at_places ops places) k x op.id.counter (rw made (closed_climb ops op.id.replica closed)) (long ∙ sym all) is_it
+    ∙ (all_last (at_places ops places) k x.0 op.id.counter (rw made (closed_climb ops op.id.replica closed)) (long ∙ sym all) x.1
+    ∙ ap (λ n. nat_lt n op.id.counter) (sym (counter_of h x.0 x.2)))
 
 -- what is known of the first so many indexes of a replica
 pub record AreFirst (ops : List Op) (r n : ℕ) (is : List ℕ) : Type 0 where

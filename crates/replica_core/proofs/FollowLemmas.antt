@@ -49,24 +49,42 @@ stream_within ops limits =
     (two_last (list_all is_in_range ops) (nat_le (length (clock_of ops)) 16) (nat_le (length (documents ops)) 1024)
     (nat_le (length ops) 16777216) (nat_le (stream_length ops) 1073741824) limits)
 
-below_last : (n last : ℕ) → n ≤ last → last ≡ 1073741824 → n < 2 ^ 64
+below_last : (n last : ℕ) → n ≤ last → last ≡ 1073741824 → n < 2 ^ 32
 below_last n last small is_it = omega arith
 
--- so a number of 64 bits counts it with what comes behind it
-pub stream_fits : (ops more : List Op) (stream : ℕ) → is_within_limits (ops ++ more) ≡ true → stream ≡ stream_length ops
-    → stream + stream_length more < 2 ^ 64
-stream_fits ops more stream limits is_it =
+-- so a number of 32 bits counts it with what comes behind it
+pub stream_fits : (ops more : List Op) → is_within_limits (ops ++ more) ≡ true → stream_length ops + stream_length more < 2 ^ 32
+stream_fits ops more limits =
     let all = stream_within (ops ++ more) limits in
     let both = stream_length-append ops more in
-    rw is_it (below_last (stream_length ops + stream_length more) 1073741824 (rw both at all) refl)
+    below_last (stream_length ops + stream_length more) 1073741824 (rw both at all) refl
+
+-- the records of the first operations of a closed list take fewer bytes than that
+pub front_fits : (ops : List Op) (n : ℕ) → IsCausallyClosed ops → stream_length (take n ops) < 2 ^ 32
+front_fits ops n closed =
+    let all = stream_within ops (closed_within ops closed) in
+    let both = stream_length-append (take n ops) (drop n ops) in
+    let whole = ap stream_length (take-append-drop n ops) in
+    below_last (stream_length (take n ops)) 1073741824 (omega arith) refl
+
+-- and so do those of the others
+pub rest_fits : (ops : List Op) (n : ℕ) → IsCausallyClosed ops → stream_length (drop n ops) < 2 ^ 32
+rest_fits ops n closed =
+    let all = stream_within ops (closed_within ops closed) in
+    let both = stream_length-append (take n ops) (drop n ops) in
+    let whole = ap stream_length (take-append-drop n ops) in
+    below_last (stream_length (drop n ops)) 1073741824 (omega arith) refl
+
+below_64 : (n : ℕ) → n < 2 ^ 32 → n < 2 ^ 64
+below_64 n small = omega arith
 
 -- the same for one operation
 pub record_fits : (ops : List Op) (op : Op) (stream : ℕ) → MayFollow ops op → stream ≡ stream_length ops
     → stream + record_length op < 2 ^ 64
 record_fits ops op stream follows is_it =
-    let all = stream_fits ops (op ∷ []) stream follows.limits is_it in
+    let all = stream_fits ops (op ∷ []) follows.limits in
     let one : stream_length (op ∷ []) ≡ record_length op = omega arith in
-    rw one at all
+    rw is_it (below_64 (stream_length ops + record_length op) (rw one at all))
 
 -- one more operation is counted
 pub count_more : (earlier ops : List Op) (i : ℕ) (op : Op) (before after : List (ℕ × ℕ)) → i < length ops → op ≡ get_or ops i op

@@ -6,6 +6,7 @@ pub mod SoundLemmas
 pub mod LimitLemmas
 pub mod LengthLemmas
 pub mod PlaceLemmas
+pub mod HeadLemmas
 pub mod ClimbLemmas
 pub mod MakerLemmas
 pub mod IndexLemmas

@@ -131,26 +131,26 @@ AreFields-with_edit h session e counts_before counts docs_before docs before aft
 
 -- what a replica holds behind an edit's operations and its step
 pub held_of-edit : (id opened settled acked told session first count : ℕ) (old new : Log) (added : List Op) (e copied : Edit)
-    → IsAppended old new added e.doc (step.Edit session copied first count) → added ≡ made old.list.items id e → copied ≡ e
-    → first ≡ length old.list.items → count ≡ size_of e.change → IsAskedRight old.list.items e
-    → held_of id new.list.items opened settled acked told new.steps.items
-    ≡ with_edit (held_of id old.list.items opened settled acked told old.steps.items) session e
+    → IsAppended old new added e.doc (step.Edit session copied first count) → added ≡ made old.list id e → copied ≡ e
+    → first ≡ length old.list → count ≡ size_of e.change → IsAskedRight old.list e
+    → held_of id new.list opened settled acked told new.steps.items
+    ≡ with_edit (held_of id old.list opened settled acked told old.steps.items) session e
 held_of-edit id opened settled acked told session first count old new added e copied is are same at many right =
-    let number : count ≡ length (made old.list.items id e) = many ∙ sym (length-made old.list.items id e right) in
+    let number : count ≡ length (made old.list id e) = many ∙ sym (length-made old.list id e right) in
     rw (is.list, is.steps, kept-push old.steps.items (step.Edit session copied first count), are, same, at, number) refl
 
 -- and that its fields are those
 pub AreFields-edit : (id opened settled acked told session first count : ℕ) (old new : Log) (added : List Op) (e copied : Edit)
     → (counts_before counts : List (ℕ × ℕ)) (k : ℕ)
-    → AreFields (held_of id old.list.items opened settled acked told old.steps.items) counts_before old.docs.items old.index k
-    → CanEdit (held_of id old.list.items opened settled acked told old.steps.items) e → 0 < size_of e.change
-    → counts ≡ clock_of (old.list.items ++ made old.list.items id e)
-    → IsAppended old new added e.doc (step.Edit session copied first count) → added ≡ made old.list.items id e → copied ≡ e
-    → first ≡ length old.list.items → count ≡ size_of e.change
-    → AreFields (held_of id new.list.items opened settled acked told new.steps.items) counts new.docs.items new.index (vec_capacity new.steps)
+    → AreFields (held_of id old.list opened settled acked told old.steps.items) counts_before old.docs.items old.index k
+    → CanEdit (held_of id old.list opened settled acked told old.steps.items) e → 0 < size_of e.change
+    → counts ≡ clock_of (old.list ++ made old.list id e)
+    → IsAppended old new added e.doc (step.Edit session copied first count) → added ≡ made old.list id e → copied ≡ e
+    → first ≡ length old.list → count ≡ size_of e.change
+    → AreFields (held_of id new.list opened settled acked told new.steps.items) counts new.docs.items new.index (vec_capacity new.steps)
 AreFields-edit id opened settled acked told session first count old new added e copied counts_before counts k fields can some is_clock is are same at many =
-    let h : Held = held_of id old.list.items opened settled acked told old.steps.items in
-    let held = held_of-edit id opened settled acked told session first count old new added e copied is are same at many (due_asks_right old.list.items id e can.due) in
+    let h : Held = held_of id old.list opened settled acked told old.steps.items in
+    let held = held_of-edit id opened settled acked told session first count old new added e copied is are same at many (due_asks_right old.list id e can.due) in
     let long : length h.steps ≡ length old.steps.items = length-kept old.steps.items in
     rw held
     (AreFields-with_edit h session e counts_before counts old.docs.items new.docs.items old.index new.index k (vec_capacity new.steps)
@@ -197,31 +197,31 @@ IsSound-with_merge h peer op sound can =
 
 -- what a replica holds behind a merge
 pub held_of-merge : (id opened settled acked told peer index : ℕ) (old new : Log) (added : List Op) (op : Op)
-    → IsAppended old new added op.doc (step.Merge peer index) → added ≡ op ∷ [] → index ≡ length old.list.items
-    → held_of id new.list.items opened settled acked told new.steps.items
-    ≡ with_merge (held_of id old.list.items opened settled acked told old.steps.items) peer op
+    → IsAppended old new added op.doc (step.Merge peer index) → added ≡ op ∷ [] → index ≡ length old.list
+    → held_of id new.list opened settled acked told new.steps.items
+    ≡ with_merge (held_of id old.list opened settled acked told old.steps.items) peer op
 held_of-merge id opened settled acked told peer index old new added op is are at =
     rw (is.list, is.steps, kept-push old.steps.items (step.Merge peer index), are, at) refl
 
 -- and that its fields are those
 pub AreFields-merge : (id opened settled acked told peer index : ℕ) (old new : Log) (added : List Op) (op : Op)
     → (counts_before counts : List (ℕ × ℕ)) (k : ℕ)
-    → AreFields (held_of id old.list.items opened settled acked told old.steps.items) counts_before old.docs.items old.index k
-    → CanMerge (held_of id old.list.items opened settled acked told old.steps.items) op → counts ≡ advanced counts_before op.id.replica
-    → IsAppended old new added op.doc (step.Merge peer index) → added ≡ op ∷ [] → index ≡ length old.list.items
-    → AreFields (held_of id new.list.items opened settled acked told new.steps.items) counts new.docs.items new.index (vec_capacity new.steps)
+    → AreFields (held_of id old.list opened settled acked told old.steps.items) counts_before old.docs.items old.index k
+    → CanMerge (held_of id old.list opened settled acked told old.steps.items) op → counts ≡ advanced counts_before op.id.replica
+    → IsAppended old new added op.doc (step.Merge peer index) → added ≡ op ∷ [] → index ≡ length old.list
+    → AreFields (held_of id new.list opened settled acked told new.steps.items) counts new.docs.items new.index (vec_capacity new.steps)
 AreFields-merge id opened settled acked told peer index old new added op counts_before counts k fields can is_clock is are at =
-    let h : Held = held_of id old.list.items opened settled acked told old.steps.items in
+    let h : Held = held_of id old.list opened settled acked told old.steps.items in
     let held = held_of-merge id opened settled acked told peer index old new added op is are at in
     let long : length h.steps ≡ length old.steps.items = length-kept old.steps.items in
-    let more = length-append old.list.items (op ∷ []) in
+    let more = length-append old.list (op ∷ []) in
     let one : length added ≡ 1 = rw are refl in
     rw held (record {
       sound = IsSound-with_merge h peer op fields.sound can;
-      clock = is_clock ∙ (ap (λ es. advanced es op.id.replica) fields.clock ∙ sym (clock-push old.list.items op));
+      clock = is_clock ∙ (ap (λ es. advanced es op.id.replica) fields.clock ∙ sym (clock-push old.list op));
       docs = record {
-        numbers = is.numbers ∙ (ap (with_number op.doc) fields.docs.numbers ∙ sym (documents-push old.list.items op));
-        stand = rw are at (is.stand fields.docs (rw are (may_come old.list.items op.doc op can.joins.follows refl, tt)));
+        numbers = is.numbers ∙ (ap (with_number op.doc) fields.docs.numbers ∙ sym (documents-push old.list op));
+        stand = rw are at (is.stand fields.docs (rw are (may_come old.list op.doc op can.joins.follows refl, tt)));
       };
       index = rw (← are, ← is.list) (is.index fields.index);
       steps = let room = is.step_room in omega arith;

@@ -12,13 +12,14 @@ use crate::lengths::made_length;
 use crate::refusal::Refusal;
 use doc_core::Doc;
 use op_ids::{Clock, MAX_COUNTER, ReplicaId};
-use op_model::{Edit, Op};
+use op_list::OpSlice;
+use op_model::Edit;
 use slow_programs::{MAX_STREAM_LENGTH, change_size, has_operations, is_at_rev, is_small};
 
 /// Why an edit of a document is refused, by the first cause: `Stale` (6), `Range` (5), `Limit` (7).
 /// Takes no memory. Linear in the document.
 pub fn edit_refusal(
-    ops: &[Op],
+    ops: &OpSlice<'_>,
     clock: &Clock,
     docs: &[Doc],
     index: &Index,
@@ -49,7 +50,7 @@ pub fn edit_refusal(
 
 /// Whether the operations, and then those of an edit that asks right, keep the limits of a store.
 fn is_within_limits(
-    ops: &[Op],
+    ops: &OpSlice<'_>,
     clock: &Clock,
     docs: &[Doc],
     index: &Index,
@@ -87,7 +88,7 @@ fn has_counters(greatest: u64, count: u64) -> bool
 
 /// Whether there is room for so many operations behind the others, where their document has a place
 /// or not, with records of so many bytes behind a stream of so many.
-pub fn has_room(ops: &[Op], has_place: bool, stream: u64, count: usize, bytes: u64) -> bool
+pub fn has_room(ops: &OpSlice<'_>, has_place: bool, stream: u64, count: usize, bytes: u64) -> bool
     ensures { result ≡ (has_place && nat_le (length ops.now + count) 16777216
         && nat_le (stream + bytes) 1073741824) }
 {

@@ -8,19 +8,20 @@ ghost use Rattle.replica_core.specs.Docs.{draft_numbers, numbers as doc_numbers,
 use crate::numbers::place;
 use crate::refusal::Refusal;
 use doc_core::{Doc, Draft, SequenceError};
+use op_list::OpSlice;
 use op_model::Op;
 use std::alloc::{AllocError, Global};
 
 /// The documents of a causally closed list, whose numbers are given. An error is want of memory
 /// (1). For each operation a search by halves for its document, and what its draft takes for it.
-pub fn documents_of(alloc: Global, list: &[Op], numbers: &[u32]) -> Result<Vec<Doc>, Refusal>
+pub fn documents_of(alloc: Global, list: &OpSlice<'_>, numbers: &[u32]) -> Result<Vec<Doc>, Refusal>
     requires closed { IsCausallyClosed list.now }
     requires numbers { numbers.now ≡ documents list.now }
     ensures docs { IfOk result (λ docs. AreDocs docs.items list.now) }
     ensures memory { IfErr result (λ e. e ≡ Refusal.Memory) }
 {
     let mut drafts = empty(alloc, numbers)?;
-    apply_all(&mut drafts, numbers, list)?;
+    apply_all(alloc, &mut drafts, numbers, list)?;
     let docs = finished(alloc, drafts)?;
     Ok(docs)
 }
@@ -38,8 +39,14 @@ fn empty(alloc: Global, numbers: &[u32]) -> Result<Vec<Draft>, AllocError>
     Ok(drafts)
 }
 
-/// Gives each operation of a list to its document's draft. An error is want of memory (1).
-fn apply_all(drafts: &mut Vec<Draft>, numbers: &[u32], list: &[Op]) -> Result<(), Refusal>
+/// Gives each operation of a list to its document's draft, and lets it go before the next one is
+/// read. An error is want of memory (1).
+fn apply_all(
+    alloc: Global,
+    drafts: &mut Vec<Draft>,
+    numbers: &[u32],
+    list: &OpSlice<'_>,
+) -> Result<(), Refusal>
     requires closed { IsCausallyClosed list.now }
     requires numbers { numbers.now ≡ documents list.now }
     requires drafts { draft_numbers drafts.old.items ≡ numbers.now }
@@ -48,8 +55,9 @@ fn apply_all(drafts: &mut Vec<Draft>, numbers: &[u32], list: &[Op]) -> Result<()
     ensures drafts { OnOk result (AllDrafts drafts.new.items list.now) }
     ensures memory { IfErr result (λ e. e ≡ Refusal.Memory) }
 {
-    for op in list {
-        apply(drafts, numbers, op)?;
+    for i in 0..list.len() {
+        let op = list.get(alloc, i)?;
+        apply(drafts, numbers, &op)?;
     }
     Ok(())
 }

@@ -8,9 +8,10 @@ ghost use Rattle.replica_core.specs.Refusal.{number_of};
 
 use crate::deciding::has_room;
 use crate::index::Index;
-use crate::named::{is_covered_insert, op_at};
+use crate::named::{head_at, is_covered_insert};
 use crate::refusal::Refusal;
 use op_ids::{Clock, OpId};
+use op_list::OpSlice;
 use op_model::{Anchor, Body, End, Op, Start};
 use slow_programs::record_length;
 
@@ -25,7 +26,7 @@ pub fn is_known(clock: &Clock, op: &Op) -> bool
 /// Whether an operation may follow the others, where it is known whether there are at most 1,024
 /// documents with its own: it is ready, and no check fails. Takes no memory. A few steps for
 /// clocks, and a binary search for each character that it names.
-pub fn may_follow(ops: &[Op], clock: &Clock, index: &Index, op: &Op, has_place: bool) -> bool
+pub fn may_follow(ops: &OpSlice<'_>, clock: &Clock, index: &Index, op: &Op, has_place: bool) -> bool
     requires counted { AreCounted ops.now clock.now index.now }
     requires place { has_place ≡ nat_le (length (with_number op.now.doc (documents ops.now))) 1024 }
     ensures { IsTrue result ↔ MayFollow ops.now op.now }
@@ -44,7 +45,7 @@ pub fn may_follow(ops: &[Op], clock: &Clock, index: &Index, op: &Op, has_place: 
 /// its own. Takes no memory. A few steps for clocks, and a binary search for each character that it
 /// names.
 pub fn first_failed(
-    ops: &[Op],
+    ops: &OpSlice<'_>,
     clock: &Clock,
     index: &Index,
     op: &Op,
@@ -72,21 +73,21 @@ pub fn first_failed(
 
 /// Whether the counter is greater than that of the last operation of its replica, and so than that
 /// of each earlier one.
-fn is_counted_up(ops: &[Op], index: &Index, op: &Op) -> bool
+fn is_counted_up(ops: &OpSlice<'_>, index: &Index, op: &Op) -> bool
     requires closed { IsCausallyClosed ops.now }
     requires index { IsIndexOf index.now ops.now }
     ensures { result ≡ is_counted_up_of ops.now op.now }
 {
     match index.places_of(op.id.replica()) {
         Some(places) => places.is_empty()
-            || op_at(ops, places, places.len() - 1).id.counter() < op.id.counter(),
+            || head_at(ops, places, places.len() - 1).id.counter() < op.id.counter(),
         None => true,
     }
 }
 
 /// Whether what an operation names are inserts of its document that its deps cover, with smaller
 /// counters.
-fn names_inserts(ops: &[Op], index: &Index, op: &Op) -> bool
+fn names_inserts(ops: &OpSlice<'_>, index: &Index, op: &Op) -> bool
     requires closed { IsCausallyClosed ops.now }
     requires index { IsIndexOf index.now ops.now }
     ensures { result ≡ names_inserts_of ops.now op.now }
@@ -105,7 +106,7 @@ fn names_inserts(ops: &[Op], index: &Index, op: &Op) -> bool
     }
 }
 
-fn names_at_start(ops: &[Op], index: &Index, op: &Op, start: &Start) -> bool
+fn names_at_start(ops: &OpSlice<'_>, index: &Index, op: &Op, start: &Start) -> bool
     requires closed { IsCausallyClosed ops.now }
     requires index { IsIndexOf index.now ops.now }
     ensures { result ≡ names_all ops.now op.now (named_by_start start.now) }
@@ -116,7 +117,7 @@ fn names_at_start(ops: &[Op], index: &Index, op: &Op, start: &Start) -> bool
     }
 }
 
-fn names_at_end(ops: &[Op], index: &Index, op: &Op, end: &End) -> bool
+fn names_at_end(ops: &OpSlice<'_>, index: &Index, op: &Op, end: &End) -> bool
     requires closed { IsCausallyClosed ops.now }
     requires index { IsIndexOf index.now ops.now }
     ensures { result ≡ names_all ops.now op.now (named_by_end end.now) }
@@ -127,7 +128,7 @@ fn names_at_end(ops: &[Op], index: &Index, op: &Op, end: &End) -> bool
     }
 }
 
-fn names_at_anchor(ops: &[Op], index: &Index, op: &Op, anchor: &Anchor) -> bool
+fn names_at_anchor(ops: &OpSlice<'_>, index: &Index, op: &Op, anchor: &Anchor) -> bool
     requires closed { IsCausallyClosed ops.now }
     requires index { IsIndexOf index.now ops.now }
     ensures { result ≡ names_all ops.now op.now (named_by_anchor anchor.now) }
@@ -140,7 +141,7 @@ fn names_at_anchor(ops: &[Op], index: &Index, op: &Op, anchor: &Anchor) -> bool
 
 /// Whether an id that an operation names is that of an insert of its document that its deps cover,
 /// with a smaller counter.
-fn names_insert(ops: &[Op], index: &Index, op: &Op, id: &OpId) -> bool
+fn names_insert(ops: &OpSlice<'_>, index: &Index, op: &Op, id: &OpId) -> bool
     requires closed { IsCausallyClosed ops.now }
     requires index { IsIndexOf index.now ops.now }
     ensures { result ≡ (is_covered_insert_of ops.now op.now.deps op.now.doc id.now
@@ -150,7 +151,7 @@ fn names_insert(ops: &[Op], index: &Index, op: &Op, id: &OpId) -> bool
 }
 
 /// Whether the operations, and then this one, keep the limits of a store.
-fn fits(ops: &[Op], clock: &Clock, index: &Index, op: &Op, has_place: bool) -> bool
+fn fits(ops: &OpSlice<'_>, clock: &Clock, index: &Index, op: &Op, has_place: bool) -> bool
     requires known { AreCounted ops.now clock.now index.now }
     requires place { has_place ≡ nat_le (length (with_number op.now.doc (documents ops.now))) 1024 }
     requires document { 0 < op.now.doc }

@@ -10,6 +10,7 @@ use crate::index::Index;
 use crate::step::Step;
 use doc_core::{Doc, SequenceError};
 use op_ids::ReplicaId;
+use op_list::OpList;
 use op_model::Op;
 use std::alloc::{AllocError, Global};
 
@@ -17,7 +18,7 @@ use std::alloc::{AllocError, Global};
 #[derive(Debug, Drop)]
 pub struct Log {
     /// The operations, in the order of application.
-    pub list: Vec<Op>,
+    pub list: OpList,
     /// The steps since opening, oldest first, with room for the settlements that are due.
     pub steps: Vec<Step>,
     /// The documents that have operations, in rising order of number.
@@ -32,39 +33,44 @@ impl Log {
     /// the document can't take them.
     pub fn append(
         &mut self,
-        made: Vec<Op>,
+        made: &[Op],
         replica: ReplicaId,
         doc: u32,
         step: Step,
     ) -> Result<(), SequenceError>
-        requires few { length self.old.list.items + length made.items ≤ 16777216 }
-        requires own { made_by replica made.items ≡ made.items }
-        requires small { self.old.index.stream + stream_length made.items < 2 ^ 64 }
-        ensures ok { OnOk result (IsAppended self.old self.new made.items doc step) }
+        requires few { length self.old.list + length made.now ≤ 16777216 }
+        requires own { made_by replica made.now ≡ made.now }
+        requires stream { self.old.index.stream ≡ stream_length self.old.list }
+        requires small { stream_length self.old.list + stream_length made.now < 2 ^ 32 }
+        ensures ok { OnOk result (IsAppended self.old self.new made.now doc step) }
         ensures known { IsErrOf result SequenceError.UnknownId
-            → AreDocs self.old.docs.items self.old.list.items
-            → MayComeInTurn self.old.list.items doc made.items → ⊥ }
+            → AreDocs self.old.docs.items self.old.list
+            → MayComeInTurn self.old.list doc made.now → ⊥ }
         ensures err { OnErr result (IsSame self.old self.new) }
     {
-        let mut made = made;
-        let alloc = *self.list.allocator();
+        let alloc = self.list.allocator();
         self.reserve(replica, made.len())?;
-        docs::apply(&mut self.docs, alloc, doc, &made)?;
+        let before = self.list.len();
+        self.list.append(made)?;
+        match docs::apply(&mut self.docs, alloc, doc, made) {
+            Ok(()) => {}
+            Err(refused) => {
+                self.list.truncate(before);
+                return Err(refused);
+            }
+        }
         put_step(&mut self.steps, step);
-        self.index.put_all(&made, replica, self.list.len() as u32);
-        put_operations(&mut self.list, &mut made);
+        self.index.put_all(made, replica, before as u32);
         Ok(())
     }
 
-    /// Makes room for so many operations of one replica, and for a step with two settlements behind
-    /// it. An error is want of memory (1).
+    /// Makes room for the indexes of so many operations of one replica, and for a step with two
+    /// settlements behind it. An error is want of memory (1).
     fn reserve(&mut self, replica: ReplicaId, count: usize) -> Result<(), AllocError>
-        requires { length self.old.list.items + count ≤ 16777216 }
         ensures same { IsSame self.old self.new }
         ensures room { OnOk result (HasRoom self.new replica count) }
     {
-        let alloc = *self.list.allocator();
-        self.list.reserve(count)?;
+        let alloc = self.list.allocator();
         self.steps.reserve(3)?;
         self.index.reserve(alloc, replica, count)
     }
@@ -77,17 +83,6 @@ fn put_step(steps: &mut Vec<Step>, step: Step)
     ensures room { vec_capacity steps.old ≤ vec_capacity steps.new }
 {
     match steps.push(step) {
-        Ok(()) => {}
-        Err(_) => unreachable!(),
-    }
-}
-
-/// Puts operations behind the others. There is room for them.
-fn put_operations(list: &mut Vec<Op>, made: &mut Vec<Op>)
-    requires { vec_len list.old + vec_len made.old ≤ vec_capacity list.old }
-    ensures { list.new.items ≡ list.old.items ++ made.old.items }
-{
-    match list.append(made) {
         Ok(()) => {}
         Err(_) => unreachable!(),
     }

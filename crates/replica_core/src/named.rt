@@ -1,18 +1,20 @@
 ghost use Rattle.std.specs.Prelude.{◌≡◌, ◌<◌, ◌==◌, ◌&&◌, nat_lt, length, take, slice_index_or};
 ghost use Rattle.std.specs.List.{list_any};
 ghost use Rattle.op_ids.specs.Id.{is_same};
+ghost use Rattle.op_list.specs.Heads.{heads};
 ghost use Rattle.op_model.specs.Causality.{is_covered_insert as is_covered_insert_of, is_insert as is_insert_of, IsCausallyClosed};
 ghost use Rattle.replica_core.specs.Indexes.{IsIndexOf};
 ghost use Rattle.replica_core.specs.Makers.{at_places, AreBelow, Climb};
 
 use crate::index::Index;
 use op_ids::OpId;
-use op_model::{Body, Op};
+use op_list::{OpHead, OpSlice};
+use op_model::Op;
 
 /// Whether an insert of the operation's document with this id is among the operations that its deps
 /// cover. Takes no memory. A few steps where the id's replica edits alone, else a binary search among
 /// its operations.
-pub fn is_covered_insert(ops: &[Op], index: &Index, op: &Op, id: &OpId) -> bool
+pub fn is_covered_insert(ops: &OpSlice<'_>, index: &Index, op: &Op, id: &OpId) -> bool
     requires closed { IsCausallyClosed ops.now }
     requires index { IsIndexOf index.now ops.now }
     ensures { result ≡ is_covered_insert_of ops.now op.now.deps op.now.doc id.now }
@@ -36,7 +38,7 @@ fn first(places: &[u32], count: usize) -> &[u32]
 
 /// Whether one of the operations at these indexes inserts the character of an id into a document.
 /// It is looked for first where it stands if their replica made all counters in between.
-fn has_insert(ops: &[Op], places: &[u32], doc: u32, id: &OpId) -> bool
+fn has_insert(ops: &OpSlice<'_>, places: &[u32], doc: u32, id: &OpId) -> bool
     requires below { AreBelow (length ops.now) places.now }
     requires climb { Climb (at_places ops.now places.now) }
     ensures { result ≡ list_any (λ op. is_same op.id id.now && op.doc == doc && is_insert_of op.body)
@@ -44,9 +46,9 @@ fn has_insert(ops: &[Op], places: &[u32], doc: u32, id: &OpId) -> bool
 {
     let guess = guessed(ops, places, id.counter());
     if guess < places.len() {
-        let op = op_at(ops, places, guess);
-        if op.id.counter() == id.counter() {
-            return is_insert_at(op, doc, id);
+        let head = head_at(ops, places, guess);
+        if head.id.counter() == id.counter() {
+            return is_insert_at(&head, doc, id);
         }
     }
     has_insert_by_halves(ops, places, doc, id)
@@ -54,19 +56,19 @@ fn has_insert(ops: &[Op], places: &[u32], doc: u32, id: &OpId) -> bool
 
 /// Which of the operations at these indexes has a counter, if their replica made all counters in
 /// between.
-fn guessed(ops: &[Op], places: &[u32], counter: u64) -> usize
+fn guessed(ops: &OpSlice<'_>, places: &[u32], counter: u64) -> usize
     requires { AreBelow (length ops.now) places.now }
 {
     if places.is_empty() {
         return 0;
     }
-    let first = op_at(ops, places, 0).id.counter();
+    let first = head_at(ops, places, 0).id.counter();
     counter.saturating_sub(first) as usize
 }
 
 /// Whether one of the operations at these indexes inserts the character of an id into a document.
 /// Their counters rise, so it is searched by halves.
-fn has_insert_by_halves(ops: &[Op], places: &[u32], doc: u32, id: &OpId) -> bool
+fn has_insert_by_halves(ops: &OpSlice<'_>, places: &[u32], doc: u32, id: &OpId) -> bool
     requires below { AreBelow (length ops.now) places.now }
     requires climb { Climb (at_places ops.now places.now) }
     ensures { result ≡ list_any (λ op. is_same op.id id.now && op.doc == doc && is_insert_of op.body)
@@ -76,10 +78,10 @@ fn has_insert_by_halves(ops: &[Op], places: &[u32], doc: u32, id: &OpId) -> bool
     let mut rest = places;
     while !rest.is_empty() {
         let middle = rest.len() / 2;
-        let op = op_at(ops, rest, middle);
-        let counter = op.id.counter();
+        let head = head_at(ops, rest, middle);
+        let counter = head.id.counter();
         if counter == wanted {
-            return is_insert_at(op, doc, id);
+            return is_insert_at(&head, doc, id);
         }
         rest = if counter < wanted {
             rest.split_at(middle + 1).1
@@ -90,27 +92,18 @@ fn has_insert_by_halves(ops: &[Op], places: &[u32], doc: u32, id: &OpId) -> bool
     false
 }
 
-/// Of the operations at these indexes the k-th one, counted from 0.
-pub fn op_at<'a>(ops: &'a [Op], places: &[u32], k: usize) -> &'a Op
+/// Of the operations at these indexes the head of the k-th one, counted from 0.
+pub fn head_at(ops: &OpSlice<'_>, places: &[u32], k: usize) -> OpHead
     requires below { AreBelow (length ops.now) places.now }
     requires there { k < length places.now }
-    ensures { result.now ≡ slice_index_or (at_places ops.now places.now) k result.now }
+    ensures { result ≡ slice_index_or (heads (at_places ops.now places.now)) k result }
 {
-    &ops[places[k] as usize]
+    ops.head(places[k] as usize)
 }
 
-/// Whether an operation inserts the character of an id into a document.
-fn is_insert_at(op: &Op, doc: u32, id: &OpId) -> bool
-    ensures { result ≡ (is_same op.now.id id.now && op.now.doc == doc && is_insert_of op.now.body) }
+/// Whether an operation with this head inserts the character of an id into a document.
+fn is_insert_at(head: &OpHead, doc: u32, id: &OpId) -> bool
+    ensures { result ≡ (is_same head.now.id id.now && head.now.doc == doc && head.now.is_insert) }
 {
-    op.id.is_same(*id) && op.doc == doc && is_insert(&op.body)
-}
-
-fn is_insert(body: &Body) -> bool
-    ensures { result ≡ is_insert_of body.now }
-{
-    match body {
-        Body::Insert { .. } => true,
-        _ => false,
-    }
+    head.id.is_same(*id) && head.doc == doc && head.is_insert
 }

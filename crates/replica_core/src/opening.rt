@@ -13,6 +13,7 @@ use crate::numbers::add;
 use crate::refusal::Refusal;
 use doc_core::Doc;
 use op_ids::{Clock, ClockError};
+use op_list::OpSlice;
 use op_model::Op;
 use slow_programs::MAX_DOCUMENTS;
 use std::alloc::Global;
@@ -20,7 +21,7 @@ use std::alloc::Global;
 /// The clock, the documents and the index of a causally closed list. `BadOperation` (47) exactly
 /// where the list isn't; `Memory` (1) says nothing of that. The list is gone through twice: what
 /// may follow is decided before a document takes anything.
-pub fn counted(alloc: Global, list: &[Op]) -> Result<(Clock, Vec<Doc>, Index), Refusal>
+pub fn counted(alloc: Global, list: &OpSlice<'_>) -> Result<(Clock, Vec<Doc>, Index), Refusal>
     ensures known { IfOk result (λ found. AreKnown list.now found.0 found.1.items found.2) }
     ensures bad { IfErr result (λ e. e ≢ Refusal.Memory
         → (e ≡ Refusal.BadOperation) × (IsCausallyClosed list.now → ⊥)) }
@@ -31,7 +32,7 @@ pub fn counted(alloc: Global, list: &[Op]) -> Result<(Clock, Vec<Doc>, Index), R
 }
 
 /// The clock, the documents' numbers and the index of a causally closed list. Refuses as `counted`.
-fn checked(alloc: Global, list: &[Op]) -> Result<(Clock, Vec<u32>, Index), Refusal>
+fn checked(alloc: Global, list: &OpSlice<'_>) -> Result<(Clock, Vec<u32>, Index), Refusal>
     ensures counted { IfOk result (λ found. AreCounted list.now found.0 found.2) }
     ensures numbers { IfOk result (λ found. found.1.items ≡ documents list.now) }
     ensures bad { IfErr result (λ e. e ≢ Refusal.Memory
@@ -41,13 +42,13 @@ fn checked(alloc: Global, list: &[Op]) -> Result<(Clock, Vec<u32>, Index), Refus
     let mut numbers = Vec::new(alloc);
     let mut index = Index::new(alloc);
     for i in 0..list.len() {
-        let op = &list[i];
+        let op = list.get(alloc, i)?;
         add(&mut numbers, op.doc)?;
         let has_place = numbers.len() <= MAX_DOCUMENTS;
-        if !may_follow(list.split_at(i).0, &clock, &index, op, has_place) {
+        if !may_follow(&list.front(i), &clock, &index, &op, has_place) {
             return Err(Refusal::BadOperation);
         }
-        count(alloc, &mut clock, &mut index, op, i)?;
+        count(alloc, &mut clock, &mut index, &op, i)?;
     }
     Ok((clock, numbers, index))
 }

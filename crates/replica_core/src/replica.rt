@@ -1,4 +1,4 @@
-ghost use Rattle.std.specs.Prelude.{◌≡◌, ◌≢◌, ◌↔◌, ℕ, ◌≤◌, ◌<◌, ◌+◌, List, [], length, take, Some, None, IsTrue, IfOk, IfErr, OnOk, OnErr, MatchOption, Contains, if◌then◌else◌};
+ghost use Rattle.std.specs.Prelude.{◌≡◌, ◌≢◌, ◌↔◌, ℕ, ◌≤◌, ◌<◌, ◌+◌, List, [], length, take, drop, Some, None, IsTrue, IfOk, IfErr, OnOk, OnErr, MatchOption, Contains, if◌then◌else◌};
 ghost use Rattle.op_model.specs.Machine.{edit_answer, merge_answer, merge_answer_unless, reach, untold as untold_of, IsRefusal, ticket, refused};
 ghost use Rattle.op_model.specs.Causality.{clock_of, first_failed as first_failed_of, IsCausallyClosed};
 ghost use Rattle.op_model.specs.Made.{made as made_of};
@@ -10,7 +10,7 @@ ghost use Rattle.replica_core.specs.Merging.{after_merge, answer_of, with_merge,
 ghost use Rattle.replica_core.specs.Refusal.{number_of};
 ghost use Rattle.replica_core.specs.Steps.{places_left};
 
-use crate::counting::count_all;
+use crate::counting::{self, count_all};
 use crate::deciding::edit_refusal;
 use crate::docs::{find, has_document};
 use crate::following::{first_failed, is_known};
@@ -24,6 +24,7 @@ use crate::telling::untold;
 use crate::ticket::Ticket;
 use doc_core::{Doc, SequenceError};
 use op_ids::{Clock, ReplicaId};
+use op_list::{OpList, OpSlice};
 use op_model::{Edit, Op, Span, Text};
 use slow_programs::change_size;
 use std::alloc::{AllocError, Global};
@@ -54,9 +55,9 @@ impl Model for Replica {
 
     ghost Value = { Held };
 
-    ghost view = { λ r. held_of r.id r.log.list.items r.opened r.settled r.acked r.told r.log.steps.items };
+    ghost view = { λ r. held_of r.id r.log.list r.opened r.settled r.acked r.told r.log.steps.items };
 
-    ghost invariant = { λ r. AreFields (held_of r.id r.log.list.items r.opened r.settled r.acked r.told r.log.steps.items)
+    ghost invariant = { λ r. AreFields (held_of r.id r.log.list r.opened r.settled r.acked r.told r.log.steps.items)
         r.clock r.log.docs.items r.log.index (vec_capacity r.log.steps) };
 }
 
@@ -68,7 +69,7 @@ impl Replica {
         Replica {
             id,
             log: Log {
-                list: Vec::new(alloc),
+                list: OpList::new(alloc),
                 steps: Vec::new(alloc),
                 docs: Vec::new(alloc),
                 index: Index::new(alloc),
@@ -83,17 +84,18 @@ impl Replica {
 
     /// The replica as it is after opening a store with this list: all of it is settled.
     /// `BadOperation` (47) exactly where the list isn't causally closed; `Memory` (1) says nothing
-    /// of that. Two passes over the list: for each operation a few steps for clocks, a search
-    /// by halves for its document, a binary search for each character that it names (a few steps where its
-    /// replica edits alone), and for an insert a step for each greater id that follows its origin.
-    /// For each character 72 bytes, of which 40 are given back.
-    pub fn from_list(alloc: Global, id: ReplicaId, list: Vec<Op>) -> Result<Replica, Refusal>
-        ensures opened { IfOk result (λ r. r ≡ opened_with id list.items) }
-        ensures closed { OnOk result (IsCausallyClosed list.items) }
+    /// of that. Two passes over the list. An operation is read, linear in its record, and let go
+    /// before the next one; it takes a few steps for clocks, a search by halves for its document, a
+    /// binary search for each character that it names (a few steps where its replica edits alone),
+    /// and for an insert a step for each greater id that follows its origin. For each character 72
+    /// bytes, of which 40 are given back.
+    pub fn from_list(alloc: Global, id: ReplicaId, list: OpList) -> Result<Replica, Refusal>
+        ensures opened { IfOk result (λ r. r ≡ opened_with id list) }
+        ensures closed { OnOk result (IsCausallyClosed list) }
         ensures bad { IfErr result (λ e. e ≢ Refusal.Memory
-            → (e ≡ Refusal.BadOperation) × (IsCausallyClosed list.items → ⊥)) }
+            → (e ≡ Refusal.BadOperation) × (IsCausallyClosed list → ⊥)) }
     {
-        let (clock, docs, index) = counted(alloc, &list)?;
+        let (clock, docs, index) = counted(alloc, &list.as_slice())?;
         let opened = list.len();
         Ok(Replica {
             id,
@@ -120,11 +122,20 @@ impl Replica {
 
     /// The operations, in the order of application. The list is causally closed, replaying the kept
     /// steps gives it, and the numbers are in order, as all that a replica holds.
-    pub fn list(&self) -> &[Op]
-        ensures list { result.now ≡ self.now.list }
+    pub fn list(&self) -> OpSlice<'_>
+        ensures list { result ≡ self.now.list }
         ensures sound { IsSound self.now }
     {
-        &self.log.list
+        self.log.list.as_slice()
+    }
+
+    /// The operations that aren't settled, in the order of the list. An error is want of memory (1).
+    /// Linear in their records.
+    pub fn unsettled(&self) -> Result<Vec<Op>, AllocError>
+        ensures { IfOk result (λ ops. ops.items ≡ drop self.now.settled self.now.list) }
+    {
+        let list = self.log.list.as_slice();
+        list.copy_from(self.log.list.allocator(), self.settled)
     }
 
     /// How many operations of each replica the list has.
@@ -159,7 +170,7 @@ impl Replica {
     pub fn rev(&self, doc: u32) -> usize
         ensures { result ≡ rev_of self.now.list doc }
     {
-        let empty = Doc::new(*self.log.list.allocator(), doc);
+        let empty = Doc::new(self.log.list.allocator(), doc);
         find(&self.log.docs, &empty).rev() as usize
     }
 
@@ -168,16 +179,18 @@ impl Replica {
     pub fn text(&self, doc: u32) -> Result<Text, AllocError>
         ensures { IfOk result (λ seen. seen ≡ text_of self.now.list doc) }
     {
-        let empty = Doc::new(*self.log.list.allocator(), doc);
+        let empty = Doc::new(self.log.list.allocator(), doc);
         find(&self.log.docs, &empty).text()
     }
 
-    /// The text of a document, cut where the marks change. An error is want of memory (1). Cubic in
-    /// the list.
+    /// The text of a document, cut where the marks change. An error is want of memory (1). Copies
+    /// the list, and is cubic in it.
     pub fn spans(&self, doc: u32) -> Result<Vec<Span>, AllocError>
         ensures { IfOk result (λ found. found.items ≡ spans_of self.now.list doc) }
     {
-        slow_programs::spans(*self.log.list.allocator(), &self.log.list, doc)
+        let alloc = self.log.list.allocator();
+        let ops = self.log.list.as_slice().copy_from(alloc, 0)?;
+        slow_programs::spans(alloc, &ops, doc)
     }
 
     /// Settles the first n operations: a number that isn't below the settled one, and a length that
@@ -239,11 +252,12 @@ impl Replica {
             (λ e. edit_answer self.now.replica (alone self.now) edit.now ≡ refused (number_of e)) }
     {
         let log = &self.log;
-        let empty = Doc::new(*log.list.allocator(), edit.doc);
+        let empty = Doc::new(log.list.allocator(), edit.doc);
         let doc = find(&log.docs, &empty);
         let clock = &self.clock;
+        let ops = log.list.as_slice();
         if let Some(refusal) = edit_refusal(
-            &log.list, clock, &log.docs, &log.index, doc, self.id, edit,
+            &ops, clock, &log.docs, &log.index, doc, self.id, edit,
         ) {
             return Some(refusal);
         }
@@ -274,7 +288,7 @@ impl Replica {
             first: self.log.list.len(),
             count: change_size(&edit.change) as usize,
         };
-        match self.log.append(made, self.id, edit.doc, step) {
+        match self.log.append(&made, self.id, edit.doc, step) {
             Ok(()) => {}
             Err(SequenceError::Memory) => return Err(Refusal::Memory),
             Err(SequenceError::UnknownId) => unreachable!(),
@@ -290,7 +304,7 @@ impl Replica {
             made.items ≡ made_of self.now.list self.now.replica edit.now) }
         ensures memory { IfErr result (λ e. e ≡ Refusal.Memory) }
     {
-        let alloc = *self.log.list.allocator();
+        let alloc = self.log.list.allocator();
         let empty = Doc::new(alloc, edit.doc);
         let doc = find(&self.log.docs, &empty);
         let next = self.log.index.greatest + 1;
@@ -340,7 +354,8 @@ impl Replica {
     {
         let log = &self.log;
         let has_place = has_document(&log.docs, op.doc);
-        if let Some(refusal) = first_failed(&log.list, &self.clock, &log.index, op, has_place) {
+        let ops = log.list.as_slice();
+        if let Some(refusal) = first_failed(&ops, &self.clock, &log.index, op, has_place) {
             return Some(refusal);
         }
         if log.steps.len() > MAX_STEPS - 3 {
@@ -357,7 +372,7 @@ impl Replica {
         ensures memory { IfErr result (λ e. e ≡ Refusal.Memory) }
         ensures err { OnErr result (self.new ≡ self.old) }
     {
-        let alloc = *self.log.list.allocator();
+        let alloc = self.log.list.allocator();
         let mut clock = self.clock.copy()?;
         // The limits of a store are kept, so only a growth can be refused here.
         match clock.advance(op.id.replica()) {
@@ -371,7 +386,7 @@ impl Replica {
             index: self.log.list.len(),
         };
         let made = one(alloc, op)?;
-        match self.log.append(made, replica, doc, step) {
+        match self.log.append(&made, replica, doc, step) {
             Ok(()) => {}
             Err(SequenceError::Memory) => return Err(Refusal::Memory),
             Err(SequenceError::UnknownId) => unreachable!(),
@@ -390,9 +405,9 @@ impl Replica {
         ensures memory { IfErr result (λ e. e ≡ Refusal.Memory) }
         ensures err { OnErr result (self.new ≡ self.old) }
     {
-        let alloc = *self.log.list.allocator();
-        let settled = self.log.list.split_at(self.settled).0;
-        let (ops, reached) = untold(alloc, clock, settled)?;
+        let alloc = self.log.list.allocator();
+        let settled = self.log.list.as_slice().front(self.settled);
+        let (ops, reached) = untold(alloc, clock, &settled)?;
         self.told = self.told.max(reached);
         Ok(ops)
     }
@@ -405,9 +420,9 @@ impl Replica {
         ensures memory { IfErr result (λ e. e ≡ Refusal.Memory) }
         ensures err { OnErr result (self.new ≡ self.old) }
     {
-        let alloc = *self.log.list.allocator();
-        let settled = self.log.list.split_at(self.settled).0;
-        let clock = match slow_programs::clock_of(alloc, settled) {
+        let alloc = self.log.list.allocator();
+        let settled = self.log.list.as_slice().front(self.settled);
+        let clock = match counting::clock_of(alloc, &settled) {
             Ok(clock) => clock,
             Err(_) => return Err(Refusal::Memory),
         };

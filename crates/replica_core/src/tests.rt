@@ -1,5 +1,6 @@
 use super::*;
 use op_ids::{Clock, OpId, ReplicaId};
+use op_list::OpList;
 use op_model::{Body, Change, Edit, EditText, Mark, MarkKey, Op, Text};
 use std::alloc::Global;
 use std::num::NonZeroU32;
@@ -55,13 +56,22 @@ fn merge(replica: &mut Replica, op: Op) -> u8 {
 }
 
 /// The operation of a replica at an index.
-fn op_at(replica: &Replica, index: usize) -> Result<Op, Fail> {
-    Ok(replica.list().get(index).ok_or("no operation")?.copy()?)
+fn op_at(alloc: Global, replica: &Replica, index: usize) -> Result<Op, Fail> {
+    let ops = replica.list();
+    if index >= ops.len() {
+        return Err("no operation")?;
+    }
+    Ok(ops.get(alloc, index)?)
 }
 
 /// What a merge of another peer's operation at an index answers.
-fn merge_from(replica: &mut Replica, other: &Replica, index: usize) -> Result<u8, Fail> {
-    Ok(merge(replica, op_at(other, index)?))
+fn merge_from(
+    alloc: Global,
+    replica: &mut Replica,
+    other: &Replica,
+    index: usize,
+) -> Result<u8, Fail> {
+    Ok(merge(replica, op_at(alloc, other, index)?))
 }
 
 /// How many operations a replica has.
@@ -156,19 +166,20 @@ fn a_merge_answers_early_applied_known(rt: HostRuntime) -> Result<(), Fail> {
     let alloc = rt.alloc();
     let b = typed(alloc, 2, "xy")?;
     let mut a = empty(alloc, 1)?;
-    assert_eq!(rt; merge_from(&mut a, &b, 1)?, 3);
+    assert_eq!(rt; merge_from(alloc, &mut a, &b, 1)?, 3);
     assert_eq!(rt; len(&a), 0);
-    assert_eq!(rt; merge_from(&mut a, &b, 0)?, 0);
-    assert_eq!(rt; merge_from(&mut a, &b, 0)?, 2);
+    assert_eq!(rt; merge_from(alloc, &mut a, &b, 0)?, 0);
+    assert_eq!(rt; merge_from(alloc, &mut a, &b, 0)?, 2);
     assert_eq!(rt; len(&a), 1);
     Ok(())
 }
 
 #[test]
 fn an_own_operation_that_is_not_known_is_refused(rt: HostRuntime) -> Result<(), Fail> {
-    let b = typed(rt.alloc(), 2, "xy")?;
-    let mut other = empty(rt.alloc(), 2)?;
-    assert_eq!(rt; merge_from(&mut other, &b, 1)?, 20);
+    let alloc = rt.alloc();
+    let b = typed(alloc, 2, "xy")?;
+    let mut other = empty(alloc, 2)?;
+    assert_eq!(rt; merge_from(alloc, &mut other, &b, 1)?, 20);
     Ok(())
 }
 
@@ -186,20 +197,23 @@ fn remove(alloc: Global, last: u8, target: OpId) -> Result<Op, Fail> {
 fn a_merge_that_names_nothing_is_refused(rt: HostRuntime) -> Result<(), Fail> {
     let alloc = rt.alloc();
     let mut a = typed(alloc, 1, "a")?;
-    let target = op_at(&a, 0)?.id;
+    let target = op_at(alloc, &a, 0)?.id;
     assert_eq!(rt; merge(&mut a, remove(alloc, 3, target)?), 22);
-    let mut nowhere = op_at(&typed(alloc, 2, "x")?, 0)?;
+    let mut nowhere = op_at(alloc, &typed(alloc, 2, "x")?, 0)?;
     nowhere.doc = 0;
     assert_eq!(rt; merge(&mut a, nowhere), 23);
     Ok(())
 }
 
 /// The operations of a replica from an index on.
-fn ops_from(alloc: Global, replica: &Replica, from: usize) -> Result<Vec<Op>, Fail> {
-    let mut ops = Vec::new(alloc);
-    for op in replica.list().iter().skip(from) {
-        ops.push(op.copy()?)?;
+fn ops_from(alloc: Global, replica: &Replica, from: usize) -> Result<OpList, Fail> {
+    let list = replica.list();
+    if from > list.len() {
+        return Err("no operation")?;
     }
+    let copies = list.copy_from(alloc, from)?;
+    let mut ops = OpList::new(alloc);
+    ops.append(&copies)?;
     Ok(ops)
 }
 
@@ -209,7 +223,7 @@ fn opened(alloc: Global, other: &Replica) -> Result<Replica, Fail> {
 }
 
 /// The number of the refusal to open a list, or 0.
-fn open_refusal(alloc: Global, ops: Vec<Op>) -> Result<u8, Fail> {
+fn open_refusal(alloc: Global, ops: OpList) -> Result<u8, Fail> {
     Ok(match Replica::from_list(alloc, replica_id(1)?, ops) {
         Ok(_) => 0,
         Err(refusal) => refusal.number(),
@@ -285,9 +299,9 @@ fn second_of_b(alloc: Global, counter: u64, doc: u32, origin: Option<OpId>) -> R
 fn a_refused_merge_changes_nothing(rt: HostRuntime) -> Result<(), Fail> {
     let alloc = rt.alloc();
     let mut a = typed(alloc, 1, "a")?;
-    let mine = op_at(&a, 0)?.id;
+    let mine = op_at(alloc, &a, 0)?.id;
     let b = typed(alloc, 2, "b")?;
-    assert_eq!(rt; merge_from(&mut a, &b, 0)?, 0);
+    assert_eq!(rt; merge_from(alloc, &mut a, &b, 0)?, 0);
     assert_eq!(rt; merge(&mut a, second_of_b(alloc, 1, 1, Some(mine))?), 21);
     assert_eq!(rt; merge(&mut a, second_of_b(alloc, 2, 1, Some(mine))?), 22);
     assert_eq!(rt; merge(&mut a, second_of_b(alloc, 2, 0, None)?), 23);
@@ -302,10 +316,10 @@ fn a_seventeenth_replica_is_refused(rt: HostRuntime) -> Result<(), Fail> {
     let mut a = typed(alloc, 1, "a")?;
     for last in 2u8..17 {
         let peer = typed(alloc, last, "x")?;
-        assert_eq!(rt; merge_from(&mut a, &peer, 0)?, 0);
+        assert_eq!(rt; merge_from(alloc, &mut a, &peer, 0)?, 0);
     }
     let peer = typed(alloc, 17, "x")?;
-    assert_eq!(rt; merge_from(&mut a, &peer, 0)?, 24);
+    assert_eq!(rt; merge_from(alloc, &mut a, &peer, 0)?, 24);
     assert_eq!(rt; len(&a), 16);
     Ok(())
 }
@@ -315,13 +329,13 @@ fn merged_texts_are_one(rt: HostRuntime) -> Result<(), Fail> {
     let alloc = rt.alloc();
     let mut a = typed(alloc, 1, "x")?;
     let mut b = empty(alloc, 2)?;
-    assert_eq!(rt; merge_from(&mut b, &a, 0)?, 0);
+    assert_eq!(rt; merge_from(alloc, &mut b, &a, 0)?, 0);
     rev_after(&mut a, insert(alloc, 1, "y")?)?;
     rev_after(&mut b, insert(alloc, 1, "z")?)?;
     rev_after(&mut a, insert(alloc, 2, "w")?)?;
-    assert_eq!(rt; merge_from(&mut a, &b, 1)?, 0);
-    assert_eq!(rt; merge_from(&mut b, &a, 1)?, 0);
-    assert_eq!(rt; merge_from(&mut b, &a, 2)?, 0);
+    assert_eq!(rt; merge_from(alloc, &mut a, &b, 1)?, 0);
+    assert_eq!(rt; merge_from(alloc, &mut b, &a, 1)?, 0);
+    assert_eq!(rt; merge_from(alloc, &mut b, &a, 2)?, 0);
     assert!(rt; has_text(alloc, &a, "xzyw")?);
     assert!(rt; has_text(alloc, &b, "xzyw")?);
     Ok(())
@@ -345,9 +359,9 @@ fn edits_keep_their_limits(rt: HostRuntime) -> Result<(), Fail> {
 }
 
 /// Gives a peer the operations of another one.
-fn merge_all(to: &mut Replica, from: &Replica) -> Result<(), Fail> {
+fn merge_all(alloc: Global, to: &mut Replica, from: &Replica) -> Result<(), Fail> {
     for index in 0..len(from) {
-        merge_from(to, from, index)?;
+        merge_from(alloc, to, from, index)?;
     }
     Ok(())
 }
@@ -381,10 +395,10 @@ fn exchange(
         edit_at(alloc, b, doc, at / 2)?;
         edit_at(alloc, c, doc, 4)?;
     }
-    merge_all(a, b)?;
-    merge_all(a, c)?;
-    merge_all(b, a)?;
-    merge_all(c, a)
+    merge_all(alloc, a, b)?;
+    merge_all(alloc, a, c)?;
+    merge_all(alloc, b, a)?;
+    merge_all(alloc, c, a)
 }
 
 /// A peer that has 304 operations of three peers on two documents.
@@ -393,8 +407,8 @@ fn merged(alloc: Global) -> Result<Replica, Fail> {
     refusal(&mut a, 2, None, insert(alloc, 0, "ijklmnop")?);
     let mut b = empty(alloc, 2)?;
     let mut c = empty(alloc, 3)?;
-    merge_all(&mut b, &a)?;
-    merge_all(&mut c, &a)?;
+    merge_all(alloc, &mut b, &a)?;
+    merge_all(alloc, &mut c, &a)?;
     for at in 0u32..6 {
         exchange(alloc, &mut a, &mut b, &mut c, at)?;
     }

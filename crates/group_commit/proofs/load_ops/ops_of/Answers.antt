@@ -4,7 +4,7 @@ use Rattle.group_commit.proofs.load_ops.ops_of.Goals as goal
 
 pub returns-else-len-count-clause-none : goal.returns-else-len-count-clause-none
 returns-else-len-count-clause-none c = λ differs ops fits same count.
-    let eq = spelled_all-determines ops c.in-Ok.ops.items fits c.in-Ok.ensures.fits (same ∙ sym c.in-Ok.ensures.spelled_so) in
-    let size : c.len.result ≡ length c.in-Ok.ops.items = search rules in
+    let eq = spelled_all-determines ops c.in-Ok.ops fits c.in-Ok.ensures.fits (same ∙ sym c.in-Ok.ensures.spelled_so) in
+    let size : c.len.result ≡ length c.in-Ok.ops = search rules in
     let there : c.len.result ≡ c.args.count = size ∙ sym (ap length eq) ∙ count in
     search (rules, there)

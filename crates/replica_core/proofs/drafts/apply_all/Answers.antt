@@ -1,4 +1,4 @@
-use Rattle.std.proofs.Common.{take, refl}
+use Rattle.std.proofs.Common.{take, refl, arith}
 use Rattle.doc_core.proofs.LawLemmas.{may_come}
 use Rattle.replica_core.proofs.DocLemmas.{doc_there, documents_up}
 use Rattle.replica_core.proofs.DraftLemmas.{take_push}
@@ -10,22 +10,22 @@ apply-requires-clause-rising c = rw c.requires.numbers (documents_up c.args.list
 
 pub apply-requires-clause-there : goal.apply-requires-clause-there
 apply-requires-clause-there c =
-    rw c.requires.numbers (doc_there c.args.list.now c.loop-op.op-index c.op-item.result c.loop-op-test.true c.op-item.is)
+    rw c.requires.numbers (doc_there c.args.list.now c.loop-i.i c.in_ok-op.op (omega arith) c.in_ok-op.ensures)
 
 pub apply-requires-clause-may_come : goal.apply-requires-clause-may_come
 apply-requires-clause-may_come c =
-    let front = follows_front c.args.list.now c.loop-op.op-index c.op-item.result c.requires.closed c.loop-op-test.true c.op-item.is in (
-      take c.loop-op.op-index c.args.list.now,
-      c.loop-op.invariant.drafts,
-      may_come (take c.loop-op.op-index c.args.list.now) c.op-item.result.doc c.op-item.result front.1 refl,
+    let front = follows_front c.args.list.now c.loop-i.i c.in_ok-op.op c.requires.closed (omega arith) c.in_ok-op.ensures in (
+      take c.loop-i.i c.args.list.now,
+      c.loop-i.invariant.drafts,
+      may_come (take c.loop-i.i c.args.list.now) c.in_ok-op.op.doc c.in_ok-op.op front.1 refl,
     )
 
-pub loop-op-preserved : goal.loop-op-preserved
-loop-op-preserved c =
-    let front = follows_front c.args.list.now c.loop-op.op-index c.op-item.result c.requires.closed c.loop-op-test.true c.op-item.is in
+pub loop-i-preserved : goal.loop-i-preserved
+loop-i-preserved c =
+    let front = follows_front c.args.list.now c.loop-i.i c.in_ok-op.op c.requires.closed (omega arith) c.in_ok-op.ensures in
     record {
       numbers = c.in_ok-apply.ensures.numbers;
-      drafts = rw (take_push c.args.list.now c.loop-op.op-index c.op-item.result c.loop-op-test.true c.op-item.is)
-          (c.in_ok-apply.ensures.drafts (take c.loop-op.op-index c.args.list.now) c.loop-op.invariant.drafts
-          (may_come (take c.loop-op.op-index c.args.list.now) c.op-item.result.doc c.op-item.result front.1 refl));
+      drafts = rw (take_push c.args.list.now c.loop-i.i c.in_ok-op.op (omega arith) c.in_ok-op.ensures)
+          (c.in_ok-apply.ensures.drafts (take c.loop-i.i c.args.list.now) c.loop-i.invariant.drafts
+          (may_come (take c.loop-i.i c.args.list.now) c.in_ok-op.op.doc c.in_ok-op.op front.1 refl));
     }

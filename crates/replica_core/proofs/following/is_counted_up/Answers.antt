@@ -14,7 +14,7 @@ last_index n some = let more : 0 < n = at_least n (sym some) in omega arith
 pub returns-else-is_empty : goal.returns-else-is_empty
 returns-else-is_empty c =
     let places = rw c.replica.ensures at c.in-Some.ensures in
-    let all = last_decides c.args.ops.now c.in-Some.places.now (length c.in-Some.places.now - 1) c.op_at.result.now c.args.op.now c.requires.closed
+    let all = last_decides c.args.ops.now c.in-Some.places.now (length c.in-Some.places.now - 1) c.head_at.result c.args.op.now c.requires.closed
     (rw places (c.requires.index.below c.args.op.now.id.replica)) (rw places (c.requires.index.made c.args.op.now.id.replica))
-    (last_index (length c.in-Some.places.now) c.if-is_empty.ensures) c.op_at.ensures in
+    (last_index (length c.in-Some.places.now) c.if-is_empty.ensures) c.head_at.ensures in
     rw (c.counter.ensures.value, c.counter-else-is_empty.ensures.value) (sym all)

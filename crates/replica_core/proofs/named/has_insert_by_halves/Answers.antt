@@ -2,6 +2,8 @@ use Rattle.std.proofs.Common.{◌≡◌, ℕ, ◌<◌, ◌/◌, Bool, false, ◌
 use Rattle.std.specs.Prelude.{◌==◌, ◌&&◌}
 use Rattle.std.proofs.lemmas.Bool.Decides.{nat_tests}
 use Rattle.op_ids.specs.Id.{is_same}
+use Rattle.op_list.specs.declared.head.OpHead.{OpHead}
+use Rattle.op_list.specs.Heads.{head_of}
 use Rattle.op_model.specs.declared.op.Op.{Op}
 use Rattle.op_model.specs.Causality.{is_insert}
 use Rattle.replica_core.proofs.ClimbLemmas.{insert_only, left_here, left_behind, left_before, IsLeft}
@@ -15,15 +17,15 @@ half n empty says some = let more : 0 < n = at_least n (sym says ∙ some) in om
 
 pub returns-then-counter-wanted : goal.returns-then-counter-wanted
 returns-then-counter-wanted c =
-    let p : Op → Bool = λ op. is_same op.id c.args.id.now && op.doc == c.args.doc && is_insert op.body in
-    let left : IsLeft p c.args.ops.now c.args.places.now c.loop-rest.rest.now = record {
+    let q : OpHead → Bool = λ h. is_same h.id c.args.id.now && h.doc == c.args.doc && h.is_insert in
+    let left : IsLeft (λ op. q (head_of op)) c.args.ops.now c.args.places.now c.loop-rest.rest.now = record {
       decides = c.loop-rest.invariant.decides;
       below = c.loop-rest.invariant.below;
       climb = c.loop-rest.invariant.climb;
     } in
     c.is_insert_at.ensures
-    ∙ sym (left_here p c.args.id.now.counter c.args.ops.now c.args.places.now c.loop-rest.rest.now (length c.loop-rest.rest.now / 2) c.op_at-op.result.now
-    (insert_only c.args.id.now c.args.doc) left (half (length c.loop-rest.rest.now) c.is_empty.result c.is_empty.ensures c.loop-rest-test.true) c.op_at-op.ensures
+    ∙ sym (left_here q c.args.id.now.counter c.args.ops.now c.args.places.now c.loop-rest.rest.now (length c.loop-rest.rest.now / 2) c.head_at-head.result
+    (insert_only c.args.id.now c.args.doc) left (half (length c.loop-rest.rest.now) c.is_empty.result c.is_empty.ensures c.loop-rest-test.true) c.head_at-head.ensures
     (omega arith))
 
 pub loop-rest-preserved-then-counter-wanted-2 : goal.loop-rest-preserved-then-counter-wanted-2
@@ -34,8 +36,8 @@ loop-rest-preserved-then-counter-wanted-2 c =
       below = c.loop-rest.invariant.below;
       climb = c.loop-rest.invariant.climb;
     } in
-    let next = left_behind p c.args.id.now.counter c.args.ops.now c.args.places.now c.loop-rest.rest.now c.split_at.result.1.now (length c.loop-rest.rest.now / 2) c.op_at-op.result.now
-    (insert_only c.args.id.now c.args.doc) left (half (length c.loop-rest.rest.now) c.is_empty.result c.is_empty.ensures c.loop-rest-test.true) c.op_at-op.ensures
+    let next = left_behind p c.args.id.now.counter c.args.ops.now c.args.places.now c.loop-rest.rest.now c.split_at.result.1.now (length c.loop-rest.rest.now / 2) c.head_at-head.result
+    (insert_only c.args.id.now c.args.doc) left (half (length c.loop-rest.rest.now) c.is_empty.result c.is_empty.ensures c.loop-rest-test.true) c.head_at-head.ensures
     (omega arith) c.split_at.ensures.back in
     record { decides = next.decides; below = next.below; climb = next.climb; within = let short = c.split_at.ensures.back_len in let was = c.loop-rest.invariant.within in omega arith }
 
@@ -47,7 +49,7 @@ loop-rest-preserved c =
       below = c.loop-rest.invariant.below;
       climb = c.loop-rest.invariant.climb;
     } in
-    let next = left_before p c.args.id.now.counter c.args.ops.now c.args.places.now c.loop-rest.rest.now c.split_at-else-counter-wanted-2.result.0.now (length c.loop-rest.rest.now / 2) c.op_at-op.result.now
-    (insert_only c.args.id.now c.args.doc) left (half (length c.loop-rest.rest.now) c.is_empty.result c.is_empty.ensures c.loop-rest-test.true) c.op_at-op.ensures
+    let next = left_before p c.args.id.now.counter c.args.ops.now c.args.places.now c.loop-rest.rest.now c.split_at-else-counter-wanted-2.result.0.now (length c.loop-rest.rest.now / 2) c.head_at-head.result
+    (insert_only c.args.id.now c.args.doc) left (half (length c.loop-rest.rest.now) c.is_empty.result c.is_empty.ensures c.loop-rest-test.true) c.head_at-head.ensures
     (omega arith) c.split_at-else-counter-wanted-2.ensures.front in
     record { decides = next.decides; below = next.below; climb = next.climb; within = let short = c.split_at-else-counter-wanted-2.ensures.front_len in let was = c.loop-rest.invariant.within in omega arith }

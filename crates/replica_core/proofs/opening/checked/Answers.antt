@@ -1,5 +1,6 @@
-use Rattle.std.proofs.Common.{◌≡◌, ◌∙◌, ap, length, take, refl, sym}
+use Rattle.std.proofs.Common.{◌≡◌, ◌∙◌, ap, length, take, refl, sym, arith}
 use Rattle.std.proofs.lemmas.Bool.{false≢true}
+use Rattle.std.proofs.lemmas.List.{length-take-le}
 use Rattle.op_model.specs.Causality.{MayFollow}
 use Rattle.op_model.specs.Spans.{with_number}
 use Rattle.replica_core.proofs.DocLemmas.{documents_up}
@@ -10,39 +11,39 @@ use Rattle.replica_core.proofs.opening.checked.Goals as goal
 
 pub count-requires-clause-small : goal.count-requires-clause-small
 count-requires-clause-small c =
-    let says = rw c.split_at.ensures.front at c.if-not-may_follow.ensures in
-    let follows : MayFollow (take c.loop-i.i c.args.list.now) c.index-list-i.result = says.0 refl in
-    record_fits (take c.loop-i.i c.args.list.now) c.index-list-i.result c.loop-i.index.stream follows c.loop-i.invariant.counted.index.stream
+    let says = rw c.front.ensures at c.if-not-may_follow.ensures in
+    let follows : MayFollow (take c.loop-i.i c.args.list.now) c.in_ok-op.op = says.0 refl in
+    record_fits (take c.loop-i.i c.args.list.now) c.in_ok-op.op c.loop-i.index.stream follows c.loop-i.invariant.counted.index.stream
 
 pub add-requires : goal.add-requires
 add-requires c = rw c.loop-i.invariant.numbers (documents_up (take c.loop-i.i c.args.list.now))
 
 pub count-requires-clause-counts : goal.count-requires-clause-counts
 count-requires-clause-counts c = λ full.
-    let says = rw c.split_at.ensures.front at c.if-not-may_follow.ensures in
-    let follows : MayFollow (take c.loop-i.i c.args.list.now) c.index-list-i.result = says.0 refl in
-    never_overfull (take c.loop-i.i c.args.list.now) c.index-list-i.result c.loop-i.clock follows c.loop-i.invariant.counted.clock full
+    let says = rw c.front.ensures at c.if-not-may_follow.ensures in
+    let follows : MayFollow (take c.loop-i.i c.args.list.now) c.in_ok-op.op = says.0 refl in
+    never_overfull (take c.loop-i.i c.args.list.now) c.in_ok-op.op c.loop-i.clock follows c.loop-i.invariant.counted.clock full
 
 pub returns-then-not-may_follow-clause-bad : goal.returns-then-not-may_follow-clause-bad
 returns-then-not-may_follow-clause-bad c = λ _. (
   refl,
   λ closed.
-      let follows = follows_front c.args.list.now c.loop-i.i c.index-list-i.result closed c.loop-i-test.true c.index-list-i.is in
-      let says = rw c.split_at.ensures.front at c.if-not-may_follow.ensures in
+      let follows = follows_front c.args.list.now c.loop-i.i c.in_ok-op.op closed (omega arith) c.in_ok-op.ensures in
+      let says = rw c.front.ensures at c.if-not-may_follow.ensures in
       false≢true (says.1 follows.1),
 )
 
 pub loop-i-preserved : goal.loop-i-preserved
 loop-i-preserved c =
-    let says = rw c.split_at.ensures.front at c.if-not-may_follow.ensures in
-    let follows : MayFollow (take c.loop-i.i c.args.list.now) c.index-list-i.result = says.0 refl in
-    let long : length (take c.loop-i.i c.args.list.now) ≡ c.loop-i.i = rw c.split_at.ensures.front at c.split_at.ensures.front_len in
-    let grown = take_push c.args.list.now c.loop-i.i c.index-list-i.result c.loop-i-test.true c.index-list-i.is in
+    let says = rw c.front.ensures at c.if-not-may_follow.ensures in
+    let follows : MayFollow (take c.loop-i.i c.args.list.now) c.in_ok-op.op = says.0 refl in
+    let long : length (take c.loop-i.i c.args.list.now) ≡ c.loop-i.i = length-take-le c.loop-i.i c.args.list.now (omega arith) in
+    let grown = take_push c.args.list.now c.loop-i.i c.in_ok-op.op (omega arith) c.in_ok-op.ensures in
     record {
       counted = rw (grown, c.in_ok-count.ensures.clock)
-          (AreCounted-push (take c.loop-i.i c.args.list.now) c.loop-i.clock c.loop-i.index c.count.new.index c.index-list-i.result c.loop-i.invariant.counted
+          (AreCounted-push (take c.loop-i.i c.args.list.now) c.loop-i.clock c.loop-i.index c.count.new.index c.in_ok-op.op c.loop-i.invariant.counted
           follows (λ is. c.in_ok-count.ensures.index (take c.loop-i.i c.args.list.now) is long));
       numbers = rw grown
           (c.in_ok-add.ensures.added
-          ∙ (ap (with_number c.index-list-i.result.doc) c.loop-i.invariant.numbers ∙ sym (documents-push (take c.loop-i.i c.args.list.now) c.index-list-i.result)));
+          ∙ (ap (with_number c.in_ok-op.op.doc) c.loop-i.invariant.numbers ∙ sym (documents-push (take c.loop-i.i c.args.list.now) c.in_ok-op.op)));
     }

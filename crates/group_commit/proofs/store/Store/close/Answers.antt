@@ -20,7 +20,7 @@ invariant_of-self g c = (
       (ap (λ h. h.phase) c.self.view_is ∙ c.requires.phase)
       (c.in-Err.ensures).tells.0 (λ told. (c.in-Err.ensures.writes told).torn) (λ told ok. absurd cc)
       (λ told. g.met.D.Disk.lawful c.self.inside.disk told) (ap (λ h. h.failed) c.self.view_is ∙ c.requires.works),
-  streams_on c.self.inside.phase _ c.self.inside.current c.self.inside.next c.self.inside.stream.items c.self.invariant.1 (busy_at c.self.inside.phase Close (ap (λ h. h.phase) c.self.view_is ∙ c.requires.phase) (λ is. absurd cc)) (λ is. absurd cc),
+  streams_on c.self.inside.phase _ c.self.inside.current c.self.inside.next c.self.inside.stream c.self.invariant.1 (busy_at c.self.inside.phase Close (ap (λ h. h.phase) c.self.view_is ∙ c.requires.phase) (λ is. absurd cc)) (λ is. absurd cc),
   paging_failed _ Close _ _ _ _ _ _ _ _ _ c.self.invariant.2 (ap (λ h. h.phase) c.self.view_is ∙ c.requires.phase) (λ is. absurd cc) refl refl,
 )
 
@@ -35,7 +35,7 @@ invariant_of-self-in_default g c = (
       (ap (λ h. h.phase) c.self.view_is ∙ c.requires.phase)
       (c.in_default.ensures).tells.0 (λ told. (c.in_default.ensures.writes told).torn) (λ told ok. (c.in_default.ensures.writes told).written)
       (λ told. g.met.D.Disk.lawful c.self.inside.disk told) (ap (λ h. h.failed) c.self.view_is ∙ c.requires.works),
-  streams_on c.self.inside.phase _ c.self.inside.current c.self.inside.next c.self.inside.stream.items c.self.invariant.1 (busy_at c.self.inside.phase Close (ap (λ h. h.phase) c.self.view_is ∙ c.requires.phase) (λ is. absurd cc)) (λ is. absurd cc),
+  streams_on c.self.inside.phase _ c.self.inside.current c.self.inside.next c.self.inside.stream c.self.invariant.1 (busy_at c.self.inside.phase Close (ap (λ h. h.phase) c.self.view_is ∙ c.requires.phase) (λ is. absurd cc)) (λ is. absurd cc),
   paging_on _ Close Sync1 _ _ _ _ _ _ _ c.self.invariant.2 (ap (λ h. h.phase) c.self.view_is ∙ c.requires.phase) (λ is. absurd cc) refl (λ k is. absurd cc),
 )
 

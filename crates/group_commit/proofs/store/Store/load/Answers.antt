@@ -14,21 +14,21 @@ invariant_of-store g c = (
     plan = λ busy. absurd (busy refl);
     stands = λ told file left.
         let before = c.settle_and_read.ensures.tells.0 told in
-        rw (c.in-Ok.ensures.settled before file left, (front_all (stream_length_of c.in-Ok.image.current.body) c.in-Ok.image.stream.items c.in-Ok.ensures.long)) (c.in-Ok.ensures.stands before);
+        rw (c.in-Ok.ensures.settled before file left, (front_all (stream_length_of c.in-Ok.image.current.body) c.in-Ok.image.stream c.in-Ok.ensures.long)) (c.in-Ok.ensures.stands before);
     reads = λ told works. tt;
   },
-  streams_alone c.in-Ok.image.current c.in-Ok.image.next c.in-Ok.image.stream.items c.in-Ok.ensures.long c.in-Ok.ensures.other,
+  streams_alone c.in-Ok.image.current c.in-Ok.image.next c.in-Ok.image.stream c.in-Ok.ensures.long c.in-Ok.ensures.other,
   paging_alone _ _ _ _ _ _ _ c.in-Ok.ensures.index.0 c.in-Ok.ensures.index.1,
 )
 
 pub returns-in-Ok-clause-root : goal.returns-in-Ok-clause-root
 returns-in-Ok-clause-root g c = λ told.
-    rw (front_all (stream_length_of c.in-Ok.image.current.body) c.in-Ok.image.stream.items c.in-Ok.ensures.long)
-    (is_idle c.in-Ok.image.roots.slot c.in-Ok.image.roots.stale (with_stream c.in-Ok.image.current c.in-Ok.image.stream.items) (in_front c.in-Ok.image.next c.in-Ok.image.stream.items)
+    rw (front_all (stream_length_of c.in-Ok.image.current.body) c.in-Ok.image.stream c.in-Ok.ensures.long)
+    (is_idle c.in-Ok.image.roots.slot c.in-Ok.image.roots.stale (with_stream c.in-Ok.image.current c.in-Ok.image.stream) (in_front c.in-Ok.image.next c.in-Ok.image.stream)
     (g.D.DiskFacts.content c.args.disk) c.in-Ok.ensures.slot (c.in-Ok.ensures.stands told))
 
 pub returns-in-Ok-clause-history : goal.returns-in-Ok-clause-history
-returns-in-Ok-clause-history g c = rw ((front_all (stream_length_of c.in-Ok.image.current.body) c.in-Ok.image.stream.items c.in-Ok.ensures.long), c.replica-replica.ensures) c.in-Ok.ensures.history
+returns-in-Ok-clause-history g c = rw ((front_all (stream_length_of c.in-Ok.image.current.body) c.in-Ok.image.stream c.in-Ok.ensures.long), c.replica-replica.ensures) c.in-Ok.ensures.history
 
 pub returns-in-Ok-clause-slot : goal.returns-in-Ok-clause-slot
 returns-in-Ok-clause-slot g c = λ told.

@@ -19,7 +19,7 @@ invariant_of-self g c = (
       (ap (λ h. h.phase) c.self.view_is ∙ c.requires.phase)
       (c.in-Err.ensures).tells.0 (λ told. (c.in-Err.ensures.writes told).torn) (λ told ok. absurd cc)
       (λ told. g.met.D.Disk.lawful c.self.inside.disk told),
-  streams_on c.self.inside.phase _ c.self.inside.current c.self.inside.next c.self.inside.stream.items c.self.invariant.1 (busy_at c.self.inside.phase Gate (ap (λ h. h.phase) c.self.view_is ∙ c.requires.phase) (λ is. absurd cc)) (λ is. absurd cc),
+  streams_on c.self.inside.phase _ c.self.inside.current c.self.inside.next c.self.inside.stream c.self.invariant.1 (busy_at c.self.inside.phase Gate (ap (λ h. h.phase) c.self.view_is ∙ c.requires.phase) (λ is. absurd cc)) (λ is. absurd cc),
   paging_failed _ Gate _ _ _ _ _ _ _ _ _ c.self.invariant.2 (ap (λ h. h.phase) c.self.view_is ∙ c.requires.phase) (λ is. absurd cc) refl refl,
 )
 
@@ -34,7 +34,7 @@ invariant_of-self-in_default g c = (
       (ap (λ h. h.phase) c.self.view_is ∙ c.requires.phase)
       (c.in_default.ensures).tells.0 (λ told. (c.in_default.ensures.writes told).torn) (λ told ok. (c.in_default.ensures.writes told).written)
       (λ told. g.met.D.Disk.lawful c.self.inside.disk told),
-  streams_on c.self.inside.phase _ c.self.inside.current c.self.inside.next c.self.inside.stream.items c.self.invariant.1 (busy_at c.self.inside.phase Gate (ap (λ h. h.phase) c.self.view_is ∙ c.requires.phase) (λ is. absurd cc)) (λ is. absurd cc),
+  streams_on c.self.inside.phase _ c.self.inside.current c.self.inside.next c.self.inside.stream c.self.invariant.1 (busy_at c.self.inside.phase Gate (ap (λ h. h.phase) c.self.view_is ∙ c.requires.phase) (λ is. absurd cc)) (λ is. absurd cc),
   paging_on _ Gate Sync3 _ _ _ _ _ _ _ c.self.invariant.2 (ap (λ h. h.phase) c.self.view_is ∙ c.requires.phase) (λ is. absurd cc) refl (λ k is. absurd cc),
 )
 

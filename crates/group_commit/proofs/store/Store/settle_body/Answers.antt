@@ -25,7 +25,7 @@ invariant_of-self-2 g c = (
       (ap (λ h. h.phase) c.self.view_is ∙ c.requires.phase)
       (c.in_default.ensures).tells.0 (c.in_default.ensures).settled
       (λ told. g.met.D.Disk.lawful c.self.inside.disk told) (ap (λ h. h.failed) c.self.view_is ∙ c.requires.works),
-  streams_on c.self.inside.phase _ c.self.inside.current c.self.inside.next c.self.inside.stream.items c.self.invariant.1 (busy_at c.self.inside.phase Sync2 (ap (λ h. h.phase) c.self.view_is ∙ c.requires.phase) (λ is. absurd cc)) (λ is. absurd cc),
+  streams_on c.self.inside.phase _ c.self.inside.current c.self.inside.next c.self.inside.stream c.self.invariant.1 (busy_at c.self.inside.phase Sync2 (ap (λ h. h.phase) c.self.view_is ∙ c.requires.phase) (λ is. absurd cc)) (λ is. absurd cc),
   paging_on _ Sync2 Gate _ _ _ _ _ _ _ c.self.invariant.2 (ap (λ h. h.phase) c.self.view_is ∙ c.requires.phase) (λ is. absurd cc) refl (λ k is. absurd cc),
 )
 

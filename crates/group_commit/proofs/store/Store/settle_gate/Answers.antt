@@ -1,4 +1,4 @@
-use Rattle.std.proofs.Common.{refl, ◌≡◌, ap, ◌∙◌, inl, inr, ◌⊎◌, sym}
+use Rattle.std.proofs.Common.{refl, ◌≡◌, ap, ◌∙◌, sym}
 use Rattle.group_commit.specs.declared.error.StoreError.TheVariants.{SyncFailed}
 use Rattle.group_commit.proofs.store.Store.settle_gate.Goals as goal
 use Rattle.group_commit.specs.declared.phase.Phase.TheVariants.{Idle, Sync3}
@@ -38,7 +38,7 @@ invariant_of-self-2 g c = (
       (ap (λ h. h.phase) c.self.view_is ∙ c.requires.phase)
       (c.in_default.ensures).tells.0 (c.in_default.ensures).settled
       (λ told. g.met.D.Disk.lawful c.self.inside.disk told) (ap (λ h. h.failed) c.self.view_is ∙ c.requires.works)),
-  rw (c.swap.ensures.x_after, c.swap.ensures.y_after) (streams_through c.self.inside.phase c.self.inside.current c.self.inside.next c.self.inside.stream.items c.self.invariant.1 (busy_at c.self.inside.phase Sync3 (ap (λ h. h.phase) c.self.view_is ∙ c.requires.phase) (λ is. absurd cc))),
+  rw (c.swap.ensures.x_after, c.swap.ensures.y_after) (streams_through c.self.inside.phase c.self.inside.current c.self.inside.next c.self.inside.stream c.self.invariant.1 (busy_at c.self.inside.phase Sync3 (ap (λ h. h.phase) c.self.view_is ∙ c.requires.phase) (λ is. absurd cc))),
   rw (c.swap.ensures.x_after, c.swap.ensures.y_after) (paging_through _ _ _ _ _ _ _ _ _ c.self.invariant.2 (ap (λ h. h.phase) c.self.view_is ∙ c.requires.phase) (ap (λ h. h.failed) c.self.view_is ∙ c.requires.works) c.adopt.ensures),
 )
 

@@ -4,5 +4,5 @@ use Rattle.replica_core.proofs.replica.Replica.made.Goals as goal
 
 pub overflow_add-next : goal.overflow_add-next
 overflow_add-next c =
-    let fits = next_fits c.self.inside.log.list.items c.self.inside.log.index.greatest c.self.invariant.sound.closed c.self.invariant.index.greatest in
+    let fits = next_fits c.self.inside.log.list c.self.inside.log.index.greatest c.self.invariant.sound.closed c.self.invariant.index.greatest in
     omega arith

@@ -8,19 +8,19 @@ use Rattle.replica_core.proofs.replica.Replica.put_merge.Goals as goal
 pub append-requires-clause-small : goal.append-requires-clause-small
 append-requires-clause-small c =
     let can = rw (← c.self.view_is) at c.requires in
-    rw c.in_ok-made.ensures (stream_fits c.self.inside.log.list.items (c.args.op ∷ []) c.self.inside.log.index.stream can.joins.follows.limits c.self.invariant.index.stream)
+    rw (c.deref.ensures.value, c.in_ok-made.ensures) (stream_fits c.self.inside.log.list (c.args.op ∷ []) can.joins.follows.limits)
 
 pub invariant_of-self-2 : goal.invariant_of-self-2
 invariant_of-self-2 c =
     let can = rw (← c.self.view_is) at c.requires in
-    let at : c.len.result ≡ length c.self.inside.log.list.items = search rules in
+    let at : c.len.result ≡ length c.self.inside.log.list = search rules in
     let counts : c.advance.new.self ≡ advanced c.self.inside.clock c.args.op.id.replica = rw (c.in_ok-clock.ensures, c.replica.ensures) at c.in-Ok.ensures.ok in
     AreFields-merge c.self.inside.id c.self.inside.opened c.self.inside.settled c.self.inside.acked c.self.inside.told c.args.peer c.len.result
-    c.self.inside.log c.append.new.self c.in_ok-made.made.items c.args.op c.self.inside.clock c.advance.new.self _
-    c.self.invariant can counts c.in-Ok-append.ensures.ok c.in_ok-made.ensures at
+    c.self.inside.log c.append.new.self c.deref.result.now c.args.op c.self.inside.clock c.advance.new.self _
+    c.self.invariant can counts c.in-Ok-append.ensures.ok (c.deref.ensures.value ∙ c.in_ok-made.ensures) at
 
 pub unreachable-requires : goal.unreachable-requires
 unreachable-requires c =
     let can = rw (← c.self.view_is) at c.requires in
-    let come = may_come c.self.inside.log.list.items c.args.op.doc c.args.op can.joins.follows refl in
-    c.append.ensures.known (c.in-Err-UnknownId.is ∙ ap Err c.in-Err-UnknownId.field-0-is) c.self.invariant.docs (rw c.in_ok-made.ensures (come, tt))
+    let come = may_come c.self.inside.log.list c.args.op.doc c.args.op can.joins.follows refl in
+    c.append.ensures.known (c.in-Err-UnknownId.is ∙ ap Err c.in-Err-UnknownId.field-0-is) c.self.invariant.docs (rw (c.deref.ensures.value, c.in_ok-made.ensures) (come, tt))

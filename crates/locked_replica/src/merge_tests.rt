@@ -1,0 +1,154 @@
+use crate::Hub;
+use crate::random_tests::{commit, merge};
+use crate::tests::{new_disk, open};
+use disk_trait::MemDisk;
+use op_ids::Clock;
+use op_model::{Change, Edit, EditText, Op};
+use replica_core::Merged;
+use std::alloc::Global;
+use std::test::Fail;
+
+/// The hub of a new replica.
+fn peer(alloc: Global, last: u8) -> Result<Hub<MemDisk>, Fail> {
+    open(alloc, new_disk(alloc, last, 65_536, 1_024)?)
+}
+
+/// The insert of one character into document 1.
+fn insert(alloc: Global, at: u32, value: char) -> Result<Edit, Fail> {
+    let mut text = Vec::new(alloc);
+    text.push(value)?;
+    let text = EditText::new(text).ok_or("a text")?;
+    Ok(Edit {
+        doc: 1,
+        rev: None,
+        change: Change::Insert { at, text },
+    })
+}
+
+fn edit(hub: &mut Hub<MemDisk>, edit: &Edit) -> Result<(), Fail> {
+    match hub.edit(1, edit) {
+        Ok(_) => Ok(()),
+        Err(_) => Err("edit".into()),
+    }
+}
+
+/// Types one character into document 1.
+fn put(alloc: Global, hub: &mut Hub<MemDisk>, at: u32, value: char) -> Result<(), Fail> {
+    let made = insert(alloc, at, value)?;
+    edit(hub, &made)
+}
+
+/// What a merge answers: 0 applied, 2 known, 3 early, or the number of the refusal.
+fn answer(hub: &mut Hub<MemDisk>, op: Op) -> u8 {
+    match hub.merge(40, op) {
+        Ok(Merged::Applied) => 0,
+        Ok(Merged::Known) => 2,
+        Ok(Merged::Early) => 3,
+        Err(refusal) => refusal.number(),
+    }
+}
+
+fn tell_all(alloc: Global, hub: &mut Hub<MemDisk>) -> Result<Vec<Op>, Fail> {
+    match hub.tell(&Clock::new(alloc)) {
+        Ok(ops) => Ok(ops),
+        Err(_) => Err("tell".into()),
+    }
+}
+
+/// The operations that the replica of this number makes of these characters, each behind the one before.
+fn typed(alloc: Global, last: u8, values: &[char]) -> Result<Vec<Op>, Fail> {
+    let mut hub = peer(alloc, last)?;
+    for value in values {
+        put(alloc, &mut hub, 0, *value)?;
+    }
+    commit(&mut hub)?;
+    tell_all(alloc, &mut hub)
+}
+
+fn has_text(hub: &Hub<MemDisk>, values: &[char]) -> Result<bool, Fail> {
+    Ok(hub.text(1)?.as_slice() == values)
+}
+
+/// Gives each what the other one has.
+fn exchange(one: &mut Hub<MemDisk>, other: &mut Hub<MemDisk>) -> Result<(), Fail> {
+    merge(one, other)?;
+    merge(other, one)?;
+    Ok(())
+}
+
+/// How many operations a hub has.
+fn count(hub: &Hub<MemDisk>) -> usize {
+    hub.list().len()
+}
+
+/// One peer types "x", then "y" and "w" behind it; the other one, which has "x", "z" behind that.
+fn fork(alloc: Global, one: &mut Hub<MemDisk>, other: &mut Hub<MemDisk>) -> Result<(), Fail> {
+    put(alloc, one, 0, 'x')?;
+    merge(one, other)?;
+    put(alloc, other, 1, 'z')?;
+    put(alloc, one, 1, 'y')?;
+    put(alloc, one, 2, 'w')
+}
+
+/// What two peers show that wrote at one place, and then merged.
+fn forked(alloc: Global, one: &mut Hub<MemDisk>, other: &mut Hub<MemDisk>) -> Result<bool, Fail> {
+    fork(alloc, one, other)?;
+    exchange(one, other)?;
+    let wanted = ['x', 'z', 'y', 'w'];
+    Ok(has_text(one, wanted.as_slice())? && has_text(other, wanted.as_slice())?)
+}
+
+#[test]
+fn inserts_of_two_peers_at_one_place_go_alike(rt: HostRuntime) -> Result<(), Fail> {
+    let alloc = rt.alloc();
+    let mut a = peer(alloc, 1)?;
+    let mut b = peer(alloc, 2)?;
+    assert!(rt; forked(alloc, &mut a, &mut b)?);
+    Ok(())
+}
+
+/// What merges of these operations answer, one after another, and behind each how many operations the hub
+/// has.
+fn answers(alloc: Global, hub: &mut Hub<MemDisk>, ops: Vec<Op>) -> Result<Vec<(u8, usize)>, Fail> {
+    let mut found = Vec::new(alloc);
+    for op in ops {
+        let number = answer(hub, op);
+        found.push((number, count(hub)))?;
+    }
+    Ok(found)
+}
+
+/// The second of two operations, then the first one, twice.
+fn shuffled(alloc: Global, ops: &[Op]) -> Result<Vec<Op>, Fail> {
+    let first = ops.first().ok_or("none")?;
+    let second = ops.last().ok_or("none")?;
+    let mut found = Vec::new(alloc);
+    found.push(second.copy()?)?;
+    found.push(first.copy()?)?;
+    found.push(first.copy()?)?;
+    Ok(found)
+}
+
+/// Whether the hub of a new replica gives these answers to the operations.
+fn answers_so(alloc: Global, ops: Vec<Op>, wanted: &[(u8, usize)]) -> Result<bool, Fail> {
+    let mut hub = peer(alloc, 1)?;
+    Ok(answers(alloc, &mut hub, ops)?.as_slice() == wanted)
+}
+
+#[test]
+fn a_merge_answers_early_applied_known(rt: HostRuntime) -> Result<(), Fail> {
+    let alloc = rt.alloc();
+    let ops = shuffled(alloc, &typed(alloc, 2, &['x', 'y'])?)?;
+    let wanted = [(3, 0), (0, 1), (2, 1)];
+    assert!(rt; answers_so(alloc, ops, wanted.as_slice())?);
+    Ok(())
+}
+
+#[test]
+fn an_own_operation_that_is_not_known_is_refused(rt: HostRuntime) -> Result<(), Fail> {
+    let alloc = rt.alloc();
+    let ops = typed(alloc, 1, &['x'])?;
+    let wanted = [(20, 0)];
+    assert!(rt; answers_so(alloc, ops, wanted.as_slice())?);
+    Ok(())
+}

@@ -1,0 +1,4 @@
+pub mod EndsOf
+pub mod FirstRecord
+pub mod Holding
+pub mod Passing

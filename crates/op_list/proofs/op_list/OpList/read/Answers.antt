@@ -1,0 +1,19 @@
+use Rattle.std.proofs.Common.{List, ℕ, subst}
+use Rattle.op_list.specs.Held.{Holds}
+use Rattle.op_list.proofs.Holding.{is_held}
+use Rattle.op_list.proofs.op_list.OpList.read.Goals as goal
+
+read : (c : goal.In_ok-ends)
+    → Holds c.args.records.items c.in_ok-ends.ends.items c.in_ok-ends.ensures.ok.0
+read c =
+    subst (λ (r : List ℕ). Holds r c.in_ok-ends.ends.items c.in_ok-ends.ensures.ok.0)
+    c.deref.ensures.value c.in_ok-ends.ensures.ok.1
+
+pub invariant_of-result : goal.invariant_of-result
+invariant_of-result c = is_held _ _ _ (read c)
+
+pub returns-clause-spelled_so : goal.returns-clause-spelled_so
+returns-clause-spelled_so c = let held = is_held _ _ _ (read c) in held.spelled_so
+
+pub returns-clause-fits : goal.returns-clause-fits
+returns-clause-fits c = let held = is_held _ _ _ (read c) in held.fits

@@ -1,0 +1,9 @@
+use Rattle.std.proofs.Common.{drop, ◌∙◌}
+use Rattle.change_codec.proofs.StreamLaws.{spelled_all-determines}
+use Rattle.op_list.proofs.op_slice.OpSlice.copy_from.Goals as goal
+
+pub returns-in-Ok : goal.returns-in-Ok
+returns-in-Ok c =
+    spelled_all-determines c.in-Ok.ops.items (drop c.args.n c.args.self.now) c.in-Ok.ensures.fits
+    c.records_from.ensures.fits
+    (c.in-Ok.ensures.spelled_so ∙ c.records_from.ensures.spelled_so)

@@ -1,0 +1,102 @@
+ghost use Rattle.std.specs.Prelude.{◌≡◌, ◌+◌, ◌<◌, ◌≤◌, ◌^◌, [], ◌++◌, length, take, IfOk, OnOk, OnErr, IsErrOf};
+ghost use Rattle.change_codec.specs.declared.stream_error.StreamError.TheVariants.{Stream};
+ghost use Rattle.change_codec.specs.Stream.{spelled_all, AreOperations, IsNoStream};
+ghost use Rattle.op_model.specs.Records.{stream_length};
+
+use crate::ends::{find_ends, push_ends};
+use crate::op_slice::OpSlice;
+use change_codec::{StreamError, put_ops};
+use op_model::Op;
+use std::alloc::{AllocError, Global};
+use std::marker::Model;
+
+/// A list of operations, held as their records, one after another, and where each one ends: four
+/// bytes an operation beside its record. Contracts see the list.
+#[derive(Debug, Drop)]
+pub struct OpList {
+    records: Vec<u8>,
+    /// Where each record ends, in bytes from the beginning.
+    ends: Vec<u32>,
+}
+
+impl Model for OpList {
+    ghost use Rattle.std.specs.Prelude.{List};
+    ghost use Rattle.op_model.specs.declared.op.Op.{Op};
+
+    ghost Value = { List Op };
+
+    ghost use Rattle.op_list.specs.Held.{held, IsHeld};
+
+    ghost view = { λ l. held l.records.items l.ends.items };
+
+    ghost invariant = { λ l. IsHeld l.records.items l.ends.items };
+}
+
+impl OpList {
+    /// The empty list. Takes no memory.
+    pub fn new(alloc: Global) -> OpList
+        ensures { result ≡ [] }
+    {
+        OpList {
+            records: Vec::new(alloc),
+            ends: Vec::new(alloc),
+        }
+    }
+
+    /// The operations whose records these bytes are. `Stream` (46) where the bytes aren't the
+    /// records of operations, one after another; `Memory` (1) says nothing of the bytes. One pass.
+    /// The bytes stay where they are.
+    pub fn read(alloc: Global, records: Vec<u8>) -> Result<OpList, StreamError>
+        requires { length records.items < 2 ^ 32 }
+        ensures spelled_so { IfOk result (λ ops. spelled_all ops ≡ records.items) }
+        ensures fits { IfOk result (λ ops. AreOperations ops) }
+        ensures none { IsErrOf result Stream → IsNoStream records.items }
+    {
+        let ends = find_ends(alloc, &records)?;
+        Ok(OpList { records, ends })
+    }
+
+    /// The operations. Constant.
+    pub fn as_slice(&self) -> OpSlice<'_>
+        ensures { result ≡ self.now }
+    {
+        OpSlice::new(&self.records, &self.ends)
+    }
+
+    /// How many operations. Constant.
+    pub fn len(&self) -> usize
+        ensures { result ≡ length self.now }
+    {
+        self.as_slice().len()
+    }
+
+    /// Where its memory comes from.
+    pub fn allocator(&self) -> Global {
+        *self.records.allocator()
+    }
+
+    /// Puts operations behind the others: all of them, or none. An error is want of memory (1).
+    /// Linear in their records.
+    pub fn append(&mut self, ops: &[Op]) -> Result<(), AllocError>
+        requires { stream_length self.old + stream_length ops.now < 2 ^ 32 }
+        ensures ok { OnOk result (self.new ≡ self.old ++ ops.now) }
+        ensures err { OnErr result (self.new ≡ self.old) }
+    {
+        let start = self.records.len();
+        self.ends.reserve(ops.len())?;
+        put_ops(ops, &mut self.records)?;
+        push_ends(start, ops, &mut self.ends);
+        Ok(())
+    }
+
+    /// Keeps the first n operations, or all of them where they are fewer. Takes no memory.
+    pub fn truncate(&mut self, n: usize)
+        ensures { self.new ≡ take n self.old }
+    {
+        if n < self.len() {
+            let end = self.as_slice().start(n);
+            self.records.truncate(end);
+            self.ends.truncate(n);
+        }
+    }
+}
