@@ -55,7 +55,7 @@ fn tell_all(alloc: Global, hub: &mut Hub<MemDisk>) -> Result<Vec<Op>, Fail> {
     }
 }
 
-/// The operations that the replica of this number makes of these characters, each behind the one before.
+/// The operations of a replica that types these characters, each in front of the others.
 fn typed(alloc: Global, last: u8, values: &[char]) -> Result<Vec<Op>, Fail> {
     let mut hub = peer(alloc, last)?;
     for value in values {
@@ -76,9 +76,9 @@ fn exchange(one: &mut Hub<MemDisk>, other: &mut Hub<MemDisk>) -> Result<(), Fail
     Ok(())
 }
 
-/// How many operations a hub has.
-fn count(hub: &Hub<MemDisk>) -> usize {
-    hub.list().len()
+/// How many operations a hub has, and of how many replicas its clock counts some.
+fn counts(hub: &Hub<MemDisk>) -> (usize, usize) {
+    (hub.list().len(), hub.clock().len())
 }
 
 /// One peer types "x", then "y" and "w" behind it; the other one, which has "x", "z" behind that.
@@ -107,13 +107,16 @@ fn inserts_of_two_peers_at_one_place_go_alike(rt: HostRuntime) -> Result<(), Fai
     Ok(())
 }
 
-/// What merges of these operations answer, one after another, and behind each how many operations the hub
-/// has.
-fn answers(alloc: Global, hub: &mut Hub<MemDisk>, ops: Vec<Op>) -> Result<Vec<(u8, usize)>, Fail> {
+/// What merges of these operations answer, one after another, and the counts behind each.
+fn answers(
+    alloc: Global,
+    hub: &mut Hub<MemDisk>,
+    ops: Vec<Op>,
+) -> Result<Vec<(u8, (usize, usize))>, Fail> {
     let mut found = Vec::new(alloc);
     for op in ops {
         let number = answer(hub, op);
-        found.push((number, count(hub)))?;
+        found.push((number, counts(hub)))?;
     }
     Ok(found)
 }
@@ -130,7 +133,7 @@ fn shuffled(alloc: Global, ops: &[Op]) -> Result<Vec<Op>, Fail> {
 }
 
 /// Whether the hub of a new replica gives these answers to the operations.
-fn answers_so(alloc: Global, ops: Vec<Op>, wanted: &[(u8, usize)]) -> Result<bool, Fail> {
+fn answers_so(alloc: Global, ops: Vec<Op>, wanted: &[(u8, (usize, usize))]) -> Result<bool, Fail> {
     let mut hub = peer(alloc, 1)?;
     Ok(answers(alloc, &mut hub, ops)?.as_slice() == wanted)
 }
@@ -139,7 +142,7 @@ fn answers_so(alloc: Global, ops: Vec<Op>, wanted: &[(u8, usize)]) -> Result<boo
 fn a_merge_answers_early_applied_known(rt: HostRuntime) -> Result<(), Fail> {
     let alloc = rt.alloc();
     let ops = shuffled(alloc, &typed(alloc, 2, &['x', 'y'])?)?;
-    let wanted = [(3, 0), (0, 1), (2, 1)];
+    let wanted = [(3, (0, 0)), (0, (1, 1)), (2, (1, 1))];
     assert!(rt; answers_so(alloc, ops, wanted.as_slice())?);
     Ok(())
 }
@@ -148,7 +151,7 @@ fn a_merge_answers_early_applied_known(rt: HostRuntime) -> Result<(), Fail> {
 fn an_own_operation_that_is_not_known_is_refused(rt: HostRuntime) -> Result<(), Fail> {
     let alloc = rt.alloc();
     let ops = typed(alloc, 1, &['x'])?;
-    let wanted = [(20, 0)];
+    let wanted = [(20, (0, 0))];
     assert!(rt; answers_so(alloc, ops, wanted.as_slice())?);
     Ok(())
 }

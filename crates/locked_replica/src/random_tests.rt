@@ -97,11 +97,13 @@ fn make_calls(hub: &mut Hub<MemDisk>) -> Result<(), Fail> {
 
 /// Commits all that a hub has, where something isn't settled.
 pub(crate) fn commit(hub: &mut Hub<MemDisk>) -> Result<(), Fail> {
-    if let Ok(Some(_)) = hub.begin() {
-        make_calls(hub)?;
-        if hub.settle().is_err() {
-            return Err("settle".into());
-        }
+    match hub.begin() {
+        Ok(Some(_)) => make_calls(hub)?,
+        Ok(None) => return Ok(()),
+        Err(_) => return Err("begin".into()),
+    }
+    if hub.settle().is_err() {
+        return Err("settle".into());
     }
     Ok(())
 }

@@ -121,10 +121,11 @@ fn the_rest_is_copied(rt: HostRuntime) -> Result<(), Fail> {
     let mut expected = Vec::new(alloc);
     expected.push(remove(alloc)?)?;
     expected.push(link(alloc)?)?;
-    if list.len() == 4 {
-        let rest = list.as_slice().front(3).copy_from(alloc, 1)?;
-        assert_eq!(rt; rest, expected);
+    if list.len() < 4 {
+        return Err("a short list".into());
     }
+    let rest = list.as_slice().front(3).copy_from(alloc, 1)?;
+    assert_eq!(rt; rest, expected);
     Ok(())
 }
 

@@ -13,3 +13,5 @@ pub mod IndexLemmas
 pub mod DocLemmas
 pub mod NumberLemmas
 pub mod DraftLemmas
+pub mod DocumentOps
+pub mod SeenLemmas

@@ -4,6 +4,7 @@
 mod counting;
 mod deciding;
 mod docs;
+mod document_ops;
 mod drafts;
 mod following;
 mod index;

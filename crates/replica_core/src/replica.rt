@@ -13,6 +13,7 @@ ghost use Rattle.replica_core.specs.Steps.{places_left};
 use crate::counting::{self, count_all};
 use crate::deciding::edit_refusal;
 use crate::docs::{find, has_document};
+use crate::document_ops::of_document;
 use crate::following::{first_failed, is_known};
 use crate::index::Index;
 use crate::log::{Log, one};
@@ -183,13 +184,13 @@ impl Replica {
         find(&self.log.docs, &empty).text()
     }
 
-    /// The text of a document, cut where the marks change. An error is want of memory (1). Copies
-    /// the list, and is cubic in it.
+    /// The text of a document, cut where the marks change. An error is want of memory (1). A look at
+    /// the head of each operation; cubic in those of the document, which are copied.
     pub fn spans(&self, doc: u32) -> Result<Vec<Span>, AllocError>
         ensures { IfOk result (λ found. found.items ≡ spans_of self.now.list doc) }
     {
         let alloc = self.log.list.allocator();
-        let ops = self.log.list.as_slice().copy_from(alloc, 0)?;
+        let ops = of_document(alloc, &self.log.list.as_slice(), doc)?;
         slow_programs::spans(alloc, &ops, doc)
     }
 
@@ -396,8 +397,8 @@ impl Replica {
     }
 
     /// The first settled operations, at most 64 in the order of the list, that a clock doesn't
-    /// count. They count as told. An error is want of memory (1), and changes nothing. Linear in
-    /// the list.
+    /// count. They count as told. An error is want of memory (1), and changes nothing. A look
+    /// at the heads of the settled operations, and linear in the records of those that are told.
     pub fn tell(&mut self, clock: &Clock) -> Result<Vec<Op>, Refusal>
         ensures told { IfOk result (λ ops. ops.items ≡ untold_of clock.now (alone self.old)) }
         ensures raised { OnOk result (self.new

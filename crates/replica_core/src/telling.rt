@@ -1,9 +1,9 @@
-ghost use Rattle.std.specs.Prelude.{◌≡◌, true, false, not, take, filter, IfOk, MatchOption};
-ghost use Rattle.op_model.specs.Causality.{is_known as is_known_in};
+ghost use Rattle.std.specs.Prelude.{◌≡◌, not, nat_lt, take, filter, IfOk, OnOk};
+ghost use Rattle.op_ids.specs.Clock.{advanced, count_of};
+ghost use Rattle.op_model.specs.Causality.{is_known as is_known_in, IsCausallyClosed};
 ghost use Rattle.op_model.specs.Machine.{reach};
 
-use crate::following::is_known;
-use op_ids::Clock;
+use op_ids::{Clock, ReplicaId};
 use op_list::OpSlice;
 use op_model::Op;
 use std::alloc::{AllocError, Global};
@@ -11,28 +11,30 @@ use std::alloc::{AllocError, Global};
 /// The most operations that are told at once.
 const MAX_TOLD: usize = 64;
 
-/// Of these operations the first, at most 64, that a clock doesn't count, and how many operations
-/// the last of them needs. An error is want of memory (1). Reads each operation, linear in its
-/// record, and lets those go that aren't told.
+/// Of a causally closed list the first operations, at most 64, that a clock doesn't count, and how many
+/// operations the last of them needs. An error is want of memory (1). A look at the head of each
+/// operation up to that; only those that are told are read.
 pub fn untold(
     alloc: Global,
     clock: &Clock,
     ops: &OpSlice<'_>,
 ) -> Result<(Vec<Op>, usize), AllocError>
+    requires { IsCausallyClosed ops.now }
     ensures told { IfOk result
         (λ told. told.0.items ≡ take 64 (filter (λ op. not (is_known_in clock.now op)) ops.now)) }
     ensures reached { IfOk result (λ told. told.1 ≡ reach 64 clock.now ops.now) }
 {
     let mut found = Vec::new(alloc);
+    let mut seen = Clock::new(alloc);
     let mut reached = 0;
     let mut left = MAX_TOLD;
     for i in 0..ops.len() {
         if left == 0 {
             return Ok((found, reached));
         }
-        let op = ops.get(alloc, i)?;
-        if let Some(unknown) = unless_known(clock, op) {
-            found.push(unknown)?;
+        if !count_next(clock, &mut seen, ops.head(i).id.replica())? {
+            let op = ops.get(alloc, i)?;
+            found.push(op)?;
             reached = i + 1;
             left -= 1;
         }
@@ -40,13 +42,16 @@ pub fn untold(
     Ok((found, reached))
 }
 
-/// The operation, unless a clock counts it.
-fn unless_known(clock: &Clock, op: Op) -> Option<Op>
-    ensures { MatchOption result (is_known_in clock.now op ≡ true)
-        (λ unknown. (unknown ≡ op) × (is_known_in clock.now op ≡ false)) }
+/// Counts a replica's next operation, and tells whether a clock counts it. An error is want of memory (1).
+fn count_next(clock: &Clock, seen: &mut Clock, replica: ReplicaId) -> Result<bool, AllocError>
+    ensures known { IfOk result
+        (λ known. known ≡ nat_lt (count_of seen.old replica) (count_of clock.now replica)) }
+    ensures seen { OnOk result (seen.new ≡ advanced seen.old replica) }
 {
-    if is_known(clock, &op) {
-        return None;
+    let is_known = seen.get(replica) < clock.get(replica);
+    match seen.advance(replica) {
+        Ok(()) => Ok(is_known),
+        // A causally closed list keeps the limits of a clock, so only a growth can be refused.
+        Err(_) => Err(AllocError),
     }
-    Some(op)
 }
