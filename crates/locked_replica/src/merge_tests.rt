@@ -1,9 +1,9 @@
 use crate::Hub;
 use crate::random_tests::{commit, merge};
-use crate::tests::{new_disk, open};
+use crate::tests::{new_disk, open, replica};
 use disk_trait::MemDisk;
-use op_ids::Clock;
-use op_model::{Change, Edit, EditText, Op};
+use op_ids::{Clock, OpId};
+use op_model::{Body, Change, Edit, EditText, Op};
 use replica_core::Merged;
 use std::alloc::Global;
 use std::test::Fail;
@@ -153,5 +153,68 @@ fn an_own_operation_that_is_not_known_is_refused(rt: HostRuntime) -> Result<(), 
     let ops = typed(alloc, 1, &['x'])?;
     let wanted = [(20, (0, 0))];
     assert!(rt; answers_so(alloc, ops, wanted.as_slice())?);
+    Ok(())
+}
+
+/// An insert of replica 2 that depends on its first operation.
+fn second(alloc: Global, counter: u64, doc: u32, origin: Option<OpId>) -> Result<Op, Fail> {
+    let by = replica(2)?;
+    let mut deps = Clock::new(alloc);
+    deps.advance(by)?;
+    Ok(Op {
+        id: OpId::try_new(counter, by).ok_or("counter")?,
+        doc,
+        deps,
+        body: Body::Insert { origin, value: 'q' },
+    })
+}
+
+/// The operations that fail a check each behind the first ones of replicas 1 and 2: an old counter, a name
+/// that isn't depended on, document 0.
+fn refused(alloc: Global) -> Result<Vec<Op>, Fail> {
+    let other = OpId::try_new(1, replica(1)?).ok_or("counter")?;
+    let mut ops = Vec::new(alloc);
+    ops.push(second(alloc, 1, 1, None)?)?;
+    ops.push(second(alloc, 2, 1, Some(other))?)?;
+    ops.push(second(alloc, 2, 0, None)?)?;
+    Ok(ops)
+}
+
+/// A hub with the first operations of replicas 1 and 2.
+fn with_two(alloc: Global) -> Result<Hub<MemDisk>, Fail> {
+    let mut hub = peer(alloc, 1)?;
+    put(alloc, &mut hub, 0, 'a')?;
+    answers(alloc, &mut hub, typed(alloc, 2, &['b'])?)?;
+    Ok(hub)
+}
+
+#[test]
+fn a_merge_that_fails_a_check_changes_nothing(rt: HostRuntime) -> Result<(), Fail> {
+    let alloc = rt.alloc();
+    let mut hub = with_two(alloc)?;
+    let wanted = [(21, (2, 2)), (22, (2, 2)), (23, (2, 2))];
+    assert!(rt; answers(alloc, &mut hub, refused(alloc)?)?.as_slice() == wanted.as_slice());
+    assert!(rt; has_text(&hub, &['b', 'a'])?);
+    Ok(())
+}
+
+/// The first operations of replicas 2 to 17.
+fn firsts(alloc: Global) -> Result<Vec<Op>, Fail> {
+    let mut ops = Vec::new(alloc);
+    for last in 2..18 {
+        let mut one = typed(alloc, last, &['x'])?;
+        ops.push(one.pop().ok_or("none")?)?;
+    }
+    Ok(ops)
+}
+
+#[test]
+fn a_seventeenth_replica_is_refused(rt: HostRuntime) -> Result<(), Fail> {
+    let alloc = rt.alloc();
+    let mut hub = peer(alloc, 1)?;
+    put(alloc, &mut hub, 0, 'a')?;
+    let mut found = answers(alloc, &mut hub, firsts(alloc)?)?;
+    assert!(rt; found.pop() == Some((24, (16, 16))));
+    assert!(rt; found.pop() == Some((0, (16, 16))));
     Ok(())
 }

@@ -9,7 +9,7 @@ use std::process::Abort;
 use std::test::Fail;
 
 // The replica whose last byte is this.
-fn replica(last: u8) -> Result<ReplicaId, Fail> {
+pub(crate) fn replica(last: u8) -> Result<ReplicaId, Fail> {
     let bytes = [0, 0, 0, 0, 0, 0, 0x40, 0, 0x80, 0, 0, 0, 0, 0, 0, last];
     Ok(ReplicaId::read(bytes).ok_or("nil")?)
 }
