@@ -1,8 +1,7 @@
 """Edits and merges a second on documents of 10^3, 10^4 and 10^5 characters: at the end, at the front and at random places.
 
 python3 bench/edits.py PROGRAM [MERGES], where MERGES is the program of crates/merge_bench. Edits go through sessions over files in
-memory (/dev/shm), so that the disk costs little. Merges are made in one process without a disk; their time is that of a run with
-them, less that of the same run without them, the least of three each.
+memory (/dev/shm), so that the disk costs little. Merges are made in one process without a disk, the least time of three runs.
 """
 
 import os
@@ -37,22 +36,27 @@ def measure_edits(program):
                 told(f"{count} characters, at the {place}", times)
 
 
-def least(program, line):
-    """The least time of three runs of the program on a line."""
+def merging(program, count, place):
+    """The least time of three runs from the line `ready` to the next one: merges alone, all before them is done by then."""
     times = []
     for _ in range(3):
-        started = time.perf_counter()
-        subprocess.run([program], input=line.encode(), capture_output=True, check=True)
-        times.append(time.perf_counter() - started)
+        with subprocess.Popen([program], stdin=subprocess.PIPE, stdout=subprocess.PIPE) as run:
+            run.stdin.write(f"{count} {place} {MERGES}\n".encode())
+            run.stdin.close()
+            ready = run.stdout.readline()
+            started = time.perf_counter()
+            told = run.stdout.readline()
+            times.append(time.perf_counter() - started)
+        if (ready, told) != (b"ready\n", b"%d\n" % (count + MERGES)):
+            raise SystemExit(f"the program said {ready} and {told}")
     return min(times)
 
 
 def measure_merges(program):
     for count in COUNTS:
         for place in PLACES:
-            without = least(program, f"{count} {place} {MERGES} 0\n")
-            took = least(program, f"{count} {place} {MERGES} {MERGES}\n") - without
-            print(f"{count} characters, merges at the {place:6} {MERGES / took:12.0f} /s")
+            took = merging(program, count, place)
+            print(f"{count} characters, merges at the {place:6} {MERGES / took:12.0f} /s   {took / MERGES * 1e6:8.2f} us")
 
 
 def main():

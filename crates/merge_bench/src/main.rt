@@ -1,4 +1,5 @@
-//! Merges into a replica in memory, for `bench/edits.py`.
+//! Merges into a replica in memory, for `bench/edits.py`: for each line `COUNT PLACE EDITS` it says
+//! `ready` once all before the merges is done, and how many operations there are behind them.
 #![tactic(auto)]
 
 mod place;
@@ -9,12 +10,18 @@ use std::io;
 
 fn main(rt: HostRuntime) -> io::Result<()> {
     for line in rt.lines(rt.alloc()) {
-        match Plan::read(line?.as_str()) {
-            Some(plan) => match plan.run(rt.alloc()) {
-                Some(count) => println!(rt; "{count}")?,
-                None => println!(rt; "refused")?,
-            },
-            None => println!(rt; "a line has to be: COUNT PLACE EDITS MERGES")?,
+        let Some(plan) = Plan::read(line?.as_str()) else {
+            println!(rt; "a line has to be: COUNT PLACE EDITS")?;
+            continue;
+        };
+        let Some(mut pair) = plan.prepare(rt.alloc()) else {
+            println!(rt; "refused")?;
+            continue;
+        };
+        println!(rt; "ready")?;
+        match pair.merge(rt.alloc()) {
+            Some(count) => println!(rt; "{count}")?,
+            None => println!(rt; "refused")?,
         }
     }
     Ok(())

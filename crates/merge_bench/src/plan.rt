@@ -12,30 +12,28 @@ use std::alloc::Global;
 /// The characters of an edit, at most.
 const MOST: u32 = 256;
 
-/// One replica types `count` characters into document 1, and then makes `edits` inserts of one character at a place. Another one
-/// has the first `count` operations, and merges `merges` of those behind them.
+/// One replica types `count` characters into document 1, and then makes `edits` inserts of one
+/// character at a place. Another one has the first `count` operations, and merges those behind them.
 #[derive(Drop)]
 pub struct Plan {
     count: u32,
     place: Place,
     edits: u32,
-    merges: usize,
 }
 
 impl Plan {
-    /// The plan of a line `COUNT PLACE EDITS MERGES`.
+    /// The plan of a line `COUNT PLACE EDITS`.
     pub fn read(line: &str) -> Option<Plan> {
         let mut words = line.split_whitespace();
         Some(Plan {
             count: words.next()?.parse().ok()?,
             place: Place::read(words.next()?)?,
             edits: words.next()?.parse().ok()?,
-            merges: words.next()?.parse().ok()?,
         })
     }
 
-    /// Goes through with it, and gives how many operations the other replica has then; `None` where something is refused.
-    pub fn run(&self, alloc: Global) -> Option<usize> {
+    /// All that comes before the merges; `None` where something is refused.
+    pub fn prepare(&self, alloc: Global) -> Option<Pair> {
         let mut one = typed(alloc, self.count)?;
         for number in 0..self.edits {
             let at = self.place.at(number, self.count.saturating_add(number));
@@ -46,12 +44,27 @@ impl Plan {
         if first > list.len() {
             return None;
         }
-        let mut other = with_list(alloc, &list.front(first))?;
-        let last = first.saturating_add(self.merges).min(list.len());
-        for i in first..last {
-            other.merge(1, list.get(alloc, i).ok()?).ok()?;
+        let other = with_list(alloc, &list.front(first))?;
+        Some(Pair { one, other })
+    }
+}
+
+/// Two replicas, of which the other one has the first operations of the one.
+#[derive(Drop)]
+pub struct Pair {
+    one: Replica,
+    other: Replica,
+}
+
+impl Pair {
+    /// The other one merges what it doesn't have. Gives how many operations it has then; `None`
+    /// where something is refused.
+    pub fn merge(&mut self, alloc: Global) -> Option<usize> {
+        let list = self.one.list();
+        for i in self.other.list().len()..list.len() {
+            self.other.merge(1, list.get(alloc, i).ok()?).ok()?;
         }
-        Some(other.list().len())
+        Some(self.other.list().len())
     }
 }
 
