@@ -147,6 +147,13 @@ impl Sequence {
         })
     }
 
+    /// The characters in the order of the text, tombstones too. Constant.
+    pub fn cells(&self) -> &[Cell]
+        ensures { result.now ≡ self.now }
+    {
+        &self.cells
+    }
+
     /// How many characters stand before this one, tombstones counted, or `None` where it isn't
     /// there. Takes no memory. Linear.
     pub fn find(&self, id: OpId) -> Option<usize>

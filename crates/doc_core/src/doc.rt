@@ -1,12 +1,13 @@
 ghost use Rattle.std.specs.Prelude.{◌≡◌, ◌+◌, ◌<◌, ◌^◌, List, [], IfOk, length, nat_le};
 ghost use Rattle.op_model.specs.declared.op.Op.{Op};
 ghost use Rattle.op_model.specs.Made.{id_before, is_inside as is_inside_of, origin_of};
+ghost use Rattle.op_model.specs.Spans.{spans as spans_of};
 ghost use Rattle.op_model.specs.Text.{text as text_of, rev as rev_of, visible};
 
 use char_sequence::Sequence;
 use mark_anchors::Anchors;
 use op_ids::OpId;
-use op_model::{Change, Text};
+use op_model::{Change, Span, Text};
 use std::alloc::{AllocError, Global};
 
 /// A document. It stands for the operations that were applied to it: its characters in the order
@@ -51,6 +52,16 @@ impl Doc {
             → text ≡ text_of ops (number_of self.now)) }
     {
         self.sequence.text()
+    }
+
+    /// The text that a reader sees, cut where the marks change. An error is want of memory (1). For
+    /// each mark operation a pass over the characters, tombstones counted, and for each character
+    /// that a reader sees a pass over the mark operations.
+    pub fn spans(&self) -> Result<Vec<Span>, AllocError>
+        ensures { IfOk result (λ found. (ops : List Op) → StandsFor self.now ops
+            → found.items ≡ spans_of ops (number_of self.now)) }
+    {
+        span_flatten::spans(&self.sequence, &self.anchors)
     }
 
     /// How many operations the document has. Takes no memory. Constant.

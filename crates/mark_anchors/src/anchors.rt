@@ -70,6 +70,13 @@ impl Anchors {
         Ok(())
     }
 
+    /// The mark operations, in the order in which they came. Constant.
+    pub fn as_slice(&self) -> &[Marking]
+        ensures { result.now ≡ self.now }
+    {
+        &self.markings
+    }
+
     /// Another one with the same mark operations. An error is want of memory (1). Linear.
     pub fn copy(&self) -> Result<Anchors, AllocError>
         ensures { IfOk result (λ copied. copied ≡ self.now) }

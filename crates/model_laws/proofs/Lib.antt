@@ -26,3 +26,4 @@ pub mod Covered
 pub mod Decided
 pub mod MarkEdits
 pub mod Above
+pub mod Up

@@ -13,5 +13,4 @@ pub mod IndexLemmas
 pub mod DocLemmas
 pub mod NumberLemmas
 pub mod DraftLemmas
-pub mod DocumentOps
 pub mod SeenLemmas

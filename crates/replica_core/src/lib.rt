@@ -4,7 +4,6 @@
 mod counting;
 mod deciding;
 mod docs;
-mod document_ops;
 mod drafts;
 mod following;
 mod index;

@@ -13,7 +13,6 @@ ghost use Rattle.replica_core.specs.Steps.{places_left};
 use crate::counting::{self, count_all};
 use crate::deciding::edit_refusal;
 use crate::docs::{find, has_document};
-use crate::document_ops::of_document;
 use crate::following::{first_failed, is_known};
 use crate::index::Index;
 use crate::log::{Log, one};
@@ -184,14 +183,14 @@ impl Replica {
         find(&self.log.docs, &empty).text()
     }
 
-    /// The text of a document, cut where the marks change. An error is want of memory (1). A look at
-    /// the head of each operation; cubic in those of the document, which are copied.
+    /// The text of a document, cut where the marks change. An error is want of memory (1). For each
+    /// mark operation of the document a pass over its characters, tombstones counted, and for each
+    /// character that a reader sees a pass over the mark operations.
     pub fn spans(&self, doc: u32) -> Result<Vec<Span>, AllocError>
         ensures { IfOk result (λ found. found.items ≡ spans_of self.now.list doc) }
     {
-        let alloc = self.log.list.allocator();
-        let ops = of_document(alloc, &self.log.list.as_slice(), doc)?;
-        slow_programs::spans(alloc, &ops, doc)
+        let empty = Doc::new(self.log.list.allocator(), doc);
+        find(&self.log.docs, &empty).spans()
     }
 
     /// Settles the first n operations: a number that isn't below the settled one, and a length that

@@ -74,7 +74,8 @@ fn covers(characters: &[Character], k: usize, marking: &Marking) -> bool
         && before < end_place(characters, &marking.end)
 }
 
-fn is_key(a: &MarkKey, b: &MarkKey) -> bool
+/// Whether both are about one decision.
+pub fn is_key(a: &MarkKey, b: &MarkKey) -> bool
     ensures { result ≡ is_same_key a.now b.now }
 {
     match (a, b) {
@@ -107,7 +108,8 @@ fn deciding<'a>(
     best
 }
 
-fn greater<'a>(marking: &'a Marking, best: Option<&'a Marking>) -> &'a Marking
+/// The one with the greater id.
+pub fn greater<'a>(marking: &'a Marking, best: Option<&'a Marking>) -> &'a Marking
     ensures { result.now ≡ greater_of marking.now (option_copied best.entry) }
 {
     match best {
@@ -145,7 +147,8 @@ fn comment_ids(alloc: Global, markings: &[Marking]) -> Result<Vec<CommentId>, Al
     Ok(ids)
 }
 
-fn insert_rising(ids: &mut Vec<CommentId>, id: CommentId) -> Result<(), AllocError>
+/// Puts a comment into a rising list, if it isn't there. An error is want of memory (1). Linear.
+pub fn insert_rising(ids: &mut Vec<CommentId>, id: CommentId) -> Result<(), AllocError>
     ensures { OnOk result (ids.new.items ≡ with_number id ids.old.items) }
 {
     if let Some(at) = place_rising(ids, id) {

@@ -55,7 +55,8 @@ fn joins_first(marks: &Marks, spans: &[Span]) -> bool
     }
 }
 
-fn has_same_marks(a: &Marks, b: &Marks) -> bool
+/// Whether the marks are equal: links are equal where their URLs are.
+pub fn has_same_marks(a: &Marks, b: &Marks) -> bool
     ensures { result ≡ is_same_marks a.now b.now }
 {
     a.strong == b.strong

@@ -1,0 +1,4 @@
+pub mod RunLemmas
+pub mod CoverLemmas
+pub mod FormatLemmas
+pub mod SpanLemmas

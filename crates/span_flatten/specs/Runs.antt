@@ -1,0 +1,28 @@
+-- Runs of cells with equal marks.
+use Rattle.std.specs.Prelude.{ℕ, ◌+◌, if◌then◌else◌, List, [], ◌∷◌, map, reverse}
+use Rattle.op_model.specs.declared.mark.Marks.{Marks}
+use Rattle.op_model.specs.declared.marking.Marking.{Marking}
+use Rattle.op_model.specs.declared.span.Span.{Span}
+use Rattle.op_model.specs.Spans.{with_front}
+use Rattle.char_sequence.specs.declared.cell.Cell.{Cell}
+use Rattle.span_flatten.specs.declared.run.Run.{Run}
+use Rattle.span_flatten.specs.Covering.{covering}
+use Rattle.span_flatten.specs.Formatting.{marks_in}
+
+-- the greatest runs with equal marks of the visible ones among cells that begin at the k-th
+abbrev pub cell_runs : (ℕ → Marks) → ℕ → List Cell → List Span
+cell_runs marks k [] = []
+cell_runs marks k (c ∷ cs) =
+    if c.is_removed then cell_runs marks (k + 1) cs else with_front c.value (marks k) (cell_runs marks (k + 1) cs)
+
+-- the greatest runs of the visible ones among these cells
+abbrev pub cell_spans : List Cell → List Marking → List Span
+cell_spans cells ms = cell_runs (λ k. marks_in (covering cells ms k)) 0 cells
+
+-- the span of a run whose characters were taken from the last one on
+abbrev pub span_of : Run → Span
+span_of r = record { text = reverse r.values.items; marks = r.marks }
+
+-- the spans of runs that were taken from the last one on
+abbrev pub spans_of_runs : List Run → List Span
+spans_of_runs rs = map span_of (reverse rs)

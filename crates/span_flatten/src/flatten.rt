@@ -1,0 +1,56 @@
+ghost use Rattle.std.specs.Prelude.{◌≡◌, ℕ, List, map, IfOk};
+ghost use Rattle.char_sequence.specs.Content.{content_of};
+ghost use Rattle.op_model.specs.declared.op.Op.{Op};
+ghost use Rattle.op_model.specs.Marks.{markings as markings_of};
+ghost use Rattle.op_model.specs.Spans.{spans as spans_of_ops};
+ghost use Rattle.span_flatten.specs.Covering.{range_of};
+ghost use Rattle.span_flatten.specs.Runs.{cell_spans, spans_of_runs};
+
+use crate::covering::covering;
+use crate::formatting::marks_of;
+use crate::range::{Range, ranges};
+use crate::run::{Run, put_before, spans_of};
+use char_sequence::{Cell, Sequence};
+use mark_anchors::Anchors;
+use op_model::{Marking, Span};
+use std::alloc::{AllocError, Global};
+
+/// The greatest runs of visible characters of a document with equal marks. An error is want of
+/// memory (1). For each mark operation a pass over the characters, tombstones counted, and for each
+/// visible character a pass over the mark operations.
+pub fn spans(sequence: &Sequence, anchors: &Anchors) -> Result<Vec<Span>, AllocError>
+    ensures { IfOk result (λ found. (ops : List Op) (doc : ℕ) → sequence.now ≡ content_of ops doc
+        → anchors.now ≡ markings_of ops doc → found.items ≡ spans_of_ops ops doc) }
+{
+    let alloc = sequence.allocator();
+    let cells = sequence.cells();
+    let markings = anchors.as_slice();
+    let ranges = ranges(alloc, cells, markings)?;
+    let runs = runs(alloc, cells, markings, &ranges)?;
+    spans_of(alloc, runs)
+}
+
+/// The greatest runs of the visible ones among these cells, the last one first, where the cells that
+/// each mark operation covers are given. An error is want of memory (1).
+fn runs(
+    alloc: Global,
+    cells: &[Cell],
+    markings: &[Marking],
+    ranges: &[Range],
+) -> Result<Vec<Run>, AllocError>
+    requires { ranges.now ≡ map (range_of cells.now) markings.now }
+    ensures { IfOk result (λ found. spans_of_runs found.items ≡ cell_spans cells.now markings.now) }
+{
+    let mut found = Vec::new(alloc);
+    let mut k = cells.len();
+    while k > 0 {
+        k -= 1;
+        let cell = &cells[k];
+        if !cell.is_removed {
+            let set = covering(alloc, markings, ranges, k)?;
+            let marks = marks_of(alloc, &set)?;
+            put_before(alloc, cell.value, marks, &mut found)?;
+        }
+    }
+    Ok(found)
+}
