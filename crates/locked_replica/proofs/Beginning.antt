@@ -1,22 +1,43 @@
 -- Begins that are answered before the store is asked.
-use Rattle.std.proofs.Common.{◌≡◌, ◌≢◌, ◌≤◌, ◌<◌, ◌⊎◌, ℕ, arith, Bool, true, false, ◌&&◌, nat_lt, nat_le, List, drop, length, refl, sym, ap, ◌∙◌, inl, inr, Result, Ok, Err, Option, Some, None}
-use Rattle.std.proofs.lemmas.Bool.Decides.{nat_tests}
+use Rattle.std.proofs.Common.{◌≡◌, ◌≤◌, ◌<◌, arith, true, false, ◌&&◌, nat_lt, List, drop, length, refl, sym, ◌∙◌, inl, inr, Ok, Err, None}
+use Rattle.std.proofs.lemmas.Bool.{le-leb, lt-leb}
 use Rattle.disk_trait.specs.Calls.{IsLawful}
 use Rattle.disk_trait.specs.declared.facts.DiskFacts.{Ghosts}
 use Rattle.op_model.specs.declared.op.Op.{Op}
-use Rattle.op_model.specs.Machine.{begin}
-use Rattle.root_slots.specs.Root.{version_of}
+use Rattle.op_model.specs.Machine.{begin, refused}
+use Rattle.root_slots.specs.Root.{version_of, count_of}
 use Rattle.replica_core.specs.Held.{Held}
 use Rattle.group_commit.specs.Begin.{is_idle, is_none, has_room, begin_due, IsAnswer}
 use Rattle.group_commit.specs.Held.{Held as StoreHeld}
 use Rattle.group_commit.specs.declared.error.StoreError.{StoreError}
 use Rattle.group_commit.specs.declared.error.StoreError.TheVariants.{Memory, Limit, Busy}
-use Rattle.locked_replica.specs.Hub.{Parts, committed}
+use Rattle.locked_replica.specs.Hub.{committed}
 use Rattle.locked_replica.specs.Fits.{Fits}
 use Rattle.locked_replica.specs.Calls.{IsCall}
-use Rattle.locked_replica.proofs.Committing.{begin_made, all_settled}
-use Rattle.locked_replica.proofs.RoomLemmas.{room_is_version, none_behind, le_true}
-use Rattle.locked_replica.proofs.StateLemmas.{answer_due}
+use Rattle.locked_replica.proofs.BeginAnswers.{begin_made, all_settled}
+use Rattle.locked_replica.proofs.Keeping.{grows_same}
+use Rattle.locked_replica.proofs.QuietCalls.{quiet_call, counts_same}
+use Rattle.locked_replica.proofs.RoomLemmas.{room_is_version, none_behind}
+use Rattle.locked_replica.proofs.StateLemmas.{answer_due, has_commit}
+
+-- a begin of a hub whose device failed
+pub begin_failed : {D : Type 0} (facts : Ghosts D) (h : Held) (s : StoreHeld D) → (facts.tells s.disk → IsLawful facts s.disk)
+    → Fits facts (record { replica = h; store = s }) → s.failed ≡ true
+    → IsCall facts begin (refused 44) (record { replica = h; store = s }) (record { replica = h; store = s })
+begin_failed facts h s lawful fits failed =
+    let kept = grows_same h in
+    quiet_call facts begin (refused 44) (record { replica = h; store = s }) (record { replica = h; store = s }) refl lawful fits refl
+    (rw failed (refl, refl)) kept.more kept.list refl (omega arith) refl (counts_same facts _ s refl refl) refl
+
+-- one of a hub whose last commit is through and not settled
+pub begin_through : {D : Type 0} (facts : Ghosts D) (h : Held) (s : StoreHeld D) → (facts.tells s.disk → IsLawful facts s.disk)
+    → Fits facts (record { replica = h; store = s }) → s.failed ≡ false → (is_idle s.phase && nat_lt h.settled (committed s)) ≡ true
+    → IsCall facts begin (refused 8) (record { replica = h; store = s }) (record { replica = h; store = s })
+begin_through facts h s lawful fits works through =
+    let kept = grows_same h in
+    let some = has_commit (is_idle s.phase) h.settled (committed s) (count_of s.next.body) through in
+    quiet_call facts begin (refused 8) (record { replica = h; store = s }) (record { replica = h; store = s }) refl lawful fits refl
+    (rw (works, some) (refl, refl)) kept.more kept.list refl (omega arith) refl (counts_same facts _ s refl refl) refl
 
 -- a refusal that is due
 pub begin_refused : {D : Type 0} (facts : Ghosts D) (h : Held) (s : StoreHeld D) (e : StoreError) → (facts.tells s.disk → IsLawful facts s.disk)
@@ -32,7 +53,7 @@ pub begin_nothing : {D : Type 0} (facts : Ghosts D) (h : Held) (s : StoreHeld D)
     → is_idle s.phase ≡ true → length h.list ≤ h.settled
     → IsCall facts begin (answer_due (Ok None)) (record { replica = h; store = s }) (record { replica = h; store = s })
 begin_nothing facts h s lawful fits works none idle all =
-    let nothing : is_none (drop h.settled h.list) ≡ true = sym (none_behind h.settled h.list) ∙ le_true (length h.list) h.settled all in
+    let nothing : is_none (drop h.settled h.list) ≡ true = sym (none_behind h.settled h.list) ∙ le-leb (length h.list) h.settled all in
     (begin_made facts h s s (Ok None) lawful fits works none (rw (works, idle, nothing) (inl refl)) (λ n is. absurd (cc)) (λ other. refl)).1
 
 -- a commit is under way: 8
@@ -46,11 +67,8 @@ pub room_behind : {D : Type 0} (facts : Ghosts D) (h : Held) (s : StoreHeld D) �
 room_behind facts h s fits none =
     rw (all_settled (is_idle s.phase) h s.current s.next fits.commit none) (room_is_version h s.current fits.sound.closed fits.live)
 
-le_false : (n most : ℕ) → most < n → nat_le n most ≡ false
-le_false n most great = grind (arith, nat_tests)
-
 some_behind : (h : Held) → h.settled < length h.list → is_none (drop h.settled h.list) ≡ false
-some_behind h some = sym (none_behind h.settled h.list) ∙ le_false (length h.list) h.settled some
+some_behind h some = sym (none_behind h.settled h.list) ∙ lt-leb (length h.list) h.settled some
 
 -- there is no further version: 7
 pub is_late : {D : Type 0} (facts : Ghosts D) (h : Held) (s : StoreHeld D) → Fits facts (record { replica = h; store = s }) → s.failed ≡ false

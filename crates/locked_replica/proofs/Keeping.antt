@@ -1,15 +1,16 @@
 -- What a hub keeps is kept by each of its calls.
-use Rattle.std.proofs.Common.{◌≡◌, ℕ, suc, ◌+◌, ◌-◌, ◌<◌, ◌≤◌, Bool, true, false, nat_lt, List, [], ◌∷◌, ◌++◌, length, take, drop, refl, sym, ap, ◌∙◌, arith, length-append}
+use Rattle.std.proofs.Common.{◌≡◌, ℕ, ◌+◌, ◌<◌, ◌≤◌, Bool, true, false, nat_lt, List, [], ◌∷◌, ◌++◌, length, take, refl, sym, ap, ◌∙◌, arith, length-append}
 use Rattle.std.specs.Prelude.{if◌then◌else◌, Contains}
-use Rattle.std.proofs.lemmas.Bool.Decides.{nat_tests}
-use Rattle.std.proofs.lemmas.List.{take-append-drop, take-append-le, length-take-le}
+use Rattle.std.proofs.lemmas.Bool.{lt-ltb, le-ltb}
+use Rattle.std.proofs.lemmas.List.{take-append-le, append-nil}
 use Rattle.disk_trait.specs.declared.facts.DiskFacts.{Ghosts}
 use Rattle.op_model.specs.declared.op.Op.{Op}
 use Rattle.op_model.specs.declared.edit.Edit.{Edit}
+use Rattle.op_model.specs.Machine.{Event, Answer}
 use Rattle.op_model.specs.Made.{made}
-use Rattle.op_model.specs.Replay.{Kept, edited, merged, settlement, reached}
-use Rattle.change_codec.specs.Stream.{spelled_all, AreOperations}
-use Rattle.root_slots.specs.Root.{version_of, replica_of, count_of}
+use Rattle.op_model.specs.Replay.{reached}
+use Rattle.change_codec.specs.Stream.{spelled_all}
+use Rattle.root_slots.specs.Root.{count_of}
 use Rattle.replica_core.specs.Held.{Held, IsSound, with_edit, with_settled, with_acked, with_told}
 use Rattle.replica_core.specs.Merging.{with_merge}
 use Rattle.replica_core.specs.Steps.{places_left}
@@ -17,8 +18,13 @@ use Rattle.replica_core.proofs.ReachedLemmas.{contains_tail}
 use Rattle.group_commit.specs.Begin.{is_idle}
 use Rattle.group_commit.specs.Saved.{Saved}
 use Rattle.group_commit.specs.Held.{Held as StoreHeld}
+use Rattle.locked_replica.specs.Calls.{IsCall}
 use Rattle.locked_replica.specs.Hub.{Parts, committed}
-use Rattle.locked_replica.specs.Fits.{Fits, IsFront, due_behind, CanSettle, IsUnderWay, IsAtRest, Commits}
+use Rattle.locked_replica.specs.Fits.{Fits, IsFront, due_behind, CanSettle, IsAtRest, Commits}
+
+-- what a call of a hub makes of it: it keeps what a hub keeps, and is a step
+abbrev pub Makes : {D : Type 0} → Ghosts D → Event → Answer → Parts D → Parts D → Type 0
+Makes facts event answer old new = Fits facts new × IsCall facts event answer old new
 
 -- The list is longer at its end, and what is settled is as before; there are places for as many settlements as before, or for two.
 pub record Grows (h next : Held) : Type 0 where
@@ -37,6 +43,14 @@ few false = omega arith
 -- at most one settlement is due behind another
 pub due_few : (h : Held) (n : ℕ) → due_behind h n ≤ 1
 due_few h n = few (nat_lt n (length h.list))
+
+-- none is due behind all operations
+pub due_behind_all : (h : Held) → due_behind h (length h.list) ≡ 0
+due_behind_all h = rw (le-ltb (length h.list) (length h.list) (omega arith)) refl
+
+-- and one behind fewer
+pub due_behind_some : (h : Held) (n : ℕ) → n < length h.list → due_behind h n ≡ 1
+due_behind_some h n less = rw (lt-ltb n (length h.list) less) refl
 
 pub grows_edit : (h : Held) (session : ℕ) (e : Edit) → Grows h (with_edit h session e)
 grows_edit h session e =
@@ -62,10 +76,6 @@ grows_merge h peer op =
       places = λ n k small was. let one = due_few (with_merge h peer op) n in omega (arith, one, small);
     }
 
-no_more : (ops : List Op) → ops ≡ ops ++ []
-no_more [] = refl
-no_more (op ∷ ops) = ap (λ rest. op ∷ rest) (no_more ops)
-
 pub grows_same : (h : Held) → Grows h h
 grows_same h =
     record {
@@ -73,7 +83,7 @@ grows_same h =
       opened = refl;
       settled = refl;
       more = [];
-      list = no_more h.list;
+      list = sym (append-nil h.list);
       reaches = λ n has. has;
       places = λ n k small was. was;
     }
@@ -85,7 +95,7 @@ grows_acked h n =
       opened = refl;
       settled = refl;
       more = [];
-      list = no_more h.list;
+      list = sym (append-nil h.list);
       reaches = λ n has. has;
       places = λ n k small was. was;
     }
@@ -97,7 +107,7 @@ grows_told h n =
       opened = refl;
       settled = refl;
       more = [];
-      list = no_more h.list;
+      list = sym (append-nil h.list);
       reaches = λ n has. has;
       places = λ n k small was. was;
     }

@@ -1,8 +1,15 @@
+pub mod ListLemmas
 pub mod Recovering
 pub mod Keeping
 pub mod QuietCalls
 pub mod StateLemmas
 pub mod RoomLemmas
-pub mod Committing
+pub mod PhaseLemmas
+pub mod DeviceCalls
+pub mod DeviceSteps
+pub mod BegunCommits
+pub mod BeginAnswers
 pub mod Beginning
+pub mod Settling
+pub mod OpenedHubs
 pub mod RunLemmas

@@ -1,5 +1,5 @@
 -- Calls of a hub that make no device call.
-use Rattle.std.proofs.Common.{◌≡◌, ℕ, ◌+◌, ◌-◌, ◌<◌, ◌≤◌, Bool, true, false, nat_lt, List, [], ◌∷◌, ◌++◌, length, take, refl, sym, ap, subst, ◌∙◌, arith, inl, inr, ◌⊎◌, Option, Some, None}
+use Rattle.std.proofs.Common.{◌≡◌, ℕ, ◌<◌, ◌≤◌, Bool, true, false, List, ◌++◌, take, refl, subst, arith, inl, inr}
 use Rattle.std.specs.Prelude.{if◌then◌else◌, IsTrue, ◌↔◌}
 use Rattle.std.proofs.lemmas.Bool.Decides.{nat_tests}
 use Rattle.disk_trait.specs.Calls.{IsLawful, LeavesOnly}
@@ -7,19 +7,19 @@ use Rattle.disk_trait.specs.declared.facts.DiskFacts.{Ghosts}
 use Rattle.op_model.specs.declared.op.Op.{Op}
 use Rattle.op_model.specs.declared.edit.Edit.{Edit}
 use Rattle.op_model.specs.Causality.{clock_of}
-use Rattle.op_model.specs.Machine.{Commit, State, Event, edit, merge, begin, device_step, settle, ack, tell, have, Ticket, Answer, goes_on, goes_through, ticket, applied, known, early, acknowledged, operations, clock, refused, settled_to, untold, reach, Step, IsRefusal, edit_answer, merge_answer}
-use Rattle.replica_core.specs.Held.{Held, IsSound, alone, stored, with_edit, with_acked, with_told, with_settled}
+use Rattle.op_model.specs.Machine.{Event, edit, merge, begin, device_step, settle, ack, tell, have, Ticket, Answer, goes_on, goes_through, ticket, applied, known, early, acknowledged, operations, clock, refused, untold, reach, Step, IsRefusal, edit_answer, merge_answer}
+use Rattle.replica_core.specs.Held.{Held, IsSound, alone, with_edit, with_acked, with_told}
 use Rattle.replica_core.specs.Merging.{with_merge, after_merge, answer_of}
 use Rattle.replica_core.specs.declared.merged.Merged.{Merged}
 use Rattle.replica_core.specs.declared.merged.Merged.TheVariants as merged_as
-use Rattle.replica_core.proofs.StepLemmas.{edit_step, edit_step_refused, merge_step, merge_step_refused, ack_step, ack_step_none, tell_step, have_step}
+use Rattle.replica_core.proofs.StepLemmas.{edit_step, edit_step_refused, merge_step, merge_step_refused}
 use Rattle.group_commit.specs.Held.{Held as StoreHeld}
 use Rattle.locked_replica.specs.Hub.{Parts, state_of, version_at, commit_of}
 use Rattle.locked_replica.specs.Fits.{Fits}
 use Rattle.locked_replica.specs.Recovery.{HasAtLeast}
 use Rattle.locked_replica.specs.Calls.{IsCall, IsLeftIn, Counts, StoreGoes, calls_in, failures_in, settled_by, writes_begun, syncs_begun}
 use Rattle.locked_replica.proofs.Recovering.{survivor_has_settled, survivor_is_left}
-use Rattle.locked_replica.proofs.Keeping.{Grows, grows_edit, grows_merge, grows_same, grows_acked, grows_told, fits_grown}
+use Rattle.locked_replica.proofs.Keeping.{grows_edit, grows_merge, grows_same, grows_acked, grows_told, fits_grown}
 
 -- what has more has fewer
 pub has_fewer : (n m : ℕ) (h : Held) (file : List ℕ) → n ≤ m → HasAtLeast m h file → HasAtLeast n h file

@@ -1,5 +1,5 @@
 -- What a crash leaves of a hub, by what the hub keeps.
-use Rattle.std.proofs.Common.{◌≡◌, ℕ, ◌+◌, ◌-◌, ◌<◌, ◌≤◌, Bool, true, false, nat_lt, List, length, take, drop, refl, sym, ap, ◌∙◌, arith, inl, inr, ◌⊎◌, Ok, Option, Some, None}
+use Rattle.std.proofs.Common.{◌≡◌, ℕ, ◌+◌, ◌-◌, ◌<◌, ◌≤◌, Bool, true, false, nat_lt, List, take, drop, refl, sym, ap, ◌∙◌, arith, inl, inr, Ok, Option, Some, None}
 use Rattle.std.specs.Prelude.{if◌then◌else◌}
 use Rattle.std.proofs.lemmas.Bool.{ltb-true}
 use Rattle.std.proofs.lemmas.Bool.Decides.{nat_tests}
@@ -9,16 +9,15 @@ use Rattle.op_model.specs.declared.op.Op.{Op}
 use Rattle.op_model.specs.Causality.{IsCausallyClosed}
 use Rattle.op_model.specs.Machine.{Commit, State, CrashLeaves, opened}
 use Rattle.model_laws.proofs.Growth.{closed_front}
-use Rattle.root_slots.specs.Root.{version_of, replica_of, count_of}
+use Rattle.root_slots.specs.Root.{version_of, count_of}
 use Rattle.replica_core.specs.Held.{Held, IsSound, stored}
 use Rattle.group_commit.specs.Begin.{is_idle}
 use Rattle.group_commit.specs.Commit.{Is, IsLeft}
 use Rattle.group_commit.specs.Saved.{Saved}
 use Rattle.group_commit.specs.declared.phase.Phase.{Phase}
 use Rattle.group_commit.specs.declared.phase.Phase.TheVariants.{Idle, Pages, Close, Sync1, Body, Sync2, Gate, Sync3}
-use Rattle.recovery.specs.Image.{IsImage}
 use Rattle.locked_replica.specs.Hub.{Parts, committed, commit_in, version_in, state_of}
-use Rattle.locked_replica.specs.Fits.{Fits, IsFront, IsUnderWay, IsAtRest, Commits}
+use Rattle.locked_replica.specs.Fits.{Fits, IsFront, IsUnderWay, Commits}
 use Rattle.locked_replica.specs.Recovery.{HasRootOf, RecoversIn, Recovers, IsCrash, HasAtLeast}
 use Rattle.locked_replica.specs.Calls.{IsLeftOf}
 
@@ -38,10 +37,6 @@ image_of h root file sound front is =
       made = refl;
       closed = closed_take (count_of root.body) h.list sound.closed;
     }
-
--- the front that a commit under way makes
-next_front : {h : Held} {current next : Saved} → IsUnderWay h current next → IsFront h next
-next_front way = way.front
 
 -- what is left has the image of the live root, or in the last phase of the next one
 pub recovers : (phase : Phase) (h : Held) (current next : Saved) (file : List ℕ) → IsSound h → IsFront h current → Commits (is_idle phase) h current next
@@ -98,16 +93,16 @@ survivor_has_settled facts hub file fits told survives =
     at_least hub.store.phase hub.replica hub.store.current hub.store.next file fits.live fits.commit (survivor_has facts hub file fits told survives)
 
 -- the machine's state with this commit and version
-abbrev state_with : Held → Bool → ℕ → Option Commit → State
-state_with h failed version commit = record (stored h version commit) { failed = failed }
+abbrev state_at : Held → Bool → ℕ → Option Commit → State
+state_at h failed version commit = record (stored h version commit) { failed = failed }
 
 -- at rest, a crash leaves the live root's operations
 pub crash_at_rest : (h : Held) (failed : Bool) (live version next : ℕ) → h.settled ≤ live → (h.settled < live → 0 < version)
-    → CrashLeaves (state_with h failed (version_in true h.settled live version) (commit_in true h.settled live next)) (opened (take live h.list) version)
+    → CrashLeaves (state_at h failed (version_in true h.settled live version) (commit_in true h.settled live next)) (opened (take live h.list) version)
 crash_at_rest h failed live version next settled above = by_test (nat_lt h.settled live) refl
   where
     by_test : (t : Bool) → nat_lt h.settled live ≡ t
-        → CrashLeaves (state_with h failed (if t then version - 1 else version) (if t then Some (record { count = live; through = true }) else None))
+        → CrashLeaves (state_at h failed (if t then version - 1 else version) (if t then Some (record { count = live; through = true }) else None))
         (opened (take live h.list) version)
     by_test true is =
         let some = above (ltb-true _ _ is) in
@@ -119,11 +114,11 @@ crash_at_rest h failed live version next settled above = by_test (nat_lt h.settl
 
 -- under way, it leaves the live root's operations, which are settled, or the next one's
 pub crash_under_way : (h : Held) (failed : Bool) (live version next : ℕ) (file : List ℕ) → h.settled ≡ live
-    → CrashLeaves (state_with h failed (version_in false h.settled live version) (commit_in false h.settled live next)) (opened (take live h.list) version)
+    → CrashLeaves (state_at h failed (version_in false h.settled live version) (commit_in false h.settled live next)) (opened (take live h.list) version)
 crash_under_way h failed live version next file same = inl (ap (λ n. opened (take n h.list) version) (sym same))
 
 pub crash_next : (h : Held) (failed : Bool) (live version next after : ℕ) (file : List ℕ) → after ≡ version + 1
-    → CrashLeaves (state_with h failed (version_in false h.settled live version) (commit_in false h.settled live next)) (opened (take next h.list) after)
+    → CrashLeaves (state_at h failed (version_in false h.settled live version) (commit_in false h.settled live next)) (opened (take next h.list) after)
 crash_next h failed live version next after file same = inr (ap (λ v. opened (take next h.list) v) same)
 
 -- what is opened from a file with such an image is what the machine's crash leaves
@@ -146,7 +141,7 @@ crash_recovered {D} facts hub file fits recovered = by_phase hub.store.phase fit
         }
 
     under_way : IsUnderWay h hub.store.current hub.store.next
-        → CrashLeaves (state_with h hub.store.failed (version_in false h.settled (committed hub.store) (version_of hub.store.current.body)) (commit_in false h.settled (committed hub.store) (count_of hub.store.next.body)))
+        → CrashLeaves (state_at h hub.store.failed (version_in false h.settled (committed hub.store) (version_of hub.store.current.body)) (commit_in false h.settled (committed hub.store) (count_of hub.store.next.body)))
         (opened (take (committed hub.store) h.list) (version_of hub.store.current.body))
     under_way commit =
         crash_under_way h hub.store.failed (committed hub.store) (version_of hub.store.current.body) (count_of hub.store.next.body) file commit.settled

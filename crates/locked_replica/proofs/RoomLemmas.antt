@@ -1,14 +1,13 @@
 -- A causally closed list has room in a store, so that a commit is refused for want of a version alone.
-use Rattle.std.proofs.Common.{◌≡◌, ℕ, suc, zero, ◌+◌, ◌<◌, ◌≤◌, Bool, true, false, ◌&&◌, nat_lt, nat_le, List, [], ◌∷◌, ◌++◌, length, take, drop, refl, sym, ap, ◌∙◌, arith, append_assoc, length-append}
-use Rattle.std.specs.Prelude.{IsTrue}
+use Rattle.std.proofs.Common.{◌≡◌, ℕ, suc, zero, ◌+◌, ◌≤◌, Bool, true, false, ◌&&◌, nat_lt, nat_le, List, [], ◌∷◌, ◌++◌, length, take, drop, refl, sym, ap, ◌∙◌, arith, append_assoc, length-append}
 use Rattle.std.specs.List.{list_all}
 use Rattle.std.proofs.lemmas.Bool.Decides.{nat_tests}
-use Rattle.std.proofs.lemmas.List.{take-append-drop, length-take-le}
+use Rattle.std.proofs.lemmas.Bool.{leb-true, le-leb}
+use Rattle.std.proofs.lemmas.List.{take-append-drop, length-take-le, append-nil}
 use Rattle.op_model.specs.declared.op.Op.{Op}
 use Rattle.op_model.specs.Causality.{FollowInTurn, IsCausallyClosed, is_within_limits, is_in_range, clock_of, documents}
 use Rattle.op_model.specs.Records.{stream_length}
-use Rattle.change_codec.specs.Stream.{spelled_all, AreOperations}
-use Rattle.change_codec.proofs.StreamLaws.{spelled_all-append, length-spelled_all}
+use Rattle.change_codec.proofs.StreamLaws.{length-spelled_all}
 use Rattle.root_slots.specs.Root.{version_of, count_of}
 use Rattle.group_commit.specs.Begin.{is_none, has_room}
 use Rattle.group_commit.specs.Saved.{Saved}
@@ -16,11 +15,7 @@ use Rattle.replica_core.specs.Held.{Held}
 use Rattle.locked_replica.specs.Fits.{IsFront}
 
 within_in_turn : (before ops : List Op) → is_within_limits before ≡ true → FollowInTurn before ops → is_within_limits (before ++ ops) ≡ true
-within_in_turn before [] within follow = rw (no_more before) within
-  where
-    no_more : (ops : List Op) → ops ++ [] ≡ ops
-    no_more [] = refl
-    no_more (op ∷ ops) = ap (λ rest. op ∷ rest) (no_more ops)
+within_in_turn before [] within follow = rw (append-nil before) within
 within_in_turn before (op ∷ ops) within follow =
     rw append_assoc at (within_in_turn (before ++ op ∷ []) ops follow.0.limits follow.1)
 
@@ -31,18 +26,12 @@ closed_within ops closed = within_in_turn [] ops refl closed
 and_last : (a b c d e : Bool) → (a && (b && c && d && e)) ≡ true → (d ≡ true) × (e ≡ true)
 and_last a b c d e all = grind (arith, nat_tests)
 
-at_most : (n most : ℕ) → nat_le n most ≡ true → n ≤ most
-at_most n most small = grind (arith, nat_tests)
-
-pub le_true : (n most : ℕ) → n ≤ most → nat_le n most ≡ true
-le_true n most small = grind (arith, nat_tests)
-
 -- at most 2^24 operations, and 2^30 bytes of records
 pub few_of : (ops : List Op) → IsCausallyClosed ops → (length ops ≤ 16777216) × (stream_length ops ≤ 1073741824)
 few_of ops closed =
     let both = and_last (list_all is_in_range ops) (nat_le (length (clock_of ops)) 16) (nat_le (length (documents ops)) 1024) (nat_le (length ops) 16777216) (nat_le (stream_length ops) 1073741824) (closed_within ops closed) in (
-      at_most (length ops) 16777216 both.0,
-      at_most (stream_length ops) 1073741824 both.1,
+      leb-true (length ops) 16777216 both.0,
+      leb-true (stream_length ops) 1073741824 both.1,
     )
 
 pub stream_length-append : (xs ys : List Op) → stream_length (xs ++ ys) ≡ stream_length xs + stream_length ys
@@ -67,8 +56,8 @@ room_is_version h root closed front =
     let count = behind_front n h.list front.within in
     let bytes = stream_behind n h.list in
     let long = ap length front.stream ∙ length-spelled_all (take n h.list) in
-    let counted : nat_le (n + length (drop n h.list)) 16777216 ≡ true = le_true _ _ (omega (arith, count, few.0)) in
-    let stored : nat_le (length root.stream + stream_length (drop n h.list)) 1073741824 ≡ true = le_true _ _ (omega (arith, bytes, long, few.1)) in
+    let counted : nat_le (n + length (drop n h.list)) 16777216 ≡ true = le-leb _ _ (omega (arith, count, few.0)) in
+    let stored : nat_le (length root.stream + stream_length (drop n h.list)) 1073741824 ≡ true = le-leb _ _ (omega (arith, bytes, long, few.1)) in
     rw (counted, stored) (and_true (nat_lt (version_of root.body) 18446744073709551615))
   where
     and_true : (b : Bool) → (b && true && true) ≡ b

@@ -1,6 +1,5 @@
 -- One call more of a list of calls.
-use Rattle.std.proofs.Common.{◌≡◌, ℕ, suc, zero, ◌+◌, ◌<◌, ◌≤◌, Bool, true, false, nat_le, List, [], ◌∷◌, ◌++◌, length, take, drop, refl, sym, ap, ◌∙◌, arith, append_assoc, length-append, inl, inr, ◌⊎◌}
-use Rattle.std.specs.Prelude.{◌↔◌}
+use Rattle.std.proofs.Common.{◌≡◌, ℕ, suc, zero, ◌+◌, ◌≤◌, Bool, true, false, nat_le, List, [], ◌∷◌, ◌++◌, length, take, drop, refl, sym, ap, ◌∙◌, arith, length-append, inl, inr, ◌⊎◌}
 use Rattle.std.proofs.lemmas.Bool.Decides.{nat_tests}
 use Rattle.std.proofs.lemmas.List.{take-append-le}
 use Rattle.disk_trait.specs.Calls.{IsLawful}
@@ -12,18 +11,15 @@ use Rattle.locked_replica.specs.Hub.{Parts, state_of}
 use Rattle.locked_replica.specs.Calls.{IsCall, IsLeftIn, IsLeftOf, calls_in, settled_by, writes_begun, syncs_begun}
 use Rattle.locked_replica.specs.Recovery.{HasAtLeast, IsCrash, Recovers}
 use Rattle.locked_replica.specs.Run.{Ran, Calls, CrashesIn, FrontsStand, calls_made, settled_behind, writes_planned, syncs_planned}
-use Rattle.locked_replica.specs.Steps.{event_of, answer_of, events_of}
+use Rattle.locked_replica.specs.Steps.{event_of, answer_of, events_of, IsReplyTo, AreRepliesTo}
 use Rattle.locked_replica.specs.declared.hub_step.HubStep.{HubStep}
 use Rattle.locked_replica.specs.declared.hub_reply.HubReply.{HubReply}
+use Rattle.locked_replica.proofs.ListLemmas.{take_all}
 use Rattle.locked_replica.proofs.QuietCalls.{has_fewer}
 
 take_none : {A : Type 0} (k : ℕ) → take {A = A} k [] ≡ []
 take_none zero = refl
 take_none (suc k) = refl
-
-take_all : {A : Type 0} (xs : List A) → take (length xs) xs ≡ xs
-take_all [] = refl
-take_all (x ∷ xs) = ap (λ rest. x ∷ rest) (take_all xs)
 
 -- a run with one step more
 run_more : (replica : ℕ) (s mid next : State) (es : List (Event × Answer)) (e : Event × Answer) → Run replica s es mid → Step replica mid e.0 e.1 next
@@ -250,3 +246,11 @@ events_more (s ∷ ss) rest (r ∷ rs) step reply is = ap (λ es. (event_of s, a
 pub events_none : (steps : List HubStep) → events_of steps [] ≡ []
 events_none [] = refl
 events_none (s ∷ ss) = refl
+
+-- replies with one more
+pub replies_more : (steps rest : List HubStep) (replies : List HubReply) (step : HubStep) (reply : HubReply) → drop (length replies) steps ≡ step ∷ rest
+    → AreRepliesTo steps replies → IsReplyTo step reply → AreRepliesTo steps (replies ++ reply ∷ [])
+replies_more [] rest [] step reply is are one = absurd (cc)
+replies_more [] rest (r ∷ rs) step reply is are one = absurd (cc)
+replies_more (s ∷ ss) rest [] step reply is are one = let same : s ≡ step = cc in (rw same one, tt)
+replies_more (s ∷ ss) rest (r ∷ rs) step reply is are one = (are.0, replies_more ss rest rs step reply is are.1 one)

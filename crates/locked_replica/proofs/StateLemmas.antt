@@ -1,15 +1,13 @@
 -- The machine's state of a hub, by the tests that decide on it.
-use Rattle.std.proofs.Common.{◌≡◌, ◌≢◌, ℕ, ◌+◌, ◌-◌, ◌<◌, ◌≤◌, Bool, true, false, not, ◌&&◌, nat_lt, nat_le, List, [], ◌∷◌, ◌++◌, length, take, drop, refl, sym, ap, ◌∙◌, arith, inl, inr, ◌⊎◌, Option, Some, None, Result, Ok, Err}
+use Rattle.std.proofs.Common.{◌≡◌, ◌≢◌, ℕ, Bool, true, false, not, ◌&&◌, nat_lt, nat_le, length, refl, sym, ap, ◌∙◌, arith, inl, inr, Option, Some, None, Result, Ok, Err}
 use Rattle.std.specs.Prelude.{if◌then◌else◌, is_some}
-use Rattle.std.proofs.lemmas.Bool.{ltb-true}
 use Rattle.std.proofs.lemmas.Bool.Decides.{nat_tests}
-use Rattle.op_model.specs.declared.op.Op.{Op}
-use Rattle.op_model.specs.Machine.{Commit, State, Answer, begun, nothing_new, refused, begin_answer, settle_answer, through_of, is_under_way, IsRefusal, BeginStep}
+use Rattle.op_model.specs.Machine.{State, Answer, begun, nothing_new, refused, begin_answer, through_of, is_under_way, BeginStep}
 use Rattle.replica_core.specs.Held.{Held, stored}
-use Rattle.group_commit.specs.Begin.{is_idle, is_none, has_room, begin_due, IsAnswer, IsBegun}
+use Rattle.group_commit.specs.Begin.{is_none, has_room, IsAnswer}
 use Rattle.group_commit.specs.Errors.{number_of}
 use Rattle.group_commit.specs.declared.error.StoreError.{StoreError}
-use Rattle.group_commit.specs.declared.error.StoreError.TheVariants.{Memory, Limit, Busy, Failed, WriteFailed, SyncFailed}
+use Rattle.group_commit.specs.declared.error.StoreError.TheVariants.{Memory, Limit, Busy}
 use Rattle.locked_replica.specs.Hub.{commit_in, version_in}
 use Rattle.locked_replica.specs.Steps.{begun_of}
 
@@ -17,15 +15,6 @@ use Rattle.locked_replica.specs.Steps.{begun_of}
 abbrev pub state_with : Held → Bool → Bool → ℕ → ℕ → ℕ → State
 state_with h failed idle live next version =
     record (stored h (version_in idle h.settled live version) (commit_in idle h.settled live next)) { failed = failed }
-
-pub lt_true : (a b : ℕ) → a < b → nat_lt a b ≡ true
-lt_true a b less = grind (arith, nat_tests)
-
-pub lt_false : (a b : ℕ) → b ≤ a → nat_lt a b ≡ false
-lt_false a b less = grind (arith, nat_tests)
-
-pub not_lt : (a b : ℕ) → nat_lt a b ≡ false → b ≤ a
-not_lt a b resting = grind (arith, nat_tests)
 
 -- no commit is through where none is at rest with more than is settled
 pub not_through : (idle : Bool) (settled live next : ℕ) → (idle && nat_lt settled live) ≡ false → through_of (commit_in idle settled live next) ≡ None
@@ -120,9 +109,6 @@ due_begun false none room n m is = absurd (cc)
 pub was_due : (due answer : Result (Option ℕ) StoreError) (n : ℕ) → answer ≡ Ok (Some n) → IsAnswer due answer → due ≡ Ok (Some n)
 was_due due answer n is (inl same) = sym same ∙ is
 was_due due answer n is (inr want) = absurd (cc)
-
-pub more_than : (a b : ℕ) → nat_le a b ≡ false → b < a
-more_than a b is = grind (arith, nat_tests)
 
 -- an answer without a number is none with one
 abbrev pub has_number : Result (Option ℕ) StoreError → Bool

@@ -9,7 +9,7 @@ use Rattle.root_slots.specs.Root.{version_of, replica_of, count_of}
 use Rattle.group_commit.specs.Begin.{is_idle}
 use Rattle.group_commit.specs.Commit.{IsLeft}
 use Rattle.group_commit.specs.Saved.{Saved}
-use Rattle.locked_replica.specs.Hub.{Parts, committed}
+use Rattle.locked_replica.specs.Hub.{Parts}
 
 -- the root is this replica's, and its stream is the records of the first operations of the list, as many as it says
 pub record IsFront (h : Held) (root : Saved) : Type 0 where

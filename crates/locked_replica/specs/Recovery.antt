@@ -1,5 +1,5 @@
 -- What a crash leaves of a hub.
-use Rattle.std.specs.Prelude.{◌≡◌, ◌⊎◌, ℕ, ◌≤◌, List, length, take}
+use Rattle.std.specs.Prelude.{◌⊎◌, ℕ, ◌≤◌, List, length, take}
 use Rattle.op_model.specs.Machine.{CrashLeaves, opened}
 use Rattle.replica_core.specs.Held.{Held}
 use Rattle.root_slots.specs.Root.{version_of, count_of}

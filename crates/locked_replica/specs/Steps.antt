@@ -1,5 +1,5 @@
 -- Calls of a hub and their answers, as the machine has them.
-use Rattle.std.specs.Prelude.{ℕ, Bool, List, [], ◌∷◌, Result, Ok, Err, Option, Some, None}
+use Rattle.std.specs.Prelude.{ℕ, List, [], ◌∷◌, Result, Ok, Err, Option, Some, None}
 use Rattle.std.specs.Global.{Vec}
 use Rattle.op_model.specs.declared.op.Op.{Op}
 use Rattle.op_model.specs.Machine.{Event, edit, merge, begin, device_step, settle, ack, tell, have, Ticket, Answer, ticket, begun, nothing_new, idle, goes_on, goes_through, settled_to, acknowledged, operations, clock, refused}
@@ -91,6 +91,24 @@ answer_of (reply.Settled r) = settle_answered r
 answer_of (reply.Acknowledged r) = acknowledged r
 answer_of (reply.Told r) = told r
 answer_of (reply.Had r) = had r
+
+-- the reply is one to this call: of its kind
+abbrev pub IsReplyTo : HubStep → HubReply → Type 0
+IsReplyTo (step.Edit session e) (reply.Edited r) = Unit {0}
+IsReplyTo (step.Merge peer op) (reply.Merged r) = Unit {0}
+IsReplyTo step.Begin (reply.Begun r) = Unit {0}
+IsReplyTo step.DeviceStep (reply.Stepped r) = Unit {0}
+IsReplyTo step.Settle (reply.Settled r) = Unit {0}
+IsReplyTo (step.Ack t) (reply.Acknowledged r) = Unit {0}
+IsReplyTo (step.Tell c) (reply.Told r) = Unit {0}
+IsReplyTo step.Have (reply.Had r) = Unit {0}
+IsReplyTo s r = ⊥
+
+-- each reply is one to its call, as far as there are replies
+abbrev pub AreRepliesTo : List HubStep → List HubReply → Type 0
+AreRepliesTo ss [] = Unit {0}
+AreRepliesTo [] (r ∷ rs) = ⊥
+AreRepliesTo (s ∷ ss) (r ∷ rs) = IsReplyTo s r × AreRepliesTo ss rs
 
 -- calls with their answers, as far as there are answers
 abbrev pub events_of : List HubStep → List HubReply → List (Event × Answer)

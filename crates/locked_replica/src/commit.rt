@@ -1,7 +1,8 @@
 //! The calls of a hub that commit its list.
-ghost use Rattle.std.specs.Prelude.{◌≡◌, false, OnOk};
+ghost use Rattle.std.specs.Prelude.{◌≡◌, false, IfOk, OnOk};
 ghost use Rattle.group_commit.specs.Held.{gone_on};
-ghost use Rattle.op_model.specs.Machine.{begin as begin_event, device_step as device_event, settle as settle_event};
+ghost use Rattle.op_model.specs.Machine.{begin as begin_event, device_step as device_event};
+ghost use Rattle.op_model.specs.Machine.{settle as settle_event};
 ghost use Rattle.locked_replica.specs.Calls.{IsCall};
 ghost use Rattle.locked_replica.specs.Hub.{is_through};
 ghost use Rattle.locked_replica.specs.Steps.{begin_answered, stepped, settle_answered};
@@ -20,13 +21,13 @@ impl<D: Disk> Hub<D> {
         self.store.phase().is_idle() && (self.replica.settled() as u64) < self.store.committed()
     }
 
-    /// Begins a commit of all operations that aren't settled, and answers the length of the list that
-    /// it commits; `None` where all are settled. It makes no device call.
+    /// Begins a commit of all operations that aren't settled, and answers the length of the list
+    /// that it commits; `None` where all are settled. It makes no device call.
     ///
     /// Refuses, in this order, with 44 where the device failed, 8 where there is a commit, 7 where
-    /// there is no further version, and 1 where a growth was refused. A refused call changes nothing.
-    /// Reads the operations that aren't settled, linear in their records, and costs what `Store::begin`
-    /// does.
+    /// there is no further version, and 1 where a growth was refused. A refused call changes
+    /// nothing. Reads the operations that aren't settled, linear in their records, and costs what
+    /// `Store::begin` does.
     pub fn begin(&mut self) -> Result<Option<u64>, HubRefusal>
         ensures call { IsCall D.DiskFacts begin_event (begin_answered result) self.old self.new }
     {
@@ -57,12 +58,14 @@ impl<D: Disk> Hub<D> {
     }
 
     /// Makes the next device call of the commit, and answers the phase whose call it was; `Idle`
-    /// where no commit is under way. After the call of `Sync3` the commit is through. Takes no memory.
+    /// where no commit is under way. After the call of `Sync3` the commit is through. Takes no
+    /// memory.
     ///
-    /// Refuses with 44 where a device call failed before, and with 51 or 52 where the device fails in
-    /// this one. One write of at most 4,096 bytes or one sync.
+    /// Refuses with 44 where a device call failed before, and with 51 or 52 where the device fails
+    /// in this one. One write of at most 4,096 bytes or one sync.
     pub fn device_step(&mut self) -> Result<Phase, HubRefusal>
         ensures call { IsCall D.DiskFacts device_event (stepped result) self.old self.new }
+        ensures made { IfOk result (λ phase. phase ≡ self.old.store.phase) }
         // The store goes on to the next phase.
         ensures went_on { self.old.store.failed ≡ false → OnOk result (self.new.store
             ≡ gone_on self.old.store.phase self.old.store self.new.store.disk) }
@@ -77,8 +80,8 @@ impl<D: Disk> Hub<D> {
 
     /// Settles the commit that is through, and answers the settled number. Takes no memory.
     ///
-    /// Refuses with 44 where the device failed, else with 8 where no commit is through. A refused call
-    /// changes nothing.
+    /// Refuses with 44 where the device failed, else with 8 where no commit is through. A refused
+    /// call changes nothing.
     pub fn settle(&mut self) -> Result<u64, HubRefusal>
         ensures call { IsCall D.DiskFacts settle_event (settle_answered result) self.old self.new }
         ensures store { self.new.store ≡ self.old.store }

@@ -6,9 +6,9 @@ use std::marker::Model;
 
 /// One peer's replica and the store that keeps it on a disk. Contracts see what both hold.
 ///
-/// The type keeps that the live root holds a beginning of the replica's list, that a commit under way
-/// holds a longer one which can be settled, that what is acknowledged and told is settled, and that
-/// every file which a crash may leave has the live root or the one that the commit makes.
+/// The type keeps that the live root holds a beginning of the replica's list, that a commit under
+/// way holds a longer one which can be settled, that what is acknowledged and told is settled, and
+/// that every file which a crash may leave has the live root or the one that the commit makes.
 #[derive(Drop)]
 pub struct Hub<D: Disk> {
     pub(crate) replica: Replica,

@@ -1,5 +1,5 @@
-//! A replica and its store as one: what its calls do together is a run of the replica machine, and a
-//! crash at any moment leaves a beginning of its list.
+//! A replica and its store as one: what its calls do together is a run of the replica machine, and
+//! a crash at any moment leaves a beginning of its list.
 #![tactic(auto)]
 
 mod commit;
@@ -15,6 +15,8 @@ mod reading;
 mod refusal;
 mod running;
 mod sharing;
+#[cfg(test)]
+mod test_hubs;
 #[cfg(test)]
 mod tests;
 

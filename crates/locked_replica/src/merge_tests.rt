@@ -1,29 +1,11 @@
 use crate::Hub;
-use crate::random_tests::{commit, merge};
-use crate::tests::{new_disk, open, replica};
+use crate::test_hubs::{commit, insert, merge, peer, replica};
 use disk_trait::MemDisk;
 use op_ids::{Clock, OpId};
-use op_model::{Body, Change, Edit, EditText, Op};
+use op_model::{Body, Edit, Op};
 use replica_core::Merged;
 use std::alloc::Global;
 use std::test::Fail;
-
-/// The hub of a new replica.
-fn peer(alloc: Global, last: u8) -> Result<Hub<MemDisk>, Fail> {
-    open(alloc, new_disk(alloc, last, 65_536, 1_024)?)
-}
-
-/// The insert of one character into document 1.
-fn insert(alloc: Global, at: u32, value: char) -> Result<Edit, Fail> {
-    let mut text = Vec::new(alloc);
-    text.push(value)?;
-    let text = EditText::new(text).ok_or("a text")?;
-    Ok(Edit {
-        doc: 1,
-        rev: None,
-        change: Change::Insert { at, text },
-    })
-}
 
 fn edit(hub: &mut Hub<MemDisk>, edit: &Edit) -> Result<(), Fail> {
     match hub.edit(1, edit) {
@@ -123,12 +105,11 @@ fn answers(
 
 /// The second of two operations, then the first one, twice.
 fn shuffled(alloc: Global, ops: &[Op]) -> Result<Vec<Op>, Fail> {
-    let first = ops.first().ok_or("none")?;
-    let second = ops.last().ok_or("none")?;
     let mut found = Vec::new(alloc);
-    found.push(second.copy()?)?;
-    found.push(first.copy()?)?;
-    found.push(first.copy()?)?;
+    for at in [1, 0, 0] {
+        let op = ops.get(at).ok_or("none")?;
+        found.push(op.copy()?)?;
+    }
     Ok(found)
 }
 
@@ -169,19 +150,19 @@ fn second(alloc: Global, counter: u64, doc: u32, origin: Option<OpId>) -> Result
     })
 }
 
-/// The operations that fail a check each behind the first ones of replicas 1 and 2: an old counter, a name
-/// that isn't depended on, document 0.
+/// The operations that fail a check each behind the first ones of replicas 1 and 2: an old counter,
+/// a name that isn't depended on, document 0.
 fn refused(alloc: Global) -> Result<Vec<Op>, Fail> {
     let other = OpId::try_new(1, replica(1)?).ok_or("counter")?;
     let mut ops = Vec::new(alloc);
-    ops.push(second(alloc, 1, 1, None)?)?;
-    ops.push(second(alloc, 2, 1, Some(other))?)?;
-    ops.push(second(alloc, 2, 0, None)?)?;
+    for (counter, doc, origin) in [(1, 1, None), (2, 1, Some(other)), (2, 0, None)] {
+        ops.push(second(alloc, counter, doc, origin)?)?;
+    }
     Ok(ops)
 }
 
 /// A hub with the first operations of replicas 1 and 2.
-fn with_two(alloc: Global) -> Result<Hub<MemDisk>, Fail> {
+fn with_two(alloc: Global) -> Result<Box<Hub<MemDisk>>, Fail> {
     let mut hub = peer(alloc, 1)?;
     put(alloc, &mut hub, 0, 'a')?;
     answers(alloc, &mut hub, typed(alloc, 2, &['b'])?)?;

@@ -16,15 +16,16 @@ use std::alloc::Global;
 impl<D: Disk> Hub<D> {
     /// Opens the file of a disk: a sync, and then reads alone.
     ///
-    /// Refuses as `recovery::open` does, with a device number, 42, 43, 45, 46, 47 or 1, and hands the
-    /// disk back. Costs what `recovery::open` does.
+    /// Refuses as `recovery::open` does, with a device number, 42, 43, 45, 46, 47 or 1, and hands
+    /// the disk back. Costs what `recovery::open` does.
     pub fn open(alloc: Global, disk: D) -> Result<Hub<D>, OpenFault<D>>
         // The hub is in the state right after opening the file's image.
         ensures image { D.tells disk → IfOk result (λ hub. IsImage (D.content disk)
             hub.replica.replica (version_of hub.store.current.body) hub.replica.list) }
         ensures opened { IfOk result (λ hub.
             state_of hub ≡ opened hub.replica.list (version_of hub.store.current.body)) }
-        ensures fault { D.tells disk → IfErr result (λ fault. IsFault fault.cause (D.content disk)) }
+        ensures fault { D.tells disk
+            → IfErr result (λ fault. IsFault fault.cause (D.content disk)) }
         // It writes nothing.
         ensures looks { D.tells disk
             → IfOk result (λ hub. OnlyLooks D.DiskFacts 0 1 disk hub.store.disk) }
@@ -42,9 +43,9 @@ impl<D: Disk> Hub<D> {
         }
     }
 
-    /// Tells what the type keeps: every file that a crash now may leave has the image of the committed
-    /// list, in the last phase of a commit that or the commit's; what is opened from it is what the machine's
-    /// crash leaves; and that has all that is settled. Costs nothing.
+    /// Tells what the type keeps: every file that a crash now may leave has the image of the
+    /// committed list, in the last phase of a commit that or the commit's; what is opened from it
+    /// is what the machine's crash leaves; and that has all that is settled. Costs nothing.
     pub fn survivors(&self)
         ensures image { D.tells self.now.store.disk → (file : List ℕ)
             → D.survives self.now.store.disk file → Recovers self.now file }

@@ -1,7 +1,6 @@
 use crate::Hub;
-use crate::tests::{new_disk, open};
+use crate::test_hubs::{merge, new_disk, open};
 use disk_trait::MemDisk;
-use group_commit::Phase;
 use op_model::{Change, Edit, EditText};
 use std::alloc::Global;
 use std::num::NonZeroU32;
@@ -33,9 +32,9 @@ impl Draws {
 /// Three hubs of different replicas.
 #[derive(Drop)]
 struct Peers {
-    a: Hub<MemDisk>,
-    b: Hub<MemDisk>,
-    c: Hub<MemDisk>,
+    a: Box<Hub<MemDisk>>,
+    b: Box<Hub<MemDisk>>,
+    c: Box<Hub<MemDisk>>,
 }
 
 fn new_peers(alloc: Global) -> Result<Peers, Fail> {
@@ -81,47 +80,6 @@ fn edit(alloc: Global, hub: &mut Hub<MemDisk>, draws: &mut Draws) -> Result<(), 
         Ok(_) => Ok(()),
         Err(_) => Err("edit".into()),
     }
-}
-
-/// Makes the device calls of a commit.
-fn make_calls(hub: &mut Hub<MemDisk>) -> Result<(), Fail> {
-    for _ in 0..1_000 {
-        match hub.device_step() {
-            Ok(Phase::Sync3) => return Ok(()),
-            Ok(_) => {}
-            Err(_) => return Err("device".into()),
-        }
-    }
-    Err("no end".into())
-}
-
-/// Commits all that a hub has, where something isn't settled.
-pub(crate) fn commit(hub: &mut Hub<MemDisk>) -> Result<(), Fail> {
-    match hub.begin() {
-        Ok(Some(_)) => make_calls(hub)?,
-        Ok(None) => return Ok(()),
-        Err(_) => return Err("begin".into()),
-    }
-    if hub.settle().is_err() {
-        return Err("settle".into());
-    }
-    Ok(())
-}
-
-/// What one hub has settled and another one doesn't count is merged there, 64 operations at most. Gives how many.
-pub(crate) fn merge(from: &mut Hub<MemDisk>, to: &mut Hub<MemDisk>) -> Result<usize, Fail> {
-    commit(from)?;
-    let ops = match from.tell(to.clock()) {
-        Ok(ops) => ops,
-        Err(_) => return Err("tell".into()),
-    };
-    let count = ops.len();
-    for op in ops {
-        if to.merge(2, op).is_err() {
-            return Err("merge".into());
-        }
-    }
-    Ok(count)
 }
 
 /// One of the six ways from one hub to another.

@@ -80,8 +80,8 @@ impl<D: Disk> Hub<D> {
         self.replica.text(doc)
     }
 
-    /// The text of a document, cut where the marks change. An error is want of memory (1). Costs what
-    /// `Replica::spans` does.
+    /// The text of a document, cut where the marks change. An error is want of memory (1). Costs
+    /// what `Replica::spans` does.
     pub fn spans(&self, doc: u32) -> Result<Vec<Span>, AllocError>
         ensures { IfOk result (λ found. found.items ≡ spans_of self.now.replica.list doc) }
     {

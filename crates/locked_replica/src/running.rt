@@ -2,7 +2,8 @@
 ghost use Rattle.std.specs.Prelude.{◌≡◌, List, length, IfOk, OnOk, OnErr};
 ghost use Rattle.locked_replica.specs.Calls.{IsCall};
 ghost use Rattle.locked_replica.specs.Run.{Ran};
-ghost use Rattle.locked_replica.specs.Steps.{event_of, answer_of, events_of};
+ghost use Rattle.locked_replica.specs.Steps.{event_of, answer_of, events_of, IsReplyTo};
+ghost use Rattle.locked_replica.specs.Steps.{AreRepliesTo};
 ghost use Rattle.locked_replica.specs.declared.hub_reply.HubReply.{HubReply as Reply};
 
 use crate::hub::Hub;
@@ -11,14 +12,16 @@ use crate::hub_step::HubStep;
 use disk_trait::Disk;
 use std::alloc::{AllocError, Global};
 
-/// Makes these calls in order, and answers what each one answers: a refused call is its own reply, and
-/// the calls go on. An error is want of memory (1): then a beginning of the calls is made.
+/// Makes these calls in order, and answers what each one answers, as a reply of the call's own kind:
+/// a refused call is its own reply, and the calls go on. An error is want of memory (1): then a
+/// beginning of the calls is made.
 pub fn run<D: Disk>(
     alloc: Global,
     hub: &mut Hub<D>,
     steps: &[HubStep],
 ) -> Result<Vec<HubReply>, AllocError>
     ensures all { IfOk result (λ replies. length replies.items ≡ length steps.now) }
+    ensures kinds { IfOk result (λ replies. AreRepliesTo steps.now replies.items) }
     ensures ran { IfOk result (λ replies.
         Ran D.DiskFacts hub.old (events_of steps.now replies.items) hub.new) }
     ensures beginning { OnErr result ((replies : List Reply)
@@ -37,6 +40,7 @@ pub fn run<D: Disk>(
 fn make<D: Disk>(hub: &mut Hub<D>, step: &HubStep) -> Result<HubReply, AllocError>
     ensures call { IfOk result (λ reply.
         IsCall D.DiskFacts (event_of step.now) (answer_of reply) hub.old hub.new) }
+    ensures kind { IfOk result (λ reply. IsReplyTo step.now reply) }
     ensures err { OnErr result (hub.new ≡ hub.old) }
 {
     Ok(match step {

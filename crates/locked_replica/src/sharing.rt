@@ -1,6 +1,8 @@
 //! The calls of a hub that its replica answers.
 ghost use Rattle.std.specs.Prelude.{◌≡◌};
-ghost use Rattle.op_model.specs.Machine.{edit as edit_event, merge as merge_event, ack as ack_event, tell as tell_event, have as have_event, acknowledged};
+ghost use Rattle.op_model.specs.Machine.{edit as edit_event, merge as merge_event};
+ghost use Rattle.op_model.specs.Machine.{ack as ack_event, tell as tell_event, have as have_event};
+ghost use Rattle.op_model.specs.Machine.{acknowledged};
 ghost use Rattle.locked_replica.specs.Calls.{IsCall};
 ghost use Rattle.locked_replica.specs.Steps.{edited, merge_answered, told, had};
 
@@ -13,8 +15,8 @@ use replica_core::{Merged, Ticket};
 
 impl<D: Disk> Hub<D> {
     /// Makes the operations of a session's edit and puts them behind the list; they aren't settled
-    /// yet. Refuses, in this order, with 9 where the device failed, and as `Replica::edit` does: 6, 5,
-    /// 7, 10, 1. A refused edit changes nothing. Costs what `Replica::edit` does.
+    /// yet. Refuses, in this order, with 9 where the device failed, and as `Replica::edit` does: 6,
+    /// 5, 7, 10, 1. A refused edit changes nothing. Costs what `Replica::edit` does.
     pub fn edit(&mut self, session: u64, edit: &Edit) -> Result<Ticket, HubRefusal>
         ensures call { IsCall D.DiskFacts (edit_event session edit.now) (edited result)
             self.old self.new }
@@ -32,8 +34,8 @@ impl<D: Disk> Hub<D> {
     }
 
     /// Puts a peer's operation behind the list, or says that it is there already or comes early.
-    /// Refuses, in this order, with 9 where the device failed, and as `Replica::merge` does: 20 to 24,
-    /// 10, 1. A refused merge changes nothing. Costs what `Replica::merge` does.
+    /// Refuses, in this order, with 9 where the device failed, and as `Replica::merge` does: 20 to
+    /// 24, 10, 1. A refused merge changes nothing. Costs what `Replica::merge` does.
     pub fn merge(&mut self, peer: u64, op: Op) -> Result<Merged, HubRefusal>
         ensures call { IsCall D.DiskFacts (merge_event peer op) (merge_answered result)
             self.old self.new }
@@ -62,8 +64,9 @@ impl<D: Disk> Hub<D> {
         settled
     }
 
-    /// The first settled operations, at most 64 in the order of the list, that a clock doesn't count.
-    /// They count as told. An error is want of memory (1), and changes nothing. Linear in the list.
+    /// The first settled operations, at most 64 in the order of the list, that a clock doesn't
+    /// count. They count as told. An error is want of memory (1), and changes nothing. Linear in
+    /// the list.
     pub fn tell(&mut self, clock: &Clock) -> Result<Vec<Op>, HubRefusal>
         ensures call { IsCall D.DiskFacts (tell_event clock.now) (told result) self.old self.new }
         ensures store { self.new.store ≡ self.old.store }

@@ -1,71 +1,28 @@
+use crate::test_hubs::{insert, open, peer};
 use crate::{Hub, HubReply, HubStep, run};
-use disk_trait::{Disk, Fate, MemDisk};
-use group_commit::{Phase, Store};
-use op_ids::{Clock, ReplicaId};
-use op_model::{Change, Edit, EditText};
+use disk_trait::{Fate, MemDisk};
+use group_commit::Phase;
+use op_ids::Clock;
 use replica_core::{Merged, Ticket};
 use std::alloc::Global;
 use std::process::Abort;
 use std::test::Fail;
 
-// The replica whose last byte is this.
-pub(crate) fn replica(last: u8) -> Result<ReplicaId, Fail> {
-    let bytes = [0, 0, 0, 0, 0, 0, 0x40, 0, 0x80, 0, 0, 0, 0, 0, 0, last];
-    Ok(ReplicaId::read(bytes).ok_or("nil")?)
-}
-
-// A disk with the store of a new replica, for a file of so many bytes and so many calls.
-pub(crate) fn new_disk(
-    alloc: Global,
-    last: u8,
-    room: usize,
-    calls: usize,
-) -> Result<MemDisk, Fail> {
-    let disk = MemDisk::new(alloc, room, calls)?;
-    match Store::init(alloc, disk, replica(last)?) {
-        Ok(store) => Ok(store.into_disk()),
-        Err(_) => Err("init")?,
-    }
-}
-
-// One for a few small commits.
-fn small_disk(alloc: Global, last: u8) -> Result<MemDisk, Fail> {
-    new_disk(alloc, last, 65_536, 1_024)
-}
-
-pub(crate) fn open<D: Disk + Drop>(alloc: Global, disk: D) -> Result<Hub<D>, Fail> {
-    match Hub::open(alloc, disk) {
-        Ok(hub) => Ok(hub),
-        Err(_) => Err("open")?,
-    }
-}
-
-// The insert of one character into document 1.
-fn insert(alloc: Global, at: u32, value: char) -> Result<HubStep, Fail> {
-    let mut text = Vec::new(alloc);
-    text.push(value)?;
-    let text = EditText::new(text).ok_or("a text")?;
-    let edit = Edit {
-        doc: 1,
-        rev: None,
-        change: Change::Insert { at, text },
-    };
+// An insert of one character into document 1, as a call.
+fn insert_step(alloc: Global, at: u32, value: char) -> Result<HubStep, Fail> {
+    let edit = insert(alloc, at, value)?;
     Ok(HubStep::Edit { session: 1, edit })
 }
 
 // Makes the calls, and gives what they answer.
-fn made<D: Disk + Drop>(
-    alloc: Global,
-    hub: &mut Hub<D>,
-    steps: &[HubStep],
-) -> Result<Vec<HubReply>, Fail> {
+fn made(alloc: Global, hub: &mut Hub<MemDisk>, steps: &[HubStep]) -> Result<Vec<HubReply>, Fail> {
     Ok(run(alloc, hub, steps)?)
 }
 
 // An insert, and a commit with so many device calls.
 fn commit_of(alloc: Global, at: u32, value: char, calls: usize) -> Result<Vec<HubStep>, Fail> {
     let mut steps = Vec::new(alloc);
-    steps.push(insert(alloc, at, value)?)?;
+    steps.push(insert_step(alloc, at, value)?)?;
     steps.push(HubStep::Begin)?;
     for _ in 0..calls {
         steps.push(HubStep::DeviceStep)?;
@@ -84,9 +41,14 @@ fn phases(alloc: Global, replies: &[HubReply]) -> Result<Vec<Phase>, Fail> {
     Ok(found)
 }
 
+// Whether the device calls that were answered are those of these phases.
+fn has_phases(alloc: Global, replies: &[HubReply], wanted: &[Phase]) -> Result<bool, Fail> {
+    Ok(phases(alloc, replies)?.as_slice() == wanted)
+}
+
 // A hub with "a" settled.
-fn with_first(alloc: Global) -> Result<Hub<MemDisk>, Fail> {
-    let mut hub = open(alloc, small_disk(alloc, 1)?)?;
+fn with_first(alloc: Global) -> Result<Box<Hub<MemDisk>>, Fail> {
+    let mut hub = peer(alloc, 1)?;
     let mut steps = commit_of(alloc, 0, 'a', 7)?;
     steps.push(HubStep::Settle)?;
     made(alloc, &mut hub, &steps)?;
@@ -94,23 +56,31 @@ fn with_first(alloc: Global) -> Result<Hub<MemDisk>, Fail> {
 }
 
 // The hub that a crash leaves.
-fn crashed(alloc: Global, hub: Hub<MemDisk>, fate: Fate) -> Result<Hub<MemDisk>, Fail> {
-    let mut disk = hub.into_disk();
-    disk.crash(fate, true);
+fn crashed(
+    alloc: Global,
+    hub: Box<Hub<MemDisk>>,
+    fate: Fate,
+    grown: bool,
+) -> Result<Box<Hub<MemDisk>>, Fail> {
+    let mut disk = Box::into_inner(hub).into_disk();
+    disk.crash(fate, grown);
     open(alloc, disk)
 }
 
-#[test]
-fn commits_make_their_calls_in_order(rt: HostRuntime) -> Result<(), Fail> {
-    let alloc = rt.alloc();
-    let mut hub = open(alloc, small_disk(alloc, 1)?)?;
+// An insert, a whole commit and one device step more, its settlement and its acknowledgement.
+fn first_commit(alloc: Global) -> Result<Vec<HubStep>, Fail> {
     let mut steps = commit_of(alloc, 0, 'a', 8)?;
     steps.push(HubStep::Settle)?;
     steps.push(HubStep::Ack(Ticket { end: 1, rev: 1 }))?;
-    let replies = made(alloc, &mut hub, &steps)?;
-    assert!(rt; matches!(replies.first(), Some(HubReply::Edited(Ok(_)))));
-    assert!(rt; matches!(replies.last(), Some(HubReply::Acknowledged(true))));
-    let first = [
+    Ok(steps)
+}
+
+#[test]
+fn a_first_commit_makes_its_calls_in_order(rt: HostRuntime) -> Result<(), Fail> {
+    let alloc = rt.alloc();
+    let mut hub = peer(alloc, 1)?;
+    let replies = made(alloc, &mut hub, &first_commit(alloc)?)?;
+    let wanted = [
         Phase::Pages(0),
         Phase::Pages(1),
         Phase::Sync1,
@@ -120,9 +90,18 @@ fn commits_make_their_calls_in_order(rt: HostRuntime) -> Result<(), Fail> {
         Phase::Sync3,
         Phase::Idle,
     ];
-    assert!(rt; phases(alloc, &replies)?.as_slice() == first.as_slice());
-    let again = made(alloc, &mut hub, &commit_of(alloc, 1, 'b', 8)?)?;
-    let second = [
+    assert!(rt; has_phases(alloc, &replies, wanted.as_slice())?);
+    assert!(rt; matches!(replies.first(), Some(HubReply::Edited(Ok(_)))));
+    assert!(rt; matches!(replies.last(), Some(HubReply::Acknowledged(true))));
+    Ok(())
+}
+
+#[test]
+fn a_second_commit_closes_the_other_gate_first(rt: HostRuntime) -> Result<(), Fail> {
+    let alloc = rt.alloc();
+    let mut hub = with_first(alloc)?;
+    let replies = made(alloc, &mut hub, &commit_of(alloc, 1, 'b', 8)?)?;
+    let wanted = [
         Phase::Pages(0),
         Phase::Pages(1),
         Phase::Close,
@@ -132,16 +111,16 @@ fn commits_make_their_calls_in_order(rt: HostRuntime) -> Result<(), Fail> {
         Phase::Gate,
         Phase::Sync3,
     ];
-    assert!(rt; phases(alloc, &again)?.as_slice() == second.as_slice());
+    assert!(rt; has_phases(alloc, &replies, wanted.as_slice())?);
     assert!(rt; hub.settled() == 1 && hub.list().len() == 2);
     Ok(())
 }
 
 // A hub behind a crash in the gate write of its second commit, which left a byte 7 there.
-fn with_torn_gate(alloc: Global) -> Result<Hub<MemDisk>, Fail> {
+fn with_torn_gate(alloc: Global) -> Result<Box<Hub<MemDisk>>, Fail> {
     let mut hub = with_first(alloc)?;
     made(alloc, &mut hub, &commit_of(alloc, 1, 'b', 7)?)?;
-    crashed(alloc, hub, Fate::Fill(7))
+    crashed(alloc, hub, Fate::Fill(7), true)
 }
 
 #[test]
@@ -155,13 +134,12 @@ fn a_torn_gate_is_not_closed(rt: HostRuntime) -> Result<(), Fail> {
     Ok(())
 }
 
-// How many operations a crash leaves of a second commit that is stopped behind so many device calls.
+// How many operations a crash leaves of a second commit that is stopped behind so many device
+// calls.
 fn left_behind(alloc: Global, calls: usize, fate: Fate, grown: bool) -> Result<usize, Fail> {
     let mut hub = with_first(alloc)?;
     made(alloc, &mut hub, &commit_of(alloc, 1, 'b', calls)?)?;
-    let mut disk = hub.into_disk();
-    disk.crash(fate, grown);
-    Ok(open(alloc, disk)?.list().len())
+    Ok(crashed(alloc, hub, fate, grown)?.list().len())
 }
 
 #[test]
@@ -209,7 +187,7 @@ fn told_twice(alloc: Global, clock: &Clock) -> Result<Vec<HubStep>, Fail> {
 #[test]
 fn what_is_told_is_merged_once(rt: HostRuntime) -> Result<(), Fail> {
     let alloc = rt.alloc();
-    let mut hub = open(alloc, small_disk(alloc, 2)?)?;
+    let mut hub = peer(alloc, 2)?;
     made(alloc, &mut hub, &commit_of(alloc, 0, 'b', 0)?)?;
     let merges = told_twice(alloc, hub.clock())?;
     let replies = made(alloc, &mut hub, &merges)?;

@@ -13,3 +13,15 @@ returns-clause-call g c = elim c.match-step.branch [
   | in-Tell w ↦ rw (w.in-Tell.is, w.result-is, w.hub-is) w.tell.ensures.call
   | in-Have w ↦ rw (w.in-Have.is, w.result-is, w.hub-is) w.have.ensures.call
 ]
+
+pub returns-clause-kind : goal.returns-clause-kind
+returns-clause-kind g c = elim c.match-step.branch [
+  | in-Edit w ↦ rw (w.in-Edit.is, w.result-is) tt
+  | in-Merge+in_ok-op-in-Merge w ↦ rw (w.in-Merge.is, w.result-is) tt
+  | in-Begin w ↦ rw (w.in-Begin.is, w.result-is) tt
+  | in-DeviceStep w ↦ rw (w.in-DeviceStep.is, w.result-is) tt
+  | in-Settle w ↦ rw (w.in-Settle.is, w.result-is) tt
+  | in-Ack w ↦ rw (w.in-Ack.is, w.result-is) tt
+  | in-Tell w ↦ rw (w.in-Tell.is, w.result-is) tt
+  | in-Have w ↦ rw (w.in-Have.is, w.result-is) tt
+]

@@ -2,8 +2,8 @@ use Rattle.std.proofs.Common.{◌≡◌, ◌≤◌, ◌<◌, sym, ap, ◌∙◌,
 use Rattle.group_commit.specs.Begin.{is_idle}
 use Rattle.group_commit.specs.declared.error.StoreError.TheVariants.{Memory, Limit, Busy}
 use Rattle.locked_replica.specs.Hub.{is_through}
-use Rattle.locked_replica.proofs.Beginning.{begin_refused, begin_nothing, is_busy, is_late, is_wanting}
-use Rattle.locked_replica.proofs.Committing.{begin_failed, begin_through, begin_given}
+use Rattle.locked_replica.proofs.BeginAnswers.{begin_given}
+use Rattle.locked_replica.proofs.Beginning.{begin_failed, begin_through, begin_refused, begin_nothing, is_busy, is_late, is_wanting}
 use Rattle.locked_replica.proofs.hub.Hub.begin.Goals as goal
 
 pub returns-then-has_failed : goal.returns-then-has_failed

@@ -1,5 +1,5 @@
 use Rattle.std.proofs.Common.{sym}
-use Rattle.locked_replica.proofs.Committing.{step_made, step_refused}
+use Rattle.locked_replica.proofs.DeviceSteps.{step_made, step_refused}
 use Rattle.locked_replica.proofs.hub.Hub.device_step.Goals as goal
 
 pub invariant_of-self : goal.invariant_of-self

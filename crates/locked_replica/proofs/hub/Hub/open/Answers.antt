@@ -1,5 +1,4 @@
-use Rattle.std.proofs.Common.{sym, ap, ◌∙◌}
-use Rattle.locked_replica.proofs.Committing.{fits_opened, state_opened}
+use Rattle.locked_replica.proofs.OpenedHubs.{fits_opened, state_opened}
 use Rattle.locked_replica.proofs.hub.Hub.open.Goals as goal
 
 pub invariant_of-result : goal.invariant_of-result

@@ -1,6 +1,6 @@
 use Rattle.std.proofs.Common.{sym, ap, ◌∙◌}
 use Rattle.locked_replica.specs.Hub.{is_through}
-use Rattle.locked_replica.proofs.Committing.{settle_failed, settle_busy, settle_made, through_says}
+use Rattle.locked_replica.proofs.Settling.{settle_failed, settle_busy, settle_made, through_says}
 use Rattle.locked_replica.proofs.hub.Hub.settle.Goals as goal
 
 pub returns-then-has_failed-clause-call : goal.returns-then-has_failed-clause-call

@@ -1,0 +1,119 @@
+-- A begin that the store answers.
+use Rattle.std.proofs.Common.{◌≡◌, ◌≢◌, ℕ, ◌+◌, ◌<◌, Bool, true, false, ◌&&◌, nat_lt, List, length, drop, refl, sym, ap, ◌∙◌, arith, Option, Some, None, Result, Ok, Err}
+use Rattle.disk_trait.specs.Calls.{IsLawful}
+use Rattle.disk_trait.specs.declared.facts.DiskFacts.{Ghosts}
+use Rattle.op_model.specs.declared.op.Op.{Op}
+use Rattle.op_model.specs.Machine.{begin, begin_answer}
+use Rattle.root_slots.specs.Root.{version_of, count_of}
+use Rattle.replica_core.specs.Held.{Held}
+use Rattle.group_commit.specs.Begin.{is_idle, is_none, has_room, begin_due, Begins, IsAnswer}
+use Rattle.group_commit.specs.Held.{Held as StoreHeld}
+use Rattle.group_commit.specs.Saved.{Saved}
+use Rattle.group_commit.specs.declared.error.StoreError.{StoreError}
+use Rattle.locked_replica.specs.Hub.{committed, state_of}
+use Rattle.locked_replica.specs.Fits.{Fits, Commits}
+use Rattle.locked_replica.specs.Calls.{IsCall, Counts, StoreBegins, settled_by}
+use Rattle.locked_replica.proofs.Keeping.{grows_same, Makes}
+use Rattle.locked_replica.proofs.QuietCalls.{quiet_call, counts_same}
+use Rattle.locked_replica.proofs.RoomLemmas.{room_is_version, none_behind, behind_front}
+use Rattle.locked_replica.proofs.StateLemmas.{answer_due, begin_as_due, begin_step, due_begun, due_by, was_due, as_made, has_number, no_number}
+use Rattle.std.proofs.lemmas.Bool.{ltb-false, leb-false}
+use Rattle.group_commit.proofs.BeginLemmas.{idle_is}
+use Rattle.locked_replica.proofs.BegunCommits.{fits_begun, counts_begun}
+
+-- what is settled is what the live root has, where no commit is through
+pub all_settled : (idle : Bool) (h : Held) (current next : Saved) → Commits idle h current next → (idle && nat_lt h.settled (count_of current.body)) ≡ false
+    → h.settled ≡ count_of current.body
+all_settled true h current next rest none = let least = ltb-false h.settled (count_of current.body) none in let most = rest.settled in omega (arith, least, most)
+all_settled false h current next way none = way.settled
+
+-- a begin that the store answers
+pub begin_made : {D : Type 0} (facts : Ghosts D) (h : Held) (s new : StoreHeld D) (answer : Result (Option ℕ) StoreError)
+    → (facts.tells s.disk → IsLawful facts s.disk) → Fits facts (record { replica = h; store = s }) → s.failed ≡ false
+    → (is_idle s.phase && nat_lt h.settled (committed s)) ≡ false → IsAnswer (begin_due s (drop h.settled h.list)) answer
+    → ((n : ℕ) → answer ≡ Ok (Some n) → Begins facts s (drop h.settled h.list) new)
+    → (((n : ℕ) → answer ≢ Ok (Some n)) → new ≡ s)
+    → Makes facts begin (answer_due answer) (record { replica = h; store = s }) (record { replica = h; store = new })
+begin_made {D} facts h s new answer lawful fits works none is_answer begins stays = (its_fits answer refl, its_call)
+  where
+    settled : h.settled ≡ committed s
+    settled = all_settled (is_idle s.phase) h s.current s.next fits.commit none
+
+    rest : List Op
+    rest = drop h.settled h.list
+
+    behind : committed s + length rest ≡ length h.list
+    behind = rw settled (behind_front (committed s) h.list fits.live.within)
+
+    -- what is due of the store, by its tests
+    due_is : begin_due s (drop h.settled h.list) ≡ due_by (is_idle s.phase) (is_none (drop h.settled h.list)) (has_room s.current (drop h.settled h.list)) (committed s + length (drop h.settled h.list))
+    due_is = rw works refl
+
+    machine : begin_answer (state_of (record { replica = h; store = s })) ≡ answer_due (begin_due s (drop h.settled h.list))
+    machine =
+        rw works (begin_as_due h (is_idle s.phase) (is_none (drop h.settled h.list)) (has_room s.current (drop h.settled h.list)) (committed s) (count_of s.next.body)
+        (version_of s.current.body) (committed s + length (drop h.settled h.list)) none (none_behind h.settled h.list)
+        (λ idle. rw settled (room_is_version h s.current fits.sound.closed fits.live)) (λ idle. behind))
+
+    due : (n : ℕ) → answer ≡ Ok (Some n)
+        → (is_idle s.phase ≡ true) × (is_none (drop h.settled h.list) ≡ false) × (committed s + length (drop h.settled h.list) ≡ n)
+    due n is =
+        due_begun (is_idle s.phase) (is_none (drop h.settled h.list)) (has_room s.current (drop h.settled h.list)) _ n
+        (sym due_is ∙ was_due (begin_due s (drop h.settled h.list)) answer n is is_answer)
+
+    less : (n : ℕ) → answer ≡ Ok (Some n) → committed s < length h.list
+    less n is = rw settled at (leb-false (length h.list) h.settled (none_behind h.settled h.list ∙ (due n is).1))
+
+    its_fits : (a : Result (Option ℕ) StoreError) → answer ≡ a → Fits facts (record { replica = h; store = new })
+    its_fits (Ok (Some n)) is =
+        fits_begun facts h s new fits (due n is).0 settled (less n is) (rw settled at (begins n is))
+    its_fits (Ok None) is = rw (stays (no_number answer (ap has_number is))) fits
+    its_fits (Err e) is = rw (stays (no_number answer (ap has_number is))) fits
+
+    new_state : (n : ℕ) → answer ≡ Ok (Some n)
+        → state_of (record { replica = h; store = new }) ≡ record (state_of (record { replica = h; store = s })) { commit = Some (record { count = n; through = false }) }
+    new_state n is =
+        let b = begins n is in
+        let all = b.follows.count ∙ (due n is).2 in
+        let version = as_made (is_idle s.phase) h.settled (committed s) (version_of s.current.body) none in
+        rw (works, b.works, b.phase, b.current, all, version) refl
+
+    its_disk : (a : Result (Option ℕ) StoreError) → answer ≡ a → new.disk ≡ s.disk
+    its_disk (Ok (Some n)) is = (begins n is).disk
+    its_disk (Ok None) is = ap (λ t. t.disk) (stays (no_number answer (ap has_number is)))
+    its_disk (Err e) is = ap (λ t. t.disk) (stays (no_number answer (ap has_number is)))
+
+    same_settled : (a : Result (Option ℕ) StoreError) → h.settled ≡ settled_by h.settled (answer_due a)
+    same_settled (Ok (Some n)) = refl
+    same_settled (Ok None) = refl
+    same_settled (Err e) = refl
+
+    -- at rest a commit has no writes and syncs left
+    its_counts : (a : Result (Option ℕ) StoreError) → answer ≡ a → Counts facts (answer_due a) s new
+    its_counts (Ok (Some n)) is = counts_begun facts s new (drop h.settled h.list) n (idle_is s.phase (due n is).0) works (begins n is)
+    its_counts (Ok None) is = rw (stays (no_number answer (ap has_number is))) (counts_same facts _ s refl refl)
+    its_counts (Err e) is = rw (stays (no_number answer (ap has_number is))) (counts_same facts _ s refl refl)
+
+    its_goes : (a : Result (Option ℕ) StoreError) → answer ≡ a → StoreBegins facts (answer_due a) (record { replica = h; store = s }) new
+    its_goes (Ok (Some n)) is = begins n is
+    its_goes (Ok None) is = stays (no_number answer (ap has_number is))
+    its_goes (Err e) is = stays (no_number answer (ap has_number is))
+
+    its_call : IsCall facts begin (answer_due answer) (record { replica = h; store = s }) (record { replica = h; store = new })
+    its_call =
+        let kept = grows_same h in
+        let disk = its_disk answer refl in
+        quiet_call facts begin (answer_due answer) (record { replica = h; store = s }) (record { replica = h; store = new }) disk (rw disk lawful)
+        (its_fits answer refl) refl
+        (begin_step (state_of (record { replica = h; store = s })) (state_of (record { replica = h; store = new })) (begin_due s (drop h.settled h.list)) answer machine
+        is_answer new_state (λ other. ap (λ t. state_of (record { replica = h; store = t })) (stays other)))
+        kept.more kept.list (same_settled answer) (omega arith) refl (its_counts answer refl) (its_goes answer refl)
+
+-- the same of the operations that the store was given
+pub begin_given : {D : Type 0} (facts : Ghosts D) (h : Held) (s new : StoreHeld D) (rest : List Op) (answer : Result (Option ℕ) StoreError)
+    → (facts.tells s.disk → IsLawful facts s.disk) → Fits facts (record { replica = h; store = s }) → s.failed ≡ false
+    → (is_idle s.phase && nat_lt h.settled (committed s)) ≡ false → rest ≡ drop h.settled h.list → IsAnswer (begin_due s rest) answer
+    → ((n : ℕ) → answer ≡ Ok (Some n) → Begins facts s rest new) → (((n : ℕ) → answer ≢ Ok (Some n)) → new ≡ s)
+    → Makes facts begin (answer_due answer) (record { replica = h; store = s }) (record { replica = h; store = new })
+begin_given facts h s new rest answer lawful fits works none is is_answer begins stays =
+    begin_made facts h s new answer lawful fits works none (rw is at is_answer) (λ n same. rw is at (begins n same)) stays

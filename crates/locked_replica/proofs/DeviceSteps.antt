@@ -1,0 +1,167 @@
+-- A device step of a hub, as its store answers it.
+use Rattle.std.proofs.Common.{◌≡◌, ◌≢◌, Bool, true, false, refl, sym, ap, subst, ◌∙◌, arith, inl, inr, ◌⊎◌, Result, Ok, Err}
+use Rattle.disk_trait.specs.Calls.{IsLawful}
+use Rattle.disk_trait.specs.declared.facts.DiskFacts.{Ghosts}
+use Rattle.op_model.specs.Machine.{Answer, device_step, idle as idle_answer, goes_on, goes_through, refused}
+use Rattle.root_slots.specs.Root.{count_of}
+use Rattle.replica_core.specs.Held.{Held}
+use Rattle.group_commit.specs.Begin.{is_idle}
+use Rattle.group_commit.specs.Errors.{number_of}
+use Rattle.group_commit.specs.Held.{gone_on, has_failed, Held as StoreHeld}
+use Rattle.group_commit.specs.Counts.{writes_left, syncs_left, IsUnderWay as IsWriting}
+use Rattle.group_commit.proofs.CountLemmas.{writes_fall, syncs_fall}
+use Rattle.group_commit.specs.Step.{IsDeviceCall, Does, error_in, writes_in, syncs_in}
+use Rattle.group_commit.specs.declared.error.StoreError.{StoreError}
+use Rattle.group_commit.specs.declared.error.StoreError.TheVariants.{Failed}
+use Rattle.group_commit.specs.declared.phase.Phase.{Phase}
+use Rattle.group_commit.specs.declared.phase.Phase.TheVariants.{Idle, Sync3}
+use Rattle.locked_replica.specs.Hub.{committed}
+use Rattle.locked_replica.specs.Fits.{Fits}
+use Rattle.locked_replica.specs.Calls.{IsCall, Counts, StepsOn, writes_begun, syncs_begun}
+use Rattle.locked_replica.specs.Steps.{stepped_in}
+use Rattle.locked_replica.proofs.Keeping.{Grows, grows_same, Makes}
+use Rattle.locked_replica.proofs.QuietCalls.{quiet_call, counts_same}
+use Rattle.locked_replica.proofs.StateLemmas.{no_call_due}
+use Rattle.locked_replica.proofs.PhaseLemmas.{going_busy, kind_of, failed_busy, device_number, kept_current, kept_working, not_idle, is_busy}
+use Rattle.locked_replica.proofs.DeviceCalls.{call_goes_on, call_goes_through, call_fails, fits_going, fits_through}
+
+-- What a store's step says of itself.
+pub record Stepped {D : Type 0} (facts : Ghosts D) (s new : StoreHeld D) (answer : Result Phase StoreError) : Type 0 where
+  pub stopped : s.failed ≡ true → (answer ≡ Err Failed) × (new ≡ s)
+  pub idle : s.failed ≡ false → s.phase ≡ Idle → (answer ≡ Ok Idle) × (new ≡ s)
+  pub call : s.failed ≡ false → s.phase ≢ Idle
+      → IsDeviceCall {T = Phase} facts (writes_in s.phase) (syncs_in s.phase) (error_in s.phase) answer s new
+  pub does : s.failed ≡ false → facts.tells s.disk → Does {T = Phase} facts answer s.phase s new.disk
+
+-- a page that is written is one of the new ones
+page_is_new : {D : Type 0} (facts : Ghosts D) (s : StoreHeld D) (new : D) (answer : Result Phase StoreError) → Does {T = Phase} facts answer s.phase s new
+    → IsWriting s
+page_is_new facts s new answer does k at_page = (subst (λ p. Does {T = Phase} facts answer p s new) at_page does).within
+
+-- a device call that succeeds makes its part of the writes and syncs that are left
+counts_on : {D : Type 0} (facts : Ghosts D) (s new : StoreHeld D) (p : Phase) (answer : Answer) → writes_begun answer new ≡ 0 → syncs_begun answer ≡ 0
+    → s.failed ≡ false → Stepped facts s new (Ok p) → s.phase ≢ Idle → new ≡ gone_on s.phase s new.disk → Counts facts answer s new
+counts_on facts s new p answer none none_syncs works stepped busy gone =
+    record {
+      stays = λ failed. absurd (cc);
+      writes = λ told working.
+          let call = ((stepped.call works busy).call told).writes in
+          let left = writes_fall s new.disk (page_is_new facts s new.disk (Ok p) (stepped.does works told)) in
+          let after = ap writes_left gone in
+          omega (arith, call, left, after, none);
+      syncs = λ told working.
+          let call = ((stepped.call works busy).call told).syncs in
+          let left = syncs_fall s new.disk in
+          let after = ap syncs_left gone in
+          omega (arith, call, left, after, none_syncs);
+    }
+
+-- of one that fails nothing is said
+counts_failed : {D : Type 0} (facts : Ghosts D) (answer : Answer) (s new : StoreHeld D) → new.failed ≡ true → Counts facts answer s new
+counts_failed facts answer s new failed =
+    record { stays = λ was. failed; writes = λ told working. absurd (cc); syncs = λ told working. absurd (cc) }
+
+-- one answer has one error
+same_error : (answer : Result Phase StoreError) (e f : StoreError) → answer ≡ Err e → answer ≡ Err f → e ≡ f
+same_error answer e f is same = cc
+
+-- and none is an error and a phase
+never_both : (answer : Result Phase StoreError) (e : StoreError) (p : Phase) → answer ≡ Err e → answer ≡ Ok p → ⊥
+never_both answer e p is same = absurd (cc)
+
+-- a device step that is answered with a phase
+pub step_made : {D : Type 0} (facts : Ghosts D) (h : Held) (s new : StoreHeld D) (p : Phase) → (facts.tells s.disk → IsLawful facts s.disk)
+    → Fits facts (record { replica = h; store = s }) → Stepped facts s new (Ok p) → p ≡ s.phase → (s.failed ≡ false → new ≡ gone_on s.phase s new.disk)
+    → Makes facts device_step (stepped_in p) (record { replica = h; store = s }) (record { replica = h; store = new })
+step_made {D} facts h s new p lawful fits stepped made went = rw made (by_kind (kind_of s.phase))
+  where
+    works : s.failed ≡ false
+    works = by_test s.failed refl
+      where
+        by_test : (t : Bool) → s.failed ≡ t → s.failed ≡ false
+        by_test true failed = absurd (never_both (Ok p) Failed p (stepped.stopped failed).0 refl)
+        by_test false is = is
+
+    gone : new ≡ gone_on s.phase s new.disk
+    gone = went works
+
+    steps : StepsOn facts s new
+    steps = record { next = gone; does = λ told. subst (λ q. Does {T = Phase} facts (Ok q) s.phase s new.disk) made (stepped.does works told) }
+
+    by_kind : (s.phase ≡ Idle) ⊎ ((s.phase ≡ Sync3) ⊎ ((is_idle s.phase ≡ false) × (s.phase ≢ Sync3) × (stepped_in s.phase ≡ goes_on)))
+        → Makes facts device_step (stepped_in s.phase) (record { replica = h; store = s }) (record { replica = h; store = new })
+    by_kind (inl is) = rw (stepped.idle works is).1 (fits, at_rest)
+      where
+        kept : Grows h h
+        kept = grows_same h
+
+        rest : is_idle s.phase ≡ true
+        rest = ap is_idle is
+
+        at_rest : IsCall facts device_step (stepped_in s.phase) (record { replica = h; store = s }) (record { replica = h; store = s })
+        at_rest =
+            subst (λ q. IsCall facts device_step (stepped_in q) (record { replica = h; store = s }) (record { replica = h; store = s })) (sym is) (
+            quiet_call facts device_step idle_answer (record { replica = h; store = s }) (record { replica = h; store = s }) refl lawful fits refl
+            (works, rw rest (no_call_due h.settled (committed s) (count_of s.next.body)), refl) kept.more kept.list refl (omega arith) refl (counts_same facts _ s refl refl) refl
+            )
+    by_kind (inr (inl is)) =
+        let busy : is_idle s.phase ≡ false = ap is_idle is in
+        let done : new ≡ gone_on Sync3 s new.disk = gone ∙ ap (λ q. gone_on q s new.disk) is in
+        let rest : is_idle new.phase ≡ true = ap (λ t. is_idle t.phase) done in
+        let current : new.current ≡ s.next = ap (λ t. t.current) done in
+        let works' : new.failed ≡ false = ap (λ t. t.failed) done ∙ works in
+        let its_call = stepped.call works (not_idle s.phase busy) in
+        let after = fits_through facts h s new fits busy rest current its_call.left in (
+          after,
+          subst (λ q. IsCall facts device_step (stepped_in q) (record { replica = h; store = s }) (record { replica = h; store = new })) (sym is)
+              (call_goes_through facts h s new _ _ _ _ fits works busy its_call rest current works' after
+              (counts_on facts s new p goes_through refl refl works stepped (not_idle s.phase busy) gone) refl steps),
+        )
+    by_kind (inr (inr (busy, other, on))) =
+        let kept = kept_current s.phase s new.disk other in
+        let busy' : is_idle new.phase ≡ false = ap (λ t. is_idle t.phase) gone ∙ going_busy s.phase s new.disk busy other in
+        let current : new.current ≡ s.current = ap (λ t. t.current) gone ∙ kept.0 in
+        let next : new.next ≡ s.next = ap (λ t. t.next) gone ∙ kept.1 in
+        let works' : new.failed ≡ false = ap (λ t. t.failed) gone ∙ kept_working s.phase s new.disk ∙ works in
+        let its_call = stepped.call works (not_idle s.phase busy) in
+        let after = fits_going facts h s new fits busy busy' current next its_call.left in (
+          after,
+          rw on (call_goes_on facts h s new _ _ _ _ fits works busy its_call busy' current next works' after
+              (counts_on facts s new p goes_on refl refl works stepped (not_idle s.phase busy) gone) refl steps),
+        )
+
+-- a device step that is refused
+pub step_refused : {D : Type 0} (facts : Ghosts D) (h : Held) (s new : StoreHeld D) (e : StoreError) → (facts.tells s.disk → IsLawful facts s.disk)
+    → Fits facts (record { replica = h; store = s }) → Stepped facts s new (Err e) → (s.failed ≡ false → new ≡ has_failed s new.disk)
+    → Makes facts device_step (refused (number_of e)) (record { replica = h; store = s }) (record { replica = h; store = new })
+step_refused facts h s new e lawful fits stepped gone = by_test s.failed refl
+  where
+    kept : Grows h h
+    kept = grows_same h
+
+    by_test : (t : Bool) → s.failed ≡ t → Makes facts device_step (refused (number_of e)) (record { replica = h; store = s }) (record { replica = h; store = new })
+    by_test true failed =
+        let both = stepped.stopped failed in
+        rw (same_error (Err e) e Failed refl both.0, both.1) (
+          fits,
+          quiet_call facts device_step (refused 44) (record { replica = h; store = s }) (record { replica = h; store = s }) refl lawful fits refl
+              (inl (failed, refl, refl)) kept.more kept.list refl (omega arith) refl (counts_same facts _ s refl refl) (inl (refl, refl)),
+        )
+    by_test false works =
+        let some : s.phase ≢ Idle = λ is. never_both (Err e) e Idle refl (stepped.idle works is).0 in
+        let gone_so = gone works in
+        let busy = is_busy s.phase some in
+        let busy' : is_idle new.phase ≡ false = ap (λ t. is_idle t.phase) gone_so ∙ failed_busy s.phase ∙ busy in
+        let current : new.current ≡ s.current = ap (λ t. t.current) gone_so in
+        let next : new.next ≡ s.next = ap (λ t. t.next) gone_so in
+        let failed : new.failed ≡ true = ap (λ t. t.failed) gone_so in
+        let its_call = stepped.call works some in
+        let after = fits_going facts h s new fits busy busy' current next its_call.left in
+        let error = its_call.refused in (
+          after,
+          call_fails facts h s new _ _ _ _ (number_of e) fits works busy its_call busy' current next failed (rw error (device_number s.phase)) after (counts_failed facts _ s new failed) refl (record {
+            number = ap number_of error;
+            next = gone_so;
+            does = λ told. subst (λ q. Does {T = Phase} facts (Err q) s.phase s new.disk) error (stepped.does works told);
+          }),
+        )

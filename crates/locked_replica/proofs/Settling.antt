@@ -1,0 +1,69 @@
+-- Settlements of a commit that is through.
+use Rattle.std.proofs.Common.{◌≡◌, ℕ, ◌+◌, ◌-◌, ◌<◌, Bool, true, false, ◌&&◌, nat_lt, refl, ap, arith, None}
+use Rattle.std.proofs.lemmas.Bool.Decides.{nat_tests}
+use Rattle.disk_trait.specs.Calls.{IsLawful}
+use Rattle.disk_trait.specs.declared.facts.DiskFacts.{Ghosts}
+use Rattle.op_model.specs.Machine.{settle, refused, settled_to, Step}
+use Rattle.root_slots.specs.Root.{version_of, count_of}
+use Rattle.replica_core.specs.Held.{Held, IsSound, stored, with_settled}
+use Rattle.group_commit.specs.Begin.{is_idle}
+use Rattle.group_commit.specs.Held.{Held as StoreHeld}
+use Rattle.locked_replica.specs.Hub.{committed, state_of}
+use Rattle.locked_replica.specs.Fits.{Fits, IsAtRest}
+use Rattle.locked_replica.specs.Calls.{IsCall}
+use Rattle.locked_replica.proofs.Keeping.{Grows, grows_same, fits_settled, Makes}
+use Rattle.locked_replica.proofs.QuietCalls.{quiet_call, counts_same}
+use Rattle.locked_replica.proofs.StateLemmas.{not_through}
+use Rattle.std.proofs.lemmas.Bool.{lt-ltb, le-ltb}
+
+-- a commit is through where a test says so
+pub through_says : (idle : Bool) (a b : ℕ) → (idle && nat_lt a b) ≡ true → (idle ≡ true) × (a < b)
+through_says true a b is = (refl, grind (arith, nat_tests))
+through_says false a b is = absurd (cc)
+
+-- a settlement of the commit that is through
+pub settle_made : {D : Type 0} (facts : Ghosts D) (h next : Held) (s : StoreHeld D) → (facts.tells s.disk → IsLawful facts s.disk)
+    → Fits facts (record { replica = h; store = s }) → s.failed ≡ false → is_idle s.phase ≡ true → h.settled < committed s
+    → next ≡ with_settled h (committed s) → IsSound next
+    → Makes facts settle (settled_to (committed s)) (record { replica = h; store = s }) (record { replica = next; store = s })
+settle_made facts h next s lawful fits works idle less is sound = rw is (its_fits, its_call)
+  where
+    its_fits : Fits facts (record { replica = with_settled h (committed s); store = s })
+    its_fits = fits_settled facts h s fits idle less (rw is at sound)
+
+    kept : Grows h h
+    kept = grows_same h
+
+    rest : IsAtRest h s.current
+    rest = rw idle at fits.commit
+
+    -- the version that the settlement counts
+    version : version_of s.current.body ≡ version_of s.current.body - 1 + 1
+    version = let some = rest.version less in omega (arith, some)
+
+    step : Step h.replica (state_of (record { replica = h; store = s })) settle (settled_to (committed s)) (state_of (record { replica = with_settled h (committed s); store = s }))
+    step =
+        rw (works, idle, lt-ltb h.settled (committed s) less, le-ltb (committed s) (committed s) (omega arith))
+        (refl, ap (λ v. stored (with_settled h (committed s)) v None) version)
+
+    its_call : IsCall facts settle (settled_to (committed s)) (record { replica = h; store = s }) (record { replica = with_settled h (committed s); store = s })
+    its_call =
+        quiet_call facts settle (settled_to (committed s)) (record { replica = h; store = s }) (record { replica = with_settled h (committed s); store = s }) refl lawful
+        its_fits refl step kept.more kept.list refl (omega (arith, less)) refl (counts_same facts _ s refl refl) refl
+
+pub settle_failed : {D : Type 0} (facts : Ghosts D) (h : Held) (s : StoreHeld D) → (facts.tells s.disk → IsLawful facts s.disk)
+    → Fits facts (record { replica = h; store = s }) → s.failed ≡ true
+    → IsCall facts settle (refused 44) (record { replica = h; store = s }) (record { replica = h; store = s })
+settle_failed facts h s lawful fits failed =
+    let kept = grows_same h in
+    quiet_call facts settle (refused 44) (record { replica = h; store = s }) (record { replica = h; store = s }) refl lawful fits refl
+    (rw failed (refl, refl)) kept.more kept.list refl (omega arith) refl (counts_same facts _ s refl refl) refl
+
+pub settle_busy : {D : Type 0} (facts : Ghosts D) (h : Held) (s : StoreHeld D) → (facts.tells s.disk → IsLawful facts s.disk)
+    → Fits facts (record { replica = h; store = s }) → s.failed ≡ false → (is_idle s.phase && nat_lt h.settled (committed s)) ≡ false
+    → IsCall facts settle (refused 8) (record { replica = h; store = s }) (record { replica = h; store = s })
+settle_busy facts h s lawful fits works none =
+    let kept = grows_same h in
+    let no_commit = not_through (is_idle s.phase) h.settled (committed s) (count_of s.next.body) none in
+    quiet_call facts settle (refused 8) (record { replica = h; store = s }) (record { replica = h; store = s }) refl lawful fits refl
+    (rw (works, no_commit) (refl, refl)) kept.more kept.list refl (omega arith) refl (counts_same facts _ s refl refl) refl
