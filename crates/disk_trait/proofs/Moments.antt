@@ -1,6 +1,6 @@
 -- What a crash leaves at the moments of one call after another.
 use Rattle.std.proofs.Common.{ℕ, List, inl, inr, arith}
-use Rattle.disk_trait.specs.Calls.{IsCall, IsLawful, LeavesOnly}
+use Rattle.disk_trait.specs.Calls.{IsOneCall, IsLawful, LeavesOnly}
 use Rattle.disk_trait.specs.declared.facts.DiskFacts.{Ghosts}
 
 module _ {D : Type 0} (facts : Ghosts D) (P : List ℕ → Type 0) where
@@ -13,7 +13,7 @@ module _ {D : Type 0} (facts : Ghosts D) (P : List ℕ → Type 0) where
   }
 
   -- in one call: what a crash may leave before it or after it
-  pub moments_of_call : {failures writes syncs : ℕ} (old new : D) → IsLawful facts old → IsCall facts failures writes syncs old new
+  pub moments_of_call : {failures writes syncs : ℕ} (old new : D) → IsLawful facts old → IsOneCall facts failures writes syncs old new
       → ((c : List ℕ) → facts.survives old c → P c) → ((c : List ℕ) → facts.survives new c → P c) → LeavesOnly facts old new P
   moments_of_call old new lawful call had has = record {
     later = omega (arith, call.one_more);

@@ -18,7 +18,7 @@ begun (Err PastEnd) = 0
 begun (Err e) = 1
 
 -- One call: time goes on by one, the past stays, and so many failures, writes and syncs are added.
-pub record IsCall {D : Type 0} (facts : Ghosts D) (more_failures more_writes more_syncs : ℕ)
+pub record IsOneCall {D : Type 0} (facts : Ghosts D) (more_failures more_writes more_syncs : ℕ)
     (old new : D) : Type 0 where
   pub one_more : facts.time new ≡ facts.time old + 1
   -- what a crash in the call or right after it may leave, it may leave before the call or after it

@@ -1,6 +1,6 @@
 -- What is known of a disk of which one call fails.
 use Rattle.std.specs.Prelude.{◌≡◌, ◌≢◌, ℕ, ◌-◌, length}
-use Rattle.disk_trait.specs.Calls.{IsCall}
+use Rattle.disk_trait.specs.Calls.{IsOneCall}
 use Rattle.disk_trait.specs.declared.facts.DiskFacts.{Ghosts}
 use Rattle.disk_trait.specs.declared.fault.FaultDisk.{FaultDisk}
 
@@ -22,4 +22,4 @@ pub record TakesTurn {D : Type 0} (facts : Ghosts D) (fails : Type 0)
   pub counted : calls_to_fault new ≡ calls_to_fault old - 1
   pub in_turn : calls_to_fault old ≡ 1 → fails
   pub passes : calls_to_fault old ≢ 1 → facts.tells (disk_of old)
-      → IsCall facts more_failures more_writes more_syncs (disk_of old) (disk_of new)
+      → IsOneCall facts more_failures more_writes more_syncs (disk_of old) (disk_of new)

@@ -5,7 +5,9 @@ pub mod Fault
 pub mod FaultDisk
 pub mod File
 pub mod Laws
+pub mod Looks
 pub mod Medium
 pub mod MemDisk
 pub mod Past
 pub mod Survivors
+pub mod Writing

@@ -1,8 +1,10 @@
 //! The four calls of a disk.
-ghost use Rattle.std.specs.Prelude.{◌≡◌, ◌⊎◌, ◌+◌, ◌<◌, ◌↔◌, length, IfOk, IfErr, OnOk, OnErr, IsErrOf};
+ghost use Rattle.std.specs.Prelude.{◌≡◌, ◌⊎◌, ◌+◌, ◌<◌, ◌↔◌, length, IfOk, IfErr, OnOk, OnErr};
+ghost use Rattle.std.specs.Prelude.{IsErrOf};
 ghost use Rattle.disk_trait.specs.File.{overwritten, part};
-ghost use Rattle.disk_trait.specs.declared.error.DiskError.TheVariants.{ReadFailed, WriteFailed, SyncFailed, PastEnd};
-ghost use Rattle.disk_trait.specs.Calls.{failed, begun, IsCall, Keeps, Tears, Settles, IsLawful};
+ghost use Rattle.disk_trait.specs.declared.error.DiskError.TheVariants.{ReadFailed, WriteFailed};
+ghost use Rattle.disk_trait.specs.declared.error.DiskError.TheVariants.{SyncFailed, PastEnd};
+ghost use Rattle.disk_trait.specs.Calls.{failed, begun, IsOneCall, Keeps, Tears, Settles, IsLawful};
 
 use crate::{DiskError, DiskFacts};
 
@@ -26,7 +28,7 @@ pub trait Disk: DiskFacts {
         ensures size { Self.tells self.old → IfOk result (λ n. n ≡ length (Self.content self.old)) }
         ensures keeps { Self.tells self.old → Keeps Self.DiskFacts self.old self.new }
         ensures call { Self.tells self.old
-            → IsCall Self.DiskFacts (failed result) 0 0 self.old self.new }
+            → IsOneCall Self.DiskFacts (failed result) 0 0 self.old self.new }
         ensures tells { Self.tells self.new ↔ Self.tells self.old }
         ensures error { IfErr result (λ e. e ≡ ReadFailed) };
 
@@ -40,7 +42,7 @@ pub trait Disk: DiskFacts {
             → (IsErrOf result PastEnd ↔ (length (Self.content self.old) < pos + length bytes.old)) }
         ensures keeps { Self.tells self.old → Keeps Self.DiskFacts self.old self.new }
         ensures call { Self.tells self.old
-            → IsCall Self.DiskFacts (failed result) 0 0 self.old self.new }
+            → IsOneCall Self.DiskFacts (failed result) 0 0 self.old self.new }
         ensures tells { Self.tells self.new ↔ Self.tells self.old }
         ensures error { IfErr result (λ e. (e ≡ ReadFailed) ⊎ (e ≡ PastEnd)) };
 
@@ -56,7 +58,7 @@ pub trait Disk: DiskFacts {
         ensures unchanged { Self.tells self.old
             → IsErrOf result PastEnd → Keeps Self.DiskFacts self.old self.new }
         ensures call { Self.tells self.old
-            → IsCall Self.DiskFacts (failed result) (begun result) 0 self.old self.new }
+            → IsOneCall Self.DiskFacts (failed result) (begun result) 0 self.old self.new }
         ensures tells { Self.tells self.new ↔ Self.tells self.old }
         ensures error { IfErr result (λ e. (e ≡ WriteFailed) ⊎ (e ≡ PastEnd)) };
 
@@ -67,7 +69,7 @@ pub trait Disk: DiskFacts {
         ensures unsettled { Self.tells self.old
             → OnErr result (Keeps Self.DiskFacts self.old self.new) }
         ensures call { Self.tells self.old
-            → IsCall Self.DiskFacts (failed result) 0 1 self.old self.new }
+            → IsOneCall Self.DiskFacts (failed result) 0 1 self.old self.new }
         ensures tells { Self.tells self.new ↔ Self.tells self.old }
         ensures error { IfErr result (λ e. e ≡ SyncFailed) };
 

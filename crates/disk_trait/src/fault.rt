@@ -1,5 +1,6 @@
 //! A disk whose n-th call fails, over another.
-ghost use Rattle.std.specs.Prelude.{◌≡◌, ◌⊎◌, ◌+◌, ◌-◌, ◌^◌, ◌<◌, ◌≤◌, ◌↔◌, length, IsTrue, IsErr, IfOk, IfErr, IsErrOf, OnOk, OnErr};
+ghost use Rattle.std.specs.Prelude.{◌≡◌, ◌⊎◌, ◌+◌, ◌-◌, ◌^◌, ◌<◌, ◌≤◌, ◌↔◌, length, IsTrue, IsErr};
+ghost use Rattle.std.specs.Prelude.{IfOk, IfErr, IsErrOf, OnOk, OnErr};
 ghost use Rattle.disk_trait.specs.declared.error.DiskError.TheVariants.{WriteFailed, PastEnd};
 ghost use Rattle.disk_trait.specs.Calls.{Keeps, Tears};
 ghost use Rattle.disk_trait.specs.Fault.{extended, padded, HalfWrites};
@@ -93,8 +94,10 @@ impl<D: Disk> Disk for FaultDisk<D> {
     ghost use Rattle.disk_trait.specs.File.{overwritten, part};
     ghost use Rattle.disk_trait.specs.FaultDisk.{disk_of, calls_to_fault, TakesTurn};
     ghost use Rattle.disk_trait.specs.Past.{left_only_now, left_since_earlier};
-    ghost use Rattle.disk_trait.specs.Calls.{failed, begun, IsCall, Keeps, Tears, Settles};
-    ghost use Rattle.disk_trait.specs.declared.error.DiskError.TheVariants.{ReadFailed, WriteFailed, SyncFailed, PastEnd};
+    ghost use Rattle.disk_trait.specs.Calls.{failed, begun, IsOneCall, Keeps, Tears, Settles};
+    ghost use Rattle.disk_trait.specs.declared.error.DiskError.TheVariants.{ReadFailed};
+    ghost use Rattle.disk_trait.specs.declared.error.DiskError.TheVariants.{WriteFailed};
+    ghost use Rattle.disk_trait.specs.declared.error.DiskError.TheVariants.{SyncFailed, PastEnd};
 
     // Each call has the trait's clauses, and one that says when it fails and when it passes to the
     // disk below.
@@ -106,7 +109,7 @@ impl<D: Disk> Disk for FaultDisk<D> {
         ensures keeps { D.tells (disk_of self.old)
             → Keeps ⟦<FaultDisk<D> as DiskFacts>⟧ self.old self.new }
         ensures call { D.tells (disk_of self.old)
-            → IsCall ⟦<FaultDisk<D> as DiskFacts>⟧ (failed result) 0 0 self.old self.new }
+            → IsOneCall ⟦<FaultDisk<D> as DiskFacts>⟧ (failed result) 0 0 self.old self.new }
         ensures tells { D.tells (disk_of self.new) ↔ D.tells (disk_of self.old) }
         ensures error { IfErr result (λ e. e ≡ ReadFailed) }
     {
@@ -130,7 +133,7 @@ impl<D: Disk> Disk for FaultDisk<D> {
         ensures keeps { D.tells (disk_of self.old)
             → Keeps ⟦<FaultDisk<D> as DiskFacts>⟧ self.old self.new }
         ensures call { D.tells (disk_of self.old)
-            → IsCall ⟦<FaultDisk<D> as DiskFacts>⟧ (failed result) 0 0 self.old self.new }
+            → IsOneCall ⟦<FaultDisk<D> as DiskFacts>⟧ (failed result) 0 0 self.old self.new }
         ensures tells { D.tells (disk_of self.new) ↔ D.tells (disk_of self.old) }
         ensures error { IfErr result (λ e. (e ≡ ReadFailed) ⊎ (e ≡ PastEnd)) }
     {
@@ -145,7 +148,8 @@ impl<D: Disk> Disk for FaultDisk<D> {
     }
 
     fn write_at(&mut self, pos: u64, bytes: &[u8]) -> Result<(), DiskError>
-        ensures turn { TakesTurn D.DiskFacts (IsErr result) (failed result) (begun result) 0 self.old self.new }
+        ensures turn { TakesTurn D.DiskFacts (IsErr result)
+            (failed result) (begun result) 0 self.old self.new }
         ensures half { D.tells (disk_of self.old) → calls_to_fault self.old ≡ 1
             → HalfWrites D.DiskFacts pos bytes.now result (disk_of self.old) (disk_of self.new) }
         ensures written { D.tells (disk_of self.old)
@@ -158,7 +162,8 @@ impl<D: Disk> Disk for FaultDisk<D> {
         ensures unchanged { D.tells (disk_of self.old) → IsErrOf result PastEnd
             → Keeps ⟦<FaultDisk<D> as DiskFacts>⟧ self.old self.new }
         ensures call { D.tells (disk_of self.old)
-            → IsCall ⟦<FaultDisk<D> as DiskFacts>⟧ (failed result) (begun result) 0 self.old self.new }
+            → IsOneCall ⟦<FaultDisk<D> as DiskFacts>⟧
+            (failed result) (begun result) 0 self.old self.new }
         ensures tells { D.tells (disk_of self.new) ↔ D.tells (disk_of self.old) }
         ensures error { IfErr result (λ e. (e ≡ WriteFailed) ⊎ (e ≡ PastEnd)) }
     {
@@ -179,7 +184,7 @@ impl<D: Disk> Disk for FaultDisk<D> {
         ensures unsettled { D.tells (disk_of self.old)
             → OnErr result (Keeps ⟦<FaultDisk<D> as DiskFacts>⟧ self.old self.new) }
         ensures call { D.tells (disk_of self.old)
-            → IsCall ⟦<FaultDisk<D> as DiskFacts>⟧ (failed result) 0 1 self.old self.new }
+            → IsOneCall ⟦<FaultDisk<D> as DiskFacts>⟧ (failed result) 0 1 self.old self.new }
         ensures tells { D.tells (disk_of self.new) ↔ D.tells (disk_of self.old) }
         ensures error { IfErr result (λ e. e ≡ SyncFailed) }
     {

@@ -47,7 +47,11 @@ impl Added {
     }
 
     pub(crate) fn by_write(answer: &Result<(), DiskError>) -> Added
-        ensures { result ≡ record { failures = failed answer.now; writes = begun answer.now; syncs = 0 } }
+        ensures { result ≡ record {
+          failures = failed answer.now;
+          writes = begun answer.now;
+          syncs = 0;
+        } }
     {
         Added {
             failures: count_of_failures(answer),
@@ -86,14 +90,21 @@ impl<S> Log<S> {
 
     /// No call so far.
     pub(crate) fn new() -> Log<S>
-        ensures { result ≡ record { of = record {}; found = []; failures = 0; writes = 0; syncs = 0 } }
+        ensures { result ≡ record {
+          of = record {};
+          found = [];
+          failures = 0;
+          writes = 0;
+          syncs = 0;
+        } }
     {
         Log { of: PhantomData }
     }
 
     /// One more call, which found the disk in this state.
     pub(crate) fn and(&self, found: &S, added: &Added) -> Log<S>
-        ensures { result ≡ called found.now added.now.failures added.now.writes added.now.syncs self.now }
+        ensures { result
+            ≡ called found.now added.now.failures added.now.writes added.now.syncs self.now }
     {
         self.begin(found).end(added)
     }

@@ -1,6 +1,7 @@
 //! The file of a disk in memory: as reads give it, as the last sync settled it, and what was
 //! written since.
-ghost use Rattle.std.specs.Prelude.{◌≡◌, ◌+◌, ◌<◌, ◌≤◌, [], ◌∷◌, ◌++◌, All, IfOk, length, vec_len, vec_capacity};
+ghost use Rattle.std.specs.Prelude.{◌≡◌, ◌+◌, ◌<◌, ◌≤◌, [], ◌∷◌, ◌++◌, All, IfOk, length, vec_len};
+ghost use Rattle.std.specs.Prelude.{vec_capacity};
 ghost use Rattle.disk_trait.specs.File.{overwritten, part};
 ghost use Rattle.disk_trait.specs.Survivors.{MayLeave};
 ghost use Rattle.disk_trait.specs.Crash.{filled, left, left_whole};

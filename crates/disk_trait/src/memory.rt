@@ -1,5 +1,6 @@
 //! A disk in memory, which tells all that the rules allow.
-ghost use Rattle.std.specs.Prelude.{◌≡◌, ◌⊎◌, ◌+◌, ◌-◌, ◌<◌, ◌≤◌, ◌↔◌, List, ℕ, [], length, IsTrue, IsOk, IfOk, IfErr, OnOk, OnErr, IsErrOf, vec_len, vec_capacity};
+ghost use Rattle.std.specs.Prelude.{◌≡◌, ◌⊎◌, ◌+◌, ◌-◌, ◌<◌, ◌≤◌, ◌↔◌, List, ℕ, [], length, IsTrue};
+ghost use Rattle.std.specs.Prelude.{IsOk, IfOk, IfErr, OnOk, OnErr, IsErrOf, vec_len, vec_capacity};
 
 use crate::log::{Added, Log};
 use crate::medium::{Fate, Medium};
@@ -24,9 +25,12 @@ pub struct MemDisk {
 }
 
 impl MemDisk {
-    ghost use Rattle.disk_trait.specs.MemDisk.{content_of, Survives, calls_of, room_of, numbers_of, left_by};
+    ghost use Rattle.disk_trait.specs.MemDisk.{content_of, Survives, calls_of, room_of, numbers_of};
+    ghost use Rattle.disk_trait.specs.MemDisk.{left_by};
     ghost use Rattle.disk_trait.specs.Past.{called};
-    ghost use Rattle.disk_trait.specs.declared.error.DiskError.TheVariants.{ReadFailed, WriteFailed, SyncFailed, PastEnd};
+    ghost use Rattle.disk_trait.specs.declared.error.DiskError.TheVariants.{ReadFailed};
+    ghost use Rattle.disk_trait.specs.declared.error.DiskError.TheVariants.{WriteFailed};
+    ghost use Rattle.disk_trait.specs.declared.error.DiskError.TheVariants.{SyncFailed, PastEnd};
 
     /// An empty disk for a file of at most `room` bytes and for so many calls. It takes all its
     /// memory at once, twice `room` bytes and 16 for each call, and refuses with `AllocError` where
@@ -76,7 +80,8 @@ impl MemDisk {
         ensures calls { self.new.calls_left ≡ self.old.calls_left }
         ensures medium { self.new.medium ≡ self.old.medium }
         ensures log { self.new.log
-            ≡ called self.old.medium added.now.failures added.now.writes added.now.syncs self.old.log }
+            ≡ called self.old.medium
+            added.now.failures added.now.writes added.now.syncs self.old.log }
     {
         self.log = self.log.and(&self.medium, added);
     }
@@ -150,8 +155,10 @@ impl Disk for MemDisk {
     ghost use Rattle.disk_trait.specs.Medium.{Leaves};
     ghost use Rattle.disk_trait.specs.MemDisk.{calls_of, content_of, room_of, Survives};
     ghost use Rattle.disk_trait.specs.Past.{left_only_now, left_since_earlier};
-    ghost use Rattle.disk_trait.specs.Calls.{failed, begun, IsCall, Keeps, Tears, Settles};
-    ghost use Rattle.disk_trait.specs.declared.error.DiskError.TheVariants.{ReadFailed, WriteFailed, SyncFailed, PastEnd};
+    ghost use Rattle.disk_trait.specs.Calls.{failed, begun, IsOneCall, Keeps, Tears, Settles};
+    ghost use Rattle.disk_trait.specs.declared.error.DiskError.TheVariants.{ReadFailed};
+    ghost use Rattle.disk_trait.specs.declared.error.DiskError.TheVariants.{WriteFailed};
+    ghost use Rattle.disk_trait.specs.declared.error.DiskError.TheVariants.{SyncFailed, PastEnd};
 
     // Each call has the trait's clauses, and says besides when it is done and that it uses up a
     // call. A write says that it tears in all ways.
@@ -161,7 +168,7 @@ impl Disk for MemDisk {
         ensures used { calls_of self.new ≡ calls_of self.old - 1 }
         ensures size { IfOk result (λ n. n ≡ length (content_of self.old)) }
         ensures keeps { Keeps ⟦<MemDisk as DiskFacts>⟧ self.old self.new }
-        ensures call { IsCall ⟦<MemDisk as DiskFacts>⟧ (failed result) 0 0 self.old self.new }
+        ensures call { IsOneCall ⟦<MemDisk as DiskFacts>⟧ (failed result) 0 0 self.old self.new }
         ensures error { IfErr result (λ e. e ≡ ReadFailed) }
     {
         let answer = if self.take_call() {
@@ -181,7 +188,7 @@ impl Disk for MemDisk {
         ensures past_end { IsErrOf result PastEnd
             ↔ (length (content_of self.old) < pos + length bytes.old) }
         ensures keeps { Keeps ⟦<MemDisk as DiskFacts>⟧ self.old self.new }
-        ensures call { IsCall ⟦<MemDisk as DiskFacts>⟧ (failed result) 0 0 self.old self.new }
+        ensures call { IsOneCall ⟦<MemDisk as DiskFacts>⟧ (failed result) 0 0 self.old self.new }
         ensures error { IfErr result (λ e. (e ≡ ReadFailed) ⊎ (e ≡ PastEnd)) }
     {
         let answer = self.answer_to_read(pos, bytes.len());
@@ -200,9 +207,11 @@ impl Disk for MemDisk {
             (content_of self.new ≡ overwritten (content_of self.old) pos bytes.now) }
         ensures torn { Tears ⟦<MemDisk as DiskFacts>⟧ pos (length bytes.now) self.old self.new }
         ensures all_torn { OnOk result
-            ((d c : List ℕ) → Survives self.old d → Torn pos (length bytes.now) d c → Survives self.new c) }
+            ((d c : List ℕ) → Survives self.old d → Torn pos (length bytes.now) d c
+            → Survives self.new c) }
         ensures past_end { IsErrOf result PastEnd ↔ (length (content_of self.old) < pos) }
-        ensures call { IsCall ⟦<MemDisk as DiskFacts>⟧ (failed result) (begun result) 0 self.old self.new }
+        ensures call { IsOneCall ⟦<MemDisk as DiskFacts>⟧
+            (failed result) (begun result) 0 self.old self.new }
         ensures error { IfErr result (λ e. (e ≡ WriteFailed) ⊎ (e ≡ PastEnd)) }
     {
         let answer = self.answer_to_write(pos, bytes.len());
@@ -217,7 +226,7 @@ impl Disk for MemDisk {
         ensures used { calls_of self.new ≡ calls_of self.old - 1 }
         ensures settled { OnOk result (Settles ⟦<MemDisk as DiskFacts>⟧ self.old self.new) }
         ensures unsettled { OnErr result (Keeps ⟦<MemDisk as DiskFacts>⟧ self.old self.new) }
-        ensures call { IsCall ⟦<MemDisk as DiskFacts>⟧ (failed result) 0 1 self.old self.new }
+        ensures call { IsOneCall ⟦<MemDisk as DiskFacts>⟧ (failed result) 0 1 self.old self.new }
         ensures error { IfErr result (λ e. e ≡ SyncFailed) }
     {
         let answer = if self.take_call() {

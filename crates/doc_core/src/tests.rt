@@ -24,15 +24,18 @@ struct Peer {
 }
 
 impl Peer {
-    fn new(alloc: Global, last: u8) -> Result<Peer, Fail> {
-        Ok(Peer {
+    // Boxed, so that a test which returns early drops a box: that a peer is dropped is then proved
+    // once, and not at each return.
+    fn new(alloc: Global, last: u8) -> Result<Box<Peer>, Fail> {
+        let peer = Peer {
             alloc,
             replica: replica(last)?,
             doc: Doc::new(alloc, 1),
             ops: Vec::new(alloc),
             clock: Clock::new(alloc),
             last: 0,
-        })
+        };
+        Ok(Box::new(alloc, peer)?)
     }
 
     fn make_insert(&self, at: u32, text: &str) -> Result<Vec<Op>, Fail> {
@@ -323,7 +326,8 @@ fn counters_end_at_the_last(rt: HostRuntime) -> Result<(), Fail> {
 fn an_insert_hangs_from_the_tombstone_that_a_link_ends_after(rt: HostRuntime) -> Result<(), Fail> {
     let mut a = Peer::new(rt.alloc(), 1)?;
     a.insert(0, "ab")?;
-    a.link(a.id(1)?, a.id(2)?)?;
+    let (first, last) = (a.id(1)?, a.id(2)?);
+    a.link(first, last)?;
     a.remove(1, 1)?;
     assert_eq!(rt; a.made_origin(1)?, Some((a.id(5)?, Some(a.id(2)?))));
     let made = a.make_insert(1, "x")?;
@@ -339,7 +343,8 @@ fn an_insert_passes_by_later_tombstones_that_no_mark_ends_after(
 ) -> Result<(), Fail> {
     let mut a = Peer::new(rt.alloc(), 1)?;
     a.insert(0, "abc")?;
-    a.link(a.id(1)?, a.id(2)?)?;
+    let (first, last) = (a.id(1)?, a.id(2)?);
+    a.link(first, last)?;
     a.remove(1, 1)?;
     a.remove(1, 1)?;
     assert_eq!(rt; a.made_origin(1)?, Some((a.id(7)?, Some(a.id(2)?))));
@@ -437,9 +442,9 @@ fn walks(peer: &Peer) -> Result<bool, Fail> {
 /// Three replicas that edit one document.
 #[derive(Drop)]
 struct Three {
-    a: Peer,
-    b: Peer,
-    c: Peer,
+    a: Box<Peer>,
+    b: Box<Peer>,
+    c: Box<Peer>,
 }
 
 impl Three {

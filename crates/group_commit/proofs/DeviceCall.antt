@@ -1,6 +1,6 @@
 -- What each step of a commit does to the disk.
 use Rattle.std.proofs.Common.{◌≡◌, ◌≢◌, ◌↔◌, ℕ, Bool, ◌<◌, List, sym, inl, inr, Result, IfErr}
-use Rattle.disk_trait.specs.Calls.{IsCall, IsLawful}
+use Rattle.disk_trait.specs.Calls.{IsOneCall, IsLawful}
 use Rattle.disk_trait.specs.declared.facts.DiskFacts.{Ghosts}
 use Rattle.disk_trait.proofs.Moments.{moments_of_call}
 use Rattle.group_commit.specs.Saved.{Saved}
@@ -13,30 +13,30 @@ use Rattle.group_commit.specs.declared.phase.Phase.TheVariants.{Idle, Pages, Clo
 use Rattle.group_commit.proofs.Steps.{is_left, is_idle}
 
 -- in each phase the image is the live root or the next one
-left_in : (p : Phase) (slot : ℕ) (stale : Bool) (current next : Saved) (numbers fresh : List ℕ) (c : List ℕ) → slot < 2
-    → (p ≢ Idle → IsPlan p current next numbers fresh) → Stands p slot stale current next c → IsLeft p current next c
-left_in Idle slot stale current next numbers fresh c below plan stood = is_idle slot stale current next c below stood
-left_in (Pages k) slot stale current next numbers fresh c below plan stood = is_left (Pages k) slot stale current next c below (plan (λ is. absurd cc)).newer stood
-left_in Close slot stale current next numbers fresh c below plan stood = is_left Close slot stale current next c below (plan (λ is. absurd cc)).newer stood
-left_in Sync1 slot stale current next numbers fresh c below plan stood = is_left Sync1 slot stale current next c below (plan (λ is. absurd cc)).newer stood
-left_in Body slot stale current next numbers fresh c below plan stood = is_left Body slot stale current next c below (plan (λ is. absurd cc)).newer stood
-left_in Sync2 slot stale current next numbers fresh c below plan stood = is_left Sync2 slot stale current next c below (plan (λ is. absurd cc)).newer stood
-left_in Gate slot stale current next numbers fresh c below plan stood = is_left Gate slot stale current next c below (plan (λ is. absurd cc)).newer stood
-left_in Sync3 slot stale current next numbers fresh c below plan stood = is_left Sync3 slot stale current next c below (plan (λ is. absurd cc)).newer stood
+left_in : (p : Phase) (slot : ℕ) (stale_open : Bool) (current next : Saved) (numbers fresh : List ℕ) (c : List ℕ) → slot < 2
+    → (p ≢ Idle → IsPlan p current next numbers fresh) → Stands p slot stale_open current next c → IsLeft p current next c
+left_in Idle slot stale_open current next numbers fresh c below plan stood = is_idle slot stale_open current next c below stood
+left_in (Pages k) slot stale_open current next numbers fresh c below plan stood = is_left (Pages k) slot stale_open current next c below (plan (λ is. absurd cc)).newer stood
+left_in Close slot stale_open current next numbers fresh c below plan stood = is_left Close slot stale_open current next c below (plan (λ is. absurd cc)).newer stood
+left_in Sync1 slot stale_open current next numbers fresh c below plan stood = is_left Sync1 slot stale_open current next c below (plan (λ is. absurd cc)).newer stood
+left_in Body slot stale_open current next numbers fresh c below plan stood = is_left Body slot stale_open current next c below (plan (λ is. absurd cc)).newer stood
+left_in Sync2 slot stale_open current next numbers fresh c below plan stood = is_left Sync2 slot stale_open current next c below (plan (λ is. absurd cc)).newer stood
+left_in Gate slot stale_open current next numbers fresh c below plan stood = is_left Gate slot stale_open current next c below (plan (λ is. absurd cc)).newer stood
+left_in Sync3 slot stale_open current next numbers fresh c below plan stood = is_left Sync3 slot stale_open current next c below (plan (λ is. absurd cc)).newer stood
 
 module _ {D : Type 0} (facts : Ghosts D) where
   -- what a crash now leaves of a store
   pub left_of : (held : Held D) (slot : ℕ) (numbers fresh : List ℕ) → IsSound facts held slot numbers fresh → facts.tells held.disk
       → (c : List ℕ) → facts.survives held.disk c → IsLeft held.phase held.current held.next c
   left_of held slot numbers fresh sound tells c left =
-      left_in held.phase slot held.stale held.current held.next numbers fresh c sound.slots sound.plan (sound.stands tells c left)
+      left_in held.phase slot held.stale_open held.current held.next numbers fresh c sound.slots sound.plan (sound.stands tells c left)
 
   -- a device call between two sound stores
   pub device_call : (T : Type 0) (failures writes syncs : ℕ) (error : StoreError) (result : Result T StoreError) (inside old new : Held D) (slot slot' : ℕ)
       (numbers fresh : List ℕ) → inside ≡ old
       → IsSound facts inside slot numbers fresh → IsSound facts new slot' numbers fresh
       → (facts.tells new.disk ↔ facts.tells inside.disk)
-      → (facts.tells inside.disk → IsCall facts (failures_in result) writes syncs inside.disk new.disk)
+      → (facts.tells inside.disk → IsOneCall facts (failures_in result) writes syncs inside.disk new.disk)
       → (facts.tells inside.disk → IsLawful facts inside.disk) → IfErr result (λ e. e ≡ error)
       → IsDeviceCall facts writes syncs error result old new
   device_call T failures writes syncs error result inside old new slot slot' numbers fresh same sound sound' told call lawful refused =

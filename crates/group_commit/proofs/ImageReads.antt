@@ -8,7 +8,7 @@ use Rattle.root_slots.specs.Body.{Root, Spells}
 use Rattle.root_slots.specs.Slots.{gate, body, live}
 use Rattle.root_slots.specs.Live.{IsLive}
 use Rattle.group_commit.specs.Saved.{Saved}
-use Rattle.group_commit.specs.Image.{named, are_tables, tables_in, stream, reached, Stores, in_slot, with_stream, stored}
+use Rattle.group_commit.specs.Image.{data_pages_in, are_tables, tables_in, stream, reached, Stores, in_slot, with_stream, stored}
 use Rattle.group_commit.specs.Commit.{Stands}
 use Rattle.group_commit.specs.declared.phase.Phase.TheVariants.{Idle}
 use Rattle.group_commit.specs.Loading.{reached_in, stream_of, stream_behind, reached_of, stream_at}
@@ -18,13 +18,13 @@ stream_steps : (file root : List ℕ) → is_root root ≡ true
     → stream file root ≡ stream_behind (length (tables_of root)) (stream_length_of root) file (reached_in (tables_of root) (data_count root) file)
 stream_steps file root is =
     by_tests (is_root root) (are_whole ts) (are_tables root ts) is
-    (ap (λ ns. stream_of (stream_length_of root) (pages ns file)) (drop_at (tables_of root) (named root ts) (length (tables_of root)) refl))
+    (ap (λ ns. stream_of (stream_length_of root) (pages ns file)) (drop_at (tables_of root) (data_pages_in root ts) (length (tables_of root)) refl))
   where
     ts : List (List ℕ)
     ts = tables_in file root
 
     ds : List (List ℕ)
-    ds = pages (named root ts) file
+    ds = pages (data_pages_in root ts) file
 
     zeros : Bool
     zeros = is_zero (drop (stream_length_of root) (joined ds))
@@ -33,9 +33,9 @@ stream_steps file root is =
     bytes = take (stream_length_of root) (joined ds)
 
     by_tests : (r w t : Bool) → r ≡ true
-        → stream_of (stream_length_of root) (pages (drop (length (tables_of root)) (tables_of root ++ named root ts)) file) ≡ stream_of (stream_length_of root) ds
+        → stream_of (stream_length_of root) (pages (drop (length (tables_of root)) (tables_of root ++ data_pages_in root ts)) file) ≡ stream_of (stream_length_of root) ds
         → (if not (r && w) then Err 43 else if not (t && are_whole ds) then Err 45 else if not zeros then Err 46 else Ok bytes)
-        ≡ stream_behind (length (tables_of root)) (stream_length_of root) file (if not w then Err 43 else if not t then Err 45 else Ok (tables_of root ++ named root ts))
+        ≡ stream_behind (length (tables_of root)) (stream_length_of root) file (if not w then Err 43 else if not t then Err 45 else Ok (tables_of root ++ data_pages_in root ts))
     by_tests false w t sure same = absurd cc
     by_tests true false t sure same = refl
     by_tests true true false sure same = refl
@@ -68,13 +68,13 @@ stores_of file root bytes ns head spells read found = record {
 }
 
 -- a fault of the stream is the file's
-pub stream_fault : (file : List ℕ) (slot : ℕ) (stale : Bool) (head : Root) (n : ℕ) → IsLive file slot stale head → stream_at head file ≡ Err n → stored file ≡ Err n
-stream_fault file slot stale head n it is =
+pub stream_fault : (file : List ℕ) (slot : ℕ) (stale_open : Bool) (head : Root) (n : ℕ) → IsLive file slot stale_open head → stream_at head file ≡ Err n → stored file ≡ Err n
+stream_fault file slot stale_open head n it is =
     ap (in_slot file) it.picked ∙ ap (with_stream (body slot file)) (stream_is file (body slot file) head it.spells ∙ is)
 
-pub stored_stream : (file : List ℕ) (slot : ℕ) (stale : Bool) (head : Root) (bytes : List ℕ) → IsLive file slot stale head → stream_at head file ≡ Ok bytes
+pub stored_stream : (file : List ℕ) (slot : ℕ) (stale_open : Bool) (head : Root) (bytes : List ℕ) → IsLive file slot stale_open head → stream_at head file ≡ Ok bytes
     → stored file ≡ Ok (body slot file, bytes)
-stored_stream file slot stale head bytes it is =
+stored_stream file slot stale_open head bytes it is =
     ap (in_slot file) it.picked ∙ ap (with_stream (body slot file)) (stream_is file (body slot file) head it.spells ∙ is)
 
 -- the live slot is open, and the other one closed or older
@@ -139,14 +139,14 @@ opened file (suc zero) below is =
     less k m is = grind (arith, nat_tests)
 opened file (suc (suc k)) below is = absurd (omega (arith, below))
 
-as_before : (g : ℕ) (stale : Bool) → stale ≡ (g == 1) → (stale ≡ true → g ≡ 1) × (stale ≡ false → g ≢ 1)
-as_before g stale is = (λ sure. grind (arith, nat_tests), λ no one. grind (arith, nat_tests))
+as_before : (g : ℕ) (stale_open : Bool) → stale_open ≡ (g == 1) → (stale_open ≡ true → g ≡ 1) × (stale_open ≡ false → g ≢ 1)
+as_before g stale_open is = (λ sure. grind (arith, nat_tests), λ no one. grind (arith, nat_tests))
 
 -- a file of which the live root was read stands so
-pub stands_read : (file : List ℕ) (slot : ℕ) (stale : Bool) (head : Root) (current next : Saved) → IsLive file slot stale head
+pub stands_read : (file : List ℕ) (slot : ℕ) (stale_open : Bool) (head : Root) (current next : Saved) → IsLive file slot stale_open head
     → current.body ≡ body slot file → stream_at head file ≡ Ok current.stream → reached_of head file ≡ Ok current.pages
-    → Stands Idle slot stale current next file
-stands_read file slot stale head current next it same read found =
+    → Stands Idle slot stale_open current next file
+stands_read file slot stale_open head current next it same read found =
     let o = opened file slot it.below it.picked in
     record {
       whole = it.whole;
@@ -156,8 +156,8 @@ stands_read file slot stale head current next it same read found =
       stale_slot = (
         λ one. rw same (o.older one),
         record {
-          opened = (as_before (gate (1 - slot) file) stale it.other).0;
-          closed = (as_before (gate (1 - slot) file) stale it.other).1;
+          opened = (as_before (gate (1 - slot) file) stale_open it.other).0;
+          closed = (as_before (gate (1 - slot) file) stale_open it.other).1;
         },
       );
     }

@@ -10,7 +10,7 @@ use Rattle.page_file.specs.Pages.{page, pages, has, are_whole}
 use Rattle.page_file.proofs.Apart.{apart_first, each_behind, place_of, has-append}
 use Rattle.root_slots.specs.Root.{tables_of}
 use Rattle.group_commit.specs.Saved.{Saved}
-use Rattle.group_commit.specs.Image.{tables_in, named}
+use Rattle.group_commit.specs.Image.{tables_in, data_pages_in}
 use Rattle.group_commit.specs.Commit.{HasPages, ReadAs, Reads}
 use Rattle.group_commit.specs.Held.{Held, IsSound}
 use Rattle.group_commit.specs.declared.phase.Phase.{Phase}
@@ -52,8 +52,8 @@ whole_each m (n ∷ ns) file whole is_there = elim (or_cases (m == n) (has m ns)
 -- the pages of a stored root lie whole in the file
 pub stored_whole : (root : Saved) (file : List ℕ) → HasPages root file → are_whole (pages root.pages file) ≡ true
 stored_whole root file has_pages =
-    let reading = reading_of root.body (tables_in file root.body) (pages (named root.body (tables_in file root.body)) file) root.stream has_pages.spells in
-    rw (sym has_pages.reaches) (whole-append (tables_of root.body) (named root.body (tables_in file root.body)) file reading.whole_tables reading.whole_pages)
+    let reading = reading_of root.body (tables_in file root.body) (pages (data_pages_in root.body (tables_in file root.body)) file) root.stream has_pages.spells in
+    rw (sym has_pages.reaches) (whole-append (tables_of root.body) (data_pages_in root.body (tables_in file root.body)) file reading.whole_tables reading.whole_pages)
 
 module _ {D : Type 0} (facts : Ghosts D) where
   -- the next page begins in the file, or at its end

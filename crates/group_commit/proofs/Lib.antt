@@ -9,8 +9,8 @@ pub mod ImageReads
 pub mod Inside
 pub mod KeptLemmas
 pub mod ManyPages
-pub mod NamedLemmas
 pub mod NewFileLemmas
+pub mod NextDataPages
 pub mod OneSpelling
 pub mod PageReads
 pub mod PagingLemmas

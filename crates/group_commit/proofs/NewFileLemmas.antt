@@ -8,7 +8,7 @@ use Rattle.root_slots.specs.Body.{root_of}
 use Rattle.root_slots.specs.Root.{is_root, tables_of, data_count, stream_length_of}
 use Rattle.root_slots.specs.Slots.{first_byte, gate, body}
 use Rattle.group_commit.specs.Saved.{Saved}
-use Rattle.group_commit.specs.Image.{stream_in, tables_in, named, entries}
+use Rattle.group_commit.specs.Image.{stream_in, tables_in, data_pages_in, entries}
 use Rattle.group_commit.specs.Commit.{Stands}
 use Rattle.group_commit.specs.NewFile.{slot_page, new_file}
 use Rattle.group_commit.specs.declared.phase.Phase.TheVariants.{Idle}
@@ -40,11 +40,11 @@ stands_new root next version replica valid size no_stream no_pages says =
     let tables : tables_of root.body ≡ [] = ap (λ r. r.tables) says in
     let file = new_file root.body in
     let tabled : tables_in file root.body ≡ [] = ap (λ ns. pages ns file) tables in
-    let none : named root.body [] ≡ [] = take_all (data_count root.body) [] (omega arith) in
-    let filled : pages (named root.body []) file ≡ [] = ap (λ ns. pages ns file) none in
+    let none : data_pages_in root.body [] ≡ [] = take_all (data_count root.body) [] (omega arith) in
+    let filled : pages (data_pages_in root.body []) file ≡ [] = ap (λ ns. pages ns file) none in
     let rest : is_zero (drop (data_count root.body) (entries [])) ≡ true = ap is_zero (drop_all (data_count root.body) [] (omega arith)) in
-    let once : are_pages (tables_of root.body ++ named root.body []) ≡ true =
-    ap (λ ns. are_pages (ns ++ named root.body [])) tables ∙ ap are_pages none in
+    let once : are_pages (tables_of root.body ++ data_pages_in root.body []) ≡ true =
+    ap (λ ns. are_pages (ns ++ data_pages_in root.body [])) tables ∙ ap are_pages none in
     let zeros : is_zero (drop (stream_length_of root.body) (joined [])) ≡ true = ap is_zero (drop_all (stream_length_of root.body) [] (omega arith)) in
     let same : take (stream_length_of root.body) (joined []) ≡ [] = take_all (stream_length_of root.body) [] (omega arith) in
     let slot : length (slot_page 1 root.body) ≡ 4096 = omega (arith, size) in
@@ -54,9 +54,9 @@ stands_new root next version replica valid size no_stream no_pages says =
       is_open = refl;
       holds = take_at root.body (replicate 4096 0) 4088 size;
       keeps = record {
-        spells = ap (λ ts. stream_in root.body ts (pages (named root.body ts) file)) tabled ∙ ap (stream_in root.body []) filled
+        spells = ap (λ ts. stream_in root.body ts (pages (data_pages_in root.body ts) file)) tabled ∙ ap (stream_in root.body []) filled
             ∙ stream_there root.body [] [] valid refl rest once refl zeros ∙ ap Ok (same ∙ sym no_stream);
-        reaches = ap (λ ts. tables_of root.body ++ named root.body ts) tabled ∙ ap (λ ns. ns ++ named root.body []) tables ∙ none ∙ sym no_pages;
+        reaches = ap (λ ts. tables_of root.body ++ data_pages_in root.body ts) tabled ∙ ap (λ ns. ns ++ data_pages_in root.body []) tables ∙ none ∙ sym no_pages;
       };
       stale_slot = ((λ is. absurd (shut is)), record { opened = λ is. absurd cc; closed = λ is. shut });
     }

@@ -45,13 +45,13 @@ paging_on p q p' f numbers kept new_data current next index paging at busy same 
 }
 
 -- a page was written
-pub paging_put : (p : Phase) (k : ℕ) (stale f : Bool) (numbers : List ℕ) (kept new_data n : ℕ) (current next : Paged) (index index' : Index)
+pub paging_put : (p : Phase) (k : ℕ) (stale_open f : Bool) (numbers : List ℕ) (kept new_data n : ℕ) (current next : Paged) (index index' : Index)
     → IsPaging p f numbers kept new_data current next index → p ≡ Pages k → f ≡ false → k < length numbers → n ≡ get_or numbers k 0 → index' ≡ with_taken n index
-    → IsPaging (behind_pages (k + 1) (length numbers) stale) f numbers kept new_data current next index'
-paging_put p k stale f numbers kept new_data n current next index index' paging at_page works below is made = rw (made) (record {
+    → IsPaging (behind_pages (k + 1) (length numbers) stale_open) f numbers kept new_data current next index'
+paging_put p k stale_open f numbers kept new_data n current next index index' paging at_page works below is made = rw (made) (record {
   is_index = record { tables = paging.is_index.tables; live = paging.is_index.live };
-  taken = λ _. ap (λ ns. ns ++ n ∷ []) (paging.taken works ∙ ap (λ q. taken_in q numbers) at_page) ∙ ap (λ m. take k numbers ++ m ∷ []) is ∙ sym (take_more numbers k 0 below) ∙ by_tests (nat_lt (k + 1) (length numbers)) stale refl;
-  room = λ _ j at. in_room (nat_lt (k + 1) (length numbers)) stale j refl at;
+  taken = λ _. ap (λ ns. ns ++ n ∷ []) (paging.taken works ∙ ap (λ q. taken_in q numbers) at_page) ∙ ap (λ m. take k numbers ++ m ∷ []) is ∙ sym (take_more numbers k 0 below) ∙ by_tests (nat_lt (k + 1) (length numbers)) stale_open refl;
+  room = λ _ j at. in_room (nat_lt (k + 1) (length numbers)) stale_open j refl at;
   renews = λ busy'. let renews = paging.renews (λ idle. not_idle (sym at_page ∙ idle)) in record {
     tables = renews.tables;
     pages = renews.pages;

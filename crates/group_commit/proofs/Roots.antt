@@ -9,20 +9,20 @@ use Rattle.root_slots.specs.Head.{is_head}
 use Rattle.root_slots.specs.Root.{is_root, tables_of, data_count, pages_for, stream_length_of}
 use Rattle.root_slots.proofs.HeadLemmas.{is_rest, root_is_head, head_says, length-tables, most_tables}
 use Rattle.group_commit.specs.Saved.{Saved, HasDataPages}
-use Rattle.group_commit.specs.Image.{entries, named, are_tables, stream_in, tables_in, Stores}
+use Rattle.group_commit.specs.Image.{entries, data_pages_in, are_tables, stream_in, tables_in, Stores}
 use Rattle.group_commit.proofs.Frame.{reading_of}
 use Rattle.group_commit.proofs.ManyPages.{zeros_are}
 
 -- all rules hold: then there is a stream
 pub stream_there : (root : List ℕ) (tables data_pages : List (List ℕ)) → is_root root ≡ true → are_whole tables ≡ true
-    → is_zero (drop (data_count root) (entries tables)) ≡ true → are_pages (tables_of root ++ named root tables) ≡ true
+    → is_zero (drop (data_count root) (entries tables)) ≡ true → are_pages (tables_of root ++ data_pages_in root tables) ≡ true
     → are_whole data_pages ≡ true → is_zero (drop (stream_length_of root) (joined data_pages)) ≡ true
     → stream_in root tables data_pages ≡ Ok (take (stream_length_of root) (joined data_pages))
 stream_there root tables data_pages body whole rest apart whole_pages zeros =
     by_tests (is_root root && are_whole tables) (are_tables root tables && are_whole data_pages) (is_zero (drop (stream_length_of root) (joined data_pages)))
     (take (stream_length_of root) (joined data_pages))
     (both (is_root root) (are_whole tables) body whole)
-    (both (are_tables root tables) (are_whole data_pages) (both (is_zero (drop (data_count root) (entries tables))) (are_pages (tables_of root ++ named root tables)) rest apart) whole_pages)
+    (both (are_tables root tables) (are_whole data_pages) (both (is_zero (drop (data_count root) (entries tables))) (are_pages (tables_of root ++ data_pages_in root tables)) rest apart) whole_pages)
     zeros
   where
     tested : Bool → Bool → Bool → List ℕ → Result (List ℕ) ℕ
@@ -61,23 +61,23 @@ pub stored_by : (root s tables data_pages : List ℕ) (y z : ℕ) (file : List �
     → HasBoth root s tables data_pages y z file → Stores root s (tables ++ data_pages) file
 stored_by root s tables data_pages y z file valid long are_tables count apart both =
     let tabled : tables_in file root ≡ pages tables file = ap (λ ns. pages ns file) are_tables in
-    let is_named : named root (pages tables file) ≡ data_pages =
+    let is_named : data_pages_in root (pages tables file) ≡ data_pages =
     ap (take (data_count root)) both.names ∙ take_at data_pages (replicate y 0) (data_count root) count in
-    let filled : pages (named root (pages tables file)) file ≡ pages data_pages file = ap (λ ns. pages ns file) is_named in
+    let filled : pages (data_pages_in root (pages tables file)) file ≡ pages data_pages file = ap (λ ns. pages ns file) is_named in
     let rest : is_zero (drop (data_count root) (entries (pages tables file))) ≡ true =
     ap (λ ns. is_zero (drop (data_count root) ns)) both.names ∙ ap is_zero (drop_at data_pages (replicate y 0) (data_count root) count) ∙ zero-replicate y in
-    let once : are_pages (tables_of root ++ named root (pages tables file)) ≡ true =
-    ap (λ ns. are_pages (ns ++ named root (pages tables file))) are_tables ∙ ap (λ ns. are_pages (tables ++ ns)) is_named ∙ apart in
+    let once : are_pages (tables_of root ++ data_pages_in root (pages tables file)) ≡ true =
+    ap (λ ns. are_pages (ns ++ data_pages_in root (pages tables file))) are_tables ∙ ap (λ ns. are_pages (tables ++ ns)) is_named ∙ apart in
     let zeros : is_zero (drop (stream_length_of root) (joined (pages data_pages file))) ≡ true =
     ap (λ k. is_zero (drop k (joined (pages data_pages file)))) long ∙ ap (λ b. is_zero (drop (length s) b)) both.holds
     ∙ ap is_zero (drop_at s (replicate z 0) (length s) refl) ∙ zero-replicate z in
     let same : take (stream_length_of root) (joined (pages data_pages file)) ≡ s =
     ap (λ k. take k (joined (pages data_pages file))) long ∙ ap (take (length s)) both.holds ∙ take_at s (replicate z 0) (length s) refl in
     record {
-      spells = ap (λ ts. stream_in root ts (pages (named root ts) file)) tabled ∙ ap (stream_in root (pages tables file)) filled
+      spells = ap (λ ts. stream_in root ts (pages (data_pages_in root ts) file)) tabled ∙ ap (stream_in root (pages tables file)) filled
           ∙ stream_there root (pages tables file) (pages data_pages file) valid both.whole_tables rest once both.whole_pages zeros
           ∙ ap Ok same;
-      reaches = ap (λ ts. tables_of root ++ named root ts) tabled ∙ ap (λ ns. ns ++ named root (pages tables file)) are_tables
+      reaches = ap (λ ts. tables_of root ++ data_pages_in root ts) tabled ∙ ap (λ ns. ns ++ data_pages_in root (pages tables file)) are_tables
           ∙ ap (λ ns. tables ++ ns) is_named;
     }
 
@@ -86,11 +86,11 @@ pub both_of : (root s tables data_pages file : List ℕ) → tables_of root ≡ 
     → Stores root s (tables ++ data_pages) file
     → (y : ℕ) × (z : ℕ) × HasBoth root s tables data_pages y z file
 both_of root s tables data_pages file are_tables long stores =
-    let reading = reading_of root (tables_in file root) (pages (named root (tables_in file root)) file) s stores.spells in
+    let reading = reading_of root (tables_in file root) (pages (data_pages_in root (tables_in file root)) file) s stores.spells in
     let tabled : tables_in file root ≡ pages tables file = ap (λ ns. pages ns file) are_tables in
-    let is_named : named root (tables_in file root) ≡ data_pages =
-    same_rest tables (named root (tables_in file root)) data_pages (ap (λ ns. ns ++ named root (tables_in file root)) (sym are_tables) ∙ stores.reaches) in
-    let filled : pages (named root (tables_in file root)) file ≡ pages data_pages file = ap (λ ns. pages ns file) is_named in
+    let is_named : data_pages_in root (tables_in file root) ≡ data_pages =
+    same_rest tables (data_pages_in root (tables_in file root)) data_pages (ap (λ ns. ns ++ data_pages_in root (tables_in file root)) (sym are_tables) ∙ stores.reaches) in
+    let filled : pages (data_pages_in root (tables_in file root)) file ≡ pages data_pages file = ap (λ ns. pages ns file) is_named in
     let front : take (data_count root) (entries (pages tables file)) ≡ data_pages = ap (λ ts. take (data_count root) (entries ts)) (sym tabled) ∙ is_named in
     let behind : is_zero (drop (data_count root) (entries (pages tables file))) ≡ true =
     ap (λ ts. is_zero (drop (data_count root) (entries ts))) (sym tabled) ∙ reading.rest in

@@ -13,7 +13,7 @@ use Rattle.group_commit.specs.Commit.{Stands, ReadAs, Reads}
 use Rattle.group_commit.specs.Held.{Held, behind_pages, gone_on, IsPlan, IsSound}
 use Rattle.group_commit.specs.declared.phase.Phase.{Phase}
 use Rattle.group_commit.specs.declared.phase.Phase.TheVariants.{Idle, Pages, Close, Sync1, Body, Sync2, Gate, Sync3}
-use Rattle.group_commit.proofs.SlotLemmas.{gate_written}
+use Rattle.root_slots.proofs.SlotWrites.{gate_written}
 use Rattle.group_commit.proofs.Steps.{stands_page, stands_to_close, stands_to_sync, stands_close, stands_sync1, stands_body, stands_sync2, stands_gate, stands_sync3, reads_page, reads_behind}
 
 module _ {D : Type 0} (facts : Ghosts D) where
@@ -65,11 +65,11 @@ module _ {D : Type 0} (facts : Ghosts D) where
       record {
         slots = sound.slots;
         room = sound.room;
-        plan = λ not_idle. plan_at (Pages k) (behind_pages (k + 1) (length held.numbers) held.stale) held.current held.next numbers fresh plan
-            (still_pages (k + 1) (length held.numbers) held.stale (length numbers) count);
+        plan = λ not_idle. plan_at (Pages k) (behind_pages (k + 1) (length held.numbers) held.stale_open) held.current held.next numbers fresh plan
+            (still_pages (k + 1) (length held.numbers) held.stale_open (length numbers) count);
         stands = λ tells. after_write _ _ (4096 * get_or numbers k 0) 4096 held.disk new (tears (told tells)) (s.stands (told tells)) (λ d c torn stood.
-            stands_behind (k + 1) (length held.numbers) slot held.stale held.current held.next c
-            (stands_page k (k + 1) slot held.stale held.current held.next d c (get_or numbers k 0) sound.slots above lacks torn stood));
+            stands_behind (k + 1) (length held.numbers) slot held.stale_open held.current held.next c
+            (stands_page k (k + 1) slot held.stale_open held.current held.next d c (get_or numbers k 0) sound.slots above lacks torn stood));
         reads = λ tells _.
             let old = told tells in
             let size : length (part fresh (4096 * k) 4096) ≡ 4096 = part_size fresh k (length numbers) sound.room within in
@@ -78,43 +78,43 @@ module _ {D : Type 0} (facts : Ghosts D) where
             ∙ part_written (facts.content held.disk) (4096 * get_or numbers k 0) 4096 (part fresh (4096 * k) 4096) (inside old) size in
             let torn = (tears old).reads in
             let now = reads_page k numbers fresh (facts.content held.disk) (facts.content new) apart within torn there (s.reads old works) in
-            let stood = stands_page k (k + 1) slot held.stale held.current held.next (facts.content held.disk) (facts.content new) (get_or numbers k 0) sound.slots above lacks torn
+            let stood = stands_page k (k + 1) slot held.stale_open held.current held.next (facts.content held.disk) (facts.content new) (get_or numbers k 0) sound.slots above lacks torn
             (s.stands old (facts.content held.disk) (lawful old).reads_survive) in
-            reads_at (k + 1) (length held.numbers) slot held.stale held.next numbers fresh (facts.content new) count (omega (arith, within)) now stood.stale_slot.1.closed;
+            reads_at (k + 1) (length held.numbers) slot held.stale_open held.next numbers fresh (facts.content new) count (omega (arith, within)) now stood.stale_slot.1.closed;
       }
     where
-      still_pages : (k n : ℕ) (stale : Bool) (m : ℕ) → n ≡ m → (j : ℕ) → behind_pages k n stale ≡ Pages j → j < m
-      still_pages k n stale m count j is = by_test (nat_lt k n) stale (ltb-true k n) is
+      still_pages : (k n : ℕ) (stale_open : Bool) (m : ℕ) → n ≡ m → (j : ℕ) → behind_pages k n stale_open ≡ Pages j → j < m
+      still_pages k n stale_open m count j is = by_test (nat_lt k n) stale_open (ltb-true k n) is
         where
           place_of : Phase → ℕ
           place_of (Pages k) = k
           place_of other = 0
 
-          by_test : (t stale : Bool) → (t ≡ true → k < n) → (if t then Pages k else if stale then Close else Sync1) ≡ Pages j → j < m
-          by_test true stale below is = let same : k ≡ j = ap place_of is in omega (arith, same, count, below refl)
+          by_test : (t stale_open : Bool) → (t ≡ true → k < n) → (if t then Pages k else if stale_open then Close else Sync1) ≡ Pages j → j < m
+          by_test true stale_open below is = let same : k ≡ j = ap place_of is in omega (arith, same, count, below refl)
           by_test false true below is = absurd cc
           by_test false false below is = absurd cc
 
-      stands_behind : (k n slot : ℕ) (stale : Bool) (current next : Saved) (c : List ℕ) → Stands (Pages k) slot stale current next c
-          → Stands (behind_pages k n stale) slot stale current next c
-      stands_behind k n slot stale current next c stood = by_test (nat_lt k n) stale stood
+      stands_behind : (k n slot : ℕ) (stale_open : Bool) (current next : Saved) (c : List ℕ) → Stands (Pages k) slot stale_open current next c
+          → Stands (behind_pages k n stale_open) slot stale_open current next c
+      stands_behind k n slot stale_open current next c stood = by_test (nat_lt k n) stale_open stood
         where
-          by_test : (t stale : Bool) → Stands (Pages k) slot stale current next c
-              → Stands (if t then Pages k else if stale then Close else Sync1) slot stale current next c
-          by_test true stale stood = stood
+          by_test : (t stale_open : Bool) → Stands (Pages k) slot stale_open current next c
+              → Stands (if t then Pages k else if stale_open then Close else Sync1) slot stale_open current next c
+          by_test true stale_open stood = stood
           by_test false true stood = stands_to_close k slot current next c stood
           by_test false false stood = stands_to_sync k slot false current next c stood
 
       part_size : (fresh : List ℕ) (k n : ℕ) → length fresh ≡ 4096 * n → k < n → length (part fresh (4096 * k) 4096) ≡ 4096
       part_size fresh k n room within = omega (arith, length-take 4096 (drop (4096 * k) fresh), length-drop (4096 * k) fresh, room, within)
 
-      reads_at : (k n slot : ℕ) (stale : Bool) (next : Saved) (numbers fresh file : List ℕ) → n ≡ length numbers → k ≤ length numbers → ReadAs k numbers fresh file
-          → (stale ≡ false → gate (1 - slot) file ≢ 1) → Reads (behind_pages k n stale) slot next numbers fresh file
-      reads_at k n slot stale next numbers fresh file count within reads shut = by_test (nat_lt k n) stale (ltb-false k n) shut
+      reads_at : (k n slot : ℕ) (stale_open : Bool) (next : Saved) (numbers fresh file : List ℕ) → n ≡ length numbers → k ≤ length numbers → ReadAs k numbers fresh file
+          → (stale_open ≡ false → gate (1 - slot) file ≢ 1) → Reads (behind_pages k n stale_open) slot next numbers fresh file
+      reads_at k n slot stale_open next numbers fresh file count within reads shut = by_test (nat_lt k n) stale_open (ltb-false k n) shut
         where
-          by_test : (t stale : Bool) → (t ≡ false → n ≤ k) → (stale ≡ false → gate (1 - slot) file ≢ 1)
-              → Reads (if t then Pages k else if stale then Close else Sync1) slot next numbers fresh file
-          by_test true stale above shut = reads
+          by_test : (t stale_open : Bool) → (t ≡ false → n ≤ k) → (stale_open ≡ false → gate (1 - slot) file ≢ 1)
+              → Reads (if t then Pages k else if stale_open then Close else Sync1) slot next numbers fresh file
+          by_test true stale_open above shut = reads
           by_test false true above shut = λ i below. reads i (omega (arith, below, above refl, count))
           by_test false false above shut = ((λ i below. reads i (omega (arith, below, above refl, count))), shut refl)
 
@@ -134,7 +134,7 @@ module _ {D : Type 0} (facts : Ghosts D) where
         room = sound.room;
         plan = sound.plan;
         stands = λ tells. after_write _ _ (4096 * get_or numbers k 0) 4096 held.disk new (tears (told tells)) (s.stands (told tells)) (λ d c torn stood.
-            rw (at_page) (stands_page k k slot held.stale held.current held.next d c (get_or numbers k 0) sound.slots above lacks torn stood));
+            rw (at_page) (stands_page k k slot held.stale_open held.current held.next d c (get_or numbers k 0) sound.slots above lacks torn stood));
         reads = λ tells works. absurd cc;
       }
 
@@ -154,7 +154,7 @@ module _ {D : Type 0} (facts : Ghosts D) where
         room = sound.room;
         plan = λ not_idle. plan_at Close Sync1 held.current held.next numbers fresh plan (λ k is. absurd cc);
         stands = λ tells. after_write _ _ (4096 * (1 - slot)) 1 held.disk new (tears (told tells)) (s.stands (told tells)) (λ d c torn stood.
-            stands_close slot held.stale held.current held.next d c sound.slots torn stood);
+            stands_close slot held.stale_open held.current held.next d c sound.slots torn stood);
         reads = λ tells ok.
             let old = told tells in
             let stood = s.stands old (facts.content held.disk) (lawful old).reads_survive in
@@ -177,8 +177,8 @@ module _ {D : Type 0} (facts : Ghosts D) where
         slots = sound.slots;
         room = sound.room;
         plan = λ not_idle. plan_at Sync1 Body held.current held.next numbers fresh plan (λ k is. absurd cc);
-        stands = λ tells. after_sync _ (Stands Body slot held.stale held.current held.next) held.disk new (lawful (told tells)) (settles (told tells)) (s.stands (told tells)) (λ stood.
-            stands_sync1 slot held.stale held.current held.next numbers fresh (facts.content held.disk) plan.makes (s.reads (told tells) works) stood);
+        stands = λ tells. after_sync _ (Stands Body slot held.stale_open held.current held.next) held.disk new (lawful (told tells)) (settles (told tells)) (s.stands (told tells)) (λ stood.
+            stands_sync1 slot held.stale_open held.current held.next numbers fresh (facts.content held.disk) plan.makes (s.reads (told tells) works) stood);
         reads = λ tells ok. tt;
       }
 
@@ -197,7 +197,7 @@ module _ {D : Type 0} (facts : Ghosts D) where
         room = sound.room;
         plan = λ not_idle. plan_at Body Sync2 held.current held.next numbers fresh plan (λ k is. absurd cc);
         stands = λ tells. after_write _ _ (4096 * (1 - slot) + 8) 4088 held.disk new (tears (told tells)) (s.stands (told tells)) (λ d c torn stood.
-            stands_body slot held.stale held.current held.next d c sound.slots torn stood);
+            stands_body slot held.stale_open held.current held.next d c sound.slots torn stood);
         reads = λ tells ok.
             let old = told tells in
             let stood = s.stands old (facts.content held.disk) (lawful old).reads_survive in
@@ -217,8 +217,8 @@ module _ {D : Type 0} (facts : Ghosts D) where
         slots = sound.slots;
         room = sound.room;
         plan = λ not_idle. plan_at Sync2 Gate held.current held.next numbers fresh plan (λ k is. absurd cc);
-        stands = λ tells. after_sync _ (Stands Gate slot held.stale held.current held.next) held.disk new (lawful (told tells)) (settles (told tells)) (s.stands (told tells)) (λ stood.
-            stands_sync2 slot held.stale held.current held.next (facts.content held.disk) (s.reads (told tells) works) stood);
+        stands = λ tells. after_sync _ (Stands Gate slot held.stale_open held.current held.next) held.disk new (lawful (told tells)) (settles (told tells)) (s.stands (told tells)) (λ stood.
+            stands_sync2 slot held.stale_open held.current held.next (facts.content held.disk) (s.reads (told tells) works) stood);
         reads = λ tells ok. tt;
       }
 
@@ -237,7 +237,7 @@ module _ {D : Type 0} (facts : Ghosts D) where
         room = sound.room;
         plan = λ not_idle. plan_at Gate Sync3 held.current held.next numbers fresh plan (λ k is. absurd cc);
         stands = λ tells. after_write _ _ (4096 * (1 - slot)) 1 held.disk new (tears (told tells)) (s.stands (told tells)) (λ d c torn stood.
-            stands_gate slot held.stale held.current held.next d c sound.slots torn stood);
+            stands_gate slot held.stale_open held.current held.next d c sound.slots torn stood);
         reads = λ tells ok.
             let old = told tells in
             let stood = s.stands old (facts.content held.disk) (lawful old).reads_survive in
@@ -257,7 +257,7 @@ module _ {D : Type 0} (facts : Ghosts D) where
         room = sound.room;
         plan = λ not_idle. absurd (not_idle refl);
         stands = λ tells. after_sync _ (Stands Idle (1 - slot) true held.next held.current) held.disk new (lawful (told tells)) (settles (told tells)) (s.stands (told tells)) (λ stood.
-            stands_sync3 slot held.stale held.current held.next held.current (facts.content held.disk) sound.slots plan.newer (s.reads (told tells) works) stood);
+            stands_sync3 slot held.stale_open held.current held.next held.current (facts.content held.disk) sound.slots plan.newer (s.reads (told tells) works) stood);
         reads = λ tells ok. tt;
       }
 
@@ -288,5 +288,5 @@ module _ {D : Type 0} (facts : Ghosts D) where
         reads = λ tells works i below. absurd (omega (arith, below));
       }
     where
-      begun : {slot : ℕ} {stale : Bool} {current other next : Saved} {c : List ℕ} → Stands Idle slot stale current other c → Stands (Pages 0) slot stale current next c
+      begun : {slot : ℕ} {stale_open : Bool} {current other next : Saved} {c : List ℕ} → Stands Idle slot stale_open current other c → Stands (Pages 0) slot stale_open current next c
       begun s = record { whole = s.whole; is_open = s.is_open; holds = s.holds; keeps = s.keeps; stale_slot = s.stale_slot }

@@ -7,19 +7,20 @@ use Rattle.page_file.proofs.Parts.{pages_other, pages_behind, page_other, part_o
 use Rattle.page_file.proofs.Apart.{no_two, each_behind}
 use Rattle.root_slots.specs.Root.{version_of}
 use Rattle.root_slots.specs.Slots.{gate, body, live}
-use Rattle.group_commit.specs.Image.{stored, in_slot, with_stream, stream, tables_in, named}
+use Rattle.group_commit.specs.Image.{stored, in_slot, with_stream, stream, tables_in, data_pages_in}
 use Rattle.group_commit.specs.Saved.{Saved}
 use Rattle.group_commit.specs.Commit.{HasPages, IsOlder, Stands, ReadAs, Reads, Makes, Is, IsLeft}
 use Rattle.group_commit.specs.declared.phase.Phase.{Phase}
 use Rattle.group_commit.specs.declared.phase.Phase.TheVariants.{Idle, Pages, Close, Sync1, Body, Sync2, Gate, Sync3}
 use Rattle.group_commit.proofs.Frame.{stores_same, reading_of}
-use Rattle.group_commit.proofs.SlotLemmas.{SameSlot, slot_before_pages, slot_beside, body_behind_gate, gate_before_body, other_of_other, live_alone, live_greater}
+use Rattle.root_slots.proofs.SlotWrites.{SameSlot, slot_beside, body_behind_gate, gate_before_body}
+use Rattle.group_commit.proofs.SlotLemmas.{slot_before_pages, other_of_other, live_alone, live_greater}
 
 -- a stored root's pages lie behind the slots, none of them twice
 pub pages_apart : (root : Saved) (file : List ℕ) → HasPages root file → are_pages root.pages ≡ true
 pages_apart root file has_pages =
     ap are_pages (sym has_pages.reaches)
-    ∙ (reading_of root.body (tables_in file root.body) (pages (named root.body (tables_in file root.body)) file) root.stream has_pages.spells).apart
+    ∙ (reading_of root.body (tables_in file root.body) (pages (data_pages_in root.body (tables_in file root.body)) file) root.stream has_pages.spells).apart
 
 -- a write before the pages leaves them, and so does a write of another page
 pub keeps_behind : (root : Saved) (d c : List ℕ) (at k : ℕ) → Torn at k d c → at + k ≤ 8192 → HasPages root d → HasPages root c
@@ -33,9 +34,9 @@ older_same : (slot : ℕ) (current : Saved) (d c : List ℕ) → SameSlot (1 - s
 older_same slot current d c same older is = rw (same.bodies) (older (sym same.gates ∙ is))
 
 -- a page is written
-pub stands_page : (k k' slot : ℕ) (stale : Bool) (current next : Saved) (d c : List ℕ) (m : ℕ) → slot < 2 → 2 ≤ m → has m current.pages ≡ false
-    → Torn (4096 * m) 4096 d c → Stands (Pages k) slot stale current next d → Stands (Pages k') slot stale current next c
-stands_page k k' slot stale current next d c m below above lacks torn s =
+pub stands_page : (k k' slot : ℕ) (stale_open : Bool) (current next : Saved) (d c : List ℕ) (m : ℕ) → slot < 2 → 2 ≤ m → has m current.pages ≡ false
+    → Torn (4096 * m) 4096 d c → Stands (Pages k) slot stale_open current next d → Stands (Pages k') slot stale_open current next c
+stands_page k k' slot stale_open current next d c m below above lacks torn s =
     let here = slot_before_pages d c m slot torn above below in
     let there = slot_before_pages d c m (1 - slot) torn above (omega arith) in
     record {
@@ -62,9 +63,9 @@ stands_to_close k slot current next c s = record {
   stale_slot = (s.stale_slot.0, s.stale_slot.1.opened refl);
 }
 
-pub stands_to_sync : (k slot : ℕ) (stale : Bool) (current next : Saved) (c : List ℕ) → Stands (Pages k) slot stale current next c
-    → Stands Sync1 slot stale current next c
-stands_to_sync k slot stale current next c s = record {
+pub stands_to_sync : (k slot : ℕ) (stale_open : Bool) (current next : Saved) (c : List ℕ) → Stands (Pages k) slot stale_open current next c
+    → Stands Sync1 slot stale_open current next c
+stands_to_sync k slot stale_open current next c s = record {
   whole = s.whole;
   is_open = s.is_open;
   holds = s.holds;
@@ -73,9 +74,9 @@ stands_to_sync k slot stale current next c s = record {
 }
 
 -- the stale gate is closed, or torn
-pub stands_close : (slot : ℕ) (stale : Bool) (current next : Saved) (d c : List ℕ) → slot < 2 → Torn (4096 * (1 - slot)) 1 d c
-    → Stands Close slot stale current next d → Stands Sync1 slot stale current next c
-stands_close slot stale current next d c below torn s =
+pub stands_close : (slot : ℕ) (stale_open : Bool) (current next : Saved) (d c : List ℕ) → slot < 2 → Torn (4096 * (1 - slot)) 1 d c
+    → Stands Close slot stale_open current next d → Stands Sync1 slot stale_open current next c
+stands_close slot stale_open current next d c below torn s =
     let here = slot_beside d c (4096 * (1 - slot)) 1 slot torn below (omega arith) (omega arith) in
     record {
       whole = omega (arith, torn.no_shorter, s.whole);
@@ -86,9 +87,9 @@ stands_close slot stale current next d c below torn s =
     }
 
 -- the pages and the closed gate are settled
-pub stands_sync1 : (slot : ℕ) (stale : Bool) (current next : Saved) (numbers fresh : List ℕ) (file : List ℕ) → Makes current numbers fresh next
-    → Reads Sync1 slot next numbers fresh file → Stands Sync1 slot stale current next file → Stands Body slot stale current next file
-stands_sync1 slot stale current next numbers fresh file makes reads s = record {
+pub stands_sync1 : (slot : ℕ) (stale_open : Bool) (current next : Saved) (numbers fresh : List ℕ) (file : List ℕ) → Makes current numbers fresh next
+    → Reads Sync1 slot next numbers fresh file → Stands Sync1 slot stale_open current next file → Stands Body slot stale_open current next file
+stands_sync1 slot stale_open current next numbers fresh file makes reads s = record {
   whole = s.whole;
   is_open = s.is_open;
   holds = s.holds;
@@ -97,9 +98,9 @@ stands_sync1 slot stale current next numbers fresh file makes reads s = record {
 }
 
 -- the body is written, or torn
-pub stands_body : (slot : ℕ) (stale : Bool) (current next : Saved) (d c : List ℕ) → slot < 2 → Torn (4096 * (1 - slot) + 8) 4088 d c
-    → Stands Body slot stale current next d → Stands Sync2 slot stale current next c
-stands_body slot stale current next d c below torn s =
+pub stands_body : (slot : ℕ) (stale_open : Bool) (current next : Saved) (d c : List ℕ) → slot < 2 → Torn (4096 * (1 - slot) + 8) 4088 d c
+    → Stands Body slot stale_open current next d → Stands Sync2 slot stale_open current next c
+stands_body slot stale_open current next d c below torn s =
     let here = slot_beside d c (4096 * (1 - slot) + 8) 4088 slot torn below (omega arith) (omega arith) in
     record {
       whole = omega (arith, torn.no_shorter, s.whole);
@@ -113,9 +114,9 @@ stands_body slot stale current next d c below torn s =
     }
 
 -- the body is settled
-pub stands_sync2 : (slot : ℕ) (stale : Bool) (current next : Saved) (file : List ℕ) → body (1 - slot) file ≡ next.body
-    → Stands Sync2 slot stale current next file → Stands Gate slot stale current next file
-stands_sync2 slot stale current next file written s = record {
+pub stands_sync2 : (slot : ℕ) (stale_open : Bool) (current next : Saved) (file : List ℕ) → body (1 - slot) file ≡ next.body
+    → Stands Sync2 slot stale_open current next file → Stands Gate slot stale_open current next file
+stands_sync2 slot stale_open current next file written s = record {
   whole = s.whole;
   is_open = s.is_open;
   holds = s.holds;
@@ -124,9 +125,9 @@ stands_sync2 slot stale current next file written s = record {
 }
 
 -- the gate is written, or torn
-pub stands_gate : (slot : ℕ) (stale : Bool) (current next : Saved) (d c : List ℕ) → slot < 2 → Torn (4096 * (1 - slot)) 1 d c
-    → Stands Gate slot stale current next d → Stands Sync3 slot stale current next c
-stands_gate slot stale current next d c below torn s =
+pub stands_gate : (slot : ℕ) (stale_open : Bool) (current next : Saved) (d c : List ℕ) → slot < 2 → Torn (4096 * (1 - slot)) 1 d c
+    → Stands Gate slot stale_open current next d → Stands Sync3 slot stale_open current next c
+stands_gate slot stale_open current next d c below torn s =
     let here = slot_beside d c (4096 * (1 - slot)) 1 slot torn below (omega arith) (omega arith) in
     record {
       whole = omega (arith, torn.no_shorter, s.whole);
@@ -140,9 +141,9 @@ stands_gate slot stale current next d c below torn s =
     }
 
 -- the gate is settled: the slots change places
-pub stands_sync3 : (slot : ℕ) (stale : Bool) (current next other : Saved) (file : List ℕ) → slot < 2 → version_of current.body < version_of next.body
-    → gate (1 - slot) file ≡ 1 → Stands Sync3 slot stale current next file → Stands Idle (1 - slot) true next other file
-stands_sync3 slot stale current next other file below newer is s =
+pub stands_sync3 : (slot : ℕ) (stale_open : Bool) (current next other : Saved) (file : List ℕ) → slot < 2 → version_of current.body < version_of next.body
+    → gate (1 - slot) file ≡ 1 → Stands Sync3 slot stale_open current next file → Stands Idle (1 - slot) true next other file
+stands_sync3 slot stale_open current next other file below newer is s =
     let back = other_of_other slot below in
     record {
       whole = s.whole;
@@ -165,37 +166,37 @@ stored_in file slot root is holds has_pages =
     ap (λ l. in_slot file l) is ∙ ap (λ b. with_stream b (stream file b)) holds ∙ ap (λ r. with_stream root.body r) has_pages.spells
 
 -- with the stale slot older or closed, the image is the committed root
-is_by_older : (phase : Phase) (slot : ℕ) (stale : Bool) (current next : Saved) (file : List ℕ) → slot < 2 → IsOlder slot current file
-    → Stands phase slot stale current next file → Is current file
-is_by_older phase slot stale current next file below older s = elim (cases_eq (gate (1 - slot) file) 1) [
+is_by_older : (phase : Phase) (slot : ℕ) (stale_open : Bool) (current next : Saved) (file : List ℕ) → slot < 2 → IsOlder slot current file
+    → Stands phase slot stale_open current next file → Is current file
+is_by_older phase slot stale_open current next file below older s = elim (cases_eq (gate (1 - slot) file) 1) [
   | inl is ↦ stored_in file slot current (live_greater file slot below s.whole s.is_open is (rw (s.holds) (older is))) s.holds s.keeps
   | inr shut ↦ stored_in file slot current (live_alone file slot below s.whole s.is_open shut) s.holds s.keeps
 ]
 
 -- between two commits the live slot is this one
-pub live_by_older : (slot : ℕ) (stale : Bool) (current next : Saved) (file : List ℕ) → slot < 2 → Stands Idle slot stale current next file → live file ≡ Ok slot
-live_by_older slot stale current next file below s = elim (cases_eq (gate (1 - slot) file) 1) [
+pub live_by_older : (slot : ℕ) (stale_open : Bool) (current next : Saved) (file : List ℕ) → slot < 2 → Stands Idle slot stale_open current next file → live file ≡ Ok slot
+live_by_older slot stale_open current next file below s = elim (cases_eq (gate (1 - slot) file) 1) [
   | inl is ↦ live_greater file slot below s.whole s.is_open is (rw (s.holds) (s.stale_slot.0 is))
   | inr shut ↦ live_alone file slot below s.whole s.is_open shut
 ]
 
-is_by_shut : (phase : Phase) (slot : ℕ) (stale : Bool) (current next : Saved) (file : List ℕ) → slot < 2 → gate (1 - slot) file ≢ 1
-    → Stands phase slot stale current next file → Is current file
-is_by_shut phase slot stale current next file below shut s =
+is_by_shut : (phase : Phase) (slot : ℕ) (stale_open : Bool) (current next : Saved) (file : List ℕ) → slot < 2 → gate (1 - slot) file ≢ 1
+    → Stands phase slot stale_open current next file → Is current file
+is_by_shut phase slot stale_open current next file below shut s =
     stored_in file slot current (live_alone file slot below s.whole s.is_open shut) s.holds s.keeps
 
 -- the image of a file in each phase
-pub is_left : (phase : Phase) (slot : ℕ) (stale : Bool) (current next : Saved) (file : List ℕ) → slot < 2 → version_of current.body < version_of next.body
-    → Stands phase slot stale current next file → IsLeft phase current next file
-is_left Idle slot stale current next file below newer s = is_by_older Idle slot stale current next file below s.stale_slot.0 s
-is_left (Pages k) slot stale current next file below newer s = is_by_older (Pages k) slot stale current next file below s.stale_slot.0 s
-is_left Close slot stale current next file below newer s = is_by_older Close slot stale current next file below s.stale_slot.0 s
-is_left Sync1 slot stale current next file below newer s = is_by_older Sync1 slot stale current next file below s.stale_slot s
-is_left Body slot stale current next file below newer s = is_by_shut Body slot stale current next file below s.stale_slot.0 s
-is_left Sync2 slot stale current next file below newer s = is_by_shut Sync2 slot stale current next file below s.stale_slot.0 s
-is_left Gate slot stale current next file below newer s = is_by_shut Gate slot stale current next file below s.stale_slot.0 s
-is_left Sync3 slot stale current next file below newer s = elim (cases_eq (gate (1 - slot) file) 1) [
-  | inr shut ↦ inl (is_by_shut Sync3 slot stale current next file below shut s)
+pub is_left : (phase : Phase) (slot : ℕ) (stale_open : Bool) (current next : Saved) (file : List ℕ) → slot < 2 → version_of current.body < version_of next.body
+    → Stands phase slot stale_open current next file → IsLeft phase current next file
+is_left Idle slot stale_open current next file below newer s = is_by_older Idle slot stale_open current next file below s.stale_slot.0 s
+is_left (Pages k) slot stale_open current next file below newer s = is_by_older (Pages k) slot stale_open current next file below s.stale_slot.0 s
+is_left Close slot stale_open current next file below newer s = is_by_older Close slot stale_open current next file below s.stale_slot.0 s
+is_left Sync1 slot stale_open current next file below newer s = is_by_older Sync1 slot stale_open current next file below s.stale_slot s
+is_left Body slot stale_open current next file below newer s = is_by_shut Body slot stale_open current next file below s.stale_slot.0 s
+is_left Sync2 slot stale_open current next file below newer s = is_by_shut Sync2 slot stale_open current next file below s.stale_slot.0 s
+is_left Gate slot stale_open current next file below newer s = is_by_shut Gate slot stale_open current next file below s.stale_slot.0 s
+is_left Sync3 slot stale_open current next file below newer s = elim (cases_eq (gate (1 - slot) file) 1) [
+  | inr shut ↦ inl (is_by_shut Sync3 slot stale_open current next file below shut s)
   | inl is ↦
       let back = other_of_other slot below in
       let older : version_of (body (1 - (1 - slot)) file) < version_of (body (1 - slot) file) = rw (back, s.holds, s.stale_slot.1) newer in
@@ -204,8 +205,8 @@ is_left Sync3 slot stale current next file below newer s = elim (cases_eq (gate 
 ]
 
 -- between two commits, too
-pub is_idle : (slot : ℕ) (stale : Bool) (current next : Saved) (file : List ℕ) → slot < 2 → Stands Idle slot stale current next file → Is current file
-is_idle slot stale current next file below s = is_by_older Idle slot stale current next file below s.stale_slot.0 s
+pub is_idle : (slot : ℕ) (stale_open : Bool) (current next : Saved) (file : List ℕ) → slot < 2 → Stands Idle slot stale_open current next file → Is current file
+is_idle slot stale_open current next file below s = is_by_older Idle slot stale_open current next file below s.stale_slot.0 s
 
 -- the next page reads as it was written, and those before it
 pub reads_page : (k : ℕ) (numbers fresh old new : List ℕ) → are_pages numbers ≡ true → k < length numbers

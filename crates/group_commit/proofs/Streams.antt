@@ -51,11 +51,11 @@ front_all n bytes long = take_all n bytes (omega (arith, long))
 pub front_more : (n : ℕ) (bytes more : List ℕ) → length bytes ≡ n → take n (bytes ++ more) ≡ bytes
 front_more n bytes more long = take_at bytes more n long
 
-pub busy_behind : (k pages : ℕ) (stale : Bool) → behind_pages k pages stale ≢ Idle
-busy_behind k pages stale is = by_tests (nat_lt k pages) stale is
+pub busy_behind : (k pages : ℕ) (stale_open : Bool) → behind_pages k pages stale_open ≢ Idle
+busy_behind k pages stale_open is = by_tests (nat_lt k pages) stale_open is
   where
-    by_tests : (t stale : Bool) → (if t then Pages k else if stale then Close else Sync1) ≡ Idle → ⊥
-    by_tests true stale is = cc
+    by_tests : (t stale_open : Bool) → (if t then Pages k else if stale_open then Close else Sync1) ≡ Idle → ⊥
+    by_tests true stale_open is = cc
     by_tests false true is = cc
     by_tests false false is = cc
 

@@ -62,7 +62,7 @@ IsAnswer due answer = (answer ≡ due) ⊎ ((answer ≡ Err Memory) × IsBegun d
 pub record Begins {D : Type 0} (facts : Ghosts D) (old : Held D) (ops : List Op) (new : Held D) : Type 0 where
   pub disk : new.disk ≡ old.disk
   pub current : new.current ≡ old.current
-  pub stale : new.stale ≡ old.stale
+  pub stale_open : new.stale_open ≡ old.stale_open
   pub works : new.failed ≡ false
   pub phase : new.phase ≡ Pages 0
   pub slot : new.slot ≡ old.slot

@@ -18,30 +18,30 @@ abbrev pub IsOlder : ℕ → Saved → List ℕ → Type 0
 IsOlder slot current file = gate (1 - slot) file ≡ 1 → version_of (body (1 - slot) file) < version_of current.body
 
 -- whether the stale gate reads 1, as it did before the commit
-pub record IsAsBefore (slot : ℕ) (stale : Bool) (file : List ℕ) : Type 0 where
-  pub opened : stale ≡ true → gate (1 - slot) file ≡ 1
-  pub closed : stale ≡ false → gate (1 - slot) file ≢ 1
+pub record IsAsBefore (slot : ℕ) (stale_open : Bool) (file : List ℕ) : Type 0 where
+  pub opened : stale_open ≡ true → gate (1 - slot) file ≡ 1
+  pub closed : stale_open ≡ false → gate (1 - slot) file ≢ 1
 
 -- what the stale slot has, and the new root's pages
 abbrev pub StaleSlot : Phase → ℕ → Bool → Saved → Saved → List ℕ → Type 0
-StaleSlot Idle slot stale current next file = IsOlder slot current file × IsAsBefore slot stale file
-StaleSlot (Pages k) slot stale current next file = IsOlder slot current file × IsAsBefore slot stale file
+StaleSlot Idle slot stale_open current next file = IsOlder slot current file × IsAsBefore slot stale_open file
+StaleSlot (Pages k) slot stale_open current next file = IsOlder slot current file × IsAsBefore slot stale_open file
 -- a gate that a crash has torn is never closed
-StaleSlot Close slot stale current next file = IsOlder slot current file × (gate (1 - slot) file ≡ 1)
-StaleSlot Sync1 slot stale current next file = IsOlder slot current file
-StaleSlot Body slot stale current next file = (gate (1 - slot) file ≢ 1) × HasPages next file
-StaleSlot Sync2 slot stale current next file = (gate (1 - slot) file ≢ 1) × HasPages next file
-StaleSlot Gate slot stale current next file =
+StaleSlot Close slot stale_open current next file = IsOlder slot current file × (gate (1 - slot) file ≡ 1)
+StaleSlot Sync1 slot stale_open current next file = IsOlder slot current file
+StaleSlot Body slot stale_open current next file = (gate (1 - slot) file ≢ 1) × HasPages next file
+StaleSlot Sync2 slot stale_open current next file = (gate (1 - slot) file ≢ 1) × HasPages next file
+StaleSlot Gate slot stale_open current next file =
     (gate (1 - slot) file ≢ 1) × HasPages next file × (body (1 - slot) file ≡ next.body)
-StaleSlot Sync3 slot stale current next file = HasPages next file × (body (1 - slot) file ≡ next.body)
+StaleSlot Sync3 slot stale_open current next file = HasPages next file × (body (1 - slot) file ≡ next.body)
 
 -- What a file has in a phase. The live slot and the pages that its root reaches stay through all of them.
-pub record Stands (phase : Phase) (slot : ℕ) (stale : Bool) (current next : Saved) (file : List ℕ) : Type 0 where
+pub record Stands (phase : Phase) (slot : ℕ) (stale_open : Bool) (current next : Saved) (file : List ℕ) : Type 0 where
   pub whole : 8192 ≤ length file
   pub is_open : gate slot file ≡ 1
   pub holds : body slot file ≡ current.body
   pub keeps : HasPages current file
-  pub stale_slot : StaleSlot phase slot stale current next file
+  pub stale_slot : StaleSlot phase slot stale_open current next file
 
 -- the first k of the new pages are written
 abbrev pub ReadAs : ℕ → List ℕ → List ℕ → List ℕ → Type 0

@@ -6,14 +6,14 @@ use Rattle.group_commit.specs.declared.phase.Phase.TheVariants.{Idle, Pages, Clo
 
 -- with so many new pages, of a phase: one write for each page that is left, the close where the stale gate reads 1, body and gate
 abbrev pub writes_from : Phase → ℕ → Bool → ℕ
-writes_from Idle pages stale = 0
-writes_from (Pages k) pages stale = (pages - k) + (if stale then 3 else 2)
-writes_from Close pages stale = 3
-writes_from Sync1 pages stale = 2
-writes_from Body pages stale = 2
-writes_from Sync2 pages stale = 1
-writes_from Gate pages stale = 1
-writes_from Sync3 pages stale = 0
+writes_from Idle pages stale_open = 0
+writes_from (Pages k) pages stale_open = (pages - k) + (if stale_open then 3 else 2)
+writes_from Close pages stale_open = 3
+writes_from Sync1 pages stale_open = 2
+writes_from Body pages stale_open = 2
+writes_from Sync2 pages stale_open = 1
+writes_from Gate pages stale_open = 1
+writes_from Sync3 pages stale_open = 0
 
 abbrev pub syncs_from : Phase → ℕ
 syncs_from Idle = 0
@@ -27,11 +27,11 @@ syncs_from Sync3 = 1
 
 -- how many writes and syncs there are up to the end of the commit
 abbrev pub writes_left : {D : Type 0} → Held D → ℕ
-writes_left held = writes_from held.phase (length held.numbers) held.stale
+writes_left held = writes_from held.phase (length held.numbers) held.stale_open
 
 abbrev pub syncs_left : {D : Type 0} → Held D → ℕ
 syncs_left held = syncs_from held.phase
 
 -- the page that is written next is one of the new ones
-abbrev pub IsUnderWay : {D : Type 0} → Held D → Type 0
-IsUnderWay held = (k : ℕ) → held.phase ≡ Pages k → k < length held.numbers
+abbrev pub IsWriting : {D : Type 0} → Held D → Type 0
+IsWriting held = (k : ℕ) → held.phase ≡ Pages k → k < length held.numbers

@@ -18,24 +18,24 @@ pub record Held (D : Type 0) : Type 0 where
   pub current : Saved
   pub next : Saved
   pub numbers : List ℕ
-  pub stale : Bool
+  pub stale_open : Bool
   pub failed : Bool
 
 -- the phase behind so many written pages
 abbrev pub behind_pages : ℕ → ℕ → Bool → Phase
-behind_pages k new_pages stale = if nat_lt k new_pages then Pages k else if stale then Close else Sync1
+behind_pages k new_pages stale_open = if nat_lt k new_pages then Pages k else if stale_open then Close else Sync1
 
 -- what a device call that succeeds in a phase makes of the store; after the last one the new root is live
 abbrev pub gone_on : {D : Type 0} → Phase → Held D → D → Held D
 gone_on Idle held disk = record held { disk = disk }
-gone_on (Pages k) held disk = record held { disk = disk; phase = behind_pages (k + 1) (length held.numbers) held.stale }
+gone_on (Pages k) held disk = record held { disk = disk; phase = behind_pages (k + 1) (length held.numbers) held.stale_open }
 gone_on Close held disk = record held { disk = disk; phase = Sync1 }
 gone_on Sync1 held disk = record held { disk = disk; phase = Body }
 gone_on Body held disk = record held { disk = disk; phase = Sync2 }
 gone_on Sync2 held disk = record held { disk = disk; phase = Gate }
 gone_on Gate held disk = record held { disk = disk; phase = Sync3 }
 gone_on Sync3 held disk =
-    record held { disk = disk; phase = Idle; slot = 1 - held.slot; current = held.next; next = held.current; stale = true }
+    record held { disk = disk; phase = Idle; slot = 1 - held.slot; current = held.next; next = held.current; stale_open = true }
 
 -- the phase in which a failed call leaves a commit: behind a write that may be there or not, else where it was
 abbrev pub left_at : Phase → Phase
@@ -69,7 +69,7 @@ pub record IsSound {D : Type 0} (facts : Ghosts D) (held : Held D) (slot : ℕ) 
   pub room : length fresh ≡ 4096 * length numbers
   pub plan : held.phase ≢ Idle → IsPlan held.phase held.current held.next numbers fresh
   pub stands : facts.tells held.disk → (c : List ℕ) → facts.survives held.disk c
-      → Stands held.phase slot held.stale held.current held.next c
+      → Stands held.phase slot held.stale_open held.current held.next c
   pub reads : facts.tells held.disk → held.failed ≡ false → Reads held.phase slot held.next numbers fresh (facts.content held.disk)
 
 -- The streams of both roots are fronts of these bytes, which are the live root's, or the next one's while a commit is under way.

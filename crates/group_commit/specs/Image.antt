@@ -7,13 +7,13 @@ use Rattle.root_slots.specs.Root.{is_root, tables_of, data_count, stream_length_
 use Rattle.root_slots.specs.Slots.{body, live}
 
 -- the data pages that a body and its table pages name, in the order of the stream
-abbrev pub named : List ℕ → List (List ℕ) → List ℕ
-named root tables = take (data_count root) (entries tables)
+abbrev pub data_pages_in : List ℕ → List (List ℕ) → List ℕ
+data_pages_in root tables = take (data_count root) (entries tables)
 
 -- the table pages are as they have to be: no numbers behind those of the data pages, and no page twice
 abbrev pub are_tables : List ℕ → List (List ℕ) → Bool
 are_tables root tables =
-    is_zero (drop (data_count root) (entries tables)) && are_pages (tables_of root ++ named root tables)
+    is_zero (drop (data_count root) (entries tables)) && are_pages (tables_of root ++ data_pages_in root tables)
 
 -- the stream in these data pages, of which the last one is filled with zeros; or bad root 43, bad table 45, bad stream 46
 abbrev pub stream_in : List ℕ → List (List ℕ) → List (List ℕ) → Result (List ℕ) ℕ
@@ -29,11 +29,11 @@ tables_in file root = pages (tables_of root) file
 
 -- the stream that a body stands for in a file, or the first rule that is broken
 abbrev pub stream : List ℕ → List ℕ → Result (List ℕ) ℕ
-stream file root = stream_in root (tables_in file root) (pages (named root (tables_in file root)) file)
+stream file root = stream_in root (tables_in file root) (pages (data_pages_in root (tables_in file root)) file)
 
 -- the pages that a body reaches in a file
 abbrev pub reached : List ℕ → List ℕ → List ℕ
-reached file root = tables_of root ++ named root (tables_in file root)
+reached file root = tables_of root ++ data_pages_in root (tables_in file root)
 
 abbrev pub with_stream : List ℕ → Result (List ℕ) ℕ → Result (List ℕ × List ℕ) ℕ
 with_stream root (Ok bytes) = Ok (root, bytes)

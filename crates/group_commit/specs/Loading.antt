@@ -5,7 +5,6 @@ use Rattle.change_codec.specs.Stream.{spelled_all, AreOperations}
 use Rattle.page_file.specs.Pages.{pages, are_whole, is_zero, joined}
 use Rattle.root_slots.specs.Root.{replica_of, count_of, pages_for}
 use Rattle.root_slots.specs.Body.{Root}
-pub use Rattle.page_file.specs.Looks.{OnlyLooks}
 pub use Rattle.page_file.specs.Tables.{reached_by, reached_in}
 use Rattle.page_file.specs.declared.error.PageError.{PageError}
 use Rattle.page_file.specs.declared.error.PageError.TheVariants.{Memory as PagesMemory, PageNumber as PagesNumber, NoPage as PagesNone, BadTable as PagesBad, ReadFailed as PagesReadFailed, WriteFailed as PagesWriteFailed}

@@ -22,8 +22,8 @@ pub record Plans (current : Saved) (records : List ℕ) (more : ℕ) (next : Sav
   pub changes : numbers ≡ changed_pages current next
 
 -- the root behind one of this body with so many more operations, its stream on these pages
-pub record IsGrown (body : List ℕ) (more : ℕ) (named tables : List ℕ) (next : Saved) : Type 0 where
-  pub has : HasDataPages next named
+pub record IsGrown (body : List ℕ) (more : ℕ) (data_pages tables : List ℕ) (next : Saved) : Type 0 where
+  pub has : HasDataPages next data_pages
   pub has_tables : tables_of next.body ≡ tables
   pub version : version_of next.body ≡ version_of body + 1
   pub replica : replica_of next.body ≡ replica_of body

@@ -1,7 +1,7 @@
 -- What a step of a commit does to the disk below the store.
 use Rattle.std.specs.Prelude.{◌≡◌, ◌⊎◌, ◌↔◌, ◌<◌, ℕ, ◌+◌, ◌-◌, ◌*◌, List, [], ◌∷◌, length, get_or, Result, Ok, Err, IfErr, OnOk, OnErr}
-use Rattle.disk_trait.specs.File.{overwritten}
-use Rattle.disk_trait.specs.Calls.{IsCall, LeavesOnly, Tears, Settles, Keeps}
+use Rattle.disk_trait.specs.Calls.{IsOneCall, LeavesOnly, Settles, Keeps}
+pub use Rattle.disk_trait.specs.Writing.{failures_in, Writes}
 use Rattle.disk_trait.specs.declared.facts.DiskFacts.{Ghosts}
 use Rattle.root_slots.specs.Slots.{gate}
 use Rattle.group_commit.specs.Commit.{IsLeft}
@@ -10,11 +10,6 @@ use Rattle.group_commit.specs.declared.error.StoreError.{StoreError}
 use Rattle.group_commit.specs.declared.error.StoreError.TheVariants.{WriteFailed, SyncFailed}
 use Rattle.group_commit.specs.declared.phase.Phase.{Phase}
 use Rattle.group_commit.specs.declared.phase.Phase.TheVariants.{Idle, Pages, Close, Sync1, Body, Sync2, Gate, Sync3}
-
--- a step that answers so has met a failure of the device, or not
-abbrev pub failures_in : {T : Type 0} → Result T StoreError → ℕ
-failures_in (Ok x) = 0
-failures_in (Err e) = 1
 
 -- what a crash leaves before a call, or behind it
 abbrev pub IsLeftAround : {D : Type 0} → Held D → Held D → List ℕ → Type 0
@@ -25,19 +20,11 @@ IsLeftAround old new file = IsLeft old.phase old.current old.next file ⊎ IsLef
 pub record IsDeviceCall {D : Type 0} {T : Type 0} (facts : Ghosts D) (writes syncs : ℕ) (error : StoreError) (result : Result T StoreError)
     (old new : Held D) : Type 0 where
   pub tells : facts.tells new.disk ↔ facts.tells old.disk
-  pub call : facts.tells old.disk → IsCall facts (failures_in result) writes syncs old.disk new.disk
+  pub call : facts.tells old.disk → IsOneCall facts (failures_in result) writes syncs old.disk new.disk
   pub moments : facts.tells old.disk → LeavesOnly facts old.disk new.disk (IsLeftAround old new)
   -- what a crash right after it leaves
   pub left : facts.tells new.disk → (c : List ℕ) → facts.survives new.disk c → IsLeft new.phase new.current new.next c
   pub refused : IfErr result (λ e. e ≡ error)
-
--- A write of these bytes at a place, n of them. Outside of their range nothing changes, in what reads give and in what a crash may
--- leave. Where the call succeeds, they are there.
-pub record Writes {D : Type 0} {T : Type 0} (facts : Ghosts D) (result : Result T StoreError) (at n : ℕ) (bytes : List ℕ) (old new : D)
-    : Type 0 where
-  pub size : length bytes ≡ n
-  pub torn : Tears facts at n old new
-  pub written : OnOk result (facts.content new ≡ overwritten (facts.content old) at bytes)
 
 -- A sync, which writes nothing. Where it succeeds, a crash leaves what reads give, and else what it could leave before.
 pub record Syncs {D : Type 0} {T : Type 0} (facts : Ghosts D) (result : Result T StoreError) (old new : D) : Type 0 where
@@ -48,13 +35,19 @@ pub record Syncs {D : Type 0} {T : Type 0} (facts : Ghosts D) (result : Result T
 pub record WritesPage {D : Type 0} {T : Type 0} (facts : Ghosts D) (result : Result T StoreError) (k : ℕ) (held : Held D) (new : D)
     : Type 0 where
   pub page : List ℕ
+  pub size : length page ≡ 4096
   pub within : k < length held.numbers
-  pub writes : Writes facts result (4096 * get_or held.numbers k 0) 4096 page held.disk new
+  pub writes : Writes facts result (4096 * get_or held.numbers k 0) page held.disk new
 
 -- the stale gate, which reads 1, is written as 0
 pub record Closes {D : Type 0} {T : Type 0} (facts : Ghosts D) (result : Result T StoreError) (held : Held D) (new : D) : Type 0 where
   pub is_one : gate (1 - held.slot) (facts.content held.disk) ≡ 1
-  pub writes : Writes facts result (4096 * (1 - held.slot)) 1 (0 ∷ []) held.disk new
+  pub writes : Writes facts result (4096 * (1 - held.slot)) (0 ∷ []) held.disk new
+
+-- the 4,088 bytes of the next root's body are written behind the stale gate
+pub record Fills {D : Type 0} {T : Type 0} (facts : Ghosts D) (result : Result T StoreError) (held : Held D) (new : D) : Type 0 where
+  pub size : length held.next.body ≡ 4088
+  pub writes : Writes facts result (4096 * (1 - held.slot) + 8) held.next.body held.disk new
 
 -- what the call of a phase does to the disk: it writes in the range that the phase names, or it is a sync
 abbrev pub Does : {D T : Type 0} → Ghosts D → Result T StoreError → Phase → Held D → D → Type 0
@@ -62,9 +55,9 @@ Does facts result Idle held new = new ≡ held.disk
 Does facts result (Pages k) held new = WritesPage facts result k held new
 Does facts result Close held new = Closes facts result held new
 Does facts result Sync1 held new = Syncs facts result held.disk new
-Does facts result Body held new = Writes facts result (4096 * (1 - held.slot) + 8) 4088 held.next.body held.disk new
+Does facts result Body held new = Fills facts result held new
 Does facts result Sync2 held new = Syncs facts result held.disk new
-Does facts result Gate held new = Writes facts result (4096 * (1 - held.slot)) 1 (1 ∷ []) held.disk new
+Does facts result Gate held new = Writes facts result (4096 * (1 - held.slot)) (1 ∷ []) held.disk new
 Does facts result Sync3 held new = Syncs facts result held.disk new
 
 -- how many writes and syncs the call of a phase is

@@ -1,5 +1,6 @@
 //! The beginning of a commit.
-ghost use Rattle.std.specs.Prelude.{◌≡◌, ◌≢◌, ℕ, ◌+◌, ◌<◌, ◌≤◌, true, List, length, Ok, Err, Some, IfOk, OnOk, OnErr};
+ghost use Rattle.std.specs.Prelude.{◌≡◌, ◌≢◌, ℕ, ◌+◌, ◌<◌, ◌≤◌, true, List, length, Ok, Err, Some};
+ghost use Rattle.std.specs.Prelude.{IfOk, OnOk, OnErr};
 ghost use Rattle.change_codec.specs.Stream.{spelled_all, AreOperations};
 ghost use Rattle.root_slots.specs.Root.{version_of, count_of, stream_length_of};
 ghost use Rattle.group_commit.specs.Begin.{begin_due, has_room, Begins, IsAnswer};
@@ -16,7 +17,8 @@ use op_model::Op;
 use root_slots::{MAX_OPERATIONS, MAX_STREAM};
 use std::alloc::{AllocError, Global};
 
-// Whether there is a further version behind this root, and room for these operations behind its stream.
+// Whether there is a further version behind this root, and room for these operations behind its
+// stream.
 fn has_room(root: &Root, ops: &[Op]) -> bool
     ensures { (stream : List ℕ) → length stream ≡ stream_length_of root.now.body
         → result ≡ has_room (with_stream root.now stream) ops.now }
@@ -44,10 +46,10 @@ impl<D: Disk> Store<D> {
     /// way, 7 where the version, the number of operations (2^24) or the stream (2^30 bytes) has no
     /// room, and 1 where a growth was refused. A refused call changes nothing.
     ///
-    /// Costs the bytes of the records and of the pages that it writes. Of the stream before it, only
-    /// the bytes behind its full pages are read, fewer than 4,096; no others are in memory. Of the
-    /// data pages that stay, the numbers are read that stand in the last table page, if it isn't
-    /// full: fewer than 1,024. Free pages are found without a look at each page.
+    /// Costs the bytes of the records and of the pages that it writes. Of the stream before it,
+    /// only the bytes behind its full pages are read, fewer than 4,096; no others are in memory. Of
+    /// the data pages that stay, the numbers are read that stand in the last table page, if it
+    /// isn't full: fewer than 1,024. Free pages are found without a look at each page.
     pub fn begin(&mut self, ops: &[Op]) -> Result<Option<u64>, StoreError>
         ensures answer { IsAnswer (begin_due self.old ops.now) result }
         ensures began { (n : ℕ) → result ≡ Ok (Some n)

@@ -1,30 +1,14 @@
-//! The two device calls of a commit: a write that begins in the file, and a sync.
+//! Two device calls of a commit: the write of a page, and a sync.
 ghost use Rattle.std.specs.Prelude.{◌≡◌, ◌*◌, ◌<◌, ◌≤◌, ◌↔◌, true, length, IfErr, OnOk, OnErr};
-ghost use Rattle.disk_trait.specs.Calls.{IsCall, Tears, Settles, Keeps};
+ghost use Rattle.disk_trait.specs.Calls.{IsOneCall, Tears, Settles, Keeps};
 ghost use Rattle.disk_trait.specs.File.{overwritten};
+ghost use Rattle.disk_trait.specs.Writing.{failures_in};
 ghost use Rattle.page_file.specs.Index.{is_free, with_taken};
-ghost use Rattle.group_commit.specs.Step.{failures_in};
 ghost use Rattle.group_commit.specs.declared.error.StoreError.TheVariants.{WriteFailed, SyncFailed};
 
 use crate::error::StoreError;
 use disk_trait::Disk;
 use page_file::Pages;
-
-/// Writes `bytes` at an offset in the file or at its end. It is refused only where the device failed (51).
-pub(crate) fn write_inside<D: Disk>(disk: &mut D, at: u64, bytes: &[u8]) -> Result<(), StoreError>
-    requires inside { D.tells disk.old → at ≤ length (D.content disk.old) }
-    ensures written { D.tells disk.old → OnOk result
-        (D.content disk.new ≡ overwritten (D.content disk.old) at bytes.now) }
-    ensures torn { D.tells disk.old → Tears D.DiskFacts at (length bytes.now) disk.old disk.new }
-    ensures call { D.tells disk.old → IsCall D.DiskFacts (failures_in result) 1 0 disk.old disk.new }
-    ensures tells { D.tells disk.new ↔ D.tells disk.old }
-    ensures refused { IfErr result (λ e. e ≡ WriteFailed) }
-{
-    match disk.write_at(at, bytes) {
-        Ok(()) => Ok(()),
-        Err(_) => Err(StoreError::WriteFailed),
-    }
-}
 
 // The bytes of a page, as an array.
 fn whole_page(bytes: &[u8]) -> &[u8; 4096]
@@ -35,8 +19,8 @@ fn whole_page(bytes: &[u8]) -> &[u8; 4096]
     page
 }
 
-/// Writes a free page that begins in the file or at its end, and takes it. It is refused only where the device
-/// failed (51).
+/// Writes a free page that begins in the file or at its end, and takes it. It is refused only where
+/// the device failed (51).
 pub(crate) fn put_page<D: Disk>(
     pages: &mut Pages,
     disk: &mut D,
@@ -51,7 +35,8 @@ pub(crate) fn put_page<D: Disk>(
         (D.content disk.new ≡ overwritten (D.content disk.old) (4096 * number) bytes.now) }
     ensures torn { D.tells disk.old
         → Tears D.DiskFacts (4096 * number) (length bytes.now) disk.old disk.new }
-    ensures call { D.tells disk.old → IsCall D.DiskFacts (failures_in result) 1 0 disk.old disk.new }
+    ensures call { D.tells disk.old
+        → IsOneCall D.DiskFacts (failures_in result) 1 0 disk.old disk.new }
     ensures tells { D.tells disk.new ↔ D.tells disk.old }
     ensures taken { OnOk result (pages.new ≡ with_taken number pages.old) }
     ensures live { (pages.new.tables ≡ pages.old.tables)
@@ -68,7 +53,8 @@ pub(crate) fn put_page<D: Disk>(
 pub(crate) fn settle<D: Disk>(disk: &mut D) -> Result<(), StoreError>
     ensures settled { D.tells disk.old → OnOk result (Settles D.DiskFacts disk.old disk.new) }
     ensures unsettled { D.tells disk.old → OnErr result (Keeps D.DiskFacts disk.old disk.new) }
-    ensures call { D.tells disk.old → IsCall D.DiskFacts (failures_in result) 0 1 disk.old disk.new }
+    ensures call { D.tells disk.old
+        → IsOneCall D.DiskFacts (failures_in result) 0 1 disk.old disk.new }
     ensures tells { D.tells disk.new ↔ D.tells disk.old }
     ensures refused { IfErr result (λ e. e ≡ SyncFailed) }
 {

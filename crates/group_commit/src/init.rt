@@ -1,5 +1,6 @@
 //! The making of a new file.
-ghost use Rattle.std.specs.Prelude.{◌≡◌, ◌≢◌, ◌+◌, ◌++◌, [], ◌∷◌, ◌↔◌, ℕ, List, true, false, length, replicate, IfOk, IfErr, OnOk, OnErr};
+ghost use Rattle.std.specs.Prelude.{◌≡◌, ◌≢◌, ◌+◌, ◌++◌, [], ◌∷◌, ◌↔◌, ℕ, List, true, false};
+ghost use Rattle.std.specs.Prelude.{length, replicate, IfOk, IfErr, OnOk, OnErr};
 ghost use Rattle.disk_trait.specs.Calls.{Keeps};
 ghost use Rattle.disk_trait.specs.File.{overwritten};
 ghost use Rattle.root_slots.specs.Body.{root_of};
@@ -7,16 +8,16 @@ ghost use Rattle.root_slots.specs.Root.{is_root, stream_length_of};
 ghost use Rattle.group_commit.specs.Commit.{IsLeft};
 ghost use Rattle.group_commit.specs.NewFile.{slot_page, new_file, failures_of, Counts};
 ghost use Rattle.group_commit.specs.declared.phase.Phase.TheVariants.{Idle};
-ghost use Rattle.group_commit.specs.declared.init_fault.InitError.TheVariants.{NotEmpty, WriteFailed, SyncFailed};
+ghost use Rattle.group_commit.specs.declared.init_fault.InitError.TheVariants.{NotEmpty};
+ghost use Rattle.group_commit.specs.declared.init_fault.InitError.TheVariants.{WriteFailed};
+ghost use Rattle.group_commit.specs.declared.init_fault.InitError.TheVariants.{SyncFailed};
 
-use crate::call::{settle, write_inside};
-use crate::error::StoreError;
 use crate::init_fault::{InitError, InitFault};
 use crate::phase::Phase;
 use crate::root::Root;
 use crate::store::Store;
 use crate::stream_tail::StreamTail;
-use disk_trait::Disk;
+use disk_trait::{Disk, DiskError, write_inside};
 use op_ids::ReplicaId;
 use page_file::Pages;
 use root_slots::Roots;
@@ -53,7 +54,7 @@ fn check_empty<D: Disk>(disk: &mut D) -> Result<(), InitError>
 }
 
 // The two slots of a file without bytes.
-fn put_slots<D: Disk>(disk: &mut D, first: &[u8], second: &[u8]) -> Result<(), StoreError>
+fn put_slots<D: Disk>(disk: &mut D, first: &[u8], second: &[u8]) -> Result<(), DiskError>
     requires empty { D.tells disk.old → D.content disk.old ≡ [] }
     requires size { length first.now ≡ 4096 }
     ensures written { D.tells disk.old
@@ -68,7 +69,7 @@ fn put_slots<D: Disk>(disk: &mut D, first: &[u8], second: &[u8]) -> Result<(), S
 }
 
 // Opens the first slot's gate between two syncs.
-fn open_first<D: Disk>(disk: &mut D) -> Result<(), StoreError>
+fn open_first<D: Disk>(disk: &mut D) -> Result<(), DiskError>
     ensures written { D.tells disk.old → OnOk result
         (D.content disk.new ≡ overwritten (D.content disk.old) 0 (1 ∷ [])) }
     ensures only { D.tells disk.old → OnOk result
@@ -78,18 +79,18 @@ fn open_first<D: Disk>(disk: &mut D) -> Result<(), StoreError>
         → OnErr result (D.failures disk.new ≡ D.failures disk.old + 1) }
     ensures tells { D.tells disk.new ↔ D.tells disk.old }
 {
-    settle(disk)?;
+    disk.sync()?;
     write_inside(disk, 0, &[1])?;
-    settle(disk)
+    disk.sync()
 }
 
 // What a refused device call is.
-fn cause(error: StoreError) -> InitError
+fn cause(error: DiskError) -> InitError
     ensures failed { failures_of result ≡ 1 }
     ensures other { result ≢ NotEmpty }
 {
     match error {
-        StoreError::SyncFailed => InitError::SyncFailed,
+        DiskError::SyncFailed => InitError::SyncFailed,
         _ => InitError::WriteFailed,
     }
 }
@@ -129,8 +130,8 @@ fn make_file<D: Disk>(alloc: Global, disk: &mut D, body: &[u8]) -> Result<(), In
     put_file(disk, &first, &[0; PAGE])
 }
 
-// The two roots of a new store: the live one, and one in the place of a commit's. An error is want of
-// memory (1).
+// The two roots of a new store: the live one, and one in the place of a commit's. An error is want
+// of memory (1).
 fn empty_roots(alloc: Global, replica: ReplicaId) -> Result<(Root, Root, Pages), AllocError>
     ensures root { IfOk result (λ roots. root_of roots.0.body ≡ record {
       version = 1;
@@ -222,9 +223,9 @@ impl<D: Disk> Store<D> {
     /// Makes the file of a new store on a disk without bytes: two root slots, of which the first is
     /// live and has no operations. Three writes and two syncs.
     ///
-    /// Refuses with 48 where the file has bytes, then with 1 where a growth was refused, and with 50,
-    /// 51 or 52 where the device failed. The disk comes back either way. Before it answers Ok nothing
-    /// is promised of the file.
+    /// Refuses with 48 where the file has bytes, then with 1 where a growth was refused, and with
+    /// 50, 51 or 52 where the device failed. The disk comes back either way. Before it answers Ok
+    /// nothing is promised of the file.
     pub fn init(alloc: Global, disk: D, replica: ReplicaId) -> Result<Store<D>, InitFault<D>>
         ensures root { IfOk result (λ store. root_of store.current.body ≡ record {
           version = 1;
@@ -235,7 +236,7 @@ impl<D: Disk> Store<D> {
         }) }
         ensures empty { IfOk result (λ store. store.current.stream ≡ []) }
         ensures idle { IfOk result (λ store. (store.phase ≡ Idle) × (store.failed ≡ false)
-            × (store.stale ≡ false) × (store.slot ≡ 0)) }
+            × (store.stale_open ≡ false) × (store.slot ≡ 0)) }
         // It is made of a file without bytes alone; 48 leaves a file that has some as it was.
         ensures taken { D.tells disk → OnOk result (D.content disk ≡ []) }
         ensures not_empty { D.tells disk → IfErr result (λ fault. fault.cause ≡ NotEmpty

@@ -14,8 +14,8 @@ mod load_stream;
 mod open_fault;
 mod phase;
 mod plan;
-mod reading;
 mod root;
+mod settling;
 mod state;
 mod step;
 mod store;
@@ -33,5 +33,9 @@ pub use store::Store;
 mod load_tests;
 #[cfg(test)]
 mod page_tests;
+#[cfg(test)]
+mod test_files;
+#[cfg(test)]
+mod test_store;
 #[cfg(test)]
 mod tests;

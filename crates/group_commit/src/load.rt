@@ -1,8 +1,9 @@
 //! The opening of a file.
 ghost use Rattle.std.specs.Prelude.{◌≡◌, ◌↔◌, List, ℕ, false, Ok, IfOk, IfErr};
+ghost use Rattle.disk_trait.specs.Looks.{OnlyLooks};
 ghost use Rattle.root_slots.specs.Slots.{live};
 ghost use Rattle.group_commit.specs.Commit.{Is, IsLeft};
-ghost use Rattle.group_commit.specs.Loading.{IsHistory, IsFirstFault, OnlyLooks, failures_of};
+ghost use Rattle.group_commit.specs.Loading.{IsHistory, IsFirstFault, failures_of};
 ghost use Rattle.group_commit.specs.declared.phase.Phase.TheVariants.{Idle};
 
 use crate::load_image::settle_and_read;
@@ -25,17 +26,18 @@ pub struct Loaded<D: Disk> {
 impl<D: Disk> Store<D> {
     /// Opens the file of a disk: a sync, and then reads alone.
     ///
-    /// Refuses with the first of these that it meets: 52 where the sync failed, and 50 where a read did;
-    /// 42 where the file has fewer than 8,192 bytes or no gate is open; 43 where both are open with equal
-    /// versions, or the live slot holds no root body, or a table page isn't whole in the file; 45 where the
-    /// table pages break their rules or a data page isn't whole; 46 where the rest of the last data page
-    /// isn't zero or the stream isn't the records of that number of operations. 1 may stand in place of
-    /// any of these where a growth of memory was refused. A refusal hands the disk back.
+    /// Refuses with the first of these that it meets: 52 where the sync failed, and 50 where a read
+    /// did; 42 where the file has fewer than 8,192 bytes or no gate is open; 43 where both are open
+    /// with equal versions, or the live slot holds no root body, or a table page isn't whole in the
+    /// file; 45 where the table pages break their rules or a data page isn't whole; 46 where the
+    /// rest of the last data page isn't zero or the stream isn't the records of that number of
+    /// operations. 1 may stand in place of any of these where a growth of memory was refused. A
+    /// refusal hands the disk back.
     ///
-    /// One sync, one `size`, one read of the two slots and one of each page that the live root reaches.
-    /// The stream is held in memory once, as the records of its operations; the store itself holds its bytes
-    /// behind the full pages, fewer than 4,096, and the pages' numbers, four bytes each. These are sorted, to
-    /// see that none is there twice.
+    /// One sync, one `size`, one read of the two slots and one of each page that the live root
+    /// reaches. The stream is held in memory once, as the records of its operations; the store
+    /// itself holds its bytes behind the full pages, fewer than 4,096, and the pages' numbers, four
+    /// bytes each. These are sorted, to see that none is there twice.
     pub fn load(alloc: Global, mut disk: D) -> Result<Loaded<D>, OpenFault<D>>
         // The live root of the file, and its operations.
         ensures root { D.tells disk → IfOk result (λ it. Is it.store.current (D.content disk)) }

@@ -1,5 +1,7 @@
 //! What a file stands for, read from its disk.
-ghost use Rattle.std.specs.Prelude.{◌≡◌, ◌≢◌, ◌⊎◌, ◌*◌, ◌<◌, ◌≤◌, ◌↔◌, ◌++◌, [], length, get_or, List, ℕ, IfOk, IfErr, Ok};
+ghost use Rattle.std.specs.Prelude.{◌≡◌, ◌≢◌, ◌⊎◌, ◌*◌, ◌<◌, ◌≤◌, ◌↔◌, ◌++◌, [], length, get_or};
+ghost use Rattle.std.specs.Prelude.{List, ℕ, IfOk, IfErr, Ok};
+ghost use Rattle.disk_trait.specs.Looks.{OnlyLooks};
 ghost use Rattle.root_slots.specs.Root.{replica_of, stream_length_of};
 ghost use Rattle.root_slots.specs.Body.{IsRoot, Spells, root_of};
 ghost use Rattle.group_commit.specs.Saved.{IsInMemory, with_stream, in_front};
@@ -7,15 +9,15 @@ ghost use Rattle.group_commit.specs.Image.{stored};
 ghost use Rattle.group_commit.specs.Paging.{IsIndexOf};
 ghost use Rattle.group_commit.specs.Commit.{Stands};
 ghost use Rattle.root_slots.specs.Live.{IsLive};
-ghost use Rattle.group_commit.specs.Loading.{Names, OnlyLooks, failed_in, IsHistory, IsFirstFault};
+ghost use Rattle.group_commit.specs.Loading.{Names, failed_in, IsHistory, IsFirstFault};
 ghost use Rattle.group_commit.specs.declared.phase.Phase.TheVariants.{Idle};
 ghost use Rattle.group_commit.specs.declared.open_fault.OpenError.TheVariants.{Memory};
 
 use crate::load_ops::ops_of;
 use crate::load_stream::{Stream, read_stream};
 use crate::open_fault::OpenError;
-use crate::reading::settle_file;
 use crate::root::Root;
+use crate::settling::settle_file;
 use crate::stream_tail::StreamTail;
 use crate::written::Written;
 use disk_trait::Disk;
@@ -24,8 +26,8 @@ use page_file::Pages;
 use root_slots::{LoadedRoots, RootBody, Roots};
 use std::alloc::{AllocError, Global};
 
-/// What a file stands for: its root slots, its root, its stream and its operations. `next` is an empty root,
-/// whose place the next commit takes.
+/// What a file stands for: its root slots, its root, its stream and its operations. `next` is an
+/// empty root, whose place the next commit takes.
 #[derive(Drop)]
 pub(crate) struct Image {
     pub roots: Roots,
@@ -36,14 +38,14 @@ pub(crate) struct Image {
     pub ops: OpList,
 }
 
-// The root slots of a file, and its live root. 42 where it has fewer than 8,192 bytes or no open slot; 43
-// where two are open with equal versions, or the live one holds no root body; 50 where the device failed, 1
-// for want of memory.
+// The root slots of a file, and its live root. 42 where it has fewer than 8,192 bytes or no open
+// slot; 43 where two are open with equal versions, or the live one holds no root body; 50 where the
+// device failed, 1 for want of memory.
 fn load_roots<D: Disk>(alloc: Global, disk: &mut D) -> Result<LoadedRoots, OpenError>
     ensures size { D.tells disk.old
         → IfOk result (λ it. it.file_size ≡ length (D.content disk.old)) }
     ensures found { D.tells disk.old → IfOk result
-        (λ it. IsLive (D.content disk.old) it.roots.slot it.roots.stale it.root) }
+        (λ it. IsLive (D.content disk.old) it.roots.slot it.roots.stale_open it.root) }
     ensures below { IfOk result (λ it. it.roots.slot < 2) }
     ensures valid { IfOk result (λ it. IsRoot it.root) }
     ensures fault { D.tells disk.old → IfErr result (λ e. Names e (stored (D.content disk.old))) }
@@ -62,7 +64,8 @@ fn bytes_are_small(bytes: &[u8])
     ensures { (i : ℕ) → get_or bytes.now i 0 < 256 }
 {}
 
-// The two roots of a store that was opened: the live one, and one whose place the next commit takes.
+// The two roots of a store that was opened: the live one, and one whose place the next commit
+// takes.
 fn root_pair(
     alloc: Global,
     head: RootBody,
@@ -98,7 +101,7 @@ fn roots_on(alloc: Global, head: RootBody, pages: &Pages) -> Result<(Root, Root)
 pub(crate) fn read_image<D: Disk>(alloc: Global, disk: &mut D) -> Result<Image, OpenError>
     ensures slot { IfOk result (λ it. it.roots.slot < 2) }
     ensures stands { D.tells disk.old → IfOk result
-        (λ it. Stands Idle it.roots.slot it.roots.stale (with_stream it.current it.stream)
+        (λ it. Stands Idle it.roots.slot it.roots.stale_open (with_stream it.current it.stream)
         (in_front it.next it.stream) (D.content disk.old)) }
     ensures history { IfOk result (λ it. IsHistory (with_stream it.current it.stream)
         (replica_of it.current.body) it.ops) }
@@ -131,12 +134,12 @@ pub(crate) fn read_image<D: Disk>(alloc: Global, disk: &mut D) -> Result<Image, 
     })
 }
 
-/// Settles the disk, and reads what its file stands for. It refuses as [`Store::load`](crate::Store::load)
-/// does.
+/// Settles the disk, and reads what its file stands for. It refuses as
+/// [`Store::load`](crate::Store::load) does.
 pub(crate) fn settle_and_read<D: Disk>(alloc: Global, disk: &mut D) -> Result<Image, OpenError>
     ensures slot { IfOk result (λ it. it.roots.slot < 2) }
     ensures stands { D.tells disk.old → IfOk result
-        (λ it. Stands Idle it.roots.slot it.roots.stale (with_stream it.current it.stream)
+        (λ it. Stands Idle it.roots.slot it.roots.stale_open (with_stream it.current it.stream)
         (in_front it.next it.stream) (D.content disk.old)) }
     ensures history { IfOk result (λ it. IsHistory (with_stream it.current it.stream)
         (replica_of it.current.body) it.ops) }

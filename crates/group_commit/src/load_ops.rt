@@ -10,8 +10,8 @@ use change_codec::StreamError;
 use op_list::OpList;
 use std::alloc::Global;
 
-/// The operations whose records a stream is, as many as there have to be; 46 where it isn't, and 1 for want
-/// of memory. The bytes stay where they are.
+/// The operations whose records a stream is, as many as there have to be; 46 where it isn't, and 1
+/// for want of memory. The bytes stay where they are.
 pub(crate) fn ops_of(alloc: Global, stream: Vec<u8>, count: u64) -> Result<OpList, OpenError>
     requires { length stream.items ≤ 1073741824 }
     ensures spelled { IfOk result (λ ops. spelled_all ops ≡ stream.items) }

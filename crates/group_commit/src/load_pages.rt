@@ -1,5 +1,6 @@
 //! What the bytes of table pages and of data pages say.
-ghost use Rattle.std.specs.Prelude.{◌≡◌, ◌⊎◌, ◌+◌, ◌*◌, ◌≤◌, ◌++◌, true, List, ℕ, length, IfOk, IfErr, Ok};
+ghost use Rattle.std.specs.Prelude.{◌≡◌, ◌⊎◌, ◌+◌, ◌*◌, ◌≤◌, ◌++◌, true, List, ℕ, length, IfOk};
+ghost use Rattle.std.specs.Prelude.{IfErr, Ok};
 ghost use Rattle.page_file.specs.Pages.{is_zero, are_pages};
 ghost use Rattle.root_slots.specs.Root.{pages_for};
 ghost use Rattle.group_commit.specs.Loading.{Names, are_within, reached_by};

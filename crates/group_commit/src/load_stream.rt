@@ -1,16 +1,17 @@
 //! The stream that a root names, page by page.
-ghost use Rattle.std.specs.Prelude.{◌≡◌, ◌⊎◌, ◌+◌, ◌*◌, ◌≤◌, ◌↔◌, ◌++◌, true, [], length, IfOk, IfErr, Ok};
+ghost use Rattle.std.specs.Prelude.{◌≡◌, ◌⊎◌, ◌+◌, ◌*◌, ◌≤◌, ◌↔◌, ◌++◌, true, [], length, IfOk};
+ghost use Rattle.std.specs.Prelude.{IfErr, Ok};
+ghost use Rattle.disk_trait.specs.Looks.{OnlyLooks};
 ghost use Rattle.page_file.specs.Pages.{pages, are_pages};
 ghost use Rattle.root_slots.specs.Root.{pages_for};
 ghost use Rattle.root_slots.specs.Body.{IsRoot};
 ghost use Rattle.group_commit.specs.Saved.{IsInMemory};
-ghost use Rattle.group_commit.specs.Loading.{Names, OnlyLooks, failed_in, reached_of, stream_of, stream_at};
+ghost use Rattle.group_commit.specs.Loading.{Names, failed_in, reached_of, stream_of, stream_at};
 
 use crate::load_pages::{are_within, data_pages};
 use crate::open_fault::OpenError;
-use crate::reading::read_pages;
 use disk_trait::Disk;
-use page_file::{Pages, is_zero};
+use page_file::{Pages, is_zero, read_pages};
 use root_slots::RootBody;
 use std::alloc::{AllocError, Global};
 
@@ -21,8 +22,8 @@ pub(crate) struct Stream {
     pub bytes: Vec<u8>,
 }
 
-// The pages of a root. 43 where a table page isn't whole in the file, 45 where the table pages break their
-// rules, 50 where a read failed, 1 for want of memory.
+// The pages of a root. 43 where a table page isn't whole in the file, 45 where the table pages
+// break their rules, 50 where a read failed, 1 for want of memory.
 fn read_tables<D: Disk>(
     alloc: Global,
     disk: &mut D,
@@ -55,8 +56,8 @@ fn read_tables<D: Disk>(
     }
 }
 
-// The stream of so many bytes that these data pages hold. 45 where one isn't whole in the file, 46 where the
-// rest of the last one isn't zero, 50 where a read failed, 1 for want of memory.
+// The stream of so many bytes that these data pages hold. 45 where one isn't whole in the file, 46
+// where the rest of the last one isn't zero, 50 where a read failed, 1 for want of memory.
 fn read_data<D: Disk>(
     alloc: Global,
     disk: &mut D,
@@ -67,7 +68,8 @@ fn read_data<D: Disk>(
     requires size { D.tells disk.old → size ≡ length (D.content disk.old) }
     requires room { stream_length ≤ 4096 * length numbers.now }
     ensures value { D.tells disk.old → IfOk result
-        (λ bytes. stream_of stream_length (pages numbers.now (D.content disk.old)) ≡ Ok bytes.items) }
+        (λ bytes. stream_of stream_length (pages numbers.now (D.content disk.old))
+        ≡ Ok bytes.items) }
     ensures long { IfOk result (λ bytes. length bytes.items ≡ stream_length) }
     ensures fault { D.tells disk.old → IfErr result
         (λ e. Names e (stream_of stream_length (pages numbers.now (D.content disk.old)))) }
@@ -87,9 +89,9 @@ fn read_data<D: Disk>(
     Ok(bytes)
 }
 
-/// The stream of a root, page by page. 43 where a table page isn't whole in the file; 45 where the table
-/// pages break their rules or a data page isn't whole; 46 where the rest of the last one isn't zero; 50 where
-/// a read failed, 1 for want of memory.
+/// The stream of a root, page by page. 43 where a table page isn't whole in the file; 45 where the
+/// table pages break their rules or a data page isn't whole; 46 where the rest of the last one
+/// isn't zero; 50 where a read failed, 1 for want of memory.
 pub(crate) fn read_stream<D: Disk>(
     alloc: Global,
     disk: &mut D,

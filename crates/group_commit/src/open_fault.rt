@@ -18,12 +18,12 @@ pub enum OpenError {
     /// 42: the two root slots don't lie whole in the file, or none of them is open.
     #[error("no root")]
     NoRoot,
-    /// 43: both slots are open with equal versions, or the live one holds no root body, or a table page
-    /// that it names doesn't lie whole in the file.
+    /// 43: both slots are open with equal versions, or the live one holds no root body, or a table
+    /// page that it names doesn't lie whole in the file.
     #[error("bad root")]
     BadRoot,
-    /// 45: the table pages name a page twice or a root slot or more pages than the stream needs, or a data
-    /// page doesn't lie whole in the file.
+    /// 45: the table pages name a page twice or a root slot or more pages than the stream needs, or
+    /// a data page doesn't lie whole in the file.
     #[error("bad table")]
     BadTable,
     /// 46: the rest of the last data page isn't zero, or the stream isn't the records of as many

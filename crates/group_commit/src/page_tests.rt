@@ -1,17 +1,15 @@
 //! Commits over any number of pages: which pages they write, and how large the file becomes.
-use crate::{Phase, Store, StoreError};
-use disk_trait::{Disk, MemDisk};
-use op_ids::{Clock, OpId, ReplicaId};
+use crate::Store;
+use crate::test_store::{begin, file_of, finish, replica, store};
+use disk_trait::MemDisk;
+use op_ids::{Clock, OpId};
 use op_model::{Body, Op};
 use std::alloc::Global;
 use std::test::Fail;
 
-// The bytes of a page.
-const PAGE: usize = 4096;
-
-fn replica() -> Result<ReplicaId, Fail> {
-    let name = [0, 0, 0, 0, 0, 0, 0x40, 0, 0x80, 0, 0, 0, 0, 0, 0, 1];
-    Ok(ReplicaId::read(name).ok_or("nil")?)
+// The name of the replica's operation with this counter.
+fn id(counter: u64) -> Result<OpId, Fail> {
+    Ok(OpId::try_new(counter, replica()?).ok_or("a counter")?)
 }
 
 // The clock of so many operations of the replica.
@@ -23,18 +21,28 @@ fn clock(alloc: Global, count: u64) -> Result<Clock, Fail> {
     Ok(Clock::from_entries(entries).ok_or("a clock")?)
 }
 
+// The operation with this counter, behind those before it.
+fn op(alloc: Global, counter: u64, body: Body) -> Result<Op, Fail> {
+    let id = id(counter)?;
+    let deps = clock(alloc, counter.saturating_sub(1))?;
+    Ok(Op {
+        id,
+        doc: 1,
+        deps,
+        body,
+    })
+}
+
 // The insert with this counter, behind the one before it.
 fn insert(alloc: Global, counter: u64) -> Result<Op, Fail> {
-    let before = counter.saturating_sub(1);
-    Ok(Op {
-        id: OpId::try_new(counter, replica()?).ok_or("a counter")?,
-        doc: 1,
-        deps: clock(alloc, before)?,
-        body: Body::Insert {
-            origin: OpId::try_new(before, replica()?),
-            value: 'a',
-        },
-    })
+    let origin = OpId::try_new(counter.saturating_sub(1), replica()?);
+    op(alloc, counter, Body::Insert { origin, value: 'a' })
+}
+
+// A remove of the first character, with this counter.
+fn remove(alloc: Global, counter: u64) -> Result<Op, Fail> {
+    let target = id(1)?;
+    op(alloc, counter, Body::Remove { target })
 }
 
 // The inserts with these counters.
@@ -46,87 +54,82 @@ fn inserts(alloc: Global, first: u64, last: u64) -> Result<Vec<Op>, Fail> {
     Ok(ops)
 }
 
-fn store(alloc: Global, pages: usize) -> Result<Store<MemDisk>, Fail> {
-    let disk = MemDisk::new(alloc, PAGE.saturating_mul(pages), 4096)?;
-    match Store::init(alloc, disk, replica()?) {
-        Ok(store) => Ok(store),
-        Err(_) => Err("refused".into()),
-    }
-}
-
-fn begin(store: &mut Store<MemDisk>, ops: &[Op]) -> Result<Option<u64>, StoreError> {
-    store.begin(ops)
-}
-
-fn step(store: &mut Store<MemDisk>) -> Result<Phase, StoreError> {
-    store.step()
-}
-
 // Commits these operations, and gives how many writes and syncs that makes.
-fn commit(store: &mut Store<MemDisk>, ops: &[Op]) -> Result<(usize, usize), StoreError> {
+fn commit(store: &mut Store<MemDisk>, ops: &[Op]) -> Result<(usize, usize), Fail> {
     begin(store, ops)?;
-    let mut writes: usize = 0;
-    let mut syncs: usize = 0;
-    for _ in 0..4096 {
-        match step(store)? {
-            Phase::Idle => return Ok((writes, syncs)),
-            Phase::Sync1 | Phase::Sync2 | Phase::Sync3 => syncs = syncs.saturating_add(1),
-            _ => writes = writes.saturating_add(1),
-        }
-    }
-    Ok((writes, syncs))
+    Ok(finish(store)?)
 }
 
-fn file_of(alloc: Global, store: Store<MemDisk>) -> Result<Vec<u8>, Fail> {
-    let mut disk = store.into_disk();
-    let size = disk.size()?;
-    let mut file = Vec::from_elem(alloc, 0, usize::try_from(size)?)?;
-    disk.read_at(0, &mut file)?;
-    Ok(file)
-}
-
-// The numbers at a place of a page, as many as are asked for.
-fn numbers(
+// Commits the inserts with these counters.
+fn commit_inserts(
+    store: &mut Store<MemDisk>,
     alloc: Global,
+    first: u64,
+    last: u64,
+) -> Result<(usize, usize), Fail> {
+    let ops = inserts(alloc, first, last)?;
+    commit(store, &ops)
+}
+
+// The size of a store's file.
+fn size_of(alloc: Global, store: Store<MemDisk>) -> Result<usize, Fail> {
+    let file = file_of(alloc, store)?;
+    Ok(file.len())
+}
+
+// Appends the numbers at a place of a page, as many as are asked for: each is a byte.
+fn put_numbers(
+    found: &mut Vec<u8>,
     file: &[u8],
     page: usize,
     at: usize,
     count: usize,
-) -> Result<Vec<u8>, Fail> {
-    let mut found = Vec::new(alloc);
-    let start = PAGE.saturating_mul(page).saturating_add(at);
+) -> Result<(), Fail> {
+    let start = page.saturating_mul(4096).saturating_add(at);
     for k in 0..count {
         let place = start.saturating_add(k.saturating_mul(4)).saturating_add(3);
         found.push(*file.get(place).ok_or("a number")?)?;
     }
-    Ok(found)
+    Ok(())
 }
 
-// The file behind so many commits: 256 inserts, then one more each.
-fn committed(alloc: Global, commits: u64) -> Result<Vec<u8>, Fail> {
+// The store behind so many commits: 256 inserts, then one more each.
+fn committed(alloc: Global, commits: u64) -> Result<Store<MemDisk>, Fail> {
     let mut store = store(alloc, 16)?;
-    commit(&mut store, &inserts(alloc, 1, 256)?)?;
+    commit_inserts(&mut store, alloc, 1, 256)?;
     for counter in 257..commits.saturating_add(256) {
-        commit(&mut store, &inserts(alloc, counter, counter)?)?;
+        commit_inserts(&mut store, alloc, counter, counter)?;
     }
-    file_of(alloc, store)
+    Ok(store)
 }
 
 #[test]
 fn a_commit_writes_the_pages_that_change(rt: HostRuntime) -> Result<(), Fail> {
-    let alloc = rt.alloc();
-    let mut store = store(alloc, 16)?;
+    let mut store = store(rt.alloc(), 16)?;
     for (first, last, writes) in [(1, 256, 9), (257, 257, 5), (258, 258, 5)] {
-        let ops = inserts(alloc, first, last)?;
-        assert_eq!(rt; commit(&mut store, &ops)?, (writes, 3));
+        let calls = commit_inserts(&mut store, rt.alloc(), first, last)?;
+        assert_eq!(rt; calls, (writes, 3));
     }
-    assert_eq!(rt; file_of(alloc, store)?.len(), 45_056);
+    assert_eq!(rt; size_of(rt.alloc(), store)?, 45_056);
     Ok(())
+}
+
+// After so many commits: the size of the file, and the numbers in a slot and in a table page.
+fn numbers_after(
+    alloc: Global,
+    commits: u64,
+    slot: usize,
+    table: usize,
+) -> Result<(usize, Vec<u8>), Fail> {
+    let file = file_of(alloc, committed(alloc, commits)?)?;
+    let mut found = Vec::new(alloc);
+    put_numbers(&mut found, &file, slot, 64, 2)?;
+    put_numbers(&mut found, &file, table, 0, 7)?;
+    Ok((file.len(), found))
 }
 
 #[test]
 fn new_pages_are_the_lowest_free_ones(rt: HostRuntime) -> Result<(), Fail> {
-    let alloc = rt.alloc();
     // After so many commits: the size, the live slot, its table page, and the last data page.
     let cases = [
         (1, 36_864, 1, 8, 7),
@@ -134,54 +137,51 @@ fn new_pages_are_the_lowest_free_ones(rt: HostRuntime) -> Result<(), Fail> {
         (3, 45_056, 1, 8, 7),
     ];
     for (commits, size, slot, table, last) in cases {
-        let file = committed(alloc, commits)?;
-        let mut found = numbers(alloc, &file, slot, 64, 2)?;
-        found.extend_from_slice(&numbers(alloc, &file, usize::from(table), 0, 7)?)?;
-        assert_eq!(rt; file.len(), size);
+        let found = numbers_after(rt.alloc(), commits, slot, usize::from(table))?;
+        assert_eq!(rt; found.0, size);
         assert_eq!(rt;
-            found.as_slice(),
+            found.1.as_slice(),
             [table, 0, 2, 3, 4, 5, 6, last, 0].as_slice()
         );
     }
     Ok(())
 }
 
-// A remove with this counter, of the first character.
-fn remove(alloc: Global, counter: u64) -> Result<Op, Fail> {
-    Ok(Op {
-        id: OpId::try_new(counter, replica()?).ok_or("a counter")?,
-        doc: 1,
-        deps: clock(alloc, counter.saturating_sub(1))?,
-        body: Body::Remove {
-            target: OpId::try_new(1, replica()?).ok_or("a counter")?,
-        },
-    })
-}
-
-#[test]
-fn a_page_into_which_zeros_come_stays(rt: HostRuntime) -> Result<(), Fail> {
-    let alloc = rt.alloc();
-    let mut store = store(alloc, 16)?;
-    // 4,093 bytes: the next record begins with three zeros.
+// 4,093 bytes of records: the next one begins with three zeros.
+fn almost_a_page(alloc: Global) -> Result<Vec<Op>, Fail> {
     let mut ops = inserts(alloc, 1, 41)?;
     for counter in 42..49 {
         ops.push(remove(alloc, counter)?)?;
     }
+    Ok(ops)
+}
+
+// A store behind a commit of these.
+fn filled(alloc: Global) -> Result<Store<MemDisk>, Fail> {
+    let mut store = store(alloc, 16)?;
+    let ops = almost_a_page(alloc)?;
     commit(&mut store, &ops)?;
-    let last = inserts(alloc, 49, 49)?;
-    assert_eq!(rt; commit(&mut store, &last)?, (5, 3));
-    let file = file_of(alloc, store)?;
-    let named = numbers(alloc, &file, 5, 0, 3)?;
+    Ok(store)
+}
+
+#[test]
+fn a_page_into_which_zeros_come_stays(rt: HostRuntime) -> Result<(), Fail> {
+    let mut store = filled(rt.alloc())?;
+    assert_eq!(rt; commit_inserts(&mut store, rt.alloc(), 49, 49)?, (5, 3));
+    let file = file_of(rt.alloc(), store)?;
+    let mut named = Vec::new(rt.alloc());
+    put_numbers(&mut named, &file, 5, 0, 3)?;
     assert_eq!(rt; named.as_slice(), [2, 4, 0].as_slice());
     Ok(())
 }
 
 #[test]
 fn a_commit_may_take_two_table_pages(rt: HostRuntime) -> Result<(), Fail> {
-    let alloc = rt.alloc();
-    let mut store = store(alloc, 1032)?;
-    let ops = inserts(alloc, 1, 48_384)?;
-    assert_eq!(rt; commit(&mut store, &ops)?, (1_032, 3));
-    assert_eq!(rt; file_of(alloc, store)?.len(), 4_227_072);
+    let mut store = store(rt.alloc(), 1032)?;
+    assert_eq!(rt;
+        commit_inserts(&mut store, rt.alloc(), 1, 48_384)?,
+        (1_032, 3)
+    );
+    assert_eq!(rt; size_of(rt.alloc(), store)?, 4_227_072);
     Ok(())
 }

@@ -1,8 +1,10 @@
 //! What a commit is about to write: the new root, and the new pages.
-ghost use Rattle.std.specs.Prelude.{◌≡◌, ℕ, ◌+◌, ◌*◌, ◌/◌, ◌^◌, ◌≤◌, ◌<◌, ◌++◌, true, false, [], List, length, get_or, take, drop, IfOk};
+ghost use Rattle.std.specs.Prelude.{◌≡◌, ℕ, ◌+◌, ◌*◌, ◌/◌, ◌^◌, ◌≤◌, ◌<◌, ◌++◌, true, false, []};
+ghost use Rattle.std.specs.Prelude.{List, length, get_or, take, drop, IfOk};
 ghost use Rattle.page_file.specs.Free.{AreLowest};
 ghost use Rattle.page_file.specs.Pages.{are_pages, is_zero, number_bytes};
-ghost use Rattle.root_slots.specs.Root.{version_of, count_of, stream_length_of, tables_of, pages_for};
+ghost use Rattle.root_slots.specs.Root.{version_of, count_of, stream_length_of, tables_of};
+ghost use Rattle.root_slots.specs.Root.{pages_for};
 ghost use Rattle.group_commit.specs.Paging.{IsIndexOf, IsRenewed};
 ghost use Rattle.group_commit.specs.Saved.{HasDataPages, with_stream};
 ghost use Rattle.group_commit.specs.Plan.{IsNext, Plans, IsGrown, kept_of, filled};
@@ -26,8 +28,9 @@ pub(crate) struct Plan {
     pub fresh: Vec<u8>,
 }
 
-/// A plan for these records of so many operations behind the live root's stream. An error is want of
-/// memory (1). The pages whose bytes or entries stay keep their numbers; the others are written anew.
+/// A plan for these records of so many operations behind the live root's stream. An error is want
+/// of memory (1). The pages whose bytes or entries stay keep their numbers; the others are written
+/// anew.
 pub(crate) fn make_plan(
     alloc: Global,
     current: &Root,
@@ -59,13 +62,13 @@ pub(crate) fn make_plan(
     let numbers = free_pages(current, pages, new_data + new_tables)?;
     let (data_numbers, table_numbers) = numbers.split_at(new_data);
     let olds = live_data_pages(current, pages);
-    let DataPages { named, entries } = renamed(alloc, olds, kept, data_numbers)?;
-    let tables = renumbered(alloc, current.tables(), kept / 1024, table_numbers)?;
+    let DataPages { all, entries } = next_data_pages(alloc, olds, kept, data_numbers)?;
+    let tables = kept_and_new(alloc, current.tables(), kept / 1024, table_numbers)?;
     let kept_bytes = 4096 * kept;
     let old_bytes = rest_behind(stream, old_long, kept_bytes);
     let new_bytes = behind(records, kept_bytes.saturating_sub(old_long));
     let fresh = new_pages(alloc, old_bytes, new_bytes, new_data, &entries, new_tables)?;
-    let next = root_on(alloc, current, more, long as u64, named, tables)?;
+    let next = root_on(alloc, current, more, long as u64, all, tables)?;
     Ok(Plan {
         next,
         kept,
@@ -129,15 +132,20 @@ fn live_data_pages<'a>(current: &Root, pages: &'a Pages) -> &'a [u32]
 // pages name.
 #[derive(Drop)]
 struct DataPages {
-    named: Written<u32>,
+    all: Written<u32>,
     entries: Vec<u32>,
 }
 
 // The first so many of these data pages, and new ones behind them. The entries are fewer than 1,024
 // of those, and the new ones. An error is want of memory (1).
-fn renamed(alloc: Global, olds: &[u32], kept: usize, news: &[u32]) -> Result<DataPages, AllocError>
+fn next_data_pages(
+    alloc: Global,
+    olds: &[u32],
+    kept: usize,
+    news: &[u32],
+) -> Result<DataPages, AllocError>
     requires { kept ≤ length olds.now }
-    ensures named { IfOk result (λ it. it.named.items ≡ take kept olds.now ++ news.now) }
+    ensures all { IfOk result (λ it. it.all.items ≡ take kept olds.now ++ news.now) }
     ensures entries { IfOk result (λ it. it.entries.items
         ≡ drop (1024 * (kept / 1024)) (take kept olds.now ++ news.now)) }
     ensures small { (i : ℕ) → get_or (take kept olds.now ++ news.now) i 0 < 2 ^ 32 }
@@ -145,13 +153,13 @@ fn renamed(alloc: Global, olds: &[u32], kept: usize, news: &[u32]) -> Result<Dat
     numbers_are_small(olds);
     numbers_are_small(news);
     let first = 1024 * (kept / 1024);
-    let entries = renumbered(alloc, &olds[first..], kept - first, news)?;
-    let named = Written::new().and(&olds[..kept]).and(news);
-    Ok(DataPages { named, entries })
+    let entries = kept_and_new(alloc, &olds[first..], kept - first, news)?;
+    let all = Written::new().and(&olds[..kept]).and(news);
+    Ok(DataPages { all, entries })
 }
 
 // The first so many of these page numbers, and new ones behind them.
-fn renumbered(
+fn kept_and_new(
     alloc: Global,
     olds: &[u32],
     kept: usize,
@@ -179,8 +187,8 @@ fn free_pages(current: &Root, pages: &Pages, count: usize) -> Result<Vec<u32>, A
     pages.lowest_free_pages(count)
 }
 
-// The bytes of so many data pages and, behind them, of the table pages with these numbers, each filled
-// with zeros.
+// The bytes of so many data pages and, behind them, of the table pages with these numbers, each
+// filled with zeros.
 fn new_pages(
     alloc: Global,
     old_bytes: &[u8],
@@ -211,24 +219,24 @@ fn root_on(
     current: &Root,
     more: u64,
     long: u64,
-    named: Written<u32>,
+    data_pages: Written<u32>,
     tables: Vec<u32>,
 ) -> Result<Root, AllocError>
     requires room { long ≤ 1073741824 }
     requires version { version_of current.now.body < 18446744073709551615 }
     requires count { count_of current.now.body + more ≤ 16777216 }
-    requires data_pages { length named.items ≡ pages_for 4096 long }
-    requires tables { length tables.items ≡ pages_for 1024 (length named.items) }
-    requires apart { are_pages (tables.items ++ named.items) ≡ true }
+    requires data_pages { length data_pages.items ≡ pages_for 4096 long }
+    requires tables { length tables.items ≡ pages_for 1024 (length data_pages.items) }
+    requires apart { are_pages (tables.items ++ data_pages.items) ≡ true }
     ensures long { IfOk result (λ next. stream_length_of next.body ≡ long) }
     ensures grown { IfOk result (λ next. (stream : List ℕ) → length stream ≡ long
-        → IsGrown current.now.body more named.items tables.items (with_stream next stream)) }
+        → IsGrown current.now.body more data_pages.items tables.items (with_stream next stream)) }
 {
     let version = current.version() + 1;
     let count = current.count() + more;
     match RootBody::new(version, current.replica(), long, count, tables) {
         Some(head) => {
-            let next = Root::new(alloc, head, named)?;
+            let next = Root::new(alloc, head, data_pages)?;
             Ok(next)
         }
         None => unreachable!(),

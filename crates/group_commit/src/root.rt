@@ -1,7 +1,8 @@
 //! A root in memory.
 ghost use Rattle.std.specs.Prelude.{◌≡◌, ℕ, ◌≤◌, true, List, [], ◌++◌, length, IfOk};
 ghost use Rattle.root_slots.specs.Body.{root_of};
-ghost use Rattle.root_slots.specs.Root.{is_root, version_of, replica_of, count_of, stream_length_of, tables_of};
+ghost use Rattle.root_slots.specs.Root.{is_root, version_of, replica_of, count_of};
+ghost use Rattle.root_slots.specs.Root.{stream_length_of, tables_of};
 ghost use Rattle.group_commit.specs.Saved.{HasDataPages, with_stream};
 
 use crate::written::Written;

@@ -1,10 +1,13 @@
 //! The device calls of a commit, one a step.
-ghost use Rattle.std.specs.Prelude.{◌≡◌, ◌≢◌, ◌+◌, ◌*◌, ◌-◌, ◌<◌, ◌≤◌, ◌↔◌, true, false, length, get_or, Ok, Err, IfOk, IfErr, OnOk, OnErr, IsOk};
+ghost use Rattle.std.specs.Prelude.{◌≡◌, ◌≢◌, ◌+◌, ◌*◌, ◌-◌, ◌<◌, ◌≤◌, ◌↔◌, true, false, length};
+ghost use Rattle.std.specs.Prelude.{get_or, Ok, Err, IfOk, IfErr, OnOk, OnErr, IsOk};
 ghost use Rattle.disk_trait.specs.File.{part};
 ghost use Rattle.group_commit.specs.Held.{gone_on, has_failed, behind_pages};
 ghost use Rattle.group_commit.specs.Step.{IsDeviceCall, Does, writes_in, syncs_in, error_in};
-ghost use Rattle.group_commit.specs.declared.phase.Phase.TheVariants.{Idle, Pages, Close, Sync1, Body, Sync2, Gate, Sync3};
-ghost use Rattle.group_commit.specs.declared.error.StoreError.TheVariants.{Failed, WriteFailed, SyncFailed};
+ghost use Rattle.group_commit.specs.declared.phase.Phase.TheVariants.{Idle, Pages, Close, Sync1};
+ghost use Rattle.group_commit.specs.declared.phase.Phase.TheVariants.{Body, Sync2, Gate, Sync3};
+ghost use Rattle.group_commit.specs.declared.error.StoreError.TheVariants.{Failed, WriteFailed};
+ghost use Rattle.group_commit.specs.declared.error.StoreError.TheVariants.{SyncFailed};
 
 use crate::call::{put_page, settle};
 use crate::error::StoreError;
@@ -14,12 +17,12 @@ use disk_trait::Disk;
 use std::mem::swap;
 
 // The phase behind so many written pages.
-fn behind(written: usize, pages: usize, stale: bool) -> Phase
-    ensures { result ≡ behind_pages written pages stale }
+fn behind(written: usize, pages: usize, stale_open: bool) -> Phase
+    ensures { result ≡ behind_pages written pages stale_open }
 {
     if written < pages {
         Phase::Pages(written)
-    } else if stale {
+    } else if stale_open {
         Phase::Close
     } else {
         Phase::Sync1
@@ -68,7 +71,8 @@ impl<D: Disk> Store<D> {
         Ok(Phase::Pages(k))
     }
 
-    // The write of 0 into the stale gate. It may be torn, so the commit goes on behind it in any case.
+    // The write of 0 into the stale gate. It may be torn, so the commit goes on behind it in any
+    // case.
     fn close(&mut self) -> Result<Phase, StoreError>
         requires phase { self.old.phase ≡ Close }
         requires works { self.old.failed ≡ false }
@@ -201,7 +205,8 @@ impl<D: Disk> Store<D> {
         ensures call { self.old.failed ≡ false → self.old.phase ≢ Idle
             → IsDeviceCall D.DiskFacts (writes_in self.old.phase) (syncs_in self.old.phase)
             (error_in self.old.phase) result self.old self.new }
-        // It writes in the range of its phase alone, and 0 into the stale gate only where that reads 1.
+        // It writes in the range of its phase alone, and 0 into the stale gate only where that
+        // reads 1.
         ensures does { self.old.failed ≡ false → D.tells self.old.disk
             → Does D.DiskFacts result self.old.phase self.old self.new.disk }
         ensures went_on { self.old.failed ≡ false

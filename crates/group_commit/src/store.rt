@@ -21,7 +21,8 @@ pub struct Store<D: Disk> {
     pub(crate) next: Root,
     // The pages of the live root, and those that the commit has taken.
     pub(crate) pages: Pages,
-    // So many data pages of the live root stay in the next one, and so many new ones come behind them.
+    // So many data pages of the live root stay in the next one, and so many new ones come behind
+    // them.
     pub(crate) kept: usize,
     pub(crate) new_data: usize,
     // The streams of both roots: each is a front of these bytes.
@@ -44,7 +45,7 @@ impl<D: Disk> Model for Store<D> {
       current = in_front s.current s.stream;
       next = in_front s.next s.stream;
       numbers = s.numbers.items;
-      stale = s.roots.stale;
+      stale_open = s.roots.stale_open;
       failed = s.failed;
     } };
 
@@ -55,7 +56,7 @@ impl<D: Disk> Model for Store<D> {
       current = in_front s.current s.stream;
       next = in_front s.next s.stream;
       numbers = s.numbers.items;
-      stale = s.roots.stale;
+      stale_open = s.roots.stale_open;
       failed = s.failed;
     }) s.roots.slot s.numbers.items s.fresh.items × HasStreams s.phase s.current s.next s.stream
         × IsPaging s.phase s.failed s.numbers.items s.kept s.new_data s.current s.next s.pages };

@@ -36,8 +36,8 @@ impl StreamTail {
         }
     }
 
-    /// The stream with more bytes at its end. Two growths at most, of its new tail; an error is want
-    /// of memory (1).
+    /// The stream with more bytes at its end. Two growths at most, of its new tail; an error is
+    /// want of memory (1).
     pub(crate) fn and(&self, more: &[u8]) -> Result<StreamTail, AllocError>
         ensures { IfOk result (λ all. all ≡ self.now ++ more.now) }
     {

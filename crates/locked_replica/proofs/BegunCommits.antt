@@ -74,8 +74,8 @@ counts_begun facts s new ops n idle works b =
     let none = none_left s idle in
     let pages : length new.numbers - 0 ≡ length new.numbers = omega arith in
     let numbers : new.numbers ≡ changed_pages new.current new.next = rw b.current b.numbers in
-    let writes : writes_left new ≡ length (changed_pages new.current new.next) + (if new.stale then 3 else 2) =
-    ap (λ p. writes_from p (length new.numbers) new.stale) b.phase ∙ ap (λ k. k + (if new.stale then 3 else 2)) pages ∙ ap (λ ns. length ns + (if new.stale then 3 else 2)) numbers in
+    let writes : writes_left new ≡ length (changed_pages new.current new.next) + (if new.stale_open then 3 else 2) =
+    ap (λ p. writes_from p (length new.numbers) new.stale_open) b.phase ∙ ap (λ k. k + (if new.stale_open then 3 else 2)) pages ∙ ap (λ ns. length ns + (if new.stale_open then 3 else 2)) numbers in
     let syncs : syncs_left new ≡ 3 = ap syncs_from b.phase in
     record {
       stays = λ failed. absurd (cc);

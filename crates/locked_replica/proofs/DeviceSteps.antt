@@ -8,7 +8,7 @@ use Rattle.replica_core.specs.Held.{Held}
 use Rattle.group_commit.specs.Begin.{is_idle}
 use Rattle.group_commit.specs.Errors.{number_of}
 use Rattle.group_commit.specs.Held.{gone_on, has_failed, Held as StoreHeld}
-use Rattle.group_commit.specs.Counts.{writes_left, syncs_left, IsUnderWay as IsWriting}
+use Rattle.group_commit.specs.Counts.{writes_left, syncs_left, IsWriting}
 use Rattle.group_commit.proofs.CountLemmas.{writes_fall, syncs_fall}
 use Rattle.group_commit.specs.Step.{IsDeviceCall, Does, error_in, writes_in, syncs_in}
 use Rattle.group_commit.specs.declared.error.StoreError.{StoreError}

@@ -13,7 +13,7 @@ use Rattle.locked_replica.specs.Steps.{stepped_in}
 -- what a call that succeeds or fails makes of the phase
 pub going_busy : {D : Type 0} (p : Phase) (s : StoreHeld D) (disk : D) → is_idle p ≡ false → p ≢ Sync3 → is_idle (gone_on p s disk).phase ≡ false
 going_busy Idle s disk busy other = absurd (cc)
-going_busy (Pages k) s disk busy other = behind_busy (nat_lt (k + 1) (length s.numbers)) s.stale
+going_busy (Pages k) s disk busy other = behind_busy (nat_lt (k + 1) (length s.numbers)) s.stale_open
   where
     behind_busy : (a b : Bool) → is_idle (if a then Pages (k + 1) else if b then Close else Sync1) ≡ false
     behind_busy true b = refl

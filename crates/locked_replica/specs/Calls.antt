@@ -57,7 +57,7 @@ settled_by n a = n
 -- How many writes a commit makes that begins with this answer: one for each page whose bytes or entries change or that is new, the
 -- close where the stale gate reads 1, the body and the gate.
 abbrev pub writes_begun : {D : Type 0} → Answer → StoreHeld D → ℕ
-writes_begun (begun n) store = length (changed_pages store.current store.next) + (if store.stale then 3 else 2)
+writes_begun (begun n) store = length (changed_pages store.current store.next) + (if store.stale_open then 3 else 2)
 writes_begun a store = 0
 
 -- and how many syncs

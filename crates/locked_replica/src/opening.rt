@@ -1,7 +1,7 @@
 //! The opening of a hub, and what a crash leaves of it.
 ghost use Rattle.std.specs.Prelude.{◌≡◌, ◌↔◌, List, ℕ, false, IfOk, IfErr};
 ghost use Rattle.root_slots.specs.Root.{version_of};
-ghost use Rattle.group_commit.specs.Loading.{OnlyLooks};
+ghost use Rattle.disk_trait.specs.Looks.{OnlyLooks};
 ghost use Rattle.op_model.specs.Machine.{opened};
 ghost use Rattle.recovery.specs.Faults.{IsFault, failures_of};
 ghost use Rattle.recovery.specs.Image.{IsImage};

@@ -78,3 +78,15 @@ has_more m ns i within =
     one true b = refl
     one false true = refl
     one false false = refl
+
+-- one number more between others
+pub put_apart : (n : ℕ) (fs used : List ℕ) → are_pages (fs ++ used) ≡ true → 2 ≤ n → has n fs ≡ false → has n used ≡ false
+    → are_pages (fs ++ n ∷ used) ≡ true
+put_apart n [] used apart behind lacks free = grind (arith, nat_tests)
+put_apart n (f ∷ fs) used apart behind lacks free =
+    let rest = put_apart n fs used (rest_apart f (fs ++ used) apart) behind (grind (arith, nat_tests)) free in
+    let once = first_once f (fs ++ used) apart in
+    let above = first_behind f (fs ++ used) apart in
+    let split = has-append f fs used in
+    let joined = has-append f fs (n ∷ used) in
+    grind (arith, nat_tests)

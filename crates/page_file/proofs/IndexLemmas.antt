@@ -8,9 +8,8 @@ use Rattle.page_file.specs.Free.{IsLowestFree, AreLowest}
 use Rattle.page_file.specs.Gaps.{in_gaps, are_falling, bottom}
 use Rattle.page_file.specs.Index.{AreOthers}
 use Rattle.page_file.specs.Pages.{has, are_pages}
-use Rattle.page_file.proofs.Apart.{has-append}
+use Rattle.page_file.proofs.Apart.{has-append, put_apart}
 use Rattle.page_file.proofs.Crowded.{one_is_free}
-use Rattle.page_file.proofs.FreeLemmas.{put_apart}
 use Rattle.page_file.proofs.GapLemmas.{has_bottom, none_above, none_below}
 
 taken_by : (m : ℕ) (h : Bool) → 2 ≤ m → false ≡ (nat_le 2 m && not h) → h ≡ true

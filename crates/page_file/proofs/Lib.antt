@@ -1,11 +1,9 @@
 pub mod AdoptLemmas
 pub mod Apart
 pub mod Crowded
-pub mod FreeLemmas
 pub mod GapLemmas
 pub mod IndexLemmas
 pub mod Joining
-pub mod Looking
 pub mod NumberLemmas
 pub mod PageReads
 pub mod Parts

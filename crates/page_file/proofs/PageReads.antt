@@ -9,10 +9,10 @@ use Rattle.page_file.specs.Tables.{entries}
 page_size : (n : ℕ) (file : List ℕ) → length (page n file) ≤ 4096
 page_size n file = omega (arith, length-take 4096 (drop (4096 * n) file))
 
-page_inside : (n : ℕ) (file : List ℕ) → length (page n file) ≡ 4096 → 4096 * n + 4096 ≤ length file
+pub page_inside : (n : ℕ) (file : List ℕ) → length (page n file) ≡ 4096 → 4096 * n + 4096 ≤ length file
 page_inside n file whole = omega (arith, whole, length-take 4096 (drop (4096 * n) file), length-drop (4096 * n) file)
 
--- and is whole where it lies in the file
+-- a page is whole exactly where it lies in the file
 pub page_whole : (n : ℕ) (file : List ℕ) → 4096 * n + 4096 ≤ length file → length (page n file) ≡ 4096
 page_whole n file inside = omega (arith, inside, length-take 4096 (drop (4096 * n) file), length-drop (4096 * n) file)
 

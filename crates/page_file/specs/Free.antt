@@ -13,12 +13,6 @@ abbrev pub count_below : ℕ → List ℕ → ℕ
 count_below n [] = 0
 count_below n (m ∷ ms) = if nat_lt m n then count_below n ms + 1 else count_below n ms
 
--- the lowest number from a start on that isn't one of these
-pub record IsNextFree (start : ℕ) (used : List ℕ) (n : ℕ) : Type 0 where
-  pub behind : start ≤ n
-  pub free : has n used ≡ false
-  pub lowest : (m : ℕ) → start ≤ m → m < n → has m used ≡ true
-
 -- each of these pages is the lowest free one: all pages below it are used or stand before it
 abbrev pub AreLowest : List ℕ → List ℕ → Type 0
 AreLowest used numbers = (k m : ℕ) → k < length numbers → 2 ≤ m → m < get_or numbers k 0 → has m (take k numbers ++ used) ≡ true

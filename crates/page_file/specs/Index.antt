@@ -13,8 +13,8 @@ pub record Index : Type 0 where
   pub room : ℕ
 
 -- the pages of the live root
-abbrev pub live : Index → List ℕ
-live index = index.tables ++ index.data_pages
+abbrev pub live_pages : Index → List ℕ
+live_pages index = index.tables ++ index.data_pages
 
 -- the pages that are taken, and the live ones
 abbrev pub used : Index → List ℕ

@@ -1,7 +1,6 @@
 pub mod Free
 pub mod Gaps
 pub mod Index
-pub mod Looks
 pub mod PageError
 pub mod Pages
 pub mod Putting

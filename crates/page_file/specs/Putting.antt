@@ -1,16 +1,16 @@
 -- What a write of one page does.
 use Rattle.std.specs.Prelude.{◌≡◌, ◌↔◌, ◌<◌, ℕ, ◌*◌, List, length, Result, Ok, Err, OnOk, IsErrOf}
 use Rattle.disk_trait.specs.File.{overwritten}
-use Rattle.disk_trait.specs.Calls.{IsCall, Keeps, Tears}
+use Rattle.disk_trait.specs.Calls.{IsOneCall, Keeps, Tears}
 use Rattle.disk_trait.specs.declared.facts.DiskFacts.{Ghosts}
 use Rattle.page_file.specs.PageError.{failures_of}
 use Rattle.page_file.specs.declared.error.PageError.{PageError}
 use Rattle.page_file.specs.declared.error.PageError.TheVariants.{NoPage}
 
 -- a call that answers so has met a failure of the device, or not
-abbrev pub failures_in : {T : Type 0} → Result T PageError → ℕ
-failures_in (Ok x) = 0
-failures_in (Err e) = failures_of e
+abbrev pub failed_in : {T : Type 0} → Result T PageError → ℕ
+failed_in (Ok x) = 0
+failed_in (Err e) = failures_of e
 
 -- a write that answers so was begun once, or not
 abbrev pub writes_in : {T : Type 0} → Result T PageError → ℕ
@@ -22,7 +22,7 @@ writes_in (Err e) = 1
 -- a crash may leave.
 pub record PutsPage {D : Type 0} {T : Type 0} (facts : Ghosts D) (result : Result T PageError) (n : ℕ) (bytes : List ℕ) (old new : D)
     : Type 0 where
-  pub call : IsCall facts (failures_in result) (writes_in result) 0 old new
+  pub call : IsOneCall facts (failed_in result) (writes_in result) 0 old new
   pub torn : Tears facts (4096 * n) 4096 old new
   -- where it succeeds, they are there
   pub written : OnOk result (facts.content new ≡ overwritten (facts.content old) (4096 * n) bytes)

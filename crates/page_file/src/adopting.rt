@@ -1,5 +1,6 @@
 //! The pages of the next root become the live ones.
-ghost use Rattle.std.specs.Prelude.{◌≡◌, ℕ, ◌+◌, ◌≤◌, ◌++◌, ◌||◌, true, false, length, take, drop, vec_len, vec_capacity};
+ghost use Rattle.std.specs.Prelude.{◌≡◌, ℕ, ◌+◌, ◌≤◌, ◌++◌, ◌||◌, true, false, length, take, drop};
+ghost use Rattle.std.specs.Prelude.{vec_len, vec_capacity};
 ghost use Rattle.page_file.specs.Gaps.{in_gaps, are_falling};
 ghost use Rattle.page_file.specs.Index.{adopted};
 ghost use Rattle.page_file.specs.Pages.{has, are_pages};
@@ -48,12 +49,13 @@ fn behind(pages: &[u32], kept: usize) -> &[u32]
 }
 
 impl Pages {
-    /// The pages of the next root become the live ones, and none is taken any more. The first `kept_tables` table
-    /// pages and the first `kept_data` data pages stay. Of the taken pages the first `new_data` come behind the
-    /// data pages that stay, the others behind the table pages. What doesn't stay is free again.
+    /// The pages of the next root become the live ones, and none is taken any more. The first
+    /// `kept_tables` table pages and the first `kept_data` data pages stay. Of the taken pages the
+    /// first `new_data` come behind the data pages that stay, the others behind the table pages.
+    /// What doesn't stay is free again.
     ///
-    /// Takes no memory. Costs a few steps for each taken page and, for each page that is free again, for each
-    /// range of free pages below it.
+    /// Takes no memory. Costs a few steps for each taken page and, for each page that is free
+    /// again, for each range of free pages below it.
     pub fn adopt(&mut self, kept_tables: usize, kept_data: usize, new_data: usize)
         requires tables { kept_tables ≤ length self.old.tables }
         requires data_pages { kept_data ≤ length self.old.data_pages }

@@ -1,5 +1,7 @@
 //! Ranges of pages, the highest first.
-ghost use Rattle.std.specs.Prelude.{◌≡◌, ℕ, ◌+◌, ◌<◌, ◌≤◌, ◌==◌, ◌++◌, true, false, not, ◌&&◌, ◌||◌, length, take, drop, vec_len, vec_capacity, [], IfOk, MatchOption};
+ghost use Rattle.std.specs.Prelude.{◌≡◌, ℕ, ◌+◌, ◌<◌, ◌≤◌, ◌==◌, ◌++◌, true, false, not, ◌&&◌};
+ghost use Rattle.std.specs.Prelude.{◌||◌, length, take, drop, vec_len, vec_capacity, [], IfOk};
+ghost use Rattle.std.specs.Prelude.{MatchOption};
 ghost use Rattle.page_file.specs.Gaps.{in_gaps, are_falling, bottom, begins_by, between};
 ghost use Rattle.page_file.specs.Index.{AreOthers};
 
@@ -15,8 +17,8 @@ pub struct Gap {
 // How many page numbers there are.
 const NUMBERS: u64 = 4294967296;
 
-/// All pages behind the root slots as one range, with room for so many more. One allocation; an error is want of
-/// memory (1).
+/// All pages behind the root slots as one range, with room for so many more. One allocation; an
+/// error is want of memory (1).
 pub(crate) fn all_pages(alloc: Global, more: usize) -> Result<Vec<Gap>, AllocError>
     requires few { more ≤ 2147483648 }
     ensures all { IfOk result (λ gaps. AreOthers [] gaps.items) }
@@ -50,7 +52,8 @@ fn find(gaps: &[Gap], page: u64) -> Option<usize>
     None
 }
 
-/// Whether one of the ranges has a page. Takes no memory; ranges below the page are passed one by one.
+/// Whether one of the ranges has a page. Takes no memory; ranges below the page are passed one by
+/// one.
 pub(crate) fn has_page(gaps: &[Gap], page: u64) -> bool
     requires falling { are_falling 4294967296 gaps.now ≡ true }
     ensures { result ≡ in_gaps page gaps.now }
@@ -94,8 +97,8 @@ fn put_gap(gaps: &mut Vec<Gap>, at: usize, start: u64, end: u64)
     }
 }
 
-/// Takes a page out of its range, and answers whether there is one. Takes no memory; ranges below the
-/// page are passed and moved one by one.
+/// Takes a page out of its range, and answers whether there is one. Takes no memory; ranges below
+/// the page are passed and moved one by one.
 pub(crate) fn take_page(gaps: &mut Vec<Gap>, page: u64) -> bool
     requires falling { are_falling 4294967296 gaps.old.items ≡ true }
     requires room { vec_len gaps.old < vec_capacity gaps.old }
@@ -132,8 +135,8 @@ fn split(gaps: &mut Vec<Gap>, at: usize, page: u64)
     put_gap(gaps, at, page + 1, gap.end);
 }
 
-/// Gives back a page that is in none of the ranges, as a range of its own. Takes no memory; ranges below
-/// the page are passed and moved one by one.
+/// Gives back a page that is in none of the ranges, as a range of its own. Takes no memory; ranges
+/// below the page are passed and moved one by one.
 pub(crate) fn give_page(gaps: &mut Vec<Gap>, page: u64)
     requires falling { are_falling 4294967296 gaps.old.items ≡ true }
     requires page { page < 4294967296 }

@@ -4,19 +4,19 @@
 mod adopting;
 mod checks;
 mod error;
-mod free;
 mod gaps;
 pub mod laws;
 mod loading;
 mod numbers;
 mod pages;
 mod putting;
+mod reading;
 
 pub use checks::{are_pages, is_zero, sort_are_pages};
 pub use error::PageError;
-pub use free::{lowest_free, lowest_free_pages};
 pub use numbers::{put_numbers, take_numbers};
 pub use pages::Pages;
+pub use reading::read_pages;
 
 #[cfg(test)]
 mod page_tests;

@@ -1,76 +1,22 @@
 //! The live pages of a file, read from its table pages.
-ghost use Rattle.std.specs.Prelude.{◌≡◌, ◌⊎◌, ◌+◌, ◌*◌, ◌<◌, ◌≤◌, ◌↔◌, ◌++◌, true, false, [], length, Ok, Err, IfOk, IfErr, OnOk, vec_len, vec_capacity};
+ghost use Rattle.std.specs.Prelude.{◌≡◌, ◌⊎◌, ◌+◌, ◌*◌, ◌<◌, ◌≤◌, ◌↔◌, ◌++◌, true, false, []};
+ghost use Rattle.std.specs.Prelude.{length, Ok, Err, IfOk, IfErr, vec_len, vec_capacity};
 ghost use Rattle.std.specs.List.Sorted.{IsPermutation};
-ghost use Rattle.disk_trait.specs.File.{part};
-ghost use Rattle.page_file.specs.Index.{live, AreOthers};
-ghost use Rattle.page_file.specs.Looks.{OnlyLooks};
-ghost use Rattle.page_file.specs.Pages.{page, pages, are_whole, joined, is_zero, are_pages};
-ghost use Rattle.page_file.specs.Putting.{failures_in};
+ghost use Rattle.disk_trait.specs.Looks.{OnlyLooks};
+ghost use Rattle.page_file.specs.Index.{live_pages, AreOthers};
+ghost use Rattle.page_file.specs.Pages.{pages, are_whole, is_zero, are_pages};
+ghost use Rattle.page_file.specs.Putting.{failed_in};
 ghost use Rattle.page_file.specs.Tables.{reached_by, reached_in};
-ghost use Rattle.page_file.specs.declared.error.PageError.TheVariants.{Memory, BadTable, ReadFailed};
+ghost use Rattle.page_file.specs.declared.error.PageError.TheVariants.{Memory, BadTable};
+ghost use Rattle.page_file.specs.declared.error.PageError.TheVariants.{ReadFailed};
 
 use crate::error::PageError;
 use crate::gaps::{Gap, all_pages, take_page};
 use crate::numbers::take_numbers;
 use crate::pages::Pages;
+use crate::reading::read_pages;
 use disk_trait::Disk;
 use std::alloc::{AllocError, Global};
-
-// The bytes of a page.
-const PAGE: u64 = 4096;
-
-// Reads bytes that lie in the file. Refused with 50 where the device failed.
-fn read_inside<D: Disk>(disk: &mut D, at: u64, bytes: &mut [u8]) -> Result<(), PageError>
-    requires inside { D.tells disk.old → at + length bytes.old ≤ length (D.content disk.old) }
-    ensures read { D.tells disk.old
-        → OnOk result (bytes.new ≡ part (D.content disk.old) at (length bytes.old)) }
-    ensures looks { D.tells disk.old
-        → OnlyLooks D.DiskFacts (failures_in result) 0 disk.old disk.new }
-    ensures tells { D.tells disk.new ↔ D.tells disk.old }
-    ensures refused { IfErr result (λ e. e ≡ ReadFailed) }
-{
-    match disk.read_at(at, bytes) {
-        Ok(()) => Ok(()),
-        Err(_) => Err(PageError::ReadFailed),
-    }
-}
-
-// Appends the bytes of a page that lies whole in the file. Refused with 1 for want of memory, and with 50
-// where the device failed.
-fn append_page<D: Disk>(disk: &mut D, number: u32, out: &mut Vec<u8>) -> Result<(), PageError>
-    requires inside { D.tells disk.old → 4096 * number + 4096 ≤ length (D.content disk.old) }
-    ensures read { D.tells disk.old
-        → OnOk result (out.new.items ≡ out.old.items ++ page number (D.content disk.old)) }
-    ensures size { OnOk result (length out.new.items ≡ length out.old.items + 4096) }
-    ensures looks { D.tells disk.old
-        → OnlyLooks D.DiskFacts (failures_in result) 0 disk.old disk.new }
-    ensures tells { D.tells disk.new ↔ D.tells disk.old }
-    ensures refused { IfErr result (λ e. (e ≡ Memory) ⊎ (e ≡ ReadFailed)) }
-{
-    let mut bytes = [0; 4096];
-    read_inside(disk, PAGE * u64::from(number), &mut bytes)?;
-    out.extend_from_slice(&bytes)?;
-    Ok(())
-}
-
-// The bytes of pages that lie whole in the file, one behind the other. Refused with 1 for want of memory, and
-// with 50 where the device failed.
-fn read_pages<D: Disk>(alloc: Global, disk: &mut D, numbers: &[u32]) -> Result<Vec<u8>, PageError>
-    requires whole { D.tells disk.old → are_whole (pages numbers.now (D.content disk.old)) ≡ true }
-    ensures read { D.tells disk.old
-        → IfOk result (λ bytes. bytes.items ≡ joined (pages numbers.now (D.content disk.old))) }
-    ensures size { IfOk result (λ bytes. length bytes.items ≡ 4096 * length numbers.now) }
-    ensures looks { D.tells disk.old
-        → OnlyLooks D.DiskFacts (failures_in result) 0 disk.old disk.new }
-    ensures tells { D.tells disk.new ↔ D.tells disk.old }
-    ensures refused { IfErr result (λ e. (e ≡ Memory) ⊎ (e ≡ ReadFailed)) }
-{
-    let mut bytes = Vec::new(alloc);
-    for number in numbers {
-        append_page(disk, *number, &mut bytes)?;
-    }
-    Ok(bytes)
-}
 
 // Whether all of these numbers are zero.
 fn are_zero(numbers: &[u32]) -> bool
@@ -84,8 +30,9 @@ fn are_zero(numbers: &[u32]) -> bool
     true
 }
 
-// Takes pages out of ranges that have all pages, and answers whether they lie behind the root slots and none of
-// them is there twice. The last ones come first: where the pages rise, each costs a few steps.
+// Takes pages out of ranges that have all pages, and answers whether they lie behind the root slots
+// and none of them is there twice. The last ones come first: where the pages rise, each costs a few
+// steps.
 fn take_pages(gaps: &mut Vec<Gap>, pages: &[u32]) -> bool
     requires all { AreOthers [] gaps.old.items }
     requires room { vec_len gaps.old + length pages.now ≤ vec_capacity gaps.old }
@@ -117,8 +64,8 @@ fn sorted_of(alloc: Global, tables: &[u32], named: &[u32]) -> Result<Vec<u32>, A
     Ok(sorted)
 }
 
-// The live pages of a root with these table pages and data pages. Refused with 45 where one of them is a root
-// slot or stands twice, and with 1 for want of memory.
+// The live pages of a root with these table pages and data pages. Refused with 45 where one of them
+// is a root slot or stands twice, and with 1 for want of memory.
 fn index_of(alloc: Global, tables: &[u32], named: &[u32]) -> Result<Pages, PageError>
     requires few { length tables.now + length named.now ≤ 1073741824 }
     ensures value { IfOk result (λ it. it ≡ record {
@@ -146,13 +93,13 @@ fn index_of(alloc: Global, tables: &[u32], named: &[u32]) -> Result<Pages, PageE
     })
 }
 
-// The live pages of a root with these table pages, in which so many numbers are found, of so many data pages.
-// Refused with 45 where a page is a root slot or stands twice, where a number is left behind the data pages, or
-// where there are fewer; and with 1 for want of memory.
+// The live pages of a root with these table pages, in which so many numbers are found, of so many
+// data pages. Refused with 45 where a page is a root slot or stands twice, where a number is left
+// behind the data pages, or where there are fewer; and with 1 for want of memory.
 fn pages_of(alloc: Global, tables: &[u32], count: u64, found: &[u32]) -> Result<Pages, PageError>
     requires few { length tables.now + length found.now ≤ 1073741824 }
-    ensures value { IfOk result (λ it. reached_by tables.now count found.now ≡ Ok (live it)) }
-    ensures apart { IfOk result (λ it. are_pages (live it) ≡ true) }
+    ensures value { IfOk result (λ it. reached_by tables.now count found.now ≡ Ok (live_pages it)) }
+    ensures apart { IfOk result (λ it. are_pages (live_pages it) ≡ true) }
     ensures parts { IfOk result (λ it. (it.tables ≡ tables.now) × (length it.data_pages ≡ count)
         × (it.taken ≡ []) × (it.room ≡ 0)) }
     ensures fault { IfErr result (λ e. e ≡ BadTable → (length found.now < count)
@@ -170,13 +117,13 @@ fn pages_of(alloc: Global, tables: &[u32], count: u64, found: &[u32]) -> Result<
 }
 
 impl Pages {
-    /// The live pages of a root: these table pages, which lie whole in the file, and the data pages that they
-    /// name. It reads each table page once, in 4,096 bytes of memory a page, and besides takes some 36 bytes of
-    /// memory a live page, and the steps of a sort.
+    /// The live pages of a root: these table pages, which lie whole in the file, and the data pages
+    /// that they name. It reads each table page once, in 4,096 bytes of memory a page, and besides
+    /// takes some 36 bytes of memory a live page, and the steps of a sort.
     ///
-    /// Refuses with 45 where a page is a root slot or stands twice, where a number is left behind those of
-    /// the data pages, or where there are fewer; with 50 where the device failed; and with 1 for want of
-    /// memory.
+    /// Refuses with 45 where a page is a root slot or stands twice, where a number is left behind
+    /// those of the data pages, or where there are fewer; with 50 where the device failed; and with
+    /// 1 for want of memory.
     pub fn load<D: Disk>(
         alloc: Global,
         disk: &mut D,
@@ -187,8 +134,8 @@ impl Pages {
             → are_whole (pages tables.now (D.content disk.old)) ≡ true }
         requires few { length tables.now ≤ 256 }
         ensures value { D.tells disk.old → IfOk result
-            (λ it. reached_in tables.now data_pages (D.content disk.old) ≡ Ok (live it)) }
-        ensures apart { IfOk result (λ it. are_pages (live it) ≡ true) }
+            (λ it. reached_in tables.now data_pages (D.content disk.old) ≡ Ok (live_pages it)) }
+        ensures apart { IfOk result (λ it. are_pages (live_pages it) ≡ true) }
         ensures parts { IfOk result (λ it. (it.tables ≡ tables.now)
             × (length it.data_pages ≡ data_pages) × (it.taken ≡ []) × (it.room ≡ 0)) }
         ensures fault { D.tells disk.old → IfErr result (λ e. e ≡ BadTable
@@ -197,7 +144,7 @@ impl Pages {
         ensures refused { IfErr result
             (λ e. (e ≡ Memory) ⊎ ((e ≡ BadTable) ⊎ (e ≡ ReadFailed))) }
         ensures looks { D.tells disk.old
-            → OnlyLooks D.DiskFacts (failures_in result) 0 disk.old disk.new }
+            → OnlyLooks D.DiskFacts (failed_in result) 0 disk.old disk.new }
         ensures tells { D.tells disk.new ↔ D.tells disk.old }
     {
         let bytes = read_pages(alloc, disk, tables)?;

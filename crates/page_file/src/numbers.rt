@@ -1,5 +1,6 @@
 //! Numbers of pages in bytes: four each, the highest first.
-ghost use Rattle.std.specs.Prelude.{◌≡◌, ◌*◌, ◌+◌, ◌≤◌, ◌++◌, IfOk, OnOk, OnErr, length, take, drop, vec_len, vec_capacity};
+ghost use Rattle.std.specs.Prelude.{◌≡◌, ◌*◌, ◌+◌, ◌≤◌, ◌++◌, IfOk, OnOk, OnErr, length, take};
+ghost use Rattle.std.specs.Prelude.{drop, vec_len, vec_capacity};
 ghost use Rattle.std.specs.Int.{w32, from_be_bytes, to_be_bytes};
 ghost use Rattle.page_file.specs.Pages.{numbers, number_bytes};
 

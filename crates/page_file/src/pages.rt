@@ -1,5 +1,6 @@
 //! Which pages of a file are live, and which are free.
-ghost use Rattle.std.specs.Prelude.{◌≡◌, ℕ, ◌+◌, ◌<◌, ◌≤◌, ◌++◌, true, [], length, IfOk, OnOk, OnErr};
+ghost use Rattle.std.specs.Prelude.{◌≡◌, ℕ, ◌+◌, ◌<◌, ◌≤◌, ◌++◌, true, [], length, IfOk, OnOk};
+ghost use Rattle.std.specs.Prelude.{OnErr};
 ghost use Rattle.page_file.specs.Free.{IsLowestFree, AreLowest};
 ghost use Rattle.page_file.specs.Index.{used, with_room};
 ghost use Rattle.page_file.specs.Pages.{are_pages};
@@ -8,11 +9,11 @@ use crate::gaps::{Gap, all_pages, lowest, take_lowest};
 use std::alloc::{AllocError, Global};
 use std::marker::Model;
 
-/// Which pages of a file are live, and which are taken for the next root. Contracts see these, and for how
-/// many more taken pages there is room.
+/// Which pages of a file are live, and which are taken for the next root. Contracts see these, and
+/// for how many more taken pages there is room.
 ///
-/// All other pages are free. They are kept as a list of ranges, which a commit makes longer by a few at most,
-/// so no call below looks at each page.
+/// All other pages are free. They are kept as a list of ranges, which a commit makes longer by a
+/// few at most, so no call below looks at each page.
 #[derive(Drop)]
 pub struct Pages {
     // The pages of the live root.
@@ -40,8 +41,10 @@ impl Model for Pages {
 
     ghost invariant = { λ p.
         AreOthers (p.taken.items ++ (p.tables.items ++ p.data_pages.items)) p.gaps.items
-        × HasRoom p.room (vec_len p.tables) (vec_len p.data_pages) (vec_len p.taken) (vec_len p.gaps)
-        (vec_capacity p.tables) (vec_capacity p.data_pages) (vec_capacity p.taken) (vec_capacity p.gaps) };
+        × HasRoom p.room
+        (vec_len p.tables) (vec_len p.data_pages) (vec_len p.taken) (vec_len p.gaps)
+        (vec_capacity p.tables) (vec_capacity p.data_pages)
+        (vec_capacity p.taken) (vec_capacity p.gaps) };
 }
 
 impl Pages {
@@ -71,14 +74,16 @@ impl Pages {
         (&self.tables, &self.data_pages)
     }
 
-    /// The pages that are taken for the next root, in the order in which they were. Takes no memory.
+    /// The pages that are taken for the next root, in the order in which they were. Takes no
+    /// memory.
     pub fn taken(&self) -> &[u32]
         ensures { result.now ≡ self.now.taken }
     {
         &self.taken
     }
 
-    /// The lowest page that is neither a root slot nor live nor taken. Takes no memory, and a few steps.
+    /// The lowest page that is neither a root slot nor live nor taken. Takes no memory, and a few
+    /// steps.
     pub fn lowest_free(&self) -> u32
         requires few { length (used self.now) < 4294967294 }
         ensures { IsLowestFree (used self.now) result }
@@ -86,9 +91,9 @@ impl Pages {
         lowest(&self.gaps) as u32
     }
 
-    /// So many lowest free pages, in rising order. Two allocations, of sixteen bytes for each range of free
-    /// pages and of four bytes for each page that is asked for; an error is want of memory (1). A few steps for
-    /// each of these.
+    /// So many lowest free pages, in rising order. Two allocations, of sixteen bytes for each range
+    /// of free pages and of four bytes for each page that is asked for; an error is want of memory
+    /// (1). A few steps for each of these.
     pub fn lowest_free_pages(&self, count: usize) -> Result<Vec<u32>, AllocError>
         requires few { length (used self.now) + count ≤ 1073741824 }
         ensures count { IfOk result (λ found. length found.items ≡ count) }
@@ -105,8 +110,8 @@ impl Pages {
         Ok(found)
     }
 
-    /// Makes room for the next `count` calls of `put_free`, and for the `adopt` behind them. Four growths at most;
-    /// an error is want of memory (1), and changes nothing.
+    /// Makes room for the next `count` calls of `put_free`, and for the `adopt` behind them. Four
+    /// growths at most; an error is want of memory (1), and changes nothing.
     pub fn reserve(&mut self, count: usize) -> Result<(), AllocError>
         requires few { count ≤ 1073741824 }
         ensures room { OnOk result (count ≤ self.new.room) }

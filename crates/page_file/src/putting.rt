@@ -1,11 +1,13 @@
 //! Reading a page of a file, and writing a free one.
-ghost use Rattle.std.specs.Prelude.{◌≡◌, ◌≢◌, ◌⊎◌, ◌↔◌, ◌+◌, ◌*◌, ◌-◌, ◌<◌, ◌≤◌, true, false, length, Ok, Err, IfOk, IfErr, OnOk, IsErrOf};
+ghost use Rattle.std.specs.Prelude.{◌≡◌, ◌≢◌, ◌⊎◌, ◌↔◌, ◌+◌, ◌*◌, ◌-◌, ◌<◌, ◌≤◌, true, false};
+ghost use Rattle.std.specs.Prelude.{length, Ok, Err, IfOk, IfErr, OnOk, IsErrOf};
 ghost use Rattle.disk_trait.specs.File.{part};
+ghost use Rattle.disk_trait.specs.Looks.{OnlyLooks};
 ghost use Rattle.page_file.specs.Index.{is_free, with_taken};
-ghost use Rattle.page_file.specs.Looks.{OnlyLooks};
 ghost use Rattle.page_file.specs.Pages.{page};
-ghost use Rattle.page_file.specs.Putting.{PutsPage, failures_in};
-ghost use Rattle.page_file.specs.declared.error.PageError.TheVariants.{Memory, PageNumber, NoPage, ReadFailed, WriteFailed};
+ghost use Rattle.page_file.specs.Putting.{PutsPage, failed_in};
+ghost use Rattle.page_file.specs.declared.error.PageError.TheVariants.{Memory, PageNumber, NoPage};
+ghost use Rattle.page_file.specs.declared.error.PageError.TheVariants.{ReadFailed, WriteFailed};
 
 use crate::error::PageError;
 use crate::gaps::{has_page, take_page};
@@ -15,7 +17,8 @@ use disk_trait::{Disk, DiskError};
 // The bytes of a page.
 const PAGE: u64 = 4096;
 
-// Reads the bytes of a page. Refused with 41 where the file hasn't the whole page, and 50 where the device failed.
+// Reads the bytes of a page. Refused with 41 where the file hasn't the whole page, and 50 where the
+// device failed.
 fn read_page<D: Disk>(disk: &mut D, number: u32, bytes: &mut [u8]) -> Result<(), PageError>
     requires size { length bytes.old ≡ 4096 }
     ensures read { D.tells disk.old
@@ -23,7 +26,7 @@ fn read_page<D: Disk>(disk: &mut D, number: u32, bytes: &mut [u8]) -> Result<(),
     ensures no_page { D.tells disk.old → IsErrOf result NoPage
         → length (D.content disk.old) < 4096 * number + 4096 }
     ensures looks { D.tells disk.old
-        → OnlyLooks D.DiskFacts (failures_in result) 0 disk.old disk.new }
+        → OnlyLooks D.DiskFacts (failed_in result) 0 disk.old disk.new }
     ensures tells { D.tells disk.new ↔ D.tells disk.old }
     ensures refused { IfErr result (λ e. (e ≡ NoPage) ⊎ (e ≡ ReadFailed)) }
 {
@@ -34,8 +37,8 @@ fn read_page<D: Disk>(disk: &mut D, number: u32, bytes: &mut [u8]) -> Result<(),
     }
 }
 
-// Writes the bytes of a page. Refused with 41 where it would begin past the end of the file, and 51 where the
-// device failed.
+// Writes the bytes of a page. Refused with 41 where it would begin past the end of the file, and 51
+// where the device failed.
 fn write_page<D: Disk>(disk: &mut D, page: u32, bytes: &[u8; 4096]) -> Result<(), PageError>
     ensures puts { D.tells disk.old
         → PutsPage D.DiskFacts result page bytes.now disk.old disk.new }
@@ -70,8 +73,8 @@ impl Pages {
 
     /// The bytes of a page of a file. Takes 4,096 bytes of memory, and makes one device call.
     ///
-    /// Refuses with 40 where the page is a root slot, without that call; with 41 where the file hasn't the whole
-    /// page; with 50 where the device failed; and with 1 for want of memory.
+    /// Refuses with 40 where the page is a root slot, without that call; with 41 where the file
+    /// hasn't the whole page; with 50 where the device failed; and with 1 for want of memory.
     pub fn page<D: Disk>(&self, disk: &mut D, number: u32) -> Result<Vec<u8>, PageError>
         ensures number { number < 2 → (result ≡ Err PageNumber) × (disk.new ≡ disk.old) }
         ensures whole { IfOk result (λ bytes. length bytes.items ≡ 4096) }
@@ -82,7 +85,7 @@ impl Pages {
         ensures refused { 2 ≤ number
             → IfErr result (λ e. (e ≡ Memory) ⊎ ((e ≡ NoPage) ⊎ (e ≡ ReadFailed))) }
         ensures looks { 2 ≤ number → D.tells disk.old
-            → OnlyLooks D.DiskFacts (failures_in result) 0 disk.old disk.new }
+            → OnlyLooks D.DiskFacts (failed_in result) 0 disk.old disk.new }
         ensures tells { D.tells disk.new ↔ D.tells disk.old }
     {
         if number < 2 {
@@ -94,12 +97,12 @@ impl Pages {
         Ok(page)
     }
 
-    /// Writes a free page, and takes it for the next root: the live ones are never written. Takes no memory, and
-    /// a few steps for each range of free pages below it.
+    /// Writes a free page, and takes it for the next root: the live ones are never written. Takes
+    /// no memory, and a few steps for each range of free pages below it.
     ///
-    /// Refuses with 40 where the page is a root slot, live or taken, without a device call, and with 41 where its
-    /// write would begin past the end of the file: both change nothing. Refuses with 51 where the device failed:
-    /// then the page may be torn, and is taken too.
+    /// Refuses with 40 where the page is a root slot, live or taken, without a device call, and
+    /// with 41 where its write would begin past the end of the file: both change nothing. Refuses
+    /// with 51 where the device failed: then the page may be torn, and is taken too.
     pub fn put_free<D: Disk>(
         &mut self,
         disk: &mut D,

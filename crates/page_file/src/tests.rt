@@ -1,6 +1,4 @@
-use crate::{
-    are_pages, is_zero, lowest_free, lowest_free_pages, put_numbers, sort_are_pages, take_numbers,
-};
+use crate::{are_pages, is_zero, put_numbers, sort_are_pages, take_numbers};
 use std::test::Fail;
 
 #[test]
@@ -23,13 +21,4 @@ fn pages_are_behind_the_root_slots_and_apart(rt: HostRuntime) {
     assert!(rt; !sort_are_pages(&mut [3, 2, 3]));
     assert!(rt; is_zero(&[0, 0]));
     assert!(rt; !is_zero(&[0, 1]));
-}
-
-#[test]
-fn the_lowest_free_pages_are_found(rt: HostRuntime) -> Result<(), Fail> {
-    assert_eq!(rt; lowest_free(&[]), 2);
-    assert_eq!(rt; lowest_free(&[3, 2, 5]), 4);
-    let found = lowest_free_pages(rt.alloc(), &[3, 2, 5], 3)?;
-    assert_eq!(rt; found.as_slice(), [4, 6, 7].as_slice());
-    Ok(())
 }

@@ -9,7 +9,7 @@ use Rattle.root_slots.specs.Body.{root_of}
 use Rattle.root_slots.specs.Root.{version_of, replica_of}
 use Rattle.group_commit.specs.Image.{stored}
 use Rattle.group_commit.specs.Commit.{Is}
-use Rattle.group_commit.specs.Loading.{IsHistory, OnlyLooks}
+use Rattle.group_commit.specs.Loading.{IsHistory}
 use Rattle.group_commit.specs.Saved.{Saved}
 use Rattle.group_commit.specs.declared.open_fault.OpenError.TheVariants.{Memory as LoadMemory}
 use Rattle.replica_core.specs.declared.refusal.Refusal.{Refusal}

@@ -2,7 +2,8 @@
 ghost use Rattle.std.specs.Prelude.{◌≡◌, ◌≢◌, ◌↔◌, List, ℕ, false, IfOk, IfErr};
 ghost use Rattle.root_slots.specs.Root.{version_of};
 ghost use Rattle.group_commit.specs.Commit.{Is, IsLeft};
-ghost use Rattle.group_commit.specs.Loading.{IsHistory, OnlyLooks};
+ghost use Rattle.disk_trait.specs.Looks.{OnlyLooks};
+ghost use Rattle.group_commit.specs.Loading.{IsHistory};
 ghost use Rattle.group_commit.specs.declared.open_fault.OpenError.TheVariants.{Memory as LoadMemory};
 ghost use Rattle.group_commit.specs.declared.phase.Phase.TheVariants.{Idle};
 ghost use Rattle.replica_core.specs.Held.{opened_with};

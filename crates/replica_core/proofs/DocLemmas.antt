@@ -10,49 +10,17 @@ use Rattle.doc_core.proofs.LawLemmas.{others_stay}
 use Rattle.op_model.specs.declared.op.Op.{Op}
 use Rattle.op_model.specs.Causality.{documents}
 use Rattle.op_model.specs.Spans.{with_number}
-use Rattle.replica_core.specs.Docs.{numbers, AllOver, AllStand, AreDocs, IsUp}
-
-over_chain : (n m : ℕ) (ns : List ℕ) → n < m → AllOver m ns → AllOver n ns
-over_chain n m [] less over = tt
-over_chain n m (k ∷ ns) less over = (let first = over.0 in omega arith, over_chain n m ns less over.1)
-
-over_with : (n m : ℕ) (ns : List ℕ) → n < m → AllOver n ns → AllOver n (with_number m ns)
-over_with n m [] less over = (less, tt)
-over_with n m (k ∷ ns) less over =
-    elim (cases_order m k) [
-      | inl same ↦ simp (le-ltb m k (omega arith), eq-eqb m k same) over
-      | inr o ↦ elim o [
-        | inl below ↦ rw (lt-ltb m k below) (less, over)
-        | inr above ↦ simp (le-ltb m k (omega arith), ne_eqb m k (omega arith)) (over.0, over_with n m ns less over.1)
-      ]
-    ]
-
-up_with : (m : ℕ) (ns : List ℕ) → IsUp ns → IsUp (with_number m ns)
-up_with m [] up = (tt, tt)
-up_with m (k ∷ ns) up =
-    elim (cases_order m k) [
-      | inl same ↦ simp (le-ltb m k (omega arith), eq-eqb m k same) up
-      | inr o ↦ elim o [
-        | inl below ↦ rw (lt-ltb m k below) ((below, over_chain m k ns below up.0), up)
-        | inr above ↦ simp (le-ltb m k (omega arith), ne_eqb m k (omega arith)) (over_with k m ns above up.0, up_with m ns up.1)
-      ]
-    ]
+use Rattle.model_laws.specs.Rising.{AllOver, IsUp}
+use Rattle.model_laws.proofs.Up.{has, has-with, none_over, up_with}
+use Rattle.replica_core.specs.Docs.{numbers, AllStand, AreDocs}
 
 pub documents_up : (ops : List Op) → IsUp (documents ops)
 documents_up [] = tt
 documents_up (op ∷ ops) = up_with op.doc (documents ops) (documents_up ops)
 
-docs_up : (ds : List Doc) (ops : List Op) → AreDocs ds ops → IsUp (numbers ds)
+-- the numbers of the documents rise
+pub docs_up : (ds : List Doc) (ops : List Op) → AreDocs ds ops → IsUp (numbers ds)
 docs_up ds ops are = rw (are.numbers) (documents_up ops)
-
--- a number is one of these
-abbrev pub has : ℕ → List ℕ → Bool
-has n ns = list_any (λ m. m == n) ns
-
-none_over : (n m : ℕ) (ns : List ℕ) → n ≤ m → AllOver m ns → has n ns ≡ false
-none_over n m [] most over = refl
-none_over n m (k ∷ ns) most over =
-    or_from (k == n) (has n ns) (ne_eqb k n (let first = over.0 in omega arith)) (none_over n m ns most over.1)
 
 -- a number that is there changes nothing
 with_same : (n : ℕ) (ns : List ℕ) → IsUp ns → has n ns ≡ true → with_number n ns ≡ ns
@@ -86,28 +54,6 @@ lacks_placed n at ns up placed =
       | inr none ↦ none
     ]
 
-or_swapped : (a b c : Bool) → (a || (b || c)) ≡ (b || (a || c))
-or_swapped true true c = refl
-or_swapped true false c = refl
-or_swapped false true c = refl
-or_swapped false false c = refl
-
-or_twice : (a b : Bool) → (a || b) ≡ (a || (a || b))
-or_twice true b = refl
-or_twice false b = refl
-
-has-with : (n m : ℕ) (ns : List ℕ) → has n (with_number m ns) ≡ ((m == n) || has n ns)
-has-with n m [] = refl
-has-with n m (k ∷ ns) =
-    elim (cases_order m k) [
-      | inl same ↦ simp (le-ltb m k (omega arith), eq-eqb m k same) (rw same (or_twice (k == n) (has n ns)))
-      | inr o ↦ elim o [
-        | inl below ↦ rw (lt-ltb m k below) refl
-        | inr above ↦ simp (le-ltb m k (omega arith), ne_eqb m k (omega arith))
-            (ap (λ rest. (k == n) || rest) (has-with n m ns) ∙ or_swapped (k == n) (m == n) (has n ns))
-      ]
-    ]
-
 -- a document is one of those of a list where some operation is of it
 has-documents : (n : ℕ) (ops : List Op) → has n (documents ops) ≡ list_any (λ op. op.doc == n) ops
 has-documents n [] = refl
@@ -134,7 +80,7 @@ differ : (a b : ℕ) → (a == b) ≡ false → a ≢ b
 differ a b apart same = both_ways (a == b) apart (eq-eqb a b same)
 
 -- operations of other documents leave a document as it is
-pub stays_all : (d : Doc) (before more : List Op) → list_any (λ op. op.doc == number_of d) more ≡ false → StandsFor d before → StandsFor d (before ++ more)
+stays_all : (d : Doc) (before more : List Op) → list_any (λ op. op.doc == number_of d) more ≡ false → StandsFor d before → StandsFor d (before ++ more)
 stays_all d before [] none stands = rw append-nil stands
 stays_all d before (op ∷ more) none stands =
     let both = or_parts (op.doc == number_of d) (list_any (λ o. o.doc == number_of d) more) none in
@@ -151,17 +97,9 @@ other_stands : (d : Doc) (doc : ℕ) (list more : List Op) → number_of d ≢ d
 other_stands d doc list more other come stands = stays_all d list more (in_turn_apart (number_of d) doc list more other come) stands
 
 -- the empty document of a number that no document has stands for the list
-pub absent_stands : (ds : List Doc) (d : Doc) (ops : List Op) → AreDocs ds ops → has (number_of d) (numbers ds) ≡ false
+absent_stands : (ds : List Doc) (d : Doc) (ops : List Op) → AreDocs ds ops → has (number_of d) (numbers ds) ≡ false
     → StandsFor d [] → StandsFor d ops
 absent_stands ds d ops are lacks empty = stays_all d [] ops (sym (has-documents (number_of d) ops) ∙ rw (are.numbers) at lacks) empty
-
--- with a number more there is one more
-pub length-placed : (n at : ℕ) (ns : List ℕ) → with_number n ns ≡ take at ns ++ n ∷ drop at ns → length (with_number n ns) ≡ length ns + 1
-length-placed n at ns placed =
-    let long = longer n (take at ns) (drop at ns) in
-    let whole = ap length (take-append-drop at ns) in
-    let both = ap length placed in
-    omega arith
 
 -- each of the documents stands for the list
 pub stands_at : (ds : List Doc) (i : ℕ) (d : Doc) (ops : List Op) → AllStand ds ops → i < length ds → d ≡ get_or ds i d → StandsFor d ops
@@ -236,57 +174,3 @@ pub fresh_stands : (ds : List Doc) (at : ℕ) (d : Doc) (doc : ℕ) (ops : List 
     → with_number doc (numbers ds) ≡ take at (numbers ds) ++ doc ∷ drop at (numbers ds) → number_of d ≡ doc → StandsFor d [] → StandsFor d ops
 fresh_stands ds at d doc ops are placed same empty =
     absent_stands ds d ops are (rw same (lacks_placed doc at (numbers ds) (docs_up ds ops are) placed)) empty
-
--- the number of the document at an index
-pub numbers_drop : (ds : List Doc) (i : ℕ) (d : Doc) → i < length ds → d ≡ get_or ds i d → drop i (numbers ds) ≡ number_of d ∷ drop (i + 1) (numbers ds)
-numbers_drop [] i d there is_it = absurd (omega arith)
-numbers_drop (x ∷ ds) zero d there is_it = let first : d ≡ x = is_it in ap (λ n. n ∷ numbers ds) (sym (ap number_of first))
-numbers_drop (x ∷ ds) (suc i) d there is_it =
-    let up : suc i + 1 ≡ suc (i + 1) = omega arith in
-    rw up (numbers_drop ds i d (omega arith) is_it)
-
-numbers_take : (ds : List Doc) (i : ℕ) (d : Doc) → i < length ds → d ≡ get_or ds i d → take (i + 1) (numbers ds) ≡ take i (numbers ds) ++ number_of d ∷ []
-numbers_take [] i d there is_it = absurd (omega arith)
-numbers_take (x ∷ ds) zero d there is_it = let first : d ≡ x = is_it in ap (λ n. n ∷ []) (sym (ap number_of first))
-numbers_take (x ∷ ds) (suc i) d there is_it =
-    let up : suc i + 1 ≡ suc (i + 1) = omega arith in
-    rw up (ap (λ rest. number_of x ∷ rest) (numbers_take ds i d (omega arith) is_it))
-
--- it goes before a greater one
-pub place_before : (ds : List Doc) (i doc : ℕ) (d : Doc) → i < length ds → d ≡ get_or ds i d → doc < number_of d
-    → with_number doc (numbers ds) ≡ take i (numbers ds) ++ with_number doc (drop i (numbers ds))
-    → with_number doc (numbers ds) ≡ take i (numbers ds) ++ doc ∷ drop i (numbers ds)
-place_before ds i doc d there is_it less so =
-    let rest = numbers_drop ds i d there is_it in
-    so ∙ (rw (rest, lt-ltb doc (number_of d) less) refl)
-
--- it is there
-pub place_here : (ds : List Doc) (i doc : ℕ) (d : Doc) → i < length ds → d ≡ get_or ds i d → doc ≡ number_of d
-    → with_number doc (numbers ds) ≡ take i (numbers ds) ++ with_number doc (drop i (numbers ds))
-    → with_number doc (numbers ds) ≡ numbers ds
-place_here ds i doc d there is_it same so =
-    let rest = numbers_drop ds i d there is_it in
-    let stays : with_number doc (number_of d ∷ drop (i + 1) (numbers ds)) ≡ number_of d ∷ drop (i + 1) (numbers ds) =
-    simp (le-ltb doc (number_of d) (omega arith), eq-eqb doc (number_of d) same) in
-    so
-    ∙ (ap (λ ns. take i (numbers ds) ++ with_number doc ns) rest
-    ∙ (ap (λ ns. take i (numbers ds) ++ ns) (stays ∙ sym rest) ∙ take-append-drop i (numbers ds)))
-
--- it goes behind a smaller one
-pub place_on : (ds : List Doc) (i doc : ℕ) (d : Doc) → i < length ds → d ≡ get_or ds i d → number_of d < doc
-    → with_number doc (numbers ds) ≡ take i (numbers ds) ++ with_number doc (drop i (numbers ds))
-    → with_number doc (numbers ds) ≡ take (i + 1) (numbers ds) ++ with_number doc (drop (i + 1) (numbers ds))
-place_on ds i doc d there is_it less so =
-    let rest = numbers_drop ds i d there is_it in
-    let front = numbers_take ds i d there is_it in
-    let goes : with_number doc (number_of d ∷ drop (i + 1) (numbers ds)) ≡ number_of d ∷ with_number doc (drop (i + 1) (numbers ds)) =
-    simp (le-ltb doc (number_of d) (omega arith), ne_eqb doc (number_of d) (omega arith)) in
-    so
-    ∙ (ap (λ ns. take i (numbers ds) ++ with_number doc ns) rest
-    ∙ (ap (λ ns. take i (numbers ds) ++ ns) goes
-    ∙ (sym (append_assoc (take i (numbers ds)) (number_of d ∷ []) (with_number doc (drop (i + 1) (numbers ds))))
-    ∙ ap (λ ns. ns ++ with_number doc (drop (i + 1) (numbers ds))) (sym front))))
-
--- what stands at an index is one document
-pub same_doc : (ds : List Doc) (i : ℕ) (d e : Doc) → i < length ds → d ≡ get_or ds i d → e ≡ get_or ds i e → e ≡ d
-same_doc ds i d e there is_d is_e = is_e ∙ sym (get_or_read ds i d there is_d e)

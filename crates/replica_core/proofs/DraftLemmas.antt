@@ -8,7 +8,8 @@ use Rattle.doc_core.specs.Drafting.{draft_number, IsDraftOf}
 use Rattle.doc_core.specs.Standing.{number_of, MayCome, StandsFor}
 use Rattle.doc_core.proofs.DraftLemmas.{draft_stays}
 use Rattle.op_model.specs.declared.op.Op.{Op}
-use Rattle.replica_core.specs.Docs.{draft_numbers, numbers, AllDrafts, AllOver, AllStand, IsUp}
+use Rattle.model_laws.specs.Rising.{AllOver, IsUp}
+use Rattle.replica_core.specs.Docs.{draft_numbers, numbers, AllDrafts, AllStand}
 
 -- one more draft
 pub numbers_push : (ds : List Draft) (d : Draft) → draft_numbers (ds ++ d ∷ []) ≡ draft_numbers ds ++ draft_number d ∷ []

@@ -14,3 +14,4 @@ pub mod DocLemmas
 pub mod NumberLemmas
 pub mod DraftLemmas
 pub mod SeenLemmas
+pub mod CountLemmas

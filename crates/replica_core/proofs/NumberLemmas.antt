@@ -1,13 +1,16 @@
--- Numbers in rising order, and where one goes among them.
+-- Numbers in rising order, and where one goes among them; and documents with such numbers.
 use Rattle.std.proofs.Common.{◌≡◌, ℕ, zero, suc, ◌≤◌, ◌<◌, List, [], ◌∷◌, ◌++◌, length, take, drop, get_or, Result, Ok, Err, refl, sym, ◌∙◌, ap, arith}
 use Rattle.std.specs.Prelude.{MatchResult}
-use Rattle.std.specs.List.Sorted.{IsBinarySearchResult}
+use Rattle.std.specs.List.Sorted.{IsBinarySearchResult, IsSearchInRange}
 use Rattle.std.specs.Ordering.{nat_cmp}
 use Rattle.std.proofs.lemmas.Bool.{eq-eqb, ne_eqb, lt-ltb, le-ltb}
-use Rattle.std.proofs.lemmas.List.{get_or_default}
+use Rattle.std.proofs.lemmas.List.{get_or_default, get_or-map, length-map}
 use Rattle.std.proofs.lemmas.List.Sorted.{searched}
+use Rattle.doc_core.specs.declared.doc.Doc.{Doc}
+use Rattle.doc_core.specs.Standing.{number_of}
 use Rattle.op_model.specs.Spans.{with_number}
-use Rattle.replica_core.specs.Docs.{AllOver, IsUp}
+use Rattle.model_laws.specs.Rising.{AllOver, IsUp}
+use Rattle.replica_core.specs.Docs.{numbers}
 
 over_get : (n : ℕ) (ns : List ℕ) (j : ℕ) → AllOver n ns → j < length ns → n < get_or ns j 0
 over_get n [] j over here = absurd (omega arith)
@@ -54,3 +57,28 @@ placed ns m (Ok at) up search_says =
 placed ns m (Err at) up search_says =
     let found = searched ns m (Err at) search_says (λ i j later there. up_get ns i j up later there) in
     (found.0, with_between ns at m found.0 found.1 found.2)
+
+-- what a search by halves finds among documents, it finds among their numbers
+by_number : (ds : List Doc) (m : ℕ) (r : Result ℕ ℕ) → IsSearchInRange r (length ds) → IsBinarySearchResult (λ d. nat_cmp (number_of d) m) ds r
+    → IsBinarySearchResult (λ n. nat_cmp n m) (numbers ds) r
+by_number [] m (Ok at) bound says = absurd (omega arith)
+by_number [] m (Err at) bound says = λ up. (λ k d from below. absurd (omega arith), λ k d from below. absurd (omega arith))
+by_number (x ∷ ds) m (Ok at) bound says = λ d. rw (get_or-map number_of (x ∷ ds) at x d bound) (says x)
+by_number (x ∷ ds) m (Err at) bound says = λ up.
+    let long : length (numbers (x ∷ ds)) ≡ length (x ∷ ds) = length-map (x ∷ ds) number_of in
+    let parted = says (λ i j d later there.
+    rw (get_or-map number_of (x ∷ ds) i d (number_of d) (omega arith), get_or-map number_of (x ∷ ds) j d (number_of d) there)
+    at (up i j (number_of d) later (omega arith))) in (
+      λ k d from below. rw (get_or-map number_of (x ∷ ds) k x d (omega arith)) (parted.0 k x from below),
+      λ k d from below. rw (get_or-map number_of (x ∷ ds) k x d (omega arith)) (parted.1 k x from (omega arith)),
+    )
+
+-- so the place of a document is that of its number
+pub placed_doc : (ds : List Doc) (m : ℕ) (r : Result ℕ ℕ) → IsUp (numbers ds) → IsSearchInRange r (length ds)
+    → IsBinarySearchResult (λ d. nat_cmp (number_of d) m) ds r
+    → MatchResult r (λ at. (at < length ds) × ((d : Doc) → d ≡ get_or ds at d → number_of d ≡ m) × (with_number m (numbers ds) ≡ numbers ds))
+    (λ at. (at ≤ length ds) × (with_number m (numbers ds) ≡ take at (numbers ds) ++ m ∷ drop at (numbers ds)))
+placed_doc ds m (Ok at) up bound says =
+    let found = placed (numbers ds) m (Ok at) up (by_number ds m (Ok at) bound says) in
+    (bound, λ d is_it. ap number_of is_it ∙ sym (found.1 ∙ get_or-map number_of ds at d m bound), found.2)
+placed_doc ds m (Err at) up bound says = (bound, (placed (numbers ds) m (Err at) up (by_number ds m (Err at) bound says)).1)

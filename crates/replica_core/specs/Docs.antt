@@ -1,5 +1,5 @@
 -- The documents of a list.
-use Rattle.std.specs.Prelude.{◌≡◌, ◌<◌, ℕ, List, [], ◌∷◌, map}
+use Rattle.std.specs.Prelude.{◌≡◌, ℕ, List, [], ◌∷◌, map}
 use Rattle.doc_core.specs.declared.doc.Doc.{Doc}
 use Rattle.doc_core.specs.declared.draft.Draft.{Draft}
 use Rattle.doc_core.specs.Drafting.{draft_number, IsDraftOf}
@@ -29,13 +29,3 @@ draft_numbers ds = map draft_number ds
 abbrev pub AllDrafts : List Draft → List Op → Type 0
 AllDrafts [] ops = Unit {0}
 AllDrafts (d ∷ ds) ops = IsDraftOf d ops × AllDrafts ds ops
-
--- all of these are greater than a number
-abbrev pub AllOver : ℕ → List ℕ → Type 0
-AllOver n [] = Unit {0}
-AllOver n (m ∷ ms) = (n < m) × AllOver n ms
-
--- they rise
-abbrev pub IsUp : List ℕ → Type 0
-IsUp [] = Unit {0}
-IsUp (n ∷ ns) = AllOver n ns × IsUp ns

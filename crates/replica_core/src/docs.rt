@@ -1,6 +1,7 @@
 ghost use Rattle.std.specs.Prelude.{◌≡◌, ℕ, ◌≤◌, ◌<◌, List, [], ◌∷◌, ◌++◌, length, take, drop, slice_index_or, nat_le, MatchResult, OnOk, OnErr, IsErrOf};
 ghost use Rattle.doc_core.specs.declared.doc.Doc.{Doc};
 ghost use Rattle.doc_core.specs.Standing.{number_of, StandsFor, MayComeInTurn};
+ghost use Rattle.model_laws.specs.Rising.{IsUp};
 ghost use Rattle.op_model.specs.declared.op.Op.{Op};
 ghost use Rattle.op_model.specs.Spans.{with_number};
 ghost use Rattle.replica_core.specs.Docs.{numbers, AllStand, AreDocs};
@@ -11,22 +12,22 @@ use slow_programs::MAX_DOCUMENTS;
 use std::alloc::Global;
 
 /// Of the documents of a list the one with the number of this empty document, or else the empty
-/// one. Takes no memory. At most a step for each document.
+/// one. Takes no memory. A search by halves.
 pub fn find<'a>(docs: &'a [Doc], empty: &'a Doc) -> &'a Doc
-    requires { StandsFor empty.now [] }
+    requires rising { IsUp (numbers docs.now) }
+    requires empty { StandsFor empty.now [] }
     ensures number { number_of result.now ≡ number_of empty.now }
     ensures stands { (ops : List Op) → AreDocs docs.now ops → StandsFor result.now ops }
 {
-    for it in docs {
-        if it.number() == empty.number() {
-            return it;
-        }
+    match place(docs, empty.number()) {
+        Ok(at) => &docs[at],
+        Err(_) => empty,
     }
-    empty
 }
 
-/// Whether there are at most 1,024 documents with this one.
+/// Whether there are at most 1,024 documents with this one. A search by halves.
 pub fn has_document(docs: &[Doc], doc: u32) -> bool
+    requires { IsUp (numbers docs.now) }
     ensures { result ≡ nat_le (length (with_number doc (numbers docs.now))) 1024 }
 {
     match place(docs, doc) {
@@ -36,9 +37,10 @@ pub fn has_document(docs: &[Doc], doc: u32) -> bool
 }
 
 /// Takes operations of one document, whole or not at all. `UnknownId` (60) only where they can't
-/// come after the others, `Memory` (1) where a growth was refused. At most a step for each
-/// document, and what the document itself takes.
+/// come after the others, `Memory` (1) where a growth was refused. A search by halves for the
+/// document, a step for each greater one where it is new, and what the document itself takes.
 pub fn apply(docs: &mut Vec<Doc>, alloc: Global, doc: u32, ops: &[Op]) -> Result<(), SequenceError>
+    requires { IsUp (numbers docs.old.items) }
     ensures numbers { OnOk result
         (numbers docs.new.items ≡ with_number doc (numbers docs.old.items)) }
     ensures stand { OnOk result ((list : List Op) → AreDocs docs.old.items list
@@ -68,8 +70,10 @@ pub fn apply(docs: &mut Vec<Doc>, alloc: Global, doc: u32, ops: &[Op]) -> Result
     }
 }
 
-/// The index of the document of a number, or where it goes among these.
+/// The index of the document of a number, or where it goes among these, whose numbers rise. A
+/// search by halves.
 fn place(docs: &[Doc], doc: u32) -> Result<usize, usize>
+    requires { IsUp (numbers docs.now) }
     ensures { MatchResult result
         (λ at. (at < length docs.now)
         × ((d : Doc) → d ≡ slice_index_or docs.now at d → number_of d ≡ doc)
@@ -78,13 +82,5 @@ fn place(docs: &[Doc], doc: u32) -> Result<usize, usize>
         × (with_number doc (numbers docs.now)
         ≡ take at (numbers docs.now) ++ doc ∷ drop at (numbers docs.now))) }
 {
-    for (i, it) in docs.iter().enumerate() {
-        if doc < it.number() {
-            return Err(i);
-        }
-        if doc == it.number() {
-            return Ok(i);
-        }
-    }
-    Err(docs.len())
+    docs.binary_search_by_key(&doc, |it| it.number())
 }

@@ -1,9 +1,10 @@
 ghost use Rattle.std.specs.Prelude.{◌≡◌, List, [], ◌∷◌, ◌++◌, IfOk, IfErr, OnOk};
 ghost use Rattle.doc_core.specs.Standing.{MayCome};
+ghost use Rattle.model_laws.specs.Rising.{IsUp};
 ghost use Rattle.op_model.specs.declared.op.Op.{Op};
 ghost use Rattle.op_model.specs.Causality.{documents, IsCausallyClosed};
 ghost use Rattle.op_model.specs.Spans.{with_number};
-ghost use Rattle.replica_core.specs.Docs.{draft_numbers, numbers as doc_numbers, AllDrafts, AllStand, AreDocs, IsUp};
+ghost use Rattle.replica_core.specs.Docs.{draft_numbers, numbers as doc_numbers, AllDrafts, AllStand, AreDocs};
 
 use crate::numbers::place;
 use crate::refusal::Refusal;

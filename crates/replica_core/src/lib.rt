@@ -5,12 +5,14 @@ mod counting;
 mod deciding;
 mod docs;
 mod drafts;
+mod editing;
 mod following;
 mod index;
 mod lengths;
 mod log;
 mod maker;
 mod merged;
+mod merging;
 mod named;
 mod numbers;
 mod opening;
@@ -26,4 +28,8 @@ pub use replica::Replica;
 pub use ticket::Ticket;
 
 #[cfg(test)]
-mod tests;
+mod edit_tests;
+#[cfg(test)]
+mod merge_tests;
+#[cfg(test)]
+mod test_peers;

@@ -2,7 +2,8 @@ ghost use Rattle.std.specs.Prelude.{◌≡◌, ◌+◌, ◌≤◌, ◌<◌, ◌^
 ghost use Rattle.doc_core.specs.Standing.{MayComeInTurn};
 ghost use Rattle.op_model.specs.Causality.{made_by};
 ghost use Rattle.op_model.specs.Records.{stream_length};
-ghost use Rattle.replica_core.specs.Docs.{AreDocs};
+ghost use Rattle.model_laws.specs.Rising.{IsUp};
+ghost use Rattle.replica_core.specs.Docs.{numbers, AreDocs};
 ghost use Rattle.replica_core.specs.Log.{IsSame, HasRoom, IsAppended};
 
 use crate::docs;
@@ -38,6 +39,7 @@ impl Log {
         doc: u32,
         step: Step,
     ) -> Result<(), SequenceError>
+        requires rising { IsUp (numbers self.old.docs.items) }
         requires few { length self.old.list + length made.now ≤ 16777216 }
         requires own { made_by replica made.now ≡ made.now }
         requires stream { self.old.index.stream ≡ stream_length self.old.list }

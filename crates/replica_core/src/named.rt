@@ -12,8 +12,8 @@ use op_list::{OpHead, OpSlice};
 use op_model::Op;
 
 /// Whether an insert of the operation's document with this id is among the operations that its deps
-/// cover. Takes no memory. A few steps where the id's replica edits alone, else a binary search among
-/// its operations.
+/// cover. Takes no memory. A few steps where the id's replica edits alone, else a binary search
+/// among its operations.
 pub fn is_covered_insert(ops: &OpSlice<'_>, index: &Index, op: &Op, id: &OpId) -> bool
     requires closed { IsCausallyClosed ops.now }
     requires index { IsIndexOf index.now ops.now }

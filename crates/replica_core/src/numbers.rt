@@ -1,6 +1,6 @@
 ghost use Rattle.std.specs.Prelude.{◌≡◌, ◌≤◌, ◌<◌, ◌∷◌, ◌++◌, length, take, drop, slice_index_or, MatchResult, OnOk, OnErr};
+ghost use Rattle.model_laws.specs.Rising.{IsUp};
 ghost use Rattle.op_model.specs.Spans.{with_number};
-ghost use Rattle.replica_core.specs.Docs.{IsUp};
 
 use std::alloc::AllocError;
 

@@ -6,13 +6,14 @@ ghost use Rattle.op_model.specs.Records.{record_length};
 ghost use Rattle.replica_core.specs.Deciding.{AreCounted, AreKnown};
 ghost use Rattle.replica_core.specs.Indexes.{IsIndexOf};
 
+use crate::counting::advance;
 use crate::drafts::documents_of;
 use crate::following::may_follow;
 use crate::index::Index;
 use crate::numbers::add;
 use crate::refusal::Refusal;
 use doc_core::Doc;
-use op_ids::{Clock, ClockError};
+use op_ids::Clock;
 use op_list::OpSlice;
 use op_model::Op;
 use slow_programs::MAX_DOCUMENTS;
@@ -71,11 +72,7 @@ fn count(
     ensures memory { IfErr result (λ e. e ≡ Refusal.Memory) }
 {
     index.reserve(alloc, op.id.replica(), 1)?;
-    match clock.advance(op.id.replica()) {
-        Ok(()) => {}
-        Err(ClockError::Memory) => return Err(Refusal::Memory),
-        Err(ClockError::Limit) => unreachable!(),
-    }
+    advance(clock, op.id.replica())?;
     index.put(op, behind as u32);
     Ok(())
 }

@@ -1,5 +1,8 @@
 use op_model::Edit;
 
+/// The most steps that are kept since opening.
+pub const MAX_STEPS: usize = 1_048_576;
+
 /// A step that a replica made since it was opened.
 #[derive(Debug, Drop)]
 pub enum Step {

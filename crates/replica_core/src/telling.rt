@@ -1,8 +1,9 @@
 ghost use Rattle.std.specs.Prelude.{◌≡◌, not, nat_lt, take, filter, IfOk, OnOk};
-ghost use Rattle.op_ids.specs.Clock.{advanced, count_of};
+ghost use Rattle.op_ids.specs.Clock.{advanced, count_of, IsOverfull};
 ghost use Rattle.op_model.specs.Causality.{is_known as is_known_in, IsCausallyClosed};
 ghost use Rattle.op_model.specs.Machine.{reach};
 
+use crate::counting::advance;
 use op_ids::{Clock, ReplicaId};
 use op_list::OpSlice;
 use op_model::Op;
@@ -11,9 +12,9 @@ use std::alloc::{AllocError, Global};
 /// The most operations that are told at once.
 const MAX_TOLD: usize = 64;
 
-/// Of a causally closed list the first operations, at most 64, that a clock doesn't count, and how many
-/// operations the last of them needs. An error is want of memory (1). A look at the head of each
-/// operation up to that; only those that are told are read.
+/// Of a causally closed list the first operations, at most 64, that a clock doesn't count, and how
+/// many operations the last of them needs. An error is want of memory (1). A look at the head of
+/// each operation up to that; only those that are told are read.
 pub fn untold(
     alloc: Global,
     clock: &Clock,
@@ -42,16 +43,15 @@ pub fn untold(
     Ok((found, reached))
 }
 
-/// Counts a replica's next operation, and tells whether a clock counts it. An error is want of memory (1).
+/// Counts a replica's next operation, for which there is room, and tells whether a clock counts it.
+/// An error is want of memory (1).
 fn count_next(clock: &Clock, seen: &mut Clock, replica: ReplicaId) -> Result<bool, AllocError>
+    requires { IsOverfull (advanced seen.old replica) → ⊥ }
     ensures known { IfOk result
         (λ known. known ≡ nat_lt (count_of seen.old replica) (count_of clock.now replica)) }
     ensures seen { OnOk result (seen.new ≡ advanced seen.old replica) }
 {
     let is_known = seen.get(replica) < clock.get(replica);
-    match seen.advance(replica) {
-        Ok(()) => Ok(is_known),
-        // A causally closed list keeps the limits of a clock, so only a growth can be refused.
-        Err(_) => Err(AllocError),
-    }
+    advance(seen, replica)?;
+    Ok(is_known)
 }

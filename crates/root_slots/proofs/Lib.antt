@@ -2,4 +2,5 @@ pub mod Faults
 pub mod HeadLemmas
 pub mod LiveLemmas
 pub mod SlotReads
+pub mod SlotWrites
 pub mod SpellingLemmas

@@ -5,44 +5,19 @@ use Rattle.std.proofs.lemmas.Bool.{le-ltb, cases_eq}
 use Rattle.disk_trait.specs.Calls.{Tears}
 use Rattle.disk_trait.specs.File.{Torn, overwritten}
 use Rattle.disk_trait.specs.declared.facts.DiskFacts.{Ghosts}
-use Rattle.page_file.proofs.Parts.{part_outside, part_written}
+use Rattle.page_file.proofs.Parts.{part_written}
 use Rattle.root_slots.specs.Root.{version_of}
-use Rattle.root_slots.specs.Slots.{first_byte, gate, body, picked, live}
+use Rattle.root_slots.specs.Slots.{gate, body, picked, live}
 use Rattle.root_slots.specs.Survivors.{Leaves, IsNewer, Lives, LivesOverOpen, LivesAlone, LivesBeforeNewer, LivesOrOther}
 use Rattle.root_slots.proofs.SlotReads.{live_below}
-
--- a slot in a file is as in another one
-record SameSlot (slot : ℕ) (d c : List ℕ) : Type 0 where
-  gates : gate slot c ≡ gate slot d
-  bodies : body slot c ≡ body slot d
-
--- a write within one slot leaves the other one
-slot_beside : (d c : List ℕ) (at k slot : ℕ) → Torn at k d c → slot < 2 → 4096 * (1 - slot) ≤ at → at + k ≤ 4096 * (1 - slot) + 4096
-    → SameSlot slot d c
-slot_beside d c at k zero torn below from to = record {
-  gates = ap first_byte (part_outside d c at k 0 1 torn (inl (omega (arith, from))));
-  bodies = part_outside d c at k 8 4088 torn (inl (omega (arith, from)));
-}
-slot_beside d c at k (suc zero) torn below from to = record {
-  gates = ap first_byte (part_outside d c at k 4096 1 torn (inr (omega (arith, to))));
-  bodies = part_outside d c at k 4104 4088 torn (inr (omega (arith, to)));
-}
-slot_beside d c at k (suc (suc n)) torn below from to = absurd (omega (arith, below))
-
--- a write of a gate leaves the body behind it
-body_behind_gate : (d c : List ℕ) (slot : ℕ) → Torn (4096 * slot) 1 d c → body slot c ≡ body slot d
-body_behind_gate d c slot torn = part_outside d c (4096 * slot) 1 (4096 * slot + 8) 4088 torn (inr (omega arith))
-
--- and a write of a body the gate before it
-gate_before_body : (d c : List ℕ) (slot : ℕ) → Torn (4096 * slot + 8) 4088 d c → gate slot c ≡ gate slot d
-gate_before_body d c slot torn = ap first_byte (part_outside d c (4096 * slot + 8) 4088 (4096 * slot) 1 torn (inl (omega arith)))
+use Rattle.root_slots.proofs.SlotWrites.{slot_beside, body_behind_gate, gate_before_body, gate_written}
 
 -- the slots of which one is live: that one is open, and the other one closed or of a smaller version
-record Stand (slot : ℕ) (file : List ℕ) : Type 0 where
-  below : slot < 2
-  whole : 8192 ≤ length file
-  is_open : gate slot file ≡ 1
-  older : gate (1 - slot) file ≡ 1 → version_of (body (1 - slot) file) < version_of (body slot file)
+pub record Stand (slot : ℕ) (file : List ℕ) : Type 0 where
+  pub below : slot < 2
+  pub whole : 8192 ≤ length file
+  pub is_open : gate slot file ≡ 1
+  pub older : gate (1 - slot) file ≡ 1 → version_of (body (1 - slot) file) < version_of (body slot file)
 
 picked_0 : (g0 g1 v0 v1 : ℕ) → g0 ≡ 1 → (g1 ≡ 1 → v1 < v0) → picked g0 g1 v0 v1 ≡ Ok 0
 picked_0 g0 g1 v0 v1 is older = grind (arith, nat_tests)
@@ -100,7 +75,7 @@ stand file slot lives = by_slot slot (live_below file slot lives) lives
     by_slot (suc (suc n)) below lives = absurd (omega (arith, below))
 
 -- and back
-lives_by : (file : List ℕ) (slot : ℕ) → Stand slot file → Lives slot file
+pub lives_by : (file : List ℕ) (slot : ℕ) → Stand slot file → Lives slot file
 lives_by file zero s =
     in_size (length file) _ s.whole
     ∙ picked_0 (gate 0 file) (gate 1 file) (version_of (body 0 file)) (version_of (body 1 file)) s.is_open s.older
@@ -165,10 +140,6 @@ opened_lives slot d c torn it =
         older = λ too. absurd (shut too);
       }))
     ]
-
--- what is written into a gate is there
-gate_written : (d : List ℕ) (slot byte : ℕ) → 4096 * slot ≤ length d → gate slot (overwritten d (4096 * slot) (byte ∷ [])) ≡ byte
-gate_written d slot byte within = ap first_byte (part_written d (4096 * slot) 1 (byte ∷ []) within refl)
 
 -- the other one's gate is closed
 pub closed_alone : (slot : ℕ) (d c : List ℕ) → Torn (4096 * (1 - slot)) 1 d c

@@ -36,8 +36,8 @@ live_first file whole =
     ∙ sym (live_is file whole)
 
 -- so what is live in the slots is live in the file
-pub live_on : (file : List ℕ) (slot : ℕ) (stale : Bool) (head : Root) → 8192 ≤ length file → IsLive (part file 0 8192) slot stale head → IsLive file slot stale head
-live_on file slot stale head whole it =
+pub live_on : (file : List ℕ) (slot : ℕ) (stale_open : Bool) (head : Root) → 8192 ≤ length file → IsLive (part file 0 8192) slot stale_open head → IsLive file slot stale_open head
+live_on file slot stale_open head whole it =
     record {
       whole = whole;
       below = it.below;

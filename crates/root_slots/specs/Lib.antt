@@ -5,4 +5,3 @@ pub mod Live
 pub mod Root
 pub mod Slots
 pub mod Survivors
-pub mod Writing

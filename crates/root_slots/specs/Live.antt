@@ -7,14 +7,14 @@ use Rattle.root_slots.specs.Slots.{gate, body, live}
 -- which slot is live, 0 or 1, and whether the other one's gate reads 1
 pub record SlotPair : Type 0 where
   pub slot : ℕ
-  pub stale : Bool
+  pub stale_open : Bool
 
 -- the live slot of a file, whether the other one is open too, and what the live one says
-pub record IsLive (file : List ℕ) (slot : ℕ) (stale : Bool) (head : Root) : Type 0 where
+pub record IsLive (file : List ℕ) (slot : ℕ) (stale_open : Bool) (head : Root) : Type 0 where
   pub whole : 8192 ≤ length file
   pub below : slot < 2
   pub picked : live file ≡ Ok slot
-  pub other : stale ≡ (gate (1 - slot) file == 1)
+  pub other : stale_open ≡ (gate (1 - slot) file == 1)
   pub spells : Spells (body slot file) head
   pub bytes : (i : ℕ) → get_or (body slot file) i 0 < 256
 

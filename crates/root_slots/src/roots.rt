@@ -1,21 +1,22 @@
 //! The two root slots of a file.
-ghost use Rattle.std.specs.Prelude.{◌≡◌, ◌-◌, ◌<◌, ◌≤◌, ◌↔◌, [], ◌∷◌, true, false, length, IfOk, IfErr, IsOk, OnOk};
+ghost use Rattle.std.specs.Prelude.{◌≡◌, ◌-◌, ◌<◌, ◌≤◌, ◌↔◌, [], ◌∷◌, true, false, length, IfOk};
+ghost use Rattle.std.specs.Prelude.{IfErr, IsOk, OnOk};
 ghost use Rattle.disk_trait.specs.declared.error.DiskError.TheVariants.{WriteFailed};
+ghost use Rattle.disk_trait.specs.Looks.{OnlyLooks};
+ghost use Rattle.disk_trait.specs.Writing.{Writes};
 ghost use Rattle.root_slots.specs.Body.{IsRoot};
 ghost use Rattle.root_slots.specs.Slots.{gate, gate_place, body_place, live};
 ghost use Rattle.root_slots.specs.Live.{IsLive, live_root};
 ghost use Rattle.root_slots.specs.Faults.{Names, failed_in};
-ghost use Rattle.page_file.specs.Looks.{OnlyLooks};
 ghost use Rattle.root_slots.specs.Survivors.{Leaves, IsNewer, Lives, LivesAlone, LivesOrOther};
 ghost use Rattle.root_slots.specs.Survivors.{LivesOverOpen, LivesBeforeNewer};
-ghost use Rattle.root_slots.specs.Writing.{Writes};
 ghost use Rattle.root_slots.specs.declared.error.RootsError.TheVariants.{Memory};
 
-use crate::call::{read_inside, size_of, write_inside};
+use crate::call::size_of;
 use crate::error::RootsError;
 use crate::root_body::RootBody;
 use crate::slots::{Live, live_root};
-use disk_trait::{Disk, DiskError};
+use disk_trait::{Disk, DiskError, read_inside, write_inside};
 use std::alloc::Global;
 use std::marker::Model;
 
@@ -34,7 +35,7 @@ pub struct Roots {
     // The live slot, 0 or 1.
     slot: u64,
     // Whether the gate of the stale slot reads 1.
-    stale: bool,
+    stale_open: bool,
 }
 
 impl Model for Roots {
@@ -45,7 +46,7 @@ impl Model for Roots {
 
     ghost view = { λ r. record {
       slot = r.slot;
-      stale = r.stale;
+      stale_open = r.stale_open;
     } };
 
     ghost invariant = { λ r. r.slot < 2 };
@@ -65,11 +66,11 @@ impl Roots {
     /// memory.
     pub fn of_new_file() -> Roots
         ensures live { result.slot ≡ 0 }
-        ensures closed { result.stale ≡ false }
+        ensures closed { result.stale_open ≡ false }
     {
         Roots {
             slot: 0,
-            stale: false,
+            stale_open: false,
         }
     }
 
@@ -83,7 +84,7 @@ impl Roots {
     /// One `size` and one read of 8,192 bytes. It allocates the numbers of the root's table pages.
     pub fn load<D: Disk>(alloc: Global, disk: &mut D) -> Result<LoadedRoots, RootsError>
         ensures live { D.tells disk.old → IfOk result (λ it. IsLive (D.content disk.old)
-            it.roots.slot it.roots.stale it.root) }
+            it.roots.slot it.roots.stale_open it.root) }
         ensures size { D.tells disk.old
             → IfOk result (λ it. it.file_size ≡ length (D.content disk.old)) }
         ensures below { IfOk result (λ it. it.roots.slot < 2) }
@@ -101,9 +102,15 @@ impl Roots {
             return Err(RootsError::NoRoot);
         }
         let mut slots = [0; SLOTS];
-        read_inside(disk, 0, &mut slots)?;
-        let Live { slot, stale, root } = live_root(alloc, &slots)?;
-        let roots = Roots { slot, stale };
+        if let Err(_) = read_inside(disk, 0, &mut slots) {
+            return Err(RootsError::ReadFailed);
+        }
+        let Live {
+            slot,
+            stale_open,
+            root,
+        } = live_root(alloc, &slots)?;
+        let roots = Roots { slot, stale_open };
         Ok(LoadedRoots {
             roots,
             root,
@@ -122,9 +129,9 @@ impl Roots {
     /// Whether the gate of the stale slot read 1 when the slots were loaded or last changed places.
     /// Takes no memory.
     pub fn is_stale_open(&self) -> bool
-        ensures { result ≡ self.now.stale }
+        ensures { result ≡ self.now.stale_open }
     {
-        self.stale
+        self.stale_open
     }
 
     /// Closes the stale slot: one write of the byte 0 into its gate, which has to read 1. Refuses
@@ -190,9 +197,9 @@ impl Roots {
     /// one that was live is open too. It makes no device call. Takes no memory.
     pub fn change_places(&mut self)
         ensures slot { self.new.slot ≡ 1 - self.old.slot }
-        ensures stale { self.new.stale ≡ true }
+        ensures stale_open { self.new.stale_open ≡ true }
     {
         self.slot = 1 - self.slot;
-        self.stale = true;
+        self.stale_open = true;
     }
 }

@@ -35,13 +35,13 @@ fn has_live(
     disk: &mut MemDisk,
     version: u64,
     slot: u64,
-    stale: bool,
+    stale_open: bool,
 ) -> Result<bool, Fail> {
     let found = Roots::load(alloc, disk).ok().ok_or("refused")?;
     Ok(
         found.root.version() == version
             && found.roots.slot() == slot
-            && found.roots.is_stale_open() == stale
+            && found.roots.is_stale_open() == stale_open
             && found.file_size == 8192,
     )
 }

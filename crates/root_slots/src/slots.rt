@@ -15,7 +15,7 @@ use std::alloc::{AllocError, Global};
 #[derive(Drop)]
 pub struct Live {
     pub slot: u64,
-    pub stale: bool,
+    pub stale_open: bool,
     pub root: RootBody,
 }
 
@@ -106,7 +106,7 @@ fn root_of(alloc: Global, body: &[u8]) -> Result<RootBody, RootsError>
 /// are with equal versions, or the live one holds no root body; 1 for want of memory.
 pub fn live_root(alloc: Global, slots: &[u8]) -> Result<Live, RootsError>
     requires { length slots.now ≡ 8192 }
-    ensures found { IfOk result (λ it. IsLive slots.now it.slot it.stale it.root) }
+    ensures found { IfOk result (λ it. IsLive slots.now it.slot it.stale_open it.root) }
     ensures valid { IfOk result (λ it. IsRoot it.root) }
     ensures fault { IfErr result (λ e. Names e (live_root slots.now)) }
     ensures memory { IfErr result (λ e. e ≡ Memory → IsOk (live slots.now)) }
@@ -114,6 +114,10 @@ pub fn live_root(alloc: Global, slots: &[u8]) -> Result<Live, RootsError>
 {
     let slot = live_slot(slots)?;
     let root = root_of(alloc, body_at(slots, slot))?;
-    let stale = is_open(slots, 1 - slot);
-    Ok(Live { slot, stale, root })
+    let stale_open = is_open(slots, 1 - slot);
+    Ok(Live {
+        slot,
+        stale_open,
+        root,
+    })
 }

@@ -37,7 +37,7 @@ behind_fewer k pages false false is = omega arith
 by_phase : {D : Type 0} (p : Phase) (s : Held D) (disk : D) → s.phase ≡ p → is_idle p ≡ false
     → calls_left (gone_on p s disk) < calls_from (length s.numbers) p
 by_phase Idle s disk is busy = absurd (cc)
-by_phase (Pages k) s disk is busy = behind_fewer k (length s.numbers) s.stale (nat_lt (k + 1) (length s.numbers)) refl
+by_phase (Pages k) s disk is busy = behind_fewer k (length s.numbers) s.stale_open (nat_lt (k + 1) (length s.numbers)) refl
 by_phase Close s disk is busy = omega arith
 by_phase Sync1 s disk is busy = omega arith
 by_phase Body s disk is busy = omega arith

@@ -16,14 +16,17 @@ struct Peer {
 }
 
 impl Peer {
-    fn new(alloc: Global, last: u8) -> Result<Peer, Fail> {
+    // Boxed, so that a test which returns early drops a box: that a peer is dropped is then proved
+    // once, and not at each return.
+    fn new(alloc: Global, last: u8) -> Result<Box<Peer>, Fail> {
         let mut bytes = [0; 16];
         bytes[15] = last;
-        Ok(Peer {
+        let peer = Peer {
             alloc,
             replica: ReplicaId::read(bytes).ok_or("nil")?,
             ops: Vec::new(alloc),
-        })
+        };
+        Ok(Box::new(alloc, peer)?)
     }
 
     fn change(&mut self, change: Change) -> Result<(), Fail> {

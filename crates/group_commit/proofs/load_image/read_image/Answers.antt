@@ -6,7 +6,7 @@ use Rattle.group_commit.specs.Saved.{with_stream, in_front}
 use Rattle.group_commit.specs.Image.{stored}
 use Rattle.group_commit.specs.Loading.{stream_at}
 use Rattle.group_commit.proofs.Faults.{names_on, quiet_ops, fault_of_ops}
-use Rattle.page_file.proofs.Looking.{looks_then, looks_on}
+use Rattle.disk_trait.proofs.Looking.{looks_then, looks_on}
 use Rattle.group_commit.proofs.ImageReads.{stream_fault, stored_stream, stands_read}
 use Rattle.group_commit.proofs.load_image.read_image.Goals as goal
 
@@ -76,7 +76,7 @@ returns-clause-stands g c = λ told.
     let same = (c.in_ok-roots.ensures.looks told).same in
     let told' = c.load_roots.ensures.tells.1 told in
     rw (c.in_ok-stream.ensures ∙ ap (λ s. s ++ c.deref.result.now) c.new.ensures ∙ c.deref.ensures.value)
-    (stands_read file c.in_ok-roots.field-0.roots.slot c.in_ok-roots.field-0.roots.stale head (with_stream c.in_ok-current.current c.in_ok-pages.field-0.bytes.items)
+    (stands_read file c.in_ok-roots.field-0.roots.slot c.in_ok-roots.field-0.roots.stale_open head (with_stream c.in_ok-current.current c.in_ok-pages.field-0.bytes.items)
     (in_front c.in_ok-current.next c.in_ok-pages.field-0.bytes.items) live
     (c.in_ok-current.ensures.body (body c.in_ok-roots.field-0.roots.slot file) live.bytes live.spells)
     (rw (sym same) (c.in_ok-pages.ensures.stream told'))

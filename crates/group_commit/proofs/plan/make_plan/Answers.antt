@@ -36,16 +36,16 @@ overflow_sub-new_tables c =
     grown (length c.args.stream.now) (length c.args.stream.now + length c.args.records.now) c.args.records.now c.kept_pages-kept.result (c.kept_pages-kept.ensures ∙ ap (λ n. kept_of n c.args.records.now) (c.stream_length-old_long.ensures.long ∙ sym c.requires.long)) c.requires.some refl c.requires.room in
     kept_tables c.kept_pages-kept.result c.data_pages.result c.tables_for.result (omega (arith, grows.grows, (c.data_pages.ensures.value ∙ ap (λ n. pages_for 4096 (n + length c.args.records.now)) (c.stream_length-old_long.ensures.long ∙ sym c.requires.long)))) (c.tables_for.ensures.value ∙ ap (pages_for 1024) (sym c.data_pages.ensures.value))
 
-pub renamed-requires : goal.renamed-requires
-renamed-requires c =
+pub next_data_pages-requires : goal.next_data_pages-requires
+next_data_pages-requires c =
     let grows : Grows (length c.args.stream.now) (length c.args.stream.now + length c.args.records.now) c.kept_pages-kept.result =
     grown (length c.args.stream.now) (length c.args.stream.now + length c.args.records.now) c.args.records.now c.kept_pages-kept.result (c.kept_pages-kept.ensures ∙ ap (λ n. kept_of n c.args.records.now) (c.stream_length-old_long.ensures.long ∙ sym c.requires.long)) c.requires.some refl c.requires.room in
     let olds : length c.live_data_pages-olds.result.now ≡ pages_for 4096 (length c.args.stream.now) =
     (c.live_data_pages-olds.ensures c.args.stream.now c.requires.long).count ∙ ap (pages_for 4096) (sym (c.live_data_pages-olds.ensures c.args.stream.now c.requires.long).long) in
     omega (arith, grows.within, olds)
 
-pub renumbered-requires : goal.renumbered-requires
-renumbered-requires c =
+pub kept_and_new-requires : goal.kept_and_new-requires
+kept_and_new-requires c =
     let grows : Grows (length c.args.stream.now) (length c.args.stream.now + length c.args.records.now) c.kept_pages-kept.result =
     grown (length c.args.stream.now) (length c.args.stream.now + length c.args.records.now) c.args.records.now c.kept_pages-kept.result (c.kept_pages-kept.ensures ∙ ap (λ n. kept_of n c.args.records.now) (c.stream_length-old_long.ensures.long ∙ sym c.requires.long)) c.requires.some refl c.requires.room in
     let olds : length c.live_data_pages-olds.result.now ≡ pages_for 4096 (length c.args.stream.now) =
@@ -67,8 +67,8 @@ new_pages-requires c =
     let olds : length c.live_data_pages-olds.result.now ≡ pages_for 4096 (length c.args.stream.now) =
     (c.live_data_pages-olds.ensures c.args.stream.now c.requires.long).count ∙ ap (pages_for 4096) (sym (c.live_data_pages-olds.ensures c.args.stream.now c.requires.long).long) in
     let more : c.kept_pages-kept.result ≤ c.data_pages.result = omega (arith, grows.grows, (c.data_pages.ensures.value ∙ ap (λ n. pages_for 4096 (n + length c.args.records.now)) (c.stream_length-old_long.ensures.long ∙ sym c.requires.long))) in
-    let named : length c.in_ok-named.field-0.named.items ≡ c.data_pages.result =
-    ap length c.in_ok-named.ensures.named
+    let counted : length c.in_ok-all.field-0.all.items ≡ c.data_pages.result =
+    ap length c.in_ok-all.ensures.all
     ∙ put_count c.kept_pages-kept.result c.live_data_pages-olds.result.now c.split_at.result.0.now c.data_pages.result (omega (arith, olds, grows.within)) more c.split_at.ensures.front_len in
     let tables : c.tables_for.result ≡ pages_for 1024 c.data_pages.result = c.tables_for.ensures.value ∙ ap (pages_for 1024) (sym c.data_pages.ensures.value) in
     record {
@@ -77,8 +77,8 @@ new_pages-requires c =
           (c.data_pages.ensures.value ∙ ap (λ n. pages_for 4096 (n + length c.args.records.now)) (c.stream_length-old_long.ensures.long ∙ sym c.requires.long)) (ap length c.rest_behind-old_bytes.ensures ∙ length-drop (4096 * c.kept_pages-kept.result) c.args.stream.now)
           (ap length c.behind-new_bytes.ensures ∙ length-drop c.saturating_sub.result c.args.records.now ∙ ap (λ k. length c.args.records.now - k) (c.saturating_sub.ensures ∙ ap (λ n. 4096 * c.kept_pages-kept.result - n) (c.stream_length-old_long.ensures.long ∙ sym c.requires.long)));
       table_room = entries_fit c.data_pages.result c.kept_pages-kept.result c.tables_for.result (length c.deref-2.result.now) tables
-          (ap length (c.deref-2.ensures.value ∙ c.in_ok-named.ensures.entries) ∙ length-drop (1024 * (c.kept_pages-kept.result / 1024)) (take c.kept_pages-kept.result c.live_data_pages-olds.result.now ++ c.split_at.result.0.now)
-          ∙ ap (λ n. n - 1024 * (c.kept_pages-kept.result / 1024)) (ap length (sym c.in_ok-named.ensures.named) ∙ named));
+          (ap length (c.deref-2.ensures.value ∙ c.in_ok-all.ensures.entries) ∙ length-drop (1024 * (c.kept_pages-kept.result / 1024)) (take c.kept_pages-kept.result c.live_data_pages-olds.result.now ++ c.split_at.result.0.now)
+          ∙ ap (λ n. n - 1024 * (c.kept_pages-kept.result / 1024)) (ap length (sym c.in_ok-all.ensures.all) ∙ counted));
     }
 
 pub rest_behind-old_bytes-requires : goal.rest_behind-old_bytes-requires
@@ -97,10 +97,10 @@ root_on-requires-clause-data_pages c =
     let olds : length c.live_data_pages-olds.result.now ≡ pages_for 4096 (length c.args.stream.now) =
     (c.live_data_pages-olds.ensures c.args.stream.now c.requires.long).count ∙ ap (pages_for 4096) (sym (c.live_data_pages-olds.ensures c.args.stream.now c.requires.long).long) in
     let more : c.kept_pages-kept.result ≤ c.data_pages.result = omega (arith, grows.grows, (c.data_pages.ensures.value ∙ ap (λ n. pages_for 4096 (n + length c.args.records.now)) (c.stream_length-old_long.ensures.long ∙ sym c.requires.long))) in
-    let named : length c.in_ok-named.field-0.named.items ≡ c.data_pages.result =
-    ap length c.in_ok-named.ensures.named
+    let counted : length c.in_ok-all.field-0.all.items ≡ c.data_pages.result =
+    ap length c.in_ok-all.ensures.all
     ∙ put_count c.kept_pages-kept.result c.live_data_pages-olds.result.now c.split_at.result.0.now c.data_pages.result (omega (arith, olds, grows.within)) more c.split_at.ensures.front_len in
-    named ∙ c.data_pages.ensures.value
+    counted ∙ c.data_pages.ensures.value
 
 pub root_on-requires-clause-tables : goal.root_on-requires-clause-tables
 root_on-requires-clause-tables c =
@@ -111,8 +111,8 @@ root_on-requires-clause-tables c =
     let old_tables : length c.tables.result.now ≡ pages_for 1024 (length c.live_data_pages-olds.result.now) =
     ap length c.tables.ensures ∙ root_tables c.args.current.now.body (c.live_data_pages-olds.ensures c.args.stream.now c.requires.long).valid ∙ ap (pages_for 1024) (sym (c.live_data_pages-olds.ensures c.args.stream.now c.requires.long).count) in
     let more : c.kept_pages-kept.result ≤ c.data_pages.result = omega (arith, grows.grows, (c.data_pages.ensures.value ∙ ap (λ n. pages_for 4096 (n + length c.args.records.now)) (c.stream_length-old_long.ensures.long ∙ sym c.requires.long))) in
-    let named : length c.in_ok-named.field-0.named.items ≡ c.data_pages.result =
-    ap length c.in_ok-named.ensures.named
+    let counted : length c.in_ok-all.field-0.all.items ≡ c.data_pages.result =
+    ap length c.in_ok-all.ensures.all
     ∙ put_count c.kept_pages-kept.result c.live_data_pages-olds.result.now c.split_at.result.0.now c.data_pages.result (omega (arith, olds, grows.within)) more c.split_at.ensures.front_len in
     let tables : c.tables_for.result ≡ pages_for 1024 c.data_pages.result = c.tables_for.ensures.value ∙ ap (pages_for 1024) (sym c.data_pages.ensures.value) in
     let rest : length c.split_at.result.1.now ≡ c.tables_for.result - c.kept_pages-kept.result / 1024 =
@@ -121,7 +121,7 @@ root_on-requires-clause-tables c =
     ∙ put_count (c.kept_pages-kept.result / 1024) c.tables.result.now c.split_at.result.1.now c.tables_for.result
     (kept_tables c.kept_pages-kept.result (length c.live_data_pages-olds.result.now) (length c.tables.result.now) (omega (arith, grows.within, olds)) old_tables)
     (kept_tables c.kept_pages-kept.result c.data_pages.result c.tables_for.result more tables) rest
-    ∙ tables ∙ ap (pages_for 1024) (sym named)
+    ∙ tables ∙ ap (pages_for 1024) (sym counted)
 
 pub root_on-requires-clause-apart : goal.root_on-requires-clause-apart
 root_on-requires-clause-apart c =
@@ -129,7 +129,7 @@ root_on-requires-clause-apart c =
     sym (ap (λ f. f ++ c.split_at.result.1.now) (c.split_at.ensures.front ∙ ap (take (c.data_pages.result - c.kept_pages-kept.result)) c.deref.ensures.value)
     ∙ ap (λ b. take (c.data_pages.result - c.kept_pages-kept.result) c.in_ok-numbers.numbers.items ++ b) (c.split_at.ensures.back ∙ ap (drop (c.data_pages.result - c.kept_pages-kept.result)) c.deref.ensures.value)
     ∙ take-append-drop (c.data_pages.result - c.kept_pages-kept.result) c.in_ok-numbers.numbers.items) in
-    rw (c.in_ok-tables.ensures, c.in_ok-named.ensures.named, c.tables.ensures)
+    rw (c.in_ok-tables.ensures, c.in_ok-all.ensures.all, c.tables.ensures)
     (next_apart (with_stream c.args.current.now c.args.stream.now) c.live_data_pages-olds.result.now c.split_at.result.0.now c.split_at.result.1.now c.kept_pages-kept.result (c.live_data_pages-olds.ensures c.args.stream.now c.requires.long)
     (rw numbers at c.in_ok-numbers.ensures.apart))
 
@@ -146,21 +146,21 @@ returns-clause-plan c =
     let follows : Follows (with_stream c.args.current.now c.args.stream.now) (with_stream c.in_ok-next.next (c.args.stream.now ++ c.args.records.now)) c.args.records.now c.args.more c.kept_pages-kept.result c.live_data_pages-olds.result.now c.split_at.result.0.now c.split_at.result.1.now = record {
       had = (c.live_data_pages-olds.ensures c.args.stream.now c.requires.long);
       is_next = record { stream = refl; version = on.version; replica = on.replica; count = on.count };
-      has_data = rw (c.in_ok-named.ensures.named) at on.has;
+      has_data = rw (c.in_ok-all.ensures.all) at on.has;
       tables = on.has_tables ∙ c.in_ok-tables.ensures ∙ ap (λ ts. take (c.kept_pages-kept.result / 1024) ts ++ c.split_at.result.1.now) c.tables.ensures;
       kept_so = c.kept_pages-kept.ensures ∙ ap (λ n. kept_of n c.args.records.now) (c.stream_length-old_long.ensures.long ∙ sym c.requires.long);
       some = c.requires.some;
       free = rw numbers at c.in_ok-numbers.ensures.apart;
     } in
     let small : (i : ℕ) → get_or (take c.kept_pages-kept.result c.live_data_pages-olds.result.now ++ c.split_at.result.0.now) i 0 < 2 ^ 32 =
-    c.in_ok-named.ensures.small in
+    c.in_ok-all.ensures.small in
     let rest : length c.split_at.result.1.now ≡ c.tables_for.result - c.kept_pages-kept.result / 1024 =
     omega (arith, c.split_at.ensures.back_len, ap length c.deref.ensures.value, c.in_ok-numbers.ensures.count) in
     let bytes : c.rest_behind-old_bytes.result.now ++ c.behind-new_bytes.result.now ≡ drop (4096 * c.kept_pages-kept.result) (c.args.stream.now ++ c.args.records.now) =
     ap (λ a. a ++ c.behind-new_bytes.result.now) c.rest_behind-old_bytes.ensures ∙ ap (λ b. drop (4096 * c.kept_pages-kept.result) c.args.stream.now ++ b) (c.behind-new_bytes.ensures ∙ ap (λ k. drop k c.args.records.now) (c.saturating_sub.ensures ∙ ap (λ n. 4096 * c.kept_pages-kept.result - n) (c.stream_length-old_long.ensures.long ∙ sym c.requires.long)))
     ∙ sym (drop_both (4096 * c.kept_pages-kept.result) c.args.stream.now c.args.records.now) in
     let entries : c.deref-2.result.now ≡ drop (1024 * (c.kept_pages-kept.result / 1024)) (take c.kept_pages-kept.result c.live_data_pages-olds.result.now ++ c.split_at.result.0.now) =
-    c.deref-2.ensures.value ∙ c.in_ok-named.ensures.entries in
+    c.deref-2.ensures.value ∙ c.in_ok-all.ensures.entries in
     let fresh = c.in_ok-fresh.ensures
     ∙ ap (λ n. filled (4096 * n) (c.rest_behind-old_bytes.result.now ++ c.behind-new_bytes.result.now) ++ filled (4096 * (c.tables_for.result - c.kept_pages-kept.result / 1024)) (number_bytes c.deref-2.result.now)) (sym c.split_at.ensures.front_len)
     ∙ ap (λ n. filled (4096 * length c.split_at.result.0.now) (c.rest_behind-old_bytes.result.now ++ c.behind-new_bytes.result.now) ++ filled (4096 * n) (number_bytes c.deref-2.result.now)) (sym rest)
@@ -180,11 +180,11 @@ returns-clause-renews c =
     ap length c.tables.ensures ∙ root_tables c.args.current.now.body (c.live_data_pages-olds.ensures c.args.stream.now c.requires.long).valid ∙ ap (pages_for 1024) (sym (c.live_data_pages-olds.ensures c.args.stream.now c.requires.long).count) in
     let on = c.in_ok-next.ensures.grown (c.args.stream.now ++ c.args.records.now) (length-append c.args.stream.now c.args.records.now ∙ ap (λ n. n + length c.args.records.now) (sym (c.stream_length-old_long.ensures.long ∙ sym c.requires.long))) in
     renews_by c.kept_pages-kept.result (c.data_pages.result - c.kept_pages-kept.result) c.in_ok-numbers.numbers.items c.split_at.result.0.now c.split_at.result.1.now
-    c.in_ok-tables.tables.items c.in_ok-named.field-0.named.items c.live_data_pages-olds.result.now c.args.pages.now c.args.current.now c.in_ok-next.next c.requires.index
+    c.in_ok-tables.tables.items c.in_ok-all.field-0.all.items c.live_data_pages-olds.result.now c.args.pages.now c.args.current.now c.in_ok-next.next c.requires.index
     (c.live_data_pages-olds.ensures c.args.stream.now c.requires.long).reaches
     (c.split_at.ensures.front ∙ ap (take (c.data_pages.result - c.kept_pages-kept.result)) c.deref.ensures.value)
     (c.split_at.ensures.back ∙ ap (drop (c.data_pages.result - c.kept_pages-kept.result)) c.deref.ensures.value)
-    (c.in_ok-tables.ensures ∙ ap (λ ts. take (c.kept_pages-kept.result / 1024) ts ++ c.split_at.result.1.now) c.tables.ensures) c.in_ok-named.ensures.named on.has_tables on.has.reaches
+    (c.in_ok-tables.ensures ∙ ap (λ ts. take (c.kept_pages-kept.result / 1024) ts ++ c.split_at.result.1.now) c.tables.ensures) c.in_ok-all.ensures.all on.has_tables on.has.reaches
     (kept_tables c.kept_pages-kept.result (length c.live_data_pages-olds.result.now) (length (tables_of c.args.current.now.body)) (omega (arith, grows.within, olds)) (ap length (sym c.tables.ensures) ∙ old_tables))
     (omega (arith, grows.within, olds))
     (omega (arith, c.in_ok-numbers.ensures.count))

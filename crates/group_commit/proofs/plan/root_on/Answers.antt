@@ -13,7 +13,7 @@ unreachable-requires c =
       stream = c.requires.room;
       operations = omega (arith, c.count.ensures.value, c.requires.count);
       tables = c.requires.tables ∙ ap (pages_for 1024) c.requires.data_pages;
-      pages = apart_first c.args.tables.items c.args.named.items c.requires.apart;
+      pages = apart_first c.args.tables.items c.args.data_pages.items c.requires.apart;
     }))
 
 pub returns-clause-grown : goal.returns-clause-grown

@@ -4,6 +4,7 @@ use Rattle.std.proofs.lemmas.Bool.{lt-ltb}
 use Rattle.op_ids.specs.Clock.{advanced, is_clock, IsOverfull}
 use Rattle.op_model.specs.Causality.{clock_of}
 use Rattle.slow_programs.proofs.EditLemmas.{is_within_limits-over}
+use Rattle.replica_core.proofs.DocLemmas.{docs_up}
 use Rattle.replica_core.proofs.LimitLemmas.{is_within_limits-no_document, is_within_limits-overfull, is_within_limits-made}
 use Rattle.replica_core.proofs.deciding.is_within_limits.Goals as goal
 
@@ -26,6 +27,9 @@ pub returns-then-not-can_advance : goal.returns-then-not-can_advance
 returns-then-not-can_advance c =
     let full : IsOverfull (advanced (clock_of c.args.ops.now) c.args.replica) = rw c.requires.known.clock at (c.if-not-can_advance.ensures.full refl) in
     sym (is_within_limits-overfull c.args.ops.now c.args.replica c.args.edit.now c.requires.right (omega arith) full)
+
+pub has_document-has_place-requires : goal.has_document-has_place-requires
+has_document-has_place-requires c = docs_up c.args.docs.now c.args.ops.now c.requires.known.docs
 
 pub returns : goal.returns
 returns c =

@@ -1,7 +1,8 @@
 use Rattle.std.proofs.Common.{◌≡◌, ◌<◌, ◌∙◌, Err, ap, length, arith}
 use Rattle.std.proofs.lemmas.List.{length-map}
 use Rattle.doc_core.specs.Drafting.{draft_number}
-use Rattle.replica_core.specs.Docs.{draft_numbers, IsUp}
+use Rattle.model_laws.specs.Rising.{IsUp}
+use Rattle.replica_core.specs.Docs.{draft_numbers}
 use Rattle.replica_core.proofs.DraftLemmas.{draft_put, draft_takes, may_come_at, number_at, numbers_put}
 use Rattle.replica_core.proofs.drafts.apply.Goals as goal
 

@@ -3,11 +3,17 @@ use Rattle.std.proofs.lemmas.List.{at_drop_all}
 use Rattle.op_ids.specs.Clock.{advanced, count_of}
 use Rattle.op_model.specs.Causality.{clock_of, is_known}
 use Rattle.op_model.specs.Machine.{reach}
+use Rattle.replica_core.proofs.CountLemmas.{room_for_next}
 use Rattle.replica_core.proofs.HeadLemmas.{head_back}
 use Rattle.replica_core.proofs.SeenLemmas.{seen_next, known_by_seen}
 use Rattle.replica_core.proofs.TellLemmas.{beyond, reach-end, untold_known, reach_known, untold_new, reach_new}
 use Rattle.replica_core.proofs.telling.untold.Goals as goal
 use Rattle.replica_core.proofs.telling.untold.Goals.{then-not-branch+in_ok-op+in_ok-push, else-not-branch}
+
+pub count_next-requires : goal.count_next-requires
+count_next-requires c =
+    rw c.replica.ensures
+    (room_for_next c.args.ops.now c.loop-i.i c.head.result c.loop-i.seen c.requires (omega arith) c.head.ensures c.loop-i.invariant.seen)
 
 pub loop-i-preserved : goal.loop-i-preserved
 loop-i-preserved c =

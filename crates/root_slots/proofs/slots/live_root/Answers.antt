@@ -42,7 +42,7 @@ returns-clause-found c = record {
   whole = omega (arith, c.requires);
   below = c.in_ok-slot.ensures.below;
   picked = c.in_ok-slot.ensures.slot;
-  other = c.is_open-stale.ensures;
+  other = c.is_open-stale_open.ensures;
   spells = rw (sym c.body_at.ensures.body) c.in_ok-root.ensures.says;
   bytes = small_part c.args.slots.now (4096 * c.in_ok-slot.slot + 8) 4088 (λ i. omega (arith, c.type_inv.slots i));
 }

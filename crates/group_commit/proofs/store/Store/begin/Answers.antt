@@ -66,7 +66,7 @@ sound_new : (g : _) (c : goal.After-drop-records-2 g)
       current = with_stream c.self.inside.current c.self.inside.stream;
       next = with_stream c.in_ok-next.field-0.next (c.self.inside.stream ++ spelled_all c.args.ops.now);
       numbers = c.in_ok-next.field-0.numbers.items;
-      stale = c.self.inside.roots.stale;
+      stale_open = c.self.inside.roots.stale_open;
       failed = c.self.inside.failed;
     }) c.self.inside.roots.slot c.in_ok-next.field-0.numbers.items c.in_ok-next.field-0.fresh.items
 sound_new g c =
@@ -93,7 +93,7 @@ returns-clause-began g c = λ n is.
     rw (sym c.self.view_is, (c.in_ok-stream.ensures ∙ ap (λ r. c.self.inside.stream ++ r) (c.deref-2.ensures.value ∙ c.in_ok-records.ensures.records)), front_more (stream_length_of c.self.inside.current.body) c.self.inside.stream (spelled_all c.args.ops.now) (c.self.invariant.1.idle (idle_is c.self.inside.phase (sym c.is_idle.ensures ∙ c.if-not-is_idle.false))), front_all (stream_length_of c.in_ok-next.field-0.next.body) (c.self.inside.stream ++ spelled_all c.args.ops.now) (sym ((c.in_ok-next.ensures.long ∙ ap (λ r. length c.self.inside.stream + length r) (c.deref.ensures.value ∙ c.in_ok-records.ensures.records)) ∙ sym (length-append c.self.inside.stream (spelled_all c.args.ops.now)))), front_all (stream_length_of c.self.inside.current.body) c.self.inside.stream (c.self.invariant.1.idle (idle_is c.self.inside.phase (sym c.is_idle.ensures ∙ c.if-not-is_idle.false)))) (record {
       disk = refl;
       current = refl;
-      stale = refl;
+      stale_open = refl;
       works = c.if-self.false;
       phase = refl;
       slot = refl;

@@ -48,12 +48,12 @@ pub returns-in-Err-clause-does : goal.returns-in-Err-clause-does
 returns-in-Err-clause-does g c =
     rw (sym c.self.view_is) (λ told. record {
       is_one = reads_one g.D.DiskFacts _ _ _ c.self.invariant.0 (ap (λ h. h.phase) c.self.view_is ∙ c.requires.phase) told (g.met.D.Disk.lawful c.self.inside.disk told);
-      writes = record { size = refl; torn = (c.in-Err.ensures.writes told).torn; written = tt };
+      writes = record { torn = (c.in-Err.ensures.writes told).torn; written = tt; call = (c.in-Err.ensures.writes told).call };
     })
 
 pub returns-clause-does : goal.returns-clause-does
 returns-clause-does g c =
     rw (sym c.self.view_is) (λ told. record {
       is_one = reads_one g.D.DiskFacts _ _ _ c.self.invariant.0 (ap (λ h. h.phase) c.self.view_is ∙ c.requires.phase) told (g.met.D.Disk.lawful c.self.inside.disk told);
-      writes = record { size = refl; torn = (c.in_default.ensures.writes told).torn; written = (c.in_default.ensures.writes told).written };
+      writes = record { torn = (c.in_default.ensures.writes told).torn; written = (c.in_default.ensures.writes told).written; call = (c.in_default.ensures.writes told).call };
     })

@@ -19,6 +19,10 @@ sized : {D : Type 0} {facts : Ghosts D} {at : ℕ} {old new : D} (bytes : List �
     → Tears facts at 4088 old new
 sized bytes size tears = rw (sym size) tears
 
+of_bytes : {D : Type 0} {facts : Ghosts D} {at : ℕ} {old new : D} {bytes bytes' : List ℕ} → bytes ≡ bytes'
+    → Tears facts at (length bytes) old new → Tears facts at (length bytes') old new
+of_bytes same tears = rw (sym same) tears
+
 pub put_body-requires : goal.put_body-requires
 put_body-requires g c = record {
   whole = λ told. slots_whole g.D.DiskFacts _ c.self.inside.roots.slot _ _ c.self.invariant.0 told (g.met.D.Disk.lawful c.self.inside.disk told);
@@ -59,14 +63,20 @@ pub returns-in-Err-clause-does : goal.returns-in-Err-clause-does
 returns-in-Err-clause-does g c =
     rw (sym c.self.view_is) (λ told. record {
       size = (c.self.invariant.0.plan (not_idle _ (ap (λ h. h.phase) c.self.view_is ∙ c.requires.phase))).size;
-      torn = sized c.body.result.now (ap length c.body.ensures.bytes ∙ (c.self.invariant.0.plan (not_idle _ (ap (λ h. h.phase) c.self.view_is ∙ c.requires.phase))).size) ((c.in-Err.ensures.writes told).torn);
-      written = tt;
+      writes = record {
+        torn = of_bytes c.body.ensures.bytes ((c.in-Err.ensures.writes told).torn);
+        written = tt;
+        call = (c.in-Err.ensures.writes told).call;
+      };
     })
 
 pub returns-clause-does : goal.returns-clause-does
 returns-clause-does g c =
     rw (sym c.self.view_is) (λ told. record {
       size = (c.self.invariant.0.plan (not_idle _ (ap (λ h. h.phase) c.self.view_is ∙ c.requires.phase))).size;
-      torn = sized c.body.result.now (ap length c.body.ensures.bytes ∙ (c.self.invariant.0.plan (not_idle _ (ap (λ h. h.phase) c.self.view_is ∙ c.requires.phase))).size) ((c.in_default.ensures.writes told).torn);
-      written = (c.in_default.ensures.writes told).written ∙ ap (overwritten _ _) c.body.ensures.bytes;
+      writes = record {
+        torn = of_bytes c.body.ensures.bytes ((c.in_default.ensures.writes told).torn);
+        written = (c.in_default.ensures.writes told).written ∙ ap (overwritten _ _) c.body.ensures.bytes;
+        call = (c.in_default.ensures.writes told).call;
+      };
     })

@@ -24,7 +24,7 @@ invariant_of-store g c = (
 pub returns-in-Ok-clause-root : goal.returns-in-Ok-clause-root
 returns-in-Ok-clause-root g c = λ told.
     rw (front_all (stream_length_of c.in-Ok.image.current.body) c.in-Ok.image.stream c.in-Ok.ensures.long)
-    (is_idle c.in-Ok.image.roots.slot c.in-Ok.image.roots.stale (with_stream c.in-Ok.image.current c.in-Ok.image.stream) (in_front c.in-Ok.image.next c.in-Ok.image.stream)
+    (is_idle c.in-Ok.image.roots.slot c.in-Ok.image.roots.stale_open (with_stream c.in-Ok.image.current c.in-Ok.image.stream) (in_front c.in-Ok.image.next c.in-Ok.image.stream)
     (g.D.DiskFacts.content c.args.disk) c.in-Ok.ensures.slot (c.in-Ok.ensures.stands told))
 
 pub returns-in-Ok-clause-history : goal.returns-in-Ok-clause-history
@@ -32,7 +32,7 @@ returns-in-Ok-clause-history g c = rw ((front_all (stream_length_of c.in-Ok.imag
 
 pub returns-in-Ok-clause-slot : goal.returns-in-Ok-clause-slot
 returns-in-Ok-clause-slot g c = λ told.
-    live_by_older c.in-Ok.image.roots.slot c.in-Ok.image.roots.stale _ _ (g.D.DiskFacts.content c.args.disk) c.in-Ok.ensures.slot (c.in-Ok.ensures.stands told)
+    live_by_older c.in-Ok.image.roots.slot c.in-Ok.image.roots.stale_open _ _ (g.D.DiskFacts.content c.args.disk) c.in-Ok.ensures.slot (c.in-Ok.ensures.stands told)
 
 pub returns-in-Ok-clause-left : goal.returns-in-Ok-clause-left
 returns-in-Ok-clause-left g c = λ told file left. rw (c.in-Ok.ensures.settled told file left) (returns-in-Ok-clause-root g c told)

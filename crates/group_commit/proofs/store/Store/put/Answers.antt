@@ -59,7 +59,7 @@ returns-in-Err-clause-call g c =
 
 pub invariant_of-self-2 : goal.invariant_of-self-2
 invariant_of-self-2 g c = (
-  rw (c.behind-self-inside.ensures ∙ ap (behind_pages (c.args.k + 1) c.len.result) c.is_stale_open.ensures ∙ ap (λ n. behind_pages (c.args.k + 1) n c.self.inside.roots.stale) (c.len.ensures ∙ counted c.self.inside.numbers))
+  rw (c.behind-self-inside.ensures ∙ ap (behind_pages (c.args.k + 1) c.len.result) c.is_stale_open.ensures ∙ ap (λ n. behind_pages (c.args.k + 1) n c.self.inside.roots.stale_open) (c.len.ensures ∙ counted c.self.inside.numbers))
       (sound_page g.D.DiskFacts _ c.self.inside.roots.slot _ _ c.args.k c.put_page.new.disk c.self.invariant.0 (ap (λ h. h.phase) c.self.view_is ∙ c.requires.phase) (λ told. g.met.D.Disk.lawful c.self.inside.disk told)
       c.in_default.ensures.tells.0 (λ told. torn_at _ _ _ _ (ap (λ n. 4096 * n) (c.number_at.ensures ∙ ap (λ v. get_or v c.args.k 0) c.deref.ensures.value)) c.bytes_at.ensures.whole (c.in_default.ensures.torn told))
       (λ told. c.in_default.ensures.written told
@@ -68,8 +68,8 @@ invariant_of-self-2 g c = (
       (λ told. inside_page g.D.DiskFacts _ c.self.inside.roots.slot _ _ c.args.k c.self.invariant.0 (ap (λ h. h.phase) c.self.view_is ∙ c.requires.phase) told (λ told. g.met.D.Disk.lawful c.self.inside.disk told) (ap (λ h. h.failed) c.self.view_is ∙ c.requires.works))
       refl (ap (λ h. h.failed) c.self.view_is ∙ c.requires.works)),
   streams_on c.self.inside.phase _ c.self.inside.current c.self.inside.next c.self.inside.stream c.self.invariant.1 (busy_at c.self.inside.phase (Pages c.args.k) (ap (λ h. h.phase) c.self.view_is ∙ c.requires.phase) (λ is. absurd cc)) (rw (c.behind-self-inside.ensures) (busy_behind _ _ _)),
-  rw (c.behind-self-inside.ensures ∙ ap (behind_pages (c.args.k + 1) c.len.result) c.is_stale_open.ensures ∙ ap (λ n. behind_pages (c.args.k + 1) n c.self.inside.roots.stale) (c.len.ensures ∙ counted c.self.inside.numbers))
-      (paging_put _ c.args.k c.self.inside.roots.stale _ _ _ _ c.number_at.result _ _ _ _ c.self.invariant.2 (ap (λ h. h.phase) c.self.view_is ∙ c.requires.phase) (ap (λ h. h.failed) c.self.view_is ∙ c.requires.works) ((c.self.invariant.0.plan (not_idle _ (ap (λ h. h.phase) c.self.view_is ∙ c.requires.phase))).under_way c.args.k (ap (λ h. h.phase) c.self.view_is ∙ c.requires.phase)) (c.number_at.ensures ∙ ap (λ v. get_or v c.args.k 0) c.deref.ensures.value) c.in_default.ensures.taken),
+  rw (c.behind-self-inside.ensures ∙ ap (behind_pages (c.args.k + 1) c.len.result) c.is_stale_open.ensures ∙ ap (λ n. behind_pages (c.args.k + 1) n c.self.inside.roots.stale_open) (c.len.ensures ∙ counted c.self.inside.numbers))
+      (paging_put _ c.args.k c.self.inside.roots.stale_open _ _ _ _ c.number_at.result _ _ _ _ c.self.invariant.2 (ap (λ h. h.phase) c.self.view_is ∙ c.requires.phase) (ap (λ h. h.failed) c.self.view_is ∙ c.requires.works) ((c.self.invariant.0.plan (not_idle _ (ap (λ h. h.phase) c.self.view_is ∙ c.requires.phase))).under_way c.args.k (ap (λ h. h.phase) c.self.view_is ∙ c.requires.phase)) (c.number_at.ensures ∙ ap (λ v. get_or v c.args.k 0) c.deref.ensures.value) c.in_default.ensures.taken),
 )
 
 pub returns-clause-call : goal.returns-clause-call
@@ -82,9 +82,10 @@ returns-in-Err-clause-does g c =
     rw (sym c.self.view_is) (λ told. record {
       page = part c.self.inside.fresh.items (4096 * c.args.k) 4096;
       within = (c.self.invariant.0.plan (not_idle _ (ap (λ h. h.phase) c.self.view_is ∙ c.requires.phase))).under_way c.args.k (ap (λ h. h.phase) c.self.view_is ∙ c.requires.phase);
+      size = ap length (sym (c.bytes_at.ensures.bytes ∙ ap (λ v. part v (4096 * c.args.k) 4096) c.deref-2.ensures.value)) ∙ c.bytes_at.ensures.whole;
       writes = record {
-        size = ap length (sym (c.bytes_at.ensures.bytes ∙ ap (λ v. part v (4096 * c.args.k) 4096) c.deref-2.ensures.value)) ∙ c.bytes_at.ensures.whole;
-        torn = torn_at _ _ _ _ (ap (λ n. 4096 * n) (c.number_at.ensures ∙ ap (λ v. get_or v c.args.k 0) c.deref.ensures.value)) c.bytes_at.ensures.whole (c.in-Err.ensures.torn told);
+        torn = torn_at _ _ _ _ (ap (λ n. 4096 * n) (c.number_at.ensures ∙ ap (λ v. get_or v c.args.k 0) c.deref.ensures.value)) (ap length (c.bytes_at.ensures.bytes ∙ ap (λ v. part v (4096 * c.args.k) 4096) c.deref-2.ensures.value)) (c.in-Err.ensures.torn told);
+        call = c.in-Err.ensures.call told;
         written = tt;
       };
     })
@@ -94,9 +95,10 @@ returns-clause-does g c =
     rw (sym c.self.view_is) (λ told. record {
       page = part c.self.inside.fresh.items (4096 * c.args.k) 4096;
       within = (c.self.invariant.0.plan (not_idle _ (ap (λ h. h.phase) c.self.view_is ∙ c.requires.phase))).under_way c.args.k (ap (λ h. h.phase) c.self.view_is ∙ c.requires.phase);
+      size = ap length (sym (c.bytes_at.ensures.bytes ∙ ap (λ v. part v (4096 * c.args.k) 4096) c.deref-2.ensures.value)) ∙ c.bytes_at.ensures.whole;
       writes = record {
-        size = ap length (sym (c.bytes_at.ensures.bytes ∙ ap (λ v. part v (4096 * c.args.k) 4096) c.deref-2.ensures.value)) ∙ c.bytes_at.ensures.whole;
-        torn = torn_at _ _ _ _ (ap (λ n. 4096 * n) (c.number_at.ensures ∙ ap (λ v. get_or v c.args.k 0) c.deref.ensures.value)) c.bytes_at.ensures.whole (c.in_default.ensures.torn told);
+        torn = torn_at _ _ _ _ (ap (λ n. 4096 * n) (c.number_at.ensures ∙ ap (λ v. get_or v c.args.k 0) c.deref.ensures.value)) (ap length (c.bytes_at.ensures.bytes ∙ ap (λ v. part v (4096 * c.args.k) 4096) c.deref-2.ensures.value)) (c.in_default.ensures.torn told);
+        call = c.in_default.ensures.call told;
         written = c.in_default.ensures.written told
             ∙ ap (λ n. overwritten (g.D.DiskFacts.content c.self.inside.disk) (4096 * n) c.bytes_at.result.now) (c.number_at.ensures ∙ ap (λ v. get_or v c.args.k 0) c.deref.ensures.value)
             ∙ ap (overwritten (g.D.DiskFacts.content c.self.inside.disk) (4096 * get_or c.self.inside.numbers.items c.args.k 0)) (c.bytes_at.ensures.bytes ∙ ap (λ v. part v (4096 * c.args.k) 4096) c.deref-2.ensures.value);

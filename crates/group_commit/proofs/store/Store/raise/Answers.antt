@@ -44,7 +44,7 @@ returns-clause-call g c =
     (invariant_of-self-in_default g c).0 (c.in_default.ensures).tells (λ told. (c.in_default.ensures.writes told).call) (λ told. g.met.D.Disk.lawful c.self.inside.disk told) tt
 
 pub returns-in-Err-clause-does : goal.returns-in-Err-clause-does
-returns-in-Err-clause-does g c = rw (sym c.self.view_is) (λ told. record { size = refl; torn = (c.in-Err.ensures.writes told).torn; written = tt })
+returns-in-Err-clause-does g c = rw (sym c.self.view_is) (λ told. record { torn = (c.in-Err.ensures.writes told).torn; written = tt; call = (c.in-Err.ensures.writes told).call })
 
 pub returns-clause-does : goal.returns-clause-does
-returns-clause-does g c = rw (sym c.self.view_is) (λ told. record { size = refl; torn = (c.in_default.ensures.writes told).torn; written = (c.in_default.ensures.writes told).written })
+returns-clause-does g c = rw (sym c.self.view_is) (λ told. record { torn = (c.in_default.ensures.writes told).torn; written = (c.in_default.ensures.writes told).written; call = (c.in_default.ensures.writes told).call })

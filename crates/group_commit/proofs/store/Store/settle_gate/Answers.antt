@@ -34,7 +34,7 @@ adopt-requires g c =
 
 pub invariant_of-self-2 : goal.invariant_of-self-2
 invariant_of-self-2 g c = (
-  rw (c.swap.ensures.x_after, c.swap.ensures.y_after, c.change_places.ensures.slot, c.change_places.ensures.stale) (sound_sync3 g.D.DiskFacts _ c.self.inside.roots.slot _ _ c.settle.new.disk c.self.invariant.0
+  rw (c.swap.ensures.x_after, c.swap.ensures.y_after, c.change_places.ensures.slot, c.change_places.ensures.stale_open) (sound_sync3 g.D.DiskFacts _ c.self.inside.roots.slot _ _ c.settle.new.disk c.self.invariant.0
       (ap (λ h. h.phase) c.self.view_is ∙ c.requires.phase)
       (c.in_default.ensures).tells.0 (c.in_default.ensures).settled
       (λ told. g.met.D.Disk.lawful c.self.inside.disk told) (ap (λ h. h.failed) c.self.view_is ∙ c.requires.works)),

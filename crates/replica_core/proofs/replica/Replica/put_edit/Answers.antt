@@ -2,9 +2,22 @@ use Rattle.std.proofs.Common.{◌≡◌, ◌<◌, ◌++◌, ◌∙◌, length, a
 use Rattle.doc_core.proofs.LawLemmas.{made_come}
 use Rattle.op_model.specs.Causality.{clock_of}
 use Rattle.op_model.specs.Made.{made, size_of}
+use Rattle.replica_core.proofs.DocLemmas.{docs_up}
 use Rattle.replica_core.proofs.FollowLemmas.{stream_fits}
 use Rattle.replica_core.proofs.SoundLemmas.{due_fits, due_within, due_asks_right, made_own, held_of-edit, AreFields-edit}
 use Rattle.replica_core.proofs.replica.Replica.put_edit.Goals as goal
+
+pub count_all-requires : goal.count_all-requires
+count_all-requires c =
+    let items : c.in_ok-made.made.items ≡ made c.self.inside.log.list c.self.inside.id c.args.edit.now = rw (← c.self.view_is) at c.in_ok-made.ensures.made in
+    let can = rw (← c.self.view_is) at c.requires in (
+      c.self.inside.log.list,
+      c.in_ok-clock.ensures ∙ c.self.invariant.clock,
+      rw (c.deref.ensures.value, items) (due_within c.self.inside.log.list c.self.inside.id c.args.edit.now can.due),
+    )
+
+pub append-requires-clause-rising : goal.append-requires-clause-rising
+append-requires-clause-rising c = docs_up c.self.inside.log.docs.items c.self.inside.log.list c.self.invariant.docs
 
 pub append-requires-clause-few : goal.append-requires-clause-few
 append-requires-clause-few c =
@@ -31,11 +44,11 @@ invariant_of-self-2 c =
     let some : 0 < size_of c.args.edit.now.change = rw c.size.ensures.value at c.size.ensures.some in
     let first : c.len.result ≡ length c.self.inside.log.list = search rules in
     let counts : c.count_all.new.clock ≡ clock_of (c.self.inside.log.list ++ made c.self.inside.log.list c.self.inside.id c.args.edit.now) =
-    c.in-Ok.ensures c.self.inside.log.list (c.in_ok-clock.ensures ∙ c.self.invariant.clock)
+    c.in_ok-count_all.ensures c.self.inside.log.list (c.in_ok-clock.ensures ∙ c.self.invariant.clock)
     ∙ ap (λ more. clock_of (c.self.inside.log.list ++ more)) (c.deref.ensures.value ∙ items) in
     AreFields-edit c.self.inside.id c.self.inside.opened c.self.inside.settled c.self.inside.acked c.self.inside.told c.args.session c.len.result c.size.result
     c.self.inside.log c.append.new.self c.deref-2.result.now c.args.edit.now c.in_ok-copy.field-0 _ c.count_all.new.clock _
-    c.self.invariant can some counts c.in-Ok-append.ensures.ok (c.deref-2.ensures.value ∙ items) c.in_ok-copy.ensures first c.size.ensures.value
+    c.self.invariant can some counts c.in-Ok.ensures.ok (c.deref-2.ensures.value ∙ items) c.in_ok-copy.ensures first c.size.ensures.value
 
 pub returns-clause-made : goal.returns-clause-made
 returns-clause-made c =
@@ -46,7 +59,7 @@ returns-clause-made c =
     rw (← c.self.view_is)
     (held_of-edit c.self.inside.id c.self.inside.opened c.self.inside.settled c.self.inside.acked c.self.inside.told c.args.session c.len.result c.size.result
     c.self.inside.log c.append.new.self c.deref-2.result.now c.args.edit.now c.in_ok-copy.field-0
-    c.in-Ok-append.ensures.ok (c.deref-2.ensures.value ∙ items) c.in_ok-copy.ensures first c.size.ensures.value right)
+    c.in-Ok.ensures.ok (c.deref-2.ensures.value ∙ items) c.in_ok-copy.ensures first c.size.ensures.value right)
 
 pub unreachable-requires : goal.unreachable-requires
 unreachable-requires c =

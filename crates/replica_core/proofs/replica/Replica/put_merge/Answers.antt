@@ -1,9 +1,20 @@
 use Rattle.std.proofs.Common.{◌≡◌, [], ◌∷◌, ◌∙◌, length, ap, Err, refl, rules}
 use Rattle.doc_core.proofs.LawLemmas.{may_come}
 use Rattle.op_ids.specs.Clock.{advanced}
+use Rattle.replica_core.proofs.DocLemmas.{docs_up}
 use Rattle.replica_core.proofs.FollowLemmas.{stream_fits}
+use Rattle.replica_core.proofs.LimitLemmas.{never_overfull}
 use Rattle.replica_core.proofs.SoundLemmas.{AreFields-merge}
 use Rattle.replica_core.proofs.replica.Replica.put_merge.Goals as goal
+
+pub advance-requires : goal.advance-requires
+advance-requires c =
+    let can = rw (← c.self.view_is) at c.requires in
+    rw (c.in_ok-clock.ensures, c.replica.ensures)
+    (never_overfull c.self.inside.log.list c.args.op c.self.inside.clock can.joins.follows c.self.invariant.clock)
+
+pub append-requires-clause-rising : goal.append-requires-clause-rising
+append-requires-clause-rising c = docs_up c.self.inside.log.docs.items c.self.inside.log.list c.self.invariant.docs
 
 pub append-requires-clause-small : goal.append-requires-clause-small
 append-requires-clause-small c =
@@ -14,10 +25,10 @@ pub invariant_of-self-2 : goal.invariant_of-self-2
 invariant_of-self-2 c =
     let can = rw (← c.self.view_is) at c.requires in
     let at : c.len.result ≡ length c.self.inside.log.list = search rules in
-    let counts : c.advance.new.self ≡ advanced c.self.inside.clock c.args.op.id.replica = rw (c.in_ok-clock.ensures, c.replica.ensures) at c.in-Ok.ensures.ok in
+    let counts : c.advance.new.clock ≡ advanced c.self.inside.clock c.args.op.id.replica = rw (c.in_ok-clock.ensures, c.replica.ensures) at c.in_ok-advance.ensures in
     AreFields-merge c.self.inside.id c.self.inside.opened c.self.inside.settled c.self.inside.acked c.self.inside.told c.args.peer c.len.result
-    c.self.inside.log c.append.new.self c.deref.result.now c.args.op c.self.inside.clock c.advance.new.self _
-    c.self.invariant can counts c.in-Ok-append.ensures.ok (c.deref.ensures.value ∙ c.in_ok-made.ensures) at
+    c.self.inside.log c.append.new.self c.deref.result.now c.args.op c.self.inside.clock c.advance.new.clock _
+    c.self.invariant can counts c.in-Ok.ensures.ok (c.deref.ensures.value ∙ c.in_ok-made.ensures) at
 
 pub unreachable-requires : goal.unreachable-requires
 unreachable-requires c =

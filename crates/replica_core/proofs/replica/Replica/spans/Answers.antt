@@ -3,7 +3,11 @@ use Rattle.std.proofs.lemmas.Result.{IfOk-weaker}
 use Rattle.op_model.specs.Spans.{spans}
 use Rattle.replica_core.specs.Docs.{AreDocs}
 use Rattle.replica_core.specs.Held.{Held}
+use Rattle.replica_core.proofs.DocLemmas.{docs_up}
 use Rattle.replica_core.proofs.replica.Replica.spans.Goals as goal
+
+pub find-requires-clause-rising : goal.find-requires-clause-rising
+find-requires-clause-rising c = rw c.deref.ensures.value (docs_up c.self.inside.log.docs.items c.self.inside.log.list c.self.invariant.docs)
 
 pub returns : goal.returns
 returns c =

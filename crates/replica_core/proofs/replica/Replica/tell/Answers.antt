@@ -1,16 +1,14 @@
-use Rattle.std.proofs.Common.{◌≤◌, ◌∙◌, ap, not, length, take, drop, filter, arith}
-use Rattle.std.proofs.lemmas.List.{length-take-le, take-append-drop}
-use Rattle.model_laws.proofs.Growth.{closed_front}
+use Rattle.std.proofs.Common.{◌≤◌, ◌∙◌, ap, not, length, take, filter, arith}
+use Rattle.std.proofs.lemmas.List.{length-take-le}
 use Rattle.op_model.specs.Causality.{is_known}
+use Rattle.replica_core.proofs.FollowLemmas.{closed_take}
 use Rattle.replica_core.proofs.SoundLemmas.{AreFields-told}
 use Rattle.replica_core.proofs.TellLemmas.{reach-within}
 use Rattle.replica_core.proofs.replica.Replica.tell.Goals as goal
 
 pub untold-requires : goal.untold-requires
 untold-requires c =
-    rw (c.front-settled.ensures, c.as_slice.ensures)
-    (closed_front (take c.self.inside.settled c.self.inside.log.list) (drop c.self.inside.settled c.self.inside.log.list)
-    (rw (take-append-drop c.self.inside.settled c.self.inside.log.list) c.self.invariant.sound.closed))
+    rw (c.front-settled.ensures, c.as_slice.ensures) (closed_take c.self.inside.log.list c.self.inside.settled c.self.invariant.sound.closed)
 
 pub invariant_of-self : goal.invariant_of-self
 invariant_of-self c =

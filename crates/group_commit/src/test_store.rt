@@ -1,0 +1,70 @@
+//! What the tests share of stores: their calls, and their file.
+use crate::{Phase, Store, StoreError};
+use disk_trait::{Disk, MemDisk};
+use op_ids::ReplicaId;
+use op_model::Op;
+use std::alloc::Global;
+use std::test::Fail;
+
+/// The one replica of these tests.
+pub(crate) fn replica() -> Result<ReplicaId, Fail> {
+    let name = [0, 0, 0, 0, 0, 0, 0x40, 0, 0x80, 0, 0, 0, 0, 0, 0, 1];
+    Ok(ReplicaId::read(name).ok_or("nil")?)
+}
+
+/// A new store on this disk.
+pub(crate) fn store_on<D: Disk + Drop>(alloc: Global, disk: D) -> Result<Store<D>, Fail> {
+    let replica = replica()?;
+    match Store::init(alloc, disk, replica) {
+        Ok(store) => Ok(store),
+        Err(_) => Err("refused".into()),
+    }
+}
+
+/// A new store on a disk in memory with room for so many pages.
+pub(crate) fn store(alloc: Global, pages: usize) -> Result<Store<MemDisk>, Fail> {
+    let disk = MemDisk::new(alloc, pages.saturating_mul(4096), 4096)?;
+    store_on(alloc, disk)
+}
+
+pub(crate) fn begin<D: Disk>(store: &mut Store<D>, ops: &[Op]) -> Result<Option<u64>, StoreError> {
+    store.begin(ops)
+}
+
+pub(crate) fn step<D: Disk>(store: &mut Store<D>) -> Result<Phase, StoreError> {
+    store.step()
+}
+
+/// Makes all calls of the commit under way, and gives how many writes and syncs these are.
+pub(crate) fn finish<D: Disk>(store: &mut Store<D>) -> Result<(usize, usize), StoreError> {
+    let mut writes: usize = 0;
+    let mut syncs: usize = 0;
+    for _ in 0..4096 {
+        match step(store)? {
+            Phase::Idle => return Ok((writes, syncs)),
+            Phase::Sync1 | Phase::Sync2 | Phase::Sync3 => syncs = syncs.saturating_add(1),
+            _ => writes = writes.saturating_add(1),
+        }
+    }
+    Ok((writes, syncs))
+}
+
+/// The size of a disk's file.
+fn size_of(disk: &mut MemDisk) -> Result<usize, Fail> {
+    let size = disk.size()?;
+    Ok(usize::try_from(size)?)
+}
+
+/// Fills these bytes from a disk's file.
+fn read(disk: &mut MemDisk, bytes: &mut [u8]) -> Result<(), Fail> {
+    disk.read_at(0, bytes)?;
+    Ok(())
+}
+
+/// The file of a store.
+pub(crate) fn file_of(alloc: Global, store: Store<MemDisk>) -> Result<Vec<u8>, Fail> {
+    let mut disk = store.into_disk();
+    let mut file = Vec::from_elem(alloc, 0, size_of(&mut disk)?)?;
+    read(&mut disk, &mut file)?;
+    Ok(file)
+}
