@@ -53,7 +53,8 @@ fn remove(alloc: Global, last: u8, target: OpId) -> Result<Op, Fail> {
 
 /// The first operation of another peer, but of document 0.
 fn nowhere(alloc: Global) -> Result<Op, Fail> {
-    let mut op = op_at(alloc, &typed(alloc, 2, "x")?, 0).ok_or("no operation")?;
+    let peer = typed(alloc, 2, "x")?;
+    let mut op = op_at(alloc, &peer, 0).ok_or("no operation")?;
     op.doc = 0;
     Ok(op)
 }
@@ -68,41 +69,33 @@ fn a_merge_that_names_nothing_is_refused(rt: HostRuntime) -> Result<(), Fail> {
     Ok(())
 }
 
-/// An insert behind another character, or at the beginning.
-fn behind(id: OpId) -> Body {
-    Body::Insert {
-        origin: Some(id),
-        value: 'q',
+/// An insert of replica 2 that depends on its first one, which is all that this peer has.
+fn second(b: &Replica, counter: u64, doc: u32, origin: Option<OpId>) -> Option<Op> {
+    let id = OpId::try_new(counter, b.replica())?;
+    let value = 'q';
+    match b.clock().copy() {
+        Ok(deps) => Some(Op {
+            id,
+            doc,
+            deps,
+            body: Body::Insert { origin, value },
+        }),
+        Err(_) => None,
     }
 }
 
-fn first() -> Body {
-    Body::Insert {
-        origin: None,
-        value: 'q',
-    }
-}
-
-/// What a merge answers of an operation of replica 2 that depends on its first one, which is all
-/// that this peer has.
+/// What a merge of that insert answers, or 255.
 fn merge_second(
     replica: &mut Replica,
     b: &Replica,
     counter: u64,
     doc: u32,
-    body: Body,
-) -> Result<u8, Fail> {
-    let id = id_of(counter, 2)?;
-    let deps = b.clock().copy()?;
-    Ok(merge(
-        replica,
-        Op {
-            id,
-            doc,
-            deps,
-            body,
-        },
-    ))
+    origin: Option<OpId>,
+) -> u8 {
+    match second(b, counter, doc, origin) {
+        Some(op) => merge(replica, op),
+        None => 255,
+    }
 }
 
 #[test]
@@ -112,9 +105,9 @@ fn a_refused_merge_changes_nothing(rt: HostRuntime) -> Result<(), Fail> {
     let mine = first_id(alloc, &a)?;
     let b = typed(alloc, 2, "b")?;
     assert_eq!(rt; merge_from(alloc, &mut a, &b, 0), 0);
-    assert_eq!(rt; merge_second(&mut a, &b, 1, 1, behind(mine))?, 21);
-    assert_eq!(rt; merge_second(&mut a, &b, 2, 1, behind(mine))?, 22);
-    assert_eq!(rt; merge_second(&mut a, &b, 2, 0, first())?, 23);
+    assert_eq!(rt; merge_second(&mut a, &b, 1, 1, Some(mine)), 21);
+    assert_eq!(rt; merge_second(&mut a, &b, 2, 1, Some(mine)), 22);
+    assert_eq!(rt; merge_second(&mut a, &b, 2, 0, None), 23);
     assert_eq!(rt; len(&a), 2);
     assert!(rt; has_text(alloc, &a, "ba"));
     Ok(())
@@ -223,7 +216,7 @@ fn exchange_all(alloc: Global, a: &mut Replica, b: &mut Replica, c: &mut Replica
 }
 
 /// A peer that has 304 operations of three peers on two documents.
-fn merged(alloc: Global) -> Result<Replica, Fail> {
+fn merged(alloc: Global) -> Result<Box<Replica>, Fail> {
     let mut a = typed(alloc, 1, "abcdefgh")?;
     let mut b = empty(alloc, 2)?;
     let mut c = empty(alloc, 3)?;

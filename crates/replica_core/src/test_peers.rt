@@ -21,8 +21,11 @@ pub fn replica_id(last: u8) -> Result<ReplicaId, Fail> {
     Ok(ReplicaId::read(bytes_ending(last)).ok_or("nil")?)
 }
 
-pub fn empty(alloc: Global, last: u8) -> Result<Replica, Fail> {
-    Ok(Replica::new(alloc, replica_id(last)?))
+/// A replica without operations. It is boxed, so that a test which returns early drops a box: that
+/// a replica is dropped is then proved once, and not at each return.
+pub fn empty(alloc: Global, last: u8) -> Result<Box<Replica>, Fail> {
+    let id = replica_id(last)?;
+    Ok(Box::new(alloc, Replica::new(alloc, id))?)
 }
 
 pub fn insert(alloc: Global, at: u32, text: &str) -> Option<Change> {
@@ -131,7 +134,7 @@ fn is_text(replica: &Replica, expected: &Text) -> bool {
 }
 
 /// A peer that inserted a text into document 1.
-pub fn typed(alloc: Global, last: u8, text: &str) -> Result<Replica, Fail> {
+pub fn typed(alloc: Global, last: u8, text: &str) -> Result<Box<Replica>, Fail> {
     let mut peer = empty(alloc, last)?;
     if rev_after(&mut peer, insert(alloc, 0, text)) == 0 {
         return Err("refused")?;
@@ -152,14 +155,15 @@ pub fn ops_from(alloc: Global, replica: &Replica, from: usize) -> Result<OpList,
 }
 
 /// A replica that was opened with another peer's operations.
-pub fn opened(alloc: Global, other: &Replica) -> Result<Replica, Fail> {
+pub fn opened(alloc: Global, other: &Replica) -> Result<Box<Replica>, Fail> {
     let ops = ops_from(alloc, other, 0)?;
     open(alloc, ops)
 }
 
-fn open(alloc: Global, ops: OpList) -> Result<Replica, Fail> {
+fn open(alloc: Global, ops: OpList) -> Result<Box<Replica>, Fail> {
     let id = replica_id(1)?;
-    Ok(Replica::from_list(alloc, id, ops)?)
+    let replica = Replica::from_list(alloc, id, ops)?;
+    Ok(Box::new(alloc, replica)?)
 }
 
 /// The number of the refusal to open a list, or 0.
