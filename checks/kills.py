@@ -25,11 +25,14 @@ def token(i, length):
 
 
 def text_of(program, name):
-    """The text that a session finds. A dump shows the spans too, which take long for a large document."""
-    status, output, faults = run(program, "edit", name, lines=line(op="text", doc=1))
+    """The text that a dump shows, where the spans that it shows make it up."""
+    status, output, faults = run(program, "dump", name, "1")
     if status != 0:
         return faults.decode()
-    return json.loads(output)["text"]
+    text, spans = (json.loads(answer) for answer in output.splitlines())
+    if "".join(span["text"] for span in spans["spans"]) != text["text"]:
+        return "the spans don't make up the text"
+    return text["text"]
 
 
 def killed_session(program, name, lines, after):

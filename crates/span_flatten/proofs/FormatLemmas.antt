@@ -1,16 +1,15 @@
 -- The marks of a character are those that the mark operations give it that cover it.
 use Rattle.std.proofs.Common.{◌≡◌, ℕ, Bool, true, false, inl, inr, ◌&&◌, ◌||◌, List, [], ◌∷◌, refl, sym, ◌∙◌, ap}
-use Rattle.std.specs.Prelude.{◌==◌, filter, filter_map, is_some, Option, None, option_and_then}
+use Rattle.std.specs.Prelude.{filter, filter_map, is_some, option_and_then}
 use Rattle.std.specs.List.{list_any}
 use Rattle.std.proofs.lemmas.Bool.{cases_Bool, both_ways, or_parts, or_from}
 use Rattle.op_model.specs.declared.character.Character.{Character}
-use Rattle.op_model.specs.declared.mark.Mark.{Mark}
 use Rattle.op_model.specs.declared.mark.MarkKey.{MarkKey}
 use Rattle.op_model.specs.declared.mark.MarkKey.TheVariants as key
 use Rattle.op_model.specs.declared.marking.Marking.{Marking}
 use Rattle.op_model.specs.Marks.{is_key, greatest}
 use Rattle.op_model.specs.Places.{covers}
-use Rattle.op_model.specs.Spans.{comment_ids, comment_of, decided as decided_at, marks_of, url_of}
+use Rattle.op_model.specs.Spans.{comment_ids, comment_of, decided as decided_at, marks_of}
 use Rattle.model_laws.proofs.Up.{has, has-filter, has-rising, rising_up, same_members, up_filter}
 use Rattle.span_flatten.specs.Formatting.{decided, marks_in, standing}
 

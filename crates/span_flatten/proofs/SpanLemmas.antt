@@ -1,5 +1,5 @@
 -- The runs of a document's cells are its spans.
-use Rattle.std.proofs.Common.{◌≡◌, ℕ, ◌+◌, true, false, inl, inr, List, [], ◌∷◌, map, refl, ◌∙◌, ap}
+use Rattle.std.proofs.Common.{◌≡◌, ℕ, ◌+◌, inl, inr, List, [], ◌∷◌, map, refl, ◌∙◌, ap}
 use Rattle.std.proofs.lemmas.Bool.{cases_Bool}
 use Rattle.op_model.specs.declared.op.Op.{Op}
 use Rattle.op_model.specs.declared.character.Character.{Character}

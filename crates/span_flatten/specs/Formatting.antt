@@ -20,7 +20,7 @@ decided set key = option_and_then (λ m. m.mark) (deciding set key)
 abbrev pub standing : List Marking → List ℕ
 standing set = filter (λ id. is_some (decided set (key.Comment id))) (comment_ids set)
 
--- all marks
+-- all marks of a character that just these mark operations cover
 abbrev pub marks_in : List Marking → Marks
 marks_in set = record {
   strong = is_some (decided set key.Strong);

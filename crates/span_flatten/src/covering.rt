@@ -1,4 +1,4 @@
-ghost use Rattle.std.specs.Prelude.{◌≡◌, ℕ, List, length, map, IfOk};
+ghost use Rattle.std.specs.Prelude.{◌≡◌, List, length, map, IfOk};
 ghost use Rattle.char_sequence.specs.declared.cell.Cell.{Cell};
 ghost use Rattle.span_flatten.specs.Covering.{covering as covering_of, range_of};
 

@@ -16,8 +16,9 @@ use op_model::{Marking, Span};
 use std::alloc::{AllocError, Global};
 
 /// The greatest runs of visible characters of a document with equal marks. An error is want of
-/// memory (1). For each mark operation a pass over the characters, tombstones counted, and for each
-/// visible character a pass over the mark operations.
+/// memory (1). For each mark operation two passes over the characters, tombstones counted; for each
+/// visible character a pass over the mark operations, and the square of those about comments that
+/// cover it.
 pub fn spans(sequence: &Sequence, anchors: &Anchors) -> Result<Vec<Span>, AllocError>
     ensures { IfOk result (λ found. (ops : List Op) (doc : ℕ) → sequence.now ≡ content_of ops doc
         → anchors.now ≡ markings_of ops doc → found.items ≡ spans_of_ops ops doc) }
@@ -30,8 +31,8 @@ pub fn spans(sequence: &Sequence, anchors: &Anchors) -> Result<Vec<Span>, AllocE
     spans_of(alloc, runs)
 }
 
-/// The greatest runs of the visible ones among these cells, the last one first, where the cells that
-/// each mark operation covers are given. An error is want of memory (1).
+/// The greatest runs of the visible ones among these cells, the last one first, where the cells
+/// that each mark operation covers are given. An error is want of memory (1).
 fn runs(
     alloc: Global,
     cells: &[Cell],

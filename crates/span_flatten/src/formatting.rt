@@ -1,7 +1,8 @@
-ghost use Rattle.std.specs.Prelude.{◌≡◌, ◌≤◌, length, map, IfOk};
+ghost use Rattle.std.specs.Prelude.{◌≡◌, map, IfOk};
 ghost use Rattle.std.specs.Option.{option_copied};
 ghost use Rattle.op_model.specs.Spans.{comment_ids as comment_ids_of};
-ghost use Rattle.span_flatten.specs.Formatting.{decided as decided_of, deciding as deciding_of, marks_in, standing as standing_of};
+ghost use Rattle.span_flatten.specs.Formatting.{decided as decided_of, deciding as deciding_of};
+ghost use Rattle.span_flatten.specs.Formatting.{marks_in, standing as standing_of};
 
 use op_model::{CommentId, CommentIds, Mark, MarkKey, Marking, Marks};
 use slow_programs::{greater, insert_rising, is_key};

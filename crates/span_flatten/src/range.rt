@@ -38,13 +38,13 @@ fn covered(cells: &[Cell], marking: &Marking) -> Range
     ensures { result ≡ range_of cells.now marking.now }
 {
     Range {
-        from: from(cells, &marking.start),
-        to: to(cells, &marking.end),
+        from: first_covered(cells, &marking.start),
+        to: first_behind(cells, &marking.end),
     }
 }
 
 /// The first cell that a mark operation with this start can cover.
-fn from(cells: &[Cell], start: &Start) -> usize
+fn first_covered(cells: &[Cell], start: &Start) -> usize
     ensures { result ≡ covered_from cells.now start.now }
 {
     match start {
@@ -55,7 +55,7 @@ fn from(cells: &[Cell], start: &Start) -> usize
 }
 
 /// The first cell that a mark operation with this end doesn't reach.
-fn to(cells: &[Cell], end: &End) -> usize
+fn first_behind(cells: &[Cell], end: &End) -> usize
     ensures { result ≡ covered_to cells.now end.now }
 {
     match end {

@@ -1,6 +1,5 @@
-use Rattle.std.proofs.Common.{◌≡◌, sym, ◌∙◌}
+use Rattle.std.proofs.Common.{◌∙◌}
 use Rattle.std.proofs.lemmas.Result.{IfOk-weaker}
-use Rattle.span_flatten.specs.Runs.{cell_spans}
 use Rattle.span_flatten.proofs.SpanLemmas.{spans_same}
 use Rattle.span_flatten.proofs.flatten.spans.Goals as goal
 
