@@ -54,9 +54,10 @@ impl Doc {
         self.sequence.text()
     }
 
-    /// The text that a reader sees, cut where the marks change. An error is want of memory (1). For
-    /// each mark operation a pass over the characters, tombstones counted, and for each character
-    /// that a reader sees a pass over the mark operations.
+    /// The text that a reader sees, cut where the marks change. An error is want of memory (1).
+    /// Costs what `span_flatten::spans` does: for each mark operation two passes over the
+    /// characters, tombstones counted; for each character that a reader sees a pass over the mark
+    /// operations, and the square of those about comments that cover it.
     pub fn spans(&self) -> Result<Vec<Span>, AllocError>
         ensures { IfOk result (λ found. (ops : List Op) → StandsFor self.now ops
             → found.items ≡ spans_of ops (number_of self.now)) }

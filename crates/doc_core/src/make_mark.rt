@@ -1,9 +1,13 @@
-ghost use Rattle.std.specs.Prelude.{◌≡◌, ◌↔◌, ◌+◌, ◌≤◌, ◌<◌, ◌^◌, List, [], ◌∷◌, length, IfOk, IsErrOf, false};
+ghost use Rattle.std.specs.Prelude.{◌≡◌, ◌↔◌, ◌+◌, ◌≤◌, ◌<◌, ◌^◌, false};
+ghost use Rattle.std.specs.Prelude.{List, [], ◌∷◌, length, IfOk, IsErrOf};
 ghost use Rattle.op_ids.specs.Clock.{IsOverfull};
 ghost use Rattle.op_model.specs.declared.edit.Change.TheVariants as change;
 ghost use Rattle.op_model.specs.declared.edit.Edit.{Edit};
 ghost use Rattle.op_model.specs.declared.op.Op.{Op};
-ghost use Rattle.op_model.specs.Made.{end_after as end_after_of, end_before as end_before_of, end_of, id_before, is_inside, made as made_of, numbered as numbered_from, start_before as start_before_of, start_of};
+ghost use Rattle.op_model.specs.Made.{end_after as end_after_of, end_before as end_before_of};
+ghost use Rattle.op_model.specs.Made.{start_before as start_before_of, start_of, end_of, id_before};
+ghost use Rattle.op_model.specs.Made.{is_inside, made as made_of, numbered as numbered_from};
+ghost use Rattle.op_model.specs.Made.{size_of};
 ghost use Rattle.op_model.specs.Text.{visible};
 ghost use Rattle.doc_core.specs.Limits.{advanced_by, AreTooMany};
 ghost use Rattle.doc_core.specs.Making.{IsNext};
@@ -78,7 +82,8 @@ impl Doc {
     }
 
     /// Makes the operations of a change: a replica's next operations, the first with this counter
-    /// and depending on this clock. It is refused as the call for its kind.
+    /// and depending on this clock. It is refused as the call for its kind: `Limit` (7) comes only
+    /// past a limit.
     pub fn make(
         &self,
         alloc: Global,
@@ -92,6 +97,8 @@ impl Doc {
             → edit.change ≡ change.now → made.items ≡ made_of ops replica edit) }
         ensures range { (ops : List Op) → StandsFor self.now ops → (IsErrOf result MakeError.Range
             ↔ (is_inside (length (visible ops (number_of self.now))) change.now ≡ false)) }
+        ensures limit { IsErrOf result MakeError.Limit
+            → AreTooMany replica counter clock.now (size_of change.now) }
     {
         match change {
             Change::Insert { at, text } => self.make_insert(

@@ -43,7 +43,8 @@ follows_front ops i op closed here is_it =
 two_last : (a b c d e : Bool) → (a && (b && c && d && e)) ≡ true → e ≡ true
 two_last a b c d e all = grind (arith, nat_tests)
 
-at_most : (n last : ℕ) → nat_le n last ≡ true → n ≤ last
+-- a number that passes the test is at most the last one
+pub at_most : (n last : ℕ) → nat_le n last ≡ true → n ≤ last
 at_most n last small = grind (arith, nat_tests)
 
 -- the stream of a list within the limits
@@ -107,7 +108,8 @@ in_range_counter a b c d all = grind (arith, nat_tests)
 below : (n last : ℕ) → nat_lt n last ≡ true → n < last
 below n last small = grind (arith, nat_tests)
 
-greatest_within : (ops : List Op) (last : ℕ) → last ≡ 281474976710656 → 0 < last → list_all is_in_range ops ≡ true → greatest_counter ops < last
+-- counters in range are below the last one
+pub greatest_within : (ops : List Op) (last : ℕ) → last ≡ 281474976710656 → 0 < last → list_all is_in_range ops ≡ true → greatest_counter ops < last
 greatest_within [] last is_last some all = some
 greatest_within (op ∷ ops) last is_last some all =
     let both = and_parts (is_in_range op) (list_all is_in_range ops) all in

@@ -15,3 +15,4 @@ pub mod NumberLemmas
 pub mod DraftLemmas
 pub mod SeenLemmas
 pub mod CountLemmas
+pub mod EditLemmas

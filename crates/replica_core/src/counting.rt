@@ -1,7 +1,8 @@
 ghost use Rattle.std.specs.Prelude.{◌≡◌, List, ◌++◌, true, IfOk, OnOk};
 ghost use Rattle.op_ids.specs.Clock.{advanced, IsOverfull};
 ghost use Rattle.op_model.specs.declared.op.Op.{Op};
-ghost use Rattle.op_model.specs.Causality.{clock_of as clock_of_list, is_within_limits, IsCausallyClosed};
+ghost use Rattle.op_model.specs.Causality.{clock_of as clock_of_list, is_within_limits};
+ghost use Rattle.op_model.specs.Causality.{IsCausallyClosed};
 
 use op_ids::{Clock, ClockError, ReplicaId};
 use op_list::OpSlice;

@@ -4,7 +4,8 @@ ghost use Rattle.model_laws.specs.Rising.{IsUp};
 ghost use Rattle.op_model.specs.declared.op.Op.{Op};
 ghost use Rattle.op_model.specs.Causality.{documents, IsCausallyClosed};
 ghost use Rattle.op_model.specs.Spans.{with_number};
-ghost use Rattle.replica_core.specs.Docs.{draft_numbers, numbers as doc_numbers, AllDrafts, AllStand, AreDocs};
+ghost use Rattle.replica_core.specs.Docs.{draft_numbers, numbers as doc_numbers};
+ghost use Rattle.replica_core.specs.Docs.{AllDrafts, AllStand, AreDocs};
 
 use crate::numbers::place;
 use crate::refusal::Refusal;

@@ -1,7 +1,7 @@
 use super::*;
 use crate::test_peers::{
     acks, delete, empty, has_clock_of, has_text, insert, len, open_refusal, opened, ops_from,
-    refusal, replica_id, rev_after, told_to_none, typed,
+    refusal, rev_after, told_to_none, typed,
 };
 use op_model::{Change, Edit, Mark, MarkKey};
 use std::alloc::Global;

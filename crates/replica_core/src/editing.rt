@@ -98,9 +98,9 @@ impl Replica {
         let next = self.log.index.greatest + 1;
         match doc.make(alloc, self.id, next, &self.clock, &edit.change) {
             Ok(made) => Ok(made),
+            Err(MakeError::Memory) => Err(Refusal::Memory),
             Err(MakeError::Range) => unreachable!(),
-            // The contract of `make` doesn't say where a limit is passed. None is here.
-            Err(MakeError::Memory | MakeError::Limit) => Err(Refusal::Memory),
+            Err(MakeError::Limit) => unreachable!(),
         }
     }
 }

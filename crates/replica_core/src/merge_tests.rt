@@ -119,7 +119,7 @@ fn merge_new(alloc: Global, replica: &mut Replica, last: u8) -> Result<u8, Fail>
     Ok(merge_from(alloc, replica, &peer, 0))
 }
 
-/// The last answer of merges of the first operations of replicas 2 to 16 that isn't 0, or 0.
+/// The greatest answer of merges of the first operations of replicas 2 to 16.
 fn merge_fifteen(alloc: Global, replica: &mut Replica) -> Result<u8, Fail> {
     let mut worst = 0;
     for last in 2u8..17 {

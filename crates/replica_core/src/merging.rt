@@ -1,4 +1,5 @@
-ghost use Rattle.std.specs.Prelude.{◌≡◌, ◌≤◌, ◌+◌, length, None, IfOk, IfErr, OnOk, OnErr, MatchOption};
+ghost use Rattle.std.specs.Prelude.{◌≡◌, ◌≤◌, ◌+◌, length, None};
+ghost use Rattle.std.specs.Prelude.{IfOk, IfErr, OnOk, OnErr, MatchOption};
 ghost use Rattle.op_model.specs.Machine.{merge_answer, merge_answer_unless, IsRefusal, refused};
 ghost use Rattle.op_model.specs.Causality.{first_failed as first_failed_of};
 ghost use Rattle.replica_core.specs.Held.{alone};

@@ -1,10 +1,13 @@
-ghost use Rattle.std.specs.Prelude.{◌≡◌, ◌≢◌, ◌↔◌, ℕ, ◌≤◌, ◌<◌, List, [], length, take, drop, IsTrue, IfOk, IfErr, OnOk, OnErr, Contains, if◌then◌else◌};
+ghost use Rattle.std.specs.Prelude.{◌≡◌, ◌≢◌, ◌↔◌, ℕ, ◌≤◌, ◌<◌, if◌then◌else◌};
+ghost use Rattle.std.specs.Prelude.{List, [], length, take, drop, Contains};
+ghost use Rattle.std.specs.Prelude.{IsTrue, IfOk, IfErr, OnOk, OnErr};
 ghost use Rattle.op_model.specs.Machine.{reach, untold as untold_of};
 ghost use Rattle.op_model.specs.Causality.{clock_of, IsCausallyClosed};
 ghost use Rattle.op_model.specs.Replay.{reached};
 ghost use Rattle.op_model.specs.Spans.{spans as spans_of};
 ghost use Rattle.op_model.specs.Text.{text as text_of, rev as rev_of};
-ghost use Rattle.replica_core.specs.Held.{alone, opened_with, with_acked, with_settled, with_told, IsSound};
+ghost use Rattle.replica_core.specs.Held.{alone, opened_with, IsSound};
+ghost use Rattle.replica_core.specs.Held.{with_acked, with_settled, with_told};
 ghost use Rattle.replica_core.specs.Steps.{places_left};
 
 use crate::counting;
@@ -45,9 +48,11 @@ impl Model for Replica {
 
     ghost Value = { Held };
 
-    ghost view = { λ r. held_of r.id r.log.list r.opened r.settled r.acked r.told r.log.steps.items };
+    ghost view = { λ r. held_of r.id r.log.list r.opened r.settled r.acked r.told
+        r.log.steps.items };
 
-    ghost invariant = { λ r. AreFields (held_of r.id r.log.list r.opened r.settled r.acked r.told r.log.steps.items)
+    ghost invariant = { λ r. AreFields (held_of r.id r.log.list r.opened r.settled r.acked r.told
+        r.log.steps.items)
         r.clock r.log.docs.items r.log.index (vec_capacity r.log.steps) };
 }
 
@@ -174,9 +179,7 @@ impl Replica {
     }
 
     /// The text of a document, cut where the marks change. An error is want of memory (1). A search
-    /// by halves for the document; for each mark operation of it a pass over its characters,
-    /// tombstones counted, and for each character that a reader sees a pass over the mark
-    /// operations.
+    /// by halves for the document, and what `Doc::spans` costs.
     pub fn spans(&self, doc: u32) -> Result<Vec<Span>, AllocError>
         ensures { IfOk result (λ found. found.items ≡ spans_of self.now.list doc) }
     {

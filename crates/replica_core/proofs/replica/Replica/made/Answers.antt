@@ -1,5 +1,6 @@
-use Rattle.std.proofs.Common.{arith}
+use Rattle.std.proofs.Common.{◌+◌, ap, ◌∙◌, Err, arith}
 use Rattle.replica_core.proofs.DocLemmas.{docs_up}
+use Rattle.replica_core.proofs.EditLemmas.{never_too_many}
 use Rattle.replica_core.proofs.FollowLemmas.{next_fits}
 use Rattle.replica_core.proofs.replica.Replica.made.Goals as goal
 
@@ -10,3 +11,10 @@ overflow_add-next c =
 
 pub find-doc-requires-clause-rising : goal.find-doc-requires-clause-rising
 find-doc-requires-clause-rising c = rw c.deref.ensures.value (docs_up c.self.inside.log.docs.items c.self.inside.log.list c.self.invariant.docs)
+
+pub unreachable-requires-in-Err-Limit : goal.unreachable-requires-in-Err-Limit
+unreachable-requires-in-Err-Limit c =
+    let can = rw (← c.self.view_is) at c.requires in
+    never_too_many c.self.inside.log.list c.self.inside.id c.args.edit.now (c.self.inside.log.index.greatest + 1) c.self.inside.clock
+    c.self.invariant.sound.closed can.due (ap (λ n. n + 1) c.self.invariant.index.greatest) c.self.invariant.clock
+    (c.make.ensures.limit (c.in-Err-Limit.is ∙ ap Err c.in-Err-Limit.field-0-is))

@@ -1,0 +1,73 @@
+-- An edit that nothing refuses doesn't make too many operations.
+use Rattle.std.proofs.Common.{◌≡◌, ℕ, ◌+◌, ◌≤◌, ◌<◌, ◌^◌, true, List, [], ◌∷◌, length, refl, sym, ◌∙◌, ⊎_elim, None, arith}
+use Rattle.std.proofs.lemmas.Bool.{false≢true, and_parts}
+use Rattle.std.specs.List.{list_all}
+use Rattle.op_ids.specs.Clock.{advanced, IsOverfull}
+use Rattle.op_model.specs.declared.op.Op.{Op}
+use Rattle.op_model.specs.declared.op.Body.{Body}
+use Rattle.op_model.specs.declared.edit.Edit.{Edit}
+use Rattle.op_model.specs.declared.edit.Change.{Change}
+use Rattle.op_model.specs.declared.edit.Change.TheVariants as change
+use Rattle.op_model.specs.Causality.{clock_of, has_room, is_in_range, IsCausallyClosed}
+use Rattle.op_model.specs.Made.{bodies_of, edit_refusal, greatest_counter, is_small, size_of}
+use Rattle.doc_core.specs.Limits.{advanced_by, AreTooMany}
+use Rattle.slow_programs.specs.Numbering.{advanced_by as advanced_by_bodies}
+use Rattle.slow_programs.proofs.EditLemmas.{is_within_limits-over, is_within_limits-uncounted, length-bodies_of}
+use Rattle.replica_core.proofs.FollowLemmas.{at_most, greatest_within}
+use Rattle.replica_core.proofs.LimitLemmas.{closed_within}
+use Rattle.replica_core.proofs.SoundLemmas.{due_asks_right, due_within}
+
+-- a small change makes at most 256 operations
+small_size : (it : Change) → is_small it ≡ true → size_of it ≤ 256
+small_size (change.Insert at text) small = at_most (length text) 256 small
+small_size (change.Delete at count) small = at_most count.value 256 small
+small_size (change.Mark from to mark) small = omega arith
+small_size (change.Unmark from to key) small = omega arith
+
+-- counting so many operations is counting one for each body
+advanced_by-bodies : (clock : List (ℕ × ℕ)) (replica : ℕ) (bs : List Body)
+    → advanced_by clock replica (length bs) ≡ advanced_by_bodies clock replica bs
+advanced_by-bodies clock replica [] = refl
+advanced_by-bodies clock replica (b ∷ bs) = advanced_by-bodies (advanced clock replica) replica bs
+
+-- the next counter of a closed list is at most the last one and one
+next_counter : (ops : List Op) → IsCausallyClosed ops → greatest_counter ops + 1 ≤ 281474976710656
+next_counter ops closed =
+    let all = and_parts (list_all is_in_range ops) (has_room ops) (closed_within ops closed) in
+    let below = greatest_within ops 281474976710656 refl (omega arith) all.0 in
+    omega arith
+
+-- counters that pass the last one belong to some operation
+some_of : (next n last : ℕ) → next ≤ last → last < next + n → 0 < n
+some_of next n last within over = omega arith
+
+-- no counter passes the last one
+never_over : (ops : List Op) (replica : ℕ) (e : Edit) → IsCausallyClosed ops → edit_refusal ops replica e ≡ None
+    → 281474976710656 < greatest_counter ops + 1 + size_of e.change → ⊥
+never_over ops replica e closed due over =
+    let some = some_of (greatest_counter ops + 1) (size_of e.change) 281474976710656 (next_counter ops closed) over in
+    let beyond = is_within_limits-over ops replica e (due_asks_right ops replica e due) some over in
+    false≢true (sym beyond ∙ due_within ops replica e due)
+
+-- and the clock can count them
+never_uncounted : (ops : List Op) (replica : ℕ) (e : Edit) → edit_refusal ops replica e ≡ None
+    → IsOverfull (advanced_by (clock_of ops) replica (size_of e.change)) → ⊥
+never_uncounted ops replica e due full =
+    let bodies = bodies_of ops replica e.doc e.change in
+    let right = due_asks_right ops replica e due in
+    let many : length bodies ≡ size_of e.change = length-bodies_of ops replica e.doc e.change right.inside in
+    let counted : IsOverfull (advanced_by_bodies (clock_of ops) replica bodies) =
+    rw (← advanced_by-bodies (clock_of ops) replica bodies, many) full in
+    false≢true (sym (is_within_limits-uncounted ops replica e counted) ∙ due_within ops replica e due)
+
+-- so they aren't too many
+pub never_too_many : (ops : List Op) (replica : ℕ) (e : Edit) (counter : ℕ) (clock : List (ℕ × ℕ)) → IsCausallyClosed ops
+    → edit_refusal ops replica e ≡ None → counter ≡ greatest_counter ops + 1 → clock ≡ clock_of ops
+    → AreTooMany replica counter clock (size_of e.change) → ⊥
+never_too_many ops replica e counter clock closed due is_counter is_clock =
+    let right = due_asks_right ops replica e due in
+    let small = small_size e.change right.small in
+    ⊎_elim (λ (many : 256 < size_of e.change). absurd (omega arith))
+    (⊎_elim (λ (none : counter ≡ 0). absurd (omega arith))
+    (⊎_elim (λ (over : 2 ^ 48 < counter + size_of e.change). never_over ops replica e closed due (rw is_counter at over))
+    (λ (full : IsOverfull (advanced_by clock replica (size_of e.change))). never_uncounted ops replica e due (rw is_clock at full))))
