@@ -1,17 +1,31 @@
 # The commands of the repository. `make test` is the gate.
 .PHONY: run test peritext
 
+PROGRAM = crates/edit_shell/out/edit_shell
+
+# One line for the kit and all sources: two trees have the same one only where these are the same.
+SUM = { rt version; cat crates.txt; find crates -name out -prune -o -type f -print0 | LC_ALL=C sort -z | xargs -0 sha256sum; } | sha256sum
+
 # The program's main job over its embedded default, in memory. It proves nothing.
 run:
 	cd crates/edit_shell && rt try < stdin
 
 # Everything from nothing: each proof, each must-fail edit, each test, the program's stored run. Then the proved program on real files.
+# It is kept as bin/peritext with the line of its sources, unless these changed meanwhile.
 test:
+	@mkdir -p bin; rm -f bin/sources; $(SUM) > bin/asked
 	rt ci
-	python3 checks/run.py crates/edit_shell/out/edit_shell
+	@if $(SUM) | cmp -s - bin/asked; then cp $(PROGRAM) bin/peritext && mv bin/asked bin/sources; fi
+	python3 checks/run.py $(PROGRAM)
 
-# The proved program, as bin/peritext.
+# The proved program, as bin/peritext. It is built anew unless the one that is there was built of these very sources: times of files tell nothing
+# of a tree that was copied.
 peritext:
-	cd crates/edit_shell && rt run < stdin > /dev/null
-	mkdir -p bin
-	cp crates/edit_shell/out/edit_shell bin/peritext
+	@mkdir -p bin; $(SUM) > bin/asked
+	@if test -x bin/peritext && cmp -s bin/asked bin/sources; then \
+	    echo "bin/peritext is built of these sources"; \
+	else \
+	    rm -f bin/sources && (cd crates/edit_shell && rt run < stdin > /dev/null) && \
+	    { $(SUM) | cmp -s - bin/asked || { echo "the sources changed meanwhile"; exit 1; }; } && \
+	    cp $(PROGRAM) bin/peritext && mv bin/asked bin/sources; \
+	fi

@@ -8,7 +8,7 @@ import subprocess
 import threading
 import time
 
-from program import PAGE, insert, line, new_file, run, write
+from program import PAGE, insert, new_file, text_of, write
 from words import record, slot, table
 
 # Of a kind of killed sessions: how many, of how many edits each, of how many characters, and up to how many edits in a file.
@@ -22,17 +22,6 @@ DEEP = (10, 12, 250, 120)
 def token(i, length):
     """The text of the i-th edit."""
     return f"{i:05d}" * (length // 5)
-
-
-def text_of(program, name):
-    """The text that a dump shows, where the spans that it shows make it up."""
-    status, output, faults = run(program, "dump", name, "1")
-    if status != 0:
-        return faults.decode()
-    text, spans = (json.loads(answer) for answer in output.splitlines())
-    if "".join(span["text"] for span in spans["spans"]) != text["text"]:
-        return "the spans don't make up the text"
-    return text["text"]
 
 
 def killed_session(program, name, lines, after):

@@ -16,11 +16,12 @@ WORDS = {
 
 
 class Checks:
-    """How many checks passed and failed; a failed one is printed."""
+    """How many checks passed, failed and were skipped; a failed or skipped one is printed."""
 
     def __init__(self):
         self.passed = 0
         self.failed = 0
+        self.skipped = 0
 
     def same(self, what, found, wanted):
         if found == wanted:
@@ -32,10 +33,15 @@ class Checks:
     def holds(self, what, is_so):
         self.same(what, bool(is_so), True)
 
+    def skip(self, what, why):
+        """What this machine doesn't allow to be tried."""
+        self.skipped += 1
+        print(f"SKIPPED: {what}: {why}")
 
-def run(program, *words, lines=b""):
+
+def run(program, *words, lines=b"", **how):
     """Exit status, standard output, standard error."""
-    ran = subprocess.run([program, *words], input=lines, capture_output=True, timeout=60)
+    ran = subprocess.run([program, *words], input=lines, capture_output=True, timeout=60, **how)
     return ran.returncode, ran.stdout, ran.stderr
 
 
@@ -51,6 +57,27 @@ def line(**fields):
 
 def insert(at, text, doc=1):
     return line(op="insert", doc=doc, at=at, text=text)
+
+
+def delete(at, count, doc=1):
+    return line(op="delete", doc=doc, at=at, count=count)
+
+
+def texts(rev, text):
+    """What a dump of a document without marks prints."""
+    spans = [{"text": text}] if text else []
+    return line(ok=True, rev=rev, text=text) + line(ok=True, rev=rev, spans=spans)
+
+
+def text_of(program, name):
+    """The text that a dump shows, where the spans that it shows make it up; else what went wrong."""
+    status, output, faults = run(program, "dump", name, "1")
+    if status != 0:
+        return faults.decode()
+    text, spans = (json.loads(answer) for answer in output.splitlines())
+    if "".join(span["text"] for span in spans["spans"]) != text["text"]:
+        return "the spans don't make up the text"
+    return text["text"]
 
 
 def new_file(program, name):

@@ -7,7 +7,10 @@ import time
 
 import crafted
 import damage
+import full_disk
 import kills
+import locks
+import streams
 import words
 from program import Checks
 
@@ -20,12 +23,12 @@ def main():
     checks = Checks()
     with tempfile.TemporaryDirectory(prefix="peritext-") as room:
         os.chdir(room)
-        for group in (words, crafted, damage, kills):
-            before = checks.passed, checks.failed
+        for group in (words, streams, locks, full_disk, crafted, damage, kills):
+            before = checks.passed, checks.failed, checks.skipped
             group.check(checks, program, started + LIMIT)
             took = time.monotonic() - started
             print(f"{group.__name__}: {checks.passed - before[0]} passed, "
-                  f"{checks.failed - before[1]} failed, at {took:.0f} s")
+                  f"{checks.failed - before[1]} failed, {checks.skipped - before[2]} skipped, at {took:.0f} s")
     print(f"{checks.passed} passed, {checks.failed} failed")
     return 1 if checks.failed else 0
 

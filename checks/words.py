@@ -2,7 +2,7 @@
 
 import os
 
-from program import NAME, PAGE, REPLICA, fault, insert, line, new_file, read, run, write
+from program import NAME, PAGE, REPLICA, delete, fault, insert, line, new_file, read, run, write
 
 OK = b'{"ok":true}\n'
 
@@ -43,6 +43,9 @@ def check_words(checks, program):
         found = run(program, *words)
         checks.same(f"status of {words}", found[0], status)
         checks.holds(f"text of {words}", found[1] if status == 0 else found[2])
+    checks.same("version", run(program, "--version"), (0, b"peritext 0.1.0\n", b""))
+    for words in ([], ["init"], ["edit"], ["dump"]):
+        checks.holds(f"an example in the help of {words}", b"Example" in run(program, *words, "--help")[1])
     for doc in ["0", "4294967296", "1x", "1.0", "+1", " 1", ""]:
         checks.same(f"dump of document {doc!r}", run(program, "dump", "none", doc), fault(4))
     for uuid in ["00000000-0000-0000-0000-000000000000", "c1", ""]:
@@ -123,10 +126,6 @@ def mark(first, behind, kind, **more):
 
 def unmark(first, behind, kind, **more):
     return line(op="unmark", doc=1, **{"from": first, "to": behind}, kind=kind, **more)
-
-
-def delete(at, count):
-    return line(op="delete", doc=1, at=at, count=count)
 
 
 def comment(last):

@@ -2,11 +2,10 @@
 ghost use Rattle.std.specs.Prelude.{◌≡◌, ◌⊎◌, [], IfErr};
 ghost use Rattle.disk_trait.specs.declared.error.DiskError.TheVariants.{OpenFailed};
 
+use crate::opening::{make_alone, open_alone, open_shared, remove_made};
 use crate::{Disk, DiskError, DiskFacts};
-use std::fs::{File, OpenOptions};
-use std::io;
+use std::fs::File;
 use std::os::unix::fs::FileExt;
-use std::path::Path;
 use std::rt::Files;
 
 /// A disk over a file. It doesn't tell, since no contract can say what a real file does, so that
@@ -17,33 +16,68 @@ use std::rt::Files;
 /// range which is being written is never changed, also where a page or a sector of the device holds
 /// it; after `fdatasync` has answered that it is done, a crash leaves the file as it reads, its
 /// size too; and nobody else writes the file.
+///
+/// It keeps programs that lock alike to the last rule: the file is locked as long as it is open,
+/// for one program that writes or for several that read. Only a plain file is opened, and never on
+/// the descriptor of a standard stream.
 #[derive(Drop)]
 pub struct FileDisk {
     file: File,
     // The file has at least so many bytes: as many as were seen, since nobody else writes it.
     inside: u64,
+    // `create` made the file, and no other program has filled it.
+    is_made: bool,
 }
 
 impl FileDisk {
-    /// Opens a file that is there. Refuses with 54 where it can't be opened for reading and
-    /// writing.
+    /// Opens a file that is there, alone. Refuses with 54 where it can't be opened for reading and
+    /// writing, or another program has it open.
     pub fn open<R: Files<File = File>>(rt: &R, path: &str) -> Result<FileDisk, DiskError>
         ensures { IfErr result (λ e. e ≡ OpenFailed) }
     {
-        match OpenOptions::new().read(true).write(true).open(rt, path) {
-            Ok(file) => Ok(FileDisk { file, inside: 0 }),
+        match open_alone(rt, path) {
+            Ok(file) => Ok(FileDisk::over(file, false)),
             Err(_) => Err(DiskError::OpenFailed),
         }
     }
 
-    /// Opens a file, or makes an empty one where there is none, and syncs the folder, which holds
-    /// its name. Refuses with 54 where one of these fails.
+    /// Opens a file that is there beside others that read it. Refuses with 54 where it can't be
+    /// opened for reading, or another program has it open for writing. A write of it is refused
+    /// with 51.
+    pub fn open_to_read<R: Files<File = File>>(rt: &R, path: &str) -> Result<FileDisk, DiskError>
+        ensures { IfErr result (λ e. e ≡ OpenFailed) }
+    {
+        match open_shared(rt, path) {
+            Ok(file) => Ok(FileDisk::over(file, false)),
+            Err(_) => Err(DiskError::OpenFailed),
+        }
+    }
+
+    /// Opens a file alone, or makes an empty one where there is none, and syncs the folder, which
+    /// holds its name. Refuses with 54 where one of these fails, or another program has the file
+    /// open. A file that it made and can't give is removed, unless another program took it first.
     pub fn create<R: Files<File = File>>(rt: &R, path: &str) -> Result<FileDisk, DiskError>
         ensures { IfErr result (λ e. e ≡ OpenFailed) }
     {
-        match open_or_make(rt, path) {
-            Ok(file) => Ok(FileDisk { file, inside: 0 }),
+        match make_alone(rt, path) {
+            Ok((file, is_made)) => Ok(FileDisk::over(file, is_made)),
             Err(_) => Err(DiskError::OpenFailed),
+        }
+    }
+
+    /// Closes the file of this path. Where `create` made it, it is removed first, while no other
+    /// program can lock it; a file that was there stays. No refusal is told.
+    pub fn discard<R: Files<File = File>>(self, rt: &R, path: &str) {
+        if self.is_made {
+            remove_made(rt, path, &self.file);
+        }
+    }
+
+    fn over(file: File, is_made: bool) -> FileDisk {
+        FileDisk {
+            file,
+            inside: 0,
+            is_made,
         }
     }
 
@@ -52,20 +86,6 @@ impl FileDisk {
     fn reaches(&mut self, end: u64) -> Result<bool, DiskError> {
         Ok(end <= self.inside || end <= self.size()?)
     }
-}
-
-fn open_or_make<R: Files<File = File>>(rt: &R, path: &str) -> io::Result<File> {
-    let file = OpenOptions::new()
-        .read(true)
-        .write(true)
-        .create(true)
-        .open(rt, path)?;
-    let folder = match Path::new(path).parent() {
-        Some(folder) if !folder.as_str().is_empty() => folder,
-        _ => Path::new("."),
-    };
-    File::open(rt, folder)?.sync_all()?;
-    Ok(file)
 }
 
 impl DiskFacts for FileDisk {

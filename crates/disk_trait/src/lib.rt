@@ -11,6 +11,7 @@ mod laws;
 mod log;
 mod medium;
 mod memory;
+mod opening;
 #[cfg(test)]
 mod tests;
 

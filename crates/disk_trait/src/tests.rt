@@ -238,30 +238,75 @@ fn a_real_file_reads_back(rt: HostRuntime) -> Result<(), Fail> {
     assert_eq!(rt; script(&mut disk), [0, 0, 0, 0, 0, 0]);
     assert_eq!(rt; disk.write_at(4100, &[1]), Err(DiskError::PastEnd));
     assert_eq!(rt; disk.read_at(4096, &mut [0; 4]), Err(DiskError::PastEnd));
+    drop(disk);
     let mut again = FileDisk::open(&rt, "./made.disk")?;
     let read = file_of(alloc, &mut again)?;
     assert_eq!(rt;
         read.as_slice(),
         ones(alloc, 4094, &[2, 3, 4, 5, 6])?.as_slice()
     );
+    drop(again);
     let mut kept = FileDisk::create(&rt, "made.disk")?;
     assert_eq!(rt; kept.size(), Ok(4099));
+    kept.discard(&rt, "made.disk");
+    let mut shared = FileDisk::open_to_read(&rt, "made.disk")?;
+    assert_eq!(rt; shared.size(), Ok(4099));
     fs::remove_file(&rt, "made.disk")?;
     Ok(())
 }
 
 #[test]
+fn a_real_file_has_one_writer_or_readers(rt: HostRuntime) -> Result<(), Fail> {
+    let path = "locked.disk";
+    let writer = FileDisk::create(&rt, path)?;
+    assert_eq!(rt; number_of(FileDisk::open(&rt, path)), 54);
+    assert_eq!(rt; number_of(FileDisk::create(&rt, path)), 54);
+    assert_eq!(rt; number_of(FileDisk::open_to_read(&rt, path)), 54);
+    drop(writer);
+    let reader = FileDisk::open_to_read(&rt, path)?;
+    let other = FileDisk::open_to_read(&rt, path)?;
+    assert_eq!(rt; number_of(FileDisk::open(&rt, path)), 54);
+    drop(reader);
+    drop(other);
+    assert_eq!(rt; number_of(FileDisk::open(&rt, path)), 0);
+    fs::remove_file(&rt, path)?;
+    Ok(())
+}
+
+#[test]
+fn a_file_that_was_made_is_discarded(rt: HostRuntime) -> Result<(), Fail> {
+    let path = "discarded.disk";
+    let mut disk = FileDisk::create(&rt, path)?;
+    assert_eq!(rt; disk.write_at(0, &[1]), Ok(()));
+    disk.discard(&rt, path);
+    assert_eq!(rt; number_of(FileDisk::open(&rt, path)), 54);
+    let lost = FileDisk::create(&rt, path)?;
+    fs::remove_file(&rt, path)?;
+    let other = FileDisk::create(&rt, path)?;
+    lost.discard(&rt, path);
+    drop(other);
+    assert_eq!(rt; number_of(FileDisk::open(&rt, path)), 0);
+    fs::remove_file(&rt, path)?;
+    Ok(())
+}
+
+#[test]
 fn a_real_file_refuses(rt: HostRuntime) -> Result<(), Fail> {
-    for path in ["missing.disk", ".", ""] {
+    for path in ["missing.disk", ".", "", "/dev/null"] {
         assert_eq!(rt; number_of(FileDisk::open(&rt, path)), 54, "at {path}");
+        assert_eq!(rt;
+            number_of(FileDisk::open_to_read(&rt, path)),
+            54,
+            "at {path}"
+        );
     }
-    for path in [".", "missing/made.disk", ""] {
+    for path in [".", "missing/made.disk", "", "/dev/null"] {
         assert_eq!(rt; number_of(FileDisk::create(&rt, path)), 54, "at {path}");
     }
-    let mut full = FileDisk::open(&rt, "/dev/full")?;
-    assert_eq!(rt; full.write_at(0, &[1]), Err(DiskError::WriteFailed));
-    let mut nothing = FileDisk::open(&rt, "/dev/null")?;
-    assert_eq!(rt; nothing.sync(), Err(DiskError::SyncFailed));
+    // A file of the system's own, which has no bytes of its own to write or to sync.
+    let mut unwritten = FileDisk::open_to_read(&rt, "/proc/self/stat")?;
+    assert_eq!(rt; unwritten.write_at(0, &[1]), Err(DiskError::WriteFailed));
+    assert_eq!(rt; unwritten.sync(), Err(DiskError::SyncFailed));
     Ok(())
 }
 

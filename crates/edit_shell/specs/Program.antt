@@ -1,7 +1,7 @@
 -- The commands of the program, as `clap` reads them.
 use Rattle.std.specs.Prelude.{List, ℕ, true, Some, codes}
 use Rattle.clap.specs.Walk.{Rule}
-use Rattle.clap.specs.Simple.{App, new_app, new_rule, with_rule, with_subcommand}
+use Rattle.clap.specs.Simple.{App, Shape, new_app, new_rule, on_top, with_rule, with_subcommand}
 
 -- an argument that has to be given
 abbrev pub needed : List ℕ → Rule
@@ -21,7 +21,14 @@ edit_app = with_rule (new_app (codes "edit")) (needed (codes "FILE"))
 abbrev pub dump_app : App
 dump_app = with_rule (with_rule (new_app (codes "dump")) (needed (codes "FILE"))) (needed (codes "DOC"))
 
+-- a command that tells its version
+abbrev pub versioned : Shape → Shape
+versioned command = record command { has_version = true }
+
+-- the program without its commands: it tells its version
+abbrev pub bare_program : App
+bare_program = on_top versioned (new_app (codes "peritext"))
+
 -- all commands of the program
 abbrev pub program : App
-program =
-    with_subcommand (with_subcommand (with_subcommand (new_app (codes "peritext")) init_app.top) edit_app.top) dump_app.top
+program = with_subcommand (with_subcommand (with_subcommand bare_program init_app.top) edit_app.top) dump_app.top

@@ -7,6 +7,45 @@ ghost use Rattle.edit_shell.specs.Program.{init_app, edit_app, dump_app, program
 use clap::{Arg, Command};
 use std::alloc::{AllocError, Global};
 
+/// What `--version` tells.
+const VERSION: &str = "0.1.0";
+
+/// A store from its making to its text.
+const EXAMPLES: &str = "\
+Examples:
+  peritext init notes --replica 00000000-0000-4000-8000-000000000001
+  echo '{\"op\":\"insert\",\"doc\":1,\"at\":0,\"text\":\"Hello\"}' | peritext edit notes
+  peritext dump notes 1
+
+Without a command: a session over a new store in memory.
+Exit status: 0; 1 with a line 'peritext: NUMBER WORD' on standard error; 2 for other words.";
+
+const INIT_EXAMPLES: &str = "\
+Each replica has a UUID of its own. A file with bytes in it is refused (48).
+
+Example:
+  peritext init notes --replica 00000000-0000-4000-8000-000000000001";
+
+const EDIT_EXAMPLES: &str = "\
+Each line of the input is a request, each line of the output its answer. An edit is answered
+once it is on the disk. Nobody else can have the file open meanwhile (54).
+
+Examples of requests:
+  {\"op\":\"insert\",\"doc\":1,\"at\":0,\"text\":\"Hello\"}
+  {\"op\":\"delete\",\"doc\":1,\"at\":4,\"count\":1}
+  {\"op\":\"mark\",\"doc\":1,\"from\":0,\"to\":4,\"kind\":\"strong\"}
+  {\"op\":\"unmark\",\"doc\":1,\"from\":0,\"to\":2,\"kind\":\"strong\"}
+  {\"op\":\"text\",\"doc\":1}
+  {\"op\":\"spans\",\"doc\":1}
+  {\"op\":\"status\"}
+  {\"op\":\"stop\"}";
+
+const DUMP_EXAMPLES: &str = "\
+The file is only read. No session can have it open meanwhile (54).
+
+Example:
+  peritext dump notes 1";
+
 /// All commands of the program.
 pub fn commands<'a>(alloc: Global) -> Result<Command<'a>, AllocError>
     ensures { IfOk result (λ command. app_of command ≡ program) }
@@ -15,7 +54,9 @@ pub fn commands<'a>(alloc: Global) -> Result<Command<'a>, AllocError>
     let edit = edit_command(alloc)?;
     let dump = dump_command(alloc)?;
     let all = Command::new(alloc, "peritext")
+        .version(VERSION)
         .about("Crash-safe rich text for one peer")
+        .after_help(EXAMPLES)
         .subcommand(init)?
         .subcommand(edit)?
         .subcommand(dump)?;
@@ -36,6 +77,7 @@ fn init_command<'a>(alloc: Global) -> Result<Command<'a>, AllocError>
         .required(true);
     let command = Command::new(alloc, "init")
         .about("Makes an empty store")
+        .after_help(INIT_EXAMPLES)
         .arg(file)?
         .arg(replica)?;
     Ok(command)
@@ -49,6 +91,7 @@ fn edit_command<'a>(alloc: Global) -> Result<Command<'a>, AllocError>
     let file = Arg::new(alloc, "FILE").help("The store").required(true);
     let command = Command::new(alloc, "edit")
         .about("Serves one session on standard input and output")
+        .after_help(EDIT_EXAMPLES)
         .arg(file)?;
     Ok(command)
 }
@@ -64,6 +107,7 @@ fn dump_command<'a>(alloc: Global) -> Result<Command<'a>, AllocError>
         .required(true);
     let command = Command::new(alloc, "dump")
         .about("Prints the text and the spans of a document")
+        .after_help(DUMP_EXAMPLES)
         .arg(file)?
         .arg(doc)?;
     Ok(command)

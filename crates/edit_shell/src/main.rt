@@ -5,6 +5,7 @@ mod command_line;
 mod commands;
 mod ended;
 mod fault;
+mod held;
 mod order;
 mod order_fault;
 mod perform;

@@ -86,9 +86,11 @@ fn edit<D: Disk, R: Read + Drop, W: Write>(
             let has_failed = hub.has_failed();
             Ended {
                 disk: hub.into_disk(),
-                end: match served {
-                    Ok(()) if has_failed => Err(Fault::Failed),
-                    served => served,
+                // The store has to be opened again, whatever became of the stream.
+                end: if has_failed {
+                    Err(Fault::Failed)
+                } else {
+                    served
                 },
             }
         }

@@ -5,6 +5,8 @@ use crate::perform::{Performed, perform};
 use disk_trait::{Disk, FaultDisk, MemDisk};
 use op_ids::ReplicaId;
 use std::alloc::{AllocError, Global};
+use std::io;
+use std::io::Write;
 use std::process::Abort;
 use std::test::Fail;
 
@@ -226,6 +228,34 @@ fn a_failed_device_ends_edits_and_not_readings(rt: HostRuntime) -> Result<(), Fa
         "{\"ok\":true,\"rev\":0,\"text\":\"\"}\n",
         "",
     );
+    Ok(())
+}
+
+/// An output that takes nothing.
+#[derive(Drop)]
+struct NoOutput;
+
+impl Write for NoOutput {
+    fn write(&mut self, _buf: &[u8]) -> io::Result<usize> {
+        Err(io::Error::other("the output broke"))
+    }
+
+    fn flush(&mut self) -> io::Result<()> {
+        Ok(())
+    }
+}
+
+#[test]
+fn a_failed_store_is_told_before_a_failed_output(rt: HostRuntime) -> Result<(), Fail> {
+    let alloc = rt.alloc();
+    let input = "{\"op\":\"insert\",\"doc\":1,\"at\":0,\"text\":\"a\"}\n".as_bytes();
+    for (call, due) in [(6, "peritext: 9 failed\n"), (0, "peritext: 71 stream\n")] {
+        let mut faults = Vec::new(alloc);
+        let disk = FaultDisk::new(made(&rt)?, call);
+        let ran = perform(alloc, &EDIT, disk, input, &mut NoOutput, &mut faults);
+        assert_eq!(rt; ran.status, 1);
+        assert!(rt; faults.as_slice() == due.as_bytes(), "{faults:?}");
+    }
     Ok(())
 }
 

@@ -3,6 +3,7 @@
 use crate::command_line::order;
 use crate::ended::status;
 use crate::fault::Fault;
+use crate::held::hold_closed_streams;
 use crate::order::Order;
 use crate::order_fault::OrderFault;
 use crate::perform::{Performed, perform};
@@ -18,8 +19,8 @@ const ROOM: usize = 1_048_576;
 /// The device calls of a store in memory.
 const CALLS: usize = 1_024;
 
-/// Runs the program, and gives its exit status: 0; 1 where a refusal ended it, which is written as `peritext: NUMBER WORD`;
-/// 2 with the text of `clap` where the words aren't those of an order.
+/// Runs the program, and gives its exit status: 0; 1 where a refusal ended it, which is written as
+/// `peritext: NUMBER WORD`; 2 with the text of `clap` where the words aren't those of an order.
 pub fn run<R: Env + Files<File = File> + Input + AllocGlobal, W: Write, F: Write>(
     rt: &R,
     output: &mut W,
@@ -78,8 +79,22 @@ fn usage<W: Write, F: Write>(error: &clap::Error, output: &mut W, faults: &mut F
     0
 }
 
-/// Does what an order asks for, over the disk that it names.
+/// Does what an order asks for, over the disk that it names. No file gets the descriptor of a
+/// standard stream.
 fn run_order<R: Files<File = File> + Input + AllocGlobal, W: Write, F: Write>(
+    rt: &R,
+    order: &Order<'_>,
+    output: &mut W,
+    faults: &mut F,
+) -> u8 {
+    match hold_closed_streams(rt) {
+        Ok(_held) => run_held(rt, order, output, faults),
+        Err(_) => status(rt.alloc(), Err(Fault::OpenFailed), faults),
+    }
+}
+
+/// Does what an order asks for, where no file that is opened can be taken for a stream.
+fn run_held<R: Files<File = File> + Input + AllocGlobal, W: Write, F: Write>(
     rt: &R,
     order: &Order<'_>,
     output: &mut W,
@@ -87,15 +102,35 @@ fn run_order<R: Files<File = File> + Input + AllocGlobal, W: Write, F: Write>(
 ) -> u8 {
     match *order {
         Order::InMemory => match MemDisk::new(rt.alloc(), ROOM, CALLS) {
-            Ok(disk) => run_on(rt, order, disk, output, faults),
+            Ok(disk) => run_on(rt, order, disk, output, faults).status,
             Err(_) => status(rt.alloc(), Err(Fault::Memory), faults),
         },
-        Order::Init { file, .. } => {
-            run_on_file(rt, order, FileDisk::create(rt, file), output, faults)
+        Order::Init { file, .. } => run_init(rt, order, file, output, faults),
+        Order::Edit { file } => run_on_file(rt, order, FileDisk::open(rt, file), output, faults),
+        Order::Dump { file, .. } => {
+            run_on_file(rt, order, FileDisk::open_to_read(rt, file), output, faults)
         }
-        Order::Edit { file } | Order::Dump { file, .. } => {
-            run_on_file(rt, order, FileDisk::open(rt, file), output, faults)
+    }
+}
+
+/// Makes a store in a file, where that can be opened. One that wasn't there before is removed
+/// where this fails.
+fn run_init<R: Files<File = File> + Input + AllocGlobal, W: Write, F: Write>(
+    rt: &R,
+    order: &Order<'_>,
+    path: &str,
+    output: &mut W,
+    faults: &mut F,
+) -> u8 {
+    match FileDisk::create(rt, path) {
+        Ok(disk) => {
+            let Performed { disk, status } = run_on(rt, order, disk, output, faults);
+            if status != 0 {
+                disk.discard(rt, path);
+            }
+            status
         }
+        Err(_) => status(rt.alloc(), Err(Fault::OpenFailed), faults),
     }
 }
 
@@ -108,19 +143,18 @@ fn run_on_file<R: Input + AllocGlobal, W: Write, F: Write>(
     faults: &mut F,
 ) -> u8 {
     match opened {
-        Ok(disk) => run_on(rt, order, disk, output, faults),
+        Ok(disk) => run_on(rt, order, disk, output, faults).status,
         Err(_) => status(rt.alloc(), Err(Fault::OpenFailed), faults),
     }
 }
 
 /// Does what an order asks for over a disk.
-fn run_on<R: Input + AllocGlobal, D: Disk + Drop, W: Write, F: Write>(
+fn run_on<R: Input + AllocGlobal, D: Disk, W: Write, F: Write>(
     rt: &R,
     order: &Order<'_>,
     disk: D,
     output: &mut W,
     faults: &mut F,
-) -> u8 {
-    let Performed { status, .. } = perform(rt.alloc(), order, disk, rt.reader(), output, faults);
-    status
+) -> Performed<D> {
+    perform(rt.alloc(), order, disk, rt.reader(), output, faults)
 }

@@ -79,5 +79,7 @@ fn other_words_are_refused(rt: HostRuntime) {
     ends_with(&rt, &["peritext", "edit", "store", "more"], 2);
     ends_with(&rt, &["peritext", "init", "store"], 2);
     ends_with(&rt, &["peritext", "dump", "store", "-1"], 2);
+    ends_with(&rt, &["peritext", "init", "--version"], 2);
     ends_with(&rt, &["peritext", "--help"], 0);
+    ends_with(&rt, &["peritext", "--version"], 0);
 }
