@@ -9,8 +9,6 @@ mod hub_step;
 #[cfg(test)]
 mod merge_tests;
 mod opening;
-#[cfg(test)]
-mod random_tests;
 mod reading;
 mod refusal;
 mod running;
@@ -19,6 +17,10 @@ mod sharing;
 mod test_hubs;
 #[cfg(test)]
 mod tests;
+#[cfg(test)]
+mod world_run;
+#[cfg(test)]
+mod world_tests;
 
 pub use hub::Hub;
 pub use hub_reply::HubReply;

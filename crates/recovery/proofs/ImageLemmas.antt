@@ -1,13 +1,10 @@
 -- What an opened file has, and why one isn't opened.
 use Rattle.std.proofs.Common.{◌≡◌, ◌≢◌, ℕ, List, [], Result, Ok, Err, refl, sym, ap, ◌∙◌, ◌⊎◌, inl, inr}
-use Rattle.disk_trait.specs.declared.facts.DiskFacts.{Ghosts}
 use Rattle.op_model.specs.declared.op.Op.{Op}
 use Rattle.op_model.specs.Causality.{IsCausallyClosed}
-use Rattle.change_codec.specs.Stream.{spelled_all}
 use Rattle.change_codec.proofs.StreamLaws.{spelled_all-determines}
 use Rattle.root_slots.specs.Body.{root_of}
 use Rattle.root_slots.specs.Root.{version_of, replica_of}
-use Rattle.group_commit.specs.Image.{stored}
 use Rattle.group_commit.specs.Commit.{Is}
 use Rattle.group_commit.specs.Loading.{IsHistory}
 use Rattle.group_commit.specs.Saved.{Saved}

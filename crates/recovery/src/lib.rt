@@ -1,4 +1,5 @@
-//! The opening of a page file: the replica that it stands for, and its store.
+//! The opening of a page file: the replica that it stands for, and its store. And what holds of all
+//! replicas.
 #![tactic(auto)]
 
 mod laws;
@@ -6,7 +7,9 @@ mod open_fault;
 mod opening;
 #[cfg(test)]
 mod tests;
+mod worlds;
 
 pub use laws::{a_file_has_one_image, a_new_store_is_empty};
 pub use open_fault::{OpenError, OpenFault};
 pub use opening::{Opened, open};
+pub use worlds::world;

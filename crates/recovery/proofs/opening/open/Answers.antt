@@ -1,4 +1,3 @@
-use Rattle.std.proofs.Common.{ap, sym}
 use Rattle.recovery.proofs.ImageLemmas.{image_of, bad_of, fault_of, no_failure}
 use Rattle.recovery.proofs.opening.open.Goals as goal
 

@@ -1,0 +1,13 @@
+use Rattle.world_law.proofs.Clauses.{one_operation, told_once, never_again, same_shown, settled}
+use Rattle.world_law.proofs.Worlds.{history_fronts}
+use Rattle.recovery.proofs.worlds.world.Goals as goal
+
+pub returns : goal.returns
+returns c = record {
+  one_operation = one_operation;
+  told_once = told_once;
+  never_again = never_again;
+  same_shown = same_shown;
+  settled = settled;
+  moments = history_fronts;
+}

@@ -1,0 +1,5 @@
+pub mod World
+pub mod Histories
+pub mod Laws
+pub mod Counts
+pub mod Witness

@@ -1,0 +1,55 @@
+-- A small history of two replicas: what one settled and told comes to the other across a crash, and what it hadn't settled is lost.
+use Rattle.std.specs.Prelude.{ℕ, List, [], ◌∷◌, Some, None}
+use Rattle.op_model.specs.declared.op.Op.{Op}
+use Rattle.op_model.specs.declared.op.Body.TheVariants as body
+use Rattle.op_model.specs.declared.edit.Edit.{Edit}
+use Rattle.op_model.specs.declared.edit.Change.TheVariants as change
+use Rattle.op_model.specs.Machine.{State, edit, merge, begin, device_step, settle, tell, ticket, applied, begun, goes_on, goes_through, settled_to, operations, opened, with_merge}
+use Rattle.world_law.specs.World.{Machine, operations_told, World}
+use Rattle.world_law.specs.Histories.{Happening, step, crash}
+
+-- the edit that inserts one character into document 1
+abbrev pub insert_of : ℕ → ℕ → Edit
+insert_of at value = record { doc = 1; rev = None; change = change.Insert at (value ∷ []) }
+
+-- the two replicas, 1 and 2, each in a state
+abbrev pub machines_in : State → State → List Machine
+machines_in a b = record { replica = 1; state = a } ∷ record { replica = 2; state = b } ∷ []
+
+-- both are new
+abbrev pub both_new : World
+both_new = record { machines = machines_in (opened [] 1) (opened [] 1); bag = [] }
+
+-- the first operation of replica 1: it inserts "a"
+abbrev pub first_op : Op
+first_op = record { id = record { counter = 1; replica = 1 }; doc = 1; deps = []; body = body.Insert None 97 }
+
+-- its second one, "b" or "c" behind the "a"
+abbrev pub second_op : ℕ → Op
+second_op value = record {
+  id = record { counter = 2; replica = 1 };
+  doc = 1;
+  deps = (1, 1) ∷ [];
+  body = body.Insert (Some (record { counter = 1; replica = 1 })) value;
+}
+
+-- Replica 1 inserts "a", commits and tells it. It inserts "b" and crashes. Replica 2 applies what was told.
+abbrev pub one_tells_and_crashes : List Happening
+one_tells_and_crashes =
+    step 1 (edit 1 (insert_of 0 97)) (ticket (record { end = 1; rev = 1 }))
+    ∷ step 1 begin (begun 1)
+    ∷ step 1 device_step goes_on
+    ∷ step 1 device_step goes_through
+    ∷ step 1 settle (settled_to 1)
+    ∷ step 1 (tell []) (operations (first_op ∷ []))
+    ∷ step 1 (edit 1 (insert_of 1 98)) (ticket (record { end = 2; rev = 2 }))
+    ∷ crash 1
+    ∷ step 2 (merge 1 first_op) applied
+    ∷ []
+
+-- both have the "a"
+abbrev pub both_have_it : World
+both_have_it = record {
+  machines = machines_in (opened (first_op ∷ []) 2) (with_merge (opened [] 1) 1 first_op);
+  bag = operations_told (first_op ∷ []) ∷ [];
+}

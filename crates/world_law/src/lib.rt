@@ -1,0 +1,15 @@
+//! Laws of a world of replicas: no id names two things, anywhere, ever.
+#![tactic(auto)]
+
+mod closed_lists;
+mod histories;
+mod witness;
+
+pub use closed_lists::{
+    an_operation_has_one_place, fronts_of_closed_lists_are_closed, passed_operations_may_follow,
+};
+pub use histories::{
+    equal_clocks_show_the_same, fronts_of_histories_are_histories, ids_name_one_operation,
+    told_ids_are_never_made_again, told_operations_stay_settled,
+};
+pub use witness::an_operation_goes_from_one_replica_to_another;
