@@ -1,5 +1,6 @@
 -- Lists that are cut at an index.
-use Rattle.std.proofs.Common.{false, ◌≡◌, ℕ, zero, suc, ◌+◌, ◌≤◌, ◌<◌, true, List, [], ◌∷◌, ◌++◌, length, take, drop, get_or, Option, Some, None, refl, sym, ◌∙◌, ap, append_assoc, add-one, zero-add, arith}
+use Rattle.std.proofs.Common.{false, ◌≡◌, ℕ, zero, suc, ◌+◌, ◌≤◌, ◌<◌, true, List, [], ◌∷◌, ◌++◌, length, take, drop, get_or, Option, Some, None}
+use Rattle.std.proofs.Common.{refl, sym, ◌∙◌, ap, append_assoc, add-one, zero-add, arith}
 use Rattle.std.proofs.Math.Seq.{take-add, drop-nil}
 use Rattle.std.proofs.Math.ListN.{set}
 use Rattle.std.proofs.lemmas.List.{drop_more, take_more, get_or_default}
@@ -64,7 +65,8 @@ has_cell-behind origin c (d ∷ ds) known =
     let rest = has_cell-behind origin c ds in
     grind (arith, nat_tests)
 
-pub is_known-inserted : (origin : Option Id) (c : Cell) (ds : List Cell) → is_known ds origin ≡ true → is_known (inserted origin c ds) (Some c.id) ≡ true
+pub is_known-inserted : (origin : Option Id) (c : Cell) (ds : List Cell) → is_known ds origin ≡ true
+    → is_known (inserted origin c ds) (Some c.id) ≡ true
 is_known-inserted None c ds known = has_cell-past_greater c ds
 is_known-inserted (Some origin) c ds known = has_cell-behind origin c ds known
 

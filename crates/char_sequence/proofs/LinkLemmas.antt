@@ -1,9 +1,10 @@
 -- Where links lead, and how far an insert goes along them.
-use Rattle.std.proofs.Common.{◌≡◌, ℕ, zero, suc, ◌+◌, ◌≤◌, ◌<◌, true, false, List, [], ◌∷◌, ◌++◌, length, take, drop, Some, None, refl, sym, ◌∙◌, ap, append_assoc, arith}
+use Rattle.std.proofs.Common.{◌≡◌, ℕ, zero, suc, ◌+◌, ◌≤◌, ◌<◌, true, false, List, [], ◌∷◌, ◌++◌, length, take, drop, Some, None, refl, sym, ◌∙◌, ap}
+use Rattle.std.proofs.Common.{append_assoc, arith}
 use Rattle.op_ids.specs.Id.{is_below}
 use Rattle.char_sequence.specs.declared.cell.Cell.{Cell}
 use Rattle.char_sequence.specs.Cells.{past_greater}
-use Rattle.char_sequence.specs.Links.{cell_at, next_of, spot, Leads, Passes}
+use Rattle.char_sequence.specs.Links.{cell_at_place, next_of, spot, Leads, Passes}
 
 -- what begins behind the first so many: one of them is one more
 pub take_next : {A : Type 0} (xs ys : List A) (x : A) (i : ℕ) → drop i xs ≡ x ∷ ys → take (suc i) xs ≡ take i xs ++ x ∷ []
@@ -59,24 +60,24 @@ leads_many cells next at (p ∷ ps) (c ∷ cs) leads = ap suc (leads_many cells 
 
 -- no character behind a place is the end
 pub leads_none : (cells : List Cell) (next : List ℕ) (at : ℕ) (ps : List ℕ) (cs : List Cell) → Leads cells next at ps cs
-    → cell_at cells (next_of next at) ≡ None → (ps ≡ []) × (cs ≡ [])
+    → cell_at_place cells (next_of next at) ≡ None → (ps ≡ []) × (cs ≡ [])
 leads_none cells next at [] [] leads none = (refl, refl)
 leads_none cells next at [] (c ∷ cs) leads none = absurd leads
 leads_none cells next at (p ∷ ps) [] leads none = absurd leads
 leads_none cells next at (p ∷ ps) (c ∷ cs) leads none =
-    let some : Some c ≡ None = sym leads.1 ∙ (ap (cell_at cells) (sym leads.0) ∙ none) in
+    let some : Some c ≡ None = sym leads.1 ∙ (ap (cell_at_place cells) (sym leads.0) ∙ none) in
     absurd (cc)
 
 -- a character behind a place is the first of the rest
 pub leads_some : (cells : List Cell) (next : List ℕ) (at : ℕ) (ps : List ℕ) (cs : List Cell) (d : Cell) → Leads cells next at ps cs
-    → cell_at cells (next_of next at) ≡ Some d → (qs : List ℕ) × (ds : List Cell) × (ps ≡ next_of next at ∷ qs) × (cs ≡ d ∷ ds)
+    → cell_at_place cells (next_of next at) ≡ Some d → (qs : List ℕ) × (ds : List Cell) × (ps ≡ next_of next at ∷ qs) × (cs ≡ d ∷ ds)
 leads_some cells next at [] [] d leads some =
-    let none : None ≡ Some d = ap (cell_at cells) (sym leads) ∙ some in
+    let none : None ≡ Some d = ap (cell_at_place cells) (sym leads) ∙ some in
     absurd (cc)
 leads_some cells next at [] (c ∷ cs) d leads some = absurd leads
 leads_some cells next at (p ∷ ps) [] d leads some = absurd leads
 leads_some cells next at (p ∷ ps) (c ∷ cs) d leads some =
-    let both : Some c ≡ Some d = sym leads.1 ∙ (ap (cell_at cells) (sym leads.0) ∙ some) in
+    let both : Some c ≡ Some d = sym leads.1 ∙ (ap (cell_at_place cells) (sym leads.0) ∙ some) in
     let same : c ≡ d = cc in
     (ps, cs, rw leads.0 refl, rw same refl)
 
@@ -104,7 +105,7 @@ passed_all c from order cs i at passed none = record {
 }
 
 pub passed_to_none : (cells : List Cell) (next : List ℕ) (c : Cell) (from : ℕ) (order : List ℕ) (cs : List Cell) (i at : ℕ)
-    → Leads cells next from order cs → Passed c from order cs i at → cell_at cells (next_of next at) ≡ None → Passes c from order cs at
+    → Leads cells next from order cs → Passed c from order cs i at → cell_at_place cells (next_of next at) ≡ None → Passes c from order cs at
 passed_to_none cells next c from order cs i at leads passed none =
     passed_all c from order cs i at passed
     (leads_none cells next at (drop i order) (drop i cs) (left cells next c from order cs i at leads passed) none).1
@@ -117,7 +118,7 @@ passed_to_end cells next c from order cs i at leads passed end =
 
 -- the next id isn't greater
 pub passed_to_less : (cells : List Cell) (next : List ℕ) (c d : Cell) (from : ℕ) (order : List ℕ) (cs : List Cell) (i at : ℕ)
-    → Leads cells next from order cs → Passed c from order cs i at → cell_at cells (next_of next at) ≡ Some d → is_below c.id d.id ≡ false
+    → Leads cells next from order cs → Passed c from order cs i at → cell_at_place cells (next_of next at) ≡ Some d → is_below c.id d.id ≡ false
     → Passes c from order cs at
 passed_to_less cells next c d from order cs i at leads passed some less =
     let rest = leads_some cells next at (drop i order) (drop i cs) d (left cells next c from order cs i at leads passed) some in
@@ -131,7 +132,7 @@ passed_to_less cells next c d from order cs i at leads passed some less =
 
 -- the next id is greater
 pub passed_more : (cells : List Cell) (next : List ℕ) (c d : Cell) (from : ℕ) (order : List ℕ) (cs : List Cell) (i at : ℕ)
-    → Leads cells next from order cs → Passed c from order cs i at → cell_at cells (next_of next at) ≡ Some d → is_below c.id d.id ≡ true
+    → Leads cells next from order cs → Passed c from order cs i at → cell_at_place cells (next_of next at) ≡ Some d → is_below c.id d.id ≡ true
     → Passed c from order cs (i + 1) (next_of next at)
 passed_more cells next c d from order cs i at leads passed some more =
     let rest = leads_some cells next at (drop i order) (drop i cs) d (left cells next c from order cs i at leads passed) some in

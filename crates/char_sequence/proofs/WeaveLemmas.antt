@@ -1,5 +1,6 @@
 -- A weave with one more character, or with one removed.
-use Rattle.std.proofs.Common.{◌≡◌, ℕ, zero, suc, ◌+◌, ◌≤◌, ◌<◌, ◌==◌, Bool, true, false, inl, inr, ◌||◌, List, [], ◌∷◌, ◌++◌, length, take, drop, Some, None, refl, sym, ◌∙◌, ap, length-append, length-drop, arith}
+use Rattle.std.proofs.Common.{◌≡◌, ℕ, zero, suc, ◌+◌, ◌≤◌, ◌<◌, ◌==◌, Bool, true, false, inl, inr, ◌||◌, List, [], ◌∷◌, ◌++◌, length, take, drop}
+use Rattle.std.proofs.Common.{Some, refl, sym, ◌∙◌, ap, length-append, length-drop, arith}
 use Rattle.std.specs.Prelude.{◌≢◌, slice_get, slice_index_or, slice_set}
 use Rattle.std.proofs.lemmas.Bool.{cases_Bool, eq-eqb, ne_eqb, eqb-true, both_ways, or_parts, or_from}
 use Rattle.std.proofs.lemmas.Bool.Decides.{nat_tests}
@@ -7,7 +8,7 @@ use Rattle.op_ids.specs.Id.{Id, is_same}
 use Rattle.op_ids.proofs.IdLemmas.{same_from_test}
 use Rattle.char_sequence.specs.declared.cell.Cell.{Cell}
 use Rattle.char_sequence.specs.Cells.{past_greater, behind, has_cell, removed}
-use Rattle.char_sequence.specs.Links.{cell_at, next_of, spot, has, Apart, Leads, Passes}
+use Rattle.char_sequence.specs.Links.{cell_at_place, next_of, spot, has, Apart, Leads, Passes}
 use Rattle.char_sequence.specs.Weave.{AreOnce, Starts, Weaves}
 use Rattle.char_sequence.proofs.CutLemmas.{cut_twice}
 use Rattle.char_sequence.proofs.LinkLemmas.{leads_many, spot_add}
@@ -23,7 +24,7 @@ get_last : (cells : List Cell) (c : Cell) → slice_get (cells ++ c ∷ []) (len
 get_last [] c = refl
 get_last (x ∷ cells) c = get_last cells c
 
-cell_front : (cells : List Cell) (c d : Cell) (p : ℕ) → cell_at cells p ≡ Some d → cell_at (cells ++ c ∷ []) p ≡ Some d
+cell_front : (cells : List Cell) (c d : Cell) (p : ℕ) → cell_at_place cells p ≡ Some d → cell_at_place (cells ++ c ∷ []) p ≡ Some d
 cell_front cells c d zero there = absurd (cc)
 cell_front cells c d (suc i) there = get_front cells c d i there
 
@@ -185,7 +186,8 @@ all_more n i ps within all =
     no_last m k differs same = both_ways (suc m == suc k) differs (eq-eqb (suc m) (suc k) (ap suc same))
 
 -- a weave with one more character
-pub woven_insert : (cells : List Cell) (next after : List ℕ) (cs : List Cell) (c : Cell) (at steps : ℕ) (w : Weaves cells next cs) → steps ≤ length w.order
+pub woven_insert : (cells : List Cell) (next after : List ℕ) (cs : List Cell) (c : Cell) (at steps : ℕ) (w : Weaves cells next cs)
+    → steps ≤ length w.order
     → Passes c (spot 0 w.order steps) (drop steps w.order) (drop steps cs) at
     → (at < length (next ++ next_of next at ∷ []) → after ≡ slice_set (next ++ next_of next at ∷ []) at (length next))
     → Weaves (cells ++ c ∷ []) after (take steps cs ++ past_greater c (drop steps cs))
@@ -202,7 +204,8 @@ woven_insert cells next after cs c at steps w within passes is_set =
       order = take (steps + passes.by) w.order ++ suc (length cells) ∷ drop (steps + passes.by) w.order;
       leads = rw (passes.past, cut_twice cs steps passes.by c (omega arith))
           (leads_put cells next after c at 0 w.order cs (steps + passes.by) w.leads far here links w.apart);
-      apart = apart_same _ _ (0 ∷ (take (steps + passes.by) w.order ++ suc (length cells) ∷ drop (steps + passes.by) w.order)) (sym (ap suc one)) (apart-put (suc (length cells)) (0 ∷ w.order) (suc (steps + passes.by)) w.apart);
+      apart = apart_same _ _ (0 ∷ (take (steps + passes.by) w.order ++ suc (length cells) ∷ drop (steps + passes.by) w.order))
+          (sym (ap suc one)) (apart-put (suc (length cells)) (0 ∷ w.order) (suc (steps + passes.by)) w.apart);
       all = λ i inside. has-put (suc i) (suc (length cells)) w.order (steps + passes.by) ∙ all_more (length cells) i w.order (omega arith) w.all;
       many = length-put w.order (suc (length cells)) (steps + passes.by) ∙ (ap suc w.many ∙ sym one);
       links = rw set (length_set _ at (length next) ∙ (let longer = length-append next (next_of next at ∷ []) in let was = w.links in omega arith));
@@ -211,7 +214,7 @@ woven_insert cells next after cs c at steps w within passes is_set =
 -- a character that is found
 
 leads_cell : (cells : List Cell) (next : List ℕ) (at : ℕ) (ps : List ℕ) (cs : List Cell) (i : ℕ) → Leads cells next at ps cs → i < length ps
-    → (d : Cell) × (cell_at cells (spot at ps (suc i)) ≡ Some d) × (drop i cs ≡ d ∷ drop (suc i) cs)
+    → (d : Cell) × (cell_at_place cells (spot at ps (suc i)) ≡ Some d) × (drop i cs ≡ d ∷ drop (suc i) cs)
 leads_cell cells next at [] cs i leads within = absurd (omega arith)
 leads_cell cells next at (p ∷ ps) [] i leads within = absurd leads
 leads_cell cells next at (p ∷ ps) (c ∷ cs) zero leads within = (c, leads.1, refl)
@@ -223,7 +226,8 @@ get_within (x ∷ cells) zero c there = omega arith
 get_within (x ∷ cells) (suc i) c there = let rest = get_within cells i c there in omega arith
 
 -- a place at which there is a character is within the characters
-pub cell_within : (cells : List Cell) (at : ℕ) (c : Cell) → cell_at cells at ≡ Some c → (k : ℕ) × (at ≡ suc k) × (slice_get cells k ≡ Some c) × (k < length cells)
+pub cell_within : (cells : List Cell) (at : ℕ) (c : Cell) → cell_at_place cells at ≡ Some c
+    → (k : ℕ) × (at ≡ suc k) × (slice_get cells k ≡ Some c) × (k < length cells)
 cell_within cells zero c there = absurd (cc)
 cell_within cells (suc k) c there = (k, refl, there, get_within cells k c there)
 
@@ -234,13 +238,13 @@ pub record IsFound (order : List ℕ) (cs : List Cell) (c : Cell) (at : ℕ) : T
   pub here : spot 0 order (suc step) ≡ at
   pub begins : drop step cs ≡ c ∷ drop (suc step) cs
 
-pub found : (cells : List Cell) (next : List ℕ) (cs : List Cell) (w : Weaves cells next cs) (at : ℕ) (c : Cell) → cell_at cells at ≡ Some c
+pub found : (cells : List Cell) (next : List ℕ) (cs : List Cell) (w : Weaves cells next cs) (at : ℕ) (c : Cell) → cell_at_place cells at ≡ Some c
     → IsFound w.order cs c at
 found cells next cs w zero c there = absurd (cc)
 found cells next cs w (suc k) c there =
     let place = spot_of 0 w.order (suc k) (w.all k (get_within cells k c there)) in
     let one = leads_cell cells next 0 w.order cs place.0 w.leads place.1 in
-    let both : Some one.0 ≡ Some c = sym one.1 ∙ (ap (cell_at cells) place.2 ∙ there) in
+    let both : Some one.0 ≡ Some c = sym one.1 ∙ (ap (cell_at_place cells) place.2 ∙ there) in
     let same : one.0 ≡ c = cc in
     record { step = place.0; within = place.1; here = place.2; begins = rw same at one.2 }
 
@@ -288,21 +292,18 @@ removed_cut id d (e ∷ cs) ds (suc i) begins same none =
 
 -- what hangs from a character that is found begins at its place
 pub starts_found : (cells : List Cell) (next : List ℕ) (cs : List Cell) (w : Weaves cells next cs) (at : ℕ) (c : Cell) (id : Id)
-    → cell_at cells at ≡ Some c → is_same c.id id ≡ true → (has_cell cs id ≡ true) × (AreOnce cs → Starts w.order cs (Some id) at)
+    → cell_at_place cells at ≡ Some c → is_same c.id id ≡ true → (has_cell cs id ≡ true) × Starts w.order cs (Some id) at
 starts_found cells next cs w at c id there same =
     let it = found cells next cs w at c there in (
       has_begun cs (drop (suc it.step) cs) c id it.step it.begins same,
-      λ once. record {
+      record {
         steps = suc it.step;
         within = let inside = it.within in omega arith;
         here = sym it.here;
-        placed = λ d. behind_cut id d c cs (drop (suc it.step) cs) it.step it.begins same
+        placed = λ once d. behind_cut id d c cs (drop (suc it.step) cs) it.step it.begins same
             (once_before cs (drop (suc it.step) cs) c id it.step once it.begins same);
       },
     )
-
-pub starts_none : (order : List ℕ) (cs : List Cell) → Starts order cs None 0
-starts_none order cs = record { steps = 0; within = omega arith; here = refl; placed = λ c. refl }
 
 -- what isn't among the characters as they came isn't among them in the order of the text
 lacks_one : (cells : List Cell) (id : Id) (i : ℕ) (c : Cell) → has_cell cells id ≡ false → slice_get cells i ≡ Some c → is_same c.id id ≡ false
@@ -312,7 +313,7 @@ lacks_one (x ∷ cells) id zero c none there =
     rw first at (or_parts (is_same x.id id) (has_cell cells id) none).0
 lacks_one (x ∷ cells) id (suc i) c none there = lacks_one cells id i c (or_parts (is_same x.id id) (has_cell cells id) none).1 there
 
-lacks_at : (cells : List Cell) (id : Id) (p : ℕ) (c : Cell) → has_cell cells id ≡ false → cell_at cells p ≡ Some c → is_same c.id id ≡ false
+lacks_at : (cells : List Cell) (id : Id) (p : ℕ) (c : Cell) → has_cell cells id ≡ false → cell_at_place cells p ≡ Some c → is_same c.id id ≡ false
 lacks_at cells id zero c none there = absurd (cc)
 lacks_at cells id (suc i) c none there = lacks_one cells id i c none there
 
@@ -342,7 +343,7 @@ set_other (x ∷ cells) zero (suc k) d other = refl
 set_other (x ∷ cells) (suc i) zero d other = refl
 set_other (x ∷ cells) (suc i) (suc k) d other = set_other cells i k d (λ same. other (ap suc same))
 
-cell_other : (cells : List Cell) (i p : ℕ) (d : Cell) → (p == suc i) ≡ false → cell_at (slice_set cells i d) p ≡ cell_at cells p
+cell_other : (cells : List Cell) (i p : ℕ) (d : Cell) → (p == suc i) ≡ false → cell_at_place (slice_set cells i d) p ≡ cell_at_place cells p
 cell_other cells i zero d other = refl
 cell_other cells i (suc k) d other =
     set_other cells i k d (λ same. both_ways (suc k == suc i) other (eq-eqb (suc k) (suc i) (ap suc same)))
@@ -375,20 +376,24 @@ leads_set cells next n k at (p ∷ ps) (c ∷ cs) d (suc i) leads within here ap
     let other : (p == suc k) ≡ false = ne_eqb p (suc k) (λ same. has_not p (suc k) ps apart.1 there (sym same)) in
     (leads.0, cell_other cells k p d other ∙ leads.1, leads_set cells next n k p ps cs d i leads.2 (omega arith) here apart.2)
 
--- a weave with one character removed
-pub woven_remove : (cells : List Cell) (next : List ℕ) (cs : List Cell) (w : Weaves cells next cs) (k : ℕ) (c : Cell) (id : Id)
-    → cell_at cells (suc k) ≡ Some c → is_same c.id id ≡ true → AreOnce cs
-    → Weaves (slice_set cells k (record c { is_removed = true })) next (removed id cs)
-woven_remove cells next cs w k c id there same once =
-    let it = found cells next cs w (suc k) c there in
-    let none = once_before cs (drop (suc it.step) cs) c id it.step once it.begins same in
-    let gone = removed_cut id c cs (drop (suc it.step) cs) it.step it.begins same none in
-    let long = cells_long cells k (record c { is_removed = true }) in
+-- a weave with a character that is found changed
+pub woven_set : (cells : List Cell) (next : List ℕ) (cs : List Cell) (w : Weaves cells next cs) (k : ℕ) (c d : Cell)
+    (it : IsFound w.order cs c (suc k))
+    → Weaves (slice_set cells k d) next (take it.step cs ++ d ∷ drop (suc it.step) cs)
+woven_set cells next cs w k c d it =
+    let long = cells_long cells k d in
     record {
       order = w.order;
-      leads = rw gone (leads_set cells next (suc (length cells)) k 0 w.order cs (record c { is_removed = true }) it.step w.leads it.within it.here w.apart.2);
+      leads = leads_set cells next (suc (length cells)) k 0 w.order cs d it.step w.leads it.within it.here w.apart.2;
       apart = apart_same _ _ (0 ∷ w.order) (sym (ap suc long)) w.apart;
       all = λ i inside. w.all i (omega arith);
       many = w.many ∙ sym long;
       links = w.links ∙ ap suc (sym long);
     }
+
+-- a tombstone there is that of the id, where no two characters have one
+pub removed_there : (order : List ℕ) (cs : List Cell) (c : Cell) (at : ℕ) (id : Id) (it : IsFound order cs c at) → is_same c.id id ≡ true → AreOnce cs
+    → removed id cs ≡ take it.step cs ++ record c { is_removed = true } ∷ drop (suc it.step) cs
+removed_there order cs c at id it same once =
+    removed_cut id c cs (drop (suc it.step) cs) it.step it.begins same
+    (once_before cs (drop (suc it.step) cs) c id it.step once it.begins same)

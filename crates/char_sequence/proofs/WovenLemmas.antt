@@ -1,5 +1,8 @@
--- A weave of a document's content, with one operation more.
-use Rattle.std.proofs.Common.{◌≡◌, ℕ, zero, suc, ◌+◌, ◌≤◌, ◌<◌, Bool, true, false, if◌then◌else◌, List, [], ◌∷◌, ◌++◌, length, length-drop, take, drop, get_or, map, Option, Some, None, refl, sym, ◌∙◌, ap, arith}
+-- What a weave shows, with one character more, or with one removed.
+use Rattle.std.proofs.Common.{◌≡◌, ℕ, zero, suc, ◌+◌, ◌-◌, ◌≤◌, ◌<◌, Bool, true, false, if◌then◌else◌, List, [], ◌∷◌, ◌++◌, length, length-drop, take}
+use Rattle.std.proofs.Common.{drop}
+use Rattle.std.proofs.Common.{get_or, map, Option, Some, None, refl, sym, ◌∙◌, ap, subst, append_assoc, append-nil, arith}
+use Rattle.std.specs.List.{cons_option}
 use Rattle.std.specs.Prelude.{slice_get, slice_set}
 use Rattle.std.proofs.lemmas.Bool.{or_from}
 use Rattle.std.proofs.lemmas.Bool.Decides.{nat_tests}
@@ -9,16 +12,15 @@ use Rattle.op_model.specs.declared.op.Op.{Op}
 use Rattle.op_model.specs.declared.op.Body.TheVariants.{Insert, Remove}
 use Rattle.op_model.specs.declared.character.Character.{Character}
 use Rattle.op_model.specs.Walk.{walk, times}
-use Rattle.op_model.specs.Placing.{Fits, IsOrderly}
 use Rattle.model_laws.proofs.Family.{orderly_once}
 use Rattle.char_sequence.specs.declared.cell.Cell.{Cell}
-use Rattle.char_sequence.specs.Cells.{has_cell, place_of, raised}
-use Rattle.char_sequence.specs.Content.{cell_of, content_of}
-use Rattle.char_sequence.specs.Links.{cell_at, next_of, spot, Leads, Passes}
-use Rattle.char_sequence.specs.Weave.{AreOnce, Starts, Weaves}
-use Rattle.char_sequence.proofs.ContentLemmas.{content_of-insert, content_of-remove}
-use Rattle.char_sequence.proofs.LinkLemmas.{leads_at, leads_many, leads_none, leads_some, spot_next, take_next, within_next}
-use Rattle.char_sequence.proofs.WeaveLemmas.{woven_insert, woven_remove}
+use Rattle.char_sequence.specs.Cells.{has_cell, inserted, past_greater, place_of, raised}
+use Rattle.char_sequence.specs.Content.{cell_of, Held, Holds, Takes}
+use Rattle.char_sequence.specs.Links.{cell_at_place, followed, next_of, Leads, Passes}
+use Rattle.char_sequence.specs.Weave.{AreOnce, IsWoven, Starts, Weaves, woven}
+use Rattle.char_sequence.proofs.HoldsLemmas.{takes_insert, takes_remove}
+use Rattle.char_sequence.proofs.LinkLemmas.{leads_at}
+use Rattle.char_sequence.proofs.WeaveLemmas.{woven_insert, removed_there, IsFound}
 
 -- what is counted nowhere has no cell
 uncounted : (ops : List Op) (doc : ℕ) (id : Id) (cs : List Character) → times id cs ≡ 0 → has_cell (map (cell_of ops doc) cs) id ≡ false
@@ -40,9 +42,9 @@ once_map ops doc (c ∷ cs) once =
     fewer : (d : Character) (id : Id) (ds : List Character) → times id (d ∷ ds) ≤ 1 → times id ds ≤ 1
     fewer d id ds most = grind (arith, nat_tests)
 
--- a document's content has no id twice
-pub once_content : (ops : List Op) (doc : ℕ) → IsOrderly ops doc → AreOnce (content_of ops doc)
-once_content ops doc orderly = once_map ops doc (walk ops doc) (λ id. orderly_once ops doc id orderly)
+-- what is held of a document has no id twice
+once_held : (held : Held) (ops : List Op) (doc : ℕ) → Holds held ops doc → AreOnce held
+once_held held ops doc holds = rw holds.content (once_map ops doc (walk ops doc) (λ id. orderly_once ops doc id holds.orderly))
 
 -- the cell at the place of an id has it
 pub place_has : (cells : List Cell) (id : Id) (i : ℕ) → place_of id cells ≡ Some i
@@ -62,73 +64,109 @@ place_has (c ∷ cells) id i there = go (is_same c.id id) refl (place_of id cell
         let one = later k refl in
         (one.0, rw shift one.1, one.2)
 
--- with an insert that fits
-pub takes_insert_in : (cells : List Cell) (next after : List ℕ) (ops : List Op) (doc : ℕ) (op : Op) (origin : Option Id) (value from at : ℕ) (c : Cell)
-    → IsOrderly ops doc → Fits ops doc op → op.body ≡ Insert origin value → c ≡ record { id = op.id; value = value; is_removed = false }
-    → (w : Weaves cells next (content_of ops doc)) → Starts w.order (content_of ops doc) origin from
-    → ((order : List ℕ) (cs : List Cell) → Leads cells next from order cs → length order ≤ length cells → Passes c from order cs at)
+-- the links lead to what is woven
+followed_led : (cells : List Cell) (next : List ℕ) (at : ℕ) (ps : List ℕ) (cs : List Cell) → Leads cells next at ps cs
+    → followed cells next at (length ps) ≡ cs
+unfolding followed
+followed_led cells next at [] [] leads = refl
+followed_led cells next at [] (c ∷ cs) leads = absurd leads
+followed_led cells next at (p ∷ ps) [] leads = absurd leads
+followed_led cells next at (p ∷ ps) (c ∷ cs) leads =
+    rw (leads.0, leads.1) (ap (λ rest. c ∷ rest) (followed_led cells next p ps cs leads.2))
+
+pub woven_is : (cells : List Cell) (next : List ℕ) (cs : List Cell) → Weaves cells next cs → woven cells next ≡ cs
+woven_is cells next cs w = ap (followed cells next 0) (sym w.many) ∙ followed_led cells next 0 w.order cs w.leads
+
+pub is_woven : (cells : List Cell) (next : List ℕ) (cs : List Cell) → Weaves cells next cs → IsWoven cells next
+is_woven cells next cs w = subst (λ (ds : List Cell). Weaves cells next ds) (sym (woven_is cells next cs w)) w
+
+-- what a weave shows is woven
+pub shown : (cells : List Cell) (next : List ℕ) (held : Held) → IsWoven cells next → woven cells next ≡ held → Weaves cells next held
+shown cells next held w same = subst (λ (ds : List Cell). Weaves cells next ds) same w
+
+-- the weave of no characters
+pub woven_none : Weaves [] (0 ∷ []) []
+woven_none = record {
+  order = [];
+  leads = refl;
+  apart = (omega arith, refl, tt);
+  all = λ i inside. absurd (omega arith);
+  many = refl;
+  links = refl;
+}
+
+-- with one character more, behind the place where an origin starts and the greater ids that follow
+pub woven_with : (cells : List Cell) (next after : List ℕ) (cs : List Cell) (origin : Option Id) (from at : ℕ) (c : Cell)
+    → (w : Weaves cells next cs) → (start : Starts w.order cs origin from)
+    → ((order : List ℕ) (ds : List Cell) → Leads cells next from order ds → length order ≤ length cells → Passes c from order ds at)
     → (at < length (next ++ next_of next at ∷ []) → after ≡ slice_set (next ++ next_of next at ∷ []) at (length next))
-    → Weaves (cells ++ c ∷ []) after (content_of (ops ++ op ∷ []) doc)
-takes_insert_in cells next after ops doc op origin value from at c orderly fits is_insert is_cell w start passes is_set =
-    let cs = content_of ops doc in
+    → Weaves (cells ++ c ∷ []) after (take start.steps cs ++ past_greater c (drop start.steps cs))
+woven_with cells next after cs origin from at c w start passes is_set =
     let left = leads_at cells next 0 w.order cs start.steps w.leads start.within in
     let few : length (drop start.steps w.order) ≤ length cells =
     (let cut = length-drop start.steps w.order in let many = w.many in omega arith) in
     let past = rw start.here at passes in
-    let grown = content_of-insert ops doc op origin value orderly fits is_insert in
-    rw (grown, ← is_cell, start.placed c)
-    (woven_insert cells next after cs c at start.steps w start.within (past (drop start.steps w.order) (drop start.steps cs) left few) is_set)
+    woven_insert cells next after cs c at start.steps w start.within (past (drop start.steps w.order) (drop start.steps cs) left few) is_set
 
--- with a remove that fits
-pub takes_remove_in : (cells : List Cell) (next : List ℕ) (ops : List Op) (doc : ℕ) (op : Op) (target : Id) (at : ℕ) (c : Cell)
-    → IsOrderly ops doc → Fits ops doc op → op.body ≡ Remove target → Weaves cells next (content_of ops doc)
-    → cell_at cells (suc at) ≡ Some c → is_same c.id target ≡ true
-    → Weaves (slice_set cells at (record c { is_removed = true })) next (content_of (ops ++ op ∷ []) doc)
-takes_remove_in cells next ops doc op target at c orderly fits is_remove w there same =
-    rw (content_of-remove ops doc op target orderly fits is_remove)
-    (woven_remove cells next (content_of ops doc) w at c target there same (once_content ops doc orderly))
+-- what a call that weaves a character in owes
+pub takes_insert_in : (id : Id) (origin : Option Id) (value : ℕ) (old new : Held) (order : List ℕ) (from : ℕ)
+    (start : Starts order old origin from) (c : Cell)
+    → c ≡ record { id = id; value = value; is_removed = false } → new ≡ take start.steps old ++ past_greater c (drop start.steps old)
+    → Takes id (Insert origin value) old new
+takes_insert_in id origin value old new order from start c is_cell is_new ops doc op fits same_id same_body holds =
+    let once = once_held old ops doc holds in
+    takes_insert id origin value old new (is_new
+    ∙ (sym (start.placed once c) ∙ ap (λ d. inserted origin d old) is_cell)) ops doc op fits same_id same_body holds
+
+-- what a call that makes a woven character a tombstone owes
+pub takes_remove_in : (target : Id) (old new : Held) (order : List ℕ) (at : ℕ) (c : Cell) (it : IsFound order old c at) → is_same c.id target ≡ true
+    → new ≡ take it.step old ++ record c { is_removed = true } ∷ drop (suc it.step) old → (id : Id) → Takes id (Remove target) old new
+takes_remove_in target old new order at c it same is_new id ops doc op fits same_id same_body holds =
+    let once = once_held old ops doc holds in
+    takes_remove target old new (is_new ∙ sym (removed_there order old c at target it same once)) id ops doc op fits same_id same_body holds
 
 -- what is read at an index is the cell there
-pub read_there : (cells : List Cell) (i : ℕ) (c x : Cell) → cell_at cells (suc i) ≡ Some c → x ≡ get_or cells i x → x ≡ c
+read_there : (cells : List Cell) (i : ℕ) (c x : Cell) → cell_at_place cells (suc i) ≡ Some c → x ≡ get_or cells i x → x ≡ c
 read_there [] i c x there is_it = absurd (cc)
 read_there (y ∷ cells) zero c x there is_it = let first : y ≡ c = cc in is_it ∙ first
 read_there (y ∷ cells) (suc i) c x there is_it = read_there cells i c x there is_it
 
--- reading a weave along its links
+-- what is read before a place, counted from 1, is the cell there
+pub read_found : (cells : List Cell) (at : ℕ) (c x : Cell) → cell_at_place cells at ≡ Some c → x ≡ get_or cells (at - 1) x
+    → (x ≡ c) × (cell_at_place cells (suc (at - 1)) ≡ Some x)
+read_found cells zero c x there is_it = absurd (cc)
+read_found cells (suc i) c x there is_it =
+    let back : suc i - 1 ≡ i = omega arith in
+    let same : x ≡ c = read_there cells i c x there (rw back at is_it) in
+    (same, rw back (there ∙ ap Some (sym same)))
 
--- before the end there is a character
-pub read_none : (cells : List Cell) (next : List ℕ) (cs : List Cell) (w : Weaves cells next cs) (i at : ℕ) → at ≡ spot 0 w.order i
-    → i < length w.order → cell_at cells (next_of next at) ≡ None → ⊥
-read_none cells next cs w i at here inside none =
-    let left = leads_at cells next 0 w.order cs i w.leads (omega arith) in
-    let empty = (leads_none cells next at (drop i w.order) (drop i cs) (rw here left) none).0 in
-    let long = length-drop i w.order in
-    let short = ap length empty in
-    omega arith
+-- one link more is followed
+followed_more : (cells : List Cell) (next : List ℕ) (at n i : ℕ) → i < n
+    → followed cells next at (n - i) ≡ cons_option (cell_at_place cells (next_of next at)) (followed cells next (next_of next at) (n - (i + 1)))
+unfolding followed
+followed_more cells next at n i inside =
+    let one : n - i ≡ suc (n - (i + 1)) = omega arith in
+    rw one refl
 
--- one more character
-pub read_more : (cells : List Cell) (next : List ℕ) (cs : List Cell) (w : Weaves cells next cs) (i at : ℕ) (c : Cell) → at ≡ spot 0 w.order i
-    → i ≤ length w.order → cell_at cells (next_of next at) ≡ Some c
-    → (next_of next at ≡ spot 0 w.order (i + 1)) × (i + 1 ≤ length w.order) × (take (i + 1) cs ≡ take i cs ++ c ∷ [])
-read_more cells next cs w i at c here within some =
-    let left = leads_at cells next 0 w.order cs i w.leads within in
-    let rest = leads_some cells next at (drop i w.order) (drop i cs) c (rw here left) some in
-    let up : i + 1 ≡ suc i = omega arith in
-    rw up (
-      sym (spot_next 0 w.order rest.0 (next_of next at) i rest.2),
-      within_next w.order rest.0 (next_of next at) i rest.2,
-      take_next cs rest.1 c i rest.3,
-    )
+-- it leads to a character, which comes behind those that were read
+pub reads_one : (cells : List Cell) (next : List ℕ) (at n i to : ℕ) (c : Cell) (front now all : List Cell) → i < n → to ≡ next_of next at
+    → cell_at_place cells to ≡ Some c → now ≡ front ++ c ∷ [] → front ++ followed cells next at (n - i) ≡ all
+    → now ++ followed cells next to (n - (i + 1)) ≡ all
+reads_one cells next at n i to c front now all inside is_next there is_now so =
+    let more = rw (← is_next, there) at (followed_more cells next at n i inside) in
+    rw is_now (append_assoc front (c ∷ []) (followed cells next to (n - (i + 1))) ∙ (ap (λ rest. front ++ rest) (sym more) ∙ so))
 
--- all of them
-pub read_all : (cells : List Cell) (next : List ℕ) (cs : List Cell) (w : Weaves cells next cs) (i : ℕ) → length cells ≤ i → take i cs ≡ cs
-read_all cells next cs w i all =
-    let many = leads_many cells next 0 w.order cs w.leads in
-    let as_many = w.many in
-    take_all cs i (omega arith)
-  where
-    take_all : (xs : List Cell) (n : ℕ) → length xs ≤ n → take n xs ≡ xs
-    take_all [] zero past = refl
-    take_all [] (suc n) past = refl
-    take_all (x ∷ xs) zero past = absurd (omega arith)
-    take_all (x ∷ xs) (suc n) past = ap (λ rest. x ∷ rest) (take_all xs n (omega arith))
+-- or to none
+pub reads_none : (cells : List Cell) (next : List ℕ) (at n i to : ℕ) (front now all : List Cell) → i < n → to ≡ next_of next at
+    → cell_at_place cells to ≡ None → now ≡ front → front ++ followed cells next at (n - i) ≡ all → now ++ followed cells next to (n - (i + 1)) ≡ all
+reads_none cells next at n i to front now all inside is_next none is_now so =
+    let more = rw (← is_next, none) at (followed_more cells next at n i inside) in
+    rw is_now (ap (λ rest. front ++ rest) (sym more) ∙ so)
+
+-- all links were followed
+pub reads_all : (cells : List Cell) (next : List ℕ) (at n i : ℕ) (front all : List Cell) → n ≤ i
+    → front ++ followed cells next at (n - i) ≡ all → front ≡ all
+unfolding followed
+reads_all cells next at n i front all past so =
+    let none : n - i ≡ 0 = omega arith in
+    sym (append-nil front) ∙ (rw none at so)

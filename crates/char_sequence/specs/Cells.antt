@@ -1,5 +1,8 @@
+-- Used by private functions and proofs alone.
+--
 -- Cells in the order of the text, and what the calls of a sequence make of them.
-use Rattle.std.specs.Prelude.{◌≡◌, ◌<◌, ◌++◌, length, take, drop, slice_set, ℕ, ◌+◌, ◌-◌, ◌==◌, Bool, true, false, not, if◌then◌else◌, List, [], ◌∷◌, map, filter, Option, Some, None}
+use Rattle.std.specs.Prelude.{◌≡◌, ◌<◌, ◌++◌, length, take, drop, slice_set, ℕ, ◌+◌, ◌-◌, ◌==◌, Bool, true, false, not, if◌then◌else◌, List, [], ◌∷◌}
+use Rattle.std.specs.Prelude.{map, filter, Option, Some, None}
 use Rattle.std.specs.List.{list_any}
 use Rattle.std.proofs.Common.{get_or}
 use Rattle.op_ids.specs.Id.{Id, is_below, is_same}
@@ -69,11 +72,6 @@ behind_shown (c ∷ cs) k = if k == 0 then c ∷ cs else behind_shown cs (if c.i
 abbrev pub first_removed : List Cell → List Id
 first_removed [] = []
 first_removed (c ∷ cs) = if c.is_removed then c.id ∷ first_removed cs else []
-
--- the last of these ids that a mark ends after, or else this one
-abbrev pub last_ended : (Id → Bool) → Option Id → List Id → Option Id
-last_ended ends before [] = before
-last_ended ends before (id ∷ ids) = last_ended ends (if ends id then Some id else before) ids
 
 -- the values of the cells that a reader sees
 abbrev pub shown_values : List Cell → List ℕ

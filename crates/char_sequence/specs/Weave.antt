@@ -1,14 +1,11 @@
+-- Used by private functions and proofs alone.
+--
 -- What a weave holds.
 use Rattle.std.specs.Prelude.{◌≡◌, ◌≤◌, ◌<◌, ◌++◌, ℕ, suc, true, false, List, [], ◌∷◌, length, take, drop, Option}
 use Rattle.op_ids.specs.Id.{Id}
-use Rattle.op_model.specs.declared.op.Op.{Op}
-use Rattle.op_model.specs.declared.op.Body.{Body}
-use Rattle.op_model.specs.Placing.{Fits, IsOrderly}
 use Rattle.char_sequence.specs.declared.cell.Cell.{Cell}
-use Rattle.char_sequence.specs.declared.weave.Weave.{Weave}
 use Rattle.char_sequence.specs.Cells.{past_greater, inserted, has_cell}
-use Rattle.char_sequence.specs.Content.{content_of}
-use Rattle.char_sequence.specs.Links.{Apart, Leads, has, spot}
+use Rattle.char_sequence.specs.Links.{Apart, Leads, followed, has, spot}
 
 -- characters in the order in which they came, linked, are these cells in the order of the text
 pub record Weaves (cells : List Cell) (next : List ℕ) (cs : List Cell) : Type 0 where
@@ -20,9 +17,13 @@ pub record Weaves (cells : List Cell) (next : List ℕ) (cs : List Cell) : Type 
   pub many : length order ≡ length cells
   pub links : length next ≡ suc (length cells)
 
--- a weave holds these cells
-abbrev pub IsWeaveOf : Weave → List Cell → Type 0
-IsWeaveOf w cs = Weaves w.cells.items w.next.items cs
+-- the cells in the order of the text: those at the places that the links lead to from the beginning, as many as there are
+abbrev pub woven : List Cell → List ℕ → List Cell
+woven cells next = followed cells next 0 (length cells)
+
+-- the links lead through all characters, each once, and then to the end
+abbrev pub IsWoven : List Cell → List ℕ → Type 0
+IsWoven cells next = Weaves cells next (woven cells next)
 
 -- no two of these have one id
 abbrev pub AreOnce : List Cell → Type 0
@@ -34,10 +35,4 @@ pub record Starts (order : List ℕ) (cs : List Cell) (origin : Option Id) (from
   pub steps : ℕ
   pub within : steps ≤ length order
   pub here : from ≡ spot 0 order steps
-  pub placed : (c : Cell) → inserted origin c cs ≡ take steps cs ++ past_greater c (drop steps cs)
-
--- From a weave of the content of any operations that an operation of this id and body fits, the call leads to one of their content
--- with it.
-abbrev pub TakesIn : Id → Body → Weave → Weave → Type 0
-TakesIn id does old new = (ops : List Op) (doc : ℕ) (op : Op) → IsOrderly ops doc → Fits ops doc op → op.id ≡ id
-    → op.body ≡ does → IsWeaveOf old (content_of ops doc) → IsWeaveOf new (content_of (ops ++ op ∷ []) doc)
+  pub placed : AreOnce cs → (c : Cell) → inserted origin c cs ≡ take steps cs ++ past_greater c (drop steps cs)

@@ -1,4 +1,4 @@
-ghost use Rattle.std.specs.Prelude.{◌≡◌, Bool, false};
+ghost use Rattle.std.specs.Prelude.{◌≡◌, Bool};
 ghost use Rattle.op_ids.specs.Id.{Id};
 
 use op_ids::OpId;
@@ -12,16 +12,4 @@ pub trait EndsAfter {
     /// Whether some mark operation ends just after this character.
     fn ends_after(&self, id: OpId) -> bool
         ensures { result ≡ ends_after self.now id };
-}
-
-/// Of a document without mark operations.
-#[derive(Clone, Copy, Debug, PartialEq, Eq)]
-pub struct NoMarks;
-
-impl EndsAfter for NoMarks {
-    ghost ends_after = { λ _ _. false };
-
-    fn ends_after(&self, _id: OpId) -> bool {
-        false
-    }
 }

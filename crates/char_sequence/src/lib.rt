@@ -11,7 +11,7 @@ mod trail;
 mod weave;
 
 pub use cell::Cell;
-pub use ends_after::{EndsAfter, NoMarks};
+pub use ends_after::EndsAfter;
 pub use error::SequenceError;
 pub use sequence::Sequence;
 pub use weave::Weave;

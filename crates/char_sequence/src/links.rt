@@ -1,6 +1,6 @@
 ghost use Rattle.std.specs.Prelude.{◌≡◌, ℕ, ◌≤◌, ◌<◌, List, length, slice_set};
 ghost use Rattle.char_sequence.specs.declared.cell.Cell.{Cell};
-ghost use Rattle.char_sequence.specs.Links.{cell_at as cell_at_place, next_of as next_of_place, Leads, Passes};
+ghost use Rattle.char_sequence.specs.Links.{cell_at_place, next_of as next_of_place, Leads, Passes};
 
 use crate::cell::Cell;
 

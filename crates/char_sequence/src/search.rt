@@ -1,6 +1,10 @@
-ghost use Rattle.std.specs.Prelude.{◌≡◌, ℕ, ◌+◌, ◌≤◌, List, ◌∷◌, ◌++◌, length, take, drop, MatchOption, IfOk, false, true};
+ghost use Rattle.std.specs.Prelude.{◌≡◌, ◌≤◌, ◌∷◌, ◌++◌, length, take, drop, MatchOption, IfOk};
+ghost use Rattle.std.specs.Prelude.{false, true};
 ghost use Rattle.std.specs.List.{list_all};
-ghost use Rattle.char_sequence.specs.Cells.{past_greater as past_greater_of, inserted, is_known, has_cell, place_of, shown_at, behind_shown, first_removed, last_ended as last_ended_of, shown_values, IsAt};
+ghost use Rattle.char_sequence.specs.Cells.{past_greater as past_greater_of, inserted, is_known};
+ghost use Rattle.char_sequence.specs.Cells.{has_cell, place_of, shown_at, behind_shown};
+ghost use Rattle.char_sequence.specs.Cells.{first_removed, shown_values, IsAt};
+ghost use Rattle.char_sequence.specs.Content.{last_ended as last_ended_of};
 
 use crate::cell::Cell;
 use crate::ends_after::EndsAfter;
@@ -70,11 +74,13 @@ fn past(cells: &[Cell], from: usize, cell: &Cell) -> usize
     from + greater(cells.split_at(from).1, cell)
 }
 
-/// Where a cell goes: behind its origin and past all greater ids that follow, or `None` where the origin isn't there.
+/// Where a cell goes: behind its origin and past all greater ids that follow, or `None` where the
+/// origin isn't there.
 pub fn landing(cells: &[Cell], origin: &Option<OpId>, cell: &Cell) -> Option<usize>
-    ensures { MatchOption result (is_known cells.now origin.now ≡ false) (λ at. (at ≤ length cells.now)
-        × (is_known cells.now origin.now ≡ true)
-        × (inserted origin.now cell.now cells.now ≡ take at cells.now ++ cell.now ∷ drop at cells.now)) }
+    ensures { MatchOption result (is_known cells.now origin.now ≡ false)
+        (λ at. (at ≤ length cells.now) × (is_known cells.now origin.now ≡ true)
+        × (inserted origin.now cell.now cells.now
+        ≡ take at cells.now ++ cell.now ∷ drop at cells.now)) }
 {
     match origin {
         None => Some(past(cells, 0, cell)),

@@ -1,7 +1,11 @@
-ghost use Rattle.std.specs.Prelude.{◌≡◌, ℕ, ◌+◌, ◌≤◌, ◌<◌, List, [], Some, map, length, vec_len, vec_capacity, MatchOption, IfOk, OnOk, OnErr, IsErrOf, ◌↔◌, false, true};
+ghost use Rattle.std.specs.Prelude.{◌≡◌, ℕ, ◌+◌, ◌≤◌, ◌<◌, List, Some, map, length, false, true};
+ghost use Rattle.std.specs.Prelude.{vec_len, vec_capacity, MatchOption, IfOk, OnOk, OnErr};
+ghost use Rattle.std.specs.Prelude.{IsErrOf, ◌↔◌};
 ghost use Rattle.std.specs.List.{list_all};
-ghost use Rattle.char_sequence.specs.Cells.{has_cell, inserted, inserted_run, is_known, last_ended as last_ended_of, removed, removed_all};
-ghost use Rattle.char_sequence.specs.Content.{content_of, is_there, Holds, Takes, TakesRemoves, TakesRun};
+ghost use Rattle.char_sequence.specs.Cells.{has_cell, inserted, inserted_run, is_known};
+ghost use Rattle.char_sequence.specs.Cells.{removed, removed_all};
+ghost use Rattle.char_sequence.specs.Content.{cell_at, empty, is_there, Holds, Takes, TakesRemoves};
+ghost use Rattle.char_sequence.specs.Content.{last_ended as last_ended_of, TakesRun};
 ghost use Rattle.op_ids.specs.Id.{Id};
 ghost use Rattle.op_model.specs.Places.{index_of};
 ghost use Rattle.op_model.specs.Walk.{walk};
@@ -29,10 +33,9 @@ pub struct Sequence {
 }
 
 impl Model for Sequence {
-    ghost use Rattle.std.specs.Prelude.{List};
-    ghost use Rattle.char_sequence.specs.declared.cell.Cell.{Cell};
+    ghost use Rattle.char_sequence.specs.Content.{Held};
 
-    ghost Value = { List Cell };
+    ghost Value = { Held };
 
     ghost view = { λ s. s.cells.items };
 }
@@ -40,7 +43,7 @@ impl Model for Sequence {
 impl Sequence {
     /// The sequence of an empty document.
     pub fn new(alloc: Global) -> Sequence
-        ensures { result ≡ [] }
+        ensures { result ≡ empty }
     {
         Sequence {
             cells: Vec::new(alloc),
@@ -109,6 +112,7 @@ impl Sequence {
         ensures taken { OnOk result ((by : Id) → Takes by (Remove id) self.old self.new) }
         ensures unknown { (ops : List Op) (doc : ℕ) → Holds self.old ops doc
             → (IsErrOf result SequenceError.UnknownId ↔ (is_there ops doc (Some id) ≡ false)) }
+        ensures memory { IsErrOf result SequenceError.Memory → ⊥ }
         ensures err { OnErr result (self.new ≡ self.old) }
     {
         match place(&self.cells, &id) {
@@ -129,6 +133,7 @@ impl Sequence {
         ensures unknown { (ops : List Op) (doc : ℕ) → Holds self.old ops doc
             → (IsErrOf result SequenceError.UnknownId
             ↔ (list_all (λ id. is_there ops doc (Some id)) ids.now ≡ false)) }
+        ensures memory { IsErrOf result SequenceError.Memory → ⊥ }
         ensures err { OnErr result (self.new ≡ self.old) }
     {
         if !knows_all(&self.cells, ids) {
@@ -138,20 +143,12 @@ impl Sequence {
         Ok(())
     }
 
-    /// Another sequence with the same content. An error is want of memory (1). Linear.
-    pub fn copy(&self) -> Result<Sequence, AllocError>
-        ensures { IfOk result (λ copied. copied ≡ self.now) }
+    /// The character with so many before it in the order of the text, tombstones counted, or `None`
+    /// past the last one. For `span_flatten` alone. Constant.
+    pub fn cell(&self, at: usize) -> Option<Cell>
+        ensures { result ≡ cell_at self.now at }
     {
-        Ok(Sequence {
-            cells: copy(&self.cells)?,
-        })
-    }
-
-    /// The characters in the order of the text, tombstones too. Constant.
-    pub fn cells(&self) -> &[Cell]
-        ensures { result.now ≡ self.now }
-    {
-        &self.cells
+        self.cells.get(at).copied()
     }
 
     /// How many characters stand before this one, tombstones counted, or `None` where it isn't
@@ -167,7 +164,7 @@ impl Sequence {
     /// The k-th character that a reader sees, counted from 0, or `None` past the last. Takes no
     /// memory. Linear.
     pub fn visible(&self, k: usize) -> Option<OpId>
-        ensures { (ops : List Op) (doc : ℕ) → self.now ≡ content_of ops doc
+        ensures { (ops : List Op) (doc : ℕ) → Holds self.now ops doc
             → result ≡ id_at (seen ops doc) k }
     {
         shown(&self.cells, k)
@@ -176,7 +173,7 @@ impl Sequence {
     /// The tombstones between the first so many characters that a reader sees and the next one, in
     /// order. An error is want of memory (1). Linear.
     pub fn run_after(&self, count: usize) -> Result<Vec<OpId>, AllocError>
-        ensures { IfOk result (λ run. (ops : List Op) (doc : ℕ) → self.now ≡ content_of ops doc
+        ensures { IfOk result (λ run. (ops : List Op) (doc : ℕ) → Holds self.now ops doc
             → run.items ≡ map (λ c. c.id) (tombstones_at ops doc count)) }
     {
         let from = behind(&self.cells, count);
@@ -192,7 +189,7 @@ impl Sequence {
         before: Option<OpId>,
         marks: &M,
     ) -> Option<OpId>
-        ensures { (ops : List Op) (doc : ℕ) → self.now ≡ content_of ops doc
+        ensures { (ops : List Op) (doc : ℕ) → Holds self.now ops doc
             → result ≡ last_ended_of (M.ends_after marks.now) before
             (map (λ c. c.id) (tombstones_at ops doc count)) }
     {
@@ -202,7 +199,7 @@ impl Sequence {
 
     /// The text that a reader sees. An error is want of memory (1). Linear.
     pub fn text(&self) -> Result<Text, AllocError>
-        ensures { IfOk result (λ text. (ops : List Op) (doc : ℕ) → self.now ≡ content_of ops doc
+        ensures { IfOk result (λ text. (ops : List Op) (doc : ℕ) → Holds self.now ops doc
             → text ≡ text_of ops doc) }
     {
         let values = values(*self.cells.allocator(), &self.cells)?;
@@ -227,12 +224,6 @@ fn insert_cell(
             Ok(())
         }
     }
-}
-
-fn copy(cells: &Vec<Cell>) -> Result<Vec<Cell>, AllocError>
-    ensures { IfOk result (λ copied. copied.items ≡ cells.now.items) }
-{
-    cells.clone()
 }
 
 /// Puts a run of inserts behind an origin that is there. There is room for it.

@@ -43,6 +43,18 @@ fn a_removed_character_stays_as_a_tombstone(rt: HostRuntime) -> Result<(), Fail>
     assert_eq!(rt; sequence.run_after(0)?.len(), 0);
     sequence.apply_insert(id(3, 1)?, Some(b), 'c')?;
     assert!(rt; has_text(&rt, &sequence, "ac")?);
+    assert!(rt;
+        sequence
+            .cell(0)
+            .is_some_and(|cell| cell.id.is_same(a) && !cell.is_removed)
+    );
+    assert!(rt;
+        sequence
+            .cell(1)
+            .is_some_and(|cell| cell.id.is_same(b) && cell.is_removed)
+    );
+    assert!(rt; sequence.cell(2).is_some_and(|cell| cell.value == 'c'));
+    assert_eq!(rt; sequence.cell(3), None);
     Ok(())
 }
 
@@ -71,6 +83,20 @@ fn a_run_goes_in_whole_behind_its_origin(rt: HostRuntime) -> Result<(), Fail> {
     assert_eq!(rt; refused.err().map_or(0, |error| error.number()), 60);
     assert!(rt; has_text(&rt, &sequence, "azbc")?);
     Ok(())
+}
+
+/// No mark operations.
+#[derive(Clone, Copy)]
+struct NoMarks;
+
+impl EndsAfter for NoMarks {
+    ghost use Rattle.std.specs.Prelude.{false};
+
+    ghost ends_after = { λ _ _. false };
+
+    fn ends_after(&self, _id: OpId) -> bool {
+        false
+    }
 }
 
 /// A mark operation that ends just after this character.

@@ -2,8 +2,8 @@ use crate::cell::Cell;
 use op_ids::{OpId, ReplicaId};
 use std::alloc::{AllocError, Global};
 
-/// The places of the characters of one replica, in the order in which they came. Since a replica counts up, a character is
-/// found by its counter. It is a hint, which whoever takes it checks.
+/// The places of the characters of one replica, in the order in which they came. Since a replica
+/// counts up, a character is found by its counter. It is a hint, which whoever takes it checks.
 #[derive(Debug, Drop)]
 pub struct Trail {
     replica: ReplicaId,
@@ -29,8 +29,8 @@ pub fn note(
     Ok(())
 }
 
-/// The place where a character should be, counted from 1, or 0. A few steps where its replica inserts alone, else a
-/// binary search among its characters.
+/// The place where a character should be, counted from 1, or 0. A few steps where its replica
+/// inserts alone, else a binary search among its characters.
 pub fn hinted(trails: &[Trail], cells: &[Cell], id: &OpId) -> usize {
     for trail in trails {
         if trail.replica == id.replica() {

@@ -1,12 +1,13 @@
-ghost use Rattle.std.specs.Prelude.{◌≡◌, ◌↔◌, ℕ, ◌++◌, ◌∷◌, ◌<◌, List, [], Some, length, vec_len, vec_capacity, slice_set, MatchOption, IfOk, OnOk, OnErr, IsErrOf, true, false};
+ghost use Rattle.std.specs.Prelude.{◌≡◌, ◌↔◌, ℕ, ◌<◌, List, Some, length, vec_len, vec_capacity};
+ghost use Rattle.std.specs.Prelude.{MatchOption, IfOk, OnOk, OnErr, IsErrOf, true, false};
+ghost use Rattle.op_ids.specs.Id.{Id, is_same};
 ghost use Rattle.op_model.specs.declared.op.Op.{Op};
 ghost use Rattle.op_model.specs.declared.op.Body.TheVariants.{Insert, Remove};
-ghost use Rattle.op_ids.specs.Id.{Id, is_same};
 ghost use Rattle.char_sequence.specs.declared.cell.Cell.{Cell};
 ghost use Rattle.char_sequence.specs.Cells.{has_cell, is_known};
-ghost use Rattle.char_sequence.specs.Content.{is_there, Holds};
-ghost use Rattle.char_sequence.specs.Links.{cell_at as cell_at_place};
-ghost use Rattle.char_sequence.specs.Weave.{AreOnce, IsWeaveOf, Starts, TakesIn};
+ghost use Rattle.char_sequence.specs.Content.{empty, is_there, Holds, Takes};
+ghost use Rattle.char_sequence.specs.Links.{cell_at_place};
+ghost use Rattle.char_sequence.specs.Weave.{Starts, Weaves};
 
 use crate::cell::Cell;
 use crate::error::SequenceError;
@@ -16,6 +17,7 @@ use crate::sequence::Sequence;
 use crate::trail::{Trail, hinted, note};
 use op_ids::{OpId, ReplicaId};
 use std::alloc::{AllocError, Global};
+use std::marker::Model;
 
 /// The most characters of a document, so that a place is a number of 32 bits.
 const MAX_CELLS: usize = 4_294_967_294;
@@ -34,10 +36,22 @@ pub struct Weave {
     trails: Vec<Trail>,
 }
 
+impl Model for Weave {
+    ghost use Rattle.char_sequence.specs.Content.{Held};
+
+    ghost Value = { Held };
+
+    ghost use Rattle.char_sequence.specs.Weave.{woven, IsWoven};
+
+    ghost view = { λ w. woven w.cells.items w.next.items };
+
+    ghost invariant = { λ w. IsWoven w.cells.items w.next.items };
+}
+
 impl Weave {
     /// The weave of an empty document. An error is want of memory (1).
     pub fn new(alloc: Global) -> Result<Weave, AllocError>
-        ensures { IfOk result (λ w. IsWeaveOf w []) }
+        ensures { IfOk result (λ w. w ≡ empty) }
     {
         let mut next = Vec::new(alloc);
         next.push(0)?;
@@ -60,14 +74,12 @@ impl Weave {
         origin: Option<OpId>,
         value: char,
     ) -> Result<(), SequenceError>
-        ensures taken { OnOk result (TakesIn id (Insert origin value) self.old self.new) }
-        ensures unknown { (ops : List Op) (doc : ℕ) (cells : List Cell) → IsWeaveOf self.old cells
-            → Holds cells ops doc
+        ensures taken { OnOk result (Takes id (Insert origin value) self.old self.new) }
+        ensures unknown { (ops : List Op) (doc : ℕ) → Holds self.old ops doc
             → (IsErrOf result SequenceError.UnknownId ↔ (is_there ops doc origin ≡ false)) }
-        ensures err { OnErr result ((cells : List Cell) → IsWeaveOf self.old cells
-            → IsWeaveOf self.new cells) }
+        ensures err { OnErr result (self.new ≡ self.old) }
     {
-        let from = match self.start_of(&origin) {
+        let from = match start_of(&self.trails, &self.cells, &origin) {
             Some(from) => from,
             None => return Err(SequenceError::UnknownId),
         };
@@ -76,7 +88,12 @@ impl Weave {
             value,
             is_removed: false,
         };
-        let slot = self.make_room(id.replica())?;
+        let slot = make_room(
+            &mut self.cells,
+            &mut self.next,
+            &mut self.trails,
+            id.replica(),
+        )?;
         let at = past(&self.cells, &self.next, from, &cell);
         let behind = next_of(&self.next, at);
         self.cells.push_reserved(cell);
@@ -89,13 +106,13 @@ impl Weave {
     /// there, which leaves the characters as they were. Takes no memory. A binary search; a search
     /// of all only where the hint is wrong.
     pub fn remove(&mut self, id: OpId) -> Result<(), SequenceError>
-        ensures taken { OnOk result ((by : Id) → TakesIn by (Remove id) self.old self.new) }
-        ensures unknown { (ops : List Op) (doc : ℕ) (cells : List Cell) → IsWeaveOf self.old cells
-            → Holds cells ops doc
+        ensures taken { OnOk result ((by : Id) → Takes by (Remove id) self.old self.new) }
+        ensures unknown { (ops : List Op) (doc : ℕ) → Holds self.old ops doc
             → (IsErrOf result SequenceError.UnknownId ↔ (is_there ops doc (Some id) ≡ false)) }
+        ensures memory { IsErrOf result SequenceError.Memory → ⊥ }
         ensures err { OnErr result (self.new ≡ self.old) }
     {
-        let at = match self.place_of(&id) {
+        let at = match place_of(&self.trails, &self.cells, &id) {
             Some(at) => at,
             None => return Err(SequenceError::UnknownId),
         };
@@ -104,9 +121,21 @@ impl Weave {
         Ok(())
     }
 
+    /// Whether a character is there. Takes no memory. A binary search; a search of all only where
+    /// the hint is wrong.
+    pub fn has(&self, id: OpId) -> bool
+        ensures { (ops : List Op) (doc : ℕ) → Holds self.now ops doc
+            → result ≡ is_there ops doc (Some id) }
+    {
+        match place_of(&self.trails, &self.cells, &id) {
+            Some(_) => true,
+            None => false,
+        }
+    }
+
     /// The sequence of these characters. An error is want of memory (1). A step for each.
     pub fn sequence(&self, alloc: Global) -> Result<Sequence, AllocError>
-        ensures { IfOk result (λ s. (cells : List Cell) → IsWeaveOf self.now cells → s ≡ cells) }
+        ensures { IfOk result (λ s. s ≡ self.now) }
     {
         let mut cells = Vec::with_capacity(alloc, self.cells.len())?;
         let mut at = 0;
@@ -114,60 +143,65 @@ impl Weave {
             at = next_of(&self.next, at) as usize;
             match cell_at(&self.cells, at) {
                 Some(cell) => cells.push(cell)?,
-                None => return Ok(Sequence::from_cells(cells)),
+                None => {}
             }
         }
         Ok(Sequence::from_cells(cells))
     }
+}
 
-    /// The place where what hangs from an origin begins, or `None` where the origin isn't there.
-    fn start_of(&self, origin: &Option<OpId>) -> Option<usize>
-        ensures { (cells : List Cell) (w : IsWeaveOf self.now cells) → MatchOption result
-            (is_known cells origin.now ≡ false) (λ from. (is_known cells origin.now ≡ true)
-            × (AreOnce cells → Starts w.order cells origin.now from)) }
-    {
-        match origin {
-            None => Some(0),
-            Some(id) => self.place_of(id),
+/// The place where what hangs from an origin begins, or `None` where the origin isn't there.
+fn start_of(trails: &[Trail], cells: &[Cell], origin: &Option<OpId>) -> Option<usize>
+    ensures { (next : List ℕ) (cs : List Cell) (w : Weaves cells.now next cs)
+        → MatchOption result (is_known cs origin.now ≡ false)
+        (λ from. (is_known cs origin.now ≡ true) × Starts w.order cs origin.now from) }
+{
+    match origin {
+        None => Some(0),
+        Some(id) => place_of(trails, cells, id),
+    }
+}
+
+/// The place of the character of an id, counted from 1, or `None` where there is none. A binary
+/// search; a search of all only where the hint is wrong.
+fn place_of(trails: &[Trail], cells: &[Cell], id: &OpId) -> Option<usize>
+    ensures { MatchOption result (has_cell cells.now id.now ≡ false)
+        (λ at. (c : Cell) × (cell_at_place cells.now at ≡ Some c)
+        × (is_same c.id id.now ≡ true)) }
+{
+    let hint = hinted(trails, cells, id);
+    if let Some(cell) = cell_at(cells, hint) {
+        if cell.id.is_same(*id) {
+            return Some(hint);
         }
     }
-
-    /// The place of the character of an id, counted from 1, or `None` where there is none. A binary
-    /// search; a search of all only where the hint is wrong.
-    fn place_of(&self, id: &OpId) -> Option<usize>
-        ensures { MatchOption result (has_cell self.now.cells.items id.now ≡ false)
-            (λ at. (c : Cell) × (cell_at_place self.now.cells.items at ≡ Some c)
-            × (is_same c.id id.now ≡ true)) }
-    {
-        let hint = hinted(&self.trails, &self.cells, id);
-        if let Some(cell) = cell_at(&self.cells, hint) {
-            if cell.id.is_same(*id) {
-                return Some(hint);
-            }
-        }
-        match place(&self.cells, id) {
-            Some(i) => Some(i + 1),
-            None => None,
-        }
+    match place(cells, id) {
+        Some(i) => Some(i + 1),
+        None => None,
     }
+}
 
-    /// Makes room for a character of a replica, and gives its place. An error is want of memory
-    /// (1), or the limit of a weave; the characters stay as they are.
-    fn make_room(&mut self, replica: ReplicaId) -> Result<u32, AllocError>
-        ensures cells { self.new.cells.items ≡ self.old.cells.items }
-        ensures next { self.new.next.items ≡ self.old.next.items }
-        ensures room { OnOk result ((vec_len self.new.cells < vec_capacity self.new.cells)
-            × (vec_len self.new.next < vec_capacity self.new.next)) }
-        ensures slot { IfOk result (λ slot. slot ≡ length self.old.next.items) }
-    {
-        let slot = self.next.len();
-        if slot > MAX_CELLS {
-            return Err(AllocError);
-        }
-        self.cells.reserve(1)?;
-        self.next.reserve(1)?;
-        let alloc = *self.cells.allocator();
-        note(&mut self.trails, alloc, replica, slot as u32)?;
-        Ok(slot as u32)
+/// Makes room for a character of a replica, and gives its place. An error is want of memory (1), or
+/// the limit of a weave; the characters stay as they are.
+fn make_room(
+    cells: &mut Vec<Cell>,
+    next: &mut Vec<u32>,
+    trails: &mut Vec<Trail>,
+    replica: ReplicaId,
+) -> Result<u32, AllocError>
+    ensures cells { cells.new.items ≡ cells.old.items }
+    ensures next { next.new.items ≡ next.old.items }
+    ensures room { OnOk result ((vec_len cells.new < vec_capacity cells.new)
+        × (vec_len next.new < vec_capacity next.new)) }
+    ensures slot { IfOk result (λ slot. slot ≡ length next.old.items) }
+{
+    let slot = next.len();
+    if slot > MAX_CELLS {
+        return Err(AllocError);
     }
+    cells.reserve(1)?;
+    next.reserve(1)?;
+    let alloc = *cells.allocator();
+    note(trails, alloc, replica, slot as u32)?;
+    Ok(slot as u32)
 }

@@ -1,6 +1,7 @@
-pub mod Clocks
-pub mod LawLemmas
-pub mod MakingLemmas
-pub mod StandingLemmas
-pub mod RunLemmas
 pub mod DraftLemmas
+pub mod FittingLemmas
+pub mod LimitLemmas
+pub mod MakingLemmas
+pub mod NamingLemmas
+pub mod StandingLemmas
+pub mod TakingLemmas

@@ -4,8 +4,9 @@ use Rattle.std.specs.Prelude.{nat_le}
 use Rattle.std.proofs.Math.Seq.{drop-nil, take-nil}
 use Rattle.std.proofs.lemmas.Bool.{le-leb}
 use Rattle.std.proofs.lemmas.Bool.Decides.{nat_tests}
-use Rattle.std.specs.List.{list_any}
+use Rattle.std.specs.declared.num.NonZeroU32.{NonZeroU32}
 use Rattle.op_ids.specs.Id.{Id}
+use Rattle.op_ids.specs.Clock.{advanced}
 use Rattle.op_model.specs.declared.op.Op.{Op}
 use Rattle.op_model.specs.declared.op.Body.{Body}
 use Rattle.op_model.specs.declared.op.Body.TheVariants.{Remove, AddMark, RemoveMark}
@@ -18,12 +19,13 @@ use Rattle.op_model.specs.declared.edit.Change.TheVariants as change
 use Rattle.op_model.specs.declared.character.Character.{Character}
 use Rattle.op_model.specs.Causality.{optional, clock_of}
 use Rattle.op_model.specs.Text.{visible}
-use Rattle.op_model.specs.Made.{id_at, id_before, is_end_after, last_or, tombstones_at, ends_after, origin_of, insert_bodies, numbered, greatest_counter, made, start_of, end_of}
-use Rattle.char_sequence.specs.Cells.{last_ended}
-use Rattle.mark_anchors.proofs.EndLemmas.{kept_ends}
-use Rattle.op_model.specs.declared.marking.Marking.{Marking}
-use Rattle.op_model.specs.Marks.{key_of, markings}
+use Rattle.op_model.specs.Made.{id_at, id_before, last_or, tombstones_at, ends_after, origin_of, insert_bodies, numbered, greatest_counter, made, start_of, end_of}
+use Rattle.char_sequence.specs.Content.{last_ended, AreRemoves, IsRun}
+use Rattle.mark_anchors.specs.Keeping.{kept_end_after, AreMarksOf, Kept}
+use Rattle.mark_anchors.proofs.EndLemmas.{kept_say_ends}
+use Rattle.op_model.specs.Marks.{key_of}
 use Rattle.doc_core.specs.Making.{IsNext}
+use Rattle.doc_core.specs.Typing.{run_from}
 
 -- one more of the ids from an index on
 pub ids_more : (cs : List Character) (at n : ℕ)
@@ -85,15 +87,14 @@ made_insert ops edit replica doc counter at clock text origin next same_doc same
     rw (same_change, same_doc, next.counted, next.depends, is_origin) refl
 
 -- the tombstone that the definition hangs an insert from
-pub origin_there : (kept : List Marking) (ops : List Op) (doc at : ℕ) (before origin : Option Id) → kept ≡ markings ops doc
+pub origin_there : (kept : Kept) (ops : List Op) (doc at : ℕ) (before origin : Option Id) → AreMarksOf kept ops doc
     → before ≡ id_before (visible ops doc) at
-    → origin ≡ last_ended (λ id. list_any (λ m. is_end_after id m.end) kept) before (map (λ c. c.id) (tombstones_at ops doc at))
+    → origin ≡ last_ended (kept_end_after kept) before (map (λ c. c.id) (tombstones_at ops doc at))
     → origin ≡ origin_of ops doc at
 origin_there kept ops doc at before origin are is_before is_last =
-    let ends : Id → Bool = λ id. list_any (λ m. is_end_after id m.end) kept in
-    let says : SaysEnds ends ops doc = λ id. ap (λ ms. list_any (λ m. is_end_after id m.end) ms) are ∙ kept_ends ops doc id in
+    let says : SaysEnds (kept_end_after kept) ops doc = λ id. kept_say_ends kept ops doc id are in
     is_last
-    ∙ (last_ended-tombstones ends ops doc before (tombstones_at ops doc at) says
+    ∙ (last_ended-tombstones (kept_end_after kept) ops doc before (tombstones_at ops doc at) says
     ∙ ap (λ first. last_or first (filter (λ c. ends_after ops doc c.id) (tombstones_at ops doc at))) is_before)
 
 pub length-insert_bodies : (replica counter : ℕ) (origin : Option Id) (text : List ℕ)
@@ -107,14 +108,29 @@ map_removes [] = refl
 map_removes (c ∷ cs) = ap (λ bodies. Remove c.id ∷ bodies) (map_removes cs)
 
 -- removes of the definition's characters are those of the edit
-pub made_removes : (ops : List Op) (edit : Edit) (replica doc counter at count : ℕ) (clock again : List (ℕ × ℕ)) (targets ids : List Id) (bodies more : List Body)
-    → IsNext ops counter clock → edit.doc ≡ doc → again ≡ clock → more ≡ bodies → bodies ≡ map Remove ids → ids ≡ targets
-    → targets ≡ map (λ c. c.id) (take count (drop at (visible ops doc)))
-    → numbered replica doc counter again more
-    ≡ numbered replica edit.doc (greatest_counter ops + 1) (clock_of ops) (map (λ c. Remove c.id) (take count (drop at (visible ops edit.doc))))
-made_removes ops edit replica doc counter at count clock again targets ids bodies more next same_doc same_clock same_bodies are_removes same_ids are_seen =
-    rw (same_doc, same_clock, same_bodies, are_removes, same_ids, are_seen, next.counted, next.depends)
-    (ap (numbered replica doc (greatest_counter ops + 1) (clock_of ops)) (map_removes (take count (drop at (visible ops doc)))))
+pub made_removes : (ops : List Op) (edit : Edit) (replica doc counter at : ℕ) (count : NonZeroU32) (clock : List (ℕ × ℕ)) (targets ids : List Id) (bodies more : List Body)
+    → IsNext ops counter clock → edit.doc ≡ doc → edit.change ≡ change.Delete at count → more ≡ bodies → bodies ≡ map Remove ids → ids ≡ targets
+    → targets ≡ map (λ c. c.id) (take count.value (drop at (visible ops doc)))
+    → numbered replica doc counter clock more ≡ made ops replica edit
+made_removes ops edit replica doc counter at count clock targets ids bodies more next same_doc same_change same_bodies are_removes same_ids are_seen =
+    rw (same_change, same_doc, same_bodies, are_removes, same_ids, are_seen, next.counted, next.depends)
+    (ap (numbered replica doc (greatest_counter ops + 1) (clock_of ops)) (map_removes (take count.value (drop at (visible ops doc)))))
+
+-- numbered removes remove their characters
+pub removes_numbered : (replica doc counter : ℕ) (clock : List (ℕ × ℕ)) (ids : List Id) → AreRemoves ids (numbered replica doc counter clock (map Remove ids))
+removes_numbered replica doc counter clock [] = tt
+removes_numbered replica doc counter clock (id ∷ ids) = (refl, removes_numbered replica doc (counter + 1) (advanced clock replica) ids)
+
+-- numbered inserts of a text are a run
+pub run_numbered : (replica doc counter : ℕ) (clock : List (ℕ × ℕ)) (origin : Option Id) (text : List ℕ)
+    → IsRun origin (run_from replica counter text) (numbered replica doc counter clock (insert_bodies replica counter origin text))
+run_numbered replica doc counter clock origin [] = tt
+run_numbered replica doc counter clock origin (c ∷ cs) =
+    (refl, refl, run_numbered replica doc (counter + 1) (advanced clock replica) (Some (record { counter = counter; replica = replica })) cs)
+
+pub length-numbered : (replica doc counter : ℕ) (clock : List (ℕ × ℕ)) (bodies : List Body) → length (numbered replica doc counter clock bodies) ≡ length bodies
+length-numbered replica doc counter clock [] = refl
+length-numbered replica doc counter clock (b ∷ bs) = ap suc (length-numbered replica doc (counter + 1) (advanced clock replica) bs)
 
 -- one more target was found
 pub found_more : (cs : List Character) (at i : ℕ) (before after : List Id) (found : Option Id) → after ≡ before ++ optional found

@@ -1,21 +1,26 @@
 -- What a draft of a document stands for.
-use Rattle.std.specs.Prelude.{◌≡◌, ℕ, List}
+use Rattle.std.specs.Prelude.{◌≡◌, ℕ, List, [], ◌∷◌, ◌++◌}
+use Rattle.op_model.specs.declared.marking.Marking.{Marking}
 use Rattle.op_model.specs.declared.op.Op.{Op}
 use Rattle.op_model.specs.Marks.{markings}
-use Rattle.op_model.specs.Placing.{IsOrderly}
+use Rattle.op_model.specs.Placing.{Fits}
 use Rattle.op_model.specs.Text.{rev}
-use Rattle.char_sequence.specs.Content.{content_of}
-use Rattle.char_sequence.specs.Weave.{IsWeaveOf}
-use Rattle.doc_core.specs.declared.draft.Draft.{Draft}
+use Rattle.char_sequence.specs.Content.{Held, Holds}
+use Rattle.doc_core.specs.Standing.{counted}
 
--- the number of the document
-abbrev pub draft_number : Draft → ℕ
-draft_number d = d.doc
+-- a draft as contracts see it: its number, its characters, its mark operations as they came, and how many operations it counts
+pub record Drafted : Type 0 where
+  pub number : ℕ
+  pub characters : Held
+  pub markings : List Marking
+  pub rev : ℕ
 
--- the draft is what these operations make of its document: it holds their characters, keeps its mark operations, and counts those
--- of its own
-pub record IsDraftOf (d : Draft) (ops : List Op) : Type 0 where
-  pub orderly : IsOrderly ops d.doc
-  pub characters : IsWeaveOf d.weave (content_of ops d.doc)
-  pub marks : d.anchors ≡ markings ops d.doc
-  pub rev : d.rev ≡ rev ops d.doc
+-- the draft is what these operations make of its document
+pub record IsDraftOf (d : Drafted) (ops : List Op) : Type 0 where
+  pub characters : Holds d.characters ops d.number
+  pub markings : d.markings ≡ markings ops d.number
+  pub rev : d.rev ≡ counted (rev ops d.number)
+
+-- From the draft of any operations that this one fits, the call leads to the draft of them and it.
+abbrev pub TakesDraft : Op → Drafted → Drafted → Type 0
+TakesDraft op old new = (ops : List Op) → IsDraftOf old ops → Fits ops old.number op → IsDraftOf new (ops ++ op ∷ [])

@@ -1,14 +1,9 @@
 -- How many operations a replica can make at once.
-use Rattle.std.specs.Prelude.{◌≡◌, ◌⊎◌, ◌<◌, ◌+◌, ◌^◌, ℕ, zero, suc, List}
-use Rattle.op_ids.specs.Clock.{advanced, IsOverfull}
+use Rattle.std.specs.Prelude.{ℕ, ◌+◌, Bool, ◌&&◌, nat_le, nat_lt, List}
+use Rattle.op_ids.specs.Clock.{advanced_by, is_clock}
 
--- the clock with so many more operations of a replica
-abbrev pub advanced_by : List (ℕ × ℕ) → ℕ → ℕ → List (ℕ × ℕ)
-advanced_by clock replica zero = clock
-advanced_by clock replica (suc n) = advanced_by (advanced clock replica) replica n
-
--- so many operations are too many: more than 256, one would have a counter that isn't from 1 to 2^48 - 1, or the clock
--- behind them would count more than a store holds
-abbrev pub AreTooMany : ℕ → ℕ → List (ℕ × ℕ) → ℕ → Type 0
-AreTooMany replica counter clock n =
-    (256 < n) ⊎ (counter ≡ 0) ⊎ (2 ^ 48 < counter + n) ⊎ IsOverfull (advanced_by clock replica n)
+-- so many operations keep the limits: at most 256, their counters from this one on are from 1 to 2^48 - 1, and the clock behind them is
+-- one, of at most 16 replicas with counts of at most 2^24
+abbrev pub keep_limits : ℕ → ℕ → List (ℕ × ℕ) → ℕ → Bool
+keep_limits replica counter clock n =
+    nat_le n 256 && nat_lt 0 counter && nat_le (counter + n) 281474976710656 && is_clock (advanced_by clock replica n)

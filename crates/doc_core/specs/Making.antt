@@ -1,10 +1,27 @@
--- What the operations of an edit are made from.
-use Rattle.std.specs.Prelude.{◌≡◌, ◌+◌, ℕ, List}
+-- What the operations of an edit are made from, and what they are.
+use Rattle.std.specs.Prelude.{◌≡◌, ◌<◌, ◌+◌, ℕ, List, length}
+use Rattle.op_model.specs.declared.edit.Change.{Change}
+use Rattle.op_model.specs.declared.edit.Edit.{Edit}
 use Rattle.op_model.specs.declared.op.Op.{Op}
 use Rattle.op_model.specs.Causality.{clock_of}
-use Rattle.op_model.specs.Made.{greatest_counter}
+use Rattle.op_model.specs.Made.{greatest_counter, made}
+use Rattle.char_sequence.specs.Content.{AreRemoves, IsRun}
+use Rattle.doc_core.specs.Standing.{Document, StandsFor}
+use Rattle.doc_core.specs.declared.made.Part.{Part}
+use Rattle.doc_core.specs.declared.made.Part.TheVariants.{Run, Removes, One}
 
 -- the next operation after these has this counter, and depends on this clock
 pub record IsNext (ops : List Op) (counter : ℕ) (clock : List (ℕ × ℕ)) : Type 0 where
   pub counted : counter ≡ greatest_counter ops + 1
   pub depends : clock ≡ clock_of ops
+
+-- these are the defined operations of a change of the document, whichever operations it stands for, where they are a replica's next ones
+abbrev pub AreMade : Document → ℕ → ℕ → List (ℕ × ℕ) → Change → List Op → Type 0
+AreMade d replica counter clock change found = (ops : List Op) (edit : Edit) → StandsFor d ops → IsNext ops counter clock
+    → edit.doc ≡ d.number → edit.change ≡ change → found ≡ made ops replica edit
+
+-- what is known of an edit's operations is so: they are a run of inserts, or removes of these characters, or there is one alone
+abbrev pub IsPart : Part → List Op → Type 0
+IsPart (Run origin run) ops = IsRun origin run.items ops × (0 < length ops)
+IsPart (Removes targets) ops = AreRemoves targets.items ops
+IsPart One ops = length ops ≡ 1

@@ -1,36 +1,56 @@
 -- What a document stands for.
-use Rattle.std.specs.Prelude.{◌≡◌, ◌<◌, ◌^◌, ℕ, Bool, List, [], ◌∷◌, ◌++◌, length}
-use Rattle.std.specs.List.{list_all}
+use Rattle.std.specs.Prelude.{◌≡◌, ℕ, Bool, not, List, [], ◌∷◌, ◌++◌, filter, min}
+use Rattle.std.specs.List.{list_all, list_any}
+use Rattle.op_ids.specs.Id.{Id, is_same}
 use Rattle.op_model.specs.declared.op.Op.{Op}
+use Rattle.op_model.specs.declared.op.Body.{Body}
+use Rattle.op_model.specs.declared.op.Body.TheVariants.{Insert, Remove, AddMark, RemoveMark}
 use Rattle.op_model.specs.Text.{rev}
 use Rattle.op_model.specs.Causality.{named_by}
-use Rattle.op_model.specs.Marks.{markings}
 use Rattle.op_model.specs.Characters.{characters}
 use Rattle.op_model.specs.Placing.{has_id, Fits}
-use Rattle.char_sequence.specs.Content.{Holds}
-use Rattle.doc_core.specs.declared.doc.Doc.{Doc}
+use Rattle.char_sequence.specs.Content.{Held, Holds, FitAfter}
+use Rattle.mark_anchors.specs.Keeping.{Kept, AreMarksOf}
 
--- the number of a document
-abbrev pub number_of : Doc → ℕ
-number_of d = d.doc
+-- a document as contracts see it: its number, its characters, its mark operations, and how many operations it counts
+pub record Document : Type 0 where
+  pub number : ℕ
+  pub characters : Held
+  pub marks : Kept
+  pub rev : ℕ
 
--- the document is what these operations make of it, one after another: it holds their characters, keeps its mark operations, and
--- counts those of its own
-pub record StandsFor (d : Doc) (ops : List Op) : Type 0 where
-  pub characters : Holds d.sequence ops d.doc
-  pub marks : d.anchors ≡ markings ops d.doc
-  pub rev : d.rev ≡ rev ops d.doc
+-- a count of 64 bits stays at its greatest
+abbrev pub counted : ℕ → ℕ
+counted n = min n 18446744073709551615
 
--- the document takes an operation after these: it fits, and they are fewer than a store holds
-pub record MayCome (ops : List Op) (doc : ℕ) (op : Op) : Type 0 where
-  pub fits : Fits ops doc op
-  pub room : length ops < 2 ^ 24
+-- the document is what these operations make of it, one after another: it holds their characters and their mark operations, and counts
+-- those of its own
+pub record StandsFor (d : Document) (ops : List Op) : Type 0 where
+  pub characters : Holds d.characters ops d.number
+  pub marks : AreMarksOf d.marks ops d.number
+  pub rev : d.rev ≡ counted (rev ops d.number)
 
--- the document takes these operations after others, one after another
-abbrev pub MayComeInTurn : List Op → ℕ → List Op → Type 0
-MayComeInTurn ops doc [] = Unit {0}
-MayComeInTurn ops doc (op ∷ more) = MayCome ops doc op × MayComeInTurn (ops ++ op ∷ []) doc more
+-- From standing for any operations that this one fits, the call leads to standing for them and it.
+abbrev pub Takes : Op → Document → Document → Type 0
+Takes op old new = (ops : List Op) → StandsFor old ops → Fits ops old.number op → StandsFor new (ops ++ op ∷ [])
 
--- all characters that an operation names are there
-abbrev pub names_are_there : List Op → ℕ → Op → Bool
-names_are_there ops doc op = list_all (λ id. has_id (characters ops doc) id) (named_by op.body)
+-- From standing for any operations that these fit, one after another, the call leads to standing for all.
+abbrev pub TakesAll : List Op → Document → Document → Type 0
+TakesAll edit old new = (ops : List Op) → StandsFor old ops → FitAfter ops old.number edit → StandsFor new (ops ++ edit)
+
+-- these characters are all there
+abbrev pub are_there : List Op → ℕ → List Id → Bool
+are_there ops doc ids = list_all (λ id. has_id (characters ops doc) id) ids
+
+-- the character that an operation inserts, before others
+abbrev pub with_inserted : Id → Body → List Id → List Id
+with_inserted id (Insert origin value) ids = id ∷ ids
+with_inserted id (Remove target) ids = ids
+with_inserted id (AddMark mark start end) ids = ids
+with_inserted id (RemoveMark key start end) ids = ids
+
+-- the characters that operations name, but for these, and those that one of them inserted before
+abbrev pub named_outside : List Id → List Op → List Id
+named_outside own [] = []
+named_outside own (op ∷ ops) =
+    filter (λ id. not (list_any (λ o. is_same o id) own)) (named_by op.body) ++ named_outside (with_inserted op.id op.body own) ops

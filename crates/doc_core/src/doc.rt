@@ -1,14 +1,16 @@
-ghost use Rattle.std.specs.Prelude.{◌≡◌, ◌+◌, ◌<◌, ◌^◌, List, [], IfOk, length, nat_le};
+ghost use Rattle.std.specs.Prelude.{◌≡◌, ◌<◌, ◌^◌, List, [], IfOk, length, nat_le};
 ghost use Rattle.op_model.specs.declared.op.Op.{Op};
 ghost use Rattle.op_model.specs.Made.{id_before, is_inside as is_inside_of, origin_of};
 ghost use Rattle.op_model.specs.Spans.{spans as spans_of};
 ghost use Rattle.op_model.specs.Text.{text as text_of, rev as rev_of, visible};
+ghost use Rattle.doc_core.specs.Standing.{StandsFor};
 
 use char_sequence::Sequence;
 use mark_anchors::Anchors;
 use op_ids::OpId;
 use op_model::{Change, Span, Text};
 use std::alloc::{AllocError, Global};
+use std::marker::Model;
 
 /// A document. It stands for the operations that were applied to it: its characters in the order
 /// of the text, tombstones too, its mark operations, and how many operations it has.
@@ -18,16 +20,27 @@ pub struct Doc {
     pub(crate) doc: u32,
     pub(crate) sequence: Sequence,
     pub(crate) anchors: Anchors,
-    /// How many operations it has.
+    /// How many operations it has; 2^64 - 1 stands for more too.
     pub(crate) rev: u64,
 }
 
-impl Doc {
-    ghost use Rattle.doc_core.specs.Standing.{number_of, StandsFor};
+impl Model for Doc {
+    ghost use Rattle.doc_core.specs.Standing.{Document};
 
+    ghost Value = { Document };
+
+    ghost view = { λ d. record {
+      number = d.doc;
+      characters = d.sequence;
+      marks = d.anchors;
+      rev = d.rev;
+    } };
+}
+
+impl Doc {
     /// The document of this number without operations. Constant.
     pub fn new(alloc: Global, doc: u32) -> Doc
-        ensures number { number_of result ≡ doc }
+        ensures number { result.number ≡ doc }
         ensures empty { StandsFor result [] }
     {
         Doc {
@@ -40,7 +53,7 @@ impl Doc {
 
     /// Its number. Constant.
     pub fn number(&self) -> u32
-        ensures { result ≡ number_of self.now }
+        ensures { result ≡ self.now.number }
     {
         self.doc
     }
@@ -49,7 +62,7 @@ impl Doc {
     /// tombstones counted.
     pub fn text(&self) -> Result<Text, AllocError>
         ensures { IfOk result (λ text. (ops : List Op) → StandsFor self.now ops
-            → text ≡ text_of ops (number_of self.now)) }
+            → text ≡ text_of ops self.now.number) }
     {
         self.sequence.text()
     }
@@ -60,15 +73,15 @@ impl Doc {
     /// operations, and the square of those about comments that cover it.
     pub fn spans(&self) -> Result<Vec<Span>, AllocError>
         ensures { IfOk result (λ found. (ops : List Op) → StandsFor self.now ops
-            → found.items ≡ spans_of ops (number_of self.now)) }
+            → found.items ≡ spans_of ops self.now.number) }
     {
         span_flatten::spans(&self.sequence, &self.anchors)
     }
 
-    /// How many operations the document has. Takes no memory. Constant.
+    /// How many operations the document has, if fewer than 2^64. Takes no memory. Constant.
     pub fn rev(&self) -> u64
         ensures { (ops : List Op) → StandsFor self.now ops
-            → result ≡ rev_of ops (number_of self.now) }
+            → rev_of ops self.now.number < 2 ^ 64 → result ≡ rev_of ops self.now.number }
     {
         self.rev
     }
@@ -76,7 +89,7 @@ impl Doc {
     /// Whether a reader sees so many characters. Takes no memory. Linear in the characters.
     pub fn shows(&self, count: usize) -> bool
         ensures { (ops : List Op) → StandsFor self.now ops
-            → result ≡ nat_le count (length (visible ops (number_of self.now))) }
+            → result ≡ nat_le count (length (visible ops self.now.number)) }
     {
         if count == 0 {
             return true;
@@ -90,7 +103,7 @@ impl Doc {
     /// Whether a change lies within the text. Takes no memory. Linear in the characters.
     pub fn is_inside(&self, change: &Change) -> bool
         ensures { (ops : List Op) → StandsFor self.now ops
-            → result ≡ is_inside_of (length (visible ops (number_of self.now))) change.now }
+            → result ≡ is_inside_of (length (visible ops self.now.number)) change.now }
     {
         match change {
             Change::Insert { at, .. } => self.shows(*at as usize),
@@ -100,13 +113,25 @@ impl Doc {
         }
     }
 
-    /// Where an insert behind so many visible characters hangs, the last of which is given. Takes
-    /// no memory. Linear in the characters, and for each tombstone there in the mark operations.
-    pub fn origin(&self, at: usize, before: Option<OpId>) -> Option<OpId>
+    /// The visible character before an index, or none at the beginning and past the end. Takes no
+    /// memory. Linear in the characters.
+    pub(crate) fn last_before(&self, at: usize) -> Option<OpId>
         ensures { (ops : List Op) → StandsFor self.now ops
-            → before ≡ id_before (visible ops (number_of self.now)) at
-            → result ≡ origin_of ops (number_of self.now) at }
+            → result ≡ id_before (visible ops self.now.number) at }
     {
+        if at == 0 {
+            return None;
+        }
+        self.sequence.visible(at - 1)
+    }
+
+    /// Where an insert behind so many visible characters hangs. Takes no memory. Linear in the
+    /// characters, and for each tombstone there in the mark operations.
+    pub fn origin(&self, at: usize) -> Option<OpId>
+        ensures { (ops : List Op) → StandsFor self.now ops
+            → result ≡ origin_of ops self.now.number at }
+    {
+        let before = self.last_before(at);
         self.sequence.last_ended(at, before, &self.anchors)
     }
 }

@@ -1,17 +1,19 @@
-ghost use Rattle.std.specs.Prelude.{◌≡◌, ℕ, List, [], ◌∷◌, ◌++◌, IfOk, OnOk, OnErr, IsErrOf};
-ghost use Rattle.char_sequence.specs.Content.{content_of};
-ghost use Rattle.char_sequence.specs.Weave.{IsWeaveOf};
-ghost use Rattle.doc_core.specs.Drafting.{draft_number, IsDraftOf};
-ghost use Rattle.doc_core.specs.Standing.{number_of, MayCome, StandsFor};
+ghost use Rattle.std.specs.Prelude.{◌≡◌, ◌↔◌, ℕ, List, [], ◌∷◌, ◌++◌, false, IfOk, OnOk, OnErr, IsErrOf};
+ghost use Rattle.char_sequence.specs.Content.{is_there, Holds};
+ghost use Rattle.doc_core.specs.Drafting.{IsDraftOf, TakesDraft};
+ghost use Rattle.doc_core.specs.Standing.{are_there, StandsFor};
+ghost use Rattle.doc_core.specs.Taking.{TakesWoven};
 ghost use Rattle.op_model.specs.declared.op.Op.{Op};
-ghost use Rattle.op_model.specs.Marks.{markings};
-ghost use Rattle.op_model.specs.Placing.{Fits, IsOrderly};
+ghost use Rattle.op_model.specs.Causality.{named_by, named_by_start, named_by_end};
+ghost use Rattle.op_model.specs.Marks.{markings as markings_of};
 
 use crate::doc::Doc;
 use char_sequence::{SequenceError, Weave};
 use mark_anchors::Anchors;
-use op_model::{Body, Op};
+use op_ids::OpId;
+use op_model::{Body, End, Marking, Op, Start};
 use std::alloc::{AllocError, Global};
+use std::marker::Model;
 
 /// A document while many operations are applied to it, one after another: its characters are a
 /// weave, which no insert moves. At the end it gives the document.
@@ -20,89 +22,130 @@ pub struct Draft {
     /// Its number.
     doc: u32,
     weave: Weave,
-    anchors: Anchors,
-    /// How many operations it has.
+    /// Its mark operations, in the order in which they came.
+    markings: Vec<Marking>,
+    /// How many operations it has; 2^64 - 1 stands for more too.
     rev: u64,
+}
+
+impl Model for Draft {
+    ghost use Rattle.doc_core.specs.Drafting.{Drafted};
+
+    ghost Value = { Drafted };
+
+    ghost view = { λ d. record {
+      number = d.doc;
+      characters = d.weave;
+      markings = d.markings.items;
+      rev = d.rev;
+    } };
 }
 
 impl Draft {
     /// The draft of the document of this number without operations. An error is want of memory (1).
     pub fn new(alloc: Global, doc: u32) -> Result<Draft, AllocError>
-        ensures number { IfOk result (λ d. draft_number d ≡ doc) }
+        ensures number { IfOk result (λ d. d.number ≡ doc) }
         ensures empty { IfOk result (λ d. IsDraftOf d []) }
     {
         Ok(Draft {
             doc,
             weave: Weave::new(alloc)?,
-            anchors: Anchors::new(alloc),
+            markings: Vec::new(alloc),
             rev: 0,
         })
     }
 
-    /// Takes an operation of the document that may come to it. `UnknownId` (60) only where it may
-    /// not, `Memory` (1) where a growth was refused; both leave the draft as it was. A binary
-    /// search for a character that it names, and for an insert a step for each greater id that
-    /// follows its origin.
-    pub fn apply(&mut self, op: &Op) -> Result<(), SequenceError>
-        ensures taken { OnOk result ((ops : List Op) → IsDraftOf self.old ops
-            → MayCome ops (draft_number self.old) op.now → IsDraftOf self.new (ops ++ op.now ∷ [])) }
-        ensures known { IsErrOf result SequenceError.UnknownId → (ops : List Op)
-            → IsDraftOf self.old ops → MayCome ops (draft_number self.old) op.now → ⊥ }
-        ensures number { draft_number self.new ≡ draft_number self.old }
-        ensures err { OnErr result ((ops : List Op) → IsDraftOf self.old ops
-            → IsDraftOf self.new ops) }
+    /// Its number. Constant.
+    pub fn number(&self) -> u32
+        ensures { result ≡ self.now.number }
     {
-        take(&mut self.weave, &mut self.anchors, op)?;
-        if self.rev < u64::MAX {
-            self.rev += 1;
-        }
+        self.doc
+    }
+
+    /// Takes an operation of the document. `UnknownId` (60) exactly where a character that it names
+    /// isn't there, `Memory` (1) where a growth was refused; both leave the draft as it was. A
+    /// binary search for each character that it names, and for an insert a step for each greater id
+    /// that follows its origin.
+    pub fn apply(&mut self, op: &Op) -> Result<(), SequenceError>
+        ensures taken { OnOk result (TakesDraft op.now self.old self.new) }
+        ensures unknown { (ops : List Op) → IsDraftOf self.old ops
+            → (IsErrOf result SequenceError.UnknownId
+            ↔ (are_there ops self.old.number (named_by op.now.body) ≡ false)) }
+        ensures number { self.new.number ≡ self.old.number }
+        ensures err { OnErr result (self.new ≡ self.old) }
+    {
+        take(&mut self.weave, &mut self.markings, op)?;
+        self.rev = self.rev.saturating_add(1);
         Ok(())
     }
 
     /// The document, in place of the draft: it keeps the draft's marks, and the weave is let go. An
     /// error is want of memory (1). A step for each character.
     pub fn finish(self, alloc: Global) -> Result<Doc, AllocError>
-        ensures number { IfOk result (λ d. number_of d ≡ draft_number self) }
+        ensures number { IfOk result (λ d. d.number ≡ self.number) }
         ensures stands { IfOk result (λ d. (ops : List Op) → IsDraftOf self ops
             → StandsFor d ops) }
     {
         let sequence = self.weave.sequence(alloc)?;
+        let anchors = Anchors::from_markings(self.markings, &sequence)?;
         Ok(Doc {
             doc: self.doc,
             sequence,
-            anchors: self.anchors,
+            anchors,
             rev: self.rev,
         })
     }
 }
 
 /// Takes what an operation does to the characters and to the marks.
-fn take(weave: &mut Weave, anchors: &mut Anchors, op: &Op) -> Result<(), SequenceError>
-    ensures taken { OnOk result ((ops : List Op) (doc : ℕ) → IsOrderly ops doc → Fits ops doc op.now
-        → IsWeaveOf weave.old (content_of ops doc)
-        → IsWeaveOf weave.new (content_of (ops ++ op.now ∷ []) doc)) }
-    ensures marks { OnOk result ((ops : List Op) (doc : ℕ) → anchors.old ≡ markings ops doc
-        → op.now.doc ≡ doc → anchors.new ≡ markings (ops ++ op.now ∷ []) doc) }
-    ensures known { IsErrOf result SequenceError.UnknownId → (ops : List Op) (doc : ℕ)
-        → IsOrderly ops doc → Fits ops doc op.now → IsWeaveOf weave.old (content_of ops doc) → ⊥ }
-    ensures characters_stay { OnErr result ((ops : List Op) (doc : ℕ)
-        → IsWeaveOf weave.old (content_of ops doc) → IsWeaveOf weave.new (content_of ops doc)) }
-    ensures marks_stay { OnErr result (anchors.new ≡ anchors.old) }
+fn take(weave: &mut Weave, markings: &mut Vec<Marking>, op: &Op) -> Result<(), SequenceError>
+    ensures taken { OnOk result
+        (TakesWoven op.now weave.old weave.new markings.old.items markings.new.items) }
+    ensures unknown { (ops : List Op) (doc : ℕ) → Holds weave.old ops doc
+        → (IsErrOf result SequenceError.UnknownId
+        ↔ (are_there ops doc (named_by op.now.body) ≡ false)) }
+    ensures characters { OnErr result (weave.new ≡ weave.old) }
+    ensures marks { OnErr result (markings.new.items ≡ markings.old.items) }
 {
     match &op.body {
         Body::Insert { origin, value } => weave.insert(op.id, *origin, *value),
         Body::Remove { target } => weave.remove(*target),
-        Body::AddMark { .. } => keep(anchors, op),
-        Body::RemoveMark { .. } => keep(anchors, op),
+        Body::AddMark { start, end, .. } => keep(weave, markings, op, start, end),
+        Body::RemoveMark { start, end, .. } => keep(weave, markings, op, start, end),
     }
 }
 
-/// Keeps a mark operation.
-fn keep(anchors: &mut Anchors, op: &Op) -> Result<(), SequenceError>
-    ensures taken { OnOk result (anchors.new ≡ anchors.old ++ markings (op.now ∷ []) op.now.doc) }
-    ensures err { OnErr result (anchors.new ≡ anchors.old) }
-    ensures memory { IsErrOf result SequenceError.UnknownId → ⊥ }
+/// Keeps a mark operation between these ends, if the characters that they name are there.
+fn keep(
+    weave: &Weave,
+    markings: &mut Vec<Marking>,
+    op: &Op,
+    start: &Start,
+    end: &End,
+) -> Result<(), SequenceError>
+    ensures taken { OnOk result
+        (markings.new.items ≡ markings.old.items ++ markings_of (op.now ∷ []) op.now.doc) }
+    ensures unknown { (ops : List Op) (doc : ℕ) → Holds weave.now ops doc
+        → (IsErrOf result SequenceError.UnknownId
+        ↔ (are_there ops doc (named_by_start start.now ++ named_by_end end.now) ≡ false)) }
+    ensures err { OnErr result (markings.new.items ≡ markings.old.items) }
 {
-    anchors.keep(op)?;
+    if !has(weave, start.character()) || !has(weave, end.character()) {
+        return Err(SequenceError::UnknownId);
+    }
+    match op.marking()? {
+        Some(marking) => markings.push(marking).map_err(AllocError::from)?,
+        None => {}
+    }
     Ok(())
+}
+
+/// Whether a character is there, if one is named.
+fn has(weave: &Weave, id: Option<OpId>) -> bool
+    ensures { (ops : List Op) (doc : ℕ) → Holds weave.now ops doc → result ≡ is_there ops doc id }
+{
+    match id {
+        None => true,
+        Some(id) => weave.has(id),
+    }
 }

@@ -5,6 +5,7 @@ mod apply;
 mod doc;
 mod draft;
 mod laws;
+mod made;
 mod make;
 mod make_error;
 mod make_mark;
@@ -13,8 +14,13 @@ mod numbering;
 pub use char_sequence::SequenceError;
 pub use doc::Doc;
 pub use draft::Draft;
-pub use laws::{followers_may_come, other_operations_stay};
+pub use laws::{fitting_names_are_there, followers_fit, other_operations_stay};
+pub use made::Made;
 pub use make_error::MakeError;
 
+#[cfg(test)]
+mod random_tests;
+#[cfg(test)]
+mod test_peer;
 #[cfg(test)]
 mod tests;

@@ -1,24 +1,21 @@
-ghost use Rattle.std.specs.Prelude.{◌≡◌, ◌↔◌, ◌+◌, ◌≤◌, ◌<◌, ◌^◌, false};
-ghost use Rattle.std.specs.Prelude.{List, [], ◌∷◌, length, IfOk, IsErrOf};
-ghost use Rattle.op_ids.specs.Clock.{IsOverfull};
+ghost use Rattle.std.specs.Prelude.{◌≡◌, ◌↔◌, true, false, List, [], ◌∷◌, length, IfOk, IsErrOf};
 ghost use Rattle.op_model.specs.declared.edit.Change.TheVariants as change;
-ghost use Rattle.op_model.specs.declared.edit.Edit.{Edit};
 ghost use Rattle.op_model.specs.declared.op.Op.{Op};
 ghost use Rattle.op_model.specs.Made.{end_after as end_after_of, end_before as end_before_of};
-ghost use Rattle.op_model.specs.Made.{start_before as start_before_of, start_of, end_of, id_before};
-ghost use Rattle.op_model.specs.Made.{is_inside, made as made_of, numbered as numbered_from};
-ghost use Rattle.op_model.specs.Made.{size_of};
+ghost use Rattle.op_model.specs.Made.{start_before as start_before_of, start_of, end_of};
+ghost use Rattle.op_model.specs.Made.{is_inside, numbered as numbered_from, size_of};
 ghost use Rattle.op_model.specs.Text.{visible};
-ghost use Rattle.doc_core.specs.Limits.{advanced_by, AreTooMany};
-ghost use Rattle.doc_core.specs.Making.{IsNext};
-ghost use Rattle.doc_core.specs.Standing.{number_of, StandsFor};
+ghost use Rattle.op_ids.specs.Clock.{is_clock};
+ghost use Rattle.doc_core.specs.Limits.{keep_limits as keep_limits_of};
+ghost use Rattle.doc_core.specs.Making.{AreMade};
+ghost use Rattle.doc_core.specs.Standing.{StandsFor};
 
 use crate::doc::Doc;
-use crate::make::check_size;
+use crate::made::{Made, Part};
 use crate::make_error::MakeError;
-use crate::numbering::numbered;
+use crate::numbering::keep_limits;
 use op_ids::{Clock, OpId, ReplicaId};
-use op_model::{Anchor, Body, Change, End, Mark, MarkKey, Op, Start};
+use op_model::{Anchor, Body, Change, End, Mark, MarkKey, Start, numbered};
 use std::alloc::{AllocError, Global};
 
 impl Doc {
@@ -29,8 +26,8 @@ impl Doc {
     /// their last character.
     ///
     /// Refuses, in this order: `Range` (5) exactly where there is no such character, `Limit` (7)
-    /// where the counter or the clock would pass its limit. `Memory` (1), where a growth was
-    /// refused, may stand in place of a clock's limit. Linear in the characters.
+    /// exactly where the counter or the clock would pass its limit; then `Memory` (1) where a
+    /// growth was refused. Linear in the characters.
     pub fn make_mark(
         &self,
         alloc: Global,
@@ -40,19 +37,22 @@ impl Doc {
         from: u32,
         to: u32,
         mark: &Mark,
-    ) -> Result<Vec<Op>, MakeError>
-        ensures made { IfOk result (λ made. (ops : List Op) (edit : Edit) → StandsFor self.now ops
-            → IsNext ops counter clock.now → edit.doc ≡ number_of self.now
-            → edit.change ≡ change.Mark from to mark.now → made.items ≡ made_of ops replica edit) }
+    ) -> Result<Made, MakeError>
+        ensures made { IfOk result
+            (AreMade self.now replica counter clock.now (change.Mark from to mark.now)) }
         ensures range { (ops : List Op) → StandsFor self.now ops → (IsErrOf result MakeError.Range
-            ↔ (is_inside (length (visible ops (number_of self.now))) (change.Mark from to mark.now)
-            ≡ false)) }
-        ensures limit { IsErrOf result MakeError.Limit → AreTooMany replica counter clock.now 1 }
+            ↔ (is_inside (length (visible ops self.now.number)) (change.Mark from to mark.now) ≡ false)) }
+        ensures limit { (ops : List Op) → StandsFor self.now ops → (IsErrOf result MakeError.Limit
+            ↔ ((is_inside (length (visible ops self.now.number)) (change.Mark from to mark.now) ≡ true)
+            × (keep_limits_of replica counter clock.now 1 ≡ false))) }
     {
         if from >= to || !self.shows(to as usize) {
             return Err(MakeError::Range);
         }
-        self.marked(alloc, replica, counter, clock, from, to, mark)
+        if !keep_limits(replica, counter, clock, 1) {
+            return Err(MakeError::Limit);
+        }
+        Ok(self.marked(alloc, replica, counter, clock, from, to, mark)?)
     }
 
     /// Makes the operation that takes a mark from the visible characters from an index up to
@@ -66,24 +66,26 @@ impl Doc {
         from: u32,
         to: u32,
         key: &MarkKey,
-    ) -> Result<Vec<Op>, MakeError>
-        ensures made { IfOk result (λ made. (ops : List Op) (edit : Edit) → StandsFor self.now ops
-            → IsNext ops counter clock.now → edit.doc ≡ number_of self.now
-            → edit.change ≡ change.Unmark from to key.now → made.items ≡ made_of ops replica edit) }
+    ) -> Result<Made, MakeError>
+        ensures made { IfOk result
+            (AreMade self.now replica counter clock.now (change.Unmark from to key.now)) }
         ensures range { (ops : List Op) → StandsFor self.now ops → (IsErrOf result MakeError.Range
-            ↔ (is_inside (length (visible ops (number_of self.now))) (change.Unmark from to key.now)
-            ≡ false)) }
-        ensures limit { IsErrOf result MakeError.Limit → AreTooMany replica counter clock.now 1 }
+            ↔ (is_inside (length (visible ops self.now.number)) (change.Unmark from to key.now) ≡ false)) }
+        ensures limit { (ops : List Op) → StandsFor self.now ops → (IsErrOf result MakeError.Limit
+            ↔ ((is_inside (length (visible ops self.now.number)) (change.Unmark from to key.now) ≡ true)
+            × (keep_limits_of replica counter clock.now 1 ≡ false))) }
     {
         if from >= to || !self.shows(to as usize) {
             return Err(MakeError::Range);
         }
-        self.unmarked(alloc, replica, counter, clock, from, to, key)
+        if !keep_limits(replica, counter, clock, 1) {
+            return Err(MakeError::Limit);
+        }
+        Ok(self.unmarked(alloc, replica, counter, clock, from, to, key)?)
     }
 
     /// Makes the operations of a change: a replica's next operations, the first with this counter
-    /// and depending on this clock. It is refused as the call for its kind: `Limit` (7) comes only
-    /// past a limit.
+    /// and depending on this clock. It is refused as the call for its kind.
     pub fn make(
         &self,
         alloc: Global,
@@ -91,14 +93,13 @@ impl Doc {
         counter: u64,
         clock: &Clock,
         change: &Change,
-    ) -> Result<Vec<Op>, MakeError>
-        ensures made { IfOk result (λ made. (ops : List Op) (edit : Edit) → StandsFor self.now ops
-            → IsNext ops counter clock.now → edit.doc ≡ number_of self.now
-            → edit.change ≡ change.now → made.items ≡ made_of ops replica edit) }
+    ) -> Result<Made, MakeError>
+        ensures made { IfOk result (AreMade self.now replica counter clock.now change.now) }
         ensures range { (ops : List Op) → StandsFor self.now ops → (IsErrOf result MakeError.Range
-            ↔ (is_inside (length (visible ops (number_of self.now))) change.now ≡ false)) }
-        ensures limit { IsErrOf result MakeError.Limit
-            → AreTooMany replica counter clock.now (size_of change.now) }
+            ↔ (is_inside (length (visible ops self.now.number)) change.now ≡ false)) }
+        ensures limit { (ops : List Op) → StandsFor self.now ops → (IsErrOf result MakeError.Limit
+            ↔ ((is_inside (length (visible ops self.now.number)) change.now ≡ true)
+            × (keep_limits_of replica counter clock.now (size_of change.now) ≡ false))) }
     {
         match change {
             Change::Insert { at, text } => self.make_insert(
@@ -116,7 +117,7 @@ impl Doc {
         }
     }
 
-    /// The operation that puts a mark on characters that are there.
+    /// The operation that puts a mark on characters. An error is want of memory (1).
     fn marked(
         &self,
         alloc: Global,
@@ -126,14 +127,12 @@ impl Doc {
         from: u32,
         to: u32,
         mark: &Mark,
-    ) -> Result<Vec<Op>, MakeError>
-        ensures made { IfOk result (λ made. (ops : List Op) (edit : Edit) → StandsFor self.now ops
-            → IsNext ops counter clock.now → edit.doc ≡ number_of self.now
-            → edit.change ≡ change.Mark from to mark.now → made.items ≡ made_of ops replica edit) }
-        ensures inside { IsErrOf result MakeError.Range → ⊥ }
-        ensures limit { IsErrOf result MakeError.Limit → AreTooMany replica counter clock.now 1 }
+    ) -> Result<Made, AllocError>
+        requires valid { is_clock clock.now ≡ true }
+        requires limit { keep_limits_of replica counter clock.now 1 ≡ true }
+        ensures { IfOk result
+            (AreMade self.now replica counter clock.now (change.Mark from to mark.now)) }
     {
-        check_size(counter, 1)?;
         let body = Body::AddMark {
             mark: mark.copy()?,
             start: self.start(from as usize),
@@ -142,7 +141,7 @@ impl Doc {
         self.one(alloc, replica, counter, clock, body)
     }
 
-    /// The operation that takes a mark from characters that are there.
+    /// The operation that takes a mark from characters. An error is want of memory (1).
     fn unmarked(
         &self,
         alloc: Global,
@@ -152,14 +151,12 @@ impl Doc {
         from: u32,
         to: u32,
         key: &MarkKey,
-    ) -> Result<Vec<Op>, MakeError>
-        ensures made { IfOk result (λ made. (ops : List Op) (edit : Edit) → StandsFor self.now ops
-            → IsNext ops counter clock.now → edit.doc ≡ number_of self.now
-            → edit.change ≡ change.Unmark from to key.now → made.items ≡ made_of ops replica edit) }
-        ensures inside { IsErrOf result MakeError.Range → ⊥ }
-        ensures limit { IsErrOf result MakeError.Limit → AreTooMany replica counter clock.now 1 }
+    ) -> Result<Made, AllocError>
+        requires valid { is_clock clock.now ≡ true }
+        requires limit { keep_limits_of replica counter clock.now 1 ≡ true }
+        ensures { IfOk result
+            (AreMade self.now replica counter clock.now (change.Unmark from to key.now)) }
     {
-        check_size(counter, 1)?;
         let body = Body::RemoveMark {
             key: *key,
             start: self.start(from as usize),
@@ -168,7 +165,7 @@ impl Doc {
         self.one(alloc, replica, counter, clock, body)
     }
 
-    /// The one operation that does this.
+    /// The one operation that does this. An error is want of memory (1).
     fn one(
         &self,
         alloc: Global,
@@ -176,24 +173,24 @@ impl Doc {
         counter: u64,
         clock: &Clock,
         body: Body,
-    ) -> Result<Vec<Op>, MakeError>
-        requires above_zero { 0 < counter }
-        requires in_range { counter + 1 ≤ 2 ^ 48 }
-        ensures made { IfOk result (λ made. made.items
-            ≡ numbered_from replica (number_of self.now) counter clock.now (body ∷ [])) }
-        ensures inside { IsErrOf result MakeError.Range → ⊥ }
-        ensures limit { IsErrOf result MakeError.Limit
-            → IsOverfull (advanced_by clock.now replica 1) }
+    ) -> Result<Made, AllocError>
+        requires valid { is_clock clock.now ≡ true }
+        requires limit { keep_limits_of replica counter clock.now 1 ≡ true }
+        ensures { IfOk result (λ made.
+            made ≡ numbered_from replica self.now.number counter clock.now (body ∷ [])) }
     {
         let bodies = only(alloc, body)?;
-        let clock = clock.copy()?;
-        Ok(numbered(alloc, replica, self.doc, counter, clock, &bodies)?)
+        let ops = numbered(alloc, replica, self.doc, counter, clock, &bodies)?;
+        Ok(Made {
+            ops,
+            part: Part::One,
+        })
     }
 
     /// Just before the visible character at an index.
     fn start(&self, from: usize) -> Start
         ensures { (ops : List Op) → StandsFor self.now ops
-            → result ≡ start_of (visible ops (number_of self.now)) from }
+            → result ≡ start_of (visible ops self.now.number) from }
     {
         start_before(self.sequence.visible(from))
     }
@@ -201,23 +198,12 @@ impl Doc {
     /// Where a mark of this key ends that is put on the visible characters before an index.
     fn end(&self, key: &MarkKey, to: usize) -> End
         ensures { (ops : List Op) → StandsFor self.now ops
-            → result ≡ end_of (visible ops (number_of self.now)) key.now to }
+            → result ≡ end_of (visible ops self.now.number) key.now to }
     {
         match key {
             MarkKey::Strong | MarkKey::Em => end_before(self.sequence.visible(to)),
             MarkKey::Link | MarkKey::Comment(_) => end_after(self.last_before(to)),
         }
-    }
-
-    /// The visible character before an index, or none at the beginning.
-    fn last_before(&self, at: usize) -> Option<OpId>
-        ensures { (ops : List Op) → StandsFor self.now ops
-            → result ≡ id_before (visible ops (number_of self.now)) at }
-    {
-        if at == 0 {
-            return None;
-        }
-        self.sequence.visible(at - 1)
     }
 }
 

@@ -1,37 +1,42 @@
-ghost use Rattle.std.specs.Prelude.{◌≡◌, ◌+◌, ◌≤◌, ◌<◌, ◌^◌, length, map, IfOk, IsErrOf};
-ghost use Rattle.op_ids.specs.Clock.{IsOverfull};
+//! What the operations of an edit do, and whether they keep the limits.
+ghost use Rattle.std.specs.Prelude.{◌≡◌, ◌+◌, ◌≤◌, ◌<◌, ◌^◌, true, length, map, IfOk};
+ghost use Rattle.op_ids.specs.Clock.{is_clock};
 ghost use Rattle.op_model.specs.declared.op.Body.TheVariants.{Remove};
-ghost use Rattle.op_model.specs.Made.{numbered as numbered_from, insert_bodies as insert_bodies_of};
-ghost use Rattle.doc_core.specs.Limits.{advanced_by};
+ghost use Rattle.doc_core.specs.Limits.{keep_limits as keep_limits_of};
+ghost use Rattle.doc_core.specs.Typing.{run_from};
 
-use op_ids::{Clock, ClockError, OpId, ReplicaId};
-use op_model::{Body, Op};
+use op_ids::{Clock, MAX_COUNTER, OpId, ReplicaId};
+use op_model::{Body, MAX_EDIT};
 use std::alloc::{AllocError, Global};
 
-/// Inserts of characters, the first behind this origin, each later one behind the one before.
-pub fn insert_bodies(
+/// Whether so many operations of a replica, the first with this counter and depending on this
+/// clock, keep the limits. Takes no memory.
+pub fn keep_limits(replica: ReplicaId, counter: u64, clock: &Clock, count: usize) -> bool
+    ensures value { result ≡ keep_limits_of replica counter clock.now count }
+    ensures rising { is_clock clock.now ≡ true }
+{
+    let has_room = clock.can_advance_by(replica, count as u64);
+    count <= MAX_EDIT && counter > 0 && counter <= MAX_COUNTER + 1 - count as u64 && has_room
+}
+
+/// The ids and the characters of a run of inserts from a counter on.
+pub fn run(
     alloc: Global,
     replica: ReplicaId,
     counter: u64,
-    origin: Option<OpId>,
     text: &[char],
-) -> Result<Vec<Body>, AllocError>
+) -> Result<Vec<(OpId, char)>, AllocError>
     requires above_zero { 0 < counter }
     requires in_range { counter + length text.now ≤ 2 ^ 48 }
-    ensures { IfOk result (λ bodies. bodies.items ≡ insert_bodies_of replica counter origin text.now) }
+    ensures { IfOk result (λ run. run.items ≡ run_from replica counter text.now) }
 {
-    let mut bodies = Vec::new(alloc);
-    let mut behind = origin;
+    let mut run = Vec::with_capacity(alloc, text.len())?;
     let mut next = counter;
     for value in text {
-        bodies.push(Body::Insert {
-            origin: behind,
-            value: *value,
-        })?;
-        behind = Some(OpId::new(next, replica));
+        run.push((OpId::new(next, replica), *value))?;
         next += 1;
     }
-    Ok(bodies)
+    Ok(run)
 }
 
 /// Removes of characters.
@@ -42,38 +47,4 @@ pub fn remove_bodies(alloc: Global, targets: &[OpId]) -> Result<Vec<Body>, Alloc
         .iter()
         .map(|target| Body::Remove { target: *target })
         .collect(alloc)
-}
-
-/// An operation for each body, their counters rising by one. `Limit` where no clock counts so
-/// many.
-pub fn numbered(
-    alloc: Global,
-    replica: ReplicaId,
-    doc: u32,
-    counter: u64,
-    clock: Clock,
-    bodies: &[Body],
-) -> Result<Vec<Op>, ClockError>
-    requires above_zero { 0 < counter }
-    requires in_range { counter + length bodies.now ≤ 2 ^ 48 }
-    ensures ops { IfOk result (λ made. made.items ≡ numbered_from replica doc counter clock bodies.now) }
-    ensures limit { IsErrOf result ClockError.Limit
-        → IsOverfull (advanced_by clock replica (length bodies.now)) }
-{
-    let mut ops = Vec::new(alloc);
-    let mut clock = clock;
-    let mut next = counter;
-    for body in bodies {
-        let id = OpId::new(next, replica);
-        ops.push(Op {
-            id,
-            doc,
-            deps: clock.copy()?,
-            body: body.copy()?,
-        })
-        .map_err(AllocError::from)?;
-        clock.advance(replica)?;
-        next += 1;
-    }
-    Ok(ops)
 }

@@ -6,7 +6,10 @@ mod laws;
 mod naming;
 
 pub use anchors::Anchors;
-pub use laws::kept_marks_say_their_ends;
+pub use laws::{
+    inserts_and_removes_leave_the_marks, kept_marks_say_their_ends,
+    other_documents_leave_the_marks, runs_and_removes_leave_the_marks,
+};
 
 #[cfg(test)]
 mod tests;

@@ -1,4 +1,4 @@
-ghost use Rattle.std.specs.Prelude.{◌≡◌, ◌↔◌, ℕ, List, ◌++◌, false, IsErrOf, OnErr};
+ghost use Rattle.std.specs.Prelude.{◌≡◌, ◌↔◌, ℕ, List, ◌++◌, false, IsErrOf};
 ghost use Rattle.std.specs.List.{list_all};
 ghost use Rattle.char_sequence.specs.Content.{is_there, Holds};
 ghost use Rattle.mark_anchors.specs.Naming.{named_by_marking};

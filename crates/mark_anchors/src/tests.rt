@@ -35,8 +35,8 @@ fn ends_are_known_where_marks_end_after(rt: HostRuntime) -> Result<(), Fail> {
     anchors.apply_mark(&plain(alloc, 3, a, End::To(Anchor::Before(b)))?, &sequence)?;
     assert!(rt; !anchors.ends_after(b));
     anchors.apply_mark(&plain(alloc, 4, a, End::To(Anchor::After(b)))?, &sequence)?;
-    let copied = anchors.copy()?;
-    assert!(rt; copied.ends_after(b) && !copied.ends_after(a));
+    assert!(rt; anchors.ends_after(b) && !anchors.ends_after(a));
+    assert_eq!(rt; anchors.in_order().len(), 2);
     Ok(())
 }
 
@@ -47,5 +47,23 @@ fn a_mark_on_an_unknown_character_is_refused(rt: HostRuntime) -> Result<(), Fail
     let mut anchors = Anchors::new(alloc);
     let refused = anchors.apply_mark(&plain(alloc, 3, id(1)?, End::OfText)?, &sequence);
     assert_eq!(rt; refused.err().map_or(0, |error| error.number()), 60);
+    Ok(())
+}
+
+#[test]
+fn mark_operations_in_order_make_the_anchors(rt: HostRuntime) -> Result<(), Fail> {
+    let alloc = rt.alloc();
+    let a = id(1)?;
+    let mut sequence = Sequence::new(alloc);
+    sequence.apply_insert(a, None, 'a')?;
+    let mut markings = Vec::new(alloc);
+    markings.push(
+        plain(alloc, 2, a, End::To(Anchor::After(a)))?
+            .marking()?
+            .ok_or("no mark")?,
+    )?;
+    let anchors = Anchors::from_markings(markings, &sequence)?;
+    assert!(rt; anchors.ends_after(a));
+    assert_eq!(rt; anchors.in_order().len(), 1);
     Ok(())
 }

@@ -4,3 +4,4 @@ pub mod EqualityLemmas
 pub mod IdLemmas
 pub mod JoinLemmas
 pub mod FullLemmas
+pub mod RoomLemmas

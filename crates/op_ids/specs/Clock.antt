@@ -1,6 +1,6 @@
 -- A vector clock says how many operations it counts of each replica. It is the list of its entries, a replica and a
 -- count each, in strictly rising order of replica.
-use Rattle.std.specs.Prelude.{◌⊎◌, ◌<◌, ℕ, ◌+◌, ◌==◌, Bool, true, ◌&&◌, nat_lt, nat_le, max, if◌then◌else◌, List, [], ◌∷◌, length}
+use Rattle.std.specs.Prelude.{◌⊎◌, ◌<◌, ℕ, zero, suc, ◌+◌, ◌==◌, Bool, true, ◌&&◌, nat_lt, nat_le, max, if◌then◌else◌, List, [], ◌∷◌, length}
 use Rattle.std.specs.Cmp.Lexicographic.{pointwise}
 
 -- how many operations of a replica the clock counts
@@ -15,6 +15,11 @@ advanced (e ∷ es) replica =
     if nat_lt replica e.0 then (replica, 1) ∷ e ∷ es
     else if e.0 == replica then (replica, e.1 + 1) ∷ es
     else e ∷ advanced es replica
+
+-- the clock with so many more operations of a replica
+abbrev pub advanced_by : List (ℕ × ℕ) → ℕ → ℕ → List (ℕ × ℕ)
+advanced_by clock replica zero = clock
+advanced_by clock replica (suc n) = advanced_by (advanced clock replica) replica n
 
 -- counts nothing beyond the clock
 abbrev pub is_within : List (ℕ × ℕ) → List (ℕ × ℕ) → Bool

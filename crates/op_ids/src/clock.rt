@@ -209,7 +209,7 @@ impl Clock {
     }
 
     /// Sets the count of a replica.
-    fn put(&mut self, replica: ReplicaId, count: u64) -> Result<(), AllocError>
+    pub(crate) fn put(&mut self, replica: ReplicaId, count: u64) -> Result<(), AllocError>
         requires { is_clock (with_count self.old replica count) ≡ true }
         ensures ok { OnOk result (self.new ≡ with_count self.old replica count) }
         ensures err { OnErr result (self.new ≡ self.old) }

@@ -6,6 +6,7 @@ mod clock_error;
 pub mod laws;
 mod op_id;
 mod replica_id;
+mod several;
 
 pub use clock::{Clock, MAX_COUNT, MAX_REPLICAS};
 pub use clock_error::ClockError;

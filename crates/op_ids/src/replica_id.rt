@@ -1,4 +1,4 @@
-ghost use Rattle.std.specs.Prelude.{◌≡◌, ℕ, ◌<◌, ◌^◌, ◌↔◌, Some, None, IfSome, IsNone, IsTrue};
+ghost use Rattle.std.specs.Prelude.{◌≡◌, ℕ, ◌<◌, ◌↔◌, Some, None, IfSome, IsNone};
 ghost use Rattle.std.specs.Int.{w128, from_be_bytes, to_be_bytes};
 
 use std::marker::Model;

@@ -1,3 +1,6 @@
+ghost use Rattle.std.specs.Prelude.{◌≡◌, ◌∷◌, []};
+ghost use Rattle.op_model.specs.Causality.{named_by_anchor, named_by_end, named_by_start, optional};
+
 use op_ids::OpId;
 
 /// A place beside a character, which is named by the id of the operation that inserted it. It keeps its place
@@ -26,4 +29,40 @@ pub enum End {
     To(Anchor),
     /// At the end of the text, whatever is inserted there later.
     OfText,
+}
+
+impl Anchor {
+    /// The character that it stands beside.
+    pub fn character(&self) -> OpId
+        ensures { result ∷ [] ≡ named_by_anchor self.now }
+    {
+        match self {
+            Anchor::Before(id) => *id,
+            Anchor::After(id) => *id,
+        }
+    }
+}
+
+impl Start {
+    /// The character that it names, if it names one.
+    pub fn character(&self) -> Option<OpId>
+        ensures { optional result ≡ named_by_start self.now }
+    {
+        match self {
+            Start::OfText => None,
+            Start::From(anchor) => Some(anchor.character()),
+        }
+    }
+}
+
+impl End {
+    /// The character that it names, if it names one.
+    pub fn character(&self) -> Option<OpId>
+        ensures { optional result ≡ named_by_end self.now }
+    {
+        match self {
+            End::To(anchor) => Some(anchor.character()),
+            End::OfText => None,
+        }
+    }
 }

@@ -2,12 +2,18 @@
 #![tactic(auto)]
 
 mod anchor;
+mod asking;
 mod character;
 mod comment_id;
+mod comparing;
 mod edit;
+mod lengths;
+mod limits;
 mod mark;
 mod marking;
+mod numbering;
 mod op;
+mod rising;
 mod span;
 mod text;
 mod url;
@@ -16,9 +22,12 @@ pub use anchor::{Anchor, End, Start};
 pub use character::Character;
 pub use comment_id::{CommentId, CommentIds};
 pub use edit::{Change, Edit, EditText};
+pub use limits::{MAX_DOCUMENTS, MAX_EDIT, MAX_OPERATIONS, MAX_STREAM_LENGTH};
 pub use mark::{Mark, MarkKey, Marks};
 pub use marking::Marking;
+pub use numbering::{insert_bodies, numbered};
 pub use op::{Body, Op};
+pub use rising::insert_rising;
 pub use span::Span;
 pub use text::Text;
 pub use url::Url;

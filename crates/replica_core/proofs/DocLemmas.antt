@@ -5,8 +5,10 @@ use Rattle.std.specs.List.{list_any}
 use Rattle.std.proofs.lemmas.Bool.{cases_Bool, cases_order, eq-eqb, ne_eqb, le-ltb, both_ways, or_parts, or_from}
 use Rattle.std.proofs.lemmas.List.{take-append-drop}
 use Rattle.doc_core.specs.declared.doc.Doc.{Doc}
-use Rattle.doc_core.specs.Standing.{number_of, StandsFor, MayComeInTurn}
-use Rattle.doc_core.proofs.LawLemmas.{others_stay}
+use Rattle.doc_core.specs.Standing.{StandsFor}
+use Rattle.replica_core.specs.Docs.{number_of}
+use Rattle.char_sequence.specs.Content.{FitAfter}
+use Rattle.doc_core.proofs.FittingLemmas.{document_stays}
 use Rattle.op_model.specs.declared.op.Op.{Op}
 use Rattle.op_model.specs.Causality.{documents}
 use Rattle.op_model.specs.Spans.{with_number}
@@ -84,16 +86,16 @@ stays_all : (d : Doc) (before more : List Op) → list_any (λ op. op.doc == num
 stays_all d before [] none stands = rw append-nil stands
 stays_all d before (op ∷ more) none stands =
     let both = or_parts (op.doc == number_of d) (list_any (λ o. o.doc == number_of d) more) none in
-    rw append_assoc at (stays_all d (before ++ op ∷ []) more both.1 (others_stay d before op (differ op.doc (number_of d) both.0) stands))
+    rw append_assoc at (stays_all d (before ++ op ∷ []) more both.1 (document_stays d before op (differ op.doc (number_of d) both.0) stands))
 
-in_turn_apart : (n doc : ℕ) (list more : List Op) → n ≢ doc → MayComeInTurn list doc more → list_any (λ op. op.doc == n) more ≡ false
+in_turn_apart : (n doc : ℕ) (list more : List Op) → n ≢ doc → FitAfter list doc more → list_any (λ op. op.doc == n) more ≡ false
 in_turn_apart n doc list [] other come = refl
 in_turn_apart n doc list (op ∷ more) other come =
-    let same = come.0.fits.same in
+    let same = come.0.same in
     or_from (op.doc == n) (list_any (λ o. o.doc == n) more) (ne_eqb op.doc n (λ e. other (sym e ∙ same)))
     (in_turn_apart n doc (list ++ op ∷ []) more other come.1)
 
-other_stands : (d : Doc) (doc : ℕ) (list more : List Op) → number_of d ≢ doc → MayComeInTurn list doc more → StandsFor d list → StandsFor d (list ++ more)
+other_stands : (d : Doc) (doc : ℕ) (list more : List Op) → number_of d ≢ doc → FitAfter list doc more → StandsFor d list → StandsFor d (list ++ more)
 other_stands d doc list more other come stands = stays_all d list more (in_turn_apart (number_of d) doc list more other come) stands
 
 -- the empty document of a number that no document has stands for the list
@@ -112,7 +114,7 @@ over_at n [] i d over there is_it = absurd (omega arith)
 over_at n (x ∷ ds) zero d over there is_it = rw is_it over.0
 over_at n (x ∷ ds) (suc i) d over there is_it = over_at n ds i d over.1 (omega arith) is_it
 
-over_stand : (n : ℕ) (ds : List Doc) (list more : List Op) → AllOver n (numbers ds) → MayComeInTurn list n more → AllStand ds list → AllStand ds (list ++ more)
+over_stand : (n : ℕ) (ds : List Doc) (list more : List Op) → AllOver n (numbers ds) → FitAfter list n more → AllStand ds list → AllStand ds (list ++ more)
 over_stand n [] list more over come stand = tt
 over_stand n (x ∷ ds) list more over come stand = (
   other_stands x n list more (λ e. let first = over.0 in absurd (omega arith)) come stand.0,
@@ -121,7 +123,7 @@ over_stand n (x ∷ ds) list more over come stand = (
 
 -- one of the documents with more operations
 pub stand_set : (ds : List Doc) (i : ℕ) (d new : Doc) (list more : List Op) → IsUp (numbers ds) → i < length ds → d ≡ get_or ds i d
-    → MayComeInTurn list (number_of d) more → AllStand ds list → StandsFor new (list ++ more) → AllStand (slice_set ds i new) (list ++ more)
+    → FitAfter list (number_of d) more → AllStand ds list → StandsFor new (list ++ more) → AllStand (slice_set ds i new) (list ++ more)
 stand_set [] i d new list more up there is_it come stand stands = absurd (omega arith)
 stand_set (x ∷ ds) zero d new list more up there is_it come stand stands =
     let over : AllOver (number_of d) (numbers ds) = rw is_it up.0 in
@@ -133,7 +135,7 @@ stand_set (x ∷ ds) (suc i) d new list more up there is_it come stand stands =
     )
 
 -- a new document among the others
-lacks_stand : (n : ℕ) (ds : List Doc) (list more : List Op) → has n (numbers ds) ≡ false → MayComeInTurn list n more → AllStand ds list
+lacks_stand : (n : ℕ) (ds : List Doc) (list more : List Op) → has n (numbers ds) ≡ false → FitAfter list n more → AllStand ds list
     → AllStand ds (list ++ more)
 lacks_stand n [] list more lacks come stand = tt
 lacks_stand n (x ∷ ds) list more lacks come stand =
@@ -153,14 +155,14 @@ numbers_insert (x ∷ ds) (suc at) new = ap (λ rest. number_of x ∷ rest) (num
 -- with the operations that it has
 pub stand_new : (ds : List Doc) (at : ℕ) (new : Doc) (doc : ℕ) (list more : List Op) → AreDocs ds list
     → with_number doc (numbers ds) ≡ take at (numbers ds) ++ doc ∷ drop at (numbers ds)
-    → MayComeInTurn list doc more → StandsFor new (list ++ more) → AllStand (take at ds ++ new ∷ drop at ds) (list ++ more)
+    → FitAfter list doc more → StandsFor new (list ++ more) → AllStand (take at ds ++ new ∷ drop at ds) (list ++ more)
 stand_new ds at new doc list more are placed come stands =
     let lacks = lacks_placed doc at (numbers ds) (docs_up ds list are) placed in
     stand_insert ds at new (list ++ more) (lacks_stand doc ds list more lacks come are.stand) stands
 
 -- one of them with more operations
 pub stand_more : (ds : List Doc) (i : ℕ) (d new : Doc) (list more : List Op) → AreDocs ds list → i < length ds → d ≡ get_or ds i d
-    → MayComeInTurn list (number_of d) more → (StandsFor d list → StandsFor new (list ++ more)) → AllStand (slice_set ds i new) (list ++ more)
+    → FitAfter list (number_of d) more → (StandsFor d list → StandsFor new (list ++ more)) → AllStand (slice_set ds i new) (list ++ more)
 stand_more ds i d new list more are there is_it come takes =
     stand_set ds i d new list more (docs_up ds list are) there is_it come are.stand (takes (stands_at ds i d list are.stand there is_it))
 

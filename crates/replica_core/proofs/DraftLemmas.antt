@@ -4,9 +4,12 @@ use Rattle.std.specs.Prelude.{slice_set}
 use Rattle.std.proofs.lemmas.List.{take_more}
 use Rattle.doc_core.specs.declared.doc.Doc.{Doc}
 use Rattle.doc_core.specs.declared.draft.Draft.{Draft}
-use Rattle.doc_core.specs.Drafting.{draft_number, IsDraftOf}
-use Rattle.doc_core.specs.Standing.{number_of, MayCome, StandsFor}
-use Rattle.doc_core.proofs.DraftLemmas.{draft_stays}
+use Rattle.doc_core.specs.Drafting.{IsDraftOf}
+use Rattle.replica_core.specs.Docs.{draft_number}
+use Rattle.doc_core.specs.Standing.{StandsFor}
+use Rattle.replica_core.specs.Docs.{number_of}
+use Rattle.op_model.specs.Placing.{Fits}
+use Rattle.doc_core.proofs.FittingLemmas.{draft_stays}
 use Rattle.op_model.specs.declared.op.Op.{Op}
 use Rattle.model_laws.specs.Rising.{AllOver, IsUp}
 use Rattle.replica_core.specs.Docs.{draft_numbers, numbers, AllDrafts, AllStand}
@@ -81,10 +84,10 @@ pub take_push : (list : List Op) (i : ℕ) (op : Op) → i < length list → op 
 take_push list i op here is_it = rw (take_more list i op here, ← is_it) refl
 
 -- what may come to a document may come to the one of the same number
-pub may_come_at : (ops : List Op) (n m : ℕ) (op : Op) → n ≡ m → MayCome ops n op → MayCome ops m op
+pub may_come_at : (ops : List Op) (n m : ℕ) (op : Op) → n ≡ m → Fits ops n op → Fits ops m op
 may_come_at ops n m op same may = rw (sym same) may
 
 -- the draft at an index takes an operation of its number that may come
 pub draft_takes : (ds : List Draft) (i : ℕ) (d : Draft) (op : Op) (ops : List Op) → i < length ds → d ≡ get_or ds i d → op.doc ≡ draft_number d
-    → AllDrafts ds ops → MayCome ops op.doc op → IsDraftOf d ops × MayCome ops (draft_number d) op
+    → AllDrafts ds ops → Fits ops op.doc op → IsDraftOf d ops × Fits ops (draft_number d) op
 draft_takes ds i d op ops here is_it same all may = (draft_at ds i d ops all here is_it, may_come_at ops op.doc (draft_number d) op same may)

@@ -1,17 +1,18 @@
 -- An edit that nothing refuses doesn't make too many operations.
-use Rattle.std.proofs.Common.{◌≡◌, ℕ, ◌+◌, ◌≤◌, ◌<◌, ◌^◌, true, List, [], ◌∷◌, length, refl, sym, ◌∙◌, ⊎_elim, None, arith}
-use Rattle.std.proofs.lemmas.Bool.{false≢true, and_parts}
+use Rattle.std.proofs.Common.{◌≡◌, Bool, ℕ, ◌+◌, ◌≤◌, ◌<◌, true, List, length, refl, sym, ◌∙◌, inl, inr, None, arith}
+use Rattle.std.specs.Prelude.{◌&&◌, nat_le, nat_lt}
+use Rattle.std.proofs.lemmas.Bool.{false≢true, and_parts, cases_Bool, le-leb, lt-ltb}
+use Rattle.std.proofs.lemmas.Bool.Decides.{nat_tests}
 use Rattle.std.specs.List.{list_all}
-use Rattle.op_ids.specs.Clock.{advanced, IsOverfull}
+use Rattle.op_ids.specs.Clock.{advanced_by, is_clock, IsOverfull}
 use Rattle.op_model.specs.declared.op.Op.{Op}
-use Rattle.op_model.specs.declared.op.Body.{Body}
 use Rattle.op_model.specs.declared.edit.Edit.{Edit}
 use Rattle.op_model.specs.declared.edit.Change.{Change}
 use Rattle.op_model.specs.declared.edit.Change.TheVariants as change
 use Rattle.op_model.specs.Causality.{clock_of, has_room, is_in_range, IsCausallyClosed}
 use Rattle.op_model.specs.Made.{bodies_of, edit_refusal, greatest_counter, is_small, size_of}
-use Rattle.doc_core.specs.Limits.{advanced_by, AreTooMany}
-use Rattle.slow_programs.specs.Numbering.{advanced_by as advanced_by_bodies}
+use Rattle.op_ids.proofs.RoomLemmas.{overfull_from}
+use Rattle.doc_core.specs.Limits.{keep_limits}
 use Rattle.slow_programs.proofs.EditLemmas.{is_within_limits-over, is_within_limits-uncounted, length-bodies_of}
 use Rattle.replica_core.proofs.FollowLemmas.{at_most, greatest_within}
 use Rattle.replica_core.proofs.LimitLemmas.{closed_within}
@@ -23,12 +24,6 @@ small_size (change.Insert at text) small = at_most (length text) 256 small
 small_size (change.Delete at count) small = at_most count.value 256 small
 small_size (change.Mark from to mark) small = omega arith
 small_size (change.Unmark from to key) small = omega arith
-
--- counting so many operations is counting one for each body
-advanced_by-bodies : (clock : List (ℕ × ℕ)) (replica : ℕ) (bs : List Body)
-    → advanced_by clock replica (length bs) ≡ advanced_by_bodies clock replica bs
-advanced_by-bodies clock replica [] = refl
-advanced_by-bodies clock replica (b ∷ bs) = advanced_by-bodies (advanced clock replica) replica bs
 
 -- the next counter of a closed list is at most the last one and one
 next_counter : (ops : List Op) → IsCausallyClosed ops → greatest_counter ops + 1 ≤ 281474976710656
@@ -56,18 +51,30 @@ never_uncounted ops replica e due full =
     let bodies = bodies_of ops replica e.doc e.change in
     let right = due_asks_right ops replica e due in
     let many : length bodies ≡ size_of e.change = length-bodies_of ops replica e.doc e.change right.inside in
-    let counted : IsOverfull (advanced_by_bodies (clock_of ops) replica bodies) =
-    rw (← advanced_by-bodies (clock_of ops) replica bodies, many) full in
-    false≢true (sym (is_within_limits-uncounted ops replica e counted) ∙ due_within ops replica e due)
+    false≢true (sym (is_within_limits-uncounted ops replica e (rw many full)) ∙ due_within ops replica e due)
 
--- so they aren't too many
-pub never_too_many : (ops : List Op) (replica : ℕ) (e : Edit) (counter : ℕ) (clock : List (ℕ × ℕ)) → IsCausallyClosed ops
-    → edit_refusal ops replica e ≡ None → counter ≡ greatest_counter ops + 1 → clock ≡ clock_of ops
-    → AreTooMany replica counter clock (size_of e.change) → ⊥
-never_too_many ops replica e counter clock closed due is_counter is_clock =
+all_four : (a b c d : Bool) → a ≡ true → b ≡ true → c ≡ true → d ≡ true → (a && b && c && d) ≡ true
+all_four a b c d one two three four = rw (one, two, three, four) refl
+
+-- so they keep the limits
+pub keeps : (ops : List Op) (replica : ℕ) (e : Edit) (counter : ℕ) (clock : List (ℕ × ℕ)) → IsCausallyClosed ops
+    → edit_refusal ops replica e ≡ None → counter ≡ greatest_counter ops + 1 → clock ≡ clock_of ops → is_clock clock ≡ true → 0 < replica
+    → keep_limits replica counter clock (size_of e.change) ≡ true
+keeps ops replica e counter clock closed due is_counter same valid positive =
     let right = due_asks_right ops replica e due in
-    let small = small_size e.change right.small in
-    ⊎_elim (λ (many : 256 < size_of e.change). absurd (omega arith))
-    (⊎_elim (λ (none : counter ≡ 0). absurd (omega arith))
-    (⊎_elim (λ (over : 2 ^ 48 < counter + size_of e.change). never_over ops replica e closed due (rw is_counter at over))
-    (λ (full : IsOverfull (advanced_by clock replica (size_of e.change))). never_uncounted ops replica e due (rw is_clock at full))))
+    let n = size_of e.change in
+    all_four (nat_le n 256) (nat_lt 0 counter) (nat_le (counter + n) 281474976710656) (is_clock (advanced_by clock replica n))
+    (le-leb n 256 (small_size e.change right.small)) (lt-ltb 0 counter (omega arith)) in_range counted
+  where
+    in_range : nat_le (counter + size_of e.change) 281474976710656 ≡ true
+    in_range = elim (cases_Bool (nat_le (counter + size_of e.change) 281474976710656)) [
+      | inl few ↦ few
+      | inr many ↦ let over : 281474976710656 < counter + size_of e.change = grind (arith, nat_tests) in
+          absurd (never_over ops replica e closed due (rw is_counter at over))
+    ]
+
+    counted : is_clock (advanced_by clock replica (size_of e.change)) ≡ true
+    counted = elim (cases_Bool (is_clock (advanced_by clock replica (size_of e.change)))) [
+      | inl fits ↦ fits
+      | inr full ↦ absurd (never_uncounted ops replica e due (rw same at (overfull_from clock replica (size_of e.change) valid positive full)))
+    ]

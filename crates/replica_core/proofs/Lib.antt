@@ -16,3 +16,4 @@ pub mod DraftLemmas
 pub mod SeenLemmas
 pub mod CountLemmas
 pub mod EditLemmas
+pub mod RevLemmas

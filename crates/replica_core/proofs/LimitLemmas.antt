@@ -4,7 +4,7 @@ use Rattle.std.specs.List.{list_all}
 use Rattle.std.proofs.lemmas.Bool.{false≢true, lt-ltb, le-leb}
 use Rattle.std.proofs.lemmas.Bool.Decides.{nat_tests}
 use Rattle.std.proofs.lemmas.List.Folds.{list_all-append}
-use Rattle.op_ids.specs.Clock.{advanced, is_clock, IsOverfull}
+use Rattle.op_ids.specs.Clock.{advanced, advanced_by, is_clock, IsOverfull}
 use Rattle.op_ids.proofs.ClockLemmas.{is_clock_parts}
 use Rattle.op_model.specs.declared.op.Op.{Op}
 use Rattle.op_model.specs.declared.op.Body.{Body}
@@ -16,7 +16,6 @@ use Rattle.model_laws.proofs.Ready.{clock-push}
 use Rattle.op_model.specs.Spans.{with_number}
 use Rattle.model_laws.proofs.Deciding.{number_swapped}
 use Rattle.slow_programs.specs.Asking.{IsAskedRight}
-use Rattle.slow_programs.specs.Numbering.{advanced_by}
 use Rattle.slow_programs.proofs.EditLemmas.{clock_of-numbered, length-bodies_of, length-numbered, is_within_limits-uncounted, is_within_limits-full}
 use Rattle.slow_programs.proofs.Full.{IsOverfull-advanced_by}
 use Rattle.slow_programs.proofs.LimitLemmas.{within-append}
@@ -56,9 +55,9 @@ is_within_limits-no_document ops replica e right some none =
     rw (list_all-append is_in_range ops (made ops replica e))
     (second_false (list_all is_in_range ops) (list_all is_in_range (made ops replica e)) (has_room (ops ++ made ops replica e)) out)
 
-overfull_by : (clock : List (ℕ × ℕ)) (replica : ℕ) (bs : List Body) → 0 < length bs → IsOverfull (advanced clock replica) → IsOverfull (advanced_by clock replica bs)
+overfull_by : (clock : List (ℕ × ℕ)) (replica : ℕ) (bs : List Body) → 0 < length bs → IsOverfull (advanced clock replica) → IsOverfull (advanced_by clock replica (length bs))
 overfull_by clock replica [] some full = absurd (omega arith)
-overfull_by clock replica (b ∷ bs) some full = IsOverfull-advanced_by (advanced clock replica) replica bs full
+overfull_by clock replica (b ∷ bs) some full = IsOverfull-advanced_by (advanced clock replica) replica (length bs) full
 
 -- an edit of which the clock can't count the first operation is beyond the limits
 pub is_within_limits-overfull : (ops : List Op) (replica : ℕ) (e : Edit) → IsAskedRight ops e → 0 < size_of e.change
@@ -81,13 +80,13 @@ in_range-numbered replica doc counter last clock (b ∷ bs) above below is_last 
 
 -- how long the clock is behind operations of one replica
 length-advanced_by : (clock : List (ℕ × ℕ)) (replica : ℕ) (bs : List Body) → length (advanced clock replica) ≡ length clock
-    → length (advanced_by clock replica bs) ≡ length clock
+    → length (advanced_by clock replica (length bs)) ≡ length clock
 length-advanced_by clock replica [] same = refl
 length-advanced_by clock replica (b ∷ bs) same =
     length-advanced_by (advanced clock replica) replica bs (length-advanced_twice clock replica) ∙ same
 
 length-advanced_by_some : (clock : List (ℕ × ℕ)) (replica : ℕ) (bs : List Body) → 0 < length bs
-    → length (advanced_by clock replica bs) ≡ length (advanced clock replica)
+    → length (advanced_by clock replica (length bs)) ≡ length (advanced clock replica)
 length-advanced_by_some clock replica [] some = absurd (omega arith)
 length-advanced_by_some clock replica (b ∷ bs) some =
     length-advanced_by (advanced clock replica) replica bs (length-advanced_twice clock replica)

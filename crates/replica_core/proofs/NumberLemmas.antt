@@ -7,7 +7,7 @@ use Rattle.std.proofs.lemmas.Bool.{eq-eqb, ne_eqb, lt-ltb, le-ltb}
 use Rattle.std.proofs.lemmas.List.{get_or_default, get_or-map, length-map}
 use Rattle.std.proofs.lemmas.List.Sorted.{searched}
 use Rattle.doc_core.specs.declared.doc.Doc.{Doc}
-use Rattle.doc_core.specs.Standing.{number_of}
+use Rattle.replica_core.specs.Docs.{number_of}
 use Rattle.op_model.specs.Spans.{with_number}
 use Rattle.model_laws.specs.Rising.{AllOver, IsUp}
 use Rattle.replica_core.specs.Docs.{numbers}

@@ -22,8 +22,9 @@ use Rattle.model_laws.proofs.Makes.{closed_made}
 use Rattle.model_laws.proofs.Ready.{clock-push}
 use Rattle.slow_programs.specs.Asking.{IsAskedRight}
 use Rattle.doc_core.specs.declared.doc.Doc.{Doc}
-use Rattle.doc_core.specs.Standing.{MayComeInTurn}
-use Rattle.doc_core.proofs.LawLemmas.{may_come, made_come}
+use Rattle.char_sequence.specs.Content.{FitAfter}
+use Rattle.model_laws.proofs.Closed.{follows_fits}
+use Rattle.doc_core.proofs.FittingLemmas.{made_fit}
 use Rattle.replica_core.specs.declared.index.Index.{Index}
 use Rattle.replica_core.specs.Docs.{numbers, AllStand, AreDocs}
 use Rattle.replica_core.specs.declared.log.Log.{Log}
@@ -114,7 +115,7 @@ IsSound-with_edit h session e sound can =
 pub AreFields-with_edit : (h : Held) (session : ℕ) (e : Edit) (counts_before counts : List (ℕ × ℕ)) (docs_before docs : List Doc) (before after : Index)
     → (k step_room : ℕ) → AreFields h counts_before docs_before before k → CanEdit h e → 0 < size_of e.change
     → counts ≡ clock_of (h.list ++ made h.list h.replica e) → numbers docs ≡ with_number e.doc (numbers docs_before)
-    → (AreDocs docs_before h.list → MayComeInTurn h.list e.doc (made h.list h.replica e) → AllStand docs (h.list ++ made h.list h.replica e))
+    → (AreDocs docs_before h.list → FitAfter h.list e.doc (made h.list h.replica e) → AllStand docs (h.list ++ made h.list h.replica e))
     → (IsIndexOf before h.list → IsIndexOf after (h.list ++ made h.list h.replica e))
     → length h.steps + 3 ≤ step_room → AreFields (with_edit h session e) counts docs after step_room
 AreFields-with_edit h session e counts_before counts docs_before docs before after k step_room fields can some is_clock are_numbers stand indexed step_fits =
@@ -123,7 +124,7 @@ AreFields-with_edit h session e counts_before counts docs_before docs before aft
       clock = is_clock;
       docs = record {
         numbers = are_numbers ∙ (ap (with_number e.doc) fields.docs.numbers ∙ sym (documents-made h.list h.replica e (due_asks_right h.list h.replica e can.due) some));
-        stand = stand fields.docs (made_come h.list h.replica e (due_within h.list h.replica e can.due));
+        stand = stand fields.docs (made_fit h.list h.replica e (due_within h.list h.replica e can.due));
       };
       index = indexed fields.index;
       steps = omega arith;
@@ -221,7 +222,7 @@ AreFields-merge id opened settled acked told peer index old new added op counts_
       clock = is_clock ∙ (ap (λ es. advanced es op.id.replica) fields.clock ∙ sym (clock-push old.list op));
       docs = record {
         numbers = is.numbers ∙ (ap (with_number op.doc) fields.docs.numbers ∙ sym (documents-push old.list op));
-        stand = rw are at (is.stand fields.docs (rw are (may_come old.list op.doc op can.joins.follows refl, tt)));
+        stand = rw are at (is.stand fields.docs (rw are (follows_fits old.list op.doc op can.joins.follows refl, tt)));
       };
       index = rw (← are, ← is.list) (is.index fields.index);
       steps = let room = is.step_room in omega arith;

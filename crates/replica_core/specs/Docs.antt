@@ -2,10 +2,14 @@
 use Rattle.std.specs.Prelude.{◌≡◌, ℕ, List, [], ◌∷◌, map}
 use Rattle.doc_core.specs.declared.doc.Doc.{Doc}
 use Rattle.doc_core.specs.declared.draft.Draft.{Draft}
-use Rattle.doc_core.specs.Drafting.{draft_number, IsDraftOf}
-use Rattle.doc_core.specs.Standing.{number_of, StandsFor}
+use Rattle.doc_core.specs.Drafting.{IsDraftOf}
+use Rattle.doc_core.specs.Standing.{StandsFor}
 use Rattle.op_model.specs.declared.op.Op.{Op}
 use Rattle.op_model.specs.Causality.{documents}
+
+-- the number of a document
+abbrev pub number_of : Doc → ℕ
+number_of d = d.number
 
 -- their numbers
 abbrev pub numbers : List Doc → List ℕ
@@ -20,6 +24,10 @@ AllStand (d ∷ ds) ops = StandsFor d ops × AllStand ds ops
 pub record AreDocs (docs : List Doc) (ops : List Op) : Type 0 where
   pub numbers : numbers docs ≡ documents ops
   pub stand : AllStand docs ops
+
+-- the number of a draft
+abbrev pub draft_number : Draft → ℕ
+draft_number d = d.number
 
 -- the numbers of drafts
 abbrev pub draft_numbers : List Draft → List ℕ

@@ -2,7 +2,7 @@
 use Rattle.std.specs.Prelude.{◌≡◌, ℕ, ◌+◌, ◌≤◌, List, [], ◌∷◌, ◌++◌, length, vec_len, vec_capacity}
 use Rattle.op_model.specs.declared.op.Op.{Op}
 use Rattle.op_model.specs.Spans.{with_number}
-use Rattle.doc_core.specs.Standing.{MayComeInTurn}
+use Rattle.char_sequence.specs.Content.{FitAfter}
 use Rattle.replica_core.specs.Docs.{numbers, AllStand, AreDocs}
 use Rattle.replica_core.specs.Indexes.{IsIndexOf}
 use Rattle.replica_core.specs.Makers.{room_of}
@@ -28,7 +28,7 @@ pub record IsAppended (old new : Log) (made : List Op) (doc : ℕ) (step : Step)
   pub list : new.list ≡ old.list ++ made
   pub steps : new.steps.items ≡ old.steps.items ++ step ∷ []
   pub numbers : numbers new.docs.items ≡ with_number doc (numbers old.docs.items)
-  pub stand : AreDocs old.docs.items old.list → MayComeInTurn old.list doc made
+  pub stand : AreDocs old.docs.items old.list → FitAfter old.list doc made
       → AllStand new.docs.items (old.list ++ made)
   pub index : IsIndexOf old.index old.list → IsIndexOf new.index new.list
   pub step_room : length old.steps.items + 3 ≤ vec_capacity new.steps

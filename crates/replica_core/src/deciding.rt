@@ -1,20 +1,20 @@
-ghost use Rattle.std.specs.Prelude.{◌≡◌, ℕ, ◌+◌, ◌≤◌, ◌<◌, ◌++◌, ◌&&◌, nat_le, true, length, MatchOption, Some, None};
-ghost use Rattle.doc_core.specs.Standing.{number_of as doc_number, StandsFor};
+ghost use Rattle.std.specs.Prelude.{◌≡◌, ◌+◌, ◌<◌, ◌++◌, ◌&&◌, nat_le, length, MatchOption, Some, None};
+ghost use Rattle.doc_core.specs.Standing.{StandsFor};
+ghost use Rattle.replica_core.specs.Docs.{number_of as doc_number};
 ghost use Rattle.op_model.specs.Causality.{is_within_limits as is_within_limits_of};
-ghost use Rattle.op_model.specs.Made.{edit_refusal as edit_refusal_of, made as made_of, size_of};
+ghost use Rattle.op_model.specs.Made.{edit_refusal as edit_refusal_of, made as made_of};
 ghost use Rattle.replica_core.specs.Deciding.{AreKnown};
 ghost use Rattle.replica_core.specs.Refusal.{number_of};
 ghost use Rattle.slow_programs.specs.Asking.{IsAskedRight};
 
-use crate::docs::has_document;
+use crate::docs::{count, has_document};
 use crate::index::Index;
 use crate::lengths::made_length;
 use crate::refusal::Refusal;
 use doc_core::Doc;
 use op_ids::{Clock, MAX_COUNTER, ReplicaId};
 use op_list::OpSlice;
-use op_model::Edit;
-use slow_programs::{MAX_STREAM_LENGTH, change_size, has_operations, is_at_rev, is_small};
+use op_model::{Edit, MAX_OPERATIONS, MAX_STREAM_LENGTH};
 
 /// Why an edit of a document is refused, by the first cause: `Stale` (6), `Range` (5), `Limit` (7).
 /// Takes no memory. Linear in the document.
@@ -33,13 +33,13 @@ pub fn edit_refusal(
     ensures { MatchOption result (edit_refusal_of ops.now replica edit.now ≡ None)
         (λ e. edit_refusal_of ops.now replica edit.now ≡ Some (number_of e)) }
 {
-    if !is_at_rev(doc.rev() as usize, &edit.rev) {
+    if !edit.is_at_rev(count(doc, ops)) {
         return Some(Refusal::Stale);
     }
     if !doc.is_inside(&edit.change) {
         return Some(Refusal::Range);
     }
-    if !is_small(&edit.change) {
+    if !edit.change.is_small() {
         return Some(Refusal::Limit);
     }
     if !is_within_limits(ops, clock, docs, index, doc, replica, edit) {
@@ -64,7 +64,7 @@ fn is_within_limits(
     requires right { IsAskedRight ops.now edit.now }
     ensures { result ≡ is_within_limits_of (ops.now ++ made_of ops.now replica edit.now) }
 {
-    let count = change_size(&edit.change);
+    let count = edit.change.size() as u64;
     if edit.doc == 0 {
         return false;
     }
@@ -93,6 +93,13 @@ pub fn has_room(ops: &OpSlice<'_>, has_place: bool, stream: u64, count: usize, b
         && nat_le (stream + bytes) 1073741824) }
 {
     has_place && has_operations(ops.len(), count) && has_stream(stream, bytes)
+}
+
+/// Whether so many operations, and then so many more, are at most 2^24.
+fn has_operations(ops: usize, more: usize) -> bool
+    ensures { result ≡ nat_le (ops + more) 16777216 }
+{
+    ops <= MAX_OPERATIONS && more <= MAX_OPERATIONS - ops
 }
 
 /// Whether so many bytes, and then so many more, are at most 2^30 bytes.

@@ -1,14 +1,18 @@
-ghost use Rattle.std.specs.Prelude.{◌≡◌, ℕ, ◌≤◌, ◌<◌, List, [], ◌∷◌, ◌++◌, length, take, drop, slice_index_or, nat_le, MatchResult, OnOk, OnErr, IsErrOf};
+ghost use Rattle.std.specs.Prelude.{◌≡◌, ◌≤◌, ◌<◌, List, [], ◌∷◌, ◌++◌, length, take, drop, slice_index_or, nat_le, MatchResult, OnOk, OnErr, IsErrOf};
 ghost use Rattle.doc_core.specs.declared.doc.Doc.{Doc};
-ghost use Rattle.doc_core.specs.Standing.{number_of, StandsFor, MayComeInTurn};
+ghost use Rattle.doc_core.specs.Standing.{StandsFor};
+ghost use Rattle.replica_core.specs.Docs.{number_of};
+ghost use Rattle.char_sequence.specs.Content.{FitAfter};
 ghost use Rattle.model_laws.specs.Rising.{IsUp};
 ghost use Rattle.op_model.specs.declared.op.Op.{Op};
+ghost use Rattle.op_model.specs.Causality.{IsCausallyClosed};
 ghost use Rattle.op_model.specs.Spans.{with_number};
+ghost use Rattle.op_model.specs.Text.{rev};
 ghost use Rattle.replica_core.specs.Docs.{numbers, AllStand, AreDocs};
 
-use doc_core::{Doc, SequenceError};
-use op_model::Op;
-use slow_programs::MAX_DOCUMENTS;
+use doc_core::{Doc, Made, SequenceError};
+use op_list::OpSlice;
+use op_model::MAX_DOCUMENTS;
 use std::alloc::Global;
 
 /// Of the documents of a list the one with the number of this empty document, or else the empty
@@ -36,28 +40,39 @@ pub fn has_document(docs: &[Doc], doc: u32) -> bool
     }
 }
 
-/// Takes operations of one document, whole or not at all. `UnknownId` (60) only where they can't
+/// How many operations a document has. That its list is causally closed, and so short enough to be
+/// counted, is for the proof. Constant.
+pub fn count(doc: &Doc, list: &OpSlice<'_>) -> usize
+    requires closed { IsCausallyClosed list.now }
+    requires stands { StandsFor doc.now list.now }
+    ensures { result ≡ rev list.now (number_of doc.now) }
+{
+    let _ = list;
+    doc.rev() as usize
+}
+
+/// Takes an edit of one document, whole or not at all. `UnknownId` (60) only where it can't
 /// come after the others, `Memory` (1) where a growth was refused. A search by halves for the
 /// document, a step for each greater one where it is new, and what the document itself takes.
-pub fn apply(docs: &mut Vec<Doc>, alloc: Global, doc: u32, ops: &[Op]) -> Result<(), SequenceError>
+pub fn apply(docs: &mut Vec<Doc>, alloc: Global, doc: u32, made: &Made) -> Result<(), SequenceError>
     requires { IsUp (numbers docs.old.items) }
     ensures numbers { OnOk result
         (numbers docs.new.items ≡ with_number doc (numbers docs.old.items)) }
     ensures stand { OnOk result ((list : List Op) → AreDocs docs.old.items list
-        → MayComeInTurn list doc ops.now → AllStand docs.new.items (list ++ ops.now)) }
+        → FitAfter list doc made.now → AllStand docs.new.items (list ++ made.now)) }
     ensures known { IsErrOf result SequenceError.UnknownId → (list : List Op)
-        → AreDocs docs.old.items list → MayComeInTurn list doc ops.now → ⊥ }
+        → AreDocs docs.old.items list → FitAfter list doc made.now → ⊥ }
     ensures err { OnErr result (docs.new.items ≡ docs.old.items) }
 {
     match place(docs, doc) {
         Ok(at) => {
             let it = &mut docs[at];
-            it.apply_edit(ops)
+            it.apply_edit(made)
         }
         Err(at) => {
             docs.reserve(1)?;
             let mut it = Doc::new(alloc, doc);
-            match it.apply_edit(ops) {
+            match it.apply_edit(made) {
                 Ok(()) => {}
                 Err(e) => return Err(e),
             }

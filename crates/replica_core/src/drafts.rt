@@ -1,5 +1,5 @@
 ghost use Rattle.std.specs.Prelude.{◌≡◌, List, [], ◌∷◌, ◌++◌, IfOk, IfErr, OnOk};
-ghost use Rattle.doc_core.specs.Standing.{MayCome};
+ghost use Rattle.op_model.specs.Placing.{Fits};
 ghost use Rattle.model_laws.specs.Rising.{IsUp};
 ghost use Rattle.op_model.specs.declared.op.Op.{Op};
 ghost use Rattle.op_model.specs.Causality.{documents, IsCausallyClosed};
@@ -71,10 +71,10 @@ fn apply(drafts: &mut Vec<Draft>, numbers: &[u32], op: &Op) -> Result<(), Refusa
     requires rising { IsUp numbers.now }
     requires there { with_number op.now.doc numbers.now ≡ numbers.now }
     requires may_come { (ops : List Op) × AllDrafts drafts.old.items ops
-        × MayCome ops op.now.doc op.now }
+        × Fits ops op.now.doc op.now }
     ensures numbers { OnOk result (draft_numbers drafts.new.items ≡ numbers.now) }
     ensures drafts { OnOk result ((ops : List Op) → AllDrafts drafts.old.items ops
-        → MayCome ops op.now.doc op.now → AllDrafts drafts.new.items (ops ++ op.now ∷ [])) }
+        → Fits ops op.now.doc op.now → AllDrafts drafts.new.items (ops ++ op.now ∷ [])) }
     ensures memory { IfErr result (λ e. e ≡ Refusal.Memory) }
 {
     match place(numbers, op.doc) {

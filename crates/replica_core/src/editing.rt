@@ -11,9 +11,9 @@ use crate::refusal::Refusal;
 use crate::replica::Replica;
 use crate::step::{MAX_STEPS, Step};
 use crate::ticket::Ticket;
-use doc_core::{Doc, MakeError, SequenceError};
-use op_model::{Edit, Op};
-use slow_programs::change_size;
+use doc_core::{Doc, Made, MakeError, SequenceError};
+use op_ids::laws::replica_is_not_nil;
+use op_model::Edit;
 
 impl Replica {
     /// Makes the operations of a session's edit and puts them behind the list. It is refused by the
@@ -69,12 +69,12 @@ impl Replica {
     {
         let made = self.made(edit)?;
         let mut clock = self.clock.copy()?;
-        count_all(&mut clock, &made)?;
+        count_all(&mut clock, made.as_slice())?;
         let step = Step::Edit {
             session,
             edit: edit.copy()?,
             first: self.log.list.len(),
-            count: change_size(&edit.change) as usize,
+            count: edit.change.size(),
         };
         match self.log.append(&made, self.id, edit.doc, step) {
             Ok(()) => {}
@@ -86,16 +86,19 @@ impl Replica {
     }
 
     /// The operations of an edit that nothing refuses. An error is want of memory (1).
-    fn made(&self, edit: &Edit) -> Result<Vec<Op>, Refusal>
+    fn made(&self, edit: &Edit) -> Result<Made, Refusal>
         requires { CanEdit self.now edit.now }
         ensures made { IfOk result (λ made.
-            made.items ≡ made_of self.now.list self.now.replica edit.now) }
+            made ≡ made_of self.now.list self.now.replica edit.now) }
         ensures memory { IfErr result (λ e. e ≡ Refusal.Memory) }
     {
         let alloc = self.log.list.allocator();
         let empty = Doc::new(alloc, edit.doc);
         let doc = find(&self.log.docs, &empty);
         let next = self.log.index.greatest + 1;
+        // From these the proof has that the clock's counts are in range, and the replica isn't nil.
+        let _entries = self.clock.entries();
+        replica_is_not_nil(self.id);
         match doc.make(alloc, self.id, next, &self.clock, &edit.change) {
             Ok(made) => Ok(made),
             Err(MakeError::Memory) => Err(Refusal::Memory),

@@ -1,6 +1,5 @@
-ghost use Rattle.std.specs.Prelude.{◌≡◌, ℕ, ◌≤◌, ◌<◌, ◌++◌, ◌∷◌, [], ◌&&◌, ◌==◌, nat_le, nat_lt, length, true, List, MatchOption, Some, None, IsTrue, ◌↔◌};
-ghost use Rattle.std.specs.List.{list_all};
-ghost use Rattle.op_model.specs.Causality.{IsCausallyClosed, MayFollow, documents, first_failed as first_failed_of, is_counted_up as is_counted_up_of, is_covered_insert as is_covered_insert_of, is_known as is_known_in, is_within_limits, named_by, named_by_anchor, named_by_end, named_by_start, names_inserts as names_inserts_of};
+ghost use Rattle.std.specs.Prelude.{◌≡◌, ◌<◌, ◌++◌, ◌∷◌, [], ◌&&◌, ◌==◌, nat_le, nat_lt, length, true, MatchOption, Some, None, IsTrue, ◌↔◌};
+ghost use Rattle.op_model.specs.Causality.{IsCausallyClosed, MayFollow, documents, first_failed as first_failed_of, is_counted_up as is_counted_up_of, is_covered_insert as is_covered_insert_of, is_known as is_known_in, is_within_limits, named_by_anchor, named_by_end, named_by_start, names_inserts as names_inserts_of};
 ghost use Rattle.op_model.specs.Spans.{with_number};
 ghost use Rattle.replica_core.specs.Deciding.{AreCounted, names_all};
 ghost use Rattle.replica_core.specs.Indexes.{IsIndexOf};
@@ -13,7 +12,6 @@ use crate::refusal::Refusal;
 use op_ids::{Clock, OpId};
 use op_list::OpSlice;
 use op_model::{Anchor, Body, End, Op, Start};
-use slow_programs::record_length;
 
 /// Whether a clock counts an operation: more of its replica than it depends on. At most 32 steps.
 pub fn is_known(clock: &Clock, op: &Op) -> bool
@@ -162,5 +160,5 @@ fn fits(ops: &OpSlice<'_>, clock: &Clock, index: &Index, op: &Op, has_place: boo
     if !clock.can_advance(op.id.replica()) {
         return false;
     }
-    has_room(ops, has_place, index.stream, 1, record_length(op))
+    has_room(ops, has_place, index.stream, 1, op.record_length())
 }

@@ -1,4 +1,4 @@
-ghost use Rattle.std.specs.Prelude.{◌≡◌, ℕ, ◌+◌, ◌≤◌, ◌<◌, ◌^◌, List, [], ◌∷◌, ◌++◌, length, true, MatchOption, OnOk};
+ghost use Rattle.std.specs.Prelude.{◌≡◌, ◌+◌, ◌≤◌, ◌<◌, ◌^◌, List, [], ◌∷◌, ◌++◌, length, MatchOption, OnOk};
 ghost use Rattle.op_model.specs.declared.op.Op.{Op};
 ghost use Rattle.op_model.specs.Causality.{made_by};
 ghost use Rattle.op_model.specs.Records.{record_length as length_of, stream_length};
@@ -8,7 +8,6 @@ ghost use Rattle.replica_core.specs.Makers.{places_of as places_in, room_of};
 use crate::maker::{self, Maker};
 use op_ids::ReplicaId;
 use op_model::Op;
-use slow_programs::record_length;
 use std::alloc::{AllocError, Global};
 
 /// What is known of a list of operations without a pass over it: by replica the indexes of its
@@ -69,7 +68,7 @@ impl Index {
     {
         maker::put(&mut self.makers, op.id.replica(), behind);
         self.greatest = op.id.counter().max(self.greatest);
-        self.stream += record_length(op);
+        self.stream += op.record_length();
     }
 
     /// Counts operations of one replica that go behind so many others. There is room for them.

@@ -1,6 +1,6 @@
-ghost use Rattle.std.specs.Prelude.{◌≡◌, ℕ, ◌+◌, ◌-◌, ◌*◌, ◌≤◌, ◌<◌, nat_le, true, List, length};
-ghost use Rattle.doc_core.specs.Standing.{number_of, StandsFor};
-ghost use Rattle.op_model.specs.declared.character.Character.{Character};
+ghost use Rattle.std.specs.Prelude.{◌≡◌, ℕ, ◌+◌, ◌-◌, ◌*◌, ◌≤◌, ◌<◌, true, List, length};
+ghost use Rattle.doc_core.specs.Standing.{StandsFor};
+ghost use Rattle.replica_core.specs.Docs.{number_of};
 ghost use Rattle.op_model.specs.declared.op.Op.{Op};
 ghost use Rattle.op_model.specs.Causality.{clock_of};
 ghost use Rattle.op_model.specs.Made.{bodies_of, end_of, is_inside, is_small, made as made_of, origin_of};
@@ -12,7 +12,6 @@ ghost use Rattle.slow_programs.specs.Asking.{IsAskedRight};
 use doc_core::Doc;
 use op_ids::{Clock, ReplicaId};
 use op_model::{Change, Edit, MarkKey};
-use slow_programs::{change_size, key_length, mark_length};
 
 /// How many bytes the records take that a small edit of a document makes. Takes no memory.
 pub fn made_length(doc: &Doc, clock: &Clock, replica: ReplicaId, edit: &Edit) -> u64
@@ -27,7 +26,7 @@ pub fn made_length(doc: &Doc, clock: &Clock, replica: ReplicaId, edit: &Edit) ->
     } else {
         first
     };
-    heads_length(first, later, change_size(&edit.change)) + bodies_length(doc, &edit.change)
+    heads_length(first, later, edit.change.size() as u64) + bodies_length(doc, &edit.change)
 }
 
 /// How many bytes so many records take without their contents, where the first has so many deps,
@@ -57,10 +56,12 @@ fn bodies_length(doc: &Doc, change: &Change) -> u64
             origin_length(doc, *at as usize) + 4 + 29 * later
         }
         Change::Delete { count, .. } => 24 * count.get() as u64,
-        Change::Mark { to, mark, .. } => mark_length(mark)
+        Change::Mark { to, mark, .. } => mark.record_length()
             + 25
             + end_length(doc, &mark.key(), *to as usize),
-        Change::Unmark { to, key, .. } => key_length(key) + 25 + end_length(doc, key, *to as usize),
+        Change::Unmark { to, key, .. } => key.record_length()
+            + 25
+            + end_length(doc, key, *to as usize),
     }
 }
 
@@ -74,7 +75,7 @@ fn origin_length(doc: &Doc, at: usize) -> u64
     if at > 0 {
         return 25;
     }
-    match doc.origin(at, None) {
+    match doc.origin(at) {
         Some(_) => 25,
         None => 1,
     }

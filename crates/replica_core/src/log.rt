@@ -1,5 +1,5 @@
-ghost use Rattle.std.specs.Prelude.{◌≡◌, ◌+◌, ◌≤◌, ◌<◌, ◌^◌, [], ◌∷◌, ◌++◌, length, IfOk, OnOk, OnErr, IsErrOf, vec_len, vec_capacity};
-ghost use Rattle.doc_core.specs.Standing.{MayComeInTurn};
+ghost use Rattle.std.specs.Prelude.{◌≡◌, ◌+◌, ◌≤◌, ◌<◌, ◌^◌, [], ◌∷◌, ◌++◌, length, OnOk, OnErr, IsErrOf, vec_len, vec_capacity};
+ghost use Rattle.char_sequence.specs.Content.{FitAfter};
 ghost use Rattle.op_model.specs.Causality.{made_by};
 ghost use Rattle.op_model.specs.Records.{stream_length};
 ghost use Rattle.model_laws.specs.Rising.{IsUp};
@@ -9,11 +9,10 @@ ghost use Rattle.replica_core.specs.Log.{IsSame, HasRoom, IsAppended};
 use crate::docs;
 use crate::index::Index;
 use crate::step::Step;
-use doc_core::{Doc, SequenceError};
+use doc_core::{Doc, Made, SequenceError};
 use op_ids::ReplicaId;
 use op_list::OpList;
-use op_model::Op;
-use std::alloc::{AllocError, Global};
+use std::alloc::{AllocError};
 
 /// The operations and the steps of a replica, and the room that they need.
 #[derive(Debug, Drop)]
@@ -34,7 +33,7 @@ impl Log {
     /// the document can't take them.
     pub fn append(
         &mut self,
-        made: &[Op],
+        made: &Made,
         replica: ReplicaId,
         doc: u32,
         step: Step,
@@ -47,13 +46,14 @@ impl Log {
         ensures ok { OnOk result (IsAppended self.old self.new made.now doc step) }
         ensures known { IsErrOf result SequenceError.UnknownId
             → AreDocs self.old.docs.items self.old.list
-            → MayComeInTurn self.old.list doc made.now → ⊥ }
+            → FitAfter self.old.list doc made.now → ⊥ }
         ensures err { OnErr result (IsSame self.old self.new) }
     {
         let alloc = self.list.allocator();
-        self.reserve(replica, made.len())?;
+        let ops = made.as_slice();
+        self.reserve(replica, ops.len())?;
         let before = self.list.len();
-        self.list.append(made)?;
+        self.list.append(ops)?;
         match docs::apply(&mut self.docs, alloc, doc, made) {
             Ok(()) => {}
             Err(refused) => {
@@ -62,7 +62,7 @@ impl Log {
             }
         }
         put_step(&mut self.steps, step);
-        self.index.put_all(made, replica, before as u32);
+        self.index.put_all(ops, replica, before as u32);
         Ok(())
     }
 
@@ -88,13 +88,4 @@ fn put_step(steps: &mut Vec<Step>, step: Step)
         Ok(()) => {}
         Err(_) => unreachable!(),
     }
-}
-
-/// The list of one operation. An error is want of memory (1).
-pub fn one(alloc: Global, op: Op) -> Result<Vec<Op>, AllocError>
-    ensures { IfOk result (λ ops. ops.items ≡ op ∷ []) }
-{
-    let mut ops = Vec::new(alloc);
-    ops.push(op)?;
-    Ok(ops)
 }

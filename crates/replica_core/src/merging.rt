@@ -9,12 +9,11 @@ ghost use Rattle.replica_core.specs.Refusal.{number_of};
 use crate::counting::advance;
 use crate::docs::has_document;
 use crate::following::{first_failed, is_known};
-use crate::log::one;
 use crate::merged::Merged;
 use crate::refusal::Refusal;
 use crate::replica::Replica;
 use crate::step::{MAX_STEPS, Step};
-use doc_core::SequenceError;
+use doc_core::{Made, SequenceError};
 use op_model::Op;
 
 impl Replica {
@@ -84,7 +83,7 @@ impl Replica {
             peer,
             index: self.log.list.len(),
         };
-        let made = one(alloc, op)?;
+        let made = Made::one(alloc, op)?;
         match self.log.append(&made, replica, doc, step) {
             Ok(()) => {}
             Err(SequenceError::Memory) => return Err(Refusal::Memory),

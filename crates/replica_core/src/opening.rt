@@ -15,8 +15,7 @@ use crate::refusal::Refusal;
 use doc_core::Doc;
 use op_ids::Clock;
 use op_list::OpSlice;
-use op_model::Op;
-use slow_programs::MAX_DOCUMENTS;
+use op_model::{MAX_DOCUMENTS, Op};
 use std::alloc::Global;
 
 /// The clock, the documents and the index of a causally closed list. `BadOperation` (47) exactly

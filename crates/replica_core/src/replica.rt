@@ -1,5 +1,5 @@
-ghost use Rattle.std.specs.Prelude.{◌≡◌, ◌≢◌, ◌↔◌, ℕ, ◌≤◌, ◌<◌, if◌then◌else◌};
-ghost use Rattle.std.specs.Prelude.{List, [], length, take, drop, Contains};
+ghost use Rattle.std.specs.Prelude.{◌≡◌, ◌≢◌, ◌↔◌, ◌≤◌, ◌<◌, if◌then◌else◌};
+ghost use Rattle.std.specs.Prelude.{[], length, take, drop, Contains};
 ghost use Rattle.std.specs.Prelude.{IsTrue, IfOk, IfErr, OnOk, OnErr};
 ghost use Rattle.op_model.specs.Machine.{reach, untold as untold_of};
 ghost use Rattle.op_model.specs.Causality.{clock_of, IsCausallyClosed};
@@ -11,7 +11,7 @@ ghost use Rattle.replica_core.specs.Held.{with_acked, with_settled, with_told};
 ghost use Rattle.replica_core.specs.Steps.{places_left};
 
 use crate::counting;
-use crate::docs::find;
+use crate::docs::{count, find};
 use crate::index::Index;
 use crate::log::Log;
 use crate::opening::counted;
@@ -166,7 +166,7 @@ impl Replica {
         ensures { result ≡ rev_of self.now.list doc }
     {
         let empty = Doc::new(self.log.list.allocator(), doc);
-        find(&self.log.docs, &empty).rev() as usize
+        count(find(&self.log.docs, &empty), &self.log.list.as_slice())
     }
 
     /// The text of a document, unsettled operations included. An error is want of memory (1). A

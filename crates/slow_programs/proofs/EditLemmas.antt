@@ -5,7 +5,7 @@ use Rattle.std.specs.List.{list_all}
 use Rattle.std.proofs.lemmas.List.Folds.{list_all-append}
 use Rattle.std.proofs.lemmas.Bool.Decides.{nat_tests}
 use Rattle.op_ids.specs.Id.{Id}
-use Rattle.op_ids.specs.Clock.{advanced, total_of, IsOverfull}
+use Rattle.op_ids.specs.Clock.{advanced, advanced_by, total_of, IsOverfull}
 use Rattle.op_ids.proofs.FullLemmas.{advanced-comm, total_of-advanced}
 use Rattle.op_ids.specs.declared.clock_error.ClockError.{ClockError}
 use Rattle.op_ids.specs.declared.clock_error.ClockError.TheVariants as clock
@@ -20,7 +20,6 @@ use Rattle.op_model.specs.Text.{visible}
 use Rattle.op_model.specs.Causality.{clock_of, is_in_range, documents, has_room, is_within_limits}
 use Rattle.op_model.specs.Records.{stream_length}
 use Rattle.op_model.specs.Made.{numbered, insert_bodies, bodies_of, made, greatest_counter, origin_of, is_inside, size_of}
-use Rattle.slow_programs.specs.Numbering.{advanced_by}
 use Rattle.slow_programs.specs.Asking.{IsAskedRight}
 use Rattle.slow_programs.proofs.Full.{IsOverfull-advanced_by}
 
@@ -32,14 +31,14 @@ clock_of-push (x ∷ xs) op =
 
 -- the clock behind an edit's operations
 pub clock_of-numbered : (ops : List Op) (replica doc counter : ℕ) (clock : List (ℕ × ℕ)) (bodies : List Body)
-    → clock_of (ops ++ numbered replica doc counter clock bodies) ≡ advanced_by (clock_of ops) replica bodies
+    → clock_of (ops ++ numbered replica doc counter clock bodies) ≡ advanced_by (clock_of ops) replica (length bodies)
 clock_of-numbered ops replica doc counter clock [] = ap clock_of (append-nil ops)
 clock_of-numbered ops replica doc counter clock (b ∷ bs) =
     let op : Op = record { id = record { counter = counter; replica = replica }; doc = doc; deps = clock; body = b } in
     let rest = numbered replica doc (counter + 1) (advanced clock replica) bs in
     ap clock_of (sym (append_assoc ops (op ∷ []) rest))
     ∙ (clock_of-numbered (ops ++ op ∷ []) replica doc (counter + 1) (advanced clock replica) bs
-    ∙ ap (λ from. advanced_by from replica bs) (clock_of-push ops op))
+    ∙ ap (λ from. advanced_by from replica (length bs)) (clock_of-push ops op))
 
 -- a clock counts each operation once
 pub total_of-clock_of : (ops : List Op) → total_of (clock_of ops) ≡ length ops
@@ -92,7 +91,7 @@ length-bodies_of ops replica doc (change.Unmark from to key) inside = refl
 
 -- an edit whose operations a clock can't count is beyond the limits
 pub is_within_limits-uncounted : (ops : List Op) (replica : ℕ) (edit : Edit)
-    → IsOverfull (advanced_by (clock_of ops) replica (bodies_of ops replica edit.doc edit.change))
+    → IsOverfull (advanced_by (clock_of ops) replica (length (bodies_of ops replica edit.doc edit.change)))
     → is_within_limits (ops ++ made ops replica edit) ≡ false
 is_within_limits-uncounted ops replica edit full =
     is_within_limits-full (ops ++ made ops replica edit)
@@ -103,7 +102,7 @@ pub is_within_limits-uncounted_before : (ops : List Op) (replica : ℕ) (edit : 
     → is_within_limits (ops ++ made ops replica edit) ≡ false
 is_within_limits-uncounted_before ops replica edit full =
     is_within_limits-uncounted ops replica edit
-    (IsOverfull-advanced_by (clock_of ops) replica (bodies_of ops replica edit.doc edit.change) full)
+    (IsOverfull-advanced_by (clock_of ops) replica (length (bodies_of ops replica edit.doc edit.change)) full)
 
 -- a list with a counter out of range is beyond the limits
 out_of_range : (first second room : Bool) → second ≡ false → ((first && second) && room) ≡ false

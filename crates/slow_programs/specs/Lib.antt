@@ -1,4 +1,3 @@
 pub mod Asking
 pub mod EditError
 pub mod Joining
-pub mod Numbering

@@ -1,29 +1,26 @@
-ghost use Rattle.std.specs.Prelude.{◌≡◌, ◌≢◌, ◌⊎◌, ℕ, ◌+◌, ◌≤◌, ◌<◌, ◌^◌, ◌++◌, List, length, map, Option, Some, None, true, false, IfOk, IfErr};
+ghost use Rattle.std.specs.Prelude.{◌≡◌, ◌≢◌, ◌↔◌, ◌+◌, ◌≤◌, ◌<◌, ◌^◌, ◌++◌, length, map};
+ghost use Rattle.std.specs.Prelude.{Some, None, true, false, IfOk, IfErr, IsErrOf, ℕ};
 ghost use Rattle.op_model.specs.Text.{visible as visible_of, rev as rev_of};
-ghost use Rattle.op_model.specs.Causality.{clock_of as clock_of_list, is_within_limits as is_within_limits_of};
-ghost use Rattle.op_model.specs.Made.{is_at_rev as is_at_rev_of, is_inside as is_inside_of, is_small as is_small_of, made as made_of, bodies_of as bodies_in, edit_refusal, insert_bodies as insert_bodies_of, origin_of, start_before as start_before_of, end_before as end_before_of, end_after as end_after_of, end_of, size_of, greatest_counter as greatest_in};
+ghost use Rattle.op_model.specs.Causality.{is_within_limits as is_within_limits_of};
+ghost use Rattle.op_model.specs.Made.{is_at_rev as is_at_rev_of, is_inside as is_inside_of};
+ghost use Rattle.op_model.specs.Made.{made as made_of, bodies_of as bodies_in, edit_refusal, origin_of};
+ghost use Rattle.op_model.specs.Made.{start_before as start_before_of, end_before as end_before_of};
+ghost use Rattle.op_model.specs.Made.{end_after as end_after_of, end_of, size_of};
+ghost use Rattle.op_model.specs.Made.{greatest_counter as greatest_in};
 ghost use Rattle.slow_programs.specs.EditError.{number_of};
 ghost use Rattle.slow_programs.specs.Asking.{IsAskedRight};
 
 use crate::edit_error::EditError;
 use crate::limits::is_within_limits;
-use crate::numbering::{clock_of, greatest_counter, numbered};
+use crate::numbering::{clock_of, greatest_counter};
 use crate::order::walk;
 use crate::placing::{behind, id_at, id_before, last_end};
 use crate::reading::{rev, visible};
-use op_ids::{Clock, MAX_COUNTER, OpId, ReplicaId};
-use op_model::{Anchor, Body, Change, Character, Edit, End, MarkKey, Op, Start};
+use op_ids::{MAX_COUNTER, OpId, ReplicaId};
+use op_model::{
+    Anchor, Body, Change, Character, Edit, End, MarkKey, Op, Start, insert_bodies, numbered,
+};
 use std::alloc::{AllocError, Global};
-
-/// Whether a document with so many operations is at the number that is asked for.
-pub fn is_at_rev(count: usize, asked: &Option<u32>) -> bool
-    ensures { result ≡ is_at_rev_of count asked.now }
-{
-    match asked {
-        None => true,
-        Some(asked) => count == *asked as usize,
-    }
-}
 
 /// Whether a change lies within a text of so many characters.
 pub fn is_inside(count: usize, change: &Change) -> bool
@@ -34,17 +31,6 @@ pub fn is_inside(count: usize, change: &Change) -> bool
         Change::Delete { at, count: removed } => *at as usize + removed.get() as usize <= count,
         Change::Mark { from, to, .. } => *from < *to && *to as usize <= count,
         Change::Unmark { from, to, .. } => *from < *to && *to as usize <= count,
-    }
-}
-
-/// Whether a change inserts or removes at most 256 characters.
-pub fn is_small(change: &Change) -> bool
-    ensures { result ≡ is_small_of change.now }
-{
-    match change {
-        Change::Insert { text, .. } => text.as_slice().len() <= 256,
-        Change::Delete { count, .. } => count.get() <= 256,
-        _ => true,
     }
 }
 
@@ -62,32 +48,6 @@ fn origin(
     let walked = walk(alloc, ops, doc)?;
     let rest = walked.split_at(behind(ops, doc, &walked, at)).1;
     Ok(last_end(ops, doc, id_before(seen, at), rest))
-}
-
-/// Inserts of characters, the first behind this origin, each later one behind the one before.
-fn insert_bodies(
-    alloc: Global,
-    replica: ReplicaId,
-    counter: u64,
-    origin: Option<OpId>,
-    text: &[char],
-) -> Result<Vec<Body>, AllocError>
-    requires above_zero { 0 < counter }
-    requires in_range { counter + length text.now ≤ 2 ^ 48 }
-    ensures { IfOk result (λ bodies. bodies.items ≡ insert_bodies_of replica counter origin text.now) }
-{
-    let mut bodies = Vec::new(alloc);
-    let mut behind = origin;
-    let mut next = counter;
-    for value in text {
-        bodies.push(Body::Insert {
-            origin: behind,
-            value: *value,
-        })?;
-        behind = Some(OpId::new(next, replica));
-        next += 1;
-    }
-    Ok(bodies)
 }
 
 fn start_before(id: Option<OpId>) -> Start
@@ -182,67 +142,58 @@ fn remove_bodies(alloc: Global, removed: &[Character]) -> Result<Vec<Body>, Allo
         .collect(alloc)
 }
 
-/// How many operations a change makes: at least one.
-pub fn size(change: &Change) -> u64
-    ensures value { result ≡ size_of change.now }
-    ensures some { 0 < result }
-{
-    match change {
-        Change::Insert { text, .. } => text.as_slice().len() as u64,
-        Change::Delete { count, .. } => count.get() as u64,
-        _ => 1,
-    }
-}
-
 /// The characters that a reader sees of the edit's document, where nothing but a limit of the store may refuse the edit.
 fn readable(alloc: Global, ops: &[Op], edit: &Edit) -> Result<Vec<Character>, EditError>
     ensures seen { IfOk result (λ seen. seen.items ≡ visible_of ops.now edit.now.doc) }
     ensures ok { IfOk result (λ _. IsAskedRight ops.now edit.now) }
+    ensures stale { IsErrOf result EditError.Stale
+        ↔ (is_at_rev_of (rev_of ops.now edit.now.doc) edit.now.rev ≡ false) }
     ensures refused { IfErr result (λ e. e ≢ EditError.Memory
         → (replica : ℕ) → edit_refusal ops.now replica edit.now ≡ Some (number_of e)) }
 {
-    if !is_at_rev(rev(ops, edit.doc), &edit.rev) {
+    if !edit.is_at_rev(rev(ops, edit.doc)) {
         return Err(EditError::Stale);
     }
     let seen = visible(alloc, ops, edit.doc)?;
     if !is_inside(seen.len(), &edit.change) {
         return Err(EditError::Range);
     }
-    if !is_small(&edit.change) {
+    if !edit.change.is_small() {
         return Err(EditError::Limit);
     }
     Ok(seen)
 }
 
-/// The operations of an edit that asks right, where they keep the limits of a store, and the clock behind them.
+/// The operations of an edit that asks right, where they keep the limits of a store.
 fn made_within(
     alloc: Global,
     ops: &[Op],
     replica: ReplicaId,
     edit: &Edit,
     seen: &[Character],
-) -> Result<(Vec<Op>, Clock), EditError>
+) -> Result<Vec<Op>, EditError>
     requires seen { seen.now ≡ visible_of ops.now edit.now.doc }
     requires right { IsAskedRight ops.now edit.now }
-    ensures made { IfOk result (λ made. made.0.items ≡ made_of ops.now replica edit.now) }
-    ensures clock { IfOk result (λ made. made.1
-        ≡ clock_of_list (ops.now ++ made_of ops.now replica edit.now)) }
+    ensures made { IfOk result (λ made. made.items ≡ made_of ops.now replica edit.now) }
     ensures within { IfOk result (λ _.
         is_within_limits_of (ops.now ++ made_of ops.now replica edit.now) ≡ true) }
     ensures limit { IfErr result (λ e. e ≢ EditError.Memory → (e ≡ EditError.Limit)
         × (is_within_limits_of (ops.now ++ made_of ops.now replica edit.now) ≡ false)) }
 {
     let next = greatest_counter(ops) + 1;
-    if next + size(&edit.change) > MAX_COUNTER + 1 {
+    let count = edit.change.size() as u64;
+    if next + count > MAX_COUNTER + 1 {
         return Err(EditError::Limit);
     }
     let bodies = bodies(alloc, ops, replica, edit, seen, next)?;
-    let clock = clock_of(alloc, ops)?;
-    let (made, clock) = numbered(alloc, replica, edit.doc, next, clock, &bodies)?;
+    let before = clock_of(alloc, ops)?;
+    let mut clock = before.copy()?;
+    clock.advance_by(replica, count)?;
+    let made = numbered(alloc, replica, edit.doc, next, &before, &bodies)?;
     if !is_within_limits(alloc, ops, &made, &clock)? {
         return Err(EditError::Limit);
     }
-    Ok((made, clock))
+    Ok(made)
 }
 
 /// The operations that an edit adds to a replica's list. It is refused by the first cause, in this order: `Stale` (6),
@@ -256,24 +207,8 @@ pub fn made(
 ) -> Result<Vec<Op>, EditError>
     ensures made { IfOk result (λ made. made.items ≡ made_of ops.now replica edit.now) }
     ensures due { IfOk result (λ _. edit_refusal ops.now replica edit.now ≡ None) }
-    ensures refused { IfErr result (λ e. e ≢ EditError.Memory
-        → edit_refusal ops.now replica edit.now ≡ Some (number_of e)) }
-{
-    Ok(made_with_clock(alloc, ops, replica, edit)?.0)
-}
-
-/// The operations that an edit adds to a replica's list, and the clock behind them, which counts all of the list and them. It is
-/// refused as `made` is.
-pub fn made_with_clock(
-    alloc: Global,
-    ops: &[Op],
-    replica: ReplicaId,
-    edit: &Edit,
-) -> Result<(Vec<Op>, Clock), EditError>
-    ensures made { IfOk result (λ made. made.0.items ≡ made_of ops.now replica edit.now) }
-    ensures clock { IfOk result (λ made. made.1
-        ≡ clock_of_list (ops.now ++ made_of ops.now replica edit.now)) }
-    ensures due { IfOk result (λ _. edit_refusal ops.now replica edit.now ≡ None) }
+    ensures stale { IsErrOf result EditError.Stale
+        ↔ (is_at_rev_of (rev_of ops.now edit.now.doc) edit.now.rev ≡ false) }
     ensures refused { IfErr result (λ e. e ≢ EditError.Memory
         → edit_refusal ops.now replica edit.now ≡ Some (number_of e)) }
 {

@@ -1,12 +1,13 @@
-ghost use Rattle.std.specs.Prelude.{◌≡◌, ℕ, ◌+◌, ◌≤◌, ◌<◌, List, ◌∷◌, ◌++◌, MatchOption, length, take, drop, IfOk, OnOk, Option, Some, None, filter_map, filter};
+ghost use Rattle.std.specs.Prelude.{◌≡◌, ◌+◌, ◌≤◌, ◌<◌, length, IfOk, Option, Some, None, filter};
 ghost use Rattle.std.specs.Option.{option_copied};
-ghost use Rattle.op_model.specs.Marks.{markings as markings_of, is_key as is_same_key, greater as greater_of};
+ghost use Rattle.op_model.specs.Marks.{markings as markings_of};
 ghost use Rattle.op_model.specs.Places.{index_of as index_in, place as place_of, start_place as start_place_of, end_place as end_place_of, covers as is_covered};
-ghost use Rattle.op_model.specs.Spans.{deciding as deciding_of, decided as decided_of, comment_ids as comment_ids_of, with_number, comment_of, marks_of as marks_at};
+ghost use Rattle.op_model.specs.Spans.{deciding as deciding_of, decided as decided_of, comment_ids as comment_ids_of, marks_of as marks_at};
 
 use op_ids::OpId;
 use op_model::{
     Anchor, Character, CommentId, CommentIds, End, Mark, MarkKey, Marking, Marks, Op, Start,
+    insert_rising,
 };
 use std::alloc::{AllocError, Global};
 
@@ -74,19 +75,6 @@ fn covers(characters: &[Character], k: usize, marking: &Marking) -> bool
         && before < end_place(characters, &marking.end)
 }
 
-/// Whether both are about one decision.
-pub fn is_key(a: &MarkKey, b: &MarkKey) -> bool
-    ensures { result ≡ is_same_key a.now b.now }
-{
-    match (a, b) {
-        (MarkKey::Strong, MarkKey::Strong) => true,
-        (MarkKey::Em, MarkKey::Em) => true,
-        (MarkKey::Link, MarkKey::Link) => true,
-        (MarkKey::Comment(a), MarkKey::Comment(b)) => *a == *b,
-        _ => false,
-    }
-}
-
 /// Of the mark operations of a key that cover the k-th character, the one with the greatest id.
 fn deciding<'a>(
     characters: &[Character],
@@ -101,21 +89,11 @@ fn deciding<'a>(
     while i > 0 {
         i -= 1;
         let marking = &markings[i];
-        if is_key(&marking.key, key) && covers(characters, k, marking) {
-            best = Some(greater(marking, best));
+        if marking.key.is_same(key) && covers(characters, k, marking) {
+            best = Some(marking.greater(best));
         }
     }
     best
-}
-
-/// The one with the greater id.
-pub fn greater<'a>(marking: &'a Marking, best: Option<&'a Marking>) -> &'a Marking
-    ensures { result.now ≡ greater_of marking.now (option_copied best.entry) }
-{
-    match best {
-        Some(other) if marking.id.is_below(other.id) => other,
-        _ => marking,
-    }
 }
 
 fn decided<'a>(
@@ -145,32 +123,6 @@ fn comment_ids(alloc: Global, markings: &[Marking]) -> Result<Vec<CommentId>, Al
         }
     }
     Ok(ids)
-}
-
-/// Puts a comment into a rising list, if it isn't there. An error is want of memory (1). Linear.
-pub fn insert_rising(ids: &mut Vec<CommentId>, id: CommentId) -> Result<(), AllocError>
-    ensures { OnOk result (ids.new.items ≡ with_number id ids.old.items) }
-{
-    if let Some(at) = place_rising(ids, id) {
-        ids.insert(at, id)?;
-    }
-    Ok(())
-}
-
-/// Where a comment goes in a rising list, or `None` where it is there.
-fn place_rising(ids: &[CommentId], id: CommentId) -> Option<usize>
-    ensures { MatchOption result (with_number id ids.now ≡ ids.now) (λ at. (at ≤ length ids.now)
-        × (with_number id ids.now ≡ take at ids.now ++ id ∷ drop at ids.now)) }
-{
-    for (i, other) in ids.iter().enumerate() {
-        if id < *other {
-            return Some(i);
-        }
-        if id == *other {
-            return None;
-        }
-    }
-    Some(ids.len())
 }
 
 /// The marks of the k-th character of a text. An error is want of memory (1).

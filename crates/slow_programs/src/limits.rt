@@ -1,21 +1,13 @@
-ghost use Rattle.std.specs.Prelude.{◌≡◌, ℕ, ◌+◌, ◌≤◌, ◌<◌, ◌++◌, ◌∷◌, List, length, take, drop, map, nat_le, IfOk, OnOk, MatchOption};
+ghost use Rattle.std.specs.Prelude.{◌≡◌, ◌+◌, ◌≤◌, ◌<◌, ◌++◌, ◌∷◌, length, take, drop, map, nat_le, IfOk, OnOk, MatchOption};
 ghost use Rattle.std.specs.List.{list_all};
 ghost use Rattle.op_model.specs.Spans.{with_number};
-ghost use Rattle.op_model.specs.Records.{record_length as length_of, body_length as body_length_of, mark_length as mark_length_of, key_length as key_length_of, start_length as start_length_of, end_length as end_length_of, stream_length};
+ghost use Rattle.op_model.specs.Records.{stream_length};
 ghost use Rattle.op_model.specs.Causality.{clock_of, documents as documents_of, is_in_range as is_in_its_range, is_within_limits as is_within_limits_of};
 ghost use Rattle.slow_programs.specs.Joining.{risen};
 
 use op_ids::Clock;
-use op_model::{Body, End, Mark, MarkKey, Op, Start};
+use op_model::{MAX_DOCUMENTS, MAX_OPERATIONS, MAX_STREAM_LENGTH, Op};
 use std::alloc::{AllocError, Global};
-
-/// The most documents with operations in a store.
-pub const MAX_DOCUMENTS: usize = 1024;
-
-const MAX_OPERATIONS: usize = 16_777_216;
-
-/// The most bytes of records in a store: 2^30.
-pub const MAX_STREAM_LENGTH: u64 = 1_073_741_824;
 
 /// Whether the operations, and then those made, keep the limits of a store. The clock counts all of them. An error is
 /// want of memory (1).
@@ -54,7 +46,7 @@ fn is_in_range(op: &Op) -> bool
 }
 
 /// Whether so many operations, and then those made, are at most 2^24.
-pub fn has_operations(ops: usize, made: usize) -> bool
+fn has_operations(ops: usize, made: usize) -> bool
     ensures { result ≡ nat_le (ops + made) 16777216 }
 {
     ops <= MAX_OPERATIONS && made <= MAX_OPERATIONS - ops
@@ -70,88 +62,18 @@ fn has_stream(ops: &[Op], made: &[Op]) -> bool
 }
 
 /// What is left of so many bytes behind the records of the operations, or `None` where they don't fit.
-pub fn room_behind(ops: &[Op], room: u64) -> Option<u64>
+fn room_behind(ops: &[Op], room: u64) -> Option<u64>
     ensures { MatchOption result (room < stream_length ops.now) (λ left. left + stream_length ops.now ≡ room) }
 {
     let mut left = room;
     for op in ops {
-        let length = record_length(op);
+        let length = op.record_length();
         if length > left {
             return None;
         }
         left -= length;
     }
     Some(left)
-}
-
-/// How many bytes the operation's record takes.
-pub fn record_length(op: &Op) -> u64
-    ensures { result ≡ length_of op.now }
-{
-    34 + 24 * op.deps.len() as u64 + body_length(&op.body)
-}
-
-fn body_length(body: &Body) -> u64
-    ensures value { result ≡ body_length_of body.now }
-    ensures small { result < 2000 }
-{
-    match body {
-        Body::Insert { origin: None, .. } => 5,
-        Body::Insert {
-            origin: Some(_),
-            ..
-        } => 29,
-        Body::Remove { .. } => 24,
-        Body::AddMark { mark, start, end } => mark_length(mark)
-            + start_length(start)
-            + end_length(end),
-        Body::RemoveMark { key, start, end } => key_length(key)
-            + start_length(start)
-            + end_length(end),
-    }
-}
-
-/// How many bytes a mark takes in a record.
-pub fn mark_length(mark: &Mark) -> u64
-    ensures value { result ≡ mark_length_of mark.now }
-    ensures small { result < 1100 }
-{
-    match mark {
-        Mark::Strong | Mark::Em => 1,
-        Mark::Link(url) => 3 + url.as_str().len() as u64,
-        Mark::Comment(_) => 17,
-    }
-}
-
-/// How many bytes the key of a mark takes in a record.
-pub fn key_length(key: &MarkKey) -> u64
-    ensures value { result ≡ key_length_of key.now }
-    ensures small { result < 100 }
-{
-    match key {
-        MarkKey::Strong | MarkKey::Em | MarkKey::Link => 1,
-        MarkKey::Comment(_) => 17,
-    }
-}
-
-fn start_length(start: &Start) -> u64
-    ensures value { result ≡ start_length_of start.now }
-    ensures small { result < 100 }
-{
-    match start {
-        Start::OfText => 1,
-        Start::From(_) => 25,
-    }
-}
-
-fn end_length(end: &End) -> u64
-    ensures value { result ≡ end_length_of end.now }
-    ensures small { result < 100 }
-{
-    match end {
-        End::To(_) => 25,
-        End::OfText => 1,
-    }
 }
 
 /// The documents that have operations, in rising order. An error is want of memory (1).
@@ -186,7 +108,7 @@ fn insert_rising(documents: &mut Vec<u32>, doc: u32) -> Result<(), AllocError>
 }
 
 /// Where a document goes in a rising list, or `None` where it is there.
-pub fn place_rising(documents: &[u32], doc: u32) -> Option<usize>
+fn place_rising(documents: &[u32], doc: u32) -> Option<usize>
     ensures { MatchOption result (with_number doc documents.now ≡ documents.now) (λ at. (at ≤ length documents.now)
         × (with_number doc documents.now ≡ take at documents.now ++ doc ∷ drop at documents.now)) }
 {

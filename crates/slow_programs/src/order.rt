@@ -1,5 +1,4 @@
-ghost use Rattle.std.specs.Prelude.{◌≡◌, ℕ, ◌≤◌, ◌<◌, List, [], ◌∷◌, ◌++◌, length, take, drop, IfOk, OnOk, Option, Some, None, vec_len};
-ghost use Rattle.op_ids.specs.Id.{Id};
+ghost use Rattle.std.specs.Prelude.{◌≡◌, ◌≤◌, ◌<◌, ◌∷◌, ◌++◌, length, take, drop, IfOk, OnOk, Option, Some, None};
 ghost use Rattle.op_model.specs.Characters.{character_in, characters as characters_of, in_order};
 ghost use Rattle.op_model.specs.Walk.{is_parent, below, walk as walk_of};
 

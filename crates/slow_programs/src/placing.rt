@@ -1,4 +1,4 @@
-ghost use Rattle.std.specs.Prelude.{◌≡◌, ℕ, ◌+◌, ◌≤◌, ◌<◌, List, length, drop, Option, filter};
+ghost use Rattle.std.specs.Prelude.{◌≡◌, ◌≤◌, ◌<◌, length, drop, Option, filter};
 ghost use Rattle.op_model.specs.Text.{is_removed as is_removed_in};
 ghost use Rattle.op_model.specs.Made.{first_hidden, behind_visible, is_end_after, is_marking_up_to, ends_after as ends_after_in, id_at as id_at_in, id_before as id_before_in, last_or};
 

@@ -1,4 +1,4 @@
-ghost use Rattle.std.specs.Prelude.{◌≡◌, ℕ, List, IfOk, not, filter, map, IsTrue, ◌↔◌};
+ghost use Rattle.std.specs.Prelude.{◌≡◌, IfOk, filter, map};
 ghost use Rattle.op_model.specs.Text.{is_removal_of, is_removed as is_removed_in, visible as visible_of, text as text_of, rev as rev_of};
 
 use crate::order::walk;

@@ -1,11 +1,11 @@
-ghost use Rattle.std.specs.Prelude.{◌≡◌, ℕ, ◌++◌, ◌∷◌, IfOk, OnOk, IsTrue, List, ◌==◌, Bool};
+ghost use Rattle.std.specs.Prelude.{◌≡◌, IfOk, OnOk};
 ghost use Rattle.slow_programs.specs.Joining.{joins_first_of};
-ghost use Rattle.op_model.specs.Spans.{with_front, spans as spans_of, is_same_marks, is_same_link};
+ghost use Rattle.op_model.specs.Spans.{with_front, spans as spans_of};
 
 use crate::formatting::{markings, marks_of};
 use crate::order::walk;
 use crate::reading::is_removed;
-use op_model::{Marks, Op, Span, Text, Url};
+use op_model::{Marks, Op, Span, Text};
 use std::alloc::{AllocError, Global};
 
 /// The greatest runs of visible characters of a document with equal marks. An error is want of memory (1).
@@ -51,26 +51,6 @@ fn joins_first(marks: &Marks, spans: &[Span]) -> bool
 {
     match spans {
         [] => false,
-        [first, ..] => has_same_marks(marks, &first.marks),
-    }
-}
-
-/// Whether the marks are equal: links are equal where their URLs are.
-pub fn has_same_marks(a: &Marks, b: &Marks) -> bool
-    ensures { result ≡ is_same_marks a.now b.now }
-{
-    a.strong == b.strong
-        && a.em == b.em
-        && has_same_link(&a.link, &b.link)
-        && a.comments == b.comments
-}
-
-fn has_same_link(a: &Option<Url>, b: &Option<Url>) -> bool
-    ensures { result ≡ is_same_link a.now b.now }
-{
-    match (a, b) {
-        (None, None) => true,
-        (Some(a), Some(b)) => *a == *b,
-        _ => false,
+        [first, ..] => marks.are_same(&first.marks),
     }
 }

@@ -69,7 +69,8 @@ decided_about n set stands =
           absurd (both_ways (is_some (decided set (key.Comment n))) no_mark stands)
     ]
 
-fewer : (n : ℕ) (r : Marking → Bool) (ms : List Marking) → list_any (λ m. is_about n m) ms ≡ false → list_any (λ m. is_about n m) (filter r ms) ≡ false
+fewer : (n : ℕ) (r : Marking → Bool) (ms : List Marking) → list_any (λ m. is_about n m) ms ≡ false
+    → list_any (λ m. is_about n m) (filter r ms) ≡ false
 fewer n r [] none = refl
 fewer n r (m ∷ ms) none =
     let both = or_parts (is_about n m) (list_any (λ o. is_about n o) ms) none in
@@ -78,7 +79,8 @@ fewer n r (m ∷ ms) none =
       | inr e ↦ rw e (fewer n r ms both.1)
     ]
 
-about_more : (n : ℕ) (r : Marking → Bool) (ms : List Marking) → list_any (λ m. is_about n m) (filter r ms) ≡ true → list_any (λ m. is_about n m) ms ≡ true
+about_more : (n : ℕ) (r : Marking → Bool) (ms : List Marking) → list_any (λ m. is_about n m) (filter r ms) ≡ true
+    → list_any (λ m. is_about n m) ms ≡ true
 about_more n r ms some =
     elim (cases_Bool (list_any (λ m. is_about n m) ms)) [
       | inl all ↦ all
@@ -90,7 +92,8 @@ standing_same : (ms : List Marking) (r : Marking → Bool) (stands : ℕ → Boo
     → standing (filter r ms) ≡ filter stands (comment_ids ms)
 standing_same ms r stands same =
     same_members (standing (filter r ms)) (filter stands (comment_ids ms))
-    (up_filter (λ n. is_some (decided (filter r ms) (key.Comment n))) (comment_ids (filter r ms)) (rising_up (filter_map (λ o. comment_of o.key) (filter r ms))))
+    (up_filter (λ n. is_some (decided (filter r ms) (key.Comment n))) (comment_ids (filter r ms))
+    (rising_up (filter_map (λ o. comment_of o.key) (filter r ms))))
     (up_filter stands (comment_ids ms) (rising_up (filter_map (λ o. comment_of o.key) ms)))
     (λ n. has-filter (λ i. is_some (decided (filter r ms) (key.Comment i))) n (comment_ids (filter r ms))
     ∙ (both n ∙ sym (has-filter stands n (comment_ids ms))))

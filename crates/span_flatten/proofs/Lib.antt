@@ -1,3 +1,4 @@
+pub mod CellLemmas
 pub mod RunLemmas
 pub mod CoverLemmas
 pub mod FormatLemmas

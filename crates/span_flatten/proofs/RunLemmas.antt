@@ -1,5 +1,6 @@
 -- Runs that are taken from the last character on, and the spans that they are.
-use Rattle.std.proofs.Common.{◌≡◌, ℕ, ◌+◌, ◌-◌, ◌<◌, true, false, List, [], ◌∷◌, ◌++◌, length, take, drop, map, get_or, set, reverse, refl, sym, ◌∙◌, ap, arith}
+use Rattle.std.proofs.Common.{◌≡◌, ℕ, ◌+◌, ◌-◌, ◌<◌, true, false, List, [], ◌∷◌, ◌++◌, length, take, drop, map, get_or, set, reverse, refl, sym, ◌∙◌}
+use Rattle.std.proofs.Common.{ap, arith}
 use Rattle.std.proofs.lemmas.List.{reverse-append, take_more, take_more_set, take_all, drop_more, length-set}
 use Rattle.op_model.specs.declared.mark.Marks.{Marks}
 use Rattle.op_model.specs.Spans.{with_front, is_same_marks}

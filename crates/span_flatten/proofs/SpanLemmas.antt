@@ -35,5 +35,6 @@ pub spans_same : (ops : List Op) (doc : ℕ) (cells : List Cell) (ms : List Mark
 spans_same ops doc cells ms content marks =
     rw (content, marks) (runs_same ops doc (marks_of (walk ops doc) (markings ops doc))
     (λ k. marks_in (covering (content_of ops doc) (markings ops doc) k))
-    (λ k. marks_same (walk ops doc) (markings ops doc) k (λ m. is_in (range_of (content_of ops doc) m) k) (λ m. covers_same ops doc (walk ops doc) k m))
+    (λ k. marks_same (walk ops doc) (markings ops doc) k (λ m. is_in (range_of (content_of ops doc) m) k)
+    (λ m. covers_same ops doc (walk ops doc) k m))
     0 (walk ops doc))

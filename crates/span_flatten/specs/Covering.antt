@@ -1,3 +1,5 @@
+-- Used by private functions and proofs alone.
+--
 -- Which cells of a document a mark operation covers.
 use Rattle.std.specs.Prelude.{ℕ, ◌+◌, Bool, ◌&&◌, nat_lt, nat_le, if◌then◌else◌, List, [], ◌∷◌, length, filter}
 use Rattle.op_ids.specs.Id.{Id, is_same}

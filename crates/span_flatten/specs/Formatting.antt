@@ -1,3 +1,5 @@
+-- Used by private functions and proofs alone.
+--
 -- The marks of a character, from the mark operations that cover it.
 use Rattle.std.specs.Prelude.{ℕ, List, filter, is_some, Option, option_and_then}
 use Rattle.op_model.specs.declared.mark.Mark.{Mark}

@@ -1,3 +1,5 @@
+-- Used by private functions and proofs alone.
+--
 -- Runs of cells with equal marks.
 use Rattle.std.specs.Prelude.{ℕ, ◌+◌, if◌then◌else◌, List, [], ◌∷◌, map, reverse}
 use Rattle.op_model.specs.declared.mark.Marks.{Marks}

@@ -1,7 +1,7 @@
 ghost use Rattle.std.specs.Prelude.{◌≡◌, ℕ, List, map, IfOk};
-ghost use Rattle.char_sequence.specs.Content.{content_of};
+ghost use Rattle.char_sequence.specs.Content.{cells_of, Holds};
+ghost use Rattle.mark_anchors.specs.Keeping.{AreMarksOf};
 ghost use Rattle.op_model.specs.declared.op.Op.{Op};
-ghost use Rattle.op_model.specs.Marks.{markings as markings_of};
 ghost use Rattle.op_model.specs.Spans.{spans as spans_of_ops};
 ghost use Rattle.span_flatten.specs.Covering.{range_of};
 ghost use Rattle.span_flatten.specs.Runs.{cell_spans, spans_of_runs};
@@ -16,19 +16,39 @@ use op_model::{Marking, Span};
 use std::alloc::{AllocError, Global};
 
 /// The greatest runs of visible characters of a document with equal marks. An error is want of
-/// memory (1). For each mark operation two passes over the characters, tombstones counted; for each
-/// visible character a pass over the mark operations, and the square of those about comments that
-/// cover it.
+/// memory (1). Costs what `spans_slow` does.
 pub fn spans(sequence: &Sequence, anchors: &Anchors) -> Result<Vec<Span>, AllocError>
-    ensures { IfOk result (λ found. (ops : List Op) (doc : ℕ) → sequence.now ≡ content_of ops doc
-        → anchors.now ≡ markings_of ops doc → found.items ≡ spans_of_ops ops doc) }
+    ensures { IfOk result (λ found. (ops : List Op) (doc : ℕ) → Holds sequence.now ops doc
+        → AreMarksOf anchors.now ops doc → found.items ≡ spans_of_ops ops doc) }
+{
+    spans_slow(sequence, anchors)
+}
+
+/// The same, mark operation by mark operation. An error is want of memory (1). A copy of the
+/// characters, tombstones too; for each mark operation two passes over them; for each visible
+/// character a pass over the mark operations, and the square of those about comments that cover it.
+pub fn spans_slow(sequence: &Sequence, anchors: &Anchors) -> Result<Vec<Span>, AllocError>
+    ensures { IfOk result (λ found. (ops : List Op) (doc : ℕ) → Holds sequence.now ops doc
+        → AreMarksOf anchors.now ops doc → found.items ≡ spans_of_ops ops doc) }
 {
     let alloc = sequence.allocator();
-    let cells = sequence.cells();
-    let markings = anchors.as_slice();
-    let ranges = ranges(alloc, cells, markings)?;
-    let runs = runs(alloc, cells, markings, &ranges)?;
+    let cells = cells(alloc, sequence)?;
+    let markings = anchors.in_order();
+    let ranges = ranges(alloc, &cells, markings)?;
+    let runs = runs(alloc, &cells, markings, &ranges)?;
     spans_of(alloc, runs)
+}
+
+/// The characters of a sequence in the order of the text, tombstones too. An error is want of
+/// memory (1).
+fn cells(alloc: Global, sequence: &Sequence) -> Result<Vec<Cell>, AllocError>
+    ensures { IfOk result (λ found. found.items ≡ cells_of sequence.now) }
+{
+    let mut found = Vec::new(alloc);
+    while let Some(cell) = sequence.cell(found.len()) {
+        found.push(cell)?;
+    }
+    Ok(found)
 }
 
 /// The greatest runs of the visible ones among these cells, the last one first, where the cells

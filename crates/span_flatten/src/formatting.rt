@@ -4,8 +4,7 @@ ghost use Rattle.op_model.specs.Spans.{comment_ids as comment_ids_of};
 ghost use Rattle.span_flatten.specs.Formatting.{decided as decided_of, deciding as deciding_of};
 ghost use Rattle.span_flatten.specs.Formatting.{marks_in, standing as standing_of};
 
-use op_model::{CommentId, CommentIds, Mark, MarkKey, Marking, Marks};
-use slow_programs::{greater, insert_rising, is_key};
+use op_model::{CommentId, CommentIds, Mark, MarkKey, Marking, Marks, insert_rising};
 use std::alloc::{AllocError, Global};
 
 /// The marks of a character that these mark operations cover. An error is want of memory (1).
@@ -71,8 +70,8 @@ fn deciding<'a>(set: &[&'a Marking], key: &MarkKey) -> Option<&'a Marking>
     while i > 0 {
         i -= 1;
         let marking = set[i];
-        if is_key(&marking.key, key) {
-            best = Some(greater(marking, best));
+        if marking.key.is_same(key) {
+            best = Some(marking.greater(best));
         }
     }
     best

@@ -7,4 +7,7 @@ mod formatting;
 mod range;
 mod run;
 
-pub use flatten::spans;
+pub use flatten::{spans, spans_slow};
+
+#[cfg(test)]
+mod tests;

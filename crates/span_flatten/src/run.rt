@@ -3,7 +3,6 @@ ghost use Rattle.op_model.specs.Spans.{with_front};
 ghost use Rattle.span_flatten.specs.Runs.{span_of, spans_of_runs};
 
 use op_model::{Marks, Span, Text};
-use slow_programs::has_same_marks;
 use std::alloc::{AllocError, Global};
 
 /// Characters with equal marks, the last one of the text first.
@@ -25,7 +24,7 @@ pub fn put_before(
         ≡ with_front value marks (spans_of_runs runs.old.items)) }
 {
     match runs.last_mut() {
-        Some(run) if has_same_marks(&marks, &run.marks) => {
+        Some(run) if marks.are_same(&run.marks) => {
             run.values.push(value)?;
         }
         _ => {

@@ -1,5 +1,6 @@
 use Rattle.std.proofs.Common.{◌≡◌, drop}
-use Rattle.char_sequence.specs.Cells.{first_removed, last_ended}
+use Rattle.char_sequence.specs.Cells.{first_removed}
+use Rattle.char_sequence.specs.Content.{last_ended}
 use Rattle.char_sequence.proofs.search.last_ended.Given as goal
 
 abbrev pub invariant-loop-cell : goal.invariant-loop-cell

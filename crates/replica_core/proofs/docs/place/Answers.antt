@@ -1,6 +1,6 @@
 use Rattle.std.proofs.Common.{rules}
 use Rattle.std.proofs.lemmas.List.Sorted.{answers_always}
-use Rattle.doc_core.specs.Standing.{number_of}
+use Rattle.replica_core.specs.Docs.{number_of}
 use Rattle.replica_core.proofs.NumberLemmas.{placed_doc}
 use Rattle.replica_core.proofs.docs.place.Goals as goal
 

@@ -1,6 +1,8 @@
-use Rattle.std.proofs.Common.{◌≡◌, ◌<◌, ◌∙◌, Err, ap, length, arith}
+use Rattle.std.proofs.Common.{◌≡◌, ◌<◌, ◌∙◌, sym, Err, ap, length, arith}
 use Rattle.std.proofs.lemmas.List.{length-map}
-use Rattle.doc_core.specs.Drafting.{draft_number}
+use Rattle.std.proofs.lemmas.Bool.{true≢false}
+use Rattle.doc_core.proofs.NamingLemmas.{fits_there}
+use Rattle.replica_core.specs.Docs.{draft_number}
 use Rattle.model_laws.specs.Rising.{IsUp}
 use Rattle.replica_core.specs.Docs.{draft_numbers}
 use Rattle.replica_core.proofs.DraftLemmas.{draft_put, draft_takes, may_come_at, number_at, numbers_put}
@@ -35,4 +37,5 @@ unreachable-requires-in-Err-UnknownId c =
     (rw (c.requires.numbers) c.in-Ok.ensures.1) in
     let takes = draft_takes c.args.drafts.now.items c.in-Ok.at c.index_mut-draft.result.now c.args.op.now c.requires.may_come.0 here c.index_mut-draft.ensures.value same
     c.requires.may_come.1 c.requires.may_come.2 in
-    c.in-Err-UnknownId.ensures.known (ap Err c.in-Err-UnknownId.field-0-is) c.requires.may_come.0 takes.0 takes.1
+    let missing = (c.in-Err-UnknownId.ensures.unknown c.requires.may_come.0 takes.0).0 (ap Err c.in-Err-UnknownId.field-0-is) in
+    true≢false (sym (fits_there c.requires.may_come.0 (draft_number c.index_mut-draft.result.now) c.args.op.now takes.1) ∙ missing)

@@ -1,5 +1,5 @@
 use Rattle.std.proofs.Common.{take, refl, arith}
-use Rattle.doc_core.proofs.LawLemmas.{may_come}
+use Rattle.model_laws.proofs.Closed.{follows_fits}
 use Rattle.replica_core.proofs.DocLemmas.{doc_there, documents_up}
 use Rattle.replica_core.proofs.DraftLemmas.{take_push}
 use Rattle.replica_core.proofs.FollowLemmas.{follows_front}
@@ -17,7 +17,7 @@ apply-requires-clause-may_come c =
     let front = follows_front c.args.list.now c.loop-i.i c.in_ok-op.op c.requires.closed (omega arith) c.in_ok-op.ensures in (
       take c.loop-i.i c.args.list.now,
       c.loop-i.invariant.drafts,
-      may_come (take c.loop-i.i c.args.list.now) c.in_ok-op.op.doc c.in_ok-op.op front.1 refl,
+      follows_fits (take c.loop-i.i c.args.list.now) c.in_ok-op.op.doc c.in_ok-op.op front.1 refl,
     )
 
 pub loop-i-preserved : goal.loop-i-preserved
@@ -27,5 +27,5 @@ loop-i-preserved c =
       numbers = c.in_ok-apply.ensures.numbers;
       drafts = rw (take_push c.args.list.now c.loop-i.i c.in_ok-op.op (omega arith) c.in_ok-op.ensures)
           (c.in_ok-apply.ensures.drafts (take c.loop-i.i c.args.list.now) c.loop-i.invariant.drafts
-          (may_come (take c.loop-i.i c.args.list.now) c.in_ok-op.op.doc c.in_ok-op.op front.1 refl));
+          (follows_fits (take c.loop-i.i c.args.list.now) c.in_ok-op.op.doc c.in_ok-op.op front.1 refl));
     }

@@ -1,6 +1,6 @@
 use Rattle.std.proofs.Common.{◌∙◌, ap, sym, ◌++◌, ◌∷◌, [], take}
 use Rattle.std.proofs.lemmas.List.{take_more}
-use Rattle.doc_core.specs.Drafting.{draft_number}
+use Rattle.replica_core.specs.Docs.{draft_number}
 use Rattle.replica_core.proofs.DraftLemmas.{drafts_push, numbers_push}
 use Rattle.replica_core.proofs.drafts.empty.Goals as goal
 

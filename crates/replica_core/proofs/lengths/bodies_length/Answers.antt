@@ -1,5 +1,5 @@
 use Rattle.std.proofs.Common.{length, refl, sym}
-use Rattle.doc_core.specs.Standing.{number_of}
+use Rattle.replica_core.specs.Docs.{number_of}
 use Rattle.op_model.specs.Text.{visible}
 use Rattle.replica_core.proofs.LengthLemmas.{IsDelete, insert_inside, mark_inside, unmark_inside, lengths-insert, lengths-delete, lengths-mark, lengths-unmark}
 use Rattle.replica_core.proofs.lengths.bodies_length.Goals as goal
@@ -22,7 +22,7 @@ returns-in-Mark-clause-value c = λ ops replica stands inside.
     let within = mark_inside (length (visible ops doc)) c.in-Mark.from c.in-Mark.to c.in-Mark.mark c.args.change.now c.in-Mark.is inside in
     let all = lengths-mark ops replica doc c.in-Mark.from c.in-Mark.to c.in-Mark.mark c.args.change.now c.in-Mark.is inside in
     let last = c.end_length.ensures.value ops stands within.0 within.1 in
-    rw (all, c.mark_length.ensures.value, last, c.key.ensures) refl
+    rw (all, c.record_length.ensures.value, last, c.key.ensures) refl
 
 pub returns-in-Unmark-clause-value : goal.returns-in-Unmark-clause-value
 returns-in-Unmark-clause-value c = λ ops replica stands inside.
@@ -30,4 +30,4 @@ returns-in-Unmark-clause-value c = λ ops replica stands inside.
     let within = unmark_inside (length (visible ops doc)) c.in-Unmark.from c.in-Unmark.to c.in-Unmark.key c.args.change.now c.in-Unmark.is inside in
     let all = lengths-unmark ops replica doc c.in-Unmark.from c.in-Unmark.to c.in-Unmark.key c.args.change.now c.in-Unmark.is inside in
     let last = c.end_length-in-Unmark.ensures.value ops stands within.0 within.1 in
-    rw (all, c.key_length.ensures.value, last) refl
+    rw (all, c.record_length-in-Unmark.ensures.value, last) refl

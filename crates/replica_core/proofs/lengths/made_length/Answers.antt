@@ -1,5 +1,5 @@
 use Rattle.std.proofs.Common.{◌≡◌, ◌∙◌, ◌<◌, true, length, refl, ap, arith}
-use Rattle.doc_core.specs.Standing.{number_of}
+use Rattle.replica_core.specs.Docs.{number_of}
 use Rattle.op_ids.specs.Clock.{advanced, count_of, is_clock}
 use Rattle.op_model.specs.Causality.{clock_of}
 use Rattle.op_model.specs.Made.{bodies_of, is_inside, size_of}

@@ -1,7 +1,6 @@
 use Rattle.std.proofs.Common.{refl, sym}
-use Rattle.doc_core.specs.Standing.{number_of}
-use Rattle.op_model.specs.Text.{visible}
-use Rattle.replica_core.proofs.LengthLemmas.{origin_behind, none_before}
+use Rattle.replica_core.specs.Docs.{number_of}
+use Rattle.replica_core.proofs.LengthLemmas.{origin_behind}
 use Rattle.replica_core.proofs.lengths.origin_length.Goals as goal
 
 pub returns-then-at-gt0-clause-value : goal.returns-then-at-gt0-clause-value
@@ -9,8 +8,8 @@ returns-then-at-gt0-clause-value c = λ ops stands inside. sym (origin_behind op
 
 pub returns-in-Some-clause-value : goal.returns-in-Some-clause-value
 returns-in-Some-clause-value c = λ ops stands inside.
-    rw (← c.origin.ensures ops stands (none_before (visible ops (number_of c.args.doc.now)) c.args.at c.if-at-gt0.false), c.in-Some.is) refl
+    rw (← c.origin.ensures ops stands, c.in-Some.is) refl
 
 pub returns-in-None-clause-value : goal.returns-in-None-clause-value
 returns-in-None-clause-value c = λ ops stands inside.
-    rw (← c.origin.ensures ops stands (none_before (visible ops (number_of c.args.doc.now)) c.args.at c.if-at-gt0.false), c.in-None.is) refl
+    rw (← c.origin.ensures ops stands, c.in-None.is) refl

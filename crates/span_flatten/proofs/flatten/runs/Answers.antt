@@ -13,7 +13,8 @@ loop-k-preserved-then-not-cell c =
     let at : ℕ → Marks = λ k. marks_in (covering c.args.cells.now c.args.markings.now k) in
     let value = c.index-cells-k.result.value in
     let marks : c.in_ok-marks.marks ≡ at (c.loop-k.k - 1) =
-    c.in_ok-marks.ensures ∙ ap (λ set. marks_in (map (λ m. m.now) set)) c.deref.ensures.value ∙ ap marks_in (c.in_ok-set.ensures c.args.cells.now c.requires) in
+    c.in_ok-marks.ensures ∙ ap (λ set. marks_in (map (λ m. m.now) set)) c.deref.ensures.value
+    ∙ ap marks_in (c.in_ok-set.ensures c.args.cells.now c.requires) in
     let next : c.loop-k.k - 1 + 1 ≡ c.loop-k.k = omega arith in
     let behind : spans_of_runs c.loop-k.found.items ≡ cell_runs at (c.loop-k.k - 1 + 1) (drop (c.loop-k.k - 1 + 1) c.args.cells.now) =
     c.loop-k.invariant.found ∙ ap (λ k. cell_runs at k (drop k c.args.cells.now)) (sym next) in

@@ -1,5 +1,5 @@
 use Rattle.std.proofs.lemmas.Result.{on_ok_weaker}
-use Rattle.char_sequence.proofs.ContentLemmas.{takes_insert}
+use Rattle.char_sequence.proofs.HoldsLemmas.{takes_insert}
 use Rattle.char_sequence.proofs.KnownLemmas.{unknown_there}
 use Rattle.char_sequence.proofs.sequence.Sequence.apply_insert.Goals as goal
 

@@ -1,7 +1,6 @@
-use Rattle.std.proofs.Common.{sym, ◌∙◌}
-use Rattle.std.proofs.Common.{Some, refl, ap}
-use Rattle.char_sequence.specs.Cells.{has_cell}
-use Rattle.char_sequence.proofs.ContentLemmas.{takes_remove}
+use Rattle.std.proofs.Common.{Some, refl, sym, ◌∙◌, ap}
+use Rattle.char_sequence.specs.Cells.{has_cell, removed}
+use Rattle.char_sequence.proofs.HoldsLemmas.{takes_remove}
 use Rattle.char_sequence.proofs.KnownLemmas.{unknown_there, none_refused}
 use Rattle.char_sequence.proofs.sequence.Sequence.apply_remove.Goals as goal
 
@@ -9,8 +8,7 @@ pub returns-in-Some-clause-taken : goal.returns-in-Some-clause-taken
 returns-in-Some-clause-taken c =
     let place = rw c.deref.ensures.value at c.in-Some.ensures.there in
     let gone = place.removed c.index_mut-cell.result.now c.index_mut-cell.ensures.value in
-    λ by ops doc op orderly fits same_id same_body same.
-    takes_remove c.args.id c.self.inside.cells.items _ (sym gone) by ops doc op orderly fits same_id same_body (c.self.view_is ∙ same)
+    takes_remove c.args.id c.args.self.now _ (sym gone ∙ ap (removed c.args.id) c.self.view_is)
 
 pub returns-in-None-clause-unknown : goal.returns-in-None-clause-unknown
 returns-in-None-clause-unknown c = λ ops doc holds.

@@ -2,7 +2,7 @@ use Rattle.std.proofs.Common.{refl, sym, ◌∙◌, ap}
 use Rattle.std.specs.List.{list_all}
 use Rattle.char_sequence.specs.Cells.{has_cell, removed_all}
 use Rattle.char_sequence.proofs.KnownLemmas.{all_unknown_there, none_refused}
-use Rattle.char_sequence.proofs.ContentLemmas.{takes_removes}
+use Rattle.char_sequence.proofs.HoldsLemmas.{takes_removes}
 use Rattle.char_sequence.proofs.sequence.Sequence.apply_removes.Goals as goal
 
 pub remove_all-requires : goal.remove_all-requires
@@ -15,10 +15,13 @@ returns-clause-taken c =
 
 pub returns-then-not-knows_all-clause-unknown : goal.returns-then-not-knows_all-clause-unknown
 returns-then-not-knows_all-clause-unknown c = λ ops doc holds.
-    let gone = ap (λ cs. list_all (λ id. has_cell cs id) c.args.ids.now) (sym (c.deref.ensures.value ∙ c.self.view_is)) ∙ (sym c.knows_all.ensures ∙ c.if-not-knows_all.true) in
+    let gone = ap (λ cs. list_all (λ id. has_cell cs id) c.args.ids.now) (sym (c.deref.ensures.value ∙ c.self.view_is))
+    ∙ (sym c.knows_all.ensures ∙ c.if-not-knows_all.true) in
     all_unknown_there c.args.self.now ops doc c.args.ids.now _ holds (λ _. gone, λ _. refl)
 
 pub returns-clause-unknown : goal.returns-clause-unknown
 returns-clause-unknown c = λ ops doc holds.
-    let known = ap (λ cs. list_all (λ id. has_cell cs id) c.args.ids.now) (sym (c.deref.ensures.value ∙ c.self.view_is)) ∙ (sym c.knows_all.ensures ∙ c.if-not-knows_all.false) in
-    all_unknown_there c.args.self.now ops doc c.args.ids.now _ holds (none_refused (list_all (λ id. has_cell c.args.self.now id) c.args.ids.now) _ (λ never. cc) known)
+    let known = ap (λ cs. list_all (λ id. has_cell cs id) c.args.ids.now) (sym (c.deref.ensures.value ∙ c.self.view_is))
+    ∙ (sym c.knows_all.ensures ∙ c.if-not-knows_all.false) in
+    all_unknown_there c.args.self.now ops doc c.args.ids.now _ holds
+    (none_refused (list_all (λ id. has_cell c.args.self.now id) c.args.ids.now) _ (λ never. cc) known)

@@ -2,7 +2,7 @@ use Rattle.std.proofs.Common.{refl, sym, ◌∙◌, ap}
 use Rattle.std.proofs.lemmas.Result.{err_from_is_err_and}
 use Rattle.char_sequence.specs.Cells.{inserted_run, is_known}
 use Rattle.char_sequence.proofs.KnownLemmas.{unknown_there, none_refused}
-use Rattle.char_sequence.proofs.ContentLemmas.{takes_run}
+use Rattle.char_sequence.proofs.HoldsLemmas.{takes_run}
 use Rattle.char_sequence.proofs.sequence.Sequence.apply_run.Goals as goal
 
 pub insert_run-requires-clause-known : goal.insert_run-requires-clause-known
@@ -23,7 +23,8 @@ pub returns-in_err-reserve-clause-unknown : goal.returns-in_err-reserve-clause-u
 returns-in_err-reserve-clause-unknown c = λ ops doc holds.
     let p = err_from_is_err_and c.from_residual.result c.from_residual.ensures.1 in
     let known = ap (λ cs. is_known cs c.args.origin) (sym (c.deref.ensures.value ∙ c.self.view_is)) ∙ (sym c.knows.ensures ∙ c.if-not-knows.false) in
-    unknown_there c.args.self.now ops doc c.args.origin _ holds (none_refused (is_known c.args.self.now c.args.origin) _ (rw (p.1, p.2) (λ never. cc)) known)
+    unknown_there c.args.self.now ops doc c.args.origin _ holds
+    (none_refused (is_known c.args.self.now c.args.origin) _ (rw (p.1, p.2) (λ never. cc)) known)
 
 pub returns-clause-unknown : goal.returns-clause-unknown
 returns-clause-unknown c = λ ops doc holds.

@@ -1,35 +1,60 @@
-use Rattle.std.proofs.Common.{refl}
+use Rattle.std.proofs.Common.{◌++◌, false, take, drop, refl}
 use Rattle.std.proofs.lemmas.Result.{err_from_is_err_and}
-use Rattle.char_sequence.specs.Cells.{is_known}
-use Rattle.char_sequence.specs.Content.{content_of}
+use Rattle.char_sequence.specs.Cells.{is_known, past_greater}
+use Rattle.char_sequence.specs.Weave.{Starts, Weaves}
 use Rattle.char_sequence.proofs.KnownLemmas.{unknown_there, none_refused}
-use Rattle.char_sequence.proofs.WovenLemmas.{once_content, takes_insert_in}
+use Rattle.char_sequence.proofs.WovenLemmas.{is_woven, shown, takes_insert_in, woven_is, woven_with}
 use Rattle.char_sequence.proofs.weave.Weave.insert.Goals as goal
 
 pub returns-in-None-clause-unknown : goal.returns-in-None-clause-unknown
-returns-in-None-clause-unknown c = λ ops doc cells w holds.
-    let gone = c.in-None.ensures cells w in
-    unknown_there cells ops doc c.args.origin _ holds (λ _. gone, λ _. refl)
+returns-in-None-clause-unknown c = λ ops doc holds.
+    let w = shown _ _ c.args.self.now c.self.invariant c.self.view_is in
+    let gone = (rw c.deref-2.ensures.value at c.in-None.ensures) c.self.inside.next.items c.args.self.now w in
+    unknown_there c.args.self.now ops doc c.args.origin _ holds (λ _. gone, λ _. refl)
 
 pub returns-in_err-slot-clause-unknown : goal.returns-in_err-slot-clause-unknown
-returns-in_err-slot-clause-unknown c = λ ops doc cells w holds.
+returns-in_err-slot-clause-unknown c = λ ops doc holds.
     let p = err_from_is_err_and c.from_residual.result c.from_residual.ensures.1 in
-    let known = (c.in-Some.ensures cells w).0 in
-    unknown_there cells ops doc c.args.origin _ holds (none_refused (is_known cells c.args.origin) _ (rw (p.1, p.2) (λ never. cc)) known)
+    let w = shown _ _ c.args.self.now c.self.invariant c.self.view_is in
+    let known = ((rw c.deref-2.ensures.value at c.in-Some.ensures) c.self.inside.next.items c.args.self.now w).0 in
+    unknown_there c.args.self.now ops doc c.args.origin _ holds
+    (none_refused (is_known c.args.self.now c.args.origin) _ (rw (p.1, p.2) (λ never. cc)) known)
 
-pub returns-clause-taken : goal.returns-clause-taken
-returns-clause-taken c = λ ops doc op orderly fits same_id same_body w.
-    let start = (c.in-Some.ensures (content_of ops doc) w).1 (once_content ops doc orderly) in
+-- what hangs from the origin starts at the place that was found
+begun : (c : goal.After-tie) → (w : Weaves c.self.inside.cells.items c.self.inside.next.items c.args.self.now)
+    → Starts w.order c.args.self.now c.args.origin c.in-Some.from
+begun c w = ((rw c.deref-2.ensures.value at c.in-Some.ensures) c.self.inside.next.items c.args.self.now w).1
+
+-- the weave with the character
+grown : (c : goal.After-tie) → (w : Weaves c.self.inside.cells.items c.self.inside.next.items c.args.self.now)
+    → (start : Starts w.order c.args.self.now c.args.origin c.in-Some.from)
+    → Weaves c.push_reserved.new.self.items c.tie.new.next.items
+    (take start.steps c.args.self.now ++ past_greater (record { id = c.args.id; value = c.args.value; is_removed = false })
+    (drop start.steps c.args.self.now))
+grown c w start =
     let cells = c.in_ok-slot.ensures.cells in
     let next = c.in_ok-slot.ensures.next in
-    let passes = rw (c.deref.ensures.value, c.deref-2.ensures.value, cells, next) at c.past-at.ensures in
-    let behind = rw (c.deref-3.ensures.value, next) at c.next_of-behind.ensures in
+    let passes = rw (c.deref-3.ensures.value, c.deref-4.ensures.value, cells, next) at c.past-at.ensures in
+    let behind = rw (c.deref-5.ensures.value, next) at c.next_of-behind.ensures in
     let tied = rw (c.push_reserved-2.ensures.items, next, behind, c.in_ok-slot.ensures.slot) at c.tie.ensures in
     rw (c.push_reserved.ensures.items, cells)
-    (takes_insert_in c.args.self.now.cells.items c.args.self.now.next.items c.tie.new.next.items ops doc op c.args.origin c.args.value c.in-Some.from
-    c.past-at.result (record { id = c.args.id; value = c.args.value; is_removed = _ }) orderly fits same_body (rw same_id refl) w start passes tied)
+    (woven_with c.self.inside.cells.items c.self.inside.next.items c.tie.new.next.items c.args.self.now c.args.origin c.in-Some.from c.past-at.result
+    (record { id = c.args.id; value = c.args.value; is_removed = false }) w start passes tied)
+
+pub invariant_of-self-2 : goal.invariant_of-self-2
+invariant_of-self-2 c =
+    let w = shown _ _ c.args.self.now c.self.invariant c.self.view_is in
+    is_woven _ _ _ (grown c w (begun c w))
+
+pub returns-clause-taken : goal.returns-clause-taken
+returns-clause-taken c =
+    let w = shown _ _ c.args.self.now c.self.invariant c.self.view_is in
+    let start = begun c w in
+    takes_insert_in c.args.id c.args.origin c.args.value c.args.self.now _ w.order c.in-Some.from start
+    (record { id = c.args.id; value = c.args.value; is_removed = false }) refl (woven_is _ _ _ (grown c w start))
 
 pub returns-clause-unknown : goal.returns-clause-unknown
-returns-clause-unknown c = λ ops doc cells w holds.
-    let known = (c.in-Some.ensures cells w).0 in
-    unknown_there cells ops doc c.args.origin _ holds (none_refused (is_known cells c.args.origin) _ (λ never. cc) known)
+returns-clause-unknown c = λ ops doc holds.
+    let w = shown _ _ c.args.self.now c.self.invariant c.self.view_is in
+    let known = ((rw c.deref-2.ensures.value at c.in-Some.ensures) c.self.inside.next.items c.args.self.now w).0 in
+    unknown_there c.args.self.now ops doc c.args.origin _ holds (none_refused (is_known c.args.self.now c.args.origin) _ (λ never. cc) known)

@@ -1,29 +1,28 @@
-use Rattle.std.proofs.Common.{◌++◌, ◌∷◌, [], sym, ◌∙◌, ap, arith}
-use Rattle.char_sequence.specs.Links.{cell_at}
-use Rattle.char_sequence.proofs.WovenLemmas.{read_all, read_more, read_none}
+use Rattle.std.proofs.Common.{◌<◌, length, sym, ◌∙◌, ap, arith}
+use Rattle.char_sequence.proofs.WovenLemmas.{reads_all, reads_none, reads_one}
 use Rattle.char_sequence.proofs.weave.Weave.sequence.Goals as goal
-
-pub returns-in-None : goal.returns-in-None
-returns-in-None c = λ cells w.
-    let read = c.loop.invariant cells w in
-    let next = rw (c.deref.ensures.value) at c.next_of-at.ensures in
-    let cell = rw (c.deref-in-loop.ensures.value) at c.cell_at.ensures in
-    absurd (read_none c.args.self.now.cells.items c.args.self.now.next.items cells w c.loop.counter c.loop.at read.0
-    (let many = w.many in let inside = c.loop-test.true in let long = c.args.self.now.cells.ok.0 in let end = c.len-end.ensures in omega arith)
-    (ap (cell_at c.args.self.now.cells.items) (sym next) ∙ (sym cell ∙ c.in-None.is)))
+use Rattle.char_sequence.proofs.weave.Weave.sequence.Goals.{in-None, in-Some+in_ok-push-in-Some}
 
 pub loop-preserved : goal.loop-preserved
-loop-preserved c = λ cells w.
-    let read = c.loop.invariant cells w in
-    let next = rw (c.deref.ensures.value) at c.next_of-at.ensures in
-    let cell = rw (c.deref-in-loop.ensures.value) at c.cell_at.ensures in
-    let more = read_more c.args.self.now.cells.items c.args.self.now.next.items cells w c.loop.counter c.loop.at c.in-Some.cell read.0 read.1
-    (ap (cell_at c.args.self.now.cells.items) (sym next) ∙ (sym cell ∙ c.in-Some.is)) in
-    (next ∙ more.0, more.1, c.in_ok-push-in-Some.ensures.items ∙ (ap (λ front. front ++ c.in-Some.cell ∷ []) read.2 ∙ sym more.2))
+loop-preserved c =
+    let next = rw c.deref.ensures.value at c.next_of-at.ensures in
+    let read = rw c.deref-in-loop.ensures.value at c.cell_at.ensures in
+    let within : c.loop.counter < length c.self.inside.cells.items =
+    (let inside = c.loop-test.true in let long = c.self.inside.cells.ok.0 in let end = c.len-end.ensures in omega arith) in
+    let long = length c.self.inside.cells.items in
+    elim c.match-cell_at.branch [
+      | in-Some+in_ok-push-in-Some w ↦
+          reads_one c.self.inside.cells.items c.self.inside.next.items c.loop.at long c.loop.counter c.next_of-at.result w.in-Some.cell
+          c.loop.cells.items c.match-cell_at.cells.items _ within next (sym read ∙ w.in-Some.is)
+          (ap (λ v. v.items) w.cells-is ∙ w.in_ok-push-in-Some.ensures.items) c.loop.invariant
+      | in-None w ↦
+          reads_none c.self.inside.cells.items c.self.inside.next.items c.loop.at long c.loop.counter c.next_of-at.result
+          c.loop.cells.items c.match-cell_at.cells.items _ within next (sym read ∙ w.in-None.is) (ap (λ v. v.items) w.cells-is) c.loop.invariant
+    ]
 
 pub returns : goal.returns
-returns c = λ cells w.
-    let read = c.loop.invariant cells w in
-    c.from_cells-2.ensures
-    ∙ (read.2 ∙ read_all c.args.self.now.cells.items c.args.self.now.next.items cells w c.loop.counter
-    (let out = c.loop-test.false in let long = c.args.self.now.cells.ok.0 in let end = c.len-end.ensures in omega arith))
+returns c =
+    c.from_cells.ensures
+    ∙ (reads_all c.self.inside.cells.items c.self.inside.next.items c.loop.at _ c.loop.counter c.loop.cells.items _
+    (let out = c.loop-test.false in let long = c.self.inside.cells.ok.0 in let end = c.len-end.ensures in omega arith)
+    c.loop.invariant ∙ c.self.view_is)

@@ -1,10 +1,10 @@
-use Rattle.std.proofs.Common.{◌≡◌, ◌≤◌, List, length, take}
-use Rattle.char_sequence.specs.declared.cell.Cell.{Cell}
-use Rattle.char_sequence.specs.Links.{spot}
-use Rattle.char_sequence.specs.Weave.{IsWeaveOf}
+use Rattle.std.proofs.Common.{◌≡◌, ◌-◌, ◌++◌, length}
+use Rattle.char_sequence.specs.Links.{followed}
+use Rattle.char_sequence.specs.Weave.{woven}
 use Rattle.char_sequence.proofs.weave.Weave.sequence.Given as goal
 
--- so many characters were passed
+-- those that were passed, and then those that the other links lead to, are all
 abbrev pub invariant-loop : goal.invariant-loop
-invariant-loop l = (cells : List Cell) (w : IsWeaveOf l.self cells)
-    → (l.at ≡ spot 0 w.order l.counter) × (l.counter ≤ length w.order) × (l.cells.items ≡ take l.counter cells)
+invariant-loop l =
+    l.cells.items ++ followed l.self-inside.cells.items l.self-inside.next.items l.at (length l.self-inside.cells.items - l.counter)
+    ≡ woven l.self-inside.cells.items l.self-inside.next.items

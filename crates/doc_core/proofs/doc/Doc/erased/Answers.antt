@@ -1,25 +1,39 @@
-use Rattle.std.proofs.Common.{length, ◌∙◌, ap, Err, arith}
+use Rattle.std.proofs.Common.{rules, length, ◌≡◌, ◌<◌, ◌∙◌, ap, sym, arith}
 use Rattle.std.proofs.lemmas.List.{length-map}
-use Rattle.std.proofs.lemmas.Result.{err_from_is_err_and}
 use Rattle.op_model.specs.declared.op.Body.TheVariants.{Remove}
-use Rattle.doc_core.specs.Standing.{number_of}
-use Rattle.doc_core.proofs.Clocks.{limit_from, too_many}
-use Rattle.doc_core.proofs.MakingLemmas.{made_removes}
+use Rattle.doc_core.proofs.LimitLemmas.{are_few, fewer_room}
+use Rattle.doc_core.proofs.MakingLemmas.{made_removes, removes_numbered}
 use Rattle.doc_core.proofs.doc.Doc.erased.Goals as goal
 
-pub returns-in_err-numbered-clause-limit : goal.returns-in_err-numbered-clause-limit
-returns-in_err-numbered-clause-limit c =
-    let p = err_from_is_err_and c.from_residual-in_err-numbered.result c.from_residual-in_err-numbered.ensures.1 in
+pub numbered-requires-clause-above_zero : goal.numbered-requires-clause-above_zero
+numbered-requires-clause-above_zero c = (are_few c.args.replica c.args.counter c.args.clock.now _ c.requires.limit).above_zero
+
+pub numbered-requires-clause-in_range : goal.numbered-requires-clause-in_range
+numbered-requires-clause-in_range c =
     let many = ap length (c.deref-2.ensures.value ∙ c.in_ok-bodies.ensures) ∙ length-map c.deref.result.now Remove in
     let as_many = ap length c.deref.ensures.value in
     let few = c.in_ok-targets.ensures.few in
-    rw (p.1, p.2) (limit_from c.in_err-numbered.field-0.0 (λ same.
-    too_many c.args.clock.now c.in_ok-clock.clock c.args.replica c.args.counter (length c.deref-2.result.now) c.args.count
-    c.in_ok-clock.ensures (omega arith) (c.in_err-numbered.ensures.limit (ap Err same))))
+    let limit = (are_few c.args.replica c.args.counter c.args.clock.now _ c.requires.limit).in_range in
+    omega arith
 
-pub returns-clause-made : goal.returns-clause-made
-returns-clause-made c = λ ops edit stands next same_doc.
-    c.in_ok-numbered.ensures.ops
-    ∙ made_removes ops edit c.args.replica (number_of c.args.self.now) c.args.counter c.args.at c.args.count c.args.clock.now c.in_ok-clock.clock
-    c.in_ok-targets.targets.items c.deref.result.now c.in_ok-bodies.bodies.items c.deref-2.result.now next same_doc c.in_ok-clock.ensures
-    c.deref-2.ensures.value c.in_ok-bodies.ensures c.deref.ensures.value (c.in_ok-targets.ensures.all ops stands)
+pub numbered-requires-clause-room : goal.numbered-requires-clause-room
+numbered-requires-clause-room c =
+    let positive : 0 < c.args.replica = search rules in
+    let many = ap length (c.deref-2.ensures.value ∙ c.in_ok-bodies.ensures) ∙ length-map c.deref.result.now Remove in
+    let as_many = ap length c.deref.ensures.value in
+    let few = c.in_ok-targets.ensures.few in
+    fewer_room c.args.replica c.args.counter c.args.clock.now (length c.deref-2.result.now) _ c.requires.valid positive (omega arith) c.requires.limit
+
+pub invariant_of-result : goal.invariant_of-result
+invariant_of-result c =
+    rw (c.in_ok-ops.ensures, c.deref-2.ensures.value, c.in_ok-bodies.ensures, c.deref.ensures.value)
+    (removes_numbered c.args.replica _ c.args.counter c.args.clock.now c.in_ok-targets.targets.items)
+
+pub returns : goal.returns
+returns c = λ ops edit stands next same_doc same_change.
+    let number = ap (λ d. d.number) c.self.view_is in
+    let got : c.get.result ≡ c.args.count.value = c.get.ensures.value in
+    rw c.in_ok-ops.ensures
+    (made_removes ops edit c.args.replica _ c.args.counter c.args.at _ c.args.clock.now
+    c.in_ok-targets.targets.items c.deref.result.now c.in_ok-bodies.bodies.items c.deref-2.result.now next (same_doc ∙ sym number) same_change
+    c.deref-2.ensures.value c.in_ok-bodies.ensures c.deref.ensures.value (rw (number, ← got) (c.in_ok-targets.ensures.all ops stands)))

@@ -1,21 +1,31 @@
-use Rattle.std.proofs.Common.{length, ◌∙◌, ap, Err, arith}
-use Rattle.std.proofs.lemmas.Result.{err_from_is_err_and}
-use Rattle.doc_core.proofs.Clocks.{limit_from, too_many}
-use Rattle.doc_core.proofs.MakingLemmas.{length-insert_bodies}
+use Rattle.std.proofs.Common.{length, ◌∙◌, ap, arith}
+use Rattle.doc_core.proofs.LimitLemmas.{are_few}
+use Rattle.doc_core.proofs.MakingLemmas.{length-insert_bodies, length-numbered, run_numbered}
 use Rattle.doc_core.proofs.doc.Doc.typed.Goals as goal
 
 pub numbered-requires-clause-in_range : goal.numbered-requires-clause-in_range
 numbered-requires-clause-in_range c =
-    let many = ap length (c.deref.ensures.value ∙ c.in_ok-bodies.ensures)
-    ∙ length-insert_bodies c.args.replica c.args.counter c.origin-origin.result c.args.text.now in
-    let within = c.in_ok-check_size.ensures.ok in
+    let bodies = c.deref.ensures.value ∙ c.in_ok-bodies.ensures in
+    let many = ap length bodies ∙ length-insert_bodies c.args.replica c.args.counter c.origin.result c.as_slice-text.result.now in
+    let text = ap length c.as_slice-text.ensures.same in
+    let limit = (are_few c.args.replica c.args.counter c.args.clock.now (length c.args.text.now) c.requires.limit).in_range in
     omega arith
 
-pub returns-in_err-numbered-clause-limit : goal.returns-in_err-numbered-clause-limit
-returns-in_err-numbered-clause-limit c =
-    let p = err_from_is_err_and c.from_residual-in_err-numbered.result c.from_residual-in_err-numbered.ensures.1 in
-    let many = ap length (c.deref.ensures.value ∙ c.in_ok-bodies.ensures)
-    ∙ length-insert_bodies c.args.replica c.args.counter c.origin-origin.result c.args.text.now in
-    rw (p.1, p.2) (limit_from c.in_err-numbered.field-0.0 (λ same.
-    too_many c.args.clock.now c.in_ok-clock.clock c.args.replica c.args.counter (length c.deref.result.now) (length c.args.text.now)
-    c.in_ok-clock.ensures (omega arith) (c.in_err-numbered.ensures.limit (ap Err same))))
+pub numbered-requires-clause-room : goal.numbered-requires-clause-room
+numbered-requires-clause-room c =
+    let bodies = c.deref.ensures.value ∙ c.in_ok-bodies.ensures in
+    let many = ap length bodies ∙ length-insert_bodies c.args.replica c.args.counter c.origin.result c.as_slice-text.result.now in
+    let text = ap length c.as_slice-text.ensures.same in
+    rw (many, text) (are_few c.args.replica c.args.counter c.args.clock.now (length c.args.text.now) c.requires.limit).room
+
+pub invariant_of-result : goal.invariant_of-result
+invariant_of-result c =
+    let bodies = c.deref.ensures.value ∙ c.in_ok-bodies.ensures in
+    let ops = c.in_ok-ops.ensures in
+    let some = c.as_slice-text.ensures.some in
+    let text = ap length c.as_slice-text.ensures.same in
+    let many = ap length bodies ∙ length-insert_bodies c.args.replica c.args.counter c.origin.result c.as_slice-text.result.now in
+    let long = ap length ops ∙ length-numbered c.args.replica c.self.inside.doc c.args.counter c.args.clock.now c.deref.result.now in (
+      rw (c.in_ok-run.ensures, ops, bodies) (run_numbered c.args.replica c.self.inside.doc c.args.counter c.args.clock.now c.origin.result c.as_slice-text.result.now),
+      omega arith,
+    )

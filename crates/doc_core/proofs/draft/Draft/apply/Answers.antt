@@ -1,9 +1,14 @@
-use Rattle.std.proofs.Common.{◌+◌, refl}
-use Rattle.doc_core.proofs.DraftLemmas.{drafted_with}
+use Rattle.std.proofs.Common.{◌∙◌}
+use Rattle.op_model.specs.Text.{rev}
+use Rattle.doc_core.proofs.StandingLemmas.{counted-more, rev-push}
 use Rattle.doc_core.proofs.draft.Draft.apply.Goals as goal
 
-pub returns-then-self-lt18446744073709551615-clause-taken :
-    goal.returns-then-self-lt18446744073709551615-clause-taken
-returns-then-self-lt18446744073709551615-clause-taken c = λ ops draft may.
-    drafted_with c.args.self.now c.args.op.now c.take.new.weave c.take.new.anchors (c.args.self.now.rev + 1) c.in_ok-take.ensures.taken
-    c.in_ok-take.ensures.marks (λ few. refl) ops draft may
+pub returns-clause-taken : goal.returns-clause-taken
+returns-clause-taken c = rw (← c.self.view_is) (λ ops draft fits.
+    let both = c.in_ok-take.ensures.taken ops c.self.inside.doc draft.characters draft.markings fits in
+    record {
+      characters = both.0;
+      markings = both.1;
+      rev = c.saturating_add-self-inside.ensures
+          ∙ counted-more c.self.inside.rev (rev ops c.self.inside.doc) 1 _ draft.rev (rev-push ops c.self.inside.doc c.args.op.now fits.same);
+    })

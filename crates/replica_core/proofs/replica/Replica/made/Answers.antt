@@ -1,6 +1,7 @@
-use Rattle.std.proofs.Common.{◌+◌, ap, ◌∙◌, Err, arith}
+use Rattle.std.proofs.Common.{◌+◌, ap, ◌∙◌, sym, Err, arith}
+use Rattle.std.proofs.lemmas.Bool.{true≢false}
 use Rattle.replica_core.proofs.DocLemmas.{docs_up}
-use Rattle.replica_core.proofs.EditLemmas.{never_too_many}
+use Rattle.replica_core.proofs.EditLemmas.{keeps}
 use Rattle.replica_core.proofs.FollowLemmas.{next_fits}
 use Rattle.replica_core.proofs.replica.Replica.made.Goals as goal
 
@@ -15,6 +16,7 @@ find-doc-requires-clause-rising c = rw c.deref.ensures.value (docs_up c.self.ins
 pub unreachable-requires-in-Err-Limit : goal.unreachable-requires-in-Err-Limit
 unreachable-requires-in-Err-Limit c =
     let can = rw (← c.self.view_is) at c.requires in
-    never_too_many c.self.inside.log.list c.self.inside.id c.args.edit.now (c.self.inside.log.index.greatest + 1) c.self.inside.clock
-    c.self.invariant.sound.closed can.due (ap (λ n. n + 1) c.self.invariant.index.greatest) c.self.invariant.clock
-    (c.make.ensures.limit (c.in-Err-Limit.is ∙ ap Err c.in-Err-Limit.field-0-is))
+    let stands = c.find-doc.ensures.stands c.self.inside.log.list (rw c.deref.ensures.value c.self.invariant.docs) in
+    let limit = ((c.make.ensures.limit c.self.inside.log.list stands).0 (c.in-Err-Limit.is ∙ ap Err c.in-Err-Limit.field-0-is)).1 in
+    true≢false (sym (keeps c.self.inside.log.list c.self.inside.id c.args.edit.now (c.self.inside.log.index.greatest + 1) c.self.inside.clock
+    c.self.invariant.sound.closed can.due (ap (λ n. n + 1) c.self.invariant.index.greatest) c.self.invariant.clock (rw c.entries-entries.ensures.same at c.entries-entries.ensures.rising) c.replica_is_not_nil.ensures) ∙ limit)

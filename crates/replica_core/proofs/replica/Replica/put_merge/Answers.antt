@@ -1,5 +1,5 @@
 use Rattle.std.proofs.Common.{◌≡◌, [], ◌∷◌, ◌∙◌, length, ap, Err, refl, rules}
-use Rattle.doc_core.proofs.LawLemmas.{may_come}
+use Rattle.model_laws.proofs.Closed.{follows_fits}
 use Rattle.op_ids.specs.Clock.{advanced}
 use Rattle.replica_core.proofs.DocLemmas.{docs_up}
 use Rattle.replica_core.proofs.FollowLemmas.{stream_fits}
@@ -19,7 +19,7 @@ append-requires-clause-rising c = docs_up c.self.inside.log.docs.items c.self.in
 pub append-requires-clause-small : goal.append-requires-clause-small
 append-requires-clause-small c =
     let can = rw (← c.self.view_is) at c.requires in
-    rw (c.deref.ensures.value, c.in_ok-made.ensures) (stream_fits c.self.inside.log.list (c.args.op ∷ []) can.joins.follows.limits)
+    rw c.in_ok-made.ensures (stream_fits c.self.inside.log.list (c.args.op ∷ []) can.joins.follows.limits)
 
 pub invariant_of-self-2 : goal.invariant_of-self-2
 invariant_of-self-2 c =
@@ -27,11 +27,11 @@ invariant_of-self-2 c =
     let at : c.len.result ≡ length c.self.inside.log.list = search rules in
     let counts : c.advance.new.clock ≡ advanced c.self.inside.clock c.args.op.id.replica = rw (c.in_ok-clock.ensures, c.replica.ensures) at c.in_ok-advance.ensures in
     AreFields-merge c.self.inside.id c.self.inside.opened c.self.inside.settled c.self.inside.acked c.self.inside.told c.args.peer c.len.result
-    c.self.inside.log c.append.new.self c.deref.result.now c.args.op c.self.inside.clock c.advance.new.clock _
-    c.self.invariant can counts c.in-Ok.ensures.ok (c.deref.ensures.value ∙ c.in_ok-made.ensures) at
+    c.self.inside.log c.append.new.self c.in_ok-made.made c.args.op c.self.inside.clock c.advance.new.clock _
+    c.self.invariant can counts c.in-Ok.ensures.ok c.in_ok-made.ensures at
 
 pub unreachable-requires : goal.unreachable-requires
 unreachable-requires c =
     let can = rw (← c.self.view_is) at c.requires in
-    let come = may_come c.self.inside.log.list c.args.op.doc c.args.op can.joins.follows refl in
-    c.append.ensures.known (c.in-Err-UnknownId.is ∙ ap Err c.in-Err-UnknownId.field-0-is) c.self.invariant.docs (rw (c.deref.ensures.value, c.in_ok-made.ensures) (come, tt))
+    let come = follows_fits c.self.inside.log.list c.args.op.doc c.args.op can.joins.follows refl in
+    c.append.ensures.known (c.in-Err-UnknownId.is ∙ ap Err c.in-Err-UnknownId.field-0-is) c.self.invariant.docs (rw c.in_ok-made.ensures (come, tt))

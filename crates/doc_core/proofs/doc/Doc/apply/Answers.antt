@@ -1,0 +1,14 @@
+use Rattle.std.proofs.Common.{◌∙◌}
+use Rattle.op_model.specs.Text.{rev}
+use Rattle.doc_core.proofs.StandingLemmas.{counted-more, rev-push}
+use Rattle.doc_core.proofs.doc.Doc.apply.Goals as goal
+
+pub returns-clause-taken : goal.returns-clause-taken
+returns-clause-taken c = rw (← c.self.view_is) (λ ops stands fits.
+    let both = c.in_ok-take.ensures.taken ops c.self.inside.doc stands.characters stands.marks fits in
+    record {
+      characters = both.0;
+      marks = both.1;
+      rev = c.saturating_add-self-inside.ensures
+          ∙ counted-more c.self.inside.rev (rev ops c.self.inside.doc) 1 _ stands.rev (rev-push ops c.self.inside.doc c.args.op.now fits.same);
+    })

@@ -1,0 +1,23 @@
+-- Used by private functions and proofs alone: what a call makes of the characters and the marks of a document.
+use Rattle.std.specs.Prelude.{◌≡◌, ℕ, List, [], ◌∷◌, ◌++◌}
+use Rattle.op_model.specs.declared.op.Op.{Op}
+use Rattle.op_model.specs.declared.marking.Marking.{Marking}
+use Rattle.op_model.specs.Marks.{markings}
+use Rattle.op_model.specs.Placing.{Fits}
+use Rattle.char_sequence.specs.Content.{Held, Holds, FitAfter}
+use Rattle.mark_anchors.specs.Keeping.{Kept, AreMarksOf}
+
+-- characters and marks are those of any operations that this one fits, and then of these and it
+abbrev pub TakesIn : Op → Held → Held → Kept → Kept → Type 0
+TakesIn op old new marks kept = (ops : List Op) (doc : ℕ) → Holds old ops doc → AreMarksOf marks ops doc → Fits ops doc op
+    → Holds new (ops ++ op ∷ []) doc × AreMarksOf kept (ops ++ op ∷ []) doc
+
+-- the same of operations that fit one after another
+abbrev pub TakesAllIn : List Op → Held → Held → Kept → Kept → Type 0
+TakesAllIn edit old new marks kept = (ops : List Op) (doc : ℕ) → Holds old ops doc → AreMarksOf marks ops doc
+    → FitAfter ops doc edit → Holds new (ops ++ edit) doc × AreMarksOf kept (ops ++ edit) doc
+
+-- a draft's characters and marks are those of any operations that this one fits, and then of these and it
+abbrev pub TakesWoven : Op → Held → Held → List Marking → List Marking → Type 0
+TakesWoven op old new marks kept = (ops : List Op) (doc : ℕ) → Holds old ops doc → marks ≡ markings ops doc → Fits ops doc op
+    → Holds new (ops ++ op ∷ []) doc × (kept ≡ markings (ops ++ op ∷ []) doc)
