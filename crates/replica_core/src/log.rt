@@ -12,7 +12,7 @@ use crate::step::Step;
 use doc_core::{Doc, Made, SequenceError};
 use op_ids::ReplicaId;
 use op_list::OpList;
-use std::alloc::{AllocError};
+use std::alloc::AllocError;
 
 /// The operations and the steps of a replica, and the room that they need.
 #[derive(Debug, Drop)]
