@@ -45,7 +45,8 @@ fn mark_somewhere(peer: &mut Peer, random: &mut Random) -> Result<(), Fail> {
     let to = from
         .wrapping_add(1)
         .wrapping_add(random.below(size.wrapping_sub(from)));
-    let comment = CommentId::read([random.below(2) as u8; 16]);
+    let last = if random.below(2) == 0 { 1 } else { 2 };
+    let comment = CommentId::read([last; 16]);
     let change = match random.below(6) {
         0 => Change::Mark {
             from,
