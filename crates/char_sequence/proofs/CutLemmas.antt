@@ -1,14 +1,12 @@
 -- Lists that are cut at an index.
-use Rattle.std.proofs.Common.{false, ◌≡◌, ℕ, zero, suc, ◌+◌, ◌≤◌, ◌<◌, true, List, [], ◌∷◌, ◌++◌, length, take, drop, get_or, Option, Some, None}
+use Rattle.std.proofs.Common.{◌≡◌, ℕ, zero, suc, ◌+◌, ◌≤◌, ◌<◌, true, List, [], ◌∷◌, ◌++◌, length, take, drop, get_or}
 use Rattle.std.proofs.Common.{refl, sym, ◌∙◌, ap, append_assoc, add-one, zero-add, arith}
 use Rattle.std.proofs.Math.Seq.{take-add, drop-nil}
 use Rattle.std.proofs.Math.ListN.{set}
 use Rattle.std.proofs.lemmas.List.{drop_more, take_more, get_or_default}
-use Rattle.std.proofs.lemmas.Bool.Decides.{nat_tests}
 use Rattle.op_ids.specs.Id.{Id, is_same}
-use Rattle.op_ids.proofs.IdLemmas.{test_from_same}
 use Rattle.char_sequence.specs.declared.cell.Cell.{Cell}
-use Rattle.char_sequence.specs.Cells.{past_greater, behind, removed, has_cell, is_known, inserted, inserted_run, IsAt}
+use Rattle.char_sequence.specs.Cells.{past_greater, behind, removed, has_cell, IsAt}
 
 drop-drop-add : (n m : ℕ) (cs : List Cell) → drop m (drop n cs) ≡ drop (n + m) cs
 drop-drop-add zero m cs = ap (λ k. drop k cs) (sym (zero-add m))
@@ -49,30 +47,3 @@ is_at id cs i x here is_it same known goes_behind is_removed =
           let one : c ≡ x = at ∙ (get_or_default cs i c x here ∙ sym is_it) in
           is_removed ∙ (rw (more, ← is_it, same) (rw (one) (sym (set_at cs i (record x { is_removed = true }) here))));
     }
-
--- what was placed is there
-has_cell-past_greater : (c : Cell) (ds : List Cell) → has_cell (past_greater c ds) c.id ≡ true
-has_cell-past_greater c [] = let it = test_from_same c.id c.id refl in grind (arith, nat_tests)
-has_cell-past_greater c (d ∷ ds) =
-    let it = test_from_same c.id c.id refl in
-    let rest = has_cell-past_greater c ds in
-    grind (arith, nat_tests)
-
-has_cell-behind : (origin : Id) (c : Cell) (ds : List Cell) → has_cell ds origin ≡ true → has_cell (behind origin c ds) c.id ≡ true
-has_cell-behind origin c [] known = cc
-has_cell-behind origin c (d ∷ ds) known =
-    let first = has_cell-past_greater c ds in
-    let rest = has_cell-behind origin c ds in
-    grind (arith, nat_tests)
-
-pub is_known-inserted : (origin : Option Id) (c : Cell) (ds : List Cell) → is_known ds origin ≡ true
-    → is_known (inserted origin c ds) (Some c.id) ≡ true
-is_known-inserted None c ds known = has_cell-past_greater c ds
-is_known-inserted (Some origin) c ds known = has_cell-behind origin c ds known
-
--- one insert of a run, and then the rest of it
-pub one_of_run : (run : List (Id × ℕ)) (i : ℕ) (x : Id × ℕ) (origin : Option Id) (cs ds : List Cell) → i < length run → x ≡ get_or run i x
-    → ds ≡ inserted origin (record { id = x.0; value = x.1; is_removed = false }) cs
-    → inserted_run origin (drop i run) cs ≡ inserted_run (Some x.0) (drop (i + 1) run) ds
-one_of_run run i x origin cs ds here is_it placed =
-    rw (drop_more run i x here, ← is_it) (ap (inserted_run (Some x.0) (drop (i + 1) run)) (sym placed))

@@ -17,7 +17,7 @@ use Rattle.op_model.specs.Walk.{walk, times}
 use Rattle.model_laws.proofs.Family.{orderly_members}
 use Rattle.char_sequence.specs.declared.cell.Cell.{Cell}
 use Rattle.char_sequence.specs.Cells.{has_cell, is_known, place_of, raised, removed, removed_all}
-use Rattle.char_sequence.specs.Content.{cell_of, is_there, Holds}
+use Rattle.char_sequence.specs.Content.{cell_of, is_there, AreContent}
 
 -- an id is there where it is counted
 has_id-times : (cs : List Character) (id : Id) → has_id cs id ≡ nat_lt 0 (times id cs)
@@ -35,12 +35,12 @@ has_cell-map ops doc id [] = refl
 has_cell-map ops doc id (c ∷ cs) = ap (λ r. is_same c.id id || r) (has_cell-map ops doc id cs)
 
 -- the content has the cells of the inserts
-pub has_cell-content : (cells : List Cell) (ops : List Op) (doc : ℕ) (id : Id) → Holds cells ops doc
+pub has_cell-content : (cells : List Cell) (ops : List Op) (doc : ℕ) (id : Id) → AreContent cells ops doc
     → has_cell cells id ≡ has_id (characters ops doc) id
 has_cell-content cells ops doc id holds =
     ap (λ cs. has_cell cs id) holds.content ∙ (has_cell-map ops doc id (walk ops doc) ∙ has_id-walk ops doc id holds.orderly)
 
-pub is_known-content : (cells : List Cell) (ops : List Op) (doc : ℕ) (origin : Option Id) → Holds cells ops doc
+pub is_known-content : (cells : List Cell) (ops : List Op) (doc : ℕ) (origin : Option Id) → AreContent cells ops doc
     → is_known cells origin ≡ is_there ops doc origin
 is_known-content cells ops doc None holds = refl
 is_known-content cells ops doc (Some id) holds = has_cell-content cells ops doc id holds
@@ -66,7 +66,7 @@ by_found true n = (refl, refl)
 by_found false n = refl
 
 -- the place of a cell is that of its character in the walk
-pub place_of-content : (cells : List Cell) (ops : List Op) (doc : ℕ) (id : Id) (result : Option ℕ) → Holds cells ops doc
+pub place_of-content : (cells : List Cell) (ops : List Op) (doc : ℕ) (id : Id) (result : Option ℕ) → AreContent cells ops doc
     → result ≡ place_of id cells
     → MatchOption result (is_there ops doc (Some id) ≡ false) (λ i. (is_there ops doc (Some id) ≡ true) × (i ≡ index_of id (walk ops doc)))
 place_of-content cells ops doc id result holds is_place =
@@ -74,7 +74,7 @@ place_of-content cells ops doc id result holds is_place =
     (by_found (has_id (characters ops doc) id) (index_of id (walk ops doc)))
 
 -- what is refused where the cells don't know an origin is refused where the operations don't
-pub unknown_there : (cells : List Cell) (ops : List Op) (doc : ℕ) (origin : Option Id) (Refused : Type 0) → Holds cells ops doc
+pub unknown_there : (cells : List Cell) (ops : List Op) (doc : ℕ) (origin : Option Id) (Refused : Type 0) → AreContent cells ops doc
     → (Refused ↔ (is_known cells origin ≡ false)) → (Refused ↔ (is_there ops doc origin ≡ false))
 unknown_there cells ops doc origin Refused holds refused = rw (is_known-content cells ops doc origin holds) at refused
 
@@ -83,7 +83,7 @@ pub none_refused : (known : Bool) (Refused : Type 0) → (Refused → ⊥) → k
 none_refused true Refused never is_known = (λ refused. absurd (never refused), λ no. absurd (true≢false no))
 none_refused false Refused never is_known = absurd (true≢false (sym is_known))
 
-all_known-content : (cells : List Cell) (ops : List Op) (doc : ℕ) (ids : List Id) → Holds cells ops doc
+all_known-content : (cells : List Cell) (ops : List Op) (doc : ℕ) (ids : List Id) → AreContent cells ops doc
     → list_all (λ id. has_cell cells id) ids ≡ list_all (λ id. is_there ops doc (Some id)) ids
 all_known-content cells ops doc [] holds = refl
 all_known-content cells ops doc (id ∷ ids) holds =
@@ -91,7 +91,7 @@ all_known-content cells ops doc (id ∷ ids) holds =
     ∙ ap (λ rest. has_id (characters ops doc) id && rest) (all_known-content cells ops doc ids holds)
 
 -- the same for several characters
-pub all_unknown_there : (cells : List Cell) (ops : List Op) (doc : ℕ) (ids : List Id) (Refused : Type 0) → Holds cells ops doc
+pub all_unknown_there : (cells : List Cell) (ops : List Op) (doc : ℕ) (ids : List Id) (Refused : Type 0) → AreContent cells ops doc
     → (Refused ↔ (list_all (λ id. has_cell cells id) ids ≡ false)) → (Refused ↔ (list_all (λ id. is_there ops doc (Some id)) ids ≡ false))
 all_unknown_there cells ops doc ids Refused holds refused = rw (all_known-content cells ops doc ids holds) at refused
 

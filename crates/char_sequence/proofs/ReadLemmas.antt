@@ -1,12 +1,13 @@
 -- What a reader sees of a document's content is what a reader sees of the document.
-use Rattle.std.proofs.Common.{◌≡◌, ℕ, zero, suc, ◌-◌, ◌==◌, Bool, true, false, not, if◌then◌else◌, List, [], ◌∷◌, drop, map, filter, Some}
-use Rattle.std.proofs.Common.{refl, ◌∙◌, ap, arith}
+use Rattle.std.proofs.Common.{◌≡◌, ℕ, zero, suc, ◌-◌, ◌==◌, Bool, true, false, not, if◌then◌else◌, List, [], ◌∷◌, length, take, drop, map, filter}
+use Rattle.std.proofs.Common.{◌<◌, ◌≤◌, Some}
+use Rattle.std.proofs.Common.{refl, sym, ◌∙◌, ap, append_assoc, arith, ◌++◌}
+use Rattle.std.specs.List.{take-map, drop-map}
 use Rattle.std.proofs.lemmas.Bool.Decides.{nat_tests}
-use Rattle.op_ids.specs.Id.{Id}
 use Rattle.op_model.specs.declared.op.Op.{Op}
 use Rattle.op_model.specs.declared.character.Character.{Character}
 use Rattle.op_model.specs.Walk.{walk}
-use Rattle.op_model.specs.Text.{is_removed}
+use Rattle.op_model.specs.Text.{is_removed, visible}
 use Rattle.op_model.specs.Made.{id_at, first_hidden, behind_visible, tombstones_at}
 use Rattle.char_sequence.specs.declared.cell.Cell.{Cell}
 use Rattle.char_sequence.specs.Cells.{shown_at, shown_values, shown, behind_shown, first_removed}
@@ -64,12 +65,105 @@ first_removed-map ops doc (c ∷ cs) = go (first_removed-map ops doc cs) (is_rem
     go rest true = ap (λ r. c.id ∷ r) rest
     go rest false = refl
 
--- the tombstones behind the first so many, by the cells that are left there
-pub run_there : (ops : List Op) (doc count from : ℕ) (run : List Id) (cells again left : List Cell) → cells ≡ content_of ops doc → again ≡ cells
-    → left ≡ drop from again → drop from cells ≡ behind_shown cells count → run ≡ first_removed left
-    → run ≡ map (λ c. c.id) (tombstones_at ops doc count)
-run_there ops doc count from run cells again left same same_again is_left is_behind is_run =
-    is_run
-    ∙ (ap first_removed (is_left ∙ (ap (drop from) same_again
-    ∙ (is_behind ∙ (ap (λ cs. behind_shown cs count) same ∙ behind_shown-map ops doc (walk ops doc) count))))
-    ∙ first_removed-map ops doc (behind_visible (is_removed ops doc) count (walk ops doc)))
+-- the tombstones behind the first so many that a reader sees
+pub run_there : (ops : List Op) (doc count : ℕ) (cells here : List Cell) → cells ≡ content_of ops doc → here ≡ behind_shown cells count
+    → first_removed here ≡ map (λ c. c.id) (tombstones_at ops doc count)
+run_there ops doc count cells here same is_behind =
+    ap first_removed (is_behind ∙ (ap (λ cs. behind_shown cs count) same ∙ behind_shown-map ops doc (walk ops doc) count))
+    ∙ first_removed-map ops doc (behind_visible (is_removed ops doc) count (walk ops doc))
+
+-- the ids that a reader sees
+pub shown-map : (ops : List Op) (doc : ℕ) (cs : List Character)
+    → shown (map (cell_of ops doc) cs) ≡ map (cell_of ops doc) (filter (λ c. not (is_removed ops doc c)) cs)
+shown-map ops doc [] = refl
+shown-map ops doc (c ∷ cs) = go (shown-map ops doc cs) (is_removed ops doc c)
+  where
+    go : shown (map (cell_of ops doc) cs) ≡ map (cell_of ops doc) (filter (λ d. not (is_removed ops doc d)) cs) → (hidden : Bool)
+        → (if not hidden then cell_of ops doc c ∷ shown (map (cell_of ops doc) cs) else shown (map (cell_of ops doc) cs))
+        ≡ map (cell_of ops doc) (if not hidden then c ∷ filter (λ d. not (is_removed ops doc d)) cs
+        else filter (λ d. not (is_removed ops doc d)) cs)
+    go rest true = rest
+    go rest false = ap (λ r. cell_of ops doc c ∷ r) rest
+
+ids-map : (ops : List Op) (doc : ℕ) (cs : List Character) → map (λ c. c.id) (map (cell_of ops doc) cs) ≡ map (λ c. c.id) cs
+ids-map ops doc [] = refl
+ids-map ops doc (c ∷ cs) = ap (λ ids. c.id ∷ ids) (ids-map ops doc cs)
+
+-- the ids of so many that a reader sees
+pub shown_range : (ops : List Op) (doc k count : ℕ) (cells : List Cell) → cells ≡ content_of ops doc
+    → map (λ c. c.id) (take count (drop k (shown cells))) ≡ map (λ c. c.id) (take count (drop k (visible ops doc)))
+shown_range ops doc k count cells same =
+    ap (λ cs. map (λ c. c.id) (take count (drop k (shown cs)))) same
+    ∙ (ap (λ cs. map (λ c. c.id) (take count (drop k cs))) (shown-map ops doc (walk ops doc))
+    ∙ (ap (λ cs. map (λ c. c.id) (take count cs)) (drop-map (cell_of ops doc) k (visible ops doc))
+    ∙ (ap (map (λ c. c.id)) (take-map (cell_of ops doc) count (drop k (visible ops doc)))
+    ∙ ids-map ops doc (take count (drop k (visible ops doc))))))
+
+-- what a reader sees of a first cell, and of the others
+pub values_cons : (c : Cell) (cs : List Cell) → shown_values (c ∷ cs) ≡ shown_values (c ∷ []) ++ shown_values cs
+values_cons c cs = go c.is_removed
+  where
+    go : (hidden : Bool) → map (λ d. d.value) (if not hidden then c ∷ shown cs else shown cs)
+        ≡ map (λ d. d.value) (if not hidden then c ∷ [] else []) ++ map (λ d. d.value) (shown cs)
+    go true = refl
+    go false = refl
+
+-- one more value was found
+pub values_more : (all here rest : List Cell) (found now : List ℕ) (c : Cell) → shown_values all ≡ found ++ shown_values here → here ≡ c ∷ rest
+    → now ≡ found ++ shown_values (c ∷ []) → shown_values all ≡ now ++ shown_values rest
+values_more all here rest found now c are first more =
+    are ∙ (ap (λ cs. found ++ shown_values cs) first ∙ (ap (λ vs. found ++ vs) (values_cons c rest)
+    ∙ (sym (append_assoc found (shown_values (c ∷ [])) (shown_values rest)) ∙ ap (λ vs. vs ++ shown_values rest) (sym more))))
+
+-- what a reader sees of cells and of those behind them
+shown_append : (k cs : List Cell) → shown (k ++ cs) ≡ shown k ++ shown cs
+shown_append [] cs = refl
+shown_append (c ∷ k) cs = go c.is_removed (shown_append k cs)
+  where
+    go : (hidden : Bool) → shown (k ++ cs) ≡ shown k ++ shown cs
+        → (if not hidden then c ∷ shown (k ++ cs) else shown (k ++ cs)) ≡ (if not hidden then c ∷ shown k else shown k) ++ shown cs
+    go true rest = rest
+    go false rest = ap (λ r. c ∷ r) rest
+
+-- the n-th that a reader sees is among the first cells, where they have so many
+pub shown_here : (k cs : List Cell) (n : ℕ) → n < length (shown k) → shown_at (k ++ cs) n ≡ shown_at k n
+shown_here [] cs n few = absurd (omega arith)
+shown_here (c ∷ k) cs n few = go c.is_removed n (λ m. shown_here k cs m) few
+  where
+    go : (hidden : Bool) (n : ℕ) → ((m : ℕ) → m < length (shown k) → shown_at (k ++ cs) m ≡ shown_at k m)
+        → n < length (if not hidden then c ∷ shown k else shown k)
+        → (if hidden then shown_at (k ++ cs) n else if n == 0 then Some c.id else shown_at (k ++ cs) (n - 1))
+        ≡ (if hidden then shown_at k n else if n == 0 then Some c.id else shown_at k (n - 1))
+    go true n rest few = rest n few
+    go false zero rest few = refl
+    go false (suc n) rest few =
+        let some : (suc n == 0) ≡ false = grind (arith, nat_tests) in
+        let back : suc n - 1 ≡ n = omega arith in
+        rw (some, back) (rest n (omega arith))
+
+-- else it is behind them
+pub shown_past : (k cs : List Cell) (n : ℕ) → length (shown k) ≤ n → shown_at (k ++ cs) n ≡ shown_at cs (n - length (shown k))
+shown_past [] cs n past = ap (shown_at cs) (omega arith)
+shown_past (c ∷ k) cs n past = go c.is_removed n (λ m. shown_past k cs m) past
+  where
+    go : (hidden : Bool) (n : ℕ) → ((m : ℕ) → length (shown k) ≤ m → shown_at (k ++ cs) m ≡ shown_at cs (m - length (shown k)))
+        → length (if not hidden then c ∷ shown k else shown k) ≤ n
+        → (if hidden then shown_at (k ++ cs) n else if n == 0 then Some c.id else shown_at (k ++ cs) (n - 1))
+        ≡ shown_at cs (n - length (if not hidden then c ∷ shown k else shown k))
+    go true n rest past = rest n past
+    go false zero rest past = absurd (omega arith)
+    go false (suc n) rest past =
+        let some : (suc n == 0) ≡ false = grind (arith, nat_tests) in
+        let back : suc n - 1 ≡ n = omega arith in
+        let left : n - length (shown k) ≡ suc n - suc (length (shown k)) = omega arith in
+        rw (some, back) (rest n (omega arith) ∙ ap (shown_at cs) left)
+
+-- a first cell that a reader sees, and one that he doesn't
+pub shown_first : (c : Cell) (cs : List Cell) → c.is_removed ≡ false → shown_at (c ∷ cs) 0 ≡ Some c.id
+shown_first c cs seen = rw seen refl
+
+pub shown_next : (c : Cell) (cs : List Cell) (n : ℕ) → c.is_removed ≡ false → (n == 0) ≡ false → shown_at (c ∷ cs) n ≡ shown_at cs (n - 1)
+shown_next c cs n seen some = rw (seen, some) refl
+
+pub shown_skip : (c : Cell) (cs : List Cell) (n : ℕ) → c.is_removed ≡ true → shown_at (c ∷ cs) n ≡ shown_at cs n
+shown_skip c cs n gone = rw gone refl

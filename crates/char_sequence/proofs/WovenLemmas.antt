@@ -1,51 +1,22 @@
 -- What a weave shows, with one character more, or with one removed.
 use Rattle.std.proofs.Common.{◌≡◌, ℕ, zero, suc, ◌+◌, ◌-◌, ◌≤◌, ◌<◌, Bool, true, false, if◌then◌else◌, List, [], ◌∷◌, ◌++◌, length, length-drop, take}
 use Rattle.std.proofs.Common.{drop}
-use Rattle.std.proofs.Common.{get_or, map, Option, Some, None, refl, sym, ◌∙◌, ap, subst, append_assoc, append-nil, arith}
+use Rattle.std.proofs.Common.{get_or, Option, Some, None, refl, sym, ◌∙◌, ap, subst, append_assoc, append-nil, arith}
 use Rattle.std.specs.List.{cons_option}
 use Rattle.std.specs.Prelude.{slice_get, slice_set}
-use Rattle.std.proofs.lemmas.Bool.{or_from}
-use Rattle.std.proofs.lemmas.Bool.Decides.{nat_tests}
 use Rattle.op_ids.specs.Id.{Id, is_same}
-use Rattle.op_ids.proofs.IdLemmas.{test_from_same}
-use Rattle.op_model.specs.declared.op.Op.{Op}
 use Rattle.op_model.specs.declared.op.Body.TheVariants.{Insert, Remove}
-use Rattle.op_model.specs.declared.character.Character.{Character}
-use Rattle.op_model.specs.Walk.{walk, times}
-use Rattle.model_laws.proofs.Family.{orderly_once}
 use Rattle.char_sequence.specs.declared.cell.Cell.{Cell}
-use Rattle.char_sequence.specs.Cells.{has_cell, inserted, past_greater, place_of, raised}
-use Rattle.char_sequence.specs.Content.{cell_of, Held, Holds, Takes}
+use Rattle.char_sequence.specs.Cells.{inserted, past_greater, place_of, raised}
+use Rattle.char_sequence.specs.Content.{TakesCell}
 use Rattle.char_sequence.specs.Links.{cell_at_place, followed, next_of, Leads, Passes}
-use Rattle.char_sequence.specs.Weave.{AreOnce, IsWoven, Starts, Weaves, woven}
+use Rattle.char_sequence.specs.Weave.{IsWoven, Starts, Weaves, woven}
 use Rattle.char_sequence.proofs.HoldsLemmas.{takes_insert, takes_remove}
 use Rattle.char_sequence.proofs.LinkLemmas.{leads_at}
+use Rattle.char_sequence.proofs.OnceLemmas.{once_content}
 use Rattle.char_sequence.proofs.WeaveLemmas.{woven_insert, removed_there, IsFound}
 
 -- what is counted nowhere has no cell
-uncounted : (ops : List Op) (doc : ℕ) (id : Id) (cs : List Character) → times id cs ≡ 0 → has_cell (map (cell_of ops doc) cs) id ≡ false
-uncounted ops doc id [] none = refl
-uncounted ops doc id (c ∷ cs) none =
-    let first : is_same c.id id ≡ false = grind (arith, nat_tests) in
-    let rest : times id cs ≡ 0 = grind (arith, nat_tests) in
-    or_from (is_same c.id id) (has_cell (map (cell_of ops doc) cs) id) first (uncounted ops doc id cs rest)
-
-once_map : (ops : List Op) (doc : ℕ) (cs : List Character) → ((id : Id) → times id cs ≤ 1) → AreOnce (map (cell_of ops doc) cs)
-once_map ops doc [] once = tt
-once_map ops doc (c ∷ cs) once =
-    let none : times c.id cs ≡ 0 = first_only c.id cs (once c.id) in
-    (uncounted ops doc c.id cs none, once_map ops doc cs (λ id. fewer c id cs (once id)))
-  where
-    first_only : (id : Id) (ds : List Character) → (if is_same id id then 1 else 0) + times id ds ≤ 1 → times id ds ≡ 0
-    first_only id ds most = let same = test_from_same id id refl in grind (arith, nat_tests)
-
-    fewer : (d : Character) (id : Id) (ds : List Character) → times id (d ∷ ds) ≤ 1 → times id ds ≤ 1
-    fewer d id ds most = grind (arith, nat_tests)
-
--- what is held of a document has no id twice
-once_held : (held : Held) (ops : List Op) (doc : ℕ) → Holds held ops doc → AreOnce held
-once_held held ops doc holds = rw holds.content (once_map ops doc (walk ops doc) (λ id. orderly_once ops doc id holds.orderly))
-
 -- the cell at the place of an id has it
 pub place_has : (cells : List Cell) (id : Id) (i : ℕ) → place_of id cells ≡ Some i
     → (c : Cell) × (slice_get cells i ≡ Some c) × (is_same c.id id ≡ true)
@@ -81,7 +52,7 @@ pub is_woven : (cells : List Cell) (next : List ℕ) (cs : List Cell) → Weaves
 is_woven cells next cs w = subst (λ (ds : List Cell). Weaves cells next ds) (sym (woven_is cells next cs w)) w
 
 -- what a weave shows is woven
-pub shown : (cells : List Cell) (next : List ℕ) (held : Held) → IsWoven cells next → woven cells next ≡ held → Weaves cells next held
+pub shown : (cells : List Cell) (next : List ℕ) (held : List Cell) → IsWoven cells next → woven cells next ≡ held → Weaves cells next held
 shown cells next held w same = subst (λ (ds : List Cell). Weaves cells next ds) same w
 
 -- the weave of no characters
@@ -109,20 +80,20 @@ woven_with cells next after cs origin from at c w start passes is_set =
     woven_insert cells next after cs c at start.steps w start.within (past (drop start.steps w.order) (drop start.steps cs) left few) is_set
 
 -- what a call that weaves a character in owes
-pub takes_insert_in : (id : Id) (origin : Option Id) (value : ℕ) (old new : Held) (order : List ℕ) (from : ℕ)
+pub takes_insert_in : (id : Id) (origin : Option Id) (value : ℕ) (old new : List Cell) (order : List ℕ) (from : ℕ)
     (start : Starts order old origin from) (c : Cell)
     → c ≡ record { id = id; value = value; is_removed = false } → new ≡ take start.steps old ++ past_greater c (drop start.steps old)
-    → Takes id (Insert origin value) old new
+    → TakesCell id (Insert origin value) old new
 takes_insert_in id origin value old new order from start c is_cell is_new ops doc op fits same_id same_body holds =
-    let once = once_held old ops doc holds in
+    let once = once_content old ops doc holds in
     takes_insert id origin value old new (is_new
     ∙ (sym (start.placed once c) ∙ ap (λ d. inserted origin d old) is_cell)) ops doc op fits same_id same_body holds
 
 -- what a call that makes a woven character a tombstone owes
-pub takes_remove_in : (target : Id) (old new : Held) (order : List ℕ) (at : ℕ) (c : Cell) (it : IsFound order old c at) → is_same c.id target ≡ true
-    → new ≡ take it.step old ++ record c { is_removed = true } ∷ drop (suc it.step) old → (id : Id) → Takes id (Remove target) old new
+pub takes_remove_in : (target : Id) (old new : List Cell) (order : List ℕ) (at : ℕ) (c : Cell) (it : IsFound order old c at) → is_same c.id target ≡ true
+    → new ≡ take it.step old ++ record c { is_removed = true } ∷ drop (suc it.step) old → (id : Id) → TakesCell id (Remove target) old new
 takes_remove_in target old new order at c it same is_new id ops doc op fits same_id same_body holds =
-    let once = once_held old ops doc holds in
+    let once = once_content old ops doc holds in
     takes_remove target old new (is_new ∙ sym (removed_there order old c at target it same once)) id ops doc op fits same_id same_body holds
 
 -- what is read at an index is the cell there

@@ -77,11 +77,9 @@ first_removed (c ∷ cs) = if c.is_removed then c.id ∷ first_removed cs else [
 abbrev pub shown_values : List Cell → List ℕ
 shown_values cs = map (λ c. c.value) (shown cs)
 
--- a run of inserts, each behind the one before
-abbrev pub inserted_run : Option Id → List (Id × ℕ) → List Cell → List Cell
-inserted_run origin [] cs = cs
-inserted_run origin (x ∷ xs) cs =
-    inserted_run (Some x.0) xs (inserted origin (record { id = x.0; value = x.1; is_removed = false }) cs)
+-- the cell of an insert
+abbrev pub cell_of_insert : Id × ℕ → Cell
+cell_of_insert x = record { id = x.0; value = x.1; is_removed = false }
 
 -- the cells of these ids as tombstones
 abbrev pub removed_all : List Id → List Cell → List Cell

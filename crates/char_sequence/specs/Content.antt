@@ -1,7 +1,8 @@
 -- What a sequence holds of a document, as a list of operations makes it.
-use Rattle.std.specs.Prelude.{◌≡◌, ℕ, Bool, true, List, [], ◌∷◌, ◌++◌, map, if◌then◌else◌, Option, Some, None, slice_get}
+use Rattle.std.specs.Prelude.{◌≡◌, ℕ, Bool, true, List, [], ◌∷◌, ◌++◌, map, if◌then◌else◌, Option, Some, None}
 use Rattle.op_ids.specs.Id.{Id}
 use Rattle.char_sequence.specs.declared.cell.Cell.{Cell}
+use Rattle.char_sequence.specs.Chunks.{Held, cells_of}
 use Rattle.op_model.specs.declared.op.Op.{Op}
 use Rattle.op_model.specs.declared.op.Body.{Body}
 use Rattle.op_model.specs.declared.op.Body.TheVariants.{Insert, Remove}
@@ -11,21 +12,9 @@ use Rattle.op_model.specs.Text.{is_removed}
 use Rattle.op_model.specs.Characters.{characters}
 use Rattle.op_model.specs.Placing.{has_id, Fits, IsOrderly}
 
--- what a sequence holds
-abbrev pub Held : Type 0
-Held = List Cell
-
 -- what the sequence of an empty document holds
 abbrev pub empty : Held
 empty = []
-
--- the characters that are held, in the order of the text, tombstones too
-abbrev pub cells_of : Held → List Cell
-cells_of held = held
-
--- the character with so many before it in the order of the text, tombstones counted
-abbrev pub cell_at : Held → ℕ → Option Cell
-cell_at held at = slice_get (cells_of held) at
 
 -- a character's cell: its id, its value, and whether some operation of the document removes it
 abbrev pub cell_of : List Op → ℕ → Character → Cell
@@ -35,10 +24,14 @@ cell_of ops doc c = record { id = c.id; value = c.value; is_removed = is_removed
 abbrev pub content_of : List Op → ℕ → List Cell
 content_of ops doc = map (cell_of ops doc) (walk ops doc)
 
--- held is the content of these operations, which can be applied one after another
-pub record Holds (held : Held) (ops : List Op) (doc : ℕ) : Type 0 where
+-- these cells are the content of these operations, which can be applied one after another
+pub record AreContent (cells : List Cell) (ops : List Op) (doc : ℕ) : Type 0 where
   pub orderly : IsOrderly ops doc
-  pub content : cells_of held ≡ content_of ops doc
+  pub content : cells ≡ content_of ops doc
+
+-- held is the content of these operations, which can be applied one after another
+abbrev pub Holds : Held → List Op → ℕ → Type 0
+Holds held ops doc = AreContent (cells_of held) ops doc
 
 -- the beginning of the text, or the id of one of the document's inserts
 abbrev pub is_there : List Op → ℕ → Option Id → Bool
@@ -50,10 +43,14 @@ abbrev pub last_ended : (Id → Bool) → Option Id → List Id → Option Id
 last_ended ends before [] = before
 last_ended ends before (id ∷ ids) = last_ended ends (if ends id then Some id else before) ids
 
+-- Where old is the content of any operations that an operation of this id and body fits, new is that of them and it.
+abbrev pub TakesCell : Id → Body → List Cell → List Cell → Type 0
+TakesCell id does old new = (ops : List Op) (doc : ℕ) (op : Op) → Fits ops doc op → op.id ≡ id → op.body ≡ does
+    → AreContent old ops doc → AreContent new (ops ++ op ∷ []) doc
+
 -- Where old holds any operations that an operation of this id and body fits, new holds them and it.
 abbrev pub Takes : Id → Body → Held → Held → Type 0
-Takes id does old new = (ops : List Op) (doc : ℕ) (op : Op) → Fits ops doc op → op.id ≡ id → op.body ≡ does
-    → Holds old ops doc → Holds new (ops ++ op ∷ []) doc
+Takes id does old new = TakesCell id does (cells_of old) (cells_of new)
 
 -- these operations are a run of inserts, each behind the one before
 abbrev pub IsRun : Option Id → List (Id × ℕ) → List Op → Type 0

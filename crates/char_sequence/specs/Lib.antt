@@ -1,5 +1,9 @@
 pub mod Cells
+pub mod Chunks
+pub mod Finding
+pub mod Landing
 pub mod Links
+pub mod Reading
 pub mod Content
 pub mod Refusal
 pub mod Weave

@@ -1,20 +1,35 @@
 //! The characters of a document in the order of its text, tombstones too.
 #![tactic(auto)]
 
+mod applying;
 mod cell;
+mod chunk;
+mod chunk_size;
+mod chunks;
+mod cutting;
 mod ends_after;
 mod error;
+mod finding;
+mod hints;
+mod landing;
 mod links;
+mod place;
+mod reading;
 mod search;
 mod sequence;
+mod shown;
+mod track;
 mod trail;
 mod weave;
 
 pub use cell::Cell;
+pub use chunk_size::ChunkSize;
 pub use ends_after::EndsAfter;
 pub use error::SequenceError;
 pub use sequence::Sequence;
 pub use weave::Weave;
 
+#[cfg(test)]
+mod chunk_tests;
 #[cfg(test)]
 mod tests;

@@ -1,6 +1,6 @@
 use super::*;
 use op_ids::{OpId, ReplicaId};
-use op_model::Text;
+use op_model::{Text, Ticks};
 use std::test::Fail;
 
 fn id(counter: u64, last: u8) -> Result<OpId, Fail> {
@@ -43,18 +43,23 @@ fn a_removed_character_stays_as_a_tombstone(rt: HostRuntime) -> Result<(), Fail>
     assert_eq!(rt; sequence.run_after(0)?.len(), 0);
     sequence.apply_insert(id(3, 1)?, Some(b), 'c')?;
     assert!(rt; has_text(&rt, &sequence, "ac")?);
+    let ticks = &mut Ticks::new();
     assert!(rt;
         sequence
-            .cell(0)
+            .cell(0, 0, ticks)
             .is_some_and(|cell| cell.id.is_same(a) && !cell.is_removed)
     );
     assert!(rt;
         sequence
-            .cell(1)
+            .cell(0, 1, ticks)
             .is_some_and(|cell| cell.id.is_same(b) && cell.is_removed)
     );
-    assert!(rt; sequence.cell(2).is_some_and(|cell| cell.value == 'c'));
-    assert_eq!(rt; sequence.cell(3), None);
+    assert!(rt;
+        sequence
+            .cell(0, 2, ticks)
+            .is_some_and(|cell| cell.value == 'c')
+    );
+    assert_eq!(rt; sequence.cell(0, 3, ticks), None);
     Ok(())
 }
 

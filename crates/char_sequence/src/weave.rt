@@ -1,16 +1,18 @@
-ghost use Rattle.std.specs.Prelude.{◌≡◌, ◌↔◌, ℕ, ◌<◌, List, Some, length, vec_len, vec_capacity};
+ghost use Rattle.std.specs.Prelude.{◌≡◌, ◌↔◌, ℕ, ◌<◌, List, [], Some, length, vec_len, vec_capacity};
 ghost use Rattle.std.specs.Prelude.{MatchOption, IfOk, OnOk, OnErr, IsErrOf, true, false};
 ghost use Rattle.op_ids.specs.Id.{Id, is_same};
 ghost use Rattle.op_model.specs.declared.op.Op.{Op};
 ghost use Rattle.op_model.specs.declared.op.Body.TheVariants.{Insert, Remove};
 ghost use Rattle.char_sequence.specs.declared.cell.Cell.{Cell};
 ghost use Rattle.char_sequence.specs.Cells.{has_cell, is_known};
-ghost use Rattle.char_sequence.specs.Content.{empty, is_there, Holds, Takes};
+ghost use Rattle.char_sequence.specs.Content.{is_there, AreContent, Holds, TakesCell};
 ghost use Rattle.char_sequence.specs.Links.{cell_at_place};
 ghost use Rattle.char_sequence.specs.Weave.{Starts, Weaves};
 
 use crate::cell::Cell;
+use crate::chunks::Chunks;
 use crate::error::SequenceError;
+use crate::hints::Hints;
 use crate::links::{cell_at, next_of, past, tie};
 use crate::search::place;
 use crate::sequence::Sequence;
@@ -23,7 +25,7 @@ use std::marker::Model;
 const MAX_CELLS: usize = 4_294_967_294;
 
 /// The characters of one document while many operations are taken, one after another: where a
-/// `Sequence` moves all that stands behind an insert, this links it in. Each character keeps its
+/// `Sequence` moves the characters of a chunk, this links an insert in. Each character keeps its
 /// place in the order in which it came; 36 bytes a character, and 4 for the hint by which it is
 /// found.
 #[derive(Debug, Drop)]
@@ -37,9 +39,10 @@ pub struct Weave {
 }
 
 impl Model for Weave {
-    ghost use Rattle.char_sequence.specs.Content.{Held};
+    ghost use Rattle.std.specs.Prelude.{List};
+    ghost use Rattle.char_sequence.specs.declared.cell.Cell.{Cell};
 
-    ghost Value = { Held };
+    ghost Value = { List Cell };
 
     ghost use Rattle.char_sequence.specs.Weave.{woven, IsWoven};
 
@@ -51,7 +54,7 @@ impl Model for Weave {
 impl Weave {
     /// The weave of an empty document. An error is want of memory (1).
     pub fn new(alloc: Global) -> Result<Weave, AllocError>
-        ensures { IfOk result (λ w. w ≡ empty) }
+        ensures { IfOk result (λ w. w ≡ []) }
     {
         let mut next = Vec::new(alloc);
         next.push(0)?;
@@ -74,8 +77,8 @@ impl Weave {
         origin: Option<OpId>,
         value: char,
     ) -> Result<(), SequenceError>
-        ensures taken { OnOk result (Takes id (Insert origin value) self.old self.new) }
-        ensures unknown { (ops : List Op) (doc : ℕ) → Holds self.old ops doc
+        ensures taken { OnOk result (TakesCell id (Insert origin value) self.old self.new) }
+        ensures unknown { (ops : List Op) (doc : ℕ) → AreContent self.old ops doc
             → (IsErrOf result SequenceError.UnknownId ↔ (is_there ops doc origin ≡ false)) }
         ensures err { OnErr result (self.new ≡ self.old) }
     {
@@ -106,8 +109,8 @@ impl Weave {
     /// there, which leaves the characters as they were. Takes no memory. A binary search; a search
     /// of all only where the hint is wrong.
     pub fn remove(&mut self, id: OpId) -> Result<(), SequenceError>
-        ensures taken { OnOk result ((by : Id) → Takes by (Remove id) self.old self.new) }
-        ensures unknown { (ops : List Op) (doc : ℕ) → Holds self.old ops doc
+        ensures taken { OnOk result ((by : Id) → TakesCell by (Remove id) self.old self.new) }
+        ensures unknown { (ops : List Op) (doc : ℕ) → AreContent self.old ops doc
             → (IsErrOf result SequenceError.UnknownId ↔ (is_there ops doc (Some id) ≡ false)) }
         ensures memory { IsErrOf result SequenceError.Memory → ⊥ }
         ensures err { OnErr result (self.new ≡ self.old) }
@@ -124,7 +127,7 @@ impl Weave {
     /// Whether a character is there. Takes no memory. A binary search; a search of all only where
     /// the hint is wrong.
     pub fn has(&self, id: OpId) -> bool
-        ensures { (ops : List Op) (doc : ℕ) → Holds self.now ops doc
+        ensures { (ops : List Op) (doc : ℕ) → AreContent self.now ops doc
             → result ≡ is_there ops doc (Some id) }
     {
         match place_of(&self.trails, &self.cells, &id) {
@@ -135,18 +138,22 @@ impl Weave {
 
     /// The sequence of these characters. An error is want of memory (1). A step for each.
     pub fn sequence(&self, alloc: Global) -> Result<Sequence, AllocError>
-        ensures { IfOk result (λ s. s ≡ self.now) }
+        ensures { IfOk result (λ s. (ops : List Op) (doc : ℕ) → AreContent self.now ops doc
+            → Holds s ops doc) }
     {
-        let mut cells = Vec::with_capacity(alloc, self.cells.len())?;
+        let mut chunks = Chunks::new(alloc);
         let mut at = 0;
         for _ in 0..self.cells.len() {
             at = next_of(&self.next, at) as usize;
             match cell_at(&self.cells, at) {
-                Some(cell) => cells.push(cell)?,
+                Some(cell) => chunks.push(cell)?,
                 None => {}
             }
         }
-        Ok(Sequence::from_cells(cells))
+        Ok(Sequence {
+            chunks,
+            hints: Hints::new(alloc),
+        })
     }
 }
 

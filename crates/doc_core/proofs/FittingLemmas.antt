@@ -12,6 +12,7 @@ use Rattle.op_model.specs.Marks.{markings}
 use Rattle.model_laws.proofs.Closed.{follows_fits}
 use Rattle.model_laws.proofs.Growth.{other_rev, markings-append}
 use Rattle.model_laws.proofs.Makes.{made_follow}
+use Rattle.char_sequence.specs.Chunks.{cells_of}
 use Rattle.char_sequence.specs.Content.{FitAfter}
 use Rattle.char_sequence.proofs.HoldsLemmas.{holds_other}
 use Rattle.mark_anchors.proofs.KeepLemmas.{kept_with, other_marks_none}
@@ -39,7 +40,7 @@ pub document_stays : (d : Document) (ops : List Op) (op : Op) → op.doc ≢ d.n
 document_stays d ops op other stands =
     let apart = apart_from op.doc d.number other in
     record {
-      characters = holds_other d.characters ops d.number op apart stands.characters;
+      characters = holds_other (cells_of d.characters) ops d.number op apart stands.characters;
       marks = kept_with d.marks ops (op ∷ []) d.number (other_marks_none op d.number other) stands.marks;
       rev = stands.rev ∙ ap counted (sym (other_rev ops d.number op apart));
     }

@@ -1,4 +1,5 @@
 pub mod DraftLemmas
+pub mod EndedLemmas
 pub mod FittingLemmas
 pub mod LimitLemmas
 pub mod MakingLemmas

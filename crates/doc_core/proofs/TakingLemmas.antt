@@ -9,7 +9,8 @@ use Rattle.op_model.specs.Causality.{named_by, optional}
 use Rattle.op_model.specs.Characters.{characters}
 use Rattle.op_model.specs.Placing.{has_id}
 use Rattle.model_laws.proofs.Ids.{same_itself}
-use Rattle.char_sequence.specs.Content.{AreRemoves, IsRun, is_there, Held}
+use Rattle.char_sequence.specs.Content.{AreRemoves, IsRun, is_there}
+use Rattle.char_sequence.specs.Chunks.{Held}
 use Rattle.mark_anchors.specs.Keeping.{Kept}
 use Rattle.doc_core.specs.Standing.{are_there, named_outside}
 use Rattle.doc_core.specs.Taking.{TakesIn, TakesAllIn}

@@ -5,19 +5,20 @@ use Rattle.op_model.specs.declared.op.Op.{Op}
 use Rattle.op_model.specs.Marks.{markings}
 use Rattle.op_model.specs.Placing.{Fits}
 use Rattle.op_model.specs.Text.{rev}
-use Rattle.char_sequence.specs.Content.{Held, Holds}
+use Rattle.char_sequence.specs.declared.cell.Cell.{Cell}
+use Rattle.char_sequence.specs.Content.{AreContent}
 use Rattle.doc_core.specs.Standing.{counted}
 
 -- a draft as contracts see it: its number, its characters, its mark operations as they came, and how many operations it counts
 pub record Drafted : Type 0 where
   pub number : ℕ
-  pub characters : Held
+  pub characters : List Cell
   pub markings : List Marking
   pub rev : ℕ
 
 -- the draft is what these operations make of its document
 pub record IsDraftOf (d : Drafted) (ops : List Op) : Type 0 where
-  pub characters : Holds d.characters ops d.number
+  pub characters : AreContent d.characters ops d.number
   pub markings : d.markings ≡ markings ops d.number
   pub rev : d.rev ≡ counted (rev ops d.number)
 

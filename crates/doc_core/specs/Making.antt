@@ -1,11 +1,13 @@
 -- What the operations of an edit are made from, and what they are.
 use Rattle.std.specs.Prelude.{◌≡◌, ◌<◌, ◌+◌, ℕ, List, length}
 use Rattle.op_model.specs.declared.edit.Change.{Change}
+use Rattle.op_model.specs.declared.edit.Change.TheVariants.{Insert}
 use Rattle.op_model.specs.declared.edit.Edit.{Edit}
 use Rattle.op_model.specs.declared.op.Op.{Op}
 use Rattle.op_model.specs.Causality.{clock_of}
 use Rattle.op_model.specs.Made.{greatest_counter, made}
 use Rattle.char_sequence.specs.Content.{AreRemoves, IsRun}
+use Rattle.model_laws.specs.Changed.{EndedMarksStay}
 use Rattle.doc_core.specs.Standing.{Document, StandsFor}
 use Rattle.doc_core.specs.declared.made.Part.{Part}
 use Rattle.doc_core.specs.declared.made.Part.TheVariants.{Run, Removes, One}
@@ -19,6 +21,12 @@ pub record IsNext (ops : List Op) (counter : ℕ) (clock : List (ℕ × ℕ)) : 
 abbrev pub AreMade : Document → ℕ → ℕ → List (ℕ × ℕ) → Change → List Op → Type 0
 AreMade d replica counter clock change found = (ops : List Op) (edit : Edit) → StandsFor d ops → IsNext ops counter clock
     → edit.doc ≡ d.number → edit.change ≡ change → found ≡ made ops replica edit
+
+-- where the change is an insert, no mark that ends just before its index covers a character that these operations insert, whichever
+-- operations the document stands for, where these are a replica's next ones
+abbrev pub LeaveEndedMarks : Document → ℕ → List (ℕ × ℕ) → Change → List Op → Type 0
+LeaveEndedMarks d counter clock change found = (ops : List Op) (at : ℕ) (added : List ℕ) → StandsFor d ops → IsNext ops counter clock
+    → change ≡ Insert at added → EndedMarksStay ops d.number at found
 
 -- what is known of an edit's operations is so: they are a run of inserts, or removes of these characters, or there is one alone
 abbrev pub IsPart : Part → List Op → Type 0

@@ -9,7 +9,8 @@ use Rattle.op_model.specs.Text.{rev}
 use Rattle.op_model.specs.Causality.{named_by}
 use Rattle.op_model.specs.Characters.{characters}
 use Rattle.op_model.specs.Placing.{has_id, Fits}
-use Rattle.char_sequence.specs.Content.{Held, Holds, FitAfter}
+use Rattle.char_sequence.specs.Chunks.{Held}
+use Rattle.char_sequence.specs.Content.{Holds, FitAfter}
 use Rattle.mark_anchors.specs.Keeping.{Kept, AreMarksOf}
 
 -- a document as contracts see it: its number, its characters, its mark operations, and how many operations it counts

@@ -1,5 +1,5 @@
 ghost use Rattle.std.specs.Prelude.{◌≡◌, ◌↔◌, ℕ, List, [], ◌∷◌, ◌++◌, false, IfOk, OnOk, OnErr, IsErrOf};
-ghost use Rattle.char_sequence.specs.Content.{is_there, Holds};
+ghost use Rattle.char_sequence.specs.Content.{is_there, AreContent};
 ghost use Rattle.doc_core.specs.Drafting.{IsDraftOf, TakesDraft};
 ghost use Rattle.doc_core.specs.Standing.{are_there, StandsFor};
 ghost use Rattle.doc_core.specs.Taking.{TakesWoven};
@@ -86,7 +86,9 @@ impl Draft {
         ensures stands { IfOk result (λ d. (ops : List Op) → IsDraftOf self ops
             → StandsFor d ops) }
     {
-        let sequence = self.weave.sequence(alloc)?;
+        let mut sequence = self.weave.sequence(alloc)?;
+        drop(self.weave);
+        sequence.note_all();
         let anchors = Anchors::from_markings(self.markings, &sequence)?;
         Ok(Doc {
             doc: self.doc,
@@ -101,7 +103,7 @@ impl Draft {
 fn take(weave: &mut Weave, markings: &mut Vec<Marking>, op: &Op) -> Result<(), SequenceError>
     ensures taken { OnOk result
         (TakesWoven op.now weave.old weave.new markings.old.items markings.new.items) }
-    ensures unknown { (ops : List Op) (doc : ℕ) → Holds weave.old ops doc
+    ensures unknown { (ops : List Op) (doc : ℕ) → AreContent weave.old ops doc
         → (IsErrOf result SequenceError.UnknownId
         ↔ (are_there ops doc (named_by op.now.body) ≡ false)) }
     ensures characters { OnErr result (weave.new ≡ weave.old) }
@@ -125,7 +127,7 @@ fn keep(
 ) -> Result<(), SequenceError>
     ensures taken { OnOk result
         (markings.new.items ≡ markings.old.items ++ markings_of (op.now ∷ []) op.now.doc) }
-    ensures unknown { (ops : List Op) (doc : ℕ) → Holds weave.now ops doc
+    ensures unknown { (ops : List Op) (doc : ℕ) → AreContent weave.now ops doc
         → (IsErrOf result SequenceError.UnknownId
         ↔ (are_there ops doc (named_by_start start.now ++ named_by_end end.now) ≡ false)) }
     ensures err { OnErr result (markings.new.items ≡ markings.old.items) }
@@ -142,7 +144,8 @@ fn keep(
 
 /// Whether a character is there, if one is named.
 fn has(weave: &Weave, id: Option<OpId>) -> bool
-    ensures { (ops : List Op) (doc : ℕ) → Holds weave.now ops doc → result ≡ is_there ops doc id }
+    ensures { (ops : List Op) (doc : ℕ) → AreContent weave.now ops doc
+        → result ≡ is_there ops doc id }
 {
     match id {
         None => true,

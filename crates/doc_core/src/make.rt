@@ -1,13 +1,12 @@
-ghost use Rattle.std.specs.Prelude.{◌≡◌, ◌↔◌, ◌+◌, ◌≤◌, ◌<◌, ◌^◌, List, ◌++◌, length, map, take, drop, true, false};
+ghost use Rattle.std.specs.Prelude.{◌≡◌, ◌↔◌, ◌≤◌, List, length, map, take, drop, true, false};
 ghost use Rattle.std.specs.Prelude.{IfOk, OnOk, IsErrOf};
 ghost use Rattle.op_model.specs.declared.edit.Change.TheVariants as change;
 ghost use Rattle.op_model.specs.declared.op.Op.{Op};
 ghost use Rattle.op_model.specs.Made.{is_inside};
-ghost use Rattle.op_model.specs.Causality.{optional};
 ghost use Rattle.op_model.specs.Text.{visible};
 ghost use Rattle.op_ids.specs.Clock.{is_clock};
 ghost use Rattle.doc_core.specs.Limits.{keep_limits as keep_limits_of};
-ghost use Rattle.doc_core.specs.Making.{AreMade};
+ghost use Rattle.doc_core.specs.Making.{AreMade, LeaveEndedMarks};
 ghost use Rattle.doc_core.specs.Standing.{StandsFor};
 
 use crate::doc::Doc;
@@ -24,7 +23,7 @@ impl Doc {
     /// replica's next operations, the first with this counter and depending on this clock. The
     /// document stays as it is. The first one's origin is the last of the tombstones at that place
     /// that a mark ends just after, or else the visible character before it, or none at the
-    /// beginning.
+    /// beginning. So a mark that ends there, as a link, doesn't cover the text.
     ///
     /// Refuses, in this order: `Range` (5) exactly where the index is above the length of the
     /// text, `Limit` (7) exactly where there are more than 256 characters, or a counter or the
@@ -41,6 +40,8 @@ impl Doc {
     ) -> Result<Made, MakeError>
         ensures made { IfOk result
             (AreMade self.now replica counter clock.now (change.Insert at text.now)) }
+        ensures not_covered { IfOk result
+            (LeaveEndedMarks self.now counter clock.now (change.Insert at text.now)) }
         ensures range { (ops : List Op) → StandsFor self.now ops → (IsErrOf result MakeError.Range
             ↔ (is_inside (length (visible ops self.now.number)) (change.Insert at text.now)
             ≡ false)) }
@@ -132,13 +133,12 @@ impl Doc {
         at: usize,
         count: NonZeroU32,
     ) -> Result<Made, AllocError>
-        requires within { at < 2 ^ 32 }
         requires valid { is_clock clock.now ≡ true }
         requires limit { keep_limits_of replica counter clock.now count.value ≡ true }
         ensures { IfOk result
             (AreMade self.now replica counter clock.now (change.Delete at count)) }
     {
-        let targets = self.targets(alloc, at, count.get() as usize)?;
+        let targets = self.targets(at, count.get() as usize)?;
         let bodies = remove_bodies(alloc, &targets)?;
         let ops = numbered(alloc, replica, self.doc, counter, clock, &bodies)?;
         Ok(Made {
@@ -149,26 +149,12 @@ impl Doc {
 
     /// So many visible characters from an index on, or as many as there are. An error is want of
     /// memory (1).
-    fn targets(&self, alloc: Global, at: usize, count: usize) -> Result<Vec<OpId>, AllocError>
-        requires { at + count < 2 ^ 64 }
+    fn targets(&self, at: usize, count: usize) -> Result<Vec<OpId>, AllocError>
         ensures all { IfOk result (λ targets. (ops : List Op) → StandsFor self.now ops
             → targets.items
             ≡ map (λ c. c.id) (take count (drop at (visible ops self.now.number)))) }
         ensures few { IfOk result (λ targets. length targets.items ≤ count) }
     {
-        let mut targets = Vec::new(alloc);
-        for i in 0..count {
-            push_found(&mut targets, self.sequence.visible(at + i))?;
-        }
-        Ok(targets)
+        self.sequence.visible_range(at, count)
     }
-}
-
-fn push_found(targets: &mut Vec<OpId>, found: Option<OpId>) -> Result<(), AllocError>
-    ensures { OnOk result (targets.new.items ≡ targets.old.items ++ optional found) }
-{
-    if let Some(id) = found {
-        targets.push(id)?;
-    }
-    Ok(())
 }

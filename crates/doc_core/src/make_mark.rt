@@ -7,7 +7,7 @@ ghost use Rattle.op_model.specs.Made.{is_inside, numbered as numbered_from, size
 ghost use Rattle.op_model.specs.Text.{visible};
 ghost use Rattle.op_ids.specs.Clock.{is_clock};
 ghost use Rattle.doc_core.specs.Limits.{keep_limits as keep_limits_of};
-ghost use Rattle.doc_core.specs.Making.{AreMade};
+ghost use Rattle.doc_core.specs.Making.{AreMade, LeaveEndedMarks};
 ghost use Rattle.doc_core.specs.Standing.{StandsFor};
 
 use crate::doc::Doc;
@@ -95,6 +95,7 @@ impl Doc {
         change: &Change,
     ) -> Result<Made, MakeError>
         ensures made { IfOk result (AreMade self.now replica counter clock.now change.now) }
+        ensures not_covered { IfOk result (LeaveEndedMarks self.now counter clock.now change.now) }
         ensures range { (ops : List Op) → StandsFor self.now ops → (IsErrOf result MakeError.Range
             ↔ (is_inside (length (visible ops self.now.number)) change.now ≡ false)) }
         ensures limit { (ops : List Op) → StandsFor self.now ops → (IsErrOf result MakeError.Limit

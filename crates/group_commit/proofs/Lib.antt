@@ -25,5 +25,4 @@ pub mod Steps
 pub mod StreamReads
 pub mod Streams
 pub mod TailLemmas
-pub mod WrittenWalks
 pub mod ZeroLemmas

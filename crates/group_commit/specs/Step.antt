@@ -1,5 +1,5 @@
 -- What a step of a commit does to the disk below the store.
-use Rattle.std.specs.Prelude.{◌≡◌, ◌⊎◌, ◌↔◌, ◌<◌, ℕ, ◌+◌, ◌-◌, ◌*◌, List, [], ◌∷◌, length, get_or, Result, Ok, Err, IfErr, OnOk, OnErr}
+use Rattle.std.specs.Prelude.{◌≡◌, ◌⊎◌, ◌↔◌, ◌<◌, ℕ, ◌+◌, ◌-◌, ◌*◌, List, [], ◌∷◌, length, get_or, Result, IfErr, OnOk, OnErr}
 use Rattle.disk_trait.specs.Calls.{IsOneCall, LeavesOnly, Settles, Keeps}
 pub use Rattle.disk_trait.specs.Writing.{failures_in, Writes}
 use Rattle.disk_trait.specs.declared.facts.DiskFacts.{Ghosts}

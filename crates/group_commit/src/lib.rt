@@ -20,7 +20,6 @@ mod state;
 mod step;
 mod store;
 mod stream_tail;
-mod written;
 
 pub use error::StoreError;
 pub use init_fault::{InitError, InitFault};

@@ -12,7 +12,7 @@ ghost use Rattle.group_commit.specs.Plan.{IsNext, Plans, IsGrown, kept_of, fille
 use crate::load_pages::data_pages;
 use crate::root::Root;
 use crate::stream_tail::{StreamTail, behind};
-use crate::written::Written;
+use ghost_lists::Written;
 use page_file::{Pages, is_zero, put_numbers};
 use root_slots::{RootBody, tables_for};
 use std::alloc::{AllocError, Global};

@@ -5,7 +5,7 @@ ghost use Rattle.root_slots.specs.Root.{is_root, version_of, replica_of, count_o
 ghost use Rattle.root_slots.specs.Root.{stream_length_of, tables_of};
 ghost use Rattle.group_commit.specs.Saved.{HasDataPages, with_stream};
 
-use crate::written::Written;
+use ghost_lists::Written;
 use op_ids::ReplicaId;
 use root_slots::RootBody;
 use std::alloc::{AllocError, Global};

@@ -2,7 +2,7 @@
 ghost use Rattle.std.specs.Prelude.{◌≡◌, ◌<◌, [], ◌++◌, length, drop, IfOk};
 ghost use Rattle.group_commit.specs.Saved.{tail_of};
 
-use crate::written::Written;
+use ghost_lists::Written;
 use std::alloc::{AllocError, Global};
 use std::marker::Model;
 

@@ -5,6 +5,7 @@ use Rattle.std.proofs.lemmas.Bool.{cases_Bool, ne_eqb}
 use Rattle.op_ids.specs.Id.{Id}
 use Rattle.op_model.specs.declared.op.Op.{Op}
 use Rattle.op_model.specs.declared.op.Body.TheVariants.{Insert, Remove}
+use Rattle.op_model.specs.declared.marking.Marking.{Marking}
 use Rattle.op_model.specs.Marks.{markings, marking_of}
 use Rattle.op_model.specs.Placing.{Fits}
 use Rattle.model_laws.proofs.Growth.{markings-append}
@@ -12,13 +13,12 @@ use Rattle.char_sequence.specs.Content.{AreRemoves, IsRun}
 use Rattle.mark_anchors.specs.Keeping.{AreMarksOf, Kept}
 
 -- an operation of the document comes behind the others
-pub kept_more : (old new : Kept) (ops : List Op) (doc : ℕ) (op : Op) → new ≡ old ++ markings (op ∷ []) op.doc → AreMarksOf old ops doc
-    → Fits ops doc op → AreMarksOf new (ops ++ op ∷ []) doc
-kept_more old new ops doc op more are fits = record {
-  all = more
-      ∙ (ap (λ kept. kept ++ markings (op ∷ []) op.doc) are.all
-      ∙ (ap (λ n. markings ops doc ++ markings (op ∷ []) n) fits.same ∙ sym (markings-append ops (op ∷ []) doc)));
-}
+pub kept_more : (old new : List Marking) (ops : List Op) (doc : ℕ) (op : Op) → new ≡ old ++ markings (op ∷ []) op.doc → old ≡ markings ops doc
+    → Fits ops doc op → new ≡ markings (ops ++ op ∷ []) doc
+kept_more old new ops doc op more are fits =
+    more
+    ∙ (ap (λ kept. kept ++ markings (op ∷ []) op.doc) are
+    ∙ (ap (λ n. markings ops doc ++ markings (op ∷ []) n) fits.same ∙ sym (markings-append ops (op ∷ []) doc)))
 
 -- operations that make no mark operation of the document leave those that are kept as they are
 pub kept_with : (kept : Kept) (ops more : List Op) (doc : ℕ) → markings more doc ≡ [] → AreMarksOf kept ops doc → AreMarksOf kept (ops ++ more) doc

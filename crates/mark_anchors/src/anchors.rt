@@ -1,19 +1,22 @@
 ghost use Rattle.std.specs.Prelude.{◌≡◌, ◌↔◌, ℕ, List, [], ◌∷◌, ◌++◌, false, IfOk, OnOk, OnErr};
-ghost use Rattle.std.specs.Prelude.{IsErrOf};
+ghost use Rattle.std.specs.Prelude.{filter, IsErrOf};
 ghost use Rattle.std.specs.List.{list_all};
 ghost use Rattle.char_sequence.specs.Content.{Holds};
+ghost use Rattle.mark_anchors.specs.Edges.{AreEdges, AreKept};
 ghost use Rattle.mark_anchors.specs.Keeping.{in_order, AreMarksOf};
+ghost use Rattle.op_ids.specs.Id.{is_same};
 ghost use Rattle.mark_anchors.specs.Naming.{named_by_marking};
 ghost use Rattle.op_model.specs.declared.op.Op.{Op};
 ghost use Rattle.op_model.specs.Characters.{characters};
-ghost use Rattle.op_model.specs.Made.{is_end_after};
 ghost use Rattle.op_model.specs.Marks.{markings as markings_of};
 ghost use Rattle.op_model.specs.Placing.{has_id, Fits};
 
+use crate::edge::{Edge, end_edge, start_edge};
+use crate::edges::{at, edges_of, has_end_after, put};
 use crate::naming::check_names;
 use char_sequence::{EndsAfter, Sequence, SequenceError};
 use op_ids::OpId;
-use op_model::{Anchor, End, Marking, Op};
+use op_model::{Marking, Op};
 use std::alloc::{AllocError, Global};
 use std::marker::Model;
 
@@ -22,14 +25,18 @@ use std::marker::Model;
 #[derive(Debug, Drop)]
 pub struct Anchors {
     markings: Vec<Marking>,
+    edges: Vec<Edge>,
 }
 
 impl Model for Anchors {
     ghost use Rattle.mark_anchors.specs.Keeping.{Kept};
+    ghost use Rattle.mark_anchors.specs.Edges.{AreKept};
 
     ghost Value = { Kept };
 
-    ghost view = { λ a. a.markings.items };
+    ghost view = { λ a. record { markings = a.markings.items; edges = a.edges.items } };
+
+    ghost invariant = { λ a. AreKept a.markings.items a.edges.items };
 }
 
 impl Anchors {
@@ -39,23 +46,27 @@ impl Anchors {
     {
         Anchors {
             markings: Vec::new(alloc),
+            edges: Vec::new(alloc),
         }
     }
 
     /// Those of a document whose mark operations are given in the order in which they came, and
-    /// whose characters are given too. Constant.
+    /// whose characters are given too. An error is want of memory (1). Their edges are sorted: so
+    /// many steps as there are mark operations, times their logarithm.
     pub fn from_markings(markings: Vec<Marking>, sequence: &Sequence) -> Result<Anchors, AllocError>
         ensures { IfOk result (λ a. (ops : List Op) (doc : ℕ) → Holds sequence.now ops doc
             → markings.items ≡ markings_of ops doc → AreMarksOf a ops doc) }
     {
         let _ = sequence;
-        Ok(Anchors { markings })
+        let edges = edges_of(*markings.allocator(), &markings)?;
+        Ok(Anchors { markings, edges })
     }
 
     /// Takes an operation of the document, whose characters are given: a mark operation is kept,
     /// another one adds nothing. `UnknownId` (60) exactly where a mark operation names a character
     /// that isn't there, `Memory` (1) where a growth was refused; both leave the anchors as they
-    /// were. Linear in the characters, tombstones counted.
+    /// were. It costs the search of both characters, as `Sequence::find` does it, and moves the
+    /// edges behind its own.
     pub fn apply_mark(&mut self, op: &Op, sequence: &Sequence) -> Result<(), SequenceError>
         ensures taken { OnOk result ((ops : List Op) (doc : ℕ) → Holds sequence.now ops doc
             → AreMarksOf self.old ops doc → Fits ops doc op.now
@@ -67,7 +78,7 @@ impl Anchors {
         ensures err { OnErr result (self.new ≡ self.old) }
     {
         check_names(sequence, &op.body)?;
-        keep(&mut self.markings, op)?;
+        keep(&mut self.markings, &mut self.edges, op)?;
         Ok(())
     }
 
@@ -77,6 +88,22 @@ impl Anchors {
     {
         &self.markings
     }
+
+    /// Where mark operations begin and end at a character. For `span_flatten` alone. Takes no
+    /// memory. Logarithmic in the mark operations.
+    pub fn edges_at(&self, id: OpId) -> &[Edge]
+        ensures { result.now ≡ filter (λ e. is_same e.id id) self.now.edges }
+    {
+        at(&self.edges, id)
+    }
+
+    /// What holds of the edges: they are those of the mark operations. For `span_flatten` alone. It
+    /// does nothing.
+    pub fn are_edges(&self)
+        ensures { AreEdges (in_order self.now) self.now.edges }
+    {
+        let _ = &self.edges;
+    }
 }
 
 impl EndsAfter for Anchors {
@@ -84,34 +111,49 @@ impl EndsAfter for Anchors {
 
     ghost ends_after = { kept_end_after };
 
-    /// Takes no memory. Linear in the mark operations.
+    /// Takes no memory. Logarithmic in the mark operations, and linear in those with an edge there.
     fn ends_after(&self, id: OpId) -> bool {
-        self.markings
-            .iter()
-            .any(|marking| is_just_after(&marking.end, &id))
+        self.are_edges();
+        has_end_after(self.edges_at(id))
     }
 }
 
-/// Keeps a mark operation; another operation adds nothing. An error is want of memory (1), and
-/// leaves those that are kept as they were.
-fn keep(markings: &mut Vec<Marking>, op: &Op) -> Result<(), AllocError>
+/// Keeps a mark operation and its edges; another operation adds nothing. An error is want of memory
+/// (1), and leaves those that are kept as they were.
+fn keep(markings: &mut Vec<Marking>, edges: &mut Vec<Edge>, op: &Op) -> Result<(), AllocError>
+    requires { AreKept markings.old.items edges.old.items }
     ensures taken { OnOk result (markings.new.items
         ≡ markings.old.items ++ markings_of (op.now ∷ []) op.now.doc) }
-    ensures err { OnErr result (markings.new.items ≡ markings.old.items) }
+    ensures kept { AreKept markings.new.items edges.new.items }
+    ensures err { OnErr result ((markings.new.items ≡ markings.old.items)
+        × (edges.new.items ≡ edges.old.items)) }
 {
     match op.marking()? {
-        Some(marking) => markings.push(marking).map_err(AllocError::from)?,
-        None => {}
+        Some(marking) => add(markings, edges, marking),
+        None => Ok(()),
     }
-    Ok(())
 }
 
-/// Whether an end is just after this character.
-fn is_just_after(end: &End, id: &OpId) -> bool
-    ensures { result ≡ is_end_after id.now end.now }
+/// Keeps one more mark operation and its edges. An error is want of memory (1), and leaves those
+/// that are kept as they were.
+fn add(
+    markings: &mut Vec<Marking>,
+    edges: &mut Vec<Edge>,
+    marking: Marking,
+) -> Result<(), AllocError>
+    requires { AreKept markings.old.items edges.old.items }
+    ensures taken { OnOk result (markings.new.items ≡ markings.old.items ++ marking ∷ []) }
+    ensures kept { AreKept markings.new.items edges.new.items }
+    ensures err { OnErr result ((markings.new.items ≡ markings.old.items)
+        × (edges.new.items ≡ edges.old.items)) }
 {
-    match end {
-        End::To(Anchor::After(other)) => other.is_same(*id),
-        _ => false,
+    markings.reserve(1)?;
+    edges.reserve(2)?;
+    let i = markings.len();
+    put(edges, start_edge(&marking.start, i));
+    put(edges, end_edge(&marking.end, i));
+    match markings.push(marking) {
+        Ok(()) => Ok(()),
+        Err(_) => unreachable!(),
     }
 }

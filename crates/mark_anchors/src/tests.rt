@@ -37,6 +37,7 @@ fn ends_are_known_where_marks_end_after(rt: HostRuntime) -> Result<(), Fail> {
     anchors.apply_mark(&plain(alloc, 4, a, End::To(Anchor::After(b)))?, &sequence)?;
     assert!(rt; anchors.ends_after(b) && !anchors.ends_after(a));
     assert_eq!(rt; anchors.in_order().len(), 2);
+    assert_eq!(rt; anchors.edges_at(b).len(), 2);
     Ok(())
 }
 

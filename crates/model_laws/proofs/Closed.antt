@@ -1,5 +1,6 @@
 -- A causally closed list is orderly in each document.
-use Rattle.std.proofs.Common.{◌≡◌, ℕ, zero, suc, Bool, true, false, ◌&&◌, inl, inr, List, [], ◌∷◌, ◌++◌, Option, Some, None, All, take, filter, arith, refl, ◌∙◌}
+use Rattle.std.proofs.Common.{◌≡◌, ℕ, zero, suc, Bool, true, false, ◌&&◌, inl, inr, List, [], ◌∷◌, ◌++◌, Option, Some, None, All, take, filter, arith}
+use Rattle.std.proofs.Common.{refl, ◌∙◌}
 use Rattle.std.specs.Prelude.{◌==◌, nat_lt}
 use Rattle.std.specs.List.{list_any, list_all}
 use Rattle.std.proofs.lemmas.Bool.{cases_Bool, or_cases, or_from, or_left, or_right, and_parts, both_ways, false≢true}
@@ -115,14 +116,19 @@ names_found ops doc op e same = All-from_test (λ id. is_covered_insert ops op.d
     each id f = let p : (is_covered_insert ops op.deps op.doc id ≡ true) × (nat_lt id.counter op.id.counter ≡ true) = and_parts (is_covered_insert ops op.deps op.doc id) (nat_lt id.counter op.id.counter) f in
         (rw same at (covered_found ops op.deps op.doc id p.0), below_by_counter id op.id p.1)
 
-pub follows_fits : (ops : List Op) (doc : ℕ) (op : Op) → MayFollow ops op → op.doc ≡ doc → Fits ops doc op
-follows_fits ops doc op h same = record {
+-- an operation of the document that counts up, and names inserts of smaller counters, fits it
+pub fits_by_tests : (ops : List Op) (doc : ℕ) (op : Op) → is_counted_up ops op ≡ true → names_inserts ops op ≡ true
+    → op.doc ≡ doc → Fits ops doc op
+fits_by_tests ops doc op counted names same = record {
   same = same;
-  names = names_found ops doc op h.names same;
-  fresh = is_new_in ops op doc h.counter;
+  names = names_found ops doc op names same;
+  fresh = is_new_in ops op doc counted;
 }
 
-fits_in_turn : (before ops : List Op) (doc : ℕ) → FollowInTurn before ops → FitInTurn before doc ops
+pub follows_fits : (ops : List Op) (doc : ℕ) (op : Op) → MayFollow ops op → op.doc ≡ doc → Fits ops doc op
+follows_fits ops doc op h same = fits_by_tests ops doc op h.counter h.names same
+
+pub fits_in_turn : (before ops : List Op) (doc : ℕ) → FollowInTurn before ops → FitInTurn before doc ops
 fits_in_turn before [] doc h = tt
 fits_in_turn before (op ∷ ops) doc h = (λ same. follows_fits before doc op h.0 same, fits_in_turn (before ++ op ∷ []) ops doc h.1)
 

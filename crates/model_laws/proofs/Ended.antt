@@ -1,5 +1,6 @@
 -- New characters don't come under marks that end just after a character in front of them.
-use Rattle.std.proofs.Common.{subst, ◌≡◌, ℕ, ◌+◌, ◌*◌, ◌≤◌, ◌<◌, true, false, ◌&&◌, ◌⊎◌, inl, inr, List, [], ◌∷◌, ◌++◌, length, Option, Some, None, Contains, arith, ap, ◌∙◌, sym}
+use Rattle.std.proofs.Common.{subst, ◌≡◌, ℕ, ◌+◌, ◌*◌, ◌≤◌, ◌<◌, true, false, ◌&&◌, ◌⊎◌, inl, inr, List, [], ◌∷◌, ◌++◌, length, Option, Some, None}
+use Rattle.std.proofs.Common.{Contains, arith, ap, ◌∙◌, sym}
 use Rattle.std.specs.Prelude.{◌==◌, nat_lt, nat_le}
 use Rattle.std.specs.List.{cons_option}
 use Rattle.std.proofs.lemmas.Bool.{cases_Bool, or_parts, or_left, or_right, and_from, and_right, le-ltb, leb-true, both_ways, false≢true}
@@ -20,13 +21,14 @@ use Rattle.op_model.specs.Walk.{walk}
 use Rattle.op_model.specs.Text.{visible}
 use Rattle.op_model.specs.Marks.{marking_of, markings}
 use Rattle.op_model.specs.Places.{index_of, start_place, end_place, covers}
-use Rattle.op_model.specs.Causality.{clock_of, is_within_limits, FollowInTurn, IsCausallyClosed}
+use Rattle.op_model.specs.Causality.{clock_of, is_within_limits, IsCausallyClosed}
 use Rattle.op_model.specs.Made.{is_end_after, is_marking_up_to, ends_after, origin_of, greatest_counter, numbered, bodies_of, is_inside, made}
-use Rattle.op_model.specs.Placing.{has_id}
-use Rattle.model_laws.specs.Changed.{IsJustBefore}
+use Rattle.op_model.specs.Placing.{has_id, FitInTurn, IsOrderly}
+use Rattle.model_laws.specs.Changed.{IsJustBefore, EndedMarksStay}
 use Rattle.model_laws.proofs.Ids.{same_itself, equal_same}
+use Rattle.model_laws.proofs.Closed.{closed_orderly}
 use Rattle.model_laws.proofs.Chosen.{Has, has_from_contains}
-use Rattle.model_laws.proofs.Makes.{made_follow}
+use Rattle.model_laws.proofs.Makes.{made_fit_in_turn}
 use Rattle.model_laws.proofs.Typed.{IsCursor, cursor_of, walk_typed}
 
 -- where a marking ends, or else here
@@ -105,40 +107,42 @@ ended_in_front : (ops : List Op) (doc at : ℕ) (front rest : List Character) (m
 ended_in_front ops doc at front rest m id k h e (inl t) = k.ended id (ends_found ops doc m id (has_from_contains (markings ops doc) m h) e) t
 ended_in_front ops doc at front rest m id k h e (inr v) = k.shown_last id v
 
-insert_not_covered : (ops : List Op) (replica doc at : ℕ) (added : List ℕ) (m : Marking) (id : Id) (front rest : List Character) (c : Character)
-    → IsCausallyClosed ops → at ≤ length (visible ops doc)
-    → FollowInTurn ops (numbered replica doc (greatest_counter ops + 1) (clock_of ops) (bodies_of ops replica doc (change.Insert at added)))
-    → Contains (markings ops doc) m → m.end ≡ end.To (After id) → IsJustBefore ops doc at id
-    → walk (ops ++ numbered replica doc (greatest_counter ops + 1) (clock_of ops) (bodies_of ops replica doc (change.Insert at added))) doc ≡ front ++ c ∷ rest
-    → has_id (walk ops doc) c.id ≡ false
-    → covers (walk (ops ++ numbered replica doc (greatest_counter ops + 1) (clock_of ops) (bodies_of ops replica doc (change.Insert at added))) doc) (length front) m ≡ false
-insert_not_covered ops replica doc at added m id front rest c h l f k e b p n =
+-- a mark that ends just before the place of an insert covers none of the new characters
+insert_not_covered : (ops : List Op) (replica doc at : ℕ) (added : List ℕ)
+    → IsOrderly ops doc → at ≤ length (visible ops doc)
+    → FitInTurn ops doc (numbered replica doc (greatest_counter ops + 1) (clock_of ops) (bodies_of ops replica doc (change.Insert at added)))
+    → EndedMarksStay ops doc at (numbered replica doc (greatest_counter ops + 1) (clock_of ops) (bodies_of ops replica doc (change.Insert at added)))
+insert_not_covered ops replica doc at added h l f = λ m id front rest c k e b p n.
     let (g, r, q) = cursor_of ops doc at l in
     let (new, w) = walk_typed added ops replica doc (greatest_counter ops + 1) (clock_of ops) (origin_of ops doc at) g r h f (omega arith) q.whole q.last in
     new_not_covered (walk (ops ++ numbered replica doc (greatest_counter ops + 1) (clock_of ops) (bodies_of ops replica doc (change.Insert at added))) doc) (walk ops doc)
     g new r front rest c m id q.whole w p n (ended_in_front ops doc at g r m id q k e b) e
 
 -- the same of a change that is known to be an insert
-change_not_covered : (ops : List Op) (replica doc at : ℕ) (added : List ℕ) (x : Change) (m : Marking) (id : Id) (front rest : List Character) (c : Character)
-    → x ≡ change.Insert at added → IsCausallyClosed ops → is_inside (length (visible ops doc)) x ≡ true
-    → FollowInTurn ops (numbered replica doc (greatest_counter ops + 1) (clock_of ops) (bodies_of ops replica doc x))
-    → Contains (markings ops doc) m → m.end ≡ end.To (After id) → IsJustBefore ops doc at id
-    → walk (ops ++ numbered replica doc (greatest_counter ops + 1) (clock_of ops) (bodies_of ops replica doc x)) doc ≡ front ++ c ∷ rest
-    → has_id (walk ops doc) c.id ≡ false
-    → covers (walk (ops ++ numbered replica doc (greatest_counter ops + 1) (clock_of ops) (bodies_of ops replica doc x)) doc) (length front) m ≡ false
-change_not_covered ops replica doc at added x m id front rest c s h i f k e b p n =
-    let after : Change → List Op = λ y. ops ++ numbered replica doc (greatest_counter ops + 1) (clock_of ops) (bodies_of ops replica doc y) in
-    ap (λ y. covers (walk (after y) doc) (length front) m) s
-    ∙ insert_not_covered ops replica doc at added m id front rest c h
-    (leb-true at (length (visible ops doc)) (ap (λ y. is_inside (length (visible ops doc)) y) (sym s) ∙ i))
-    (subst (λ y. FollowInTurn ops (numbered replica doc (greatest_counter ops + 1) (clock_of ops) (bodies_of ops replica doc y))) s f)
-    k e b (ap (λ y. walk (after y) doc) (sym s) ∙ p) n
+change_not_covered : (ops : List Op) (replica doc at : ℕ) (added : List ℕ) (x : Change)
+    → change.Insert at added ≡ x → IsOrderly ops doc → at ≤ length (visible ops doc)
+    → FitInTurn ops doc (numbered replica doc (greatest_counter ops + 1) (clock_of ops) (bodies_of ops replica doc x))
+    → EndedMarksStay ops doc at (numbered replica doc (greatest_counter ops + 1) (clock_of ops) (bodies_of ops replica doc x))
+change_not_covered ops replica doc at added x s h l = subst
+    (λ y. FitInTurn ops doc (numbered replica doc (greatest_counter ops + 1) (clock_of ops) (bodies_of ops replica doc y))
+    → EndedMarksStay ops doc at (numbered replica doc (greatest_counter ops + 1) (clock_of ops) (bodies_of ops replica doc y)))
+    s (insert_not_covered ops replica doc at added h l)
 
+-- the same of an edit, in an orderly list
+pub orderly_not_covered : (ops : List Op) (replica : ℕ) (e : Edit) (at : ℕ) (added : List ℕ)
+    → IsOrderly ops e.doc → e.change ≡ change.Insert at added → is_inside (length (visible ops e.doc)) e.change ≡ true
+    → EndedMarksStay ops e.doc at (made ops replica e)
+orderly_not_covered ops replica e at added h s i =
+    change_not_covered ops replica e.doc at added e.change (sym s) h
+    (leb-true at (length (visible ops e.doc)) (ap (λ y. is_inside (length (visible ops e.doc)) y) (sym s) ∙ i))
+    (made_fit_in_turn ops replica e)
+
+-- the same of an edit, in a causally closed list, which is orderly
 pub made_not_covered : (ops : List Op) (replica : ℕ) (e : Edit) (at : ℕ) (added : List ℕ) (m : Marking) (id : Id) (front rest : List Character) (c : Character)
     → IsCausallyClosed ops → e.change ≡ change.Insert at added → is_inside (length (visible ops e.doc)) e.change ≡ true
     → is_within_limits (ops ++ made ops replica e) ≡ true
     → Contains (markings ops e.doc) m → m.end ≡ end.To (After id) → IsJustBefore ops e.doc at id
     → walk (ops ++ made ops replica e) e.doc ≡ front ++ c ∷ rest → has_id (walk ops e.doc) c.id ≡ false
     → covers (walk (ops ++ made ops replica e) e.doc) (length front) m ≡ false
-made_not_covered ops replica e at added m id front rest c h s i l k q b p n =
-    change_not_covered ops replica e.doc at added e.change m id front rest c s h i (made_follow ops replica e l) k q b p n
+made_not_covered ops replica e at added m id front rest c h s i l =
+    orderly_not_covered ops replica e at added (closed_orderly ops e.doc h) s i m id front rest c

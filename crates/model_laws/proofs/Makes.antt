@@ -1,5 +1,6 @@
 -- An edit's operations may follow the list one after another, where the limits are kept.
-use Rattle.std.proofs.Common.{◌≡◌, ℕ, zero, suc, ◌+◌, ◌-◌, ◌<◌, Bool, true, false, not, cond, ◌&&◌, inl, inr, List, [], ◌∷◌, ◌++◌, take, drop, map, filter, Option, Some, None, arith, ap, refl, ◌∙◌, sym, append_assoc}
+use Rattle.std.proofs.Common.{◌≡◌, ℕ, zero, suc, ◌+◌, ◌-◌, ◌<◌, Bool, true, false, not, cond, ◌&&◌, inl, inr, List, [], ◌∷◌, ◌++◌, take, drop, map}
+use Rattle.std.proofs.Common.{filter, Option, Some, None, arith, ap, refl, ◌∙◌, sym, append_assoc}
 use Rattle.std.specs.Prelude.{◌==◌}
 use Rattle.std.specs.List.{list_any, list_all}
 use Rattle.std.proofs.lemmas.Bool.{cases_Bool, eq-eqb, and_parts, and_from, or_left, or_right}
@@ -20,12 +21,13 @@ use Rattle.op_model.specs.Walk.{below, is_parent, walk}
 use Rattle.op_model.specs.Text.{is_removed, visible}
 use Rattle.op_model.specs.Marks.{key_of}
 use Rattle.op_model.specs.Causality.{clock_of, optional, named_by, named_by_start, named_by_end, is_within_limits, FollowInTurn, IsCausallyClosed}
-use Rattle.op_model.specs.Made.{behind_visible, first_hidden, tombstones_at, ends_after, last_or, id_at, id_before, origin_of, start_before, start_of, end_before, end_after, end_of, greatest_counter, numbered, insert_bodies, bodies_of, made}
-use Rattle.op_model.specs.Placing.{has_id}
+use Rattle.op_model.specs.Made.{behind_visible, first_hidden, tombstones_at, ends_after, last_or, id_at, id_before, origin_of, start_before, start_of}
+use Rattle.op_model.specs.Made.{end_before, end_after, end_of, greatest_counter, numbered, insert_bodies, bodies_of, made}
+use Rattle.op_model.specs.Placing.{has_id, FitInTurn}
 use Rattle.model_laws.proofs.Ids.{same_itself}
 use Rattle.model_laws.proofs.Closed.{is_insert_at, insert_found}
 use Rattle.model_laws.proofs.Growth.{closed_with}
-use Rattle.model_laws.proofs.Ready.{clock-push, greatest-push, found_insert, AreNamesKnown, follows_by_clock, limits_front}
+use Rattle.model_laws.proofs.Ready.{clock-push, greatest-push, found_insert, AreNamesKnown, follows_by_clock, fits_by_clock, limits_front}
 
 -- the operation of a body after these
 abbrev made_op : List Op → ℕ → ℕ → ℕ → Body → Op
@@ -52,6 +54,21 @@ numbered_follow before replica doc counter clock (b ∷ bs) c g k l =
           (rw (greatest-push before op) (omega arith))
           (rw (← same) at k.1)
           limits,
+    )
+
+-- they fit the document in turn, whatever the limits say
+numbered_fit : (before : List Op) (replica doc counter : ℕ) (clock : List (ℕ × ℕ)) (bs : List Body)
+    → clock ≡ clock_of before → greatest_counter before < counter → AreBodiesKnown before replica doc counter bs
+    → FitInTurn before doc (numbered replica doc counter clock bs)
+numbered_fit before replica doc counter clock [] c g k = tt
+numbered_fit before replica doc counter clock (b ∷ bs) c g k =
+    let op : Op = record { id = record { counter = counter; replica = replica }; doc = doc; deps = clock; body = b } in
+    let same : op ≡ made_op before replica doc counter b = ap (λ es. record { id = record { counter = counter; replica = replica }; doc = doc; deps = es; body = b }) c in (
+      λ here. fits_by_clock before op c g k.0,
+      numbered_fit (before ++ op ∷ []) replica doc (counter + 1) (advanced clock replica) bs
+          (ap (λ es. advanced es replica) c ∙ sym (clock-push before op))
+          (rw (greatest-push before op) (omega arith))
+          (rw (← same) at k.1),
     )
 
 -- what is known stays known
@@ -249,6 +266,11 @@ pub made_follow : (ops : List Op) (replica : ℕ) (e : Edit) → is_within_limit
     → FollowInTurn ops (made ops replica e)
 made_follow ops replica e l =
     numbered_follow ops replica e.doc (greatest_counter ops + 1) (clock_of ops) (bodies_of ops replica e.doc e.change) refl (omega arith) (change_known ops replica e.doc e.change) l
+
+-- they fit the document in turn, whatever the limits say
+pub made_fit_in_turn : (ops : List Op) (replica : ℕ) (e : Edit) → FitInTurn ops e.doc (made ops replica e)
+made_fit_in_turn ops replica e =
+    numbered_fit ops replica e.doc (greatest_counter ops + 1) (clock_of ops) (bodies_of ops replica e.doc e.change) refl (omega arith) (change_known ops replica e.doc e.change)
 
 pub closed_made : (ops : List Op) (replica : ℕ) (e : Edit) → IsCausallyClosed ops
     → is_within_limits (ops ++ made ops replica e) ≡ true → IsCausallyClosed (ops ++ made ops replica e)

@@ -1,8 +1,10 @@
 -- The operations that an edit makes may follow the list.
-use Rattle.std.proofs.Common.{◌≡◌, ℕ, ◌+◌, ◌≤◌, ◌<◌, max, eqb, ltb, Bool, true, false, ◌&&◌, ◌⊎◌, inl, inr, List, [], ◌∷◌, ◌++◌, length, filter, arith, ap, refl, ◌∙◌, sym, append_assoc, append-nil, length-append, take_all}
+use Rattle.std.proofs.Common.{◌≡◌, ℕ, ◌+◌, ◌≤◌, ◌<◌, max, eqb, ltb, Bool, true, false, ◌&&◌, ◌⊎◌, inl, inr, List, [], ◌∷◌, ◌++◌, length, filter}
+use Rattle.std.proofs.Common.{arith, ap, refl, ◌∙◌, sym, append_assoc, append-nil, length-append, take_all}
 use Rattle.std.specs.Prelude.{◌==◌, nat_lt, nat_le}
 use Rattle.std.specs.List.{list_any, list_all}
-use Rattle.std.proofs.lemmas.Bool.{cases_Bool, cases_order, lt-ltb, le-ltb, eq-eqb, eqb-true, ne_eqb, le-leb, and_parts, and_from, or_cases, or_left, or_right, leb-true, false≢true, both_ways}
+use Rattle.std.proofs.lemmas.Bool.{cases_Bool, cases_order, lt-ltb, le-ltb, eq-eqb, eqb-true, ne_eqb, le-leb, and_parts, and_from, or_cases, or_left}
+use Rattle.std.proofs.lemmas.Bool.{or_right, leb-true, false≢true, both_ways}
 use Rattle.std.proofs.lemmas.List.Folds.{list_all-append}
 use Rattle.op_ids.specs.Id.{Id, is_same}
 use Rattle.op_ids.specs.Clock.{count_of, advanced, is_within, is_ready}
@@ -13,12 +15,13 @@ use Rattle.op_model.specs.declared.character.Character.{Character}
 use Rattle.op_model.specs.Characters.{character_of, with_character, characters}
 use Rattle.op_model.specs.Spans.{with_number}
 use Rattle.op_model.specs.Records.{stream_length}
-use Rattle.op_model.specs.Causality.{clock_of, made_by, is_insert, is_covered_insert, documents, is_in_range, has_room, is_within_limits, named_by, MayFollow}
+use Rattle.op_model.specs.Causality.{clock_of, made_by, is_insert, is_covered_insert, documents, is_in_range, has_room, is_within_limits, named_by}
+use Rattle.op_model.specs.Causality.{MayFollow, names_inserts}
 use Rattle.op_model.specs.Made.{greatest_counter}
-use Rattle.op_model.specs.Placing.{has_id}
+use Rattle.op_model.specs.Placing.{has_id, Fits}
 use Rattle.model_laws.proofs.Ids.{same_equal}
 use Rattle.model_laws.proofs.Grow.{has_id-in_order}
-use Rattle.model_laws.proofs.Closed.{is_insert_at}
+use Rattle.model_laws.proofs.Closed.{is_insert_at, fits_by_tests}
 use Rattle.model_laws.proofs.Deciding.{number_swapped}
 use Rattle.model_laws.proofs.Clocks.{advanced_swapped, count_advanced_other}
 
@@ -208,18 +211,30 @@ last_in_range ops op e =
     let l = and_parts (list_all is_in_range ops) (list_all is_in_range (op ∷ [])) (rw (list_all-append is_in_range ops (op ∷ [])) at k.0) in
     (and_parts (is_in_range op) true l.1).0
 
+-- names that are known are covered by the clock of the list, with smaller counters than one above all
+names_by_clock : (ops : List Op) (op : Op) → op.deps ≡ clock_of ops → greatest_counter ops < op.id.counter
+    → AreNamesKnown ops op.doc op.body → names_inserts ops op ≡ true
+names_by_clock ops op d g n =
+    rw d (all_weaker (λ id. has_id (characters ops op.doc) id) (λ id. is_covered_insert ops (clock_of ops) op.doc id && nat_lt id.counter op.id.counter)
+    (λ id e. and_from (is_covered_insert ops (clock_of ops) op.doc id) (nat_lt id.counter op.id.counter) (covered_by_clock ops op.doc id e)
+    (lt-ltb id.counter op.id.counter (omega (arith, counter_within ops op.doc id (found_insert ops op.doc id e))))) (named_by op.body) n)
+
 -- an operation with the clock of the list, a greater counter and known names may follow
 pub follows_by_clock : (ops : List Op) (op : Op) → op.deps ≡ clock_of ops → greatest_counter ops < op.id.counter
     → AreNamesKnown ops op.doc op.body → is_within_limits (ops ++ op ∷ []) ≡ true → MayFollow ops op
 follows_by_clock ops op d g n l = record {
   ready = rw d (ready_by_clock ops op.id.replica);
   counter = counted_up ops op op.id.replica g;
-  names = rw d (all_weaker (λ id. has_id (characters ops op.doc) id) (λ id. is_covered_insert ops (clock_of ops) op.doc id && nat_lt id.counter op.id.counter)
-      (λ id e. and_from (is_covered_insert ops (clock_of ops) op.doc id) (nat_lt id.counter op.id.counter) (covered_by_clock ops op.doc id e)
-      (lt-ltb id.counter op.id.counter (omega (arith, counter_within ops op.doc id (found_insert ops op.doc id e))))) (named_by op.body) n);
+  names = names_by_clock ops op d g n;
   document = range_document op (last_in_range ops op l);
   limits = l;
 }
+
+-- it fits its document, whatever the limits say
+pub fits_by_clock : (ops : List Op) (op : Op) → op.deps ≡ clock_of ops → greatest_counter ops < op.id.counter
+    → AreNamesKnown ops op.doc op.body → Fits ops op.doc op
+fits_by_clock ops op d g n =
+    fits_by_tests ops op.doc op (counted_up ops op op.id.replica g) (names_by_clock ops op d g n) refl
 
 -- a front of a list keeps the limits that the list keeps
 length_advanced : (es : List (ℕ × ℕ)) (r : ℕ) → length es ≤ length (advanced es r)

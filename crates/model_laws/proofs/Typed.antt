@@ -1,5 +1,6 @@
 -- What the operations of an edit do to the text.
-use Rattle.std.proofs.Common.{Bool, ◌≡◌, ℕ, ◌+◌, ◌≤◌, ◌<◌, true, false, not, ◌||◌, ◌&&◌, inl, inr, List, [], ◌∷◌, ◌++◌, length, take, drop, map, filter, Option, Some, None, arith, ap, refl, ◌∙◌, sym, append_assoc, append-nil}
+use Rattle.std.proofs.Common.{Bool, ◌≡◌, ℕ, ◌+◌, ◌≤◌, ◌<◌, true, false, not, ◌||◌, ◌&&◌, inl, inr, List, [], ◌∷◌, ◌++◌, length, take, drop, map}
+use Rattle.std.proofs.Common.{filter, Option, Some, None, arith, ap, refl, ◌∙◌, sym, append_assoc, append-nil}
 use Rattle.std.specs.Prelude.{◌==◌}
 use Rattle.std.specs.List.{list_any}
 use Rattle.std.proofs.lemmas.Bool.{cases_Bool, or_cases, or_left, or_right, eqb-true, eq-eqb, or_from, and_right, false≢true}
@@ -16,15 +17,16 @@ use Rattle.op_model.specs.declared.character.Character.{Character}
 use Rattle.op_model.specs.Characters.{character_of, character_in, characters}
 use Rattle.op_model.specs.Walk.{walk, times}
 use Rattle.op_model.specs.Text.{is_removed, is_removal_of, visible, text}
-use Rattle.op_model.specs.Causality.{clock_of, MayFollow, FollowInTurn, IsCausallyClosed}
-use Rattle.op_model.specs.Made.{id_before, behind_visible, tombstones_at, ends_after, last_or, origin_of, greatest_counter, numbered, insert_bodies, bodies_of}
-use Rattle.op_model.specs.Placing.{has_id, behind_origin, placed, FitInTurn}
+use Rattle.op_model.specs.Causality.{clock_of, FollowInTurn, IsCausallyClosed}
+use Rattle.op_model.specs.Made.{id_before, behind_visible, tombstones_at, ends_after, last_or, origin_of, greatest_counter, numbered, insert_bodies}
+use Rattle.op_model.specs.Made.{bodies_of}
+use Rattle.op_model.specs.Placing.{has_id, behind_origin, placed, Fits, FitInTurn, IsOrderly}
 use Rattle.model_laws.proofs.Ids.{same_equal, below_counters, not_below_greater}
 use Rattle.model_laws.proofs.Count.{times-append}
-use Rattle.model_laws.proofs.Ops.{AreNamed}
-use Rattle.model_laws.proofs.Closed.{closed_orderly, closed_placed}
+use Rattle.model_laws.proofs.Ops.{AreNamed, orderly_placed}
+use Rattle.model_laws.proofs.Closed.{closed_orderly, fits_in_turn}
 use Rattle.model_laws.proofs.Family.{orderly_once}
-use Rattle.model_laws.proofs.Growth.{closed_push, removed-push, or-false}
+use Rattle.model_laws.proofs.Growth.{orderly_push, removed-push, or-false}
 use Rattle.model_laws.proofs.Ready.{found_insert, counter_within, greatest-push}
 use Rattle.model_laws.proofs.Makes.{AreAmong, walk_known}
 use Rattle.model_laws.proofs.Cursor.{last_or-append, HasNoAbove, HasNoAbove-rest, placed_behind, IsFront, front_of, IsKept, kept_of, last_present}
@@ -120,9 +122,9 @@ not_removed_in before (op ∷ ops) doc id h l =
       | inr d ↦ rw d refl
     ]
 
-not_removed : (ops : List Op) (doc : ℕ) (c : Character) → IsCausallyClosed ops → greatest_counter ops < c.id.counter
+not_removed : (ops : List Op) (doc : ℕ) (c : Character) → IsOrderly ops doc → greatest_counter ops < c.id.counter
     → is_removed ops doc c ≡ false
-not_removed ops doc c h l = not_removed_in [] ops doc c.id (closed_orderly ops doc h) l
+not_removed ops doc c h l = not_removed_in [] ops doc c.id h l
 
 -- an operation that removes nothing leaves the tombstones as they are
 pub removed_kept : (ops : List Op) (doc : ℕ) (op : Op) → ((id : Id) → is_removal_of id op.body ≡ false)
@@ -132,22 +134,22 @@ removed_kept ops doc op h c =
     ∙ ap (λ r. is_removed ops doc c || r) (and_right (op.doc == doc) (is_removal_of c.id op.body) (h c.id))
     ∙ or-false (is_removed ops doc c)
 
-pub once_in_front : (ops : List Op) (doc : ℕ) (front rest : List Character) → IsCausallyClosed ops
+pub once_in_front : (ops : List Op) (doc : ℕ) (front rest : List Character) → IsOrderly ops doc
     → walk ops doc ≡ front ++ rest → (id : Id) → times id front ≤ 1
 once_in_front ops doc front rest h w id =
-    let t : times id (front ++ rest) ≤ 1 = rw (ap (λ xs. times id xs) w) at (orderly_once ops doc id (closed_orderly ops doc h)) in
+    let t : times id (front ++ rest) ≤ 1 = rw (ap (λ xs. times id xs) w) at (orderly_once ops doc id h) in
     omega (arith, times-append id front rest)
 
 pub character_here : (doc : ℕ) (op : Op) → op.doc ≡ doc → character_in doc op ≡ character_of op.id op.body
 character_here doc op e = rw (eq-eqb op.doc doc e) refl
 
 -- a new character stands right behind its origin, where this ends the front
-insert_step : (ops : List Op) (doc : ℕ) (op : Op) (c : Character) (front rest : List Character) → IsCausallyClosed ops
-    → MayFollow ops op → character_in doc op ≡ Some c → greatest_counter ops < c.id.counter
+insert_step : (ops : List Op) (doc : ℕ) (op : Op) (c : Character) (front rest : List Character) → IsOrderly ops doc
+    → (op.doc ≡ doc → Fits ops doc op) → character_in doc op ≡ Some c → greatest_counter ops < c.id.counter
     → walk ops doc ≡ front ++ rest → last_or None front ≡ c.origin
     → walk (ops ++ op ∷ []) doc ≡ (front ++ c ∷ []) ++ rest
 insert_step ops doc op c front rest h f e l w o =
-    closed_placed ops doc op h f
+    orderly_placed ops doc op h f
     ∙ ap (λ m. placed m (walk ops doc)) e
     ∙ ap (λ xs. behind_origin c.origin c xs) w
     ∙ ap (λ p. behind_origin p c (front ++ rest)) (sym o)
@@ -159,8 +161,8 @@ shown_new : (ops : List Op) (doc : ℕ) (c : Character) → is_removed ops doc c
 shown_new ops doc c e = rw e refl
 
 typed : (vs : List ℕ) (ops : List Op) (replica doc counter : ℕ) (clock : List (ℕ × ℕ)) (origin : Option Id) (front rest : List Character)
-    → IsCausallyClosed ops
-    → FollowInTurn ops (numbered replica doc counter clock (insert_bodies replica counter origin vs))
+    → IsOrderly ops doc
+    → FitInTurn ops doc (numbered replica doc counter clock (insert_bodies replica counter origin vs))
     → greatest_counter ops < counter → walk ops doc ≡ front ++ rest → last_or None front ≡ origin
     → text (ops ++ numbered replica doc counter clock (insert_bodies replica counter origin vs)) doc ≡ shown ops doc front ++ (vs ++ shown ops doc rest)
 typed [] ops replica doc counter clock origin front rest h f l w o =
@@ -173,7 +175,7 @@ typed (v ∷ vs) ops replica doc counter clock origin front rest h f l w o =
     let same = removed_kept ops doc op (λ i. refl) in
     ap (λ xs. text xs doc) (sym (append_assoc ops (op ∷ []) more))
     ∙ typed vs (ops ++ op ∷ []) replica doc (counter + 1) (advanced clock replica) (Some id) (front ++ c ∷ []) rest
-    (closed_push ops op h f.0) f.1 (rw (greatest-push ops op) (omega arith))
+    (orderly_push ops doc op h f.0) f.1 (rw (greatest-push ops op) (omega arith))
     (insert_step ops doc op c front rest h f.0 (character_here doc op refl) l w o) (last_or-append None front (c ∷ []))
     ∙ ap (λ xs. xs ++ (vs ++ shown (ops ++ op ∷ []) doc rest)) (shown-append (ops ++ op ∷ []) doc front (c ∷ []) ∙ ap (λ xs. shown (ops ++ op ∷ []) doc front ++ xs) (shown_new (ops ++ op ∷ []) doc c (same c ∙ not_removed ops doc c h l)))
     ∙ append_assoc (shown (ops ++ op ∷ []) doc front) (v ∷ []) (vs ++ shown (ops ++ op ∷ []) doc rest)
@@ -182,8 +184,8 @@ typed (v ∷ vs) ops replica doc counter clock origin front rest h f l w o =
 
 -- the walk with the new characters, in one piece behind their origin
 pub walk_typed : (vs : List ℕ) (ops : List Op) (replica doc counter : ℕ) (clock : List (ℕ × ℕ)) (origin : Option Id)
-    (front rest : List Character) → IsCausallyClosed ops
-    → FollowInTurn ops (numbered replica doc counter clock (insert_bodies replica counter origin vs))
+    (front rest : List Character) → IsOrderly ops doc
+    → FitInTurn ops doc (numbered replica doc counter clock (insert_bodies replica counter origin vs))
     → greatest_counter ops < counter → walk ops doc ≡ front ++ rest → last_or None front ≡ origin
     → (new : List Character) × (walk (ops ++ numbered replica doc counter clock (insert_bodies replica counter origin vs)) doc ≡ front ++ (new ++ rest))
 walk_typed [] ops replica doc counter clock origin front rest h f l w o = ([], ap (λ xs. walk xs doc) (append-nil ops) ∙ w)
@@ -193,7 +195,7 @@ walk_typed (v ∷ vs) ops replica doc counter clock origin front rest h f l w o 
     let op : Op = record { id = id; doc = doc; deps = clock; body = body.Insert origin v } in
     let more : List Op = numbered replica doc (counter + 1) (advanced clock replica) (insert_bodies replica (counter + 1) (Some id) vs) in
     let (new, e) = walk_typed vs (ops ++ op ∷ []) replica doc (counter + 1) (advanced clock replica) (Some id) (front ++ c ∷ []) rest
-    (closed_push ops op h f.0) f.1 (rw (greatest-push ops op) (omega arith))
+    (orderly_push ops doc op h f.0) f.1 (rw (greatest-push ops op) (omega arith))
     (insert_step ops doc op c front rest h f.0 (character_here doc op refl) l w o) (last_or-append None front (c ∷ [])) in
     (c ∷ new, ap (λ xs. walk xs doc) (sym (append_assoc ops (op ∷ []) more)) ∙ e ∙ append_assoc front (c ∷ []) (new ++ rest))
 
@@ -204,6 +206,6 @@ pub text_inserted : (ops : List Op) (replica doc at : ℕ) (added : List ℕ) �
     → text (ops ++ numbered replica doc (greatest_counter ops + 1) (clock_of ops) (bodies_of ops replica doc (change.Insert at added))) doc ≡ take at (text ops doc) ++ (added ++ drop at (text ops doc))
 text_inserted ops replica doc at added h l f =
     let (front, rest, k) = cursor_of ops doc at l in
-    typed added ops replica doc (greatest_counter ops + 1) (clock_of ops) (origin_of ops doc at) front rest h f (omega arith) k.whole k.last
+    typed added ops replica doc (greatest_counter ops + 1) (clock_of ops) (origin_of ops doc at) front rest (closed_orderly ops doc h) (fits_in_turn ops _ doc f) (omega arith) k.whole k.last
     ∙ ap (λ xs. xs ++ (added ++ shown ops doc rest)) k.before
     ∙ ap (λ xs. take at (text ops doc) ++ (added ++ xs)) k.behind

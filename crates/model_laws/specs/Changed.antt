@@ -1,13 +1,19 @@
 -- What an edit does to the text that a reader sees, and to the marks that end where it inserts.
-use Rattle.std.specs.Prelude.{◌≡◌, ◌⊎◌, ℕ, ◌+◌, Bool, true, not, ◌&&◌, nat_le, nat_lt, List, ◌++◌, length, take, drop, filter, Some}
+use Rattle.std.specs.Prelude.{◌≡◌, ◌⊎◌, ℕ, ◌+◌, Bool, true, false, not, ◌&&◌, nat_le, nat_lt, List, ◌∷◌, ◌++◌, length, take, drop, filter, Some, Contains}
 use Rattle.op_ids.specs.Id.{Id}
 use Rattle.op_model.specs.declared.op.Op.{Op}
+use Rattle.op_model.specs.declared.anchor.Anchor.TheVariants.{After}
+use Rattle.op_model.specs.declared.anchor.End.TheVariants.{To}
+use Rattle.op_model.specs.declared.marking.Marking.{Marking}
 use Rattle.op_model.specs.declared.edit.Change.{Change}
 use Rattle.op_model.specs.declared.edit.Change.TheVariants.{Insert, Delete, Mark, Unmark}
 use Rattle.op_model.specs.declared.character.Character.{Character}
 use Rattle.op_model.specs.Text.{is_removed, visible}
 use Rattle.op_model.specs.Made.{tombstones_at, id_before}
 use Rattle.op_model.specs.Placing.{has_id}
+use Rattle.op_model.specs.Marks.{markings}
+use Rattle.op_model.specs.Places.{covers}
+use Rattle.op_model.specs.Walk.{walk}
 
 -- the text with the change: an insert puts its characters at an index, a delete leaves out so many from an index on
 abbrev pub changed : List ℕ → Change → List ℕ
@@ -20,6 +26,14 @@ changed text (Unmark from to key) = text
 abbrev pub IsJustBefore : List Op → ℕ → ℕ → Id → Type 0
 IsJustBefore ops doc at id =
     (has_id (tombstones_at ops doc at) id ≡ true) ⊎ (id_before (visible ops doc) at ≡ Some id)
+
+-- the marks that end just before an index of the text stay as long as they are: where one ends just after the character there, or after
+-- one of the tombstones between that and the next character, it covers no character that these operations insert
+abbrev pub EndedMarksStay : List Op → ℕ → ℕ → List Op → Type 0
+EndedMarksStay ops doc at more = (m : Marking) (id : Id) (front rest : List Character) (c : Character)
+    → Contains (markings ops doc) m → m.end ≡ To (After id) → IsJustBefore ops doc at id
+    → walk (ops ++ more) doc ≡ front ++ c ∷ rest → has_id (walk ops doc) c.id ≡ false
+    → covers (walk (ops ++ more) doc) (length front) m ≡ false
 
 -- how many characters the text has in front of what stands behind these
 abbrev pub shown_before : List Op → ℕ → List Character → ℕ

@@ -11,6 +11,7 @@ mod span_shape;
 
 pub use edits::{
     edits_change_the_text, edits_keep_lists_closed, ended_marks_dont_grow, made_ids_are_greater,
+    made_operations_fit,
 };
 pub use marking_edits::edits_mark_what_they_say;
 pub use one_more::{

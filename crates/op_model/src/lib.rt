@@ -16,6 +16,7 @@ mod op;
 mod rising;
 mod span;
 mod text;
+mod ticks;
 mod url;
 
 pub use anchor::{Anchor, End, Start};
@@ -30,4 +31,5 @@ pub use op::{Body, Op};
 pub use rising::insert_rising;
 pub use span::Span;
 pub use text::Text;
+pub use ticks::Ticks;
 pub use url::Url;

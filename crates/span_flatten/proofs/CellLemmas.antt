@@ -4,7 +4,7 @@ use Rattle.std.specs.Prelude.{slice_get}
 use Rattle.char_sequence.specs.declared.cell.Cell.{Cell}
 
 -- one more
-more : (cs : List Cell) (n : ℕ) (c : Cell) → slice_get cs n ≡ Some c → take (suc n) cs ≡ take n cs ++ c ∷ []
+pub more : (cs : List Cell) (n : ℕ) (c : Cell) → slice_get cs n ≡ Some c → take (suc n) cs ≡ take n cs ++ c ∷ []
 more [] n c there = absurd (cc)
 more (x ∷ cs) zero c there = let same : x ≡ c = cc in ap (λ d. d ∷ []) same
 more (x ∷ cs) (suc n) c there = ap (λ rest. x ∷ rest) (more cs n c there)

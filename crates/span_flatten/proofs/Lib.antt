@@ -1,4 +1,9 @@
+pub mod ActiveLemmas
+pub mod BackLemmas
 pub mod CellLemmas
+pub mod HeldLemmas
+pub mod IndexLemmas
+pub mod PassLemmas
 pub mod RunLemmas
 pub mod CoverLemmas
 pub mod FormatLemmas

@@ -12,14 +12,14 @@ use Rattle.span_flatten.specs.Runs.{cell_runs, span_of, spans_of_runs}
 last_first : (front : List Run) (run : Run) → spans_of_runs (front ++ run ∷ []) ≡ span_of run ∷ spans_of_runs front
 last_first front run = ap (λ rs. map span_of rs) (reverse-append front (run ∷ []))
 
-front_and_last : (rs : List Run) (run : Run) → 0 < length rs → run ≡ get_or rs (length rs - 1) run
+pub front_and_last : (rs : List Run) (run : Run) → 0 < length rs → run ≡ get_or rs (length rs - 1) run
     → rs ≡ take (length rs - 1) rs ++ run ∷ []
 front_and_last rs run some is_it =
     let whole : length rs - 1 + 1 ≡ length rs = omega arith in
     sym (take_all (length rs) rs (omega arith)) ∙ ap (λ n. take n rs) (sym whole)
     ∙ take_more rs (length rs - 1) run (omega arith) ∙ ap (λ r. take (length rs - 1) rs ++ r ∷ []) (sym is_it)
 
-front_and_other : (rs : List Run) (other : Run) → 0 < length rs → set rs (length rs - 1) other ≡ take (length rs - 1) rs ++ other ∷ []
+pub front_and_other : (rs : List Run) (other : Run) → 0 < length rs → set rs (length rs - 1) other ≡ take (length rs - 1) rs ++ other ∷ []
 front_and_other rs other some =
     let whole : length rs - 1 + 1 ≡ length rs = omega arith in
     sym (take_all (length rs) (set rs (length rs - 1) other) (let long = length-set rs (length rs - 1) other in omega arith))

@@ -1,27 +1,55 @@
-ghost use Rattle.std.specs.Prelude.{◌≡◌, ℕ, List, map, IfOk};
-ghost use Rattle.char_sequence.specs.Content.{cells_of, Holds};
+ghost use Rattle.std.specs.Prelude.{◌≡◌, ◌+◌, ◌*◌, ◌≤◌, ℕ, List};
+ghost use Rattle.std.specs.Prelude.{Some, map, take, length, IfOk, OnOk};
+ghost use Rattle.char_sequence.specs.Chunks.{cells_of, size_at};
+ghost use Rattle.char_sequence.specs.Content.{Holds};
 ghost use Rattle.mark_anchors.specs.Keeping.{AreMarksOf};
 ghost use Rattle.op_model.specs.declared.op.Op.{Op};
 ghost use Rattle.op_model.specs.Spans.{spans as spans_of_ops};
 ghost use Rattle.span_flatten.specs.Covering.{range_of};
+ghost use Rattle.span_flatten.specs.Reading.{offset};
 ghost use Rattle.span_flatten.specs.Runs.{cell_spans, spans_of_runs};
 
 use crate::covering::covering;
 use crate::formatting::marks_of;
 use crate::range::{Range, ranges};
 use crate::run::{Run, put_before, spans_of};
-use char_sequence::{Cell, Sequence};
+use crate::sweep::Sweep;
+use char_sequence::{Cell, ChunkSize, Sequence};
 use mark_anchors::Anchors;
-use op_model::{Marking, Span};
+use op_model::{Marking, Span, Ticks};
 use std::alloc::{AllocError, Global};
 
 /// The greatest runs of visible characters of a document with equal marks. An error is want of
-/// memory (1). Costs what `spans_slow` does.
+/// memory (1). Costs what `spans_in` does.
 pub fn spans(sequence: &Sequence, anchors: &Anchors) -> Result<Vec<Span>, AllocError>
     ensures { IfOk result (λ found. (ops : List Op) (doc : ℕ) → Holds sequence.now ops doc
         → AreMarksOf anchors.now ops doc → found.items ≡ spans_of_ops ops doc) }
 {
-    spans_slow(sequence, anchors)
+    spans_in(sequence, anchors, &mut Ticks::new())
+}
+
+/// The same, in one pass: two ticks at the most for each character, tombstones counted, and one at
+/// the end. An error is want of memory (1). For each character a search by halves among the mark
+/// operations, for each edge of one a step for each that has begun and not ended, and where these
+/// changed, the square of them for the marks.
+pub fn spans_in(
+    sequence: &Sequence,
+    anchors: &Anchors,
+    ticks: &mut Ticks,
+) -> Result<Vec<Span>, AllocError>
+    ensures spans { IfOk result (λ found. (ops : List Op) (doc : ℕ) → Holds sequence.now ops doc
+        → AreMarksOf anchors.now ops doc → found.items ≡ spans_of_ops ops doc) }
+    ensures ticks { ticks.new ≤ ticks.old + (2 * length (cells_of sequence.now) + 1) }
+{
+    let alloc = sequence.allocator();
+    let mut sweep = Sweep::new(alloc, anchors.in_order())?;
+    let mut i = 0;
+    sequence.are_sized();
+    while let Some(size) = sequence.chunk(i, ticks) {
+        sweep.pass_chunk(sequence, anchors, i, size, ticks)?;
+        i += 1;
+    }
+    sweep.spans(alloc)
 }
 
 /// The same, mark operation by mark operation. An error is want of memory (1). A copy of the
@@ -44,11 +72,37 @@ pub fn spans_slow(sequence: &Sequence, anchors: &Anchors) -> Result<Vec<Span>, A
 fn cells(alloc: Global, sequence: &Sequence) -> Result<Vec<Cell>, AllocError>
     ensures { IfOk result (λ found. found.items ≡ cells_of sequence.now) }
 {
+    let mut ticks = Ticks::new();
     let mut found = Vec::new(alloc);
-    while let Some(cell) = sequence.cell(found.len()) {
-        found.push(cell)?;
+    let mut i = 0;
+    sequence.are_sized();
+    while let Some(size) = sequence.chunk(i, &mut ticks) {
+        add_chunk(sequence, i, size, &mut found)?;
+        i += 1;
     }
     Ok(found)
+}
+
+/// The characters of one more chunk, behind those before it. An error is want of memory (1).
+fn add_chunk(
+    sequence: &Sequence,
+    i: usize,
+    size: ChunkSize,
+    found: &mut Vec<Cell>,
+) -> Result<(), AllocError>
+    requires there { size_at sequence.now i ≡ Some size }
+    requires before { found.old.items ≡ take (offset sequence.now i) (cells_of sequence.now) }
+    ensures { OnOk result (found.new.items
+        ≡ take (offset sequence.now (i + 1)) (cells_of sequence.now)) }
+{
+    let mut ticks = Ticks::new();
+    for j in 0..size.cells {
+        match sequence.cell(i, j, &mut ticks) {
+            Some(cell) => found.push(cell)?,
+            None => unreachable!(),
+        }
+    }
+    Ok(())
 }
 
 /// The greatest runs of the visible ones among these cells, the last one first, where the cells

@@ -1,13 +1,15 @@
 //! The spans of a document: the greatest runs of its visible characters with equal marks.
 #![tactic(auto)]
 
+mod active;
 mod covering;
 mod flatten;
 mod formatting;
 mod range;
 mod run;
+mod sweep;
 
-pub use flatten::{spans, spans_slow};
+pub use flatten::{spans, spans_in, spans_slow};
 
 #[cfg(test)]
 mod tests;

@@ -1,5 +1,6 @@
 use Rattle.std.proofs.Common.{[], ◌∷◌, refl}
 use Rattle.std.proofs.lemmas.Result.{on_ok_weaker}
+use Rattle.char_sequence.specs.Chunks.{cells_of}
 use Rattle.char_sequence.proofs.HoldsLemmas.{holds_marking}
 use Rattle.mark_anchors.proofs.KeepLemmas.{insert_marks_none, kept_with, remove_marks_none}
 use Rattle.doc_core.proofs.apply.take.Goals as goal
@@ -23,11 +24,11 @@ returns-in-Remove-clause-taken c =
 pub returns-in-AddMark-clause-taken : goal.returns-in-AddMark-clause-taken
 returns-in-AddMark-clause-taken c =
     on_ok_weaker c.apply_mark.result (λ takes. λ ops doc holds marks fits.
-    (holds_marking c.args.sequence.now c.args.op.now (rw c.in-AddMark.is refl) ops doc holds fits, takes ops doc holds marks fits))
+    (holds_marking (cells_of c.args.sequence.now) c.args.op.now (rw c.in-AddMark.is refl) ops doc holds fits, takes ops doc holds marks fits))
     c.apply_mark.ensures.taken
 
 pub returns-in-RemoveMark-clause-taken : goal.returns-in-RemoveMark-clause-taken
 returns-in-RemoveMark-clause-taken c =
     on_ok_weaker c.apply_mark-in-RemoveMark.result (λ takes. λ ops doc holds marks fits.
-    (holds_marking c.args.sequence.now c.args.op.now (rw c.in-RemoveMark.is refl) ops doc holds fits, takes ops doc holds marks fits))
+    (holds_marking (cells_of c.args.sequence.now) c.args.op.now (rw c.in-RemoveMark.is refl) ops doc holds fits, takes ops doc holds marks fits))
     c.apply_mark-in-RemoveMark.ensures.taken

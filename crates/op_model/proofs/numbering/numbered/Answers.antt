@@ -1,4 +1,4 @@
-use Rattle.std.proofs.Common.{rules, suc, ◌≡◌, ◌+◌, ◌<◌, true, drop, length, ap, Err, ◌∙◌}
+use Rattle.std.proofs.Common.{rules, suc, ◌≡◌, ◌+◌, ◌<◌, true, drop, length, ap, Err}
 use Rattle.std.proofs.lemmas.Bool.{both_ways}
 use Rattle.std.proofs.lemmas.List.{drop_more}
 use Rattle.op_ids.specs.Clock.{advanced, advanced_by, is_clock}

@@ -1,4 +1,5 @@
 use Rattle.std.proofs.Common.{◌<◌, length, sym, ◌∙◌, ap, arith}
+use Rattle.char_sequence.specs.Chunks.{cells_of}
 use Rattle.char_sequence.proofs.WovenLemmas.{reads_all, reads_none, reads_one}
 use Rattle.char_sequence.proofs.weave.Weave.sequence.Goals as goal
 use Rattle.char_sequence.proofs.weave.Weave.sequence.Goals.{in-None, in-Some+in_ok-push-in-Some}
@@ -13,16 +14,17 @@ loop-preserved c =
     elim c.match-cell_at.branch [
       | in-Some+in_ok-push-in-Some w ↦
           reads_one c.self.inside.cells.items c.self.inside.next.items c.loop.at long c.loop.counter c.next_of-at.result w.in-Some.cell
-          c.loop.cells.items c.match-cell_at.cells.items _ within next (sym read ∙ w.in-Some.is)
-          (ap (λ v. v.items) w.cells-is ∙ w.in_ok-push-in-Some.ensures.items) c.loop.invariant
+          (cells_of c.loop.chunks) (cells_of c.match-cell_at.chunks) _ within next (sym read ∙ w.in-Some.is)
+          (ap cells_of w.chunks-is ∙ w.in_ok-push-in-Some.ensures.put) c.loop.invariant
       | in-None w ↦
           reads_none c.self.inside.cells.items c.self.inside.next.items c.loop.at long c.loop.counter c.next_of-at.result
-          c.loop.cells.items c.match-cell_at.cells.items _ within next (sym read ∙ w.in-None.is) (ap (λ v. v.items) w.cells-is) c.loop.invariant
+          (cells_of c.loop.chunks) (cells_of c.match-cell_at.chunks) _ within next (sym read ∙ w.in-None.is) (ap cells_of w.chunks-is)
+          c.loop.invariant
     ]
 
 pub returns : goal.returns
-returns c =
-    c.from_cells.ensures
-    ∙ (reads_all c.self.inside.cells.items c.self.inside.next.items c.loop.at _ c.loop.counter c.loop.cells.items _
+returns c = λ ops doc holds.
+    let all = reads_all c.self.inside.cells.items c.self.inside.next.items c.loop.at _ c.loop.counter (cells_of c.loop.chunks) _
     (let out = c.loop-test.false in let long = c.self.inside.cells.ok.0 in let end = c.len-end.ensures in omega arith)
-    c.loop.invariant ∙ c.self.view_is)
+    c.loop.invariant ∙ c.self.view_is in
+    rw (sym all) at holds

@@ -4,6 +4,7 @@ use Rattle.mark_anchors.proofs.KeepLemmas.{kept_more}
 use Rattle.mark_anchors.proofs.anchors.Anchors.apply_mark.Goals as goal
 
 pub returns-clause-taken : goal.returns-clause-taken
-returns-clause-taken c = λ ops doc holds are fits.
-    kept_more c.args.self.now _ ops doc c.args.op.now
-    (c.in_ok-keep.ensures.taken ∙ ap (λ kept. kept ++ markings (c.args.op.now ∷ []) c.args.op.now.doc) c.self.view_is) are fits
+returns-clause-taken c = λ ops doc holds are fits. record {
+  all = kept_more c.args.self.now.markings c.keep.new.markings.items ops doc c.args.op.now
+      (c.in_ok-keep.ensures.taken ∙ ap (λ kept. kept.markings ++ markings (c.args.op.now ∷ []) c.args.op.now.doc) c.self.view_is) are.all fits;
+}

@@ -1,0 +1,65 @@
+use Rattle.std.proofs.Common.{◌≤◌, ◌<◌, ◌+◌, ◌-◌, [], length, drop, get_or, sym, ◌∙◌, ap, arith}
+use Rattle.char_sequence.specs.Cells.{shown, shown_at}
+use Rattle.char_sequence.specs.Chunks.{cells_of}
+use Rattle.char_sequence.proofs.PlaceLemmas.{few_in_chunk}
+use Rattle.char_sequence.proofs.SizeLemmas.{few_chunks, in_chunk, next_chunk, none_read, past_all, past_chunk, size_read}
+use Rattle.char_sequence.proofs.shown.shown.Goals as goal
+
+pub shown_in-requires : goal.shown_in-requires
+shown_in-requires c = (size_read c.args.chunks.now c.loop-size.i c.in-Some.size (sym c.chunk.ensures.size ∙ c.in-Some.is)).1
+
+pub returns-then-left-size-clause-found : goal.returns-then-left-size-clause-found
+returns-then-left-size-clause-found c =
+    let read = size_read c.args.chunks.now c.loop-size.i c.in-Some.size (sym c.chunk.ensures.size ∙ c.in-Some.is) in
+    let few : c.loop-size.left < length (shown (get_or c.args.chunks.now c.loop-size.i [])) = (let here = c.if-left-size.true in let is = read.2 in omega arith) in
+    c.shown_in.ensures.found ∙ sym (c.loop-size.invariant.found ∙ in_chunk c.args.chunks.now c.loop-size.i c.loop-size.left few)
+
+pub returns-then-left-size-clause-ticks : goal.returns-then-left-size-clause-ticks
+returns-then-left-size-clause-ticks c =
+    let read = size_read c.args.chunks.now c.loop-size.i c.in-Some.size (sym c.chunk.ensures.size ∙ c.in-Some.is) in
+    let here = read.0 in
+    let few = few_chunks c.args.chunks.now c.are_sized.ensures.chunks in
+    let so_far = c.loop-size.invariant.ticks in
+    let one = c.chunk.ensures.tick in
+    let more = c.shown_in.ensures.ticks in
+    let cells = read.1 in
+    let small = few_in_chunk c.args.chunks.now c.loop-size.i c.are_sized.ensures.chunks.sized in
+    omega arith
+
+pub overflow_add-i : goal.overflow_add-i
+overflow_add-i c =
+    let next = next_chunk c.args.chunks.now c.loop-size.i c.in-Some.size c.are_sized.ensures.many (sym c.chunk.ensures.size ∙ c.in-Some.is) in
+    let fits = next.1 in
+    omega arith
+
+pub loop-size-smaller : goal.loop-size-smaller
+loop-size-smaller c =
+    let here = next_chunk c.args.chunks.now c.loop-size.i c.in-Some.size c.are_sized.ensures.many (sym c.chunk.ensures.size ∙ c.in-Some.is) in
+    let more = here.0 in
+    omega arith
+
+pub loop-size-preserved : goal.loop-size-preserved
+loop-size-preserved c =
+    let read = size_read c.args.chunks.now c.loop-size.i c.in-Some.size (sym c.chunk.ensures.size ∙ c.in-Some.is) in
+    let past : length (shown (get_or c.args.chunks.now c.loop-size.i [])) ≤ c.loop-size.left =
+    (let out = c.if-left-size.false in let is = read.2 in omega arith) in
+    record {
+      found = c.loop-size.invariant.found
+          ∙ (past_chunk c.args.chunks.now c.loop-size.i c.loop-size.left past
+          ∙ ap (λ n. shown_at (cells_of (drop (c.loop-size.i + 1) c.args.chunks.now)) (c.loop-size.left - n)) (sym read.2));
+      here = let here = read.0 in omega arith;
+      ticks = let tick = c.chunk.ensures.tick in let so_far = c.loop-size.invariant.ticks in omega arith;
+    }
+
+pub returns-clause-found : goal.returns-clause-found
+returns-clause-found c =
+    let end = none_read c.args.chunks.now c.loop-size.i (sym c.chunk.ensures.size ∙ c.in_default.is) in
+    sym (c.loop-size.invariant.found ∙ ap (λ cs. shown_at cs c.loop-size.left) (past_all c.args.chunks.now c.loop-size.i end))
+
+pub returns-clause-ticks : goal.returns-clause-ticks
+returns-clause-ticks c =
+    let few = few_chunks c.args.chunks.now c.are_sized.ensures.chunks in
+    let so_far = c.loop-size.invariant.ticks in
+    let here = c.loop-size.invariant.here in
+    let one = c.chunk.ensures.tick in
+    omega arith

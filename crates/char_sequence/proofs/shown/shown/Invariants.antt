@@ -1,0 +1,14 @@
+use Rattle.std.proofs.Common.{◌≡◌, ◌≤◌, ◌+◌, ◌-◌, length, drop}
+use Rattle.char_sequence.specs.Cells.{shown_at}
+use Rattle.char_sequence.specs.Chunks.{cells_of}
+use Rattle.char_sequence.proofs.shown.shown.Given as goal
+
+abbrev pub invariant-loop-size : goal.invariant-loop-size
+invariant-loop-size l = record {
+  found : shown_at (cells_of l.chunks) l.k ≡ shown_at (cells_of (drop l.i l.chunks)) l.left;
+  here : l.i ≤ length l.chunks;
+  ticks : l.ticks ≤ l.fn.ticks + l.i;
+}
+
+abbrev pub decreases-loop-size : goal.decreases-loop-size
+decreases-loop-size l = length l.chunks - l.i

@@ -1,0 +1,121 @@
+//! A chunk of cells.
+ghost use Rattle.std.specs.Prelude.{◌≡◌, ◌++◌, ◌∷◌, ◌<◌, ◌≤◌, length, take, drop};
+ghost use Rattle.std.specs.Prelude.{slice_get, slice_set, count_by, not, true};
+ghost use Rattle.std.specs.Prelude.{Some, IfOk, OnOk, OnErr};
+ghost use Rattle.char_sequence.specs.declared.cell.Cell as cell;
+ghost use Rattle.char_sequence.specs.Cells.{shown as shown_of};
+
+use crate::cell::Cell;
+use std::alloc::{AllocError, Global};
+use std::marker::Model;
+
+/// The most cells of a chunk.
+const MOST: usize = 512;
+
+/// From 1 to 512 cells in the order of the text, and how many of them a reader sees.
+#[derive(Debug, Drop)]
+pub struct Chunk {
+    cells: Vec<Cell>,
+    shown: usize,
+}
+
+impl Model for Chunk {
+    ghost use Rattle.std.specs.Prelude.{List};
+    ghost use Rattle.char_sequence.specs.declared.cell.Cell.{Cell};
+
+    ghost Value = { List Cell };
+
+    ghost use Rattle.char_sequence.specs.Chunks.{IsChunk};
+
+    ghost view = { λ c. c.cells.items };
+
+    ghost invariant = { λ c. IsChunk c.cells.items c.shown };
+}
+
+impl Chunk {
+    /// A chunk of these cells, from 1 to 512 of them. An error is want of memory (1).
+    pub fn of(alloc: Global, cells: &[Cell]) -> Result<Chunk, AllocError>
+        requires some { 0 < length cells.now }
+        requires few { length cells.now ≤ 512 }
+        ensures { IfOk result (λ chunk. chunk ≡ cells.now) }
+    {
+        Ok(Chunk {
+            cells: Vec::from_slice(alloc, cells)?,
+            shown: shown_in(cells),
+        })
+    }
+
+    /// All its cells. Constant.
+    pub fn cells(&self) -> &[Cell]
+        ensures cells { result.now ≡ self.now }
+        ensures few { length result.now ≤ 512 }
+    {
+        let _ = self.shown;
+        self.cells.as_slice()
+    }
+
+    /// A cell of it, or `None` past the last one. Constant.
+    pub fn cell(&self, j: usize) -> Option<Cell>
+        ensures { result ≡ slice_get self.now j }
+    {
+        self.cells.get(j).copied()
+    }
+
+    /// How many cells it has, tombstones too. Constant.
+    pub fn len(&self) -> usize
+        ensures { result ≡ length self.now }
+    {
+        self.cells.len()
+    }
+
+    /// How many of its cells a reader sees. Constant.
+    pub fn shown(&self) -> usize
+        ensures { result ≡ length (shown_of self.now) }
+    {
+        self.shown
+    }
+
+    /// Whether it can take one cell more. Constant.
+    pub fn has_room(&self) -> bool
+        ensures { result ≡ true → length self.now < 512 }
+    {
+        self.cells.len() < MOST
+    }
+
+    /// Puts a cell before its j-th cell, or behind its last one. An error is want of memory (1),
+    /// and leaves it as it was. The cells behind move.
+    pub fn insert(&mut self, j: usize, cell: Cell) -> Result<(), AllocError>
+        requires place { j ≤ length self.old }
+        requires room { length self.old < 512 }
+        ensures put { OnOk result (self.new ≡ take j self.old ++ cell ∷ drop j self.old) }
+        ensures err { OnErr result (self.new ≡ self.old) }
+    {
+        let is_removed = cell.is_removed;
+        self.cells.insert(j, cell)?;
+        if !is_removed {
+            self.shown += 1;
+        }
+        Ok(())
+    }
+
+    /// Makes a cell a tombstone. Constant.
+    pub fn remove(&mut self, j: usize)
+        requires { j < length self.old }
+        ensures removed { (c : cell.Cell) → slice_get self.old j ≡ Some c
+            → self.new ≡ slice_set self.old j (record c { is_removed = true }) }
+        ensures len { length self.new ≡ length self.old }
+    {
+        let cell = &mut self.cells[j];
+        if !cell.is_removed {
+            cell.is_removed = true;
+            self.shown -= 1;
+        }
+    }
+}
+
+/// How many of these cells a reader sees. A step for each.
+fn shown_in(cells: &[Cell]) -> usize
+    ensures { result ≡ count_by (λ c. not c.is_removed) cells.now }
+{
+    cells.iter().filter(|cell| !cell.is_removed).count()
+}

@@ -1,0 +1,64 @@
+//! Cells that are cut into chunks.
+ghost use Rattle.std.specs.Prelude.{◌≡◌, ◌≤◌, ◌+◌, ◌++◌, [], length, take, drop};
+ghost use Rattle.std.specs.Prelude.{IfOk, OnOk, OnErr};
+ghost use Rattle.std.proofs.Common.{get_or};
+ghost use Rattle.char_sequence.specs.Chunks.{cells_of, AreChunks, AreSized};
+
+use crate::cell::Cell;
+use crate::chunk::Chunk;
+use std::alloc::{AllocError, Global};
+
+/// The cells of a chunk, with a run of cells before the j-th one. An error is want of memory (1).
+pub fn joined(alloc: Global, old: &[Cell], j: usize, run: &[Cell]) -> Result<Vec<Cell>, AllocError>
+    requires { j ≤ length old.now }
+    ensures { IfOk result (λ all. all.items ≡ take j old.now ++ (run.now ++ drop j old.now)) }
+{
+    let mut all = Vec::with_capacity(alloc, old.len() + run.len())?;
+    all.extend_from_slice(&old[..j])?;
+    all.extend_from_slice(run)?;
+    all.extend_from_slice(&old[j..])?;
+    Ok(all)
+}
+
+/// Chunks of these cells: one, if they are at most 512; else of 256 each, but the last one, which
+/// has from 257 to 512. An error is want of memory (1).
+pub fn cut(alloc: Global, cells: &[Cell]) -> Result<Vec<Chunk>, AllocError>
+    ensures cells { IfOk result (λ chunks. cells_of chunks.items ≡ cells.now) }
+    ensures chunks { IfOk result (λ chunks. AreChunks chunks.items) }
+    ensures halved { IfOk result (λ chunks. 256 ≤ length cells.now → AreSized 256 chunks.items) }
+{
+    let mut chunks = Vec::new(alloc);
+    let mut from = 0;
+    while cells.len() - from > 512 {
+        chunks.push(Chunk::of(alloc, &cells[from..from + 256])?)?;
+        from += 256;
+    }
+    if from == cells.len() {
+        return Ok(chunks);
+    }
+    chunks.push(Chunk::of(alloc, &cells[from..])?)?;
+    Ok(chunks)
+}
+
+/// The cells of the i-th chunk, or none past the last one. Constant.
+pub fn cells_at(chunks: &[Chunk], i: usize) -> &[Cell]
+    ensures { result.now ≡ get_or chunks.now i [] }
+{
+    match chunks.get(i) {
+        Some(chunk) => chunk.cells(),
+        None => &[],
+    }
+}
+
+/// Puts these chunks in place of the i-th one, or behind all where there is no i-th. An error is
+/// want of memory (1), and leaves all as it was. The chunks behind move.
+pub fn replace(chunks: &mut Vec<Chunk>, i: usize, by: Vec<Chunk>) -> Result<(), AllocError>
+    requires { i ≤ length chunks.old.items }
+    ensures put { OnOk result (chunks.new.items
+        ≡ take i chunks.old.items ++ (by.items ++ drop (i + 1) chunks.old.items)) }
+    ensures err { OnErr result (chunks.new.items ≡ chunks.old.items) }
+{
+    let end = if i < chunks.len() { i + 1 } else { i };
+    chunks.splice(i..end, by)?;
+    Ok(())
+}

@@ -1,0 +1,108 @@
+//! Cells one after another.
+ghost use Rattle.std.specs.Prelude.{◌≡◌, ◌++◌, ◌∷◌, [], MatchOption, IfOk, OnOk};
+ghost use Rattle.char_sequence.specs.Cells.{first_removed, shown_values};
+ghost use Rattle.char_sequence.specs.Chunks.{cells_of, from as from_of, IsPlace};
+ghost use Rattle.char_sequence.specs.Content.{last_ended as last_ended_of};
+ghost use Rattle.char_sequence.specs.Reading.{Passes};
+
+use crate::cell::Cell;
+use crate::chunks::Chunks;
+use crate::ends_after::EndsAfter;
+use crate::place::Place;
+use op_ids::OpId;
+use op_model::Ticks;
+use std::alloc::AllocError;
+
+/// The first cell from a place on, and the place behind it; `None` at the end.
+pub fn next(chunks: &Chunks, place: &Place) -> Option<(Cell, Place)>
+    requires { IsPlace chunks.now place.now.chunk place.now.at }
+    ensures { MatchOption result (from_of chunks.now place.now.chunk place.now.at ≡ [])
+        (λ found. Passes chunks.now place.now found.0 found.1) }
+{
+    chunks.are_sized();
+    let ticks = &mut Ticks::new();
+    if let Some(cell) = chunks.cell(place.chunk, place.at, ticks) {
+        let behind = Place {
+            chunk: place.chunk,
+            at: place.at + 1,
+        };
+        return Some((cell, behind));
+    }
+    match chunks.cell(place.chunk + 1, 0, ticks) {
+        Some(cell) => Some((
+            cell,
+            Place {
+                chunk: place.chunk + 1,
+                at: 1,
+            },
+        )),
+        None => None,
+    }
+}
+
+/// The ids of the tombstones from a place on. An error is want of memory (1).
+pub fn tombstones(chunks: &Chunks, from: &Place) -> Result<Vec<OpId>, AllocError>
+    requires { IsPlace chunks.now from.now.chunk from.now.at }
+    ensures { IfOk result (λ found. found.items
+        ≡ first_removed (from_of chunks.now from.now.chunk from.now.at)) }
+{
+    let mut found = Vec::new(chunks.allocator());
+    let mut at = *from;
+    while let Some((cell, behind)) = next(chunks, &at) {
+        if !cell.is_removed {
+            return Ok(found);
+        }
+        found.push(cell.id)?;
+        at = behind;
+    }
+    Ok(found)
+}
+
+/// Of the tombstones from a place on the last one that a mark ends just after, or else the
+/// character before them.
+pub fn last_ended<M: EndsAfter>(
+    chunks: &Chunks,
+    from: &Place,
+    before: Option<OpId>,
+    marks: &M,
+) -> Option<OpId>
+    requires { IsPlace chunks.now from.now.chunk from.now.at }
+    ensures { result ≡ last_ended_of (M.ends_after marks.now) before
+        (first_removed (from_of chunks.now from.now.chunk from.now.at)) }
+{
+    let mut last = before;
+    let mut at = *from;
+    while let Some((cell, behind)) = next(chunks, &at) {
+        if !cell.is_removed {
+            return last;
+        }
+        if marks.ends_after(cell.id) {
+            last = Some(cell.id);
+        }
+        at = behind;
+    }
+    last
+}
+
+/// The values of the cells that a reader sees. An error is want of memory (1).
+pub fn values(chunks: &Chunks) -> Result<Vec<char>, AllocError>
+    ensures { IfOk result (λ found. found.items ≡ shown_values (cells_of chunks.now)) }
+{
+    let mut found = Vec::new(chunks.allocator());
+    let mut at = Place { chunk: 0, at: 0 };
+    while let Some((cell, behind)) = next(chunks, &at) {
+        push_value(&mut found, &cell)?;
+        at = behind;
+    }
+    Ok(found)
+}
+
+/// Adds the value of a cell, if a reader sees it. An error is want of memory (1).
+fn push_value(found: &mut Vec<char>, cell: &Cell) -> Result<(), AllocError>
+    ensures { OnOk result (found.new.items ≡ found.old.items ++ shown_values (cell.now ∷ [])) }
+{
+    if !cell.is_removed {
+        found.push(cell.value)?;
+    }
+    Ok(())
+}

@@ -1,0 +1,14 @@
+use Rattle.std.proofs.Common.{sym}
+use Rattle.doc_core.specs.Drafting.{IsDraftOf}
+use Rattle.doc_core.proofs.draft.Draft.finish.Goals as goal
+
+pub returns-clause-stands : goal.returns-clause-stands
+returns-clause-stands c = λ ops draft.
+    let mine : IsDraftOf _ ops = rw (sym c.self.view_is) at draft in
+    let holds = c.in_ok-sequence.ensures ops c.self.inside.doc mine.characters in
+    let same = c.note_all.ensures in
+    record {
+      characters = rw same holds;
+      marks = c.in_ok-anchors.ensures ops c.self.inside.doc (rw same holds) mine.markings;
+      rev = mine.rev;
+    }

@@ -1,0 +1,19 @@
+use Rattle.std.proofs.Common.{map, sym, ◌∙◌}
+use Rattle.std.proofs.lemmas.Result.{on_ok_weaker}
+use Rattle.span_flatten.specs.Formatting.{marks_in}
+use Rattle.span_flatten.specs.Sweeping.{forward_span, picked}
+use Rattle.span_flatten.proofs.BackLemmas.{back_joined, last_extended, last_same}
+use Rattle.span_flatten.proofs.sweep.Sweep.show.Goals as goal
+
+pub returns-then-not-self-clause-shown : goal.returns-then-not-self-clause-shown
+returns-then-not-self-clause-shown c =
+    let marks = marks_in (picked c.args.markings.now c.args.self.now.active.set.items) in
+    let before = map forward_span c.args.self.now.runs.items in
+    on_ok_weaker c.join.result (λ is. λ fresh. is ∙ sym (back_joined c.args.value marks before (last_same marks before (fresh c.if-not-self.true))))
+    c.join.ensures
+
+pub returns-then-not-self-clause-fresh : goal.returns-then-not-self-clause-fresh
+returns-then-not-self-clause-fresh c =
+    let marks = marks_in (picked c.args.markings.now c.args.self.now.active.set.items) in
+    let before = map forward_span c.args.self.now.runs.items in
+    on_ok_weaker c.join.result (λ is. λ fresh. λ e. rw is (last_extended c.args.value marks before (fresh e))) c.join.ensures

@@ -1,0 +1,197 @@
+ghost use Rattle.std.specs.Prelude.{◌≡◌, ◌+◌, ◌≤◌, ℕ, List, []};
+ghost use Rattle.std.specs.Prelude.{Some, false, map, slice_get, IfOk, OnOk};
+ghost use Rattle.std.specs.Prelude.{if◌then◌else◌};
+ghost use Rattle.char_sequence.specs.declared.cell.Cell as stored;
+ghost use Rattle.char_sequence.specs.Chunks.{cells_of, size_at};
+ghost use Rattle.mark_anchors.specs.Keeping.{in_order};
+ghost use Rattle.span_flatten.specs.Formatting.{marks_in};
+ghost use Rattle.span_flatten.specs.Reading.{offset};
+ghost use Rattle.span_flatten.specs.Sweeping.{forward_span, picked, with_back};
+ghost use Rattle.span_flatten.specs.Sweeping.{extended, IsFresh, IsLast, IsSwept};
+ghost use Rattle.span_flatten.specs.Sweeping.{is_last_same as is_last_same_of};
+
+use crate::active::Active;
+use crate::formatting::marks_of;
+use crate::run::Run;
+use char_sequence::{Cell, ChunkSize, Sequence};
+use mark_anchors::{Anchors, Edge};
+use op_model::{Marking, Marks, Span, Text, Ticks};
+use std::alloc::{AllocError, Global};
+
+/// What a pass over the characters of a document knows so far.
+#[derive(Debug, Drop)]
+pub struct Sweep {
+    /// The mark operations that have begun and not ended.
+    pub active: Active,
+    /// The runs so far, in the order of the text.
+    pub runs: Vec<Run>,
+    /// Whether mark operations began or ended since the last visible character.
+    pub is_changed: bool,
+}
+
+impl Sweep {
+    /// Before the first character. An error is want of memory (1). Linear in the mark operations.
+    pub fn new(alloc: Global, markings: &[Marking]) -> Result<Sweep, AllocError>
+        ensures { IfOk result (λ s. (cells : List stored.Cell) → IsSwept s cells markings.now 0) }
+    {
+        Ok(Sweep {
+            active: Active::new(alloc, markings)?,
+            runs: Vec::new(alloc),
+            is_changed: true,
+        })
+    }
+
+    /// Passes the characters of one more chunk. An error is want of memory (1). A tick for each.
+    pub fn pass_chunk(
+        &mut self,
+        sequence: &Sequence,
+        anchors: &Anchors,
+        i: usize,
+        size: ChunkSize,
+        ticks: &mut Ticks,
+    ) -> Result<(), AllocError>
+        requires there { size_at sequence.now i ≡ Some size }
+        requires before { IsSwept self.old (cells_of sequence.now) (in_order anchors.now)
+            (offset sequence.now i) }
+        ensures swept { OnOk result (IsSwept self.new (cells_of sequence.now)
+            (in_order anchors.now) (offset sequence.now (i + 1))) }
+        ensures ticks { ticks.new ≤ ticks.old + size.cells }
+    {
+        let alloc = sequence.allocator();
+        for j in 0..size.cells {
+            match sequence.cell(i, j, ticks) {
+                Some(cell) => self.pass(alloc, &cell, anchors)?,
+                None => unreachable!(),
+            }
+        }
+        Ok(())
+    }
+
+    /// Passes a character: takes the edges before it, gives it its marks if a reader sees it, and
+    /// takes the edges behind it. An error is want of memory (1).
+    fn pass(&mut self, alloc: Global, cell: &Cell, anchors: &Anchors) -> Result<(), AllocError>
+        ensures { OnOk result ((cells : List stored.Cell) (k : ℕ)
+            → slice_get cells k ≡ Some cell.now → IsSwept self.old cells (in_order anchors.now) k
+            → IsSwept self.new cells (in_order anchors.now) (k + 1)) }
+    {
+        anchors.are_edges();
+        let edges = anchors.edges_at(cell.id);
+        self.is_changed = is_changed(self.is_changed, edges);
+        self.active.take(edges, false)?;
+        self.see(alloc, cell, anchors.in_order())?;
+        self.is_changed = is_changed(self.is_changed, edges);
+        self.active.take(edges, true)
+    }
+
+    /// A character, which a reader sees unless it is a tombstone. An error is want of memory (1).
+    fn see(&mut self, alloc: Global, cell: &Cell, markings: &[Marking]) -> Result<(), AllocError>
+        ensures seen { OnOk result (IsFresh self.old.runs.items self.old.is_changed
+            self.old.active.set.items markings.now → map forward_span self.new.runs.items
+            ≡ (if cell.now.is_removed then map forward_span self.old.runs.items
+            else with_back cell.now.value (marks_in (picked markings.now self.old.active.set.items))
+            (map forward_span self.old.runs.items))) }
+        ensures fresh { OnOk result (IsFresh self.old.runs.items self.old.is_changed
+            self.old.active.set.items markings.now → IsFresh self.new.runs.items
+            self.new.is_changed self.new.active.set.items markings.now) }
+        ensures active { self.new.active ≡ self.old.active }
+    {
+        if cell.is_removed {
+            return Ok(());
+        }
+        self.show(alloc, cell.value, markings)
+    }
+
+    /// A character that a reader sees, with the marks of the mark operations that have begun and
+    /// not ended: they are worked out only where these changed. An error is want of memory (1).
+    fn show(&mut self, alloc: Global, value: char, markings: &[Marking]) -> Result<(), AllocError>
+        ensures shown { OnOk result (IsFresh self.old.runs.items self.old.is_changed
+            self.old.active.set.items markings.now → map forward_span self.new.runs.items
+            ≡ with_back value (marks_in (picked markings.now self.old.active.set.items))
+            (map forward_span self.old.runs.items)) }
+        ensures fresh { OnOk result (IsFresh self.old.runs.items self.old.is_changed
+            self.old.active.set.items markings.now → IsFresh self.new.runs.items
+            self.new.is_changed self.new.active.set.items markings.now) }
+        ensures active { self.new.active ≡ self.old.active }
+    {
+        if !self.is_changed {
+            return join(value, &mut self.runs);
+        }
+        let set = self.active.markings(alloc, markings)?;
+        let marks = marks_of(alloc, &set)?;
+        put_behind(alloc, value, marks, &mut self.runs)?;
+        self.is_changed = false;
+        Ok(())
+    }
+
+    /// The spans. An error is want of memory (1).
+    pub fn spans(self, alloc: Global) -> Result<Vec<Span>, AllocError>
+        ensures { IfOk result (λ spans. spans.items ≡ map forward_span self.runs.items) }
+    {
+        let mut spans = Vec::new(alloc);
+        for run in self.runs {
+            spans.push(span_of(run))?;
+        }
+        Ok(spans)
+    }
+}
+
+/// Whether mark operations changed before, or do so at these edges.
+fn is_changed(was: bool, edges: &[Edge]) -> bool
+    ensures { result ≡ false → (was ≡ false) × (edges.now ≡ []) }
+{
+    if edges.is_empty() {
+        return was;
+    }
+    true
+}
+
+/// Puts a character behind these runs: it joins the last one, if that has its marks. An error is
+/// want of memory (1).
+fn put_behind(
+    alloc: Global,
+    value: char,
+    marks: Marks,
+    runs: &mut Vec<Run>,
+) -> Result<(), AllocError>
+    ensures shown { OnOk result (map forward_span runs.new.items
+        ≡ with_back value marks (map forward_span runs.old.items)) }
+    ensures last { OnOk result (IsLast marks (map forward_span runs.new.items)) }
+{
+    if is_last_same(runs, &marks) {
+        return join(value, runs);
+    }
+    let values = vec![in alloc; value]?;
+    runs.push(Run { values, marks })?;
+    Ok(())
+}
+
+/// Whether the last of these runs has these marks.
+fn is_last_same(runs: &[Run], marks: &Marks) -> bool
+    ensures { result ≡ is_last_same_of marks.now (map forward_span runs.now) }
+{
+    match runs.last() {
+        Some(run) => run.marks.are_same(marks),
+        None => false,
+    }
+}
+
+/// Puts a character behind the last of these runs. An error is want of memory (1).
+fn join(value: char, runs: &mut Vec<Run>) -> Result<(), AllocError>
+    ensures { OnOk result (map forward_span runs.new.items
+        ≡ extended value (map forward_span runs.old.items)) }
+{
+    if let Some(run) = runs.last_mut() {
+        run.values.push(value)?;
+    }
+    Ok(())
+}
+
+/// The span of a run.
+fn span_of(run: Run) -> Span
+    ensures { result ≡ forward_span run }
+{
+    Span {
+        text: Text::from(run.values),
+        marks: run.marks,
+    }
+}
