@@ -1,4 +1,5 @@
-"""Edits and merges a second on documents of 10^3, 10^4 and 10^5 characters: at the end, at the front and at random places.
+"""Edits and merges a second on documents of 10^3 to 10^6 characters: at the end, at the front and at random places; and pastes and deletes of
+256 characters.
 
 python3 bench/edits.py PROGRAM [MERGES], where MERGES is the program of crates/merge_bench. Edits go through sessions over files in
 memory (/dev/shm), so that the disk costs little. Merges are made in one process without a disk, the least time of three runs.
@@ -14,10 +15,12 @@ import time
 import store_file
 from session import Session, told
 
-COUNTS = (1_000, 10_000, 100_000)
+COUNTS = (1_000, 10_000, 100_000, 1_000_000)
 PLACES = ("end", "front", "random")
 EDITS = 200
 MERGES = 2_000
+PASTES = 40
+PASTED = 256
 
 
 def measure_edits(program):
@@ -34,6 +37,25 @@ def measure_edits(program):
                     times.append(session.insert(at, "y"))
                 session.end()
                 told(f"{count} characters, at the {place}", times)
+
+
+def measure_pastes(program):
+    """Texts of 256 characters that are put in and taken away again, in turn."""
+    chance = random.Random(4)
+    with tempfile.TemporaryDirectory(dir="/dev/shm") as room:
+        for count in COUNTS:
+            for place in PLACES:
+                name = os.path.join(room, "store")
+                store_file.make(name, count)
+                session, pastes, deletes = Session(program, name), [], []
+                session.insert(0, "x")
+                for _ in range(PASTES):
+                    at = {"end": count + 1, "front": 0, "random": chance.randrange(count + 1)}[place]
+                    pastes.append(session.insert(at, "y" * PASTED))
+                    deletes.append(session.delete(at, PASTED))
+                session.end()
+                told(f"{count} characters, pastes at the {place}", pastes)
+                told(f"{count} characters, deletes at the {place}", deletes)
 
 
 def merging(program, count, place):
@@ -61,6 +83,7 @@ def measure_merges(program):
 
 def main():
     measure_edits(os.path.abspath(sys.argv[1]))
+    measure_pastes(os.path.abspath(sys.argv[1]))
     if len(sys.argv) > 2:
         measure_merges(os.path.abspath(sys.argv[2]))
 

@@ -25,6 +25,12 @@ class Session:
             raise SystemExit(f"an insert was refused: {answer}")
         return took
 
+    def delete(self, at, count, doc=1):
+        answer, took = self.ask(op="delete", doc=doc, at=at, count=count)
+        if not answer["ok"]:
+            raise SystemExit(f"a delete was refused: {answer}")
+        return took
+
     def end(self):
         self.run.stdin.close()
         self.run.stdout.read()

@@ -1,4 +1,4 @@
-"""How long a session takes to answer `spans` and `text` of documents of 10^3, 10^4 and 10^5 characters with 0, 100 and 1,000 marks.
+"""How long a session takes to answer `spans` and `text` of documents of 10^3 to 10^6 characters with 0 to 10,000 marks.
 
 python3 bench/spans.py PROGRAM. Files are in memory (/dev/shm). Marks go over random stretches: strong, em, links and comments in turn.
 """
@@ -11,8 +11,8 @@ import tempfile
 import store_file
 from session import Session, quantile
 
-COUNTS = (1_000, 10_000, 100_000)
-MARKS = (0, 100, 1_000)
+COUNTS = (1_000, 10_000, 100_000, 1_000_000)
+MARKS = (0, 100, 1_000, 10_000)
 READS = 5
 
 

@@ -10,6 +10,7 @@ import damage
 import full_disk
 import kills
 import locks
+import long_texts
 import streams
 import words
 from program import Checks
@@ -23,7 +24,7 @@ def main():
     checks = Checks()
     with tempfile.TemporaryDirectory(prefix="peritext-") as room:
         os.chdir(room)
-        for group in (words, streams, locks, full_disk, crafted, damage, kills):
+        for group in (words, long_texts, streams, locks, full_disk, crafted, damage, kills):
             before = checks.passed, checks.failed, checks.skipped
             group.check(checks, program, started + LIMIT)
             took = time.monotonic() - started
