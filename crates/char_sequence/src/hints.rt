@@ -1,6 +1,6 @@
 use crate::chunks::Chunks;
 use crate::place::Place;
-use crate::track::{Track, hinted, note};
+use crate::track::{Track, gather, hinted, note, sort};
 use op_ids::OpId;
 use op_model::Ticks;
 use std::alloc::{AllocError, Global};
@@ -56,20 +56,32 @@ impl Hints {
     }
 
     /// Notes all characters of these chunks, where none are noted. Where memory is refused, hints
-    /// are missing. A step for each character, and a binary search where they didn't come in the
-    /// order of the text.
+    /// are missing. A step for each character, and a sort of those of each replica by counter.
     pub fn note_all(&mut self, chunks: &Chunks) {
+        match self.gathered(chunks) {
+            Ok(()) => {}
+            Err(_) => {}
+        }
+        sort(&mut self.tracks);
+    }
+
+    fn gathered(&mut self, chunks: &Chunks) -> Result<(), AllocError> {
         chunks.are_sized();
+        let alloc = *self.serials.allocator();
         let mut i = 0;
         let ticks = &mut Ticks::new();
         while let Some(size) = chunks.chunk(i, ticks) {
-            let place = Place { chunk: i, at: 0 };
-            match self.noted(chunks, &place, size.cells, 1) {
-                Ok(()) => {}
-                Err(_) => {}
+            let serial = low(i);
+            self.serials.push(serial)?;
+            self.positions.push(serial)?;
+            for j in 0..size.cells {
+                if let Some(cell) = chunks.cell(i, j, ticks) {
+                    gather(&mut self.tracks, alloc, cell.id, serial)?;
+                }
             }
             i += 1;
         }
+        Ok(())
     }
 
     fn noted(

@@ -83,7 +83,7 @@ impl Sequence {
 
     /// Notes where all its characters are, so that each is found fast: for a sequence that was made
     /// at once. Contracts see nothing of it; where memory is refused, it stays slow. A step for
-    /// each character, and a binary search where they didn't come in the order of the text.
+    /// each character, and a sort of those of each replica.
     pub fn note_all(&mut self)
         ensures { self.new ≡ self.old }
     {

@@ -23,22 +23,58 @@ pub fn note(
     id: OpId,
     serial: u32,
 ) -> Result<(), AllocError> {
-    let spot = Spot {
-        counter: low(id.counter()),
-        serial,
-    };
+    let i = index_of(tracks, alloc, id.replica())?;
+    match tracks.get_mut(i) {
+        Some(track) => put(&mut track.spots, spot_of(id, serial)),
+        None => Ok(()),
+    }
+}
+
+/// Notes the chunk of a character that isn't noted, behind all others of its replica: `sort` brings
+/// them in order. An error is want of memory (1).
+pub fn gather(
+    tracks: &mut Vec<Track>,
+    alloc: Global,
+    id: OpId,
+    serial: u32,
+) -> Result<(), AllocError> {
+    let i = index_of(tracks, alloc, id.replica())?;
+    if let Some(track) = tracks.get_mut(i) {
+        track.spots.push(spot_of(id, serial))?;
+    }
+    Ok(())
+}
+
+/// Brings the characters of each replica in the order of their counters.
+pub fn sort(tracks: &mut [Track]) {
     for track in tracks.iter_mut() {
-        if track.replica == id.replica() {
-            return put(&mut track.spots, spot);
+        track.spots.sort_unstable_by_key(|spot| spot.counter);
+    }
+}
+
+/// Which of these tracks is a replica's; a new one, if none is.
+fn index_of(
+    tracks: &mut Vec<Track>,
+    alloc: Global,
+    replica: ReplicaId,
+) -> Result<usize, AllocError> {
+    for (i, track) in tracks.iter().enumerate() {
+        if track.replica == replica {
+            return Ok(i);
         }
     }
-    let mut spots = Vec::new(alloc);
-    spots.push(spot)?;
     tracks.push(Track {
-        replica: id.replica(),
-        spots,
+        replica,
+        spots: Vec::new(alloc),
     })?;
-    Ok(())
+    Ok(tracks.len().saturating_sub(1))
+}
+
+fn spot_of(id: OpId, serial: u32) -> Spot {
+    Spot {
+        counter: low(id.counter()),
+        serial,
+    }
 }
 
 /// The serial number of the chunk in which a character should be.

@@ -1,6 +1,6 @@
 use Rattle.std.proofs.Common.{sym, ◌∙◌, arith}
 use Rattle.char_sequence.proofs.SizeLemmas.{next_chunk}
-use Rattle.char_sequence.proofs.hints.Hints.note_all.Goals as goal
+use Rattle.char_sequence.proofs.hints.Hints.gathered.Goals as goal
 
 pub overflow_add-i : goal.overflow_add-i
 overflow_add-i c =

@@ -1,5 +1,5 @@
 use Rattle.std.proofs.Common.{◌≤◌, ◌-◌, length}
-use Rattle.char_sequence.proofs.hints.Hints.note_all.Given as goal
+use Rattle.char_sequence.proofs.hints.Hints.gathered.Given as goal
 
 abbrev pub invariant-loop-size : goal.invariant-loop-size
 invariant-loop-size l = l.i ≤ length l.chunks
