@@ -67,7 +67,6 @@ impl Hints {
 
     fn gathered(&mut self, chunks: &Chunks) -> Result<(), AllocError> {
         chunks.are_sized();
-        let alloc = *self.serials.allocator();
         let mut i = 0;
         let ticks = &mut Ticks::new();
         while let Some(size) = chunks.chunk(i, ticks) {
@@ -76,7 +75,7 @@ impl Hints {
             self.positions.push(serial)?;
             for j in 0..size.cells {
                 if let Some(cell) = chunks.cell(i, j, ticks) {
-                    gather(&mut self.tracks, alloc, cell.id, serial)?;
+                    gather(&mut self.tracks, cell.id, serial)?;
                 }
             }
             i += 1;
@@ -128,11 +127,10 @@ impl Hints {
             Some(serial) => *serial,
             None => return Ok(()),
         };
-        let alloc = *self.serials.allocator();
         let ticks = &mut Ticks::new();
         for j in from..end {
             match chunks.cell(chunk, j, ticks) {
-                Some(cell) => note(&mut self.tracks, alloc, cell.id, serial)?,
+                Some(cell) => note(&mut self.tracks, cell.id, serial)?,
                 None => return Ok(()),
             }
         }

@@ -1,5 +1,5 @@
 use op_ids::{OpId, ReplicaId};
-use std::alloc::{AllocError, Global};
+use std::alloc::AllocError;
 
 /// The characters of one replica by their counters, which rise.
 #[derive(Debug, Drop)]
@@ -17,13 +17,8 @@ struct Spot {
 
 /// Notes the chunk of a character. An error is want of memory (1). A step or two where it is its
 /// replica's last one or its replica inserts alone, else a binary search.
-pub fn note(
-    tracks: &mut Vec<Track>,
-    alloc: Global,
-    id: OpId,
-    serial: u32,
-) -> Result<(), AllocError> {
-    let i = index_of(tracks, alloc, id.replica())?;
+pub fn note(tracks: &mut Vec<Track>, id: OpId, serial: u32) -> Result<(), AllocError> {
+    let i = index_of(tracks, id.replica())?;
     match tracks.get_mut(i) {
         Some(track) => put(&mut track.spots, spot_of(id, serial)),
         None => Ok(()),
@@ -32,13 +27,8 @@ pub fn note(
 
 /// Notes the chunk of a character that isn't noted, behind all others of its replica: `sort` brings
 /// them in order. An error is want of memory (1).
-pub fn gather(
-    tracks: &mut Vec<Track>,
-    alloc: Global,
-    id: OpId,
-    serial: u32,
-) -> Result<(), AllocError> {
-    let i = index_of(tracks, alloc, id.replica())?;
+pub fn gather(tracks: &mut Vec<Track>, id: OpId, serial: u32) -> Result<(), AllocError> {
+    let i = index_of(tracks, id.replica())?;
     if let Some(track) = tracks.get_mut(i) {
         track.spots.push(spot_of(id, serial))?;
     }
@@ -53,20 +43,14 @@ pub fn sort(tracks: &mut [Track]) {
 }
 
 /// Which of these tracks is a replica's; a new one, if none is.
-fn index_of(
-    tracks: &mut Vec<Track>,
-    alloc: Global,
-    replica: ReplicaId,
-) -> Result<usize, AllocError> {
+fn index_of(tracks: &mut Vec<Track>, replica: ReplicaId) -> Result<usize, AllocError> {
     for (i, track) in tracks.iter().enumerate() {
         if track.replica == replica {
             return Ok(i);
         }
     }
-    tracks.push(Track {
-        replica,
-        spots: Vec::new(alloc),
-    })?;
+    let spots = Vec::new(*tracks.allocator());
+    tracks.push(Track { replica, spots })?;
     Ok(tracks.len().saturating_sub(1))
 }
 

@@ -1,3 +1,5 @@
+-- Used by private functions and proofs alone.
+--
 -- The characters of an insert, with their ids.
 use Rattle.std.specs.Prelude.{ℕ, ◌+◌, List, [], ◌∷◌}
 use Rattle.op_ids.specs.Id.{Id}

@@ -187,7 +187,8 @@ are_edges_more ms m es some all first second i is_i are is_first is_second one t
 pub no_edges : AreKept [] []
 no_edges = record { edges = record { all = IsPermutation-refl [] }; order = λ k d low high. absurd (omega arith) }
 
-any_filter : (p q : Edge → Bool) (es : List Edge) → list_any p (filter q es) ≡ list_any (λ e. q e && p e) es
+-- one of those that pass a test
+pub any_filter : (p q : Edge → Bool) (es : List Edge) → list_any p (filter q es) ≡ list_any (λ e. q e && p e) es
 any_filter p q [] = refl
 any_filter p q (e ∷ es) =
     elim (cases_Bool (q e)) [
@@ -195,7 +196,8 @@ any_filter p q (e ∷ es) =
       | inr h ↦ rw h (any_filter p q es)
     ]
 
-any_append : (p : Edge → Bool) (es fs : List Edge) → list_any p (es ++ fs) ≡ (list_any p es || list_any p fs)
+-- one of these or of those
+pub any_append : (p : Edge → Bool) (es fs : List Edge) → list_any p (es ++ fs) ≡ (list_any p es || list_any p fs)
 any_append p [] fs = refl
 any_append p (e ∷ es) fs = rw (any_append p es fs) (or_assoc (p e) (list_any p es) (list_any p fs))
   where

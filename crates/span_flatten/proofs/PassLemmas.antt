@@ -26,22 +26,12 @@ use Rattle.span_flatten.specs.Sweeping.{begun_at, ended_at, has_begun, has_ended
 use Rattle.span_flatten.specs.declared.active.Active.{Active}
 use Rattle.span_flatten.specs.Formatting.{marks_in}
 use Rattle.span_flatten.specs.Runs.{cell_runs}
-use Rattle.span_flatten.proofs.ActiveLemmas.{active_same}
+use Rattle.mark_anchors.proofs.EdgeLemmas.{any_filter}
+use Rattle.mark_anchors.proofs.EdgeLemmas.{any_append as any_both}
+use Rattle.span_flatten.proofs.ActiveLemmas.{active_same, and_false, or_assoc, or_false}
 use Rattle.span_flatten.proofs.BackLemmas.{back_step}
 use Rattle.span_flatten.proofs.CellLemmas.{more}
 use Rattle.span_flatten.proofs.IndexLemmas.{picked_active}
-
-or_false : (a : Bool) → (a || false) ≡ a
-or_false true = refl
-or_false false = refl
-
-and_false : (a : Bool) → (a && false) ≡ false
-and_false true = refl
-and_false false = refl
-
-or_assoc : (a b c : Bool) → (a || (b || c)) ≡ ((a || b) || c)
-or_assoc true b c = refl
-or_assoc false b c = refl
 
 same_back : (a b : Id) → is_same a b ≡ is_same b a
 unfolding is_same
@@ -169,18 +159,6 @@ ended_passed cells k c (end.To (After id)) there = sym (cell_more cells k c id t
 -- of the edges of an id, on one side
 abbrev is_at : Id → Bool → Bool → ℕ → Edge → Bool
 is_at id is_after is_end i e = is_same e.id id && is_edge is_after is_end i e
-
-any_filter : (p q : Edge → Bool) (es : List Edge) → list_any p (filter q es) ≡ list_any (λ e. q e && p e) es
-any_filter p q [] = refl
-any_filter p q (e ∷ es) =
-    elim (cases_Bool (q e)) [
-      | inl h ↦ rw h (ap (λ rest. p e || rest) (any_filter p q es))
-      | inr h ↦ rw h (any_filter p q es)
-    ]
-
-any_both : (p : Edge → Bool) (es fs : List Edge) → list_any p (es ++ fs) ≡ (list_any p es || list_any p fs)
-any_both p [] fs = refl
-any_both p (e ∷ es) fs = rw (any_both p es fs) (or_assoc (p e) (list_any p es) (list_any p fs))
 
 turned : (a b c : Bool) → (a && (b && c)) ≡ (c && (b && a))
 turned true true true = refl
