@@ -5,7 +5,8 @@ ghost use Rattle.op_model.specs.declared.op.Op.{Op};
 ghost use Rattle.op_model.specs.declared.op.Body.TheVariants.{Insert, Remove};
 ghost use Rattle.char_sequence.specs.declared.cell.Cell.{Cell};
 ghost use Rattle.char_sequence.specs.Cells.{has_cell, is_known};
-ghost use Rattle.char_sequence.specs.Content.{is_there, AreContent, Holds, TakesCell};
+ghost use Rattle.char_sequence.specs.Chunks.{cells_of};
+ghost use Rattle.char_sequence.specs.Content.{is_there, AreContent, TakesCell};
 ghost use Rattle.char_sequence.specs.Links.{cell_at_place};
 ghost use Rattle.char_sequence.specs.Weave.{Starts, Weaves};
 
@@ -138,8 +139,7 @@ impl Weave {
 
     /// The sequence of these characters. An error is want of memory (1). A step for each.
     pub fn sequence(&self, alloc: Global) -> Result<Sequence, AllocError>
-        ensures { IfOk result (λ s. (ops : List Op) (doc : ℕ) → AreContent self.now ops doc
-            → Holds s ops doc) }
+        ensures { IfOk result (λ s. cells_of s ≡ self.now) }
     {
         let mut chunks = Chunks::new(alloc);
         let mut at = 0;

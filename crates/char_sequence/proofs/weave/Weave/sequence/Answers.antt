@@ -23,8 +23,7 @@ loop-preserved c =
     ]
 
 pub returns : goal.returns
-returns c = λ ops doc holds.
-    let all = reads_all c.self.inside.cells.items c.self.inside.next.items c.loop.at _ c.loop.counter (cells_of c.loop.chunks) _
+returns c =
+    reads_all c.self.inside.cells.items c.self.inside.next.items c.loop.at _ c.loop.counter (cells_of c.loop.chunks) _
     (let out = c.loop-test.false in let long = c.self.inside.cells.ok.0 in let end = c.len-end.ensures in omega arith)
-    c.loop.invariant ∙ c.self.view_is in
-    rw (sym all) at holds
+    c.loop.invariant ∙ c.self.view_is
