@@ -1,5 +1,6 @@
-"""Edits and merges a second on documents of 10^3 to 10^6 characters: at the end, at the front and at random places; and pastes and deletes of
-256 characters.
+"""Edits and merges a second on documents of 10^3 to 10^6 characters: at the end, at the front and at random places; pastes and deletes of
+256 characters; and merges of three replicas that type at once at distant places. Beside each case Yjs in memory on the same edits, where
+Debian's node-yjs is there.
 
 python3 bench/edits.py PROGRAM [MERGES], where MERGES is the program of crates/merge_bench. Edits go through sessions over files in
 memory (/dev/shm), so that the disk costs little. Merges are made in one process without a disk, the least time of three runs.
@@ -13,12 +14,13 @@ import tempfile
 import time
 
 import store_file
+import yjs
 from session import Session, told
 
 COUNTS = (1_000, 10_000, 100_000, 1_000_000)
 PLACES = ("end", "front", "random")
 EDITS = 200
-MERGES = 2_000
+MERGES = 30_000
 PASTES = 40
 PASTED = 256
 
@@ -37,6 +39,7 @@ def measure_edits(program):
                     times.append(session.insert(at, "y"))
                 session.end()
                 told(f"{count} characters, at the {place}", times)
+                yjs.told("edits", count, place, EDITS)
 
 
 def measure_pastes(program):
@@ -56,6 +59,7 @@ def measure_pastes(program):
                 session.end()
                 told(f"{count} characters, pastes at the {place}", pastes)
                 told(f"{count} characters, deletes at the {place}", deletes)
+                yjs.told("pastes", count, place, PASTES)
 
 
 def merging(program, count, place):
@@ -76,9 +80,10 @@ def merging(program, count, place):
 
 def measure_merges(program):
     for count in COUNTS:
-        for place in PLACES:
+        for place in PLACES + ("three",):
             took = merging(program, count, place)
             print(f"{count} characters, merges at the {place:6} {MERGES / took:12.0f} /s   {took / MERGES * 1e6:8.2f} us")
+            yjs.told("merges", count, place, MERGES)
 
 
 def main():

@@ -2,6 +2,7 @@
 #![tactic(auto)]
 
 mod anchor;
+mod clock;
 mod codec_error;
 mod content;
 mod deps;
@@ -17,6 +18,7 @@ mod record;
 mod stream;
 mod stream_error;
 
+pub use clock::{put_clock, take_clock};
 pub use codec_error::CodecError;
 pub use content::Kind;
 pub use fits::every_op_has_a_spelling;

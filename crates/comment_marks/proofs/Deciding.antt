@@ -1,6 +1,6 @@
 -- A comment stands exactly where the mark operation about it that has the greatest id adds it.
 use Rattle.std.proofs.Common.{◌≡◌, ℕ, Bool, true, false, ◌⊎◌, inl, inr, List, [], ◌∷◌, Option, Some, None, ap, refl, ◌∙◌, arith}
-use Rattle.std.specs.Prelude.{filter_map, filter, Contains, IsSome}
+use Rattle.std.specs.Prelude.{filter_map, filter, Contains, is_some, option_and_then, IsSome}
 use Rattle.std.proofs.lemmas.Bool.{cases_Bool, both_ways, eq-eqb, eqb-true}
 use Rattle.std.proofs.lemmas.Bool.Decides.{nat_tests}
 use Rattle.op_ids.specs.Id.{Id, is_below}
@@ -11,7 +11,7 @@ use Rattle.op_model.specs.declared.marking.Marking.{Marking}
 use Rattle.op_model.specs.Marks.{is_key, greater, greatest}
 use Rattle.op_model.specs.Spans.{comment_of, comment_ids}
 use Rattle.comment_marks.specs.Greatest.{HasDistinctIds, IsGreatestAbout}
-use Rattle.comment_marks.specs.Standing.{adds, deciding, standing}
+use Rattle.comment_marks.specs.Standing.{decided, deciding, standing}
 use Rattle.comment_marks.proofs.Members.{Has, contains_from_has, filtered_has, has_filtered, has_from_contains, rising_has}
 
 -- a mark operation is about a comment
@@ -75,12 +75,12 @@ greatest_above (m ∷ ms) x (inl e) = (greater m (greatest ms), refl, rw (← e)
 greatest_above (m ∷ ms) x (inr h) =
     let (r, e, f) = greatest_above ms x h in (greater m (greatest ms), refl, rw e (not_above_rest m r x f))
 
-added : (o : Option Marking) → adds o ≡ true → (m : Marking) × (o ≡ Some m) × IsSome m.mark
+added : (o : Option Marking) → is_some (option_and_then (λ (m : Marking). m.mark) o) ≡ true → (m : Marking) × (o ≡ Some m) × IsSome m.mark
 added None e = absurd (both_ways false refl e)
 added (Some m) e = (m, refl, e)
 
 -- what is decided about a comment
-is_decided : (set : List Marking) (id : ℕ) (m : Marking) → HasDistinctIds set → deciding set id ≡ Some m → IsGreatestAbout set id m
+is_decided : (set : List Marking) (id : ℕ) (m : Marking) → HasDistinctIds set → deciding set (key.Comment id) ≡ Some m → IsGreatestAbout set id m
 is_decided set id m distinct e =
     let here = has_filtered (is_about id) set m (greatest_has (filter (is_about id) set) m e) in
     let member = contains_from_has set m here.0 in
@@ -100,7 +100,7 @@ is_decided set id m distinct e =
           ];
     }
 
-decides : (set : List Marking) (id : ℕ) (m : Marking) → IsGreatestAbout set id m → deciding set id ≡ Some m
+decides : (set : List Marking) (id : ℕ) (m : Marking) → IsGreatestAbout set id m → deciding set (key.Comment id) ≡ Some m
 decides set id m g =
     let (r, e, f) = greatest_above (filter (is_about id) set) m
     (filtered_has (is_about id) set m (has_from_contains set m g.member) (test_from_key m.key id g.about)) in
@@ -113,12 +113,12 @@ decides set id m g =
 pub standing_decided : (set : List Marking) (id : ℕ) → HasDistinctIds set → Contains (standing set) id
     → (m : Marking) × IsGreatestAbout set id m × IsSome m.mark
 standing_decided set id distinct inside =
-    let here = has_filtered (λ n. adds (deciding set n)) (comment_ids set) id (has_from_contains (standing set) id inside) in
-    let (m, e, some) = added (deciding set id) here.1 in
+    let here = has_filtered (λ n. is_some (decided set (key.Comment n))) (comment_ids set) id (has_from_contains (standing set) id inside) in
+    let (m, e, some) = added (deciding set (key.Comment id)) here.1 in
     (m, is_decided set id m distinct e, some)
 
 pub decided_stands : (set : List Marking) (id : ℕ) (m : Marking) → IsGreatestAbout set id m → IsSome m.mark → Contains (standing set) id
 decided_stands set id m g some =
     let named = rising_has (filter_map (λ n. comment_of n.key) set) id (named_by_set set m id (has_from_contains set m g.member) g.about) in
-    let stands : adds (deciding set id) ≡ true = rw (decides set id m g) some in
-    contains_from_has (standing set) id (filtered_has (λ n. adds (deciding set n)) (comment_ids set) id named stands)
+    let stands : is_some (decided set (key.Comment id)) ≡ true = rw (decides set id m g) some in
+    contains_from_has (standing set) id (filtered_has (λ n. is_some (decided set (key.Comment n))) (comment_ids set) id named stands)

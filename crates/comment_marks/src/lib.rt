@@ -1,9 +1,11 @@
-//! The comments that stand in a set of mark operations.
+//! The marks that a set of mark operations decides, and the comments that stand in it.
 #![tactic(auto)]
 
+mod choosing;
 mod comments;
 pub mod laws;
 #[cfg(test)]
 mod tests;
 
+pub use choosing::decided;
 pub use comments::Comments;

@@ -42,7 +42,7 @@ fn the_greatest_id_decides_for_each_comment(rt: HostRuntime) -> Result<(), Fail>
         marking(5, 5, true)?,
         marking(1, 2, false)?,
     ];
-    let found = Comments::of(rt.alloc(), &set)?;
+    let found = Comments::of(rt.alloc(), &[&set[0], &set[1], &set[2], &set[3], &set[4]])?;
     assert!(rt; found.as_slice() == [comment(2), comment(9)].as_slice());
     assert!(rt; found.contains(comment(9)));
     assert!(rt; !found.contains(comment(5)));

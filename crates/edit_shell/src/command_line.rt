@@ -15,9 +15,9 @@ use clap::ArgMatches;
 use clap::error::ErrorKind;
 use std::alloc::Global;
 
-/// What the words of a command line ask for, of which the first is the program's name. `Usage` where they aren't those
-/// of a command, or ask for help. `Field` (4) where a UUID or a document number breaks its rule. `Memory` (1) where a
-/// growth was refused.
+/// What the words of a command line ask for, of which the first is the program's name. `Usage`
+/// where they aren't those of a command, or ask for help. `Field` (4) where a UUID or a document
+/// number breaks its rule. `Memory` (1) where a growth was refused.
 pub fn order<'a>(alloc: Global, words: &'a [&'a str]) -> Result<Order<'a>, OrderFault>
     ensures taken { OnOk result (fault_of program (texts words.entry.now) ≡ []) }
     ensures ok { IfOk result (λ order. asked (texts words.entry.now) ≡ Some (meant order)) }

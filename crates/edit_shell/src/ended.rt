@@ -12,8 +12,8 @@ pub struct Ended<D: Disk> {
     pub end: Result<(), Fault>,
 }
 
-/// The exit status of a run that ended so. A fault is written where faults go, as `peritext: NUMBER WORD`; where that
-/// fails too, nothing more can be told.
+/// The exit status of a run that ended so. A fault is written where faults go, as
+/// `peritext: NUMBER WORD`; where that fails too, nothing more can be told.
 pub fn status<F: Write>(alloc: Global, end: Result<(), Fault>, faults: &mut F) -> u8 {
     match end {
         Ok(()) => 0,

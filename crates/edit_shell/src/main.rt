@@ -3,15 +3,23 @@
 
 mod command_line;
 mod commands;
+#[cfg(test)]
+mod device_tests;
 mod ended;
 mod fault;
 mod held;
+#[cfg(test)]
+mod mark_tests;
 mod order;
 mod order_fault;
+#[cfg(test)]
+mod page_tests;
 mod perform;
 #[cfg(test)]
 mod perform_tests;
 mod standard;
+#[cfg(test)]
+mod test_runs;
 #[cfg(test)]
 mod tests;
 mod values;

@@ -7,7 +7,8 @@ use thiserror::Error;
 /// Why the words of a command line give no order.
 #[derive(Debug, Drop, Error)]
 pub enum OrderFault {
-    /// The words aren't those of a command, or ask for help: its text says where it goes and what status it ends with.
+    /// The words aren't those of a command, or ask for help: its text says where it goes and what
+    /// status it ends with.
     #[error("{0}")]
     Usage(clap::Error),
     /// 4: a UUID or a document number breaks its rule.

@@ -1,1 +1,1 @@
-pub mod WrittenWalks
+pub mod GhostWalks

@@ -33,11 +33,16 @@ abbrev pub is_none : List Op → Bool
 is_none [] = true
 is_none (op ∷ ops) = false
 
--- there is a further version, and room for these operations: at most 2^24 in a file, and 2^30 bytes of records
+-- there is a further version, and room for so many operations, whose records take so many bytes: at most 2^24 operations in a file,
+-- and 2^30 bytes of records
+abbrev pub has_room_for : Saved → ℕ → ℕ → Bool
+has_room_for current count bytes =
+    nat_lt (version_of current.body) 18446744073709551615 && nat_le (count_of current.body + count) 16777216
+    && nat_le (length current.stream + bytes) 1073741824
+
+-- there is a further version, and room for these operations
 abbrev pub has_room : Saved → List Op → Bool
-has_room current ops =
-    nat_lt (version_of current.body) 18446744073709551615 && nat_le (count_of current.body + length ops) 16777216
-    && nat_le (length current.stream + stream_length ops) 1073741824
+has_room current ops = has_room_for current (length ops) (stream_length ops)
 
 -- the answer that is due, in the order of test: failed 44, busy 8, nothing to commit, limit 7, or the length of the new list
 abbrev pub begin_due : {D : Type 0} → Held D → List Op → Result (Option ℕ) StoreError

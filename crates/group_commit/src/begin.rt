@@ -1,9 +1,10 @@
 //! The beginning of a commit.
 ghost use Rattle.std.specs.Prelude.{◌≡◌, ◌≢◌, ℕ, ◌+◌, ◌<◌, ◌≤◌, true, List, length, Ok, Err, Some};
-ghost use Rattle.std.specs.Prelude.{IfOk, OnOk, OnErr};
-ghost use Rattle.change_codec.specs.Stream.{spelled_all, AreOperations};
+ghost use Rattle.op_list.specs.Records.{AreRecords};
+ghost use Rattle.op_model.specs.declared.op.Op.{Op as Operation};
+ghost use Rattle.op_model.specs.Records.{stream_length};
 ghost use Rattle.root_slots.specs.Root.{version_of, count_of, stream_length_of};
-ghost use Rattle.group_commit.specs.Begin.{begin_due, has_room, Begins, IsAnswer};
+ghost use Rattle.group_commit.specs.Begin.{begin_due, has_room_for, Begins, IsAnswer};
 ghost use Rattle.group_commit.specs.Saved.{with_stream};
 
 use crate::error::StoreError;
@@ -11,50 +12,34 @@ use crate::phase::Phase;
 use crate::plan::{Plan, make_plan};
 use crate::root::Root;
 use crate::store::Store;
-use change_codec::{put_ops, stream_length};
 use disk_trait::Disk;
-use op_model::Op;
 use root_slots::{MAX_OPERATIONS, MAX_STREAM};
-use std::alloc::{AllocError, Global};
 
-// Whether there is a further version behind this root, and room for these operations behind its
-// stream.
-fn has_room(root: &Root, ops: &[Op]) -> bool
+// Whether there is a further version behind this root, and room behind its stream for so many
+// operations, whose records take so many bytes.
+fn has_room(root: &Root, count: u64, bytes: u64) -> bool
     ensures { (stream : List ℕ) → length stream ≡ stream_length_of root.now.body
-        → result ≡ has_room (with_stream root.now stream) ops.now }
+        → result ≡ has_room_for (with_stream root.now stream) count bytes }
 {
     root.version() < u64::MAX
-        && root.count() + ops.len() as u64 <= MAX_OPERATIONS
-        && stream_length(ops).saturating_add(root.stream_length()) <= MAX_STREAM
-}
-
-// The records of these operations. An error is want of memory (1).
-fn records_of(alloc: Global, ops: &[Op]) -> Result<Vec<u8>, AllocError>
-    ensures records { IfOk result (λ records. records.items ≡ spelled_all ops.now) }
-    ensures fits { OnOk result (AreOperations ops.now) }
-{
-    let mut records = Vec::new(alloc);
-    put_ops(ops, &mut records)?;
-    Ok(records)
+        && root.count().saturating_add(count) <= MAX_OPERATIONS
+        && root.stream_length().saturating_add(bytes) <= MAX_STREAM
 }
 
 impl<D: Disk> Store<D> {
-    /// Begins a commit of these operations, which come behind the committed ones, and answers the
-    /// length of the list that it commits; `None` where there are none. It makes no device call.
-    ///
-    /// Refuses, in this order, with 44 where a device call failed before, 8 where a commit is under
-    /// way, 7 where the version, the number of operations (2^24) or the stream (2^30 bytes) has no
-    /// room, and 1 where a growth was refused. A refused call changes nothing.
-    ///
-    /// Costs the bytes of the records and of the pages that it writes. Of the stream before it,
-    /// only the bytes behind its full pages are read, fewer than 4,096; no others are in memory. Of
-    /// the data pages that stay, the numbers are read that stand in the last table page, if it
-    /// isn't full: fewer than 1,024. Free pages are found without a look at each page.
-    pub fn begin(&mut self, ops: &[Op]) -> Result<Option<u64>, StoreError>
-        ensures answer { IsAnswer (begin_due self.old ops.now) result }
-        ensures began { (n : ℕ) → result ≡ Ok (Some n)
-            → Begins D.DiskFacts self.old ops.now self.new }
-        ensures same { ((n : ℕ) → result ≢ Ok (Some n)) → self.new ≡ self.old }
+    /// Whether a commit of so many operations, whose records take so many bytes, has room: there is
+    /// a further version, and the number of operations (2^24) and the stream (2^30 bytes) stay
+    /// within their limits. Constant; takes no memory.
+    pub fn has_room(&self, count: u64, bytes: u64) -> bool
+        ensures { result ≡ has_room_for self.now.current count bytes }
+    {
+        has_room(&self.current, count, bytes)
+    }
+
+    // The answer that is due of a begin with so many operations, whose records take so many bytes.
+    fn answer_due(&self, count: u64, bytes: u64) -> Result<Option<u64>, StoreError>
+        ensures { (ops : List Operation) → length ops ≡ count → stream_length ops ≡ bytes
+            → result ≡ begin_due self.now ops }
     {
         if self.failed {
             return Err(StoreError::Failed);
@@ -62,15 +47,40 @@ impl<D: Disk> Store<D> {
         if !self.phase.is_idle() {
             return Err(StoreError::Busy);
         }
-        if ops.is_empty() {
+        if count == 0 {
             return Ok(None);
         }
-        if !has_room(&self.current, ops) {
+        if !self.has_room(count, bytes) {
             return Err(StoreError::Limit);
         }
-        let alloc = self.current.allocator();
-        let more = ops.len() as u64;
-        let records = records_of(alloc, ops)?;
+        Ok(Some(self.current.count() + count))
+    }
+
+    /// Begins a commit of the operations whose records these bytes are, so many, which come behind
+    /// the committed ones. Answers the length of the list that it commits; `None` where there are
+    /// none. It makes no device call. Records are those of some list, and of no other.
+    ///
+    /// Refuses, in this order, with 44 where a device call failed before, 8 where a commit is under
+    /// way, 7 where the version, the number of operations (2^24) or the stream (2^30 bytes) has no
+    /// room, and 1 where a growth was refused. A refused call changes nothing.
+    ///
+    /// Costs the bytes of the records and of the pages that it writes; it reads and copies no
+    /// operation. Of the stream before it, only the bytes behind its full pages are read, fewer
+    /// than 4,096; no others are in memory. Of the data pages that stay, the numbers are read that
+    /// stand in the last table page, if it isn't full: fewer than 1,024. Free pages are found
+    /// without a look at each page.
+    pub fn begin_records(&mut self, records: &[u8], count: u64) -> Result<Option<u64>, StoreError>
+        requires { (ops : List Operation) × AreRecords ops count records.now }
+        ensures answer { (ops : List Operation) → AreRecords ops count records.now
+            → IsAnswer (begin_due self.old ops) result }
+        ensures began { (ops : List Operation) → AreRecords ops count records.now
+            → (n : ℕ) → result ≡ Ok (Some n) → Begins D.DiskFacts self.old ops self.new }
+        ensures same { ((n : ℕ) → result ≢ Ok (Some n)) → self.new ≡ self.old }
+    {
+        let due = self.answer_due(count, records.len() as u64);
+        let Ok(Some(_)) = due else {
+            return due;
+        };
         let Plan {
             next,
             kept,
@@ -78,14 +88,14 @@ impl<D: Disk> Store<D> {
             numbers,
             fresh,
         } = make_plan(
-            alloc,
+            self.current.allocator(),
             &self.current,
             &self.pages,
             &self.stream,
-            &records,
-            more,
+            records,
+            count,
         )?;
-        let stream = self.stream.and(&records)?;
+        let stream = self.stream.and(records)?;
         self.pages.reserve(numbers.len())?;
         self.stream = stream;
         self.next = next;
@@ -94,7 +104,7 @@ impl<D: Disk> Store<D> {
         self.numbers = numbers;
         self.fresh = fresh;
         self.phase = Phase::Pages(0);
-        Ok(Some(self.current.count() + ops.len() as u64))
+        due
     }
 
     /// How many operations are in the live root. Takes no memory.
@@ -102,6 +112,13 @@ impl<D: Disk> Store<D> {
         ensures { result ≡ count_of self.now.current.body }
     {
         self.current.count()
+    }
+
+    /// How many operations are in the root that the commit under way makes, or the last one made.
+    pub fn committing(&self) -> u64
+        ensures { result ≡ count_of self.now.next.body }
+    {
+        self.next.count()
     }
 
     /// The disk. What a commit under way has written stays there.

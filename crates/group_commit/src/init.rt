@@ -1,16 +1,14 @@
 //! The making of a new file.
-ghost use Rattle.std.specs.Prelude.{◌≡◌, ◌≢◌, ◌+◌, ◌++◌, [], ◌∷◌, ◌↔◌, ℕ, List, true, false};
+ghost use Rattle.std.specs.Prelude.{◌≡◌, ◌+◌, ◌++◌, [], ◌∷◌, ◌↔◌, ℕ, List, true, false};
 ghost use Rattle.std.specs.Prelude.{length, replicate, IfOk, IfErr, OnOk, OnErr};
 ghost use Rattle.disk_trait.specs.Calls.{Keeps};
 ghost use Rattle.disk_trait.specs.File.{overwritten};
 ghost use Rattle.root_slots.specs.Body.{root_of};
 ghost use Rattle.root_slots.specs.Root.{is_root, stream_length_of};
 ghost use Rattle.group_commit.specs.Commit.{IsLeft};
-ghost use Rattle.group_commit.specs.NewFile.{slot_page, new_file, failures_of, Counts};
+ghost use Rattle.group_commit.specs.NewFile.{slot_page, new_file, failures_of, is_unwritten};
+ghost use Rattle.group_commit.specs.NewFile.{Counts, Refuses};
 ghost use Rattle.group_commit.specs.declared.phase.Phase.TheVariants.{Idle};
-ghost use Rattle.group_commit.specs.declared.init_fault.InitError.TheVariants.{NotEmpty};
-ghost use Rattle.group_commit.specs.declared.init_fault.InitError.TheVariants.{WriteFailed};
-ghost use Rattle.group_commit.specs.declared.init_fault.InitError.TheVariants.{SyncFailed};
 
 use crate::init_fault::{InitError, InitFault};
 use crate::phase::Phase;
@@ -39,11 +37,10 @@ fn closed_slot(alloc: Global, body: &[u8]) -> Result<Vec<u8>, AllocError>
 fn check_empty<D: Disk>(disk: &mut D) -> Result<(), InitError>
     ensures taken { D.tells disk.old → OnOk result (D.content disk.old ≡ []) }
     ensures empty { D.tells disk.old → OnOk result (D.content disk.new ≡ []) }
-    ensures not_empty { D.tells disk.old → IfErr result (λ e. e ≡ NotEmpty
-        → (D.content disk.old ≢ []) × Keeps D.DiskFacts disk.old disk.new) }
+    ensures refused { D.tells disk.old → IfErr result
+        (λ e. Refuses D.DiskFacts e disk.old disk.new) }
     ensures counts { D.tells disk.old → OnOk result (Counts D.DiskFacts 0 0 0 disk.old disk.new) }
-    ensures failed { D.tells disk.old → IfErr result
-        (λ e. D.failures disk.new ≡ D.failures disk.old + failures_of e) }
+    ensures keeps { D.tells disk.old → Keeps D.DiskFacts disk.old disk.new }
     ensures tells { D.tells disk.new ↔ D.tells disk.old }
 {
     match disk.size() {
@@ -87,7 +84,7 @@ fn open_first<D: Disk>(disk: &mut D) -> Result<(), DiskError>
 // What a refused device call is.
 fn cause(error: DiskError) -> InitError
     ensures failed { failures_of result ≡ 1 }
-    ensures other { result ≢ NotEmpty }
+    ensures other { is_unwritten result ≡ false }
 {
     match error {
         DiskError::SyncFailed => InitError::SyncFailed,
@@ -104,9 +101,8 @@ fn put_file<D: Disk>(disk: &mut D, first: &[u8], second: &[u8]) -> Result<(), In
     ensures only { D.tells disk.old → OnOk result
         ((c : List ℕ) → D.survives disk.new c → c ≡ D.content disk.new) }
     ensures counts { D.tells disk.old → OnOk result (Counts D.DiskFacts 0 3 2 disk.old disk.new) }
-    ensures failed { D.tells disk.old → IfErr result
-        (λ e. D.failures disk.new ≡ D.failures disk.old + failures_of e) }
-    ensures other { IfErr result (λ e. e ≢ NotEmpty) }
+    ensures refused { D.tells disk.old → IfErr result
+        (λ e. Refuses D.DiskFacts e disk.old disk.new) }
     ensures tells { D.tells disk.new ↔ D.tells disk.old }
 {
     put_slots(disk, first, second).map_err(cause)?;
@@ -121,9 +117,8 @@ fn make_file<D: Disk>(alloc: Global, disk: &mut D, body: &[u8]) -> Result<(), In
     ensures only { D.tells disk.old → OnOk result
         ((c : List ℕ) → D.survives disk.new c → c ≡ D.content disk.new) }
     ensures counts { D.tells disk.old → OnOk result (Counts D.DiskFacts 0 3 2 disk.old disk.new) }
-    ensures failed { D.tells disk.old → IfErr result
-        (λ e. D.failures disk.new ≡ D.failures disk.old + failures_of e) }
-    ensures other { IfErr result (λ e. e ≢ NotEmpty) }
+    ensures refused { D.tells disk.old → IfErr result
+        (λ e. Refuses D.DiskFacts e disk.old disk.new) }
     ensures tells { D.tells disk.new ↔ D.tells disk.old }
 {
     let first = closed_slot(alloc, body)?;
@@ -174,9 +169,8 @@ fn format<D: Disk>(
     ensures left { D.tells disk.old → IfOk result
         (λ roots. (c : List ℕ) → D.survives disk.new c → c ≡ new_file roots.0.body) }
     ensures counts { D.tells disk.old → OnOk result (Counts D.DiskFacts 0 3 2 disk.old disk.new) }
-    ensures failed { D.tells disk.old → IfErr result
-        (λ e. D.failures disk.new ≡ D.failures disk.old + failures_of e) }
-    ensures other { IfErr result (λ e. e ≢ NotEmpty) }
+    ensures refused { D.tells disk.old → IfErr result
+        (λ e. Refuses D.DiskFacts e disk.old disk.new) }
     ensures tells { D.tells disk.new ↔ D.tells disk.old }
 {
     let roots = empty_roots(alloc, replica)?;
@@ -204,15 +198,13 @@ fn begin_file<D: Disk>(
     ensures index { IfOk result (λ roots. (roots.2.tables ≡ []) × (roots.2.data_pages ≡ [])
         × (roots.2.taken ≡ [])) }
     ensures taken { D.tells disk.old → OnOk result (D.content disk.old ≡ []) }
-    ensures not_empty { D.tells disk.old → IfErr result (λ e. e ≡ NotEmpty
-        → (D.content disk.old ≢ []) × Keeps D.DiskFacts disk.old disk.new) }
+    ensures refused { D.tells disk.old → IfErr result
+        (λ e. Refuses D.DiskFacts e disk.old disk.new) }
     ensures made { D.tells disk.old → IfOk result
         (λ roots. D.content disk.new ≡ new_file roots.0.body) }
     ensures left { D.tells disk.old → IfOk result
         (λ roots. (c : List ℕ) → D.survives disk.new c → c ≡ new_file roots.0.body) }
     ensures counts { D.tells disk.old → OnOk result (Counts D.DiskFacts 0 3 2 disk.old disk.new) }
-    ensures failed { D.tells disk.old → IfErr result
-        (λ e. D.failures disk.new ≡ D.failures disk.old + failures_of e) }
     ensures tells { D.tells disk.new ↔ D.tells disk.old }
 {
     check_empty(disk)?;
@@ -224,8 +216,8 @@ impl<D: Disk> Store<D> {
     /// live and has no operations. Three writes and two syncs.
     ///
     /// Refuses with 48 where the file has bytes, then with 1 where a growth was refused, and with
-    /// 50, 51 or 52 where the device failed. The disk comes back either way. Before it answers Ok
-    /// nothing is promised of the file.
+    /// 50, 51 or 52 where the device failed. The disk comes back either way: after 48, 50 and 1 as
+    /// it was. After 51 and 52 nothing is promised of the file, which had no bytes.
     pub fn init(alloc: Global, disk: D, replica: ReplicaId) -> Result<Store<D>, InitFault<D>>
         ensures root { IfOk result (λ store. root_of store.current.body ≡ record {
           version = 1;
@@ -237,10 +229,10 @@ impl<D: Disk> Store<D> {
         ensures empty { IfOk result (λ store. store.current.stream ≡ []) }
         ensures idle { IfOk result (λ store. (store.phase ≡ Idle) × (store.failed ≡ false)
             × (store.stale_open ≡ false) × (store.slot ≡ 0)) }
-        // It is made of a file without bytes alone; 48 leaves a file that has some as it was.
+        // It is made of a file without bytes alone; one that has some is left as it was.
         ensures taken { D.tells disk → OnOk result (D.content disk ≡ []) }
-        ensures not_empty { D.tells disk → IfErr result (λ fault. fault.cause ≡ NotEmpty
-            → (D.content disk ≢ []) × Keeps D.DiskFacts disk fault.disk) }
+        ensures refused { D.tells disk → IfErr result
+            (λ fault. Refuses D.DiskFacts fault.cause disk fault.disk) }
         ensures made { D.tells disk → IfOk result
             (λ store. D.content store.disk ≡ new_file store.current.body) }
         // A crash leaves a file that has that root.
@@ -248,8 +240,6 @@ impl<D: Disk> Store<D> {
             → D.survives store.disk c → IsLeft store.phase store.current store.next c) }
         ensures counts { D.tells disk
             → IfOk result (λ store. Counts D.DiskFacts 0 3 2 disk store.disk) }
-        ensures failed { D.tells disk → IfErr result
-            (λ fault. D.failures fault.disk ≡ D.failures disk + failures_of fault.cause) }
         ensures tells { IfOk result (λ store. D.tells store.disk ↔ D.tells disk) }
         ensures tells_refused { IfErr result (λ fault. D.tells fault.disk ↔ D.tells disk) }
     {

@@ -1,6 +1,5 @@
 //! How far a store is.
-ghost use Rattle.std.specs.Prelude.{◌≡◌, nat_lt};
-ghost use Rattle.root_slots.specs.Root.{version_of};
+ghost use Rattle.std.specs.Prelude.{◌≡◌};
 
 use crate::phase::Phase;
 use crate::store::Store;
@@ -19,12 +18,5 @@ impl<D: Disk> Store<D> {
         ensures { result ≡ self.now.failed }
     {
         self.failed
-    }
-
-    /// Whether there is a further version behind the live root's. Takes no memory.
-    pub fn has_next_version(&self) -> bool
-        ensures { result ≡ nat_lt (version_of self.now.current.body) 18446744073709551615 }
-    {
-        self.current.version() < u64::MAX
     }
 }

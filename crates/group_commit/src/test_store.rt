@@ -1,5 +1,6 @@
 //! What the tests share of stores: their calls, and their file.
 use crate::{Phase, Store, StoreError};
+use change_codec::put_ops;
 use disk_trait::{Disk, MemDisk};
 use op_ids::ReplicaId;
 use op_model::Op;
@@ -27,8 +28,11 @@ pub(crate) fn store(alloc: Global, pages: usize) -> Result<Store<MemDisk>, Fail>
     store_on(alloc, disk)
 }
 
+/// Begins a commit of these operations.
 pub(crate) fn begin<D: Disk>(store: &mut Store<D>, ops: &[Op]) -> Result<Option<u64>, StoreError> {
-    store.begin(ops)
+    let mut records = Vec::new(store.current.allocator());
+    put_ops(ops, &mut records)?;
+    store.begin_records(&records, ops.len() as u64)
 }
 
 pub(crate) fn step<D: Disk>(store: &mut Store<D>) -> Result<Phase, StoreError> {

@@ -108,12 +108,3 @@ begin_made {D} facts h s new answer lawful fits works none is_answer begins stay
         (begin_step (state_of (record { replica = h; store = s })) (state_of (record { replica = h; store = new })) (begin_due s (drop h.settled h.list)) answer machine
         is_answer new_state (λ other. ap (λ t. state_of (record { replica = h; store = t })) (stays other)))
         kept.more kept.list (same_settled answer) (omega arith) refl (its_counts answer refl) (its_goes answer refl)
-
--- the same of the operations that the store was given
-pub begin_given : {D : Type 0} (facts : Ghosts D) (h : Held) (s new : StoreHeld D) (rest : List Op) (answer : Result (Option ℕ) StoreError)
-    → (facts.tells s.disk → IsLawful facts s.disk) → Fits facts (record { replica = h; store = s }) → s.failed ≡ false
-    → (is_idle s.phase && nat_lt h.settled (committed s)) ≡ false → rest ≡ drop h.settled h.list → IsAnswer (begin_due s rest) answer
-    → ((n : ℕ) → answer ≡ Ok (Some n) → Begins facts s rest new) → (((n : ℕ) → answer ≢ Ok (Some n)) → new ≡ s)
-    → Makes facts begin (answer_due answer) (record { replica = h; store = s }) (record { replica = h; store = new })
-begin_given facts h s new rest answer lawful fits works none is is_answer begins stays =
-    begin_made facts h s new answer lawful fits works none (rw is at is_answer) (λ n same. rw is at (begins n same)) stays

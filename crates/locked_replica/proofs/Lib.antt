@@ -3,6 +3,7 @@ pub mod Recovering
 pub mod Keeping
 pub mod QuietCalls
 pub mod StateLemmas
+pub mod RoomAnswers
 pub mod RoomLemmas
 pub mod PhaseLemmas
 pub mod DeviceCalls

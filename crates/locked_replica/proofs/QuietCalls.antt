@@ -1,5 +1,5 @@
 -- Calls of a hub that make no device call.
-use Rattle.std.proofs.Common.{◌≡◌, ℕ, ◌<◌, ◌≤◌, Bool, true, false, List, ◌++◌, take, refl, subst, arith, inl, inr}
+use Rattle.std.proofs.Common.{◌≡◌, ℕ, ◌<◌, ◌≤◌, Bool, true, false, List, [], ◌∷◌, ◌++◌, take, refl, subst, arith, inl, inr}
 use Rattle.std.specs.Prelude.{if◌then◌else◌, IsTrue, ◌↔◌}
 use Rattle.std.proofs.lemmas.Bool.Decides.{nat_tests}
 use Rattle.disk_trait.specs.Calls.{IsLawful, LeavesOnly}
@@ -7,8 +7,9 @@ use Rattle.disk_trait.specs.declared.facts.DiskFacts.{Ghosts}
 use Rattle.op_model.specs.declared.op.Op.{Op}
 use Rattle.op_model.specs.declared.edit.Edit.{Edit}
 use Rattle.op_model.specs.Causality.{clock_of}
-use Rattle.op_model.specs.Machine.{Event, edit, merge, begin, device_step, settle, ack, tell, have, Ticket, Answer, goes_on, goes_through, ticket, applied, known, early, acknowledged, operations, clock, refused, untold, reach, Step, IsRefusal, edit_answer, merge_answer}
-use Rattle.replica_core.specs.Held.{Held, IsSound, alone, with_edit, with_acked, with_told}
+use Rattle.op_model.specs.Machine.{Event, edit, merge, begin, device_step, settle, ack, tell, have, Ticket, Answer, goes_on, goes_through, ticket, applied, known, early, acknowledged, operations, clock, refused, untold, reach, Step, IsRefusal, edit_alone, merge_alone, has_record_room, with_room}
+use Rattle.op_model.specs.Made.{made}
+use Rattle.replica_core.specs.Held.{Held, IsSound, alone, stored, with_edit, with_acked, with_told}
 use Rattle.replica_core.specs.Merging.{with_merge, after_merge, answer_of}
 use Rattle.replica_core.specs.declared.merged.Merged.{Merged}
 use Rattle.replica_core.specs.declared.merged.Merged.TheVariants as merged_as
@@ -90,21 +91,21 @@ quiet_call {D} facts event answer old new same lawful fits owner step more list 
 -- an edit that is answered with a ticket
 pub edit_call : {D : Type 0} (facts : Ghosts D) (h next : Held) (s : StoreHeld D) (session : ℕ) (e : Edit) (t : Ticket)
     → (facts.tells s.disk → IsLawful facts s.disk) → Fits facts (record { replica = h; store = s }) → s.failed ≡ false
-    → edit_answer h.replica (alone h) e ≡ ticket t → next ≡ with_edit h session e → IsSound next
-    → IsCall facts (edit session e) (ticket t) (record { replica = h; store = s }) (record { replica = next; store = s })
-edit_call facts h next s session e t lawful fits works answer is sound =
+    → edit_alone h.replica (alone h) e ≡ ticket t → has_record_room (stored h (version_at h s) (commit_of h s)) (made h.list h.replica e) ≡ true
+    → next ≡ with_edit h session e → IsSound next → IsCall facts (edit session e) (ticket t) (record { replica = h; store = s }) (record { replica = next; store = s })
+edit_call facts h next s session e t lawful fits works answer room is sound =
     rw is (
     let kept = grows_edit h session e in
     quiet_call facts (edit session e) (ticket t) (record { replica = h; store = s }) (record { replica = with_edit h session e; store = s }) refl lawful
     (fits_grown facts h (with_edit h session e) s fits (rw is at sound) kept) refl
-    (rw works (edit_step h (with_edit h session e) session e t (version_at h s) (commit_of h s) answer refl))
+    (rw works (edit_step h (with_edit h session e) session e t (version_at h s) (commit_of h s) answer room refl))
     kept.more kept.list refl (omega arith) refl (counts_same facts _ s refl refl) refl
     )
 
 -- an edit that is refused
 pub edit_call_refused : {D : Type 0} (facts : Ghosts D) (h : Held) (s : StoreHeld D) (session : ℕ) (e : Edit) (n : ℕ)
     → (facts.tells s.disk → IsLawful facts s.disk) → Fits facts (record { replica = h; store = s }) → s.failed ≡ false
-    → IsRefusal n (edit_answer h.replica (alone h) e)
+    → IsRefusal n (with_room (has_record_room (stored h (version_at h s) (commit_of h s)) (made h.list h.replica e)) (edit_alone h.replica (alone h) e))
     → IsCall facts (edit session e) (refused n) (record { replica = h; store = s }) (record { replica = h; store = s })
 edit_call_refused facts h s session e n lawful fits works answer =
     let kept = grows_same h in
@@ -122,35 +123,36 @@ edit_call_failed facts h s session e lawful fits failed =
 -- a merge that isn't refused
 pub merge_call : {D : Type 0} (facts : Ghosts D) (h next : Held) (s : StoreHeld D) (peer : ℕ) (op : Op) (m : Merged)
     → (facts.tells s.disk → IsLawful facts s.disk) → Fits facts (record { replica = h; store = s }) → s.failed ≡ false
-    → merge_answer h.replica (alone h) op ≡ answer_of m → next ≡ after_merge m h peer op → IsSound next
+    → merge_alone h.replica (alone h) op ≡ answer_of m
+    → (m ≡ merged_as.Applied → has_record_room (stored h (version_at h s) (commit_of h s)) (op ∷ []) ≡ true) → next ≡ after_merge m h peer op → IsSound next
     → IsCall facts (merge peer op) (answer_of m) (record { replica = h; store = s }) (record { replica = next; store = s })
-merge_call facts h next s peer op merged_as.Applied lawful fits works answer is sound =
+merge_call facts h next s peer op merged_as.Applied lawful fits works answer room is sound =
     rw is (
     let kept = grows_merge h peer op in
     quiet_call facts (merge peer op) applied (record { replica = h; store = s }) (record { replica = with_merge h peer op; store = s }) refl lawful
     (fits_grown facts h (with_merge h peer op) s fits (rw is at sound) kept) refl
-    (rw works (merge_step h (with_merge h peer op) peer op merged_as.Applied (version_at h s) (commit_of h s) answer refl))
+    (rw works (merge_step h (with_merge h peer op) peer op merged_as.Applied (version_at h s) (commit_of h s) answer room refl))
     kept.more kept.list refl (omega arith) refl (counts_same facts _ s refl refl) refl
     )
-merge_call facts h next s peer op merged_as.Known lawful fits works answer is sound =
+merge_call facts h next s peer op merged_as.Known lawful fits works answer room is sound =
     rw is (
     let kept = grows_same h in
     quiet_call facts (merge peer op) known (record { replica = h; store = s }) (record { replica = h; store = s }) refl lawful fits refl
-    (rw works (merge_step h h peer op merged_as.Known (version_at h s) (commit_of h s) answer refl))
+    (rw works (merge_step h h peer op merged_as.Known (version_at h s) (commit_of h s) answer room refl))
     kept.more kept.list refl (omega arith) refl (counts_same facts _ s refl refl) refl
     )
-merge_call facts h next s peer op merged_as.Early lawful fits works answer is sound =
+merge_call facts h next s peer op merged_as.Early lawful fits works answer room is sound =
     rw is (
     let kept = grows_same h in
     quiet_call facts (merge peer op) early (record { replica = h; store = s }) (record { replica = h; store = s }) refl lawful fits refl
-    (rw works (merge_step h h peer op merged_as.Early (version_at h s) (commit_of h s) answer refl))
+    (rw works (merge_step h h peer op merged_as.Early (version_at h s) (commit_of h s) answer room refl))
     kept.more kept.list refl (omega arith) refl (counts_same facts _ s refl refl) refl
     )
 
 -- a merge that is refused
 pub merge_call_refused : {D : Type 0} (facts : Ghosts D) (h : Held) (s : StoreHeld D) (peer : ℕ) (op : Op) (n : ℕ)
     → (facts.tells s.disk → IsLawful facts s.disk) → Fits facts (record { replica = h; store = s }) → s.failed ≡ false
-    → IsRefusal n (merge_answer h.replica (alone h) op)
+    → IsRefusal n (with_room (has_record_room (stored h (version_at h s) (commit_of h s)) (op ∷ [])) (merge_alone h.replica (alone h) op))
     → IsCall facts (merge peer op) (refused n) (record { replica = h; store = s }) (record { replica = h; store = s })
 merge_call_refused facts h s peer op n lawful fits works answer =
     let kept = grows_same h in

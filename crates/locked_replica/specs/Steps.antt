@@ -20,6 +20,7 @@ use Rattle.locked_replica.specs.declared.hub_reply.HubReply.TheVariants as reply
 abbrev pub number_of : HubRefusal → ℕ
 number_of (refusal.Replica e) = number_of_replica e
 number_of (refusal.Store e) = number_of_store e
+number_of refusal.Full = 8
 number_of refusal.Failed = 9
 
 -- the machine's answer to an edit

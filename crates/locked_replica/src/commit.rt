@@ -26,8 +26,8 @@ impl<D: Disk> Hub<D> {
     ///
     /// Refuses, in this order, with 44 where the device failed, 8 where there is a commit, 7 where
     /// there is no further version, and 1 where a growth was refused. A refused call changes
-    /// nothing. Reads the operations that aren't settled, linear in their records, and costs what
-    /// `Store::begin` does.
+    /// nothing. Costs what `Store::begin_records` does: the store is given the list's own records,
+    /// and no operation is read, copied or spelled.
     pub fn begin(&mut self) -> Result<Option<u64>, HubRefusal>
         ensures call { IsCall D.DiskFacts begin_event (begin_answered result) self.old self.new }
     {
@@ -37,20 +37,11 @@ impl<D: Disk> Hub<D> {
         if self.is_through() {
             return Err(HubRefusal::Store(StoreError::Busy));
         }
-        if !self.store.phase().is_idle() {
-            return Err(HubRefusal::Store(StoreError::Busy));
-        }
-        if self.replica.list().len() <= self.replica.settled() {
-            return Ok(None);
-        }
-        if !self.store.has_next_version() {
-            return Err(HubRefusal::Store(StoreError::Limit));
-        }
-        let rest = match self.replica.unsettled() {
-            Ok(rest) => rest,
-            Err(_) => return Err(HubRefusal::Store(StoreError::Memory)),
-        };
-        let begun = match self.store.begin(&rest) {
+        let list = self.replica.list();
+        let settled = self.replica.settled();
+        let records = list.records_from(settled);
+        let count = (list.len() - settled) as u64;
+        let begun = match self.store.begin_records(records, count) {
             Ok(begun) => begun,
             Err(error) => return Err(HubRefusal::Store(error)),
         };

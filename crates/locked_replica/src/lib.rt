@@ -9,6 +9,9 @@ mod hub_step;
 #[cfg(test)]
 mod merge_tests;
 mod opening;
+mod pending;
+#[cfg(test)]
+mod pending_tests;
 mod reading;
 mod refusal;
 mod running;
@@ -25,5 +28,6 @@ mod world_tests;
 pub use hub::Hub;
 pub use hub_reply::HubReply;
 pub use hub_step::HubStep;
+pub use pending::MAX_PENDING;
 pub use refusal::HubRefusal;
 pub use running::run;

@@ -14,6 +14,9 @@ pub enum HubRefusal {
     /// 1, 7, 8, 44, 51, 52: the store refuses, or no commit is through.
     #[error("{0}")]
     Store(StoreError),
+    /// 8: the records that wait for a commit leave no room.
+    #[error("busy")]
+    Full,
     /// 9: the device failed, and the store must be opened again.
     #[error("failed")]
     Failed,
@@ -29,6 +32,7 @@ impl HubRefusal {
         match self {
             HubRefusal::Replica(refusal) => refusal.number(),
             HubRefusal::Store(error) => error.number(),
+            HubRefusal::Full => 8,
             HubRefusal::Failed => 9,
         }
     }

@@ -15,8 +15,10 @@ use replica_core::{Merged, Ticket};
 
 impl<D: Disk> Hub<D> {
     /// Makes the operations of a session's edit and puts them behind the list; they aren't settled
-    /// yet. Refuses, in this order, with 9 where the device failed, and as `Replica::edit` does: 6,
-    /// 5, 7, 10, 1. A refused edit changes nothing. Costs what `Replica::edit` does.
+    /// yet. Refuses, in this order, with 9 where the device failed, as `Replica::edit` does (6, 5,
+    /// 7, 10), with 8 where the records have no room behind those that wait for a commit (1,048,576
+    /// bytes), and with 1 for want of memory. A refused edit changes nothing. Costs what
+    /// `Replica::edit` does.
     pub fn edit(&mut self, session: u64, edit: &Edit) -> Result<Ticket, HubRefusal>
         ensures call { IsCall D.DiskFacts (edit_event session edit.now) (edited result)
             self.old self.new }
@@ -25,7 +27,14 @@ impl<D: Disk> Hub<D> {
         if self.store.has_failed() {
             return Err(HubRefusal::Failed);
         }
-        let ticket = match self.replica.edit(session, edit) {
+        let bytes = match self.replica.edit_length(edit) {
+            Ok(bytes) => bytes,
+            Err(refusal) => return Err(HubRefusal::Replica(refusal)),
+        };
+        if !self.has_record_room(bytes) {
+            return Err(HubRefusal::Full);
+        }
+        let ticket = match self.replica.put_edit(session, edit) {
             Ok(ticket) => ticket,
             Err(refusal) => return Err(HubRefusal::Replica(refusal)),
         };
@@ -34,8 +43,10 @@ impl<D: Disk> Hub<D> {
     }
 
     /// Puts a peer's operation behind the list, or says that it is there already or comes early.
-    /// Refuses, in this order, with 9 where the device failed, and as `Replica::merge` does: 20 to
-    /// 24, 10, 1. A refused merge changes nothing. Costs what `Replica::merge` does.
+    /// Refuses, in this order, with 9 where the device failed, as `Replica::merge` does (20 to 24,
+    /// 10), with 8 where the record has no room behind those that wait for a commit (1,048,576
+    /// bytes), and with 1 for want of memory. A refused merge changes nothing. Costs what
+    /// `Replica::merge` does.
     pub fn merge(&mut self, peer: u64, op: Op) -> Result<Merged, HubRefusal>
         ensures call { IsCall D.DiskFacts (merge_event peer op) (merge_answered result)
             self.old self.new }
@@ -44,12 +55,21 @@ impl<D: Disk> Hub<D> {
         if self.store.has_failed() {
             return Err(HubRefusal::Failed);
         }
-        let merged = match self.replica.merge(peer, op) {
-            Ok(merged) => merged,
+        match self.replica.decide_merge(&op) {
+            Ok(Merged::Applied) => {}
+            Ok(Merged::Known) => return Ok(Merged::Known),
+            Ok(Merged::Early) => return Ok(Merged::Early),
             Err(refusal) => return Err(HubRefusal::Replica(refusal)),
-        };
+        }
+        if !self.has_record_room(op.record_length()) {
+            return Err(HubRefusal::Full);
+        }
+        match self.replica.put_merge(peer, op) {
+            Ok(()) => {}
+            Err(refusal) => return Err(HubRefusal::Replica(refusal)),
+        }
         let _list = self.replica.list();
-        Ok(merged)
+        Ok(Merged::Applied)
     }
 
     /// Whether the operations of a ticket's edit are settled. Then they are acknowledged; otherwise
@@ -65,8 +85,8 @@ impl<D: Disk> Hub<D> {
     }
 
     /// The first settled operations, at most 64 in the order of the list, that a clock doesn't
-    /// count. They count as told. An error is want of memory (1), and changes nothing. Linear in
-    /// the list.
+    /// count. They count as told. An error is want of memory (1), and changes nothing. Costs what
+    /// `Replica::tell` does.
     pub fn tell(&mut self, clock: &Clock) -> Result<Vec<Op>, HubRefusal>
         ensures call { IsCall D.DiskFacts (tell_event clock.now) (told result) self.old self.new }
         ensures store { self.new.store ≡ self.old.store }
@@ -80,7 +100,7 @@ impl<D: Disk> Hub<D> {
     }
 
     /// How many operations of each replica are settled. All settled ones count as told. An error is
-    /// want of memory (1), and changes nothing. Linear in the list.
+    /// want of memory (1), and changes nothing. Costs what `Replica::have` does.
     pub fn have(&mut self) -> Result<Clock, HubRefusal>
         ensures call { IsCall D.DiskFacts have_event (had result) self.old self.new }
         ensures store { self.new.store ≡ self.old.store }

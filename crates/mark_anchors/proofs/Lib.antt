@@ -1,3 +1,4 @@
+pub mod CountLemmas
 pub mod EdgeLemmas
 pub mod EndLemmas
 pub mod KeepLemmas

@@ -1,3 +1,5 @@
 pub mod Edges
+pub mod Force
+pub mod Intervals
 pub mod Keeping
 pub mod Naming

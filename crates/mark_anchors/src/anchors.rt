@@ -1,8 +1,9 @@
 ghost use Rattle.std.specs.Prelude.{◌≡◌, ◌↔◌, ℕ, List, [], ◌∷◌, ◌++◌, false, IfOk, OnOk, OnErr};
-ghost use Rattle.std.specs.Prelude.{filter, IsErrOf};
+ghost use Rattle.std.specs.Prelude.{filter, map, IsErrOf};
 ghost use Rattle.std.specs.List.{list_all};
 ghost use Rattle.char_sequence.specs.Content.{Holds};
 ghost use Rattle.mark_anchors.specs.Edges.{AreEdges, AreKept};
+ghost use Rattle.mark_anchors.specs.Force.{in_force as in_force_of, number};
 ghost use Rattle.mark_anchors.specs.Keeping.{in_order, AreMarksOf};
 ghost use Rattle.op_ids.specs.Id.{is_same};
 ghost use Rattle.mark_anchors.specs.Naming.{named_by_marking};
@@ -10,10 +11,13 @@ ghost use Rattle.op_model.specs.declared.op.Op.{Op};
 ghost use Rattle.op_model.specs.Characters.{characters};
 ghost use Rattle.op_model.specs.Marks.{markings as markings_of};
 ghost use Rattle.op_model.specs.Placing.{has_id, Fits};
+ghost use Rattle.op_model.specs.Walk.{walk};
 
 use crate::edge::{Edge, end_edge, start_edge};
 use crate::edges::{at, edges_of, has_end_after, put};
+use crate::force::in_force;
 use crate::naming::check_names;
+use crate::place::Place;
 use char_sequence::{EndsAfter, Sequence, SequenceError};
 use op_ids::OpId;
 use op_model::{Marking, Op};
@@ -80,6 +84,22 @@ impl Anchors {
         check_names(sequence, &op.body)?;
         keep(&mut self.markings, &mut self.edges, op)?;
         Ok(())
+    }
+
+    /// The mark operations that are in force at a place, in the order in which they came: each
+    /// begins there or before, and ends behind. An error is want of memory (1). A search for both
+    /// characters of each mark operation, as `Sequence::find` does it.
+    pub fn set_at(
+        &self,
+        alloc: Global,
+        place: Place,
+        sequence: &Sequence,
+    ) -> Result<Vec<&Marking>, AllocError>
+        ensures { IfOk result (λ found. (ops : List Op) (doc : ℕ) → Holds sequence.now ops doc
+            → AreMarksOf self.now ops doc → map (λ m. m.now) found.items
+            ≡ in_force_of (walk ops doc) (number place) (markings_of ops doc)) }
+    {
+        in_force(alloc, &self.markings, &place, sequence)
     }
 
     /// The mark operations in the order in which they came. For `span_flatten` alone. Constant.

@@ -1,11 +1,13 @@
-//! The mark operations of a document, and where they end.
+//! The mark operations of a document, where they end, and which are in force at a place.
 #![tactic(auto)]
 
 mod anchors;
 mod edge;
 mod edges;
+mod force;
 mod laws;
 mod naming;
+mod place;
 
 pub use anchors::Anchors;
 pub use edge::Edge;
@@ -13,6 +15,7 @@ pub use laws::{
     inserts_and_removes_leave_the_marks, kept_marks_say_their_ends,
     other_documents_leave_the_marks, runs_and_removes_leave_the_marks,
 };
+pub use place::Place;
 
 #[cfg(test)]
 mod tests;

@@ -14,12 +14,12 @@ fn main(rt: HostRuntime) -> io::Result<()> {
             println!(rt; "a line has to be: COUNT PLACE EDITS")?;
             continue;
         };
-        let Some(mut pair) = plan.prepare(rt.alloc()) else {
+        let Some(merges) = plan.prepare(rt.alloc()) else {
             println!(rt; "refused")?;
             continue;
         };
         println!(rt; "ready")?;
-        match pair.merge(rt.alloc()) {
+        match merges.merge() {
             Some(count) => println!(rt; "{count}")?,
             None => println!(rt; "refused")?,
         }

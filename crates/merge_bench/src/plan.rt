@@ -1,71 +1,116 @@
 //! What is measured.
-ghost use Rattle.std.specs.Prelude.{◌<◌, ◌^◌};
-ghost use Rattle.op_model.specs.Records.{stream_length};
-
 use crate::place::Place;
 use op_ids::ReplicaId;
-use op_list::{OpList, OpSlice};
-use op_model::{Change, Edit, EditText};
+use op_list::OpList;
+use op_model::{Change, Edit, EditText, Op};
 use replica_core::Replica;
 use std::alloc::Global;
 
 /// The characters of an edit, at most.
 const MOST: u32 = 256;
 
-/// One replica types `count` characters into document 1, and then makes `edits` inserts of one
-/// character at a place. Another one has the first `count` operations, and merges those behind them.
+/// Who makes the operations that are merged.
+#[derive(Drop)]
+enum Writers {
+    /// One replica, that inserts at a place.
+    One(Place),
+    /// Three that type at once, at a quarter, a half and three quarters of the text.
+    Three,
+}
+
+/// A replica types `count` characters into document 1. Then writers make `edits` inserts of one
+/// character, which another replica merges that has the first `count` operations.
 #[derive(Drop)]
 pub struct Plan {
     count: u32,
-    place: Place,
+    writers: Writers,
     edits: u32,
 }
 
 impl Plan {
-    /// The plan of a line `COUNT PLACE EDITS`.
+    /// The plan of a line `COUNT PLACE EDITS`, where `three` for a place is three writers.
     pub fn read(line: &str) -> Option<Plan> {
         let mut words = line.split_whitespace();
         Some(Plan {
             count: words.next()?.parse().ok()?,
-            place: Place::read(words.next()?)?,
+            writers: match words.next()? {
+                "three" => Writers::Three,
+                place => Writers::One(Place::read(place)?),
+            },
             edits: words.next()?.parse().ok()?,
         })
     }
 
     /// All that comes before the merges; `None` where something is refused.
-    pub fn prepare(&self, alloc: Global) -> Option<Pair> {
-        let mut one = typed(alloc, self.count)?;
+    pub fn prepare(&self, alloc: Global) -> Option<Merges> {
+        let base = typed(alloc, self.count)?;
+        let other = copied(alloc, &base, 2)?;
+        let ops = match self.writers {
+            Writers::One(place) => self.inserts(alloc, base, place)?,
+            Writers::Three => self.in_turn(alloc, &base)?,
+        };
+        Some(Merges { ops, other })
+    }
+
+    /// The operations of one writer.
+    fn inserts(&self, alloc: Global, mut writer: Replica, place: Place) -> Option<Vec<Op>> {
         for number in 0..self.edits {
-            let at = self.place.at(number, self.count.saturating_add(number));
-            insert(alloc, &mut one, at, 1)?;
+            let at = place.at(number, self.count.saturating_add(number));
+            insert(alloc, &mut writer, at, 1)?;
         }
-        let list = one.list();
-        let first = self.count as usize;
-        if first > list.len() {
-            return None;
+        made_since(alloc, &writer, self.count)
+    }
+
+    /// The operations of three writers, one of each in turn.
+    fn in_turn(&self, alloc: Global, base: &Replica) -> Option<Vec<Op>> {
+        let mut second = self.typed_on(alloc, base, 2)?.into_iter();
+        let mut third = self.typed_on(alloc, base, 3)?.into_iter();
+        let mut ops = Vec::new(alloc);
+        for op in self.typed_on(alloc, base, 1)? {
+            ops.push(op).ok()?;
+            ops.push(second.next()?).ok()?;
+            ops.push(third.next()?).ok()?;
         }
-        let other = with_list(alloc, &list.front(first))?;
-        Some(Pair { one, other })
+        Some(ops)
+    }
+
+    /// A third of the operations, of a writer who types from so many quarters of the text on.
+    fn typed_on(&self, alloc: Global, base: &Replica, quarters: u8) -> Option<Vec<Op>> {
+        let mut writer = copied(alloc, base, quarters.saturating_add(2))?;
+        let start = (self.count / 4).saturating_mul(u32::from(quarters));
+        for number in 0..self.edits / 3 {
+            insert(alloc, &mut writer, start.saturating_add(number), 1)?;
+        }
+        made_since(alloc, &writer, self.count)
     }
 }
 
-/// Two replicas, of which the other one has the first operations of the one.
+/// Operations, and the replica that is to merge them.
 #[derive(Drop)]
-pub struct Pair {
-    one: Replica,
+pub struct Merges {
+    ops: Vec<Op>,
     other: Replica,
 }
 
-impl Pair {
-    /// The other one merges what it doesn't have. Gives how many operations it has then; `None`
-    /// where something is refused.
-    pub fn merge(&mut self, alloc: Global) -> Option<usize> {
-        let list = self.one.list();
-        for i in self.other.list().len()..list.len() {
-            self.other.merge(1, list.get(alloc, i).ok()?).ok()?;
+impl Merges {
+    /// Merges all of them. Gives how many operations the replica has then; `None` where something
+    /// is refused.
+    pub fn merge(mut self) -> Option<usize> {
+        for op in self.ops {
+            self.other.merge(1, op).ok()?;
         }
         Some(self.other.list().len())
     }
+}
+
+/// The operations of a list behind the first so many.
+fn made_since(alloc: Global, replica: &Replica, first: u32) -> Option<Vec<Op>> {
+    let list = replica.list();
+    let first = first as usize;
+    if first > list.len() {
+        return None;
+    }
+    list.copy_from(alloc, first).ok()
 }
 
 /// The replica whose id ends in this byte.
@@ -98,11 +143,12 @@ fn insert(alloc: Global, replica: &mut Replica, at: u32, count: u32) -> Option<(
     Some(())
 }
 
-/// The second replica with these operations.
-fn with_list(alloc: Global, ops: &OpSlice<'_>) -> Option<Replica>
-    requires { stream_length ops.now < 2 ^ 32 }
-{
+/// The replica whose id ends in this byte, with the operations of another one.
+fn copied(alloc: Global, of: &Replica, last: u8) -> Option<Replica> {
+    let Ok(ops) = of.list().copy_from(alloc, 0) else {
+        return None;
+    };
     let mut list = OpList::new(alloc);
-    list.append(&ops.copy_from(alloc, 0).ok()?).ok()?;
-    Replica::from_list(alloc, id(2)?, list).ok()
+    list.append(&ops).ok()?;
+    Replica::from_list(alloc, id(last)?, list).ok()
 }

@@ -63,7 +63,7 @@ fits_drop zero ops fits = fits
 fits_drop (suc n) [] fits = tt
 fits_drop (suc n) (op ∷ ops) fits = fits_drop n ops fits.1
 
-fits_append : (a b : List Op) → AreOperations a → AreOperations b → AreOperations (a ++ b)
+pub fits_append : (a b : List Op) → AreOperations a → AreOperations b → AreOperations (a ++ b)
 fits_append [] b fits_a fits_b = fits_b
 fits_append (op ∷ ops) b fits_a fits_b = (fits_a.0, fits_append ops b fits_a.1 fits_b)
 
@@ -73,7 +73,7 @@ records_parts : (n : ℕ) (ops : List Op)
 records_parts n ops =
     ap spelled_all (sym (take-append-drop n ops)) ∙ spelled_all-append (take n ops) (drop n ops)
 
-front_records : (n : ℕ) (ops : List Op)
+pub front_records : (n : ℕ) (ops : List Op)
     → take (stream_length (take n ops)) (spelled_all ops) ≡ spelled_all (take n ops)
 front_records n ops =
     let len = stream_length (take n ops) in
@@ -168,7 +168,7 @@ held_front n start records ends front_records front_ends ops holds start_is reco
     (subst (λ (e : List ℕ). Holds (take len records) e (take n ops)) (sym ends_are) front)
 
 -- no operation takes no bytes
-few_ops : (ops : List Op) → length ops ≤ stream_length ops
+pub few_ops : (ops : List Op) → length ops ≤ stream_length ops
 few_ops [] = omega arith
 few_ops (op ∷ ops) = omega (arith, few_ops ops)
 

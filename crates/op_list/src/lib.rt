@@ -5,10 +5,14 @@ mod ends;
 mod head;
 mod op_list;
 mod op_slice;
+mod records;
 
 pub use head::OpHead;
 pub use op_list::OpList;
 pub use op_slice::OpSlice;
+pub use records::Records;
 
+#[cfg(test)]
+mod record_tests;
 #[cfg(test)]
 mod tests;

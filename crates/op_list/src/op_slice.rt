@@ -91,8 +91,16 @@ impl<'a> OpSlice<'a> {
         }
     }
 
-    // The records from the n-th on, counted from 0.
-    fn records_from(&self, n: usize) -> &'a [u8]
+    /// How many bytes the records take from the n-th on, counted from 0. Constant.
+    pub fn length_from(&self, n: usize) -> usize
+        requires { n ≤ length self.now }
+        ensures { result ≡ stream_length (drop n self.now) }
+    {
+        self.records_from(n).len()
+    }
+
+    /// The records of the operations from the n-th on, counted from 0. Constant; takes no memory.
+    pub fn records_from(&self, n: usize) -> &'a [u8]
         requires { n ≤ length self.now }
         ensures spelled_so { result.now ≡ spelled_all (drop n self.now) }
         ensures fits { AreOperations (drop n self.now) }

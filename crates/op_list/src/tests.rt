@@ -57,7 +57,7 @@ fn no_comment(alloc: Global) -> Result<Op, Fail> {
 }
 
 /// One operation of each kind.
-fn each_kind(alloc: Global) -> Result<Vec<Op>, Fail> {
+pub(crate) fn each_kind(alloc: Global) -> Result<Vec<Op>, Fail> {
     let mut ops = Vec::new(alloc);
     ops.push(insert(alloc)?)?;
     ops.push(remove(alloc)?)?;
@@ -67,7 +67,7 @@ fn each_kind(alloc: Global) -> Result<Vec<Op>, Fail> {
 }
 
 /// The operations, held.
-fn list_of(alloc: Global, ops: &[Op]) -> Result<OpList, Fail> {
+pub(crate) fn list_of(alloc: Global, ops: &[Op]) -> Result<OpList, Fail> {
     if stream_length(ops) > 1_000 {
         Err("too long")?;
     }

@@ -1,11 +1,12 @@
 -- What a replica with its store does, one event after another.
-use Rattle.std.specs.Prelude.{◌≡◌, ◌⊎◌, ℕ, zero, suc, ◌+◌, ◌≤◌, ◌<◌, Bool, true, false, not, ◌==◌, nat_le, if◌then◌else◌, List, [], ◌∷◌, ◌++◌, length, take, filter, max, Option, Some, None, is_some}
+use Rattle.std.specs.Prelude.{◌≡◌, ◌⊎◌, ℕ, zero, suc, ◌+◌, ◌≤◌, ◌<◌, Bool, true, false, not, ◌==◌, nat_le, if◌then◌else◌, List, [], ◌∷◌, ◌++◌, length, take, drop, filter, max, Option, Some, None, is_some}
 use Rattle.op_model.specs.declared.op.Op.{Op}
 use Rattle.op_model.specs.declared.edit.Edit.{Edit}
 use Rattle.op_ids.specs.Clock.{is_ready}
 use Rattle.op_model.specs.Text.{rev}
 use Rattle.op_model.specs.Causality.{clock_of, is_known, first_failed}
 use Rattle.op_model.specs.Made.{made, edit_refusal}
+use Rattle.op_model.specs.Records.{stream_length}
 use Rattle.op_model.specs.Replay.{Kept, edited, merged, settlement}
 
 -- a commit: of so many operations of the list, and whether it is through
@@ -75,6 +76,14 @@ with_edit replica s session e = record s {
 abbrev pub with_merge : State → ℕ → Op → State
 with_merge s peer op = record s { list = s.list ++ op ∷ []; steps = merged peer (length s.list) ∷ s.steps }
 
+-- the state with so many operations acknowledged
+abbrev pub with_acked : State → ℕ → State
+with_acked s n = record s { acked = max s.acked n }
+
+-- the state with so many operations told
+abbrev pub with_told : State → ℕ → State
+with_told s n = record s { told = max s.told n }
+
 abbrev pub ticket_of : List Op → ℕ → Ticket
 ticket_of list doc = record { end = length list; rev = rev list doc }
 
@@ -82,29 +91,59 @@ ticket_of list doc = record { end = length list; rev = rev list doc }
 abbrev pub has_places : State → Bool
 has_places s = nat_le (length s.steps + 3) 1048576
 
+-- how many operations are settled or in the commit
+abbrev pub taken_in : Option Commit → ℕ → ℕ
+taken_in None settled = settled
+taken_in (Some c) settled = c.count
+
+-- the operations that wait for the next commit
+abbrev pub pending : State → List Op
+pending s = drop (taken_in s.commit s.settled) s.list
+
+-- the records of those that wait, with those of these behind them, have at most 1,048,576 bytes
+abbrev pub has_record_room : State → List Op → Bool
+has_record_room s more = nat_le (stream_length (pending s) + stream_length more) 1048576
+
+-- what would be appended is refused with 8 where its records have no room
+abbrev pub with_room : Bool → Answer → Answer
+with_room true a = a
+with_room false (ticket t) = refused 8
+with_room false applied = refused 8
+with_room false a = a
+
 -- the answer to an edit that nothing but the kept steps may refuse: steps 10
 abbrev pub edit_answer_unless : ℕ → State → Edit → Option ℕ → Answer
 edit_answer_unless replica s e (Some n) = refused n
 edit_answer_unless replica s e None =
     if has_places s then ticket (ticket_of (s.list ++ made s.list replica e) e.doc) else refused 10
 
--- the answers to an edit, in the order of test: failed 9, then its own refusals, steps 10
+-- the answer to an edit of a replica without a store: its own refusals, steps 10
+abbrev pub edit_alone : ℕ → State → Edit → Answer
+edit_alone replica s e = edit_answer_unless replica s e (edit_refusal s.list replica e)
+
+-- the answers to an edit, in the order of test: failed 9, those of the replica alone, no room for the records 8
 abbrev pub edit_answer : ℕ → State → Edit → Answer
-edit_answer replica s e = if s.failed then refused 9 else edit_answer_unless replica s e (edit_refusal s.list replica e)
+edit_answer replica s e =
+    if s.failed then refused 9 else with_room (has_record_room s (made s.list replica e)) (edit_alone replica s e)
 
 -- the answer to a merge that a check may refuse: steps 10
 abbrev pub merge_answer_unless : State → Option ℕ → Answer
 merge_answer_unless s (Some n) = refused n
 merge_answer_unless s None = if has_places s then applied else refused 10
 
--- the answers of a merge, in the order of test: failed 9, known, own but unknown 20, early, then the checks, steps 10
-abbrev pub merge_answer : ℕ → State → Op → Answer
-merge_answer replica s op =
-    if s.failed then refused 9
-    else if is_known (clock_of s.list) op then known
+-- the answers of a merge into a replica without a store, in the order of test: known, own but unknown 20, early, then the checks,
+-- steps 10
+abbrev pub merge_alone : ℕ → State → Op → Answer
+merge_alone replica s op =
+    if is_known (clock_of s.list) op then known
     else if op.id.replica == replica then refused 20
     else if not (is_ready (clock_of s.list) op.id.replica op.deps) then early
     else merge_answer_unless s (first_failed s.list op)
+
+-- the answers of a merge, in the order of test: failed 9, those of the replica alone, no room for the record 8
+abbrev pub merge_answer : ℕ → State → Op → Answer
+merge_answer replica s op =
+    if s.failed then refused 9 else with_room (has_record_room s (op ∷ [])) (merge_alone replica s op)
 
 -- the answers of a begin, in the order of test: failed 44, busy 8, nothing new, no further version 7
 abbrev pub begin_answer : State → Answer
@@ -199,18 +238,18 @@ SettleStep s (refused n) next = (settle_answer s ≡ refused n) × (next ≡ s)
 SettleStep s _ next = ⊥
 
 abbrev pub AckStep : State → Ticket → Answer → State → Type 0
-AckStep s t (acknowledged true) next = (t.end ≤ s.settled) × (next ≡ record s { acked = max s.acked t.end })
+AckStep s t (acknowledged true) next = (t.end ≤ s.settled) × (next ≡ with_acked s t.end)
 AckStep s t (acknowledged false) next = (s.settled < t.end) × (next ≡ s)
 AckStep s t _ next = ⊥
 
 abbrev pub TellStep : State → List (ℕ × ℕ) → Answer → State → Type 0
 TellStep s c (operations ops) next =
-    (ops ≡ untold c s) × (next ≡ record s { told = max s.told (reach 64 c (take s.settled s.list)) })
+    (ops ≡ untold c s) × (next ≡ with_told s (reach 64 c (take s.settled s.list)))
 TellStep s c (refused n) next = (n ≡ 1) × (next ≡ s)
 TellStep s c _ next = ⊥
 
 abbrev pub HaveStep : State → Answer → State → Type 0
-HaveStep s (clock c) next = (c ≡ clock_of (take s.settled s.list)) × (next ≡ record s { told = max s.told s.settled })
+HaveStep s (clock c) next = (c ≡ clock_of (take s.settled s.list)) × (next ≡ with_told s s.settled)
 HaveStep s (refused n) next = (n ≡ 1) × (next ≡ s)
 HaveStep s _ next = ⊥
 

@@ -90,13 +90,6 @@ impl CommentIds {
         &self.ids
     }
 
-    /// The comments, in order. Takes no memory.
-    pub fn into_vec(self) -> Vec<CommentId>
-        ensures { result.items ≡ self }
-    {
-        self.ids
-    }
-
     /// The same comments again. An error is want of memory (1).
     pub fn copy(&self) -> Result<CommentIds, AllocError>
         ensures { IfOk result (λ copied. copied ≡ self.now) }

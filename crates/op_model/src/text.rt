@@ -48,13 +48,6 @@ impl Text {
         &self.characters
     }
 
-    /// The characters, in order. Takes no memory.
-    pub fn into_vec(self) -> Vec<char>
-        ensures { result.items ≡ self }
-    {
-        self.characters
-    }
-
     /// Puts a character before the one at a place, or at the end. An error is want of memory (1), and leaves the text
     /// as it was.
     pub fn insert(&mut self, at: usize, character: char) -> Result<(), AllocError>

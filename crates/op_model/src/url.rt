@@ -59,13 +59,6 @@ impl Url {
         self.text.as_str()
     }
 
-    /// The text. Takes no memory.
-    pub fn into_string(self) -> String
-        ensures { string_bytes result ≡ self }
-    {
-        self.text
-    }
-
     /// The same URL again. An error is want of memory (1).
     pub fn copy(&self) -> Result<Url, AllocError>
         ensures { IfOk result (λ copied. copied ≡ self.now) }

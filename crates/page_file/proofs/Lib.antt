@@ -7,6 +7,6 @@ pub mod Joining
 pub mod NumberLemmas
 pub mod PageReads
 pub mod Parts
-pub mod Sorting
+pub mod Permuted
 pub mod TableLemmas
 pub mod Times

@@ -4,5 +4,4 @@ pub mod Index
 pub mod PageError
 pub mod Pages
 pub mod Putting
-pub mod Rising
 pub mod Tables

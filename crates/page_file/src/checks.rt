@@ -1,6 +1,5 @@
 //! Tests of bytes and of page numbers.
 ghost use Rattle.page_file.specs.Pages.{has, is_zero, are_pages};
-ghost use Rattle.page_file.specs.Rising.{is_rising};
 ghost use Rattle.std.specs.Prelude.{◌≡◌};
 
 /// Whether all bytes are zero. Takes no memory; each byte is read once.
@@ -26,28 +25,6 @@ pub fn are_pages(numbers: &[u32]) -> bool
         if number < 2 || has(number, &numbers[at + 1..]) {
             return false;
         }
-    }
-    true
-}
-
-/// The same of numbers that it puts into another order. Takes no memory, and the steps of a sort.
-pub fn sort_are_pages(numbers: &mut [u32]) -> bool
-    ensures { result ≡ are_pages numbers.old }
-{
-    numbers.sort_unstable();
-    is_rising(2, numbers)
-}
-
-// Whether each of these numbers is at least so much, and greater than the one before it.
-fn is_rising(least: u64, numbers: &[u32]) -> bool
-    ensures { result ≡ is_rising least numbers.now }
-{
-    let mut next = least;
-    for number in numbers {
-        if u64::from(*number) < next {
-            return false;
-        }
-        next = u64::from(*number) + 1;
     }
     true
 }

@@ -12,7 +12,7 @@ mod pages;
 mod putting;
 mod reading;
 
-pub use checks::{are_pages, is_zero, sort_are_pages};
+pub use checks::{are_pages, is_zero};
 pub use error::PageError;
 pub use numbers::{put_numbers, take_numbers};
 pub use pages::Pages;

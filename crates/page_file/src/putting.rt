@@ -23,8 +23,8 @@ fn read_page<D: Disk>(disk: &mut D, number: u32, bytes: &mut [u8]) -> Result<(),
     requires size { length bytes.old ≡ 4096 }
     ensures read { D.tells disk.old
         → OnOk result (bytes.new ≡ part (D.content disk.old) (4096 * number) (length bytes.old)) }
-    ensures no_page { D.tells disk.old → IsErrOf result NoPage
-        → length (D.content disk.old) < 4096 * number + 4096 }
+    ensures no_page { D.tells disk.old → (IsErrOf result NoPage
+        ↔ (length (D.content disk.old) < 4096 * number + 4096)) }
     ensures looks { D.tells disk.old
         → OnlyLooks D.DiskFacts (failed_in result) 0 disk.old disk.new }
     ensures tells { D.tells disk.new ↔ D.tells disk.old }
@@ -73,15 +73,15 @@ impl Pages {
 
     /// The bytes of a page of a file. Takes 4,096 bytes of memory, and makes one device call.
     ///
-    /// Refuses with 40 where the page is a root slot, without that call; with 41 where the file
-    /// hasn't the whole page; with 50 where the device failed; and with 1 for want of memory.
+    /// Refuses with 40 where the page is a root slot, without that call; with 41 exactly where the
+    /// file hasn't the whole page; with 50 where the device failed; and with 1 for want of memory.
     pub fn page<D: Disk>(&self, disk: &mut D, number: u32) -> Result<Vec<u8>, PageError>
         ensures number { number < 2 → (result ≡ Err PageNumber) × (disk.new ≡ disk.old) }
         ensures whole { IfOk result (λ bytes. length bytes.items ≡ 4096) }
         ensures read { D.tells disk.old
             → IfOk result (λ bytes. bytes.items ≡ page number (D.content disk.old)) }
-        ensures no_page { D.tells disk.old → IsErrOf result NoPage
-            → length (D.content disk.old) < 4096 * number + 4096 }
+        ensures no_page { 2 ≤ number → D.tells disk.old → (IsErrOf result NoPage
+            ↔ (length (D.content disk.old) < 4096 * number + 4096)) }
         ensures refused { 2 ≤ number
             → IfErr result (λ e. (e ≡ Memory) ⊎ ((e ≡ NoPage) ⊎ (e ≡ ReadFailed))) }
         ensures looks { 2 ≤ number → D.tells disk.old

@@ -1,4 +1,4 @@
-use crate::{are_pages, is_zero, put_numbers, sort_are_pages, take_numbers};
+use crate::{are_pages, is_zero, put_numbers, take_numbers};
 use std::test::Fail;
 
 #[test]
@@ -16,9 +16,6 @@ fn pages_are_behind_the_root_slots_and_apart(rt: HostRuntime) {
     assert!(rt; are_pages(&[2, 4, 3]));
     assert!(rt; !are_pages(&[2, 1]));
     assert!(rt; !are_pages(&[3, 2, 3]));
-    assert!(rt; sort_are_pages(&mut [5, 4, 3]));
-    assert!(rt; !sort_are_pages(&mut [2, 4, 1]));
-    assert!(rt; !sort_are_pages(&mut [3, 2, 3]));
     assert!(rt; is_zero(&[0, 0]));
     assert!(rt; !is_zero(&[0, 1]));
 }

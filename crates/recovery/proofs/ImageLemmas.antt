@@ -90,11 +90,11 @@ empty_image root replica file says none is =
     }
 
 -- the body and the stream of an answer
-abbrev body_in : Result (List ℕ × List ℕ) ℕ → List ℕ
+abbrev pub body_in : Result (List ℕ × List ℕ) ℕ → List ℕ
 body_in (Ok found) = found.0
 body_in (Err n) = []
 
-abbrev bytes_in : Result (List ℕ × List ℕ) ℕ → List ℕ
+abbrev pub bytes_in : Result (List ℕ × List ℕ) ℕ → List ℕ
 bytes_in (Ok found) = found.1
 bytes_in (Err n) = []
 

@@ -1,9 +1,11 @@
 //! What follows from the definitions: functions that do nothing, whose contracts are the laws.
-ghost use Rattle.std.specs.Prelude.{◌≡◌, ℕ, List, []};
+ghost use Rattle.std.specs.Prelude.{◌≡◌, ◌⊎◌, ℕ, List, []};
 ghost use Rattle.op_model.specs.declared.op.Op.{Op};
 ghost use Rattle.root_slots.specs.Body.{root_of};
 ghost use Rattle.group_commit.specs.Commit.{Is};
 ghost use Rattle.group_commit.specs.Saved.{Saved};
+ghost use Rattle.recovery.specs.declared.open_fault.OpenError.{OpenError};
+ghost use Rattle.recovery.specs.Faults.{number_of, failures_of, IsFault};
 ghost use Rattle.recovery.specs.Image.{IsImage};
 
 /// The root of a new store, as `Store::init` makes it, stands for the empty list of its replica.
@@ -21,4 +23,12 @@ pub fn a_new_store_is_empty()
 pub fn a_file_has_one_image()
     ensures { (file : List ℕ) (r s v w : ℕ) (a b : List Op) → IsImage file r v a
         → IsImage file s w b → (r ≡ s) × (v ≡ w) × (a ≡ b) }
+{}
+
+/// A file that has an image is refused only with 1, or with 50 or 52, where the device failed:
+/// never with 42, 43, 45, 46 or 47.
+pub fn a_file_with_an_image_has_no_fault()
+    ensures { (file : List ℕ) (replica version : ℕ) (ops : List Op) (cause : OpenError)
+        → IsImage file replica version ops → IsFault cause file
+        → (number_of cause ≡ 1) ⊎ (failures_of cause ≡ 1) }
 {}

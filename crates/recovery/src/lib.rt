@@ -9,7 +9,7 @@ mod opening;
 mod tests;
 mod worlds;
 
-pub use laws::{a_file_has_one_image, a_new_store_is_empty};
+pub use laws::{a_file_has_one_image, a_file_with_an_image_has_no_fault, a_new_store_is_empty};
 pub use open_fault::{OpenError, OpenFault};
 pub use opening::{Opened, open};
 pub use worlds::world;

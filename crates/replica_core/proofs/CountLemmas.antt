@@ -1,19 +1,14 @@
 -- A clock has room for each operation of a list within the limits of a store.
-use Rattle.std.proofs.Common.{◌≡◌, ◌∙◌, ℕ, ◌+◌, ◌-◌, ◌≤◌, ◌<◌, true, List, [], ◌∷◌, ◌++◌, length, take, drop, get_or, refl, sym, append_assoc, append-nil}
+use Rattle.std.proofs.Common.{◌≡◌, ◌∙◌, ℕ, ◌+◌, ◌<◌, true, List, [], ◌∷◌, ◌++◌, length, take, drop, get_or, refl, sym, append_assoc, append-nil}
 use Rattle.std.proofs.lemmas.Bool.{false≢true}
 use Rattle.std.proofs.lemmas.List.{take-append-drop}
 use Rattle.op_ids.specs.Clock.{advanced, IsOverfull}
 use Rattle.op_ids.proofs.FullLemmas.{IsOverfull-advanced}
-use Rattle.op_list.specs.declared.head.OpHead.{OpHead}
-use Rattle.op_list.specs.Heads.{heads}
 use Rattle.op_model.specs.declared.op.Op.{Op}
-use Rattle.op_model.specs.Causality.{clock_of, is_within_limits, IsCausallyClosed}
+use Rattle.op_model.specs.Causality.{clock_of, is_within_limits}
 use Rattle.model_laws.proofs.Ready.{clock-push}
 use Rattle.slow_programs.proofs.EditLemmas.{is_within_limits-full}
 use Rattle.replica_core.proofs.FollowLemmas.{count_more}
-use Rattle.replica_core.proofs.HeadLemmas.{overfull_before}
-use Rattle.replica_core.proofs.LimitLemmas.{closed_within}
-use Rattle.replica_core.proofs.SeenLemmas.{seen_next}
 
 -- a clock can count a list within the limits
 not_full : (ops : List Op) → is_within_limits ops ≡ true → IsOverfull (clock_of ops) → ⊥
@@ -32,17 +27,3 @@ room_behind earlier ops i op clock within here is_it counted full =
     let more = count_more earlier ops i op clock (advanced clock op.id.replica) here is_it counted refl in
     let all = rw append_assoc at (full_with (earlier ++ take (i + 1) ops) (drop (i + 1) ops) (rw more at full)) in
     not_full (earlier ++ ops) within (rw (take-append-drop (i + 1) ops) at all)
-
--- for the next one of a causally closed list
-pub room_for_next : (ops : List Op) (i : ℕ) (h : OpHead) (seen : List (ℕ × ℕ)) → IsCausallyClosed ops → i < length ops
-    → h ≡ get_or (heads ops) i h → seen ≡ clock_of (take i ops) → IsOverfull (advanced seen h.id.replica) → ⊥
-room_for_next ops i h seen closed here is_h is_seen full =
-    let next = seen_next ops i h seen here is_h is_seen in
-    let all = full_with (take (i + 1) ops) (drop (i + 1) ops) (rw next at full) in
-    not_full ops (closed_within ops closed) (rw (take-append-drop (i + 1) ops) at all)
-
--- and for the one before those that are counted from the end
-pub room_before : (ops : List Op) (i : ℕ) (h : OpHead) (clock : List (ℕ × ℕ)) → IsCausallyClosed ops → 0 < i → i ≤ length ops
-    → h ≡ get_or (heads ops) (i - 1) h → clock ≡ clock_of (drop i ops) → IsOverfull (advanced clock h.id.replica) → ⊥
-room_before ops i h clock closed some within is_h is_clock full =
-    not_full ops (closed_within ops closed) (overfull_before ops i h clock some within is_h is_clock full)

@@ -27,10 +27,6 @@ AreCounted-push ops counts before after op counted follows indexed = record {
   index = indexed counted.index;
 }
 
--- the first operations of a closed list are one
-pub closed_take : (ops : List Op) (n : ℕ) → IsCausallyClosed ops → IsCausallyClosed (take n ops)
-closed_take ops n closed = closed_front (take n ops) (drop n ops) (rw (take-append-drop n ops) closed)
-
 -- an operation of a closed list may follow those before it
 pub follows_front : (ops : List Op) (i : ℕ) (op : Op) → IsCausallyClosed ops → i < length ops → op ≡ get_or ops i op
     → IsCausallyClosed (take i ops) × MayFollow (take i ops) op

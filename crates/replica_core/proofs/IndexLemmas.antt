@@ -1,9 +1,9 @@
 -- An index with one operation more.
-use Rattle.std.proofs.Common.{◌≡◌, ℕ, zero, suc, ◌+◌, ◌<◌, ◌≤◌, max, true, false, inl, inr, List, [], ◌∷◌, ◌++◌, length, take, drop, get_or, refl, sym, ◌∙◌, ap, append_assoc, append-nil, length-append, arith}
+use Rattle.std.proofs.Common.{◌≡◌, ℕ, zero, suc, ◌+◌, ◌<◌, ◌≤◌, max, false, inl, inr, List, [], ◌∷◌, ◌++◌, length, take, drop, get_or, refl}
+use Rattle.std.proofs.Common.{sym, ◌∙◌, ap, append_assoc, arith}
 use Rattle.std.specs.Prelude.{◌==◌, ◌≢◌}
 use Rattle.std.proofs.lemmas.Bool.{cases_Bool, eqb-true, eq-eqb, both_ways}
 use Rattle.std.proofs.lemmas.List.{drop_more, take_more}
-use Rattle.std.proofs.lemmas.List.Elements.{filter-append}
 use Rattle.op_model.specs.declared.op.Op.{Op}
 use Rattle.op_model.specs.Causality.{made_by}
 use Rattle.op_model.specs.Records.{record_length, stream_length}
@@ -11,24 +11,17 @@ use Rattle.model_laws.proofs.Ready.{greatest-push}
 use Rattle.slow_programs.proofs.LimitLemmas.{stream_length-append}
 use Rattle.replica_core.specs.declared.index.Index.{Index}
 use Rattle.replica_core.specs.Indexes.{IsIndexOf}
-use Rattle.replica_core.specs.Makers.{places_of}
-use Rattle.replica_core.proofs.PlaceLemmas.{below_more, below_push, at_longer, at_push}
+use Rattle.replica_core.specs.Makers.{places_of, at_places, AreBelow}
+use Rattle.replica_core.proofs.OwnLemmas.{places_push, places_push_other, places_below, places_made}
 
 -- an index with the same numbers, whatever its room
 pub index_same : (old new : Index) → ((r : ℕ) → places_of new.makers.items r ≡ places_of old.makers.items r)
     → new.greatest ≡ old.greatest → new.stream ≡ old.stream → (ops : List Op) → IsIndexOf old ops → IsIndexOf new ops
 index_same old new same greatest stream ops is = record {
-  below = λ r. rw (same r) (is.below r);
-  made = λ r. rw (same r) (is.made r);
+  places = λ r. same r ∙ is.places r;
   greatest = greatest ∙ is.greatest;
   stream = stream ∙ is.stream;
 }
-
-made_own : (ops : List Op) (op : Op) (r : ℕ) → (op.id.replica == r) ≡ true → made_by r (ops ++ op ∷ []) ≡ made_by r ops ++ op ∷ []
-made_own ops op r own = filter-append (λ o. o.id.replica == r) ops (op ∷ []) ∙ rw own refl
-
-made_other : (ops : List Op) (op : Op) (r : ℕ) → (op.id.replica == r) ≡ false → made_by r (ops ++ op ∷ []) ≡ made_by r ops
-made_other ops op r other = filter-append (λ o. o.id.replica == r) ops (op ∷ []) ∙ rw other (append-nil (made_by r ops))
 
 apart : (a b : ℕ) → (a == b) ≡ false → b ≢ a
 apart a b differs same = both_ways (a == b) differs (eq-eqb a b (sym same))
@@ -39,26 +32,15 @@ pub index_push : (old new : Index) (op : Op) (ops : List Op)
     → ((r : ℕ) → r ≢ op.id.replica → places_of new.makers.items r ≡ places_of old.makers.items r)
     → new.greatest ≡ max op.id.counter old.greatest → new.stream ≡ old.stream + record_length op
     → IsIndexOf old ops → IsIndexOf new (ops ++ op ∷ [])
-index_push old new op ops own others greatest stream is =
-    let long = length-append ops (op ∷ []) in
-    record {
-      below = λ r. elim (cases_Bool (op.id.replica == r)) [
-        | inl same ↦ let is_r : op.id.replica ≡ r = eqb-true op.id.replica r same in
-            rw (← is_r, own) (below_push (length (ops ++ op ∷ [])) (length ops) (places_of old.makers.items op.id.replica) (omega arith)
-            (below_more (length ops) (length (ops ++ op ∷ [])) (places_of old.makers.items op.id.replica) (omega arith) (is.below op.id.replica)))
-        | inr other ↦ rw (others r (apart op.id.replica r other))
-            (below_more (length ops) (length (ops ++ op ∷ [])) (places_of old.makers.items r) (omega arith) (is.below r))
-      ];
-      made = λ r. elim (cases_Bool (op.id.replica == r)) [
-        | inl same ↦ let is_r : op.id.replica ≡ r = eqb-true op.id.replica r same in
-            rw (made_own ops op r same, ← is_r, own)
-            (at_push ops op (places_of old.makers.items op.id.replica) (is.below op.id.replica) ∙ ap (λ front. front ++ op ∷ []) (is.made op.id.replica))
-        | inr other ↦ rw (made_other ops op r other, others r (apart op.id.replica r other))
-            (at_longer ops op (places_of old.makers.items r) (is.below r) ∙ is.made r)
-      ];
-      greatest = greatest ∙ (rw (is.greatest) (let more = greatest-push ops op in omega arith));
-      stream = stream ∙ (rw (is.stream) (let more = stream_length-append ops (op ∷ []) in omega arith));
-    }
+index_push old new op ops own others greatest stream is = record {
+  places = λ r. elim (cases_Bool (op.id.replica == r)) [
+    | inl same ↦ let is_r : op.id.replica ≡ r = eqb-true op.id.replica r same in
+        rw (places_push ops op r is_r, ← is_r, own, is.places op.id.replica) refl
+    | inr other ↦ rw (others r (apart op.id.replica r other), places_push_other ops op r other) (is.places r)
+  ];
+  greatest = greatest ∙ (rw (is.greatest) (let more = greatest-push ops op in omega arith));
+  stream = stream ∙ (rw (is.stream) (let more = stream_length-append ops (op ∷ []) in omega arith));
+}
 
 -- one more of a list of operations is counted
 pub index_more : (new : Index) (earlier ops : List Op) (i : ℕ) (op : Op) → i < length ops → op ≡ get_or ops i op
@@ -73,7 +55,18 @@ pub stream_rest : (ops : List Op) (i : ℕ) (op : Op) → i < length ops → op 
     → stream_length (drop i ops) ≡ record_length op + stream_length (drop (i + 1) ops)
 stream_rest ops i op here is_it = rw (drop_more ops i op here, ← is_it) refl
 
-made_shorter : (r : ℕ) (xs : List Op) → length (made_by r xs) ≤ length xs
+-- its indexes are those of the list, and the operations there are the replica's
+pub index_below : (index : Index) (ops : List Op) (r : ℕ) → IsIndexOf index ops → AreBelow (length ops) (places_of index.makers.items r)
+index_below index ops r is = rw (is.places r) (places_below ops r)
+
+pub index_made : (index : Index) (ops : List Op) (r : ℕ) → IsIndexOf index ops → at_places ops (places_of index.makers.items r) ≡ made_by r ops
+index_made index ops r is = rw (is.places r) (places_made ops r)
+
+-- where none are kept, the replica has none
+pub index_nothing : (index : Index) (ops : List Op) (r : ℕ) → IsIndexOf index ops → places_of index.makers.items r ≡ [] → made_by r ops ≡ []
+index_nothing index ops r is none = sym (index_made index ops r is) ∙ ap (at_places ops) none
+
+pub made_shorter : (r : ℕ) (xs : List Op) → length (made_by r xs) ≤ length xs
 made_shorter r [] = omega arith
 made_shorter r (x ∷ xs) =
     elim (cases_Bool (x.id.replica == r)) [

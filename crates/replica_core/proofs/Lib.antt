@@ -1,5 +1,6 @@
 pub mod ReachedLemmas
 pub mod StepLemmas
+pub mod KeptLemmas
 pub mod TellLemmas
 pub mod FollowLemmas
 pub mod SoundLemmas
@@ -7,13 +8,15 @@ pub mod LimitLemmas
 pub mod LengthLemmas
 pub mod PlaceLemmas
 pub mod HeadLemmas
+pub mod OwnLemmas
+pub mod NextLemmas
+pub mod FrontLemmas
 pub mod ClimbLemmas
 pub mod MakerLemmas
 pub mod IndexLemmas
 pub mod DocLemmas
 pub mod NumberLemmas
 pub mod DraftLemmas
-pub mod SeenLemmas
 pub mod CountLemmas
 pub mod EditLemmas
 pub mod RevLemmas

@@ -1,8 +1,8 @@
 -- The operations at indexes of a list.
-use Rattle.std.proofs.Common.{◌≡◌, ℕ, zero, suc, ◌≤◌, ◌<◌, List, [], ◌∷◌, ◌++◌, length, take, drop, get_or, Some, refl, sym, ◌∙◌, ap, append_assoc, arith}
+use Rattle.std.proofs.Common.{◌≡◌, ℕ, zero, suc, ◌<◌, List, [], ◌∷◌, ◌++◌, length, take, drop, get_or, Some, refl, sym, ap, arith}
 use Rattle.std.specs.Prelude.{slice_get}
 use Rattle.op_model.specs.declared.op.Op.{Op}
-use Rattle.replica_core.specs.Makers.{at_places, optional, AreBelow}
+use Rattle.replica_core.specs.Makers.{at_places, AreBelow}
 
 pub below_at : (n : ℕ) (is : List ℕ) (k x : ℕ) → AreBelow n is → k < length is → x ≡ get_or is k x → x < n
 below_at n [] k x below there is_it = absurd (omega arith)
@@ -19,14 +19,6 @@ below_drop n zero is below = below
 below_drop n (suc k) [] below = tt
 below_drop n (suc k) (i ∷ is) below = below_drop n k is below.1
 
-pub below_more : (n m : ℕ) (is : List ℕ) → n ≤ m → AreBelow n is → AreBelow m is
-below_more n m [] more below = tt
-below_more n m (i ∷ is) more below = (let first = below.0 in omega arith, below_more n m is more below.1)
-
-pub below_push : (n i : ℕ) (is : List ℕ) → i < n → AreBelow n is → AreBelow n (is ++ i ∷ [])
-below_push n i [] there below = (there, tt)
-below_push n i (j ∷ is) there below = (below.0, below_push n i is there below.1)
-
 -- there is an operation at each index of the list
 present : (ops : List Op) (i : ℕ) → i < length ops → (op : Op) × (slice_get ops i ≡ Some op)
 present [] i there = absurd (omega arith)
@@ -38,14 +30,10 @@ get_there [] i x there is_it = absurd (omega arith)
 get_there (y ∷ ops) zero x there is_it = ap Some (sym is_it)
 get_there (y ∷ ops) (suc i) x there is_it = get_there ops i x (omega arith) is_it
 
-get_front : (ops : List Op) (i : ℕ) (op : Op) → i < length ops → slice_get (ops ++ op ∷ []) i ≡ slice_get ops i
-get_front [] i op there = absurd (omega arith)
-get_front (x ∷ ops) zero op there = refl
-get_front (x ∷ ops) (suc i) op there = get_front ops i op (omega arith)
-
-get_last : (ops : List Op) (op : Op) → slice_get (ops ++ op ∷ []) (length ops) ≡ Some op
-get_last [] op = refl
-get_last (x ∷ ops) op = get_last ops op
+-- the one behind others
+pub get_behind : (front : List Op) (op : Op) (ops : List Op) → slice_get (front ++ op ∷ ops) (length front) ≡ Some op
+get_behind [] op ops = refl
+get_behind (x ∷ front) op ops = get_behind front op ops
 
 pub at_take : (ops : List Op) (k : ℕ) (is : List ℕ) → AreBelow (length ops) is
     → at_places ops (take k is) ≡ take k (at_places ops is)
@@ -78,18 +66,3 @@ at_one ops (j ∷ is) zero i x below there is_i is_x =
 at_one ops (j ∷ is) (suc k) i x below there is_i is_x =
     let y = present ops j below.0 in
     rw (y.1) (at_one ops is k i x below.1 (omega arith) is_i is_x)
-
--- one operation more in the list
-pub at_longer : (ops : List Op) (op : Op) (is : List ℕ) → AreBelow (length ops) is
-    → at_places (ops ++ op ∷ []) is ≡ at_places ops is
-at_longer ops op [] below = refl
-at_longer ops op (i ∷ is) below = rw (get_front ops i op below.0) (ap (λ rest. optional (slice_get ops i) ++ rest) (at_longer ops op is below.1))
-
--- and its index with the others
-pub at_push : (ops : List Op) (op : Op) (is : List ℕ) → AreBelow (length ops) is
-    → at_places (ops ++ op ∷ []) (is ++ length ops ∷ []) ≡ at_places ops is ++ op ∷ []
-at_push ops op [] below = rw (get_last ops op) refl
-at_push ops op (i ∷ is) below =
-    rw (get_front ops i op below.0)
-    (ap (λ rest. optional (slice_get ops i) ++ rest) (at_push ops op is below.1)
-    ∙ sym (append_assoc (optional (slice_get ops i)) (at_places ops is) (op ∷ [])))

@@ -1,9 +1,10 @@
 -- What a replica keeps through its steps.
-use Rattle.std.proofs.Common.{◌≡◌, ℕ, ◌+◌, ◌≤◌, ◌<◌, Bool, true, false, not, ◌&&◌, nat_le, nat_lt, List, [], ◌∷◌, ◌++◌, length, take, max, map, refl, sym, ◌∙◌, ap, Option, Some, None, arith, length-append, vec_capacity}
+use Rattle.std.proofs.Common.{◌≡◌, ℕ, ◌+◌, ◌≤◌, ◌<◌, Bool, true, false, not, ◌&&◌, nat_le, nat_lt, List, [], ◌∷◌, ◌++◌, length, take, max, cond, sum_by, refl, sym, ◌∙◌, ap, Option, Some, None, arith, length-append}
 use Rattle.std.specs.Prelude.{◌==◌, ◌≢◌, if◌then◌else◌}
 use Rattle.std.specs.List.{list_all}
 use Rattle.std.proofs.Math.Seq.{take-append_seam}
-use Rattle.std.proofs.lemmas.List.{length-map, length-reverse, take-append-le, map-append, reverse-append}
+use Rattle.std.proofs.lemmas.List.{take-append-le}
+use Rattle.std.proofs.lemmas.List.Sums.{count_by-le-length, sum_by-append, sum_by-cons}
 use Rattle.std.proofs.lemmas.Bool.{le-leb, eq-eqb}
 use Rattle.std.proofs.lemmas.Bool.Decides.{nat_tests}
 use Rattle.op_ids.specs.Clock.{advanced, is_ready}
@@ -13,8 +14,8 @@ use Rattle.op_model.specs.declared.edit.Edit.{Edit}
 use Rattle.op_model.specs.Causality.{clock_of, documents, made_by, first_failed, is_counted_up, is_in_range, is_known, is_within_limits, names_inserts, MayFollow}
 use Rattle.op_model.specs.Made.{is_at_rev, is_inside, is_small, made, numbered, bodies_of, greatest_counter, edit_refusal, size_of}
 use Rattle.op_model.specs.Records.{stream_length}
-use Rattle.op_model.specs.Machine.{merge_answer, applied}
-use Rattle.op_model.specs.Replay.{Joins, Replays}
+use Rattle.op_model.specs.Machine.{Ticket, edit_alone, merge_alone, applied, ticket}
+use Rattle.op_model.specs.Replay.{Kept, edited, merged, Joins, Replays}
 use Rattle.op_model.specs.Spans.{with_number}
 use Rattle.op_model.specs.Text.{rev, visible}
 use Rattle.model_laws.proofs.Growth.{closed_push}
@@ -29,21 +30,11 @@ use Rattle.replica_core.specs.declared.index.Index.{Index}
 use Rattle.replica_core.specs.Docs.{numbers, AllStand, AreDocs}
 use Rattle.replica_core.specs.declared.log.Log.{Log}
 use Rattle.replica_core.specs.Indexes.{IsIndexOf}
-use Rattle.replica_core.specs.declared.step.Step.{Step}
-use Rattle.replica_core.specs.declared.step.Step.TheVariants as step
 use Rattle.replica_core.specs.Log.{IsAppended}
 use Rattle.replica_core.specs.Fields.{AreFields, held_of}
 use Rattle.replica_core.specs.Held.{alone, Held, CanEdit, IsSound, with_edit}
 use Rattle.replica_core.specs.Merging.{with_merge, CanMerge}
-use Rattle.replica_core.specs.Steps.{kept, kept_of}
 use Rattle.replica_core.proofs.LimitLemmas.{documents-made, documents-push, length-made}
-
--- one step more comes first
-pub kept-push : (steps : List Step) (step : Step) → kept (steps ++ step ∷ []) ≡ kept_of step ∷ kept steps
-kept-push steps step = rw (map-append kept_of steps (step ∷ []), reverse-append (map kept_of steps) (kept_of step ∷ [])) refl
-
-length-kept : (steps : List Step) → length (kept steps) ≡ length steps
-length-kept steps = simp (length-reverse, length-map)
 
 -- the causes of an edit, where none holds
 abbrev causes : Bool → Bool → Bool → Option ℕ
@@ -91,6 +82,45 @@ numbered_own replica doc counter clock (b ∷ bs) =
 pub made_own : (ops : List Op) (replica : ℕ) (e : Edit) → made_by replica (made ops replica e) ≡ made ops replica e
 made_own ops replica e = numbered_own replica e.doc (greatest_counter ops + 1) (clock_of ops) (bodies_of ops replica e.doc e.change)
 
+rev-numbered : (replica doc counter : ℕ) (clock : List (ℕ × ℕ)) (bs : List Body)
+    → rev (numbered replica doc counter clock bs) doc ≡ length (numbered replica doc counter clock bs)
+rev-numbered replica doc counter clock [] = refl
+rev-numbered replica doc counter clock (b ∷ bs) =
+    let op : Op = record { id = record { counter = counter; replica = replica }; doc = doc; deps = clock; body = b } in
+    let more : List Op = numbered replica doc (counter + 1) (advanced clock replica) bs in
+    let first : (doc == doc) ≡ true = eq-eqb doc doc refl in
+    let rest : sum_by (λ (o : Op). cond (o.doc == doc) 1 0) more ≡ length more = rev-numbered replica doc (counter + 1) (advanced clock replica) bs in
+    sum_by-cons (λ (o : Op). cond (o.doc == doc) 1 0) op more ∙ (rw (first, rest) (omega arith))
+
+-- so many operations more has its document
+pub rev-made : (ops : List Op) (replica : ℕ) (e : Edit) → edit_refusal ops replica e ≡ None
+    → rev (ops ++ made ops replica e) e.doc ≡ rev ops e.doc + size_of e.change
+rev-made ops replica e due =
+    let more = rev-numbered replica e.doc (greatest_counter ops + 1) (clock_of ops) (bodies_of ops replica e.doc e.change) in
+    let many = length-made ops replica e (due_asks_right ops replica e due) in
+    sum_by-append (λ (o : Op). cond (o.doc == e.doc) 1 0) ops (made ops replica e) ∙ ap (λ n. rev ops e.doc + n) (more ∙ many)
+
+-- neither list nor document gets too many operations
+pub due_counts : (ops : List Op) (replica : ℕ) (e : Edit) → edit_refusal ops replica e ≡ None
+    → (length ops + size_of e.change ≤ 16777216) × (rev ops e.doc + size_of e.change ≤ 16777216)
+due_counts ops replica e due =
+    let few = due_fits ops replica e due in
+    let many = length-made ops replica e (due_asks_right ops replica e due) in
+    let within = count_by-le-length (λ (op : Op). op.doc == e.doc) ops in
+    (omega arith, omega arith)
+
+-- what is answered to an edit that nothing refuses
+pub edit_alone-due : (h : Held) (e : Edit) (t : Ticket) → CanEdit h e
+    → t.end ≡ length h.list + size_of e.change → t.rev ≡ rev h.list e.doc + size_of e.change
+    → edit_alone h.replica (alone h) e ≡ ticket t
+edit_alone-due h e t can end revs =
+    let fits : nat_le (length h.steps + 3) 1048576 ≡ true = le-leb (length h.steps + 3) 1048576 can.places in
+    let right = due_asks_right h.list h.replica e can.due in
+    let long : length (h.list ++ made h.list h.replica e) ≡ t.end =
+    length-append h.list (made h.list h.replica e) ∙ (ap (λ n. length h.list + n) (length-made h.list h.replica e right) ∙ sym end) in
+    let number : rev (h.list ++ made h.list h.replica e) e.doc ≡ t.rev = rev-made h.list h.replica e can.due ∙ sym revs in
+    rw (can.due, fits, long, number) refl
+
 -- what a replica keeps is kept by an edit
 pub IsSound-with_edit : (h : Held) (session : ℕ) (e : Edit) → IsSound h → CanEdit h e → IsSound (with_edit h session e)
 IsSound-with_edit h session e sound can =
@@ -113,12 +143,12 @@ IsSound-with_edit h session e sound can =
 
 -- so are its fields
 pub AreFields-with_edit : (h : Held) (session : ℕ) (e : Edit) (counts_before counts : List (ℕ × ℕ)) (docs_before docs : List Doc) (before after : Index)
-    → (k step_room : ℕ) → AreFields h counts_before docs_before before k → CanEdit h e → 0 < size_of e.change
+    → AreFields h counts_before docs_before before → CanEdit h e → 0 < size_of e.change
     → counts ≡ clock_of (h.list ++ made h.list h.replica e) → numbers docs ≡ with_number e.doc (numbers docs_before)
     → (AreDocs docs_before h.list → FitAfter h.list e.doc (made h.list h.replica e) → AllStand docs (h.list ++ made h.list h.replica e))
     → (IsIndexOf before h.list → IsIndexOf after (h.list ++ made h.list h.replica e))
-    → length h.steps + 3 ≤ step_room → AreFields (with_edit h session e) counts docs after step_room
-AreFields-with_edit h session e counts_before counts docs_before docs before after k step_room fields can some is_clock are_numbers stand indexed step_fits =
+    → AreFields (with_edit h session e) counts docs after
+AreFields-with_edit h session e counts_before counts docs_before docs before after fields can some is_clock are_numbers stand indexed =
     record {
       sound = IsSound-with_edit h session e fields.sound can;
       clock = is_clock;
@@ -127,35 +157,33 @@ AreFields-with_edit h session e counts_before counts docs_before docs before aft
         stand = stand fields.docs (made_fit h.list h.replica e (due_within h.list h.replica e can.due));
       };
       index = indexed fields.index;
-      steps = omega arith;
     }
 
 -- what a replica holds behind an edit's operations and its step
-pub held_of-edit : (id opened settled acked told session first count : ℕ) (old new : Log) (added : List Op) (e copied : Edit)
-    → IsAppended old new added e.doc (step.Edit session copied first count) → added ≡ made old.list id e → copied ≡ e
+pub held_of-edit : (id opened settled acked told session first count : ℕ) (steps : List Kept) (old new : Log) (added : List Op) (e : Edit)
+    → IsAppended old new added e.doc → added ≡ made old.list id e
     → first ≡ length old.list → count ≡ size_of e.change → IsAskedRight old.list e
-    → held_of id new.list opened settled acked told new.steps.items
-    ≡ with_edit (held_of id old.list opened settled acked told old.steps.items) session e
-held_of-edit id opened settled acked told session first count old new added e copied is are same at many right =
+    → held_of id new.list opened settled acked told (edited session e first count ∷ steps)
+    ≡ with_edit (held_of id old.list opened settled acked told steps) session e
+held_of-edit id opened settled acked told session first count steps old new added e is are at many right =
     let number : count ≡ length (made old.list id e) = many ∙ sym (length-made old.list id e right) in
-    rw (is.list, is.steps, kept-push old.steps.items (step.Edit session copied first count), are, same, at, number) refl
+    rw (is.list, are, at, number) refl
 
 -- and that its fields are those
-pub AreFields-edit : (id opened settled acked told session first count : ℕ) (old new : Log) (added : List Op) (e copied : Edit)
-    → (counts_before counts : List (ℕ × ℕ)) (k : ℕ)
-    → AreFields (held_of id old.list opened settled acked told old.steps.items) counts_before old.docs.items old.index k
-    → CanEdit (held_of id old.list opened settled acked told old.steps.items) e → 0 < size_of e.change
+pub AreFields-edit : (id opened settled acked told session first count : ℕ) (steps : List Kept) (old new : Log) (added : List Op) (e : Edit)
+    → (counts_before counts : List (ℕ × ℕ))
+    → AreFields (held_of id old.list opened settled acked told steps) counts_before old.docs.items old.index
+    → CanEdit (held_of id old.list opened settled acked told steps) e → 0 < size_of e.change
     → counts ≡ clock_of (old.list ++ made old.list id e)
-    → IsAppended old new added e.doc (step.Edit session copied first count) → added ≡ made old.list id e → copied ≡ e
+    → IsAppended old new added e.doc → added ≡ made old.list id e
     → first ≡ length old.list → count ≡ size_of e.change
-    → AreFields (held_of id new.list opened settled acked told new.steps.items) counts new.docs.items new.index (vec_capacity new.steps)
-AreFields-edit id opened settled acked told session first count old new added e copied counts_before counts k fields can some is_clock is are same at many =
-    let h : Held = held_of id old.list opened settled acked told old.steps.items in
-    let held = held_of-edit id opened settled acked told session first count old new added e copied is are same at many (due_asks_right old.list id e can.due) in
-    let long : length h.steps ≡ length old.steps.items = length-kept old.steps.items in
+    → AreFields (held_of id new.list opened settled acked told (edited session e first count ∷ steps)) counts new.docs.items new.index
+AreFields-edit id opened settled acked told session first count steps old new added e counts_before counts fields can some is_clock is are at many =
+    let h : Held = held_of id old.list opened settled acked told steps in
+    let held = held_of-edit id opened settled acked told session first count steps old new added e is are at many (due_asks_right old.list id e can.due) in
     rw held
-    (AreFields-with_edit h session e counts_before counts old.docs.items new.docs.items old.index new.index k (vec_capacity new.steps)
-    fields can some is_clock is.numbers (λ docs come. rw are at (is.stand docs (rw are come))) (λ was. rw (← are, ← is.list) (is.index was)) (rw long is.step_room))
+    (AreFields-with_edit h session e counts_before counts old.docs.items new.docs.items old.index new.index
+    fields can some is_clock is.numbers (λ docs come. rw are at (is.stand docs (rw are come))) (λ was. rw (← are, ← is.list) (is.index was)))
 
 -- the checks of an operation, where none fails
 abbrev checks : Bool → Bool → Bool → Bool → Option ℕ
@@ -197,26 +225,23 @@ IsSound-with_merge h peer op sound can =
     }
 
 -- what a replica holds behind a merge
-pub held_of-merge : (id opened settled acked told peer index : ℕ) (old new : Log) (added : List Op) (op : Op)
-    → IsAppended old new added op.doc (step.Merge peer index) → added ≡ op ∷ [] → index ≡ length old.list
-    → held_of id new.list opened settled acked told new.steps.items
-    ≡ with_merge (held_of id old.list opened settled acked told old.steps.items) peer op
-held_of-merge id opened settled acked told peer index old new added op is are at =
-    rw (is.list, is.steps, kept-push old.steps.items (step.Merge peer index), are, at) refl
+pub held_of-merge : (id opened settled acked told peer index : ℕ) (steps : List Kept) (old new : Log) (added : List Op) (op : Op)
+    → IsAppended old new added op.doc → added ≡ op ∷ [] → index ≡ length old.list
+    → held_of id new.list opened settled acked told (merged peer index ∷ steps)
+    ≡ with_merge (held_of id old.list opened settled acked told steps) peer op
+held_of-merge id opened settled acked told peer index steps old new added op is are at =
+    rw (is.list, are, at) refl
 
 -- and that its fields are those
-pub AreFields-merge : (id opened settled acked told peer index : ℕ) (old new : Log) (added : List Op) (op : Op)
-    → (counts_before counts : List (ℕ × ℕ)) (k : ℕ)
-    → AreFields (held_of id old.list opened settled acked told old.steps.items) counts_before old.docs.items old.index k
-    → CanMerge (held_of id old.list opened settled acked told old.steps.items) op → counts ≡ advanced counts_before op.id.replica
-    → IsAppended old new added op.doc (step.Merge peer index) → added ≡ op ∷ [] → index ≡ length old.list
-    → AreFields (held_of id new.list opened settled acked told new.steps.items) counts new.docs.items new.index (vec_capacity new.steps)
-AreFields-merge id opened settled acked told peer index old new added op counts_before counts k fields can is_clock is are at =
-    let h : Held = held_of id old.list opened settled acked told old.steps.items in
-    let held = held_of-merge id opened settled acked told peer index old new added op is are at in
-    let long : length h.steps ≡ length old.steps.items = length-kept old.steps.items in
-    let more = length-append old.list (op ∷ []) in
-    let one : length added ≡ 1 = rw are refl in
+pub AreFields-merge : (id opened settled acked told peer index : ℕ) (steps : List Kept) (old new : Log) (added : List Op) (op : Op)
+    → (counts_before counts : List (ℕ × ℕ))
+    → AreFields (held_of id old.list opened settled acked told steps) counts_before old.docs.items old.index
+    → CanMerge (held_of id old.list opened settled acked told steps) op → counts ≡ advanced counts_before op.id.replica
+    → IsAppended old new added op.doc → added ≡ op ∷ [] → index ≡ length old.list
+    → AreFields (held_of id new.list opened settled acked told (merged peer index ∷ steps)) counts new.docs.items new.index
+AreFields-merge id opened settled acked told peer index steps old new added op counts_before counts fields can is_clock is are at =
+    let h : Held = held_of id old.list opened settled acked told steps in
+    let held = held_of-merge id opened settled acked told peer index steps old new added op is are at in
     rw held (record {
       sound = IsSound-with_merge h peer op fields.sound can;
       clock = is_clock ∙ (ap (λ es. advanced es op.id.replica) fields.clock ∙ sym (clock-push old.list op));
@@ -225,7 +250,6 @@ AreFields-merge id opened settled acked told peer index old new added op counts_
         stand = rw are at (is.stand fields.docs (rw are (follows_fits old.list op.doc op can.joins.follows refl, tt)));
       };
       index = rw (← are, ← is.list) (is.index fields.index);
-      steps = let room = is.step_room in omega arith;
     })
 
 differs : (a b : ℕ) → (a == b) ≡ false → a ≢ b
@@ -240,18 +264,18 @@ may_merge h op ready other passed places = record {
 }
 
 -- there it answers so
-pub merge_answer-applied : (h : Held) (op : Op) → is_known (clock_of h.list) op ≡ false → is_ready (clock_of h.list) op.id.replica op.deps ≡ true
+pub merge_alone-applied : (h : Held) (op : Op) → is_known (clock_of h.list) op ≡ false → is_ready (clock_of h.list) op.id.replica op.deps ≡ true
     → (op.id.replica == h.replica) ≡ false → first_failed h.list op ≡ None → length h.steps + 3 ≤ 1048576
-    → merge_answer h.replica (alone h) op ≡ applied
-merge_answer-applied h op new ready other passed places =
+    → merge_alone h.replica (alone h) op ≡ applied
+merge_alone-applied h op new ready other passed places =
     let fits : nat_le (length h.steps + 3) 1048576 ≡ true = le-leb (length h.steps + 3) 1048576 places in
     rw (new, other, ready, passed, fits) refl
 
 -- what a replica keeps is kept where it told of settled operations
-pub AreFields-told : (h : Held) (n now : ℕ) (counts : List (ℕ × ℕ)) (docs : List Doc) (known : Index) (k : ℕ)
-    → AreFields h counts docs known k → n ≤ h.settled
-    → now ≡ max h.told n → AreFields (record h { told = now }) counts docs known k
-AreFields-told h n now counts docs known k fields within is_it = record {
+pub AreFields-told : (h : Held) (n now : ℕ) (counts : List (ℕ × ℕ)) (docs : List Doc) (known : Index)
+    → AreFields h counts docs known → n ≤ h.settled
+    → now ≡ max h.told n → AreFields (record h { told = now }) counts docs known
+AreFields-told h n now counts docs known fields within is_it = record {
   sound = record {
     closed = fields.sound.closed;
     opened = fields.sound.opened;
@@ -265,5 +289,4 @@ AreFields-told h n now counts docs known k fields within is_it = record {
   clock = fields.clock;
   docs = fields.docs;
   index = fields.index;
-  steps = fields.steps;
 }

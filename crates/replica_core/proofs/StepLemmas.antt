@@ -1,38 +1,63 @@
 -- What a replica's calls are to the machine, whatever the version and the commit of its store.
-use Rattle.std.proofs.Common.{◌≡◌, ℕ, ◌+◌, ◌≤◌, ◌<◌, true, false, List, take, ap, Option, None}
+use Rattle.std.proofs.Common.{◌≡◌, ℕ, ◌+◌, ◌≤◌, ◌<◌, Bool, true, false, List, [], ◌∷◌, ◌++◌, length, take, ap, refl, Option, None}
+use Rattle.op_model.specs.Made.{made}
 use Rattle.op_model.specs.declared.op.Op.{Op}
 use Rattle.op_model.specs.declared.edit.Edit.{Edit}
 use Rattle.op_model.specs.Causality.{clock_of}
-use Rattle.op_model.specs.Machine.{Commit, Ticket, ticket, refused, acknowledged, operations, clock, edit_answer, merge_answer, untold, reach, IsRefusal, EditStep, MergeStep, AckStep, TellStep, HaveStep}
+use Rattle.std.specs.Prelude.{nat_le}
+use Rattle.std.proofs.lemmas.Bool.{le-leb}
+use Rattle.op_model.specs.Machine.{Commit, Ticket, ticket, ticket_of, refused, acknowledged, operations, clock, known, early, edit_alone, merge_alone, with_room, has_record_room, untold, reach, IsRefusal, EditStep, MergeStep, AckStep, TellStep, HaveStep}
 use Rattle.op_model.specs.Machine.{with_settled as state_settled}
 use Rattle.replica_core.specs.declared.merged.Merged.{Merged}
 use Rattle.replica_core.specs.declared.merged.Merged.TheVariants as merged_as
-use Rattle.replica_core.specs.Held.{Held, alone, stored, with_edit, with_settled, with_acked, with_told}
+use Rattle.replica_core.specs.Held.{Held, alone, stored, with_edit, with_settled, with_acked, with_told, CanEdit}
 use Rattle.replica_core.specs.Merging.{after_merge, answer_of}
+
+-- a refusal is the same whether there is room or not
+pub stays_refused : (room : Bool) (n : ℕ) → with_room room (refused n) ≡ refused n
+stays_refused true n = refl
+stays_refused false n = refl
+
+-- an edit that nothing refuses is answered with a ticket
+pub edit_alone-can : (h : Held) (e : Edit) → CanEdit h e
+    → edit_alone h.replica (alone h) e ≡ ticket (ticket_of (h.list ++ made h.list h.replica e) e.doc)
+edit_alone-can h e can =
+    let fits : nat_le (length h.steps + 3) 1048576 ≡ true = le-leb (length h.steps + 3) 1048576 can.places in
+    rw (can.due, fits) refl
 
 -- an edit that is answered with a ticket
 pub edit_step : (h next : Held) (session : ℕ) (e : Edit) (t : Ticket) (version : ℕ) (commit : Option Commit)
-    → edit_answer h.replica (alone h) e ≡ ticket t → next ≡ with_edit h session e
-    → EditStep h.replica (stored h version commit) session e (ticket t) (stored next version commit)
-edit_step h next session e t version commit answer is_it = (answer, ap (λ s. stored s version commit) is_it)
+    → edit_alone h.replica (alone h) e ≡ ticket t → has_record_room (stored h version commit) (made h.list h.replica e) ≡ true
+    → next ≡ with_edit h session e → EditStep h.replica (stored h version commit) session e (ticket t) (stored next version commit)
+edit_step h next session e t version commit answer room is_it = (rw room answer, ap (λ s. stored s version commit) is_it)
 
 -- an edit that is refused
 pub edit_step_refused : (h next : Held) (session : ℕ) (e : Edit) (n version : ℕ) (commit : Option Commit)
-    → IsRefusal n (edit_answer h.replica (alone h) e) → next ≡ h
+    → IsRefusal n (with_room (has_record_room (stored h version commit) (made h.list h.replica e)) (edit_alone h.replica (alone h) e)) → next ≡ h
     → EditStep h.replica (stored h version commit) session e (refused n) (stored next version commit)
 edit_step_refused h next session e n version commit answer same = (answer, ap (λ s. stored s version commit) same)
 
 -- a merge that isn't refused
 pub merge_step : (h next : Held) (peer : ℕ) (op : Op) (m : Merged) (version : ℕ) (commit : Option Commit)
-    → merge_answer h.replica (alone h) op ≡ answer_of m → next ≡ after_merge m h peer op
-    → MergeStep h.replica (stored h version commit) peer op (answer_of m) (stored next version commit)
-merge_step h next peer op merged_as.Applied version commit answer is_it = (answer, ap (λ s. stored s version commit) is_it)
-merge_step h next peer op merged_as.Known version commit answer is_it = (answer, ap (λ s. stored s version commit) is_it)
-merge_step h next peer op merged_as.Early version commit answer is_it = (answer, ap (λ s. stored s version commit) is_it)
+    → merge_alone h.replica (alone h) op ≡ answer_of m → (m ≡ merged_as.Applied → has_record_room (stored h version commit) (op ∷ []) ≡ true)
+    → next ≡ after_merge m h peer op → MergeStep h.replica (stored h version commit) peer op (answer_of m) (stored next version commit)
+merge_step h next peer op merged_as.Applied version commit answer room is_it = (rw (room refl) answer, ap (λ s. stored s version commit) is_it)
+merge_step h next peer op merged_as.Known version commit answer room is_it =
+    (rw answer (stays_known (has_record_room (stored h version commit) (op ∷ []))), ap (λ s. stored s version commit) is_it)
+  where
+    stays_known : (b : Bool) → with_room b known ≡ known
+    stays_known true = refl
+    stays_known false = refl
+merge_step h next peer op merged_as.Early version commit answer room is_it =
+    (rw answer (stays_early (has_record_room (stored h version commit) (op ∷ []))), ap (λ s. stored s version commit) is_it)
+  where
+    stays_early : (b : Bool) → with_room b early ≡ early
+    stays_early true = refl
+    stays_early false = refl
 
 -- a merge that is refused
 pub merge_step_refused : (h next : Held) (peer : ℕ) (op : Op) (n version : ℕ) (commit : Option Commit)
-    → IsRefusal n (merge_answer h.replica (alone h) op) → next ≡ h
+    → IsRefusal n (with_room (has_record_room (stored h version commit) (op ∷ [])) (merge_alone h.replica (alone h) op)) → next ≡ h
     → MergeStep h.replica (stored h version commit) peer op (refused n) (stored next version commit)
 merge_step_refused h next peer op n version commit answer same = (answer, ap (λ s. stored s version commit) same)
 

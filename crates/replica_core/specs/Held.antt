@@ -1,11 +1,13 @@
 -- What a replica holds, as contracts see it.
-use Rattle.std.specs.Prelude.{◌≡◌, ℕ, ◌+◌, ◌≤◌, false, List, [], ◌∷◌, ◌++◌, length, take, max, Option, None}
+use Rattle.std.specs.Prelude.{◌≡◌, ℕ, ◌+◌, ◌≤◌, false, List, [], length, take, Option, None}
 use Rattle.op_model.specs.declared.op.Op.{Op}
 use Rattle.op_model.specs.declared.edit.Edit.{Edit}
 use Rattle.op_model.specs.Causality.{IsCausallyClosed}
-use Rattle.op_model.specs.Made.{made, edit_refusal}
+use Rattle.op_model.specs.Made.{edit_refusal}
 use Rattle.op_model.specs.Machine.{Commit, State}
-use Rattle.op_model.specs.Replay.{Kept, edited, settlement, Replays, settled_number}
+use Rattle.op_model.specs.Machine.{with_edit as machine_edit, with_settled as machine_settled}
+use Rattle.op_model.specs.Machine.{with_acked as machine_acked, with_told as machine_told}
+use Rattle.op_model.specs.Replay.{Kept, Replays, settled_number}
 use Rattle.replica_core.specs.Steps.{places_left}
 
 -- its name, its list, how long that was at opening, its three numbers, and the steps since then, newest first
@@ -47,24 +49,25 @@ stored h version commit = record {
 abbrev pub alone : Held → State
 alone h = stored h 0 None
 
+-- with the list, the numbers and the steps of a state
+abbrev pub renewed : Held → State → Held
+renewed h s = record h { list = s.list; settled = s.settled; acked = s.acked; told = s.told; steps = s.steps }
+
 -- with all operations of a session's edit
 abbrev pub with_edit : Held → ℕ → Edit → Held
-with_edit h session e = record h {
-  list = h.list ++ made h.list h.replica e;
-  steps = edited session e (length h.list) (length (made h.list h.replica e)) ∷ h.steps;
-}
+with_edit h session e = renewed h (machine_edit h.replica (alone h) session e)
 
 -- with so many operations settled
 abbrev pub with_settled : Held → ℕ → Held
-with_settled h n = record h { settled = n; steps = settlement n ∷ h.steps }
+with_settled h n = renewed h (machine_settled n (alone h))
 
 -- with so many operations acknowledged
 abbrev pub with_acked : Held → ℕ → Held
-with_acked h n = record h { acked = max h.acked n }
+with_acked h n = renewed h (machine_acked (alone h) n)
 
 -- with so many operations told
 abbrev pub with_told : Held → ℕ → Held
-with_told h n = record h { told = max h.told n }
+with_told h n = renewed h (machine_told (alone h) n)
 
 -- nothing refuses an edit: its own causes don't, and there are places for its step and for two settlements
 pub record CanEdit (h : Held) (e : Edit) : Type 0 where

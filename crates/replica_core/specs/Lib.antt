@@ -8,3 +8,4 @@ pub mod Fields
 pub mod Makers
 pub mod Indexes
 pub mod Docs
+pub mod Telling

@@ -1,5 +1,6 @@
 -- Where the operations of each replica stand in a list.
-use Rattle.std.specs.Prelude.{◌≡◌, ℕ, ◌+◌, ◌-◌, ◌<◌, ◌==◌, if◌then◌else◌, true, nat_lt, List, [], ◌∷◌, ◌++◌, Option, Some, None, slice_get, vec_len, vec_capacity}
+use Rattle.std.specs.Prelude.{◌≡◌, ℕ, ◌+◌, ◌-◌, ◌<◌, ◌==◌, if◌then◌else◌, true, nat_lt, List, [], ◌∷◌, ◌++◌}
+use Rattle.std.specs.Prelude.{Option, Some, None, slice_get, vec_len, vec_capacity}
 use Rattle.std.specs.List.{list_all}
 use Rattle.op_model.specs.declared.op.Op.{Op}
 use Rattle.replica_core.specs.declared.maker.Maker.{Maker}
@@ -8,6 +9,12 @@ use Rattle.replica_core.specs.declared.maker.Maker.{Maker}
 abbrev pub places_of : List Maker → ℕ → List ℕ
 places_of [] replica = []
 places_of (m ∷ ms) replica = if m.replica == replica then m.places.items else places_of ms replica
+
+-- the indexes of a replica's operations in a list, where the first operation has this one
+abbrev pub places_from : ℕ → List Op → ℕ → List ℕ
+places_from first [] replica = []
+places_from first (op ∷ ops) replica =
+    if op.id.replica == replica then first ∷ places_from (first + 1) ops replica else places_from (first + 1) ops replica
 
 -- for how many more of its operations there is room
 abbrev pub room_of : List Maker → ℕ → ℕ

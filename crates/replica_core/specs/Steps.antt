@@ -6,7 +6,7 @@ use Rattle.replica_core.specs.declared.step.Step.TheVariants as step
 
 -- a step
 abbrev pub kept_of : Step → Kept
-kept_of (step.Edit session edit first count) = edited session edit first count
+kept_of (step.Edit session edit first count) = edited session edit.value first count
 kept_of (step.Merge peer index) = merged peer index
 kept_of (step.Settlement settled) = settlement settled
 

@@ -1,36 +1,47 @@
-ghost use Rattle.std.specs.Prelude.{◌≡◌, List, ◌++◌, true, IfOk, OnOk};
+ghost use Rattle.std.specs.Prelude.{◌≡◌, List, ◌++◌, take, true, IfOk, OnOk};
 ghost use Rattle.op_ids.specs.Clock.{advanced, IsOverfull};
 ghost use Rattle.op_model.specs.declared.op.Op.{Op};
-ghost use Rattle.op_model.specs.Causality.{clock_of as clock_of_list, is_within_limits};
-ghost use Rattle.op_model.specs.Causality.{IsCausallyClosed};
+ghost use Rattle.op_model.specs.Causality.{clock_of, is_within_limits};
+ghost use Rattle.replica_core.specs.Deciding.{AreCounted};
 
+use crate::index::Index;
 use op_ids::{Clock, ClockError, ReplicaId};
 use op_list::OpSlice;
 use op_model::Op;
 use std::alloc::{AllocError, Global};
 
-/// How many operations each replica has in a causally closed list. An error is want of memory (1).
-/// It reads heads alone. Linear.
-pub fn clock_of(alloc: Global, ops: &OpSlice<'_>) -> Result<Clock, AllocError>
-    requires { IsCausallyClosed ops.now }
-    ensures { IfOk result (λ clock. clock ≡ clock_of_list ops.now) }
+/// How many operations each replica has among the first so many of a causally closed list, with its
+/// clock and its index. An error is want of memory (1). A search by halves for each replica.
+pub fn clock_of_front(
+    alloc: Global,
+    ops: &OpSlice<'_>,
+    clock: &Clock,
+    index: &Index,
+    count: usize,
+) -> Result<Clock, AllocError>
+    requires { AreCounted ops.now clock.now index.now }
+    ensures { IfOk result (λ front. front ≡ clock_of (take count ops.now)) }
 {
-    let mut clock = Clock::new(alloc);
-    let mut i = ops.len();
-    while i > 0 {
-        i -= 1;
-        advance(&mut clock, ops.head(i).id.replica())?;
+    let mut entries = Vec::new(alloc);
+    for entry in clock.entries() {
+        let made = index.count_before(ops, entry.0, count) as u64;
+        if made > 0 {
+            entries.push((entry.0, made))?;
+        }
     }
-    Ok(clock)
+    match Clock::from_entries(entries) {
+        Some(front) => Ok(front),
+        None => unreachable!(),
+    }
 }
 
 /// Counts operations that come behind others, with which they keep the limits of a store. An error
 /// is want of memory (1).
 pub fn count_all(clock: &mut Clock, ops: &[Op]) -> Result<(), AllocError>
-    requires { (earlier : List Op) × (clock.old ≡ clock_of_list earlier)
+    requires { (earlier : List Op) × (clock.old ≡ clock_of earlier)
         × (is_within_limits (earlier ++ ops.now) ≡ true) }
-    ensures { OnOk result ((earlier : List Op) → clock.old ≡ clock_of_list earlier
-        → clock.new ≡ clock_of_list (earlier ++ ops.now)) }
+    ensures { OnOk result ((earlier : List Op) → clock.old ≡ clock_of earlier
+        → clock.new ≡ clock_of (earlier ++ ops.now)) }
 {
     for op in ops {
         advance(clock, op.id.replica())?;

@@ -1,13 +1,15 @@
-ghost use Rattle.std.specs.Prelude.{◌≡◌, ◌+◌, ◌<◌, ◌++◌, ◌&&◌, nat_le, length, MatchOption, Some, None};
+ghost use Rattle.std.specs.Prelude.{◌≡◌, ◌+◌, ◌++◌, ◌&&◌, nat_le, length, IfOk, IfErr, Some, None};
 ghost use Rattle.doc_core.specs.Standing.{StandsFor};
 ghost use Rattle.replica_core.specs.Docs.{number_of as doc_number};
-ghost use Rattle.op_model.specs.Causality.{is_within_limits as is_within_limits_of};
+ghost use Rattle.op_model.specs.Causality.{documents, is_within_limits as is_within_limits_of};
 ghost use Rattle.op_model.specs.Made.{edit_refusal as edit_refusal_of, made as made_of};
-ghost use Rattle.replica_core.specs.Deciding.{AreKnown};
+ghost use Rattle.op_model.specs.Records.{stream_length};
+ghost use Rattle.op_model.specs.Spans.{with_number};
+ghost use Rattle.replica_core.specs.Deciding.{AreCounted};
 ghost use Rattle.replica_core.specs.Refusal.{number_of};
 ghost use Rattle.slow_programs.specs.Asking.{IsAskedRight};
 
-use crate::docs::{count, has_document};
+use crate::docs::count;
 use crate::index::Index;
 use crate::lengths::made_length;
 use crate::refusal::Refusal;
@@ -16,52 +18,60 @@ use op_ids::{Clock, MAX_COUNTER, ReplicaId};
 use op_list::OpSlice;
 use op_model::{Edit, MAX_OPERATIONS, MAX_STREAM_LENGTH};
 
-/// Why an edit of a document is refused, by the first cause: `Stale` (6), `Range` (5), `Limit` (7).
-/// Takes no memory. Linear in the document.
-pub fn edit_refusal(
+/// How many bytes the records take of the operations that an edit of a document makes, or why it is
+/// refused, by the first cause: `Stale` (6), `Range` (5), `Limit` (7). There is room for its
+/// document or not. Takes no memory. Linear in the document.
+pub fn edit_length(
     ops: &OpSlice<'_>,
     clock: &Clock,
-    docs: &[Doc],
     index: &Index,
     doc: &Doc,
+    has_place: bool,
     replica: ReplicaId,
     edit: &Edit,
-) -> Option<Refusal>
-    requires known { AreKnown ops.now clock.now docs.now index.now }
+) -> Result<u64, Refusal>
+    requires counted { AreCounted ops.now clock.now index.now }
     requires stands { StandsFor doc.now ops.now }
     requires number { doc_number doc.now ≡ edit.now.doc }
-    ensures { MatchOption result (edit_refusal_of ops.now replica edit.now ≡ None)
-        (λ e. edit_refusal_of ops.now replica edit.now ≡ Some (number_of e)) }
+    requires place { has_place
+        ≡ nat_le (length (with_number edit.now.doc (documents ops.now))) 1024 }
+    ensures length { IfOk result (λ bytes. (edit_refusal_of ops.now replica edit.now ≡ None)
+        × (bytes ≡ stream_length (made_of ops.now replica edit.now))) }
+    ensures refused { IfErr result (λ e.
+        edit_refusal_of ops.now replica edit.now ≡ Some (number_of e)) }
 {
     if !edit.is_at_rev(count(doc, ops)) {
-        return Some(Refusal::Stale);
+        return Err(Refusal::Stale);
     }
     if !doc.is_inside(&edit.change) {
-        return Some(Refusal::Range);
+        return Err(Refusal::Range);
     }
     if !edit.change.is_small() {
-        return Some(Refusal::Limit);
+        return Err(Refusal::Limit);
     }
-    if !is_within_limits(ops, clock, docs, index, doc, replica, edit) {
-        return Some(Refusal::Limit);
+    let bytes = made_length(doc, clock, replica, edit);
+    if !is_within_limits(ops, clock, index, has_place, replica, edit, bytes) {
+        return Err(Refusal::Limit);
     }
-    None
+    Ok(bytes)
 }
 
 /// Whether the operations, and then those of an edit that asks right, keep the limits of a store.
+/// There is room for its document or not, and the records that it makes take so many bytes.
 fn is_within_limits(
     ops: &OpSlice<'_>,
     clock: &Clock,
-    docs: &[Doc],
     index: &Index,
-    doc: &Doc,
+    has_place: bool,
     replica: ReplicaId,
     edit: &Edit,
+    bytes: u64,
 ) -> bool
-    requires known { AreKnown ops.now clock.now docs.now index.now }
-    requires stands { StandsFor doc.now ops.now }
-    requires number { doc_number doc.now ≡ edit.now.doc }
+    requires counted { AreCounted ops.now clock.now index.now }
     requires right { IsAskedRight ops.now edit.now }
+    requires place { has_place
+        ≡ nat_le (length (with_number edit.now.doc (documents ops.now))) 1024 }
+    requires length { bytes ≡ stream_length (made_of ops.now replica edit.now) }
     ensures { result ≡ is_within_limits_of (ops.now ++ made_of ops.now replica edit.now) }
 {
     let count = edit.change.size() as u64;
@@ -74,8 +84,6 @@ fn is_within_limits(
     if !clock.can_advance(replica) {
         return false;
     }
-    let bytes = made_length(doc, clock, replica, edit);
-    let has_place = has_document(docs, edit.doc);
     has_room(ops, has_place, index.stream, count as usize, bytes)
 }
 

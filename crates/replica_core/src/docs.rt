@@ -1,5 +1,4 @@
-ghost use Rattle.std.specs.Prelude.{◌≡◌, ◌≤◌, ◌<◌, List, [], ◌∷◌, ◌++◌, length, take, drop, slice_index_or, nat_le, MatchResult, OnOk, OnErr, IsErrOf};
-ghost use Rattle.doc_core.specs.declared.doc.Doc.{Doc};
+ghost use Rattle.std.specs.Prelude.{◌≡◌, ℕ, List, [], ◌++◌, length, nat_le, OnOk, OnErr, IsErrOf};
 ghost use Rattle.doc_core.specs.Standing.{StandsFor};
 ghost use Rattle.replica_core.specs.Docs.{number_of};
 ghost use Rattle.char_sequence.specs.Content.{FitAfter};
@@ -8,7 +7,7 @@ ghost use Rattle.op_model.specs.declared.op.Op.{Op};
 ghost use Rattle.op_model.specs.Causality.{IsCausallyClosed};
 ghost use Rattle.op_model.specs.Spans.{with_number};
 ghost use Rattle.op_model.specs.Text.{rev};
-ghost use Rattle.replica_core.specs.Docs.{numbers, AllStand, AreDocs};
+ghost use Rattle.replica_core.specs.Docs.{numbers, AllStand, AreDocs, IsPlace};
 
 use doc_core::{Doc, Made, SequenceError};
 use op_list::OpSlice;
@@ -23,18 +22,37 @@ pub fn find<'a>(docs: &'a [Doc], empty: &'a Doc) -> &'a Doc
     ensures number { number_of result.now ≡ number_of empty.now }
     ensures stands { (ops : List Op) → AreDocs docs.now ops → StandsFor result.now ops }
 {
-    match place(docs, empty.number()) {
+    at(docs, place(docs, empty.number()), empty)
+}
+
+/// The index of the document of a number, or where it goes among these, whose numbers rise. A
+/// search by halves.
+pub fn place(docs: &[Doc], doc: u32) -> Result<usize, usize>
+    requires { IsUp (numbers docs.now) }
+    ensures { IsPlace docs.now doc result }
+{
+    docs.binary_search_by_key(&doc, |it| it.number())
+}
+
+/// The document at this place, or else this empty one. Constant.
+pub fn at<'a>(docs: &'a [Doc], place: Result<usize, usize>, empty: &'a Doc) -> &'a Doc
+    requires place { IsPlace docs.now (number_of empty.now) place }
+    requires empty { StandsFor empty.now [] }
+    ensures number { number_of result.now ≡ number_of empty.now }
+    ensures stands { (ops : List Op) → AreDocs docs.now ops → StandsFor result.now ops }
+{
+    match place {
         Ok(at) => &docs[at],
         Err(_) => empty,
     }
 }
 
-/// Whether there are at most 1,024 documents with this one. A search by halves.
-pub fn has_document(docs: &[Doc], doc: u32) -> bool
-    requires { IsUp (numbers docs.now) }
-    ensures { result ≡ nat_le (length (with_number doc (numbers docs.now))) 1024 }
+/// Whether there are at most 1,024 documents with the one of this place. Constant.
+pub fn has_room(docs: &[Doc], place: Result<usize, usize>) -> bool
+    ensures { (doc : ℕ) → IsPlace docs.now doc place
+        → result ≡ nat_le (length (with_number doc (numbers docs.now))) 1024 }
 {
-    match place(docs, doc) {
+    match place {
         Ok(_) => docs.len() <= MAX_DOCUMENTS,
         Err(_) => docs.len() < MAX_DOCUMENTS,
     }
@@ -51,11 +69,17 @@ pub fn count(doc: &Doc, list: &OpSlice<'_>) -> usize
     doc.rev() as usize
 }
 
-/// Takes an edit of one document, whole or not at all. `UnknownId` (60) only where it can't
-/// come after the others, `Memory` (1) where a growth was refused. A search by halves for the
-/// document, a step for each greater one where it is new, and what the document itself takes.
-pub fn apply(docs: &mut Vec<Doc>, alloc: Global, doc: u32, made: &Made) -> Result<(), SequenceError>
-    requires { IsUp (numbers docs.old.items) }
+/// Takes an edit of one document, which has this place, whole or not at all. `UnknownId` (60) only
+/// where it can't come after the others, `Memory` (1) where a growth was refused. A step for each
+/// greater document where it is new, and what the document itself takes.
+pub fn apply(
+    docs: &mut Vec<Doc>,
+    alloc: Global,
+    doc: u32,
+    place: Result<usize, usize>,
+    made: &Made,
+) -> Result<(), SequenceError>
+    requires { IsPlace docs.old.items doc place }
     ensures numbers { OnOk result
         (numbers docs.new.items ≡ with_number doc (numbers docs.old.items)) }
     ensures stand { OnOk result ((list : List Op) → AreDocs docs.old.items list
@@ -64,7 +88,7 @@ pub fn apply(docs: &mut Vec<Doc>, alloc: Global, doc: u32, made: &Made) -> Resul
         → AreDocs docs.old.items list → FitAfter list doc made.now → ⊥ }
     ensures err { OnErr result (docs.new.items ≡ docs.old.items) }
 {
-    match place(docs, doc) {
+    match place {
         Ok(at) => {
             let it = &mut docs[at];
             it.apply_edit(made)
@@ -83,19 +107,4 @@ pub fn apply(docs: &mut Vec<Doc>, alloc: Global, doc: u32, made: &Made) -> Resul
             Ok(())
         }
     }
-}
-
-/// The index of the document of a number, or where it goes among these, whose numbers rise. A
-/// search by halves.
-fn place(docs: &[Doc], doc: u32) -> Result<usize, usize>
-    requires { IsUp (numbers docs.now) }
-    ensures { MatchResult result
-        (λ at. (at < length docs.now)
-        × ((d : Doc) → d ≡ slice_index_or docs.now at d → number_of d ≡ doc)
-        × (with_number doc (numbers docs.now) ≡ numbers docs.now))
-        (λ at. (at ≤ length docs.now)
-        × (with_number doc (numbers docs.now)
-        ≡ take at (numbers docs.now) ++ doc ∷ drop at (numbers docs.now))) }
-{
-    docs.binary_search_by_key(&doc, |it| it.number())
 }

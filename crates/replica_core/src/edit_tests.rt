@@ -83,6 +83,35 @@ fn edits_keep_their_limits(rt: HostRuntime) -> Result<(), Fail> {
     Ok(())
 }
 
+/// How many bytes the records take of an edit of document 1 that is put behind the list, or 0.
+fn put_length(replica: &mut Replica, change: Option<Change>) -> u64 {
+    let doc = 1;
+    let rev = None;
+    match change {
+        Some(change) => put(replica, &Edit { doc, rev, change }),
+        None => 0,
+    }
+}
+
+fn put(replica: &mut Replica, edit: &Edit) -> u64 {
+    match replica.edit_length(edit) {
+        Ok(bytes) => match replica.put_edit(1, edit) {
+            Ok(_) => bytes,
+            Err(_) => 0,
+        },
+        Err(_) => 0,
+    }
+}
+
+#[test]
+fn the_length_of_an_edit_is_told_before_it_is_put(rt: HostRuntime) -> Result<(), Fail> {
+    let alloc = rt.alloc();
+    let mut a = empty(alloc, 1)?;
+    assert_eq!(rt; put_length(&mut a, insert(alloc, 0, "a")), 39);
+    assert_eq!(rt; len(&a), 1);
+    Ok(())
+}
+
 #[test]
 fn what_is_settled_is_told(rt: HostRuntime) -> Result<(), Fail> {
     let alloc = rt.alloc();

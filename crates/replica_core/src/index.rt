@@ -1,12 +1,13 @@
-ghost use Rattle.std.specs.Prelude.{◌≡◌, ◌+◌, ◌≤◌, ◌<◌, ◌^◌, List, [], ◌∷◌, ◌++◌, length, MatchOption, OnOk};
+ghost use Rattle.std.specs.Prelude.{◌≡◌, ◌+◌, ◌≤◌, ◌<◌, ◌^◌, List, [], ◌∷◌, ◌++◌, length, take, MatchOption, OnOk};
 ghost use Rattle.op_model.specs.declared.op.Op.{Op};
 ghost use Rattle.op_model.specs.Causality.{made_by};
 ghost use Rattle.op_model.specs.Records.{record_length as length_of, stream_length};
 ghost use Rattle.replica_core.specs.Indexes.{IsIndexOf};
 ghost use Rattle.replica_core.specs.Makers.{places_of as places_in, room_of};
 
-use crate::maker::{self, Maker};
+use crate::maker::{self, Maker, count_below};
 use op_ids::ReplicaId;
+use op_list::OpSlice;
 use op_model::Op;
 use std::alloc::{AllocError, Global};
 
@@ -40,6 +41,19 @@ impl Index {
             (λ places. places.now ≡ places_in self.now.makers.items replica) }
     {
         maker::places_of(&self.makers, replica)
+    }
+
+    /// How many operations of a replica stand before an index of the list, which is there for the
+    /// proof. At most a step for each replica, and a search by halves.
+    pub fn count_before(&self, ops: &OpSlice<'_>, replica: ReplicaId, end: usize) -> usize
+        requires { IsIndexOf self.now ops.now }
+        ensures { result ≡ length (made_by replica (take end ops.now)) }
+    {
+        let _ = ops;
+        match self.places_of(replica) {
+            Some(places) => count_below(places, end),
+            None => 0,
+        }
     }
 
     /// Makes room for so many more operations of a replica. An error is want of memory (1).

@@ -11,6 +11,7 @@ mod index;
 mod lengths;
 mod log;
 mod maker;
+mod making;
 mod merged;
 mod merging;
 mod named;
@@ -19,6 +20,7 @@ mod opening;
 mod refusal;
 mod replica;
 mod step;
+mod steps;
 mod telling;
 mod ticket;
 
@@ -31,5 +33,7 @@ pub use ticket::Ticket;
 mod edit_tests;
 #[cfg(test)]
 mod merge_tests;
+#[cfg(test)]
+mod tell_tests;
 #[cfg(test)]
 mod test_peers;

@@ -1,4 +1,5 @@
-ghost use Rattle.std.specs.Prelude.{◌≡◌, ◌≢◌, ℕ, ◌+◌, ◌≤◌, ◌<◌, [], ◌∷◌, ◌++◌, MatchOption, OnOk};
+ghost use Rattle.std.specs.Prelude.{◌≡◌, ◌≢◌, ℕ, ◌+◌, ◌≤◌, ◌<◌, [], ◌∷◌, ◌++◌, true, false, nat_lt, length, MatchOption, OnOk};
+ghost use Rattle.std.specs.List.Sorted.{IsNonDecreasing, IsPartitionPoint};
 ghost use Rattle.replica_core.specs.Makers.{maker_place, places_of as places_in, room_of};
 
 use op_ids::ReplicaId;
@@ -23,6 +24,16 @@ pub fn places_of(makers: &[Maker], replica: ReplicaId) -> Option<&[u32]>
         }
     }
     None
+}
+
+/// How many of these indexes, which rise, are below another one. A search by halves.
+pub fn count_below(places: &[u32], index: usize) -> usize
+    requires { IsNonDecreasing places.now }
+    ensures bound { result ≤ length places.now }
+    ensures place { IsPartitionPoint (λ p. nat_lt p index ≡ true) (λ p. nat_lt p index ≡ false)
+        places.now result }
+{
+    places.partition_point(|place| (*place as usize) < index)
 }
 
 /// Which of the makers a replica is, or `None` where it is none of them.

@@ -216,7 +216,7 @@ fn exchange_all(alloc: Global, a: &mut Replica, b: &mut Replica, c: &mut Replica
 }
 
 /// A peer that has 304 operations of three peers on two documents.
-fn merged(alloc: Global) -> Result<Box<Replica>, Fail> {
+pub fn merged(alloc: Global) -> Result<Box<Replica>, Fail> {
     let mut a = typed(alloc, 1, "abcdefgh")?;
     let mut b = empty(alloc, 2)?;
     let mut c = empty(alloc, 3)?;

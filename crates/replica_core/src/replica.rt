@@ -1,5 +1,5 @@
 ghost use Rattle.std.specs.Prelude.{◌≡◌, ◌≢◌, ◌↔◌, ◌≤◌, ◌<◌, if◌then◌else◌};
-ghost use Rattle.std.specs.Prelude.{[], length, take, drop, Contains};
+ghost use Rattle.std.specs.Prelude.{[], length, take, Contains};
 ghost use Rattle.std.specs.Prelude.{IsTrue, IfOk, IfErr, OnOk, OnErr};
 ghost use Rattle.op_model.specs.Machine.{reach, untold as untold_of};
 ghost use Rattle.op_model.specs.Causality.{clock_of, IsCausallyClosed};
@@ -10,13 +10,14 @@ ghost use Rattle.replica_core.specs.Held.{alone, opened_with, IsSound};
 ghost use Rattle.replica_core.specs.Held.{with_acked, with_settled, with_told};
 ghost use Rattle.replica_core.specs.Steps.{places_left};
 
-use crate::counting;
+use crate::counting::clock_of_front;
 use crate::docs::{count, find};
 use crate::index::Index;
 use crate::log::Log;
 use crate::opening::counted;
 use crate::refusal::Refusal;
 use crate::step::Step;
+use crate::steps::Steps;
 use crate::telling::untold;
 use crate::ticket::Ticket;
 use doc_core::Doc;
@@ -34,6 +35,8 @@ pub struct Replica {
     pub(crate) log: Log,
     /// How many operations of each replica the list has.
     pub(crate) clock: Clock,
+    /// The steps since opening.
+    pub(crate) steps: Steps,
     /// The length of the list at opening.
     pub(crate) opened: usize,
     pub(crate) settled: usize,
@@ -42,18 +45,16 @@ pub struct Replica {
 }
 
 impl Model for Replica {
-    ghost use Rattle.std.specs.Prelude.{vec_capacity};
     ghost use Rattle.replica_core.specs.Held.{Held};
     ghost use Rattle.replica_core.specs.Fields.{held_of, AreFields};
 
     ghost Value = { Held };
 
-    ghost view = { λ r. held_of r.id r.log.list r.opened r.settled r.acked r.told
-        r.log.steps.items };
+    ghost view = { λ r. held_of r.id r.log.list r.opened r.settled r.acked r.told r.steps };
 
-    ghost invariant = { λ r. AreFields (held_of r.id r.log.list r.opened r.settled r.acked r.told
-        r.log.steps.items)
-        r.clock r.log.docs.items r.log.index (vec_capacity r.log.steps) };
+    ghost invariant = { λ r. AreFields
+        (held_of r.id r.log.list r.opened r.settled r.acked r.told r.steps)
+        r.clock r.log.docs.items r.log.index };
 }
 
 impl Replica {
@@ -65,11 +66,11 @@ impl Replica {
             id,
             log: Log {
                 list: OpList::new(alloc),
-                steps: Vec::new(alloc),
                 docs: Vec::new(alloc),
                 index: Index::new(alloc),
             },
             clock: Clock::new(alloc),
+            steps: Steps::new(),
             opened: 0,
             settled: 0,
             acked: 0,
@@ -79,11 +80,11 @@ impl Replica {
 
     /// The replica as it is after opening a store with this list: all of it is settled.
     /// `BadOperation` (47) exactly where the list isn't causally closed; `Memory` (1) says nothing
-    /// of that. Two passes over the list. An operation is read, linear in its record, and let go
-    /// before the next one; it takes a few steps for clocks, a search by halves for its document, a
-    /// binary search for each character that it names (a few steps where its replica edits alone),
-    /// and for an insert a step for each greater id that follows its origin. For each character 72
-    /// bytes, of which 40 are given back.
+    /// of that. Two passes over the list, each of which reads each record once, linear in it, and
+    /// lets the operation go before the next one; nothing else reads a record. An operation takes a
+    /// few steps for clocks, a search by halves for its document, one for each character that it
+    /// names (a few steps where its replica edits alone), and for an insert a step for each greater
+    /// id that follows its origin. For each character 72 bytes, of which 40 are given back.
     pub fn from_list(alloc: Global, id: ReplicaId, list: OpList) -> Result<Replica, Refusal>
         ensures opened { IfOk result (λ r. r ≡ opened_with id list) }
         ensures closed { OnOk result (IsCausallyClosed list) }
@@ -94,13 +95,9 @@ impl Replica {
         let opened = list.len();
         Ok(Replica {
             id,
-            log: Log {
-                list,
-                steps: Vec::new(alloc),
-                docs,
-                index,
-            },
+            log: Log { list, docs, index },
             clock,
+            steps: Steps::new(),
             opened,
             settled: opened,
             acked: opened,
@@ -122,15 +119,6 @@ impl Replica {
         ensures sound { IsSound self.now }
     {
         self.log.list.as_slice()
-    }
-
-    /// The operations that aren't settled, in the order of the list. An error is want of memory
-    /// (1). Linear in their records.
-    pub fn unsettled(&self) -> Result<Vec<Op>, AllocError>
-        ensures { IfOk result (λ ops. ops.items ≡ drop self.now.settled self.now.list) }
-    {
-        let list = self.log.list.as_slice();
-        list.copy_from(self.log.list.allocator(), self.settled)
     }
 
     /// How many operations of each replica the list has.
@@ -197,10 +185,7 @@ impl Replica {
         requires place { 0 < places_left self.old.steps }
         ensures { self.new ≡ with_settled self.old n }
     {
-        match self.log.steps.push(Step::Settlement { settled: n }) {
-            Ok(()) => {}
-            Err(_) => unreachable!(),
-        }
+        self.steps.push(Step::Settlement { settled: n });
         self.settled = n;
     }
 
@@ -219,8 +204,9 @@ impl Replica {
     }
 
     /// The first settled operations, at most 64 in the order of the list, that a clock doesn't
-    /// count. They count as told. An error is want of memory (1), and changes nothing. A look
-    /// at the heads of the settled operations, and linear in the records of those that are told.
+    /// count. They count as told. An error is want of memory (1), and changes nothing. For each
+    /// that is told a search by halves among the operations of each replica, and linear in its
+    /// record.
     pub fn tell(&mut self, clock: &Clock) -> Result<Vec<Op>, Refusal>
         ensures told { IfOk result (λ ops. ops.items ≡ untold_of clock.now (alone self.old)) }
         ensures raised { OnOk result (self.new
@@ -229,14 +215,15 @@ impl Replica {
         ensures err { OnErr result (self.new ≡ self.old) }
     {
         let alloc = self.log.list.allocator();
-        let settled = self.log.list.as_slice().front(self.settled);
-        let (ops, reached) = untold(alloc, clock, &settled)?;
+        let list = self.log.list.as_slice();
+        let index = &self.log.index;
+        let (ops, reached) = untold(alloc, clock, &list, &self.clock, index, self.settled)?;
         self.told = self.told.max(reached);
         Ok(ops)
     }
 
     /// How many operations of each replica are settled. All settled ones count as told. An error is
-    /// want of memory (1), and changes nothing. Linear in the list.
+    /// want of memory (1), and changes nothing. A search by halves for each replica.
     pub fn have(&mut self) -> Result<Clock, Refusal>
         ensures clock { IfOk result (λ c. c ≡ clock_of (take self.old.settled self.old.list)) }
         ensures raised { OnOk result (self.new ≡ with_told self.old self.old.settled) }
@@ -244,8 +231,9 @@ impl Replica {
         ensures err { OnErr result (self.new ≡ self.old) }
     {
         let alloc = self.log.list.allocator();
-        let settled = self.log.list.as_slice().front(self.settled);
-        let clock = counting::clock_of(alloc, &settled)?;
+        let list = self.log.list.as_slice();
+        let index = &self.log.index;
+        let clock = clock_of_front(alloc, &list, &self.clock, index, self.settled)?;
         self.told = self.told.max(self.settled);
         Ok(clock)
     }

@@ -1,15 +1,14 @@
+use ghost_lists::Seen;
 use op_model::Edit;
 
-/// The most steps that are kept since opening.
-pub const MAX_STEPS: usize = 1_048_576;
-
-/// A step that a replica made since it was opened.
-#[derive(Debug, Drop)]
+/// A step that a replica made since it was opened. It is made for contracts alone, and let go at
+/// once: it takes no memory, and the edit isn't copied.
+#[derive(Drop)]
 pub enum Step {
     /// An edit of a session made so many operations, the first of them with this index in the list.
     Edit {
         session: u64,
-        edit: Edit,
+        edit: Seen<Edit>,
         first: usize,
         count: usize,
     },

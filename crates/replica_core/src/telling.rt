@@ -1,9 +1,12 @@
-ghost use Rattle.std.specs.Prelude.{◌≡◌, not, nat_lt, take, filter, IfOk, OnOk};
-ghost use Rattle.op_ids.specs.Clock.{advanced, count_of, IsOverfull};
+ghost use Rattle.std.specs.Prelude.{◌≡◌, ◌≤◌, ◌==◌, length, not, take, true, filter, IfOk};
 ghost use Rattle.op_model.specs.Causality.{is_known as is_known_in, IsCausallyClosed};
 ghost use Rattle.op_model.specs.Machine.{reach};
+ghost use Rattle.replica_core.specs.Deciding.{AreCounted};
+ghost use Rattle.replica_core.specs.Indexes.{IsIndexOf};
+ghost use Rattle.replica_core.specs.Telling.{IsNext};
 
-use crate::counting::advance;
+use crate::index::Index;
+use crate::maker::count_below;
 use op_ids::{Clock, ReplicaId};
 use op_list::OpSlice;
 use op_model::Op;
@@ -12,46 +15,68 @@ use std::alloc::{AllocError, Global};
 /// The most operations that are told at once.
 const MAX_TOLD: usize = 64;
 
-/// Of a causally closed list the first operations, at most 64, that a clock doesn't count, and how
-/// many operations the last of them needs. An error is want of memory (1). A look at the head of
-/// each operation up to that; only those that are told are read.
+/// Of the first so many operations of a causally closed list, with its clock and its index, the
+/// first ones, at most 64, that a peer's clock doesn't count, and how many operations the last of
+/// them needs. An error is want of memory (1). For each that is told a search by halves in the
+/// indexes of each replica; no other operation is looked at.
 pub fn untold(
     alloc: Global,
-    clock: &Clock,
+    peer: &Clock,
     ops: &OpSlice<'_>,
+    clock: &Clock,
+    index: &Index,
+    settled: usize,
 ) -> Result<(Vec<Op>, usize), AllocError>
-    requires { IsCausallyClosed ops.now }
-    ensures told { IfOk result
-        (λ told. told.0.items ≡ take 64 (filter (λ op. not (is_known_in clock.now op)) ops.now)) }
-    ensures reached { IfOk result (λ told. told.1 ≡ reach 64 clock.now ops.now) }
+    requires counted { AreCounted ops.now clock.now index.now }
+    requires within { settled ≤ length ops.now }
+    ensures told { IfOk result (λ told. told.0.items
+        ≡ take 64 (filter (λ op. not (is_known_in peer.now op)) (take settled ops.now))) }
+    ensures reached { IfOk result (λ told. told.1 ≡ reach 64 peer.now (take settled ops.now)) }
 {
     let mut found = Vec::new(alloc);
-    let mut seen = Clock::new(alloc);
-    let mut reached = 0;
-    let mut left = MAX_TOLD;
-    for i in 0..ops.len() {
-        if left == 0 {
-            return Ok((found, reached));
+    let mut from = 0;
+    while found.len() < MAX_TOLD {
+        let next = next_untold(peer, ops, clock, index, from);
+        if next >= settled {
+            return Ok((found, from));
         }
-        if !count_next(clock, &mut seen, ops.head(i).id.replica())? {
-            let op = ops.get(alloc, i)?;
-            found.push(op)?;
-            reached = i + 1;
-            left -= 1;
-        }
+        let op = ops.get(alloc, next)?;
+        found.push(op)?;
+        from = next + 1;
     }
-    Ok((found, reached))
+    Ok((found, from))
 }
 
-/// Counts a replica's next operation, for which there is room, and tells whether a clock counts it.
-/// An error is want of memory (1).
-fn count_next(clock: &Clock, seen: &mut Clock, replica: ReplicaId) -> Result<bool, AllocError>
-    requires { IsOverfull (advanced seen.old replica) → ⊥ }
-    ensures known { IfOk result
-        (λ known. known ≡ nat_lt (count_of seen.old replica) (count_of clock.now replica)) }
-    ensures seen { OnOk result (seen.new ≡ advanced seen.old replica) }
+/// The index of the first operation, from an index on, that a peer's clock doesn't count, or the
+/// length of the list. For each replica a search by halves.
+fn next_untold(peer: &Clock, ops: &OpSlice<'_>, clock: &Clock, index: &Index, from: usize) -> usize
+    requires { AreCounted ops.now clock.now index.now }
+    ensures { IsNext peer.now (λ op. true) ops.now from result }
 {
-    let is_known = seen.get(replica) < clock.get(replica);
-    advance(seen, replica)?;
-    Ok(is_known)
+    let mut next = ops.len();
+    for entry in clock.entries() {
+        next = next.min(next_of(peer, ops, index, entry.0, from));
+    }
+    next
+}
+
+/// The index of a replica's first operation, from an index on, that a peer's clock doesn't count,
+/// or the length of the list. A search by halves.
+fn next_of(peer: &Clock, ops: &OpSlice<'_>, index: &Index, replica: ReplicaId, from: usize) -> usize
+    requires closed { IsCausallyClosed ops.now }
+    requires index { IsIndexOf index.now ops.now }
+    ensures { IsNext peer.now (λ op. op.id.replica == replica) ops.now from result }
+{
+    match index.places_of(replica) {
+        Some(places) => {
+            let known = peer.get(replica) as usize;
+            let at = count_below(places, from).max(known);
+            if at < places.len() {
+                places[at] as usize
+            } else {
+                ops.len()
+            }
+        }
+        None => ops.len(),
+    }
 }

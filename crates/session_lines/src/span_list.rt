@@ -33,11 +33,4 @@ impl SpanList {
     {
         &self.spans
     }
-
-    /// The spans, in order. Takes no memory.
-    pub fn into_vec(self) -> Vec<Span>
-        ensures { result.items ≡ self }
-    {
-        self.spans
-    }
 }

@@ -3,7 +3,7 @@ use Rattle.std.proofs.Common.{◌≡◌, ℕ, ◌≤◌, ◌<◌, ◌++◌, Bool
 use Rattle.std.specs.Prelude.{if◌then◌else◌}
 use Rattle.op_model.specs.declared.edit.Edit.{Edit}
 use Rattle.op_model.specs.Made.{made, edit_refusal, is_at_rev, is_inside, is_small}
-use Rattle.op_model.specs.Machine.{State, Answer, Ticket, ticket, ticket_of, refused, acknowledged, EditStep, AckStep, IsRefusal, edit_answer, edit_answer_unless, has_places, with_edit}
+use Rattle.op_model.specs.Machine.{State, Answer, Ticket, ticket, ticket_of, applied, refused, acknowledged, EditStep, AckStep, IsRefusal, edit_alone, edit_answer_unless, has_record_room, with_room, has_places, with_edit}
 use Rattle.session_threads.specs.HubCalls.{IsQuiet, is_edit_refusal}
 
 -- ---- a refusal
@@ -24,16 +24,23 @@ by_cause : (replica : ℕ) (s : State) (e : Edit) (cause : Option ℕ) (n : ℕ)
 by_cause replica s e (Some m) n known is = rw is known
 by_cause replica s e None n known is = by_places (has_places s) _ n is
 
-by_device : (failed : Bool) (answer : Answer) (n : ℕ) → (IsRefusal n answer → IsTrue (is_edit_refusal n))
-    → IsRefusal n (if failed then refused 9 else answer) → IsTrue (is_edit_refusal n)
-by_device true answer n other is = rw is refl
-by_device false answer n other is = other is
+by_room : (room : Bool) (answer : Answer) (n : ℕ) → (IsRefusal n answer → IsTrue (is_edit_refusal n))
+    → IsRefusal n (with_room room answer) → IsTrue (is_edit_refusal n)
+by_room true answer n other is = other is
+by_room false (ticket t) n other is = rw is refl
+by_room false applied n other is = rw is refl
+by_room false answer n other is = other is
+
+by_device : (failed room : Bool) (answer : Answer) (n : ℕ) → (IsRefusal n answer → IsTrue (is_edit_refusal n))
+    → IsRefusal n (if failed then refused 9 else with_room room answer) → IsTrue (is_edit_refusal n)
+by_device true room answer n other is = rw is refl
+by_device false room answer n other is = by_room room answer n other is
 
 -- the machine refuses an edit with one of these numbers
 pub edit_refusals : (replica : ℕ) (s next : State) (session : ℕ) (e : Edit) (n : ℕ)
     → EditStep replica s session e (refused n) next → IsTrue (is_edit_refusal n)
 edit_refusals replica s next session e n (is, same) =
-    by_device s.failed (edit_answer_unless replica s e (edit_refusal s.list replica e)) n
+    by_device s.failed (has_record_room s (made s.list replica e)) (edit_alone replica s e) n
     (by_cause replica s e (edit_refusal s.list replica e) n (of_tests _ _ _)) is
 
 -- ---- a ticket
@@ -47,17 +54,20 @@ ticket_by_cause : (replica : ℕ) (s : State) (e : Edit) (cause : Option ℕ) (t
 ticket_by_cause replica s e (Some m) t is = let never : ⊥ = cc in absurd never
 ticket_by_cause replica s e None t is = ticket_by_places (has_places s) t _ is
 
-ticket_by_device : (failed : Bool) (answer : Answer) (t due : Ticket) → (answer ≡ ticket t → t ≡ due)
-    → (if failed then refused 9 else answer) ≡ ticket t → t ≡ due
-ticket_by_device true answer t due other is = let never : ⊥ = cc in absurd never
-ticket_by_device false answer t due other is = other is
+ticket_by_device : (failed room : Bool) (answer : Answer) (t due : Ticket) → (answer ≡ ticket t → t ≡ due)
+    → (if failed then refused 9 else with_room room answer) ≡ ticket t → t ≡ due
+ticket_by_device true room answer t due other is = let never : ⊥ = cc in absurd never
+ticket_by_device false true answer t due other is = other is
+ticket_by_device false false (ticket u) t due other is = let never : ⊥ = cc in absurd never
+ticket_by_device false false applied t due other is = let never : ⊥ = cc in absurd never
+ticket_by_device false false answer t due other is = other is
 
 -- a ticket ends where the list ends
 pub ticket_ends : (replica : ℕ) (s next : State) (session : ℕ) (e : Edit) (t : Ticket)
     → EditStep replica s session e (ticket t) next → t.end ≡ length next.list
 ticket_ends replica s next session e t (answer, is) =
     let due = ticket_of (s.list ++ made s.list replica e) e.doc in
-    let same : t ≡ due = ticket_by_device s.failed _ t due (ticket_by_cause replica s e (edit_refusal s.list replica e) t) answer in
+    let same : t ≡ due = ticket_by_device s.failed (has_record_room s (made s.list replica e)) (edit_alone replica s e) t due (ticket_by_cause replica s e (edit_refusal s.list replica e) t) answer in
     ap (λ given. given.end) same ∙ ap (λ state. length state.list) (sym is)
 
 -- an edit begins no commit

@@ -46,7 +46,7 @@ CannotSettle s events =
 
 -- the numbers that an edit may be refused with
 abbrev pub is_edit_refusal : ℕ → Bool
-is_edit_refusal n = n == 1 || n == 5 || n == 6 || n == 7 || n == 9 || n == 10
+is_edit_refusal n = n == 1 || n == 5 || n == 6 || n == 7 || n == 8 || n == 9 || n == 10
 
 -- the state with a commit of all its operations, of which no device call is made
 abbrev pub with_begun : State → State

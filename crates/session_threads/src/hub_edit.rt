@@ -56,6 +56,7 @@ fn refusal_of(refusal: HubRefusal) -> Refusal
         5 => Refusal::Range,
         6 => Refusal::Stale,
         7 => Refusal::Limit,
+        8 => Refusal::Busy,
         9 => Refusal::Failed,
         10 => Refusal::Steps,
         _ => unreachable!(),

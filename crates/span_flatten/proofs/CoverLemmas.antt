@@ -13,7 +13,7 @@ use Rattle.op_model.specs.declared.anchor.End.TheVariants as end
 use Rattle.op_model.specs.declared.marking.Marking.{Marking}
 use Rattle.op_model.specs.Places.{index_of, start_place, end_place, covers}
 use Rattle.char_sequence.specs.Content.{cell_of}
-use Rattle.span_flatten.specs.Covering.{covered_from, covered_to, index_in, is_in, range_of}
+use Rattle.span_flatten.specs.Covering.{covered_from, covered_to, covers_cell, index_in}
 
 index_same : (ops : List Op) (doc : ℕ) (id : Id) (cs : List Character) → index_in id (map (cell_of ops doc) cs) ≡ index_of id cs
 index_same ops doc id [] = refl
@@ -61,7 +61,7 @@ end_same ops doc cs (end.To (After id)) k =
 
 -- among the cells of these characters a mark operation covers the k-th exactly where it covers the k-th character
 pub covers_same : (ops : List Op) (doc : ℕ) (cs : List Character) (k : ℕ) (m : Marking)
-    → is_in (range_of (map (cell_of ops doc) cs) m) k ≡ covers cs k m
+    → covers_cell (map (cell_of ops doc) cs) k m ≡ covers cs k m
 covers_same ops doc cs k m =
     ap (λ b. b && nat_lt k (covered_to (map (cell_of ops doc) cs) m.end)) (start_same ops doc cs m.start k)
     ∙ ap (λ b. nat_le (start_place cs m.start) (2 * k + 1) && b) (end_same ops doc cs m.end k)

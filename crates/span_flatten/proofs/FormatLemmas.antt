@@ -11,7 +11,8 @@ use Rattle.op_model.specs.Marks.{is_key, greatest}
 use Rattle.op_model.specs.Places.{covers}
 use Rattle.op_model.specs.Spans.{comment_ids, comment_of, decided as decided_at, marks_of}
 use Rattle.model_laws.proofs.Up.{has, has-filter, has-rising, rising_up, same_members, up_filter}
-use Rattle.span_flatten.specs.Formatting.{decided, marks_in, standing}
+use Rattle.comment_marks.specs.Standing.{decided, standing}
+use Rattle.span_flatten.specs.Formatting.{marks_in}
 
 -- some of them, and some of these
 filter_both : (p q r : Marking → Bool) → ((m : Marking) → r m ≡ p m) → (ms : List Marking)

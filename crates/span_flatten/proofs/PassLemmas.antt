@@ -21,7 +21,7 @@ use Rattle.char_sequence.specs.declared.cell.Cell.{Cell}
 use Rattle.char_sequence.specs.Cells.{has_cell}
 use Rattle.mark_anchors.specs.declared.edge.Edge.{Edge}
 use Rattle.mark_anchors.specs.Edges.{edge_beside, edges_from, edges_of, end_edges, start_edges, AreEdges}
-use Rattle.span_flatten.specs.Covering.{covered_from, covered_to, covering, index_in, is_in, range_of}
+use Rattle.span_flatten.specs.Covering.{covered_from, covered_to, covering, covers_cell, index_in}
 use Rattle.span_flatten.specs.Sweeping.{begun_at, ended_at, has_begun, has_ended, is_edge, is_from_start, passes, picked, with_back, with_edges, IsActive}
 use Rattle.span_flatten.specs.declared.active.Active.{Active}
 use Rattle.span_flatten.specs.Formatting.{marks_in}
@@ -98,11 +98,11 @@ pub covering_reached : (cells : List Cell) (ms : List Marking) (k : ℕ) → k <
     → filter (λ m. has_begun cells (k + 1) k m.start && not (has_ended cells (k + 1) k m.end)) ms ≡ covering cells ms k
 covering_reached cells [] k within = refl
 covering_reached cells (m ∷ ms) k within =
-    let same : is_in (range_of cells m) k ≡ (has_begun cells (k + 1) k m.start && not (has_ended cells (k + 1) k m.end)) =
+    let same : covers_cell cells k m ≡ (has_begun cells (k + 1) k m.start && not (has_ended cells (k + 1) k m.end)) =
     ap (λ b. b && nat_lt k (covered_to cells m.end)) (start_covers cells k m.start within)
     ∙ ap (λ b. has_begun cells (k + 1) k m.start && b) (end_covers cells k m.end within) in
     let rest = covering_reached cells ms k within in
-    elim (cases_Bool (is_in (range_of cells m) k)) [
+    elim (cases_Bool (covers_cell cells k m)) [
       | inl e ↦ rw (e, sym same ∙ e) (ap (λ ns. m ∷ ns) rest)
       | inr e ↦ rw (e, sym same ∙ e) rest
     ]

@@ -1,5 +1,5 @@
 -- The runs of a document's cells are its spans.
-use Rattle.std.proofs.Common.{◌≡◌, ℕ, ◌+◌, inl, inr, List, [], ◌∷◌, map, refl, ◌∙◌, ap}
+use Rattle.std.proofs.Common.{◌≡◌, ℕ, ◌+◌, ◌*◌, inl, inr, List, [], ◌∷◌, map, refl, ◌∙◌, ap}
 use Rattle.std.proofs.lemmas.Bool.{cases_Bool}
 use Rattle.op_model.specs.declared.op.Op.{Op}
 use Rattle.op_model.specs.declared.character.Character.{Character}
@@ -11,9 +11,10 @@ use Rattle.op_model.specs.Text.{is_removed}
 use Rattle.op_model.specs.Walk.{walk}
 use Rattle.char_sequence.specs.declared.cell.Cell.{Cell}
 use Rattle.char_sequence.specs.Content.{cell_of, content_of}
-use Rattle.span_flatten.specs.Covering.{covering, is_in, range_of}
+use Rattle.mark_anchors.specs.Force.{is_in_force}
+use Rattle.span_flatten.specs.Covering.{covering, covers_cell}
 use Rattle.span_flatten.specs.Formatting.{marks_in}
-use Rattle.span_flatten.specs.Runs.{cell_runs, cell_spans}
+use Rattle.span_flatten.specs.Runs.{cell_runs, cell_spans, marks_at}
 use Rattle.span_flatten.proofs.CoverLemmas.{covers_same}
 use Rattle.span_flatten.proofs.FormatLemmas.{marks_same}
 
@@ -35,6 +36,13 @@ pub spans_same : (ops : List Op) (doc : ℕ) (cells : List Cell) (ms : List Mark
 spans_same ops doc cells ms content marks =
     rw (content, marks) (runs_same ops doc (marks_of (walk ops doc) (markings ops doc))
     (λ k. marks_in (covering (content_of ops doc) (markings ops doc) k))
-    (λ k. marks_same (walk ops doc) (markings ops doc) k (λ m. is_in (range_of (content_of ops doc) m) k)
+    (λ k. marks_same (walk ops doc) (markings ops doc) k (λ m. covers_cell (content_of ops doc) k m)
     (λ m. covers_same ops doc (walk ops doc) k m))
+    0 (walk ops doc))
+
+-- and so are those where each character's marks are looked for by its place
+pub spans_by_place : (ops : List Op) (doc : ℕ) (cells : List Cell) → cells ≡ content_of ops doc → cell_runs (marks_at ops doc) 0 cells ≡ spans ops doc
+spans_by_place ops doc cells content =
+    rw content (runs_same ops doc (marks_of (walk ops doc) (markings ops doc)) (marks_at ops doc)
+    (λ k. marks_same (walk ops doc) (markings ops doc) k (λ m. is_in_force (walk ops doc) (2 * k + 1) m) (λ m. refl))
     0 (walk ops doc))

@@ -10,7 +10,6 @@ use Rattle.op_model.specs.declared.anchor.End.{End}
 use Rattle.op_model.specs.declared.anchor.End.TheVariants as end
 use Rattle.op_model.specs.declared.marking.Marking.{Marking}
 use Rattle.char_sequence.specs.declared.cell.Cell.{Cell}
-use Rattle.span_flatten.specs.declared.range.Range.{Range}
 
 -- how many cells stand before the one with this id; all of them where there is none
 abbrev pub index_in : Id → List Cell → ℕ
@@ -29,14 +28,10 @@ covered_to cells (end.To (Before id)) = index_in id cells
 covered_to cells (end.To (After id)) = index_in id cells + 1
 covered_to cells end.OfText = length cells
 
--- the cells that a mark operation covers
-abbrev pub range_of : List Cell → Marking → Range
-range_of cells m = record { from = covered_from cells m.start; to = covered_to cells m.end }
-
--- the k-th cell is one of these
-abbrev pub is_in : Range → ℕ → Bool
-is_in r k = nat_le r.from k && nat_lt k r.to
+-- a mark operation covers the k-th cell
+abbrev pub covers_cell : List Cell → ℕ → Marking → Bool
+covers_cell cells k m = nat_le (covered_from cells m.start) k && nat_lt k (covered_to cells m.end)
 
 -- the mark operations that cover the k-th cell
 abbrev pub covering : List Cell → List Marking → ℕ → List Marking
-covering cells ms k = filter (λ m. is_in (range_of cells m) k) ms
+covering cells ms k = filter (λ m. covers_cell cells k m) ms

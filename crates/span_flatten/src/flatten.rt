@@ -1,22 +1,19 @@
 ghost use Rattle.std.specs.Prelude.{◌≡◌, ◌+◌, ◌*◌, ◌≤◌, ℕ, List};
-ghost use Rattle.std.specs.Prelude.{Some, map, take, length, IfOk, OnOk};
+ghost use Rattle.std.specs.Prelude.{Some, take, length, IfOk, OnOk};
 ghost use Rattle.char_sequence.specs.Chunks.{cells_of, size_at};
 ghost use Rattle.char_sequence.specs.Content.{Holds};
 ghost use Rattle.mark_anchors.specs.Keeping.{AreMarksOf};
 ghost use Rattle.op_model.specs.declared.op.Op.{Op};
 ghost use Rattle.op_model.specs.Spans.{spans as spans_of_ops};
-ghost use Rattle.span_flatten.specs.Covering.{range_of};
 ghost use Rattle.span_flatten.specs.Reading.{offset};
-ghost use Rattle.span_flatten.specs.Runs.{cell_spans, spans_of_runs};
+ghost use Rattle.span_flatten.specs.Runs.{cell_runs, marks_at, spans_of_runs};
 
-use crate::covering::covering;
 use crate::formatting::marks_of;
-use crate::range::{Range, ranges};
 use crate::run::{Run, put_before, spans_of};
 use crate::sweep::Sweep;
 use char_sequence::{Cell, ChunkSize, Sequence};
-use mark_anchors::Anchors;
-use op_model::{Marking, Span, Ticks};
+use mark_anchors::{Anchors, Place};
+use op_model::{Span, Ticks};
 use std::alloc::{AllocError, Global};
 
 /// The greatest runs of visible characters of a document with equal marks. An error is want of
@@ -52,18 +49,16 @@ pub fn spans_in(
     sweep.spans(alloc)
 }
 
-/// The same, mark operation by mark operation. An error is want of memory (1). A copy of the
-/// characters, tombstones too; for each mark operation two passes over them; for each visible
-/// character a pass over the mark operations, and the square of those about comments that cover it.
+/// The same, character by character. An error is want of memory (1). A copy of the characters,
+/// tombstones too; for each visible character a search for both characters of each mark operation,
+/// and the square of those about comments that cover it.
 pub fn spans_slow(sequence: &Sequence, anchors: &Anchors) -> Result<Vec<Span>, AllocError>
     ensures { IfOk result (λ found. (ops : List Op) (doc : ℕ) → Holds sequence.now ops doc
         → AreMarksOf anchors.now ops doc → found.items ≡ spans_of_ops ops doc) }
 {
     let alloc = sequence.allocator();
     let cells = cells(alloc, sequence)?;
-    let markings = anchors.in_order();
-    let ranges = ranges(alloc, &cells, markings)?;
-    let runs = runs(alloc, &cells, markings, &ranges)?;
+    let runs = runs(alloc, &cells, sequence, anchors)?;
     spans_of(alloc, runs)
 }
 
@@ -105,16 +100,17 @@ fn add_chunk(
     Ok(())
 }
 
-/// The greatest runs of the visible ones among these cells, the last one first, where the cells
-/// that each mark operation covers are given. An error is want of memory (1).
+/// The greatest runs of the visible ones among the cells of a document, the last one first. An
+/// error is want of memory (1).
 fn runs(
     alloc: Global,
     cells: &[Cell],
-    markings: &[Marking],
-    ranges: &[Range],
+    sequence: &Sequence,
+    anchors: &Anchors,
 ) -> Result<Vec<Run>, AllocError>
-    requires { ranges.now ≡ map (range_of cells.now) markings.now }
-    ensures { IfOk result (λ found. spans_of_runs found.items ≡ cell_spans cells.now markings.now) }
+    ensures { IfOk result (λ found. (ops : List Op) (doc : ℕ) → Holds sequence.now ops doc
+        → AreMarksOf anchors.now ops doc
+        → spans_of_runs found.items ≡ cell_runs (marks_at ops doc) 0 cells.now) }
 {
     let mut found = Vec::new(alloc);
     let mut k = cells.len();
@@ -122,7 +118,7 @@ fn runs(
         k -= 1;
         let cell = &cells[k];
         if !cell.is_removed {
-            let set = covering(alloc, markings, ranges, k)?;
+            let set = anchors.set_at(alloc, Place::Before(k), sequence)?;
             let marks = marks_of(alloc, &set)?;
             put_before(alloc, cell.value, marks, &mut found)?;
         }

@@ -2,10 +2,8 @@
 #![tactic(auto)]
 
 mod active;
-mod covering;
 mod flatten;
 mod formatting;
-mod range;
 mod run;
 mod sweep;
 

@@ -9,7 +9,7 @@ use Rattle.op_model.specs.declared.edit.Edit.{Edit}
 use Rattle.op_model.specs.Text.{rev, visible}
 use Rattle.op_model.specs.Causality.{clock_of, is_known, first_failed, is_within_limits, HasOp}
 use Rattle.op_model.specs.Made.{numbered, made, greatest_counter, bodies_of, edit_refusal, is_at_rev, is_inside, is_small}
-use Rattle.op_model.specs.Machine.{Commit, State, Ticket, Event, edit, merge, begin, device_step, settle, ack, tell, have, Answer, ticket, applied, known, early, begun, nothing_new, idle, goes_on, goes_through, settled_to, acknowledged, operations, clock, refused, with_edit, with_merge, edit_answer, edit_answer_unless, merge_answer, merge_answer_unless, through_of, through, EditStep, MergeStep, BeginStep, DeviceStep, SettleStep, AckStep, TellStep, HaveStep, Step, opened, CrashLeavesOf, CrashLeaves}
+use Rattle.op_model.specs.Machine.{Commit, State, Ticket, Event, edit, merge, begin, device_step, settle, ack, tell, have, Answer, ticket, applied, known, early, begun, nothing_new, idle, goes_on, goes_through, settled_to, acknowledged, operations, clock, refused, with_edit, with_merge, has_record_room, with_room, edit_answer, edit_answer_unless, merge_answer, merge_alone, merge_answer_unless, through_of, through, EditStep, MergeStep, BeginStep, DeviceStep, SettleStep, AckStep, TellStep, HaveStep, Step, opened, CrashLeavesOf, CrashLeaves}
 use Rattle.model_laws.proofs.Growth.{closed_push}
 use Rattle.model_laws.proofs.Makes.{closed_made}
 use Rattle.world_law.specs.World.{Message, IsInBag, told_by}
@@ -38,9 +38,13 @@ ticket_unless : (replica : ℕ) (s : State) (e : Edit) (t : Ticket) (r : Option 
 ticket_unless replica s e t None is = refl
 ticket_unless replica s e t (Some n) is = absurd (cc)
 
-ticket_of-failed : (failed : Bool) (t : Ticket) (answer : Answer) → (if failed then refused 9 else answer) ≡ ticket t → answer ≡ ticket t
-ticket_of-failed true t answer is = absurd (cc)
-ticket_of-failed false t answer is = is
+ticket_alone : (failed room : Bool) (t : Ticket) (answer : Answer) → (if failed then refused 9 else with_room room answer) ≡ ticket t
+    → answer ≡ ticket t
+ticket_alone true room t answer is = absurd (cc)
+ticket_alone false true t answer is = is
+ticket_alone false false t (ticket u) is = absurd (cc)
+ticket_alone false false t applied is = absurd (cc)
+ticket_alone false false t answer is = is
 
 abbrev refusal_of : Bool → Bool → Bool → Bool → Option ℕ
 refusal_of at inside small limits =
@@ -57,7 +61,7 @@ edit_within : (replica : ℕ) (s : State) (e : Edit) (t : Ticket) → edit_answe
     → is_within_limits (s.list ++ made s.list replica e) ≡ true
 edit_within replica s e t is =
     let unless = edit_answer_unless replica s e (edit_refusal s.list replica e) in
-    let none = ticket_unless replica s e t (edit_refusal s.list replica e) (ticket_of-failed s.failed t unless is) in
+    let none = ticket_unless replica s e t (edit_refusal s.list replica e) (ticket_alone s.failed (has_record_room s (made s.list replica e)) t unless is) in
     limits_of (is_at_rev (rev s.list e.doc) e.rev) (is_inside (length (visible s.list e.doc)) e.change) (is_small e.change)
     (is_within_limits (s.list ++ made s.list replica e)) none
 
@@ -91,20 +95,27 @@ applied_unless : (s : State) (r : Option ℕ) → merge_answer_unless s r ≡ ap
 applied_unless s None is = refl
 applied_unless s (Some n) is = absurd (cc)
 
-merge_passes : (failed known_op own ready : Bool) (answer : Answer)
-    → (if failed then refused 9 else if known_op then known else if own then refused 20 else if not ready then early else answer) ≡ applied
+merge_passes : (known_op own ready : Bool) (answer : Answer)
+    → (if known_op then known else if own then refused 20 else if not ready then early else answer) ≡ applied
     → (ready ≡ true) × (answer ≡ applied)
-merge_passes true k o r answer e = absurd (cc)
-merge_passes false true o r answer e = absurd (cc)
-merge_passes false false true r answer e = absurd (cc)
-merge_passes false false false false answer e = absurd (cc)
-merge_passes false false false true answer e = (refl, e)
+merge_passes true o r answer e = absurd (cc)
+merge_passes false true r answer e = absurd (cc)
+merge_passes false false false answer e = absurd (cc)
+merge_passes false false true answer e = (refl, e)
+
+applied_alone : (failed room : Bool) (answer : Answer) → (if failed then refused 9 else with_room room answer) ≡ applied → answer ≡ applied
+applied_alone true room answer is = absurd (cc)
+applied_alone false true answer is = is
+applied_alone false false (ticket t) is = absurd (cc)
+applied_alone false false applied is = refl
+applied_alone false false answer is = is
 
 merge_made : (replica : ℕ) (bag : List Message) (s : State) (peer : ℕ) (op : Op) → IsSound replica bag s → IsInBag bag op
     → merge_answer replica s op ≡ applied → Goes replica bag s (with_merge s peer op)
 merge_made replica bag s peer op h told is =
-    let passes = merge_passes s.failed (is_known (clock_of s.list) op) (op.id.replica == replica)
-    (is_ready (clock_of s.list) op.id.replica op.deps) (merge_answer_unless s (first_failed s.list op)) is in
+    let alone = applied_alone s.failed (has_record_room s (op ∷ [])) (merge_alone replica s op) is in
+    let passes = merge_passes (is_known (clock_of s.list) op) (op.id.replica == replica)
+    (is_ready (clock_of s.list) op.id.replica op.deps) (merge_answer_unless s (first_failed s.list op)) alone in
     let follows = passed_follows s.list op passes.0 (applied_unless s (first_failed s.list op) passes.1) in
     let long = length-append s.list (op ∷ []) in
     let front = take-append-le s.settled s.list (op ∷ []) h.settled in

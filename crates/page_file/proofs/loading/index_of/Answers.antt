@@ -3,7 +3,7 @@ use Rattle.std.specs.List.Sorted.{IsPermutation}
 use Rattle.page_file.specs.declared.gaps.Gap.{Gap}
 use Rattle.page_file.specs.Index.{AreOthers}
 use Rattle.page_file.specs.Pages.{are_pages}
-use Rattle.page_file.proofs.Sorting.{permuted, has_permuted}
+use Rattle.page_file.proofs.Permuted.{permuted, has_permuted}
 use Rattle.page_file.proofs.loading.index_of.Goals as goal
 
 -- what has all other pages than some has all others than these in another order

@@ -15,13 +15,13 @@ on_ok_always (Err e) q = tt
 
 pub returns-in-Ok-clause-numbers : goal.returns-in-Ok-clause-numbers
 returns-in-Ok-clause-numbers c =
-    let found = rw c.deref.ensures.value at c.in-Ok.ensures in
+    let found = rw c.in-Ok.is at c.requires in
     on_ok_always c.apply_edit.result
     (numbers_set c.args.docs.now.items c.in-Ok.at c.index_mut-it.result.now c.apply_edit.new.self c.index_mut-it.ensures.value c.apply_edit.ensures.number ∙ sym found.2)
 
 pub returns-in-Ok-clause-stand : goal.returns-in-Ok-clause-stand
 returns-in-Ok-clause-stand c =
-    let found = rw c.deref.ensures.value at c.in-Ok.ensures in
+    let found = rw c.in-Ok.is at c.requires in
     let same : number_of c.index_mut-it.result.now ≡ c.args.doc = found.1 c.index_mut-it.result.now c.index_mut-it.ensures.value in
     on_ok_weaker c.apply_edit.result (λ taken. λ list are come.
     stand_more c.args.docs.now.items c.in-Ok.at c.index_mut-it.result.now c.apply_edit.new.self list c.args.made.now are found.0 c.index_mut-it.ensures.value
@@ -29,7 +29,7 @@ returns-in-Ok-clause-stand c =
 
 pub returns-in-Ok-insert-clause-numbers : goal.returns-in-Ok-insert-clause-numbers
 returns-in-Ok-insert-clause-numbers c =
-    let placed = rw c.deref.ensures.value at c.in-Err.ensures in
+    let placed = rw c.in-Err.is at c.requires in
     let same : number_of c.apply_edit-in-Err.new.self ≡ c.args.doc = c.in-Ok-apply_edit.ensures.number ∙ c.new-it.ensures.number in
     rw (c.in-Ok-insert.ensures.items, c.in_ok-reserve-in-Err.ensures.items)
     (numbers_insert c.args.docs.now.items c.in-Err.at c.apply_edit-in-Err.new.self
@@ -37,7 +37,7 @@ returns-in-Ok-insert-clause-numbers c =
 
 pub returns-in-Ok-insert-clause-stand : goal.returns-in-Ok-insert-clause-stand
 returns-in-Ok-insert-clause-stand c = λ list are come.
-    let placed = rw c.deref.ensures.value at c.in-Err.ensures in
+    let placed = rw c.in-Err.is at c.requires in
     let same : number_of c.new-it.result ≡ c.args.doc = c.new-it.ensures.number in
     let fresh = fresh_stands c.args.docs.now.items c.in-Err.at c.new-it.result c.args.doc list are placed.1 same c.new-it.ensures.empty in
     rw (c.in-Ok-insert.ensures.items, c.in_ok-reserve-in-Err.ensures.items)
@@ -46,7 +46,7 @@ returns-in-Ok-insert-clause-stand c = λ list are come.
 
 pub returns-in-Ok-clause-known : goal.returns-in-Ok-clause-known
 returns-in-Ok-clause-known c = λ unknown list are come.
-    let found = rw c.deref.ensures.value at c.in-Ok.ensures in
+    let found = rw c.in-Ok.is at c.requires in
     let same : number_of c.index_mut-it.result.now ≡ c.args.doc = found.1 c.index_mut-it.result.now c.index_mut-it.ensures.value in
     let stands = stands_at c.args.docs.now.items c.in-Ok.at c.index_mut-it.result.now list are.stand found.0 c.index_mut-it.ensures.value in
     let missing = (c.apply_edit.ensures.unknown list stands).0 unknown in
@@ -54,7 +54,7 @@ returns-in-Ok-clause-known c = λ unknown list are come.
 
 pub returns-in-Err-apply_edit-clause-known : goal.returns-in-Err-apply_edit-clause-known
 returns-in-Err-apply_edit-clause-known c = λ unknown list are come.
-    let placed = rw c.deref.ensures.value at c.in-Err.ensures in
+    let placed = rw c.in-Err.is at c.requires in
     let same : number_of c.new-it.result ≡ c.args.doc = c.new-it.ensures.number in
     let fresh = fresh_stands c.args.docs.now.items c.in-Err.at c.new-it.result c.args.doc list are placed.1 same c.new-it.ensures.empty in
     let missing = (c.in-Err-apply_edit.ensures.unknown list fresh).0 unknown in

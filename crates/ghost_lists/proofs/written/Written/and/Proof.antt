@@ -31,7 +31,7 @@ use denote.Triple.Spec.{Meets, triple_of}
 use denote.Triple.Table.{entered}
 use denote.Triple.Walked.{says, Stays, stay_dropped, walk_of, ends_at, walk_Meets, Goes-dropped}
 use Rattle.std.specs.contracts.marker.PhantomData as Mark
-use Rattle.ghost_lists.proofs.WrittenWalks.{none, one, one_made}
+use Rattle.ghost_lists.proofs.GhostWalks.{none, one, one_made}
 use Rattle.ghost_lists.specs.contracts.written.Written as Written
 use Rattle.ghost_lists.specs.contracts.written.Written.and as F
 use Rattle.ghost_lists.specs.contracts.written.Written.and.Key.{name as #self}

@@ -1,4 +1,5 @@
-use Rattle.std.proofs.Common.{◌≡◌, [], ◌∷◌, ◌∙◌, length, ap, Err, refl, rules}
+use Rattle.std.proofs.Common.{◌≡◌, [], ◌∷◌, ◌∙◌, length, ap, Err, refl, rules, arith}
+use Rattle.std.proofs.lemmas.Bool.{eq-eqb}
 use Rattle.model_laws.proofs.Closed.{follows_fits}
 use Rattle.op_ids.specs.Clock.{advanced}
 use Rattle.replica_core.proofs.DocLemmas.{docs_up}
@@ -13,8 +14,11 @@ advance-requires c =
     rw (c.in_ok-clock.ensures, c.replica.ensures)
     (never_overfull c.self.inside.log.list c.args.op c.self.inside.clock can.joins.follows c.self.invariant.clock)
 
-pub append-requires-clause-rising : goal.append-requires-clause-rising
-append-requires-clause-rising c = docs_up c.self.inside.log.docs.items c.self.inside.log.list c.self.invariant.docs
+pub place-place-requires : goal.place-place-requires
+place-place-requires c = rw c.deref.ensures.value (docs_up c.self.inside.log.docs.items c.self.inside.log.list c.self.invariant.docs)
+
+pub append-requires-clause-own : goal.append-requires-clause-own
+append-requires-clause-own c = rw (c.in_ok-made.ensures, c.replica-replica.ensures, eq-eqb c.args.op.id.replica c.args.op.id.replica refl) refl
 
 pub append-requires-clause-small : goal.append-requires-clause-small
 append-requires-clause-small c =
@@ -24,14 +28,21 @@ append-requires-clause-small c =
 pub invariant_of-self-2 : goal.invariant_of-self-2
 invariant_of-self-2 c =
     let can = rw (← c.self.view_is) at c.requires in
-    let at : c.len.result ≡ length c.self.inside.log.list = search rules in
+    let at : c.len-index.result ≡ length c.self.inside.log.list = search rules in
     let counts : c.advance.new.clock ≡ advanced c.self.inside.clock c.args.op.id.replica = rw (c.in_ok-clock.ensures, c.replica.ensures) at c.in_ok-advance.ensures in
-    AreFields-merge c.self.inside.id c.self.inside.opened c.self.inside.settled c.self.inside.acked c.self.inside.told c.args.peer c.len.result
-    c.self.inside.log c.append.new.self c.in_ok-made.made c.args.op c.self.inside.clock c.advance.new.clock _
-    c.self.invariant can counts c.in-Ok.ensures.ok c.in_ok-made.ensures at
+    rw c.push.ensures
+    (AreFields-merge c.self.inside.id c.self.inside.opened c.self.inside.settled c.self.inside.acked c.self.inside.told c.args.peer c.len-index.result
+    c.self.inside.steps c.self.inside.log c.append.new.self c.in_ok-made.made c.args.op c.self.inside.clock c.advance.new.clock
+    c.self.invariant can counts c.in-Ok.ensures.ok c.in_ok-made.ensures at)
 
 pub unreachable-requires : goal.unreachable-requires
 unreachable-requires c =
     let can = rw (← c.self.view_is) at c.requires in
     let come = follows_fits c.self.inside.log.list c.args.op.doc c.args.op can.joins.follows refl in
     c.append.ensures.known (c.in-Err-UnknownId.is ∙ ap Err c.in-Err-UnknownId.field-0-is) c.self.invariant.docs (rw c.in_ok-made.ensures (come, tt))
+
+pub push-requires : goal.push-requires
+push-requires c =
+    let can = rw (← c.self.view_is) at c.requires in
+    let places = can.places in
+    omega arith

@@ -1,0 +1,36 @@
+"""Documents of the peritext program: open a file, edit, read text and spans.
+
+>>> import peritext
+>>> with peritext.open(a_file, program=the_program) as session:
+...     notes = session.document(1)
+...     notes.insert(0, "The quick fox")
+...     notes.mark(4, 9, peritext.STRONG)
+...     notes.text()
+...     notes.spans()
+13
+14
+'The quick fox'
+[Span(text='The '), Span(text='quick', strong=True), Span(text=' fox')]
+"""
+
+from .document import Document, Reading
+from .marks import EM, STRONG, Comment, Link, Mark, Span
+from .refusals import Ended, Refused, Stale
+from .session import Session, init, open
+
+__all__ = [
+    "Comment",
+    "Document",
+    "EM",
+    "Ended",
+    "Link",
+    "Mark",
+    "Reading",
+    "Refused",
+    "STRONG",
+    "Session",
+    "Span",
+    "Stale",
+    "init",
+    "open",
+]

@@ -1,0 +1,79 @@
+"""A document of a session."""
+
+from __future__ import annotations
+
+from typing import TYPE_CHECKING, Any, NamedTuple
+
+from .marks import Mark, Span
+
+if TYPE_CHECKING:
+    from concurrent.futures import Future
+
+    from .session import Session
+
+
+class Reading(NamedTuple):
+    """A text and the `rev` that it has: an edit that is sent with this `rev` is made in just this text, or is `Stale`."""
+
+    text: str
+    rev: int
+
+
+class Document:
+    """A document, by its number. Places are counted in characters, from 0; an edit may name the `rev` that it was made for.
+
+    Each edit answers the document's new `rev` once it is settled on the disk: it then outlives a power cut.
+    """
+
+    def __init__(self, session: Session, number: int) -> None:
+        self.session = session
+        self.number = number
+
+    def insert(self, at: int, text: str, rev: int | None = None) -> int:
+        """Puts 1 to 256 characters before the one at a place, or at the end."""
+        return self._edit(rev, op="insert", at=at, text=text)
+
+    def delete(self, at: int, count: int, rev: int | None = None) -> int:
+        """Takes away 1 to 256 characters from a place on."""
+        return self._edit(rev, op="delete", at=at, count=count)
+
+    def mark(self, start: int, end: int, mark: Mark, rev: int | None = None) -> int:
+        """Marks the characters from a place up to another, that one not included."""
+        return self._edit(rev, op="mark", **{"from": start, "to": end}, **mark.fields())
+
+    def unmark(self, start: int, end: int, mark: Mark, rev: int | None = None) -> int:
+        """Takes a mark away from the characters from a place up to another, that one not included."""
+        return self._edit(rev, op="unmark", **{"from": start, "to": end}, **mark.key())
+
+    def text(self) -> str:
+        return self.read().text
+
+    def read(self) -> Reading:
+        """The text with its `rev`.
+
+        >>> text, rev = document.read()
+        >>> rev = document.insert(len(text), "!", rev)
+        """
+        answer = self.session.ask(op="text", doc=self.number)
+        return Reading(answer["text"], answer["rev"])
+
+    def spans(self) -> list[Span]:
+        """The text in runs of equal marks."""
+        return [Span.of(span) for span in self.session.ask(op="spans", doc=self.number)["spans"]]
+
+    def rev(self) -> int:
+        """How many operations the document has."""
+        return self.read().rev
+
+    def _edit(self, rev: int | None, **fields: Any) -> int:
+        return self.session.ask(doc=self.number, **fields, **({} if rev is None else {"rev": rev}))["rev"]
+
+    def send_insert(self, at: int, text: str) -> Future[dict[str, Any]]:
+        """The same as `insert`, without waiting: many may be under way, and they are made in this order.
+
+        >>> under_way = [document.send_insert(0, letter) for letter in "cba"]
+        >>> _ = [edit.result() for edit in under_way]
+        >>> document.text().startswith("abc")
+        True
+        """
+        return self.session.send(op="insert", doc=self.number, at=at, text=text)

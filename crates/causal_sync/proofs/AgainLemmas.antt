@@ -1,0 +1,135 @@
+-- What is spelled of a frame is read again.
+use Rattle.std.proofs.Common.{◌≡◌, ◌≢◌, ℕ, ◌+◌, ◌*◌, ◌<◌, ◌≤◌, ◌^◌, Bool, true, false, eqb, ltb, List, [], ◌∷◌, ◌++◌, length, take, drop}
+use Rattle.std.proofs.Common.{Some, Ok, refl, sym, ap, ◌∙◌, append_assoc, arith}
+use Rattle.std.specs.Int.{w16, w32, w128, to_be_bytes, from_be_bytes, is_in_range}
+use Rattle.std.proofs.lemmas.Bool.{le-ltb}
+use Rattle.std.proofs.lemmas.Bool.Decides.{nat_tests}
+use Rattle.std.proofs.lemmas.List.{append-nil, take_at, drop_at, length-append}
+use Rattle.op_ids.specs.Clock.{is_clock}
+use Rattle.op_model.specs.declared.op.Op.{Op}
+use Rattle.change_codec.specs.Fits.{HaveSixteen, IsOperation}
+use Rattle.change_codec.specs.Reading.{number_at, replica_at, deps_at}
+use Rattle.change_codec.specs.Record.{length_at}
+use Rattle.change_codec.specs.Spelling.{number_bytes, deps_bytes, body_bytes, spelled}
+use Rattle.change_codec.specs.Stream.{spelled_all, AreOperations}
+use Rattle.change_codec.proofs.IdLaws.{deps_again}
+use Rattle.change_codec.proofs.Lengths.{length-deps, length-bytes16, length-bytes32, length-bytes128}
+use Rattle.change_codec.proofs.Numbers.{wide16, wide32, wide128, number_again}
+use Rattle.change_codec.proofs.RecordLaws.{body_range, spelled_taken}
+use Rattle.causal_sync.specs.declared.heard.Heard.{Heard}
+use Rattle.causal_sync.specs.declared.heard.Heard.TheVariants.{Hello, Have, Ops, Bye}
+use Rattle.causal_sync.specs.Frames.{content_bytes, frame_bytes, IsFrame}
+use Rattle.causal_sync.specs.Reading.{tag_at, greeting_at, name_at, other_at, hello_at, have_at, record_at, records_at, count_at, ops_at}
+use Rattle.causal_sync.specs.Reading.{later_at, content_at, framed, frame_at}
+use Rattle.causal_sync.proofs.Steps.{done}
+
+-- a name is read again
+name_again : (replica : ℕ) → 0 < replica → replica < 2 ^ 128 → name_at (number_bytes w128 replica) ≡ Ok replica
+unfolding name_at replica_at
+name_again replica some sixteen =
+    let test : eqb replica 0 ≡ false = grind (arith, nat_tests) in
+    let read : number_at w128 (number_bytes w128 replica) ≡ Ok (replica, []) = ap (number_at w128) (sym (append-nil (number_bytes w128 replica))) ∙ number_again w128 (2 ^ 128) wide128 replica [] sixteen in
+    rw (read, test) refl
+
+-- a HELLO is read again
+hello_again : (own replica : ℕ) → 0 < replica → replica < 2 ^ 128 → replica ≢ own → hello_at own (content_bytes (Hello replica)) ≡ Ok (Hello replica)
+unfolding hello_at greeting_at tag_at other_at content_bytes
+hello_again own replica some sixteen other =
+    let test : eqb replica own ≡ false = grind (arith, nat_tests) in
+    rw (number_again w16 (2 ^ 16) wide16 1 (number_bytes w128 replica) (omega arith), name_again replica some sixteen, test) refl
+
+-- a HAVE is read again
+have_again : (clock : List (ℕ × ℕ)) → is_clock clock ≡ true → HaveSixteen clock → have_at (deps_bytes clock) ≡ Ok (Have clock)
+unfolding have_at
+have_again clock is sixteen =
+    let read : deps_at (deps_bytes clock) ≡ Ok (clock, []) = ap deps_at (sym (append-nil (deps_bytes clock))) ∙ deps_again clock [] is sixteen in
+    rw read refl
+
+-- a record is read again
+record_again : (op : Op) (rest : List ℕ) → IsOperation op → record_at (spelled op ++ rest) ≡ Ok (op, rest)
+unfolding record_at
+record_again op rest fits = rw (spelled_taken op rest fits, drop_at (spelled op) rest (length (spelled op)) refl) refl
+
+-- records are read again
+records_again : (ops : List Op) → AreOperations ops → records_at (length ops) (spelled_all ops) ≡ Ok ops
+unfolding records_at
+records_again [] fits = refl
+records_again (op ∷ ops) fits = rw (record_again op (spelled_all ops) fits.0, records_again ops fits.1) refl
+
+-- an OPS is read again
+ops_again : (ops : List Op) → 1 ≤ length ops → length ops ≤ 64 → AreOperations ops → ops_at (number_bytes w16 (length ops) ++ spelled_all ops) ≡ Ok (Ops ops)
+unfolding ops_at count_at
+ops_again ops some most fits =
+    let test : is_in_range 1 64 (length ops) ≡ true = grind (arith, nat_tests) in
+    rw (number_again w16 (2 ^ 16) wide16 (length ops) (spelled_all ops) (omega (arith, most)), test, records_again ops fits) refl
+
+-- what a frame says is read again
+content_again : (own : ℕ) (first : Bool) (frame : Heard) → IsFrame own first frame → content_at own first (content_bytes frame) ≡ Ok frame
+unfolding later_at content_bytes
+content_again own true (Hello replica) is = hello_again own replica is.0 is.1 is.2
+content_again own true (Have clock) is = absurd is
+content_again own true (Ops ops) is = absurd is
+content_again own true Bye is = absurd is
+content_again own false (Hello replica) is = absurd is
+content_again own false (Have clock) is = have_again clock is.0 is.1
+content_again own false (Ops ops) is = ops_again ops is.0 is.1 is.2
+content_again own false Bye is = refl
+
+-- 64 records take few bytes
+few_bytes : (ops : List Op) → AreOperations ops → length (spelled_all ops) ≤ 1495 * length ops
+unfolding spelled
+few_bytes [] fits = omega arith
+few_bytes (op ∷ ops) fits =
+    let head = number_bytes w32 (length (body_bytes op)) in
+    omega (arith, length-append (head ++ body_bytes op) (spelled_all ops), length-append head (body_bytes op), length-bytes32 (length (body_bytes op)), (body_range op fits.0).1, few_bytes ops fits.1)
+
+-- a clock has few entries
+few_entries : (es : List (ℕ × ℕ)) → is_clock es ≡ true → length es ≤ 16
+few_entries es is = grind (arith, nat_tests)
+
+-- what a frame says has a length in its range
+content_range : (own : ℕ) (first : Bool) (frame : Heard) → IsFrame own first frame → (1 ≤ length (content_bytes frame)) × (length (content_bytes frame) ≤ 131068)
+unfolding content_bytes
+content_range own true (Hello replica) is =
+    let len = length-append (number_bytes w16 1) (number_bytes w128 replica) in
+    (omega arith, omega (arith, len, length-bytes16 1, length-bytes128 replica))
+content_range own true (Have clock) is = absurd is
+content_range own true (Ops ops) is = absurd is
+content_range own true Bye is = absurd is
+content_range own false (Hello replica) is = absurd is
+content_range own false (Have clock) is = (omega arith, omega (arith, length-deps clock, few_entries clock is.0))
+content_range own false (Ops ops) is =
+    let len = length-append (number_bytes w16 (length ops)) (spelled_all ops) in
+    (omega arith, omega (arith, len, length-bytes16 (length ops), few_bytes ops is.2, is.1))
+content_range own false Bye is = (omega arith, omega arith)
+
+-- a length and content are read again
+front_again : (own : ℕ) (first : Bool) (frame : Heard) (front content rest : List ℕ) → length front ≡ 4 → from_be_bytes w32 front ≡ length content
+    → 1 ≤ length content → length content ≤ 131068 → content_at own first content ≡ Ok frame
+    → frame_at own first (front ++ (content ++ rest)) ≡ Ok (Some (frame, 4 + length content))
+unfolding frame_at framed
+front_again own first frame front content rest four number some most read =
+    let len = length content in
+    let all = front ++ (content ++ rest) in
+    let number_is : length_at all ≡ len = ap (from_be_bytes w32) (take_at front (content ++ rest) 4 four) ∙ number in
+    let behind_is : drop 4 all ≡ content ++ rest = drop_at front (content ++ rest) 4 four in
+    let there : ltb (length all) 4 ≡ false = le-ltb _ _ (omega (arith, length-append front (content ++ rest))) in
+    let test : is_in_range 1 131068 len ≡ true = grind (arith, nat_tests) in
+    let long : ltb (length (content ++ rest)) len ≡ false = le-ltb _ _ (omega (arith, length-append content rest)) in
+    let cut : take len (content ++ rest) ≡ content = take_at content rest len refl in
+    let whole : framed own first len (content ++ rest) ≡ Ok (Some (frame, 4 + len)) = rw (test, long, cut, read) refl in
+    let opened : frame_at own first all ≡ framed own first (length_at all) (drop 4 all) = rw there refl in
+    opened ∙ ap (λ (n : ℕ). framed own first n (drop 4 all)) number_is ∙ ap (framed own first len) behind_is ∙ whole
+
+-- what is spelled is read
+pub frame_again : (own : ℕ) (first : Bool) (frame : Heard) (rest : List ℕ) → IsFrame own first frame
+    → frame_at own first (frame_bytes frame ++ rest) ≡ Ok (Some (frame, length (frame_bytes frame)))
+unfolding frame_bytes number_bytes
+frame_again own first frame rest is =
+    let content = content_bytes frame in
+    let range = content_range own first frame is in
+    let front : List ℕ = to_be_bytes w32 (length content) in
+    let size : 4 + length content ≡ length (front ++ content) = omega (arith, length-append front content) in
+    ap (frame_at own first) (append_assoc front content rest)
+    ∙ front_again own first frame front content rest refl (wide32.again (length content) (omega (arith, range.1))) range.0 range.1 (content_again own first frame is)
+    ∙ ap (λ (k : ℕ). done (Some (frame, k))) size

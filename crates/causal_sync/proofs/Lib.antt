@@ -1,0 +1,10 @@
+pub mod AgainLemmas
+pub mod Endings
+pub mod Feeding
+pub mod Hearings
+pub mod OneWay
+pub mod ReadLemmas
+pub mod Records
+pub mod Spellings
+pub mod Steps
+pub mod TakenRecords

@@ -1,0 +1,8 @@
+pub mod Numbers
+pub mod Frames
+pub mod Reading
+pub mod Hearing
+pub mod Sent
+pub mod State
+pub mod Buffer
+pub mod Taking

@@ -1,0 +1,178 @@
+//! One end of a link.
+use crate::edits;
+use causal_sync::{Heard, Link};
+use disk_trait::MemDisk;
+use group_commit::{Phase, Store};
+use locked_replica::Hub;
+use op_ids::{Clock, ReplicaId};
+use op_model::{Change, Edit, Op};
+use replica_core::Merged;
+use std::alloc::Global;
+
+/// The bytes that a file takes, at most, for an operation of these edits.
+const RECORD: usize = 160;
+
+/// The bytes and calls of a disk beside those for the operations.
+const ROOM: usize = 1_048_576;
+
+const CALLS: usize = 65_536;
+
+/// The device calls of a commit, at most.
+const STEPS: u32 = 1_048_576;
+
+/// The bytes that come at once.
+const PIECE: usize = 1_460;
+
+/// The most operations of a frame.
+const FRAME: usize = 64;
+
+/// Who edits, and who is merged.
+const SESSION: u64 = 1;
+
+const OTHER: u64 = 2;
+
+/// A hub, its end of a link, and what was said and heard over it.
+#[derive(Drop)]
+pub struct Peer {
+    pub hub: Hub<MemDisk>,
+    link: Link,
+    // The clock of the last HAVE that was said over this link.
+    said: Option<Clock>,
+    /// The operations that were heard and put behind the list.
+    pub merged: usize,
+    /// The operations that were heard and there already.
+    pub known: usize,
+}
+
+impl Peer {
+    /// A new replica whose id ends in this byte, on a disk for so many operations.
+    pub fn new(alloc: Global, last: u8, count: u32) -> Option<Box<Peer>> {
+        let own = ReplicaId::read([0, 0, 0, 0, 0, 0, 0x40, 0, 0x80, 0, 0, 0, 0, 0, 0, last])?;
+        let room = ROOM + RECORD * count as usize;
+        let disk = MemDisk::new(alloc, room, CALLS + count as usize).ok()?;
+        let store = Store::init(alloc, disk, own).ok()?;
+        let peer = Peer {
+            hub: Hub::open(alloc, store.into_disk()).ok()?,
+            link: Link::start(alloc, own).ok()?,
+            said: None,
+            merged: 0,
+            known: 0,
+        };
+        Box::new(alloc, peer).ok()
+    }
+
+    /// Changes document 1.
+    pub fn edit(&mut self, change: Change) -> Option<()> {
+        let edit = Edit {
+            doc: 1,
+            rev: None,
+            change,
+        };
+        self.hub.edit(SESSION, &edit).ok()?;
+        Some(())
+    }
+
+    /// Makes changes from this number on, which put in this word.
+    pub fn edit_all(&mut self, alloc: Global, word: &str, first: u32, count: u32) -> Option<()> {
+        for number in first..first.saturating_add(count) {
+            let long = self.hub.text(1).ok()?.as_slice().len();
+            let long = u32::try_from(long).ok()?;
+            self.edit(edits::change(alloc, word, number, long)?)?;
+        }
+        Some(())
+    }
+
+    /// Settles all operations.
+    pub fn commit(&mut self) -> Option<()> {
+        if self.hub.begin().ok()?.is_none() {
+            return Some(());
+        }
+        for _ in 0..STEPS {
+            if self.hub.device_step().ok()? == Phase::Sync3 {
+                break;
+            }
+        }
+        self.hub.settle().ok()?;
+        Some(())
+    }
+
+    /// Says what is due: the settled clock, where that isn't the one that was said last, and the
+    /// first settled operations that the other end lacks, once that has said what it has.
+    pub fn speak(&mut self) -> Option<()> {
+        let clock = self.hub.have().ok()?;
+        if self.said.as_ref() != Some(&clock) {
+            self.link.say_have(&clock).ok()?;
+            self.said = Some(clock);
+        }
+        if self.link.has_heard_have() {
+            self.say_ops()?;
+        }
+        Some(())
+    }
+
+    // Says the first settled operations that the other end lacks.
+    fn say_ops(&mut self) -> Option<()> {
+        let ops = self.hub.tell(self.link.base()).ok()?;
+        if ops.is_empty() {
+            return Some(());
+        }
+        if ops.len() > FRAME {
+            return None;
+        }
+        self.link.say_ops(&ops).ok()
+    }
+
+    /// The bytes of all that was said.
+    pub fn take_out(&mut self) -> Vec<u8> {
+        self.link.take_out()
+    }
+
+    /// Takes bytes of the other end in pieces, and merges the operations that are heard.
+    pub fn hear(&mut self, bytes: &[u8]) -> Option<()> {
+        for piece in bytes.chunks(PIECE) {
+            self.link.feed(piece).ok()?;
+            self.hear_frames(piece.len())?;
+        }
+        Some(())
+    }
+
+    // Takes the frames that wait, of which a piece of so many bytes ends at most so many.
+    fn hear_frames(&mut self, most: usize) -> Option<()> {
+        for _ in 0..most {
+            match self.link.next() {
+                Some(heard) => self.take_in(heard)?,
+                None => break,
+            }
+        }
+        Some(())
+    }
+
+    // Merges the operations of a frame, if it has any.
+    fn take_in(&mut self, heard: Heard) -> Option<()> {
+        match heard {
+            Heard::Ops(ops) => self.merge_all(ops.into_vec()),
+            Heard::Have(_clock) => Some(()),
+            Heard::Hello(_) | Heard::Bye => Some(()),
+        }
+    }
+
+    // Merges operations. None of them is early: they come in the order of a list.
+    fn merge_all(&mut self, ops: Vec<Op>) -> Option<()> {
+        for op in ops {
+            match self.hub.merge(OTHER, op).ok()? {
+                Merged::Applied => self.merged = self.merged.saturating_add(1),
+                Merged::Known => self.known = self.known.saturating_add(1),
+                Merged::Early => return None,
+            }
+        }
+        Some(())
+    }
+
+    /// Begins a new link. Gives how many bytes of an unfinished frame the old one had.
+    pub fn begin_anew(&mut self, alloc: Global) -> Option<usize> {
+        let held = self.link.held();
+        self.link = Link::start(alloc, self.hub.replica()).ok()?;
+        self.said = None;
+        Some(held)
+    }
+}
