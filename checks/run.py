@@ -7,6 +7,7 @@ import time
 
 import crafted
 import damage
+import examples
 import full_disk
 import kills
 import locks
@@ -24,7 +25,7 @@ def main():
     checks = Checks()
     with tempfile.TemporaryDirectory(prefix="peritext-") as room:
         os.chdir(room)
-        for group in (words, long_texts, streams, locks, full_disk, crafted, damage, kills):
+        for group in (words, examples, long_texts, streams, locks, full_disk, crafted, damage, kills):
             before = checks.passed, checks.failed, checks.skipped
             group.check(checks, program, started + LIMIT)
             took = time.monotonic() - started
