@@ -10,13 +10,15 @@ SUM = { rt version; cat crates.txt; find crates -name out -prune -o -type f -pri
 run:
 	cd crates/edit_shell && rt try < stdin
 
-# Everything from nothing: each proof, each must-fail edit, each test, the program's stored run. Then the proved program on real files.
+# Everything from nothing: each proof, each must-fail edit, each test, the program's stored run. Then the proved program on real files,
+# and the Python client over it.
 # It is kept as bin/peritext with the line of its sources, unless these changed meanwhile.
 test:
 	@mkdir -p bin; rm -f bin/sources; $(SUM) > bin/asked
 	rt ci
 	@if $(SUM) | cmp -s - bin/asked; then cp $(PROGRAM) bin/peritext && mv bin/asked bin/sources; fi
 	python3 checks/run.py $(PROGRAM)
+	PERITEXT=$(abspath $(PROGRAM)) python3 clients/python/tests/run.py
 
 # The proved program, as bin/peritext. It is built anew unless the one that is there was built of these very sources: times of files tell nothing
 # of a tree that was copied.

@@ -1,0 +1,17 @@
+//! Books that stand under a lock, and the shares of them that threads hold: a book and its share
+//! have the same entries, whoever had the lock meanwhile.
+#![tactic(auto)]
+
+mod book;
+mod books;
+mod desks;
+mod pass;
+mod share;
+#[cfg(test)]
+mod tests;
+
+pub use book::{Book, open};
+pub use books::Books;
+pub use desks::Desks;
+pub use pass::Pass;
+pub use share::Share;
