@@ -1,5 +1,5 @@
 -- What a replica with its store does, one event after another.
-use Rattle.std.specs.Prelude.{◌≡◌, ◌⊎◌, ℕ, zero, suc, ◌+◌, ◌≤◌, ◌<◌, Bool, true, false, not, ◌==◌, nat_le, if◌then◌else◌, List, [], ◌∷◌, ◌++◌, length, take, drop, filter, max, Option, Some, None, is_some}
+use Rattle.std.specs.Prelude.{◌≡◌, ◌⊎◌, ℕ, zero, suc, ◌+◌, ◌≤◌, ◌<◌, Bool, true, false, not, ◌||◌, ◌==◌, nat_le, if◌then◌else◌, List, [], ◌∷◌, ◌++◌, length, take, drop, filter, max, Option, Some, None, is_some}
 use Rattle.op_model.specs.declared.op.Op.{Op}
 use Rattle.op_model.specs.declared.edit.Edit.{Edit}
 use Rattle.op_ids.specs.Clock.{is_ready}
@@ -15,7 +15,7 @@ pub record Commit : Type 0 where
   pub through : Bool
 
 -- a replica's list, its three numbers, the kept steps with the newest first, the version of the live root, whether the device has
--- failed, and the commit, if there is one
+-- failed and a refused begin or settle has told it, and the commit, if there is one
 pub record State : Type 0 where
   pub list : List Op
   pub settled : ℕ
@@ -24,6 +24,7 @@ pub record State : Type 0 where
   pub steps : List Kept
   pub version : ℕ
   pub failed : Bool
+  pub failure_told : Bool
   pub commit : Option Commit
 
 -- what an edit's maker gets: the length of the list right after the edit, and the number of operations of its document
@@ -84,6 +85,10 @@ with_acked s n = record s { acked = max s.acked n }
 abbrev pub with_told : State → ℕ → State
 with_told s n = record s { told = max s.told n }
 
+-- the state behind a refused begin or settle: it has told the failure, if there is one
+abbrev pub with_failure_told : State → State
+with_failure_told s = record s { failure_told = s.failed || s.failure_told }
+
 abbrev pub ticket_of : List Op → ℕ → Ticket
 ticket_of list doc = record { end = length list; rev = rev list doc }
 
@@ -121,10 +126,10 @@ edit_answer_unless replica s e None =
 abbrev pub edit_alone : ℕ → State → Edit → Answer
 edit_alone replica s e = edit_answer_unless replica s e (edit_refusal s.list replica e)
 
--- the answers to an edit, in the order of test: failed 9, those of the replica alone, no room for the records 8
+-- the answers to an edit, in the order of test: a failure that is told 9, those of the replica alone, no room for the records 8
 abbrev pub edit_answer : ℕ → State → Edit → Answer
 edit_answer replica s e =
-    if s.failed then refused 9 else with_room (has_record_room s (made s.list replica e)) (edit_alone replica s e)
+    if s.failure_told then refused 9 else with_room (has_record_room s (made s.list replica e)) (edit_alone replica s e)
 
 -- the answer to a merge that a check may refuse: steps 10
 abbrev pub merge_answer_unless : State → Option ℕ → Answer
@@ -140,10 +145,10 @@ merge_alone replica s op =
     else if not (is_ready (clock_of s.list) op.id.replica op.deps) then early
     else merge_answer_unless s (first_failed s.list op)
 
--- the answers of a merge, in the order of test: failed 9, those of the replica alone, no room for the record 8
+-- the answers of a merge, in the order of test: a failure that is told 9, those of the replica alone, no room for the record 8
 abbrev pub merge_answer : ℕ → State → Op → Answer
 merge_answer replica s op =
-    if s.failed then refused 9 else with_room (has_record_room s (op ∷ [])) (merge_alone replica s op)
+    if s.failure_told then refused 9 else with_room (has_record_room s (op ∷ [])) (merge_alone replica s op)
 
 -- the answers of a begin, in the order of test: failed 44, busy 8, nothing new, no further version 7
 abbrev pub begin_answer : State → Answer
@@ -210,7 +215,7 @@ abbrev pub BeginStep : State → Answer → State → Type 0
 BeginStep s (begun n) next =
     (begin_answer s ≡ begun n) × (next ≡ record s { commit = Some (record { count = n; through = false }) })
 BeginStep s nothing_new next = (begin_answer s ≡ nothing_new) × (next ≡ s)
-BeginStep s (refused n) next = IsRefusal n (begin_answer s) × (next ≡ s)
+BeginStep s (refused n) next = IsRefusal n (begin_answer s) × (next ≡ with_failure_told s)
 BeginStep s _ next = ⊥
 
 -- A device call goes on or makes the commit through; or it fails, and from then on there is none.
@@ -234,7 +239,7 @@ settle_answer s =
 
 abbrev pub SettleStep : State → Answer → State → Type 0
 SettleStep s (settled_to n) next = (settle_answer s ≡ settled_to n) × (next ≡ with_settled n s)
-SettleStep s (refused n) next = (settle_answer s ≡ refused n) × (next ≡ s)
+SettleStep s (refused n) next = (settle_answer s ≡ refused n) × (next ≡ with_failure_told s)
 SettleStep s _ next = ⊥
 
 abbrev pub AckStep : State → Ticket → Answer → State → Type 0
@@ -279,6 +284,7 @@ opened list version = record {
   steps = [];
   version = version;
   failed = false;
+  failure_told = false;
   commit = None;
 }
 

@@ -1,5 +1,5 @@
 -- What a replica holds, as contracts see it.
-use Rattle.std.specs.Prelude.{◌≡◌, ℕ, ◌+◌, ◌≤◌, false, List, [], length, take, Option, None}
+use Rattle.std.specs.Prelude.{◌≡◌, ℕ, ◌+◌, ◌≤◌, Bool, false, List, [], length, take, Option, None}
 use Rattle.op_model.specs.declared.op.Op.{Op}
 use Rattle.op_model.specs.declared.edit.Edit.{Edit}
 use Rattle.op_model.specs.Causality.{IsCausallyClosed}
@@ -32,22 +32,23 @@ opened_with replica list = record {
   steps = [];
 }
 
--- the machine's state, where no device failed, and the store has this version and this commit
-abbrev pub stored : Held → ℕ → Option Commit → State
-stored h version commit = record {
+-- the machine's state, where no failure is told, and the store has failed or not, and has this version and this commit
+abbrev pub stored : Held → Bool → ℕ → Option Commit → State
+stored h failed version commit = record {
   list = h.list;
   settled = h.settled;
   acked = h.acked;
   told = h.told;
   steps = h.steps;
   version = version;
-  failed = false;
+  failed = failed;
+  failure_told = false;
   commit = commit;
 }
 
 -- the same without a store, on which no answer of a replica depends
 abbrev pub alone : Held → State
-alone h = stored h 0 None
+alone h = stored h false 0 None
 
 -- with the list, the numbers and the steps of a state
 abbrev pub renewed : Held → State → Held

@@ -9,7 +9,7 @@ use Rattle.op_model.specs.declared.edit.Edit.{Edit}
 use Rattle.op_model.specs.Text.{rev, visible}
 use Rattle.op_model.specs.Causality.{clock_of, is_known, first_failed, is_within_limits, HasOp}
 use Rattle.op_model.specs.Made.{numbered, made, greatest_counter, bodies_of, edit_refusal, is_at_rev, is_inside, is_small}
-use Rattle.op_model.specs.Machine.{Commit, State, Ticket, Event, edit, merge, begin, device_step, settle, ack, tell, have, Answer, ticket, applied, known, early, begun, nothing_new, idle, goes_on, goes_through, settled_to, acknowledged, operations, clock, refused, with_edit, with_merge, has_record_room, with_room, edit_answer, edit_answer_unless, merge_answer, merge_alone, merge_answer_unless, through_of, through, EditStep, MergeStep, BeginStep, DeviceStep, SettleStep, AckStep, TellStep, HaveStep, Step, opened, CrashLeavesOf, CrashLeaves}
+use Rattle.op_model.specs.Machine.{Commit, State, Ticket, Event, edit, merge, begin, device_step, settle, ack, tell, have, Answer, ticket, applied, known, early, begun, nothing_new, idle, goes_on, goes_through, settled_to, acknowledged, operations, clock, refused, with_edit, with_merge, with_failure_told, has_record_room, with_room, edit_answer, edit_answer_unless, merge_answer, merge_alone, merge_answer_unless, through_of, through, EditStep, MergeStep, BeginStep, DeviceStep, SettleStep, AckStep, TellStep, HaveStep, Step, opened, CrashLeavesOf, CrashLeaves}
 use Rattle.model_laws.proofs.Growth.{closed_push}
 use Rattle.model_laws.proofs.Makes.{closed_made}
 use Rattle.world_law.specs.World.{Message, IsInBag, told_by}
@@ -38,7 +38,7 @@ ticket_unless : (replica : ℕ) (s : State) (e : Edit) (t : Ticket) (r : Option 
 ticket_unless replica s e t None is = refl
 ticket_unless replica s e t (Some n) is = absurd (cc)
 
-ticket_alone : (failed room : Bool) (t : Ticket) (answer : Answer) → (if failed then refused 9 else with_room room answer) ≡ ticket t
+ticket_alone : (failure_told room : Bool) (t : Ticket) (answer : Answer) → (if failure_told then refused 9 else with_room room answer) ≡ ticket t
     → answer ≡ ticket t
 ticket_alone true room t answer is = absurd (cc)
 ticket_alone false true t answer is = is
@@ -61,7 +61,7 @@ edit_within : (replica : ℕ) (s : State) (e : Edit) (t : Ticket) → edit_answe
     → is_within_limits (s.list ++ made s.list replica e) ≡ true
 edit_within replica s e t is =
     let unless = edit_answer_unless replica s e (edit_refusal s.list replica e) in
-    let none = ticket_unless replica s e t (edit_refusal s.list replica e) (ticket_alone s.failed (has_record_room s (made s.list replica e)) t unless is) in
+    let none = ticket_unless replica s e t (edit_refusal s.list replica e) (ticket_alone s.failure_told (has_record_room s (made s.list replica e)) t unless is) in
     limits_of (is_at_rev (rev s.list e.doc) e.rev) (is_inside (length (visible s.list e.doc)) e.change) (is_small e.change)
     (is_within_limits (s.list ++ made s.list replica e)) none
 
@@ -103,7 +103,7 @@ merge_passes false true r answer e = absurd (cc)
 merge_passes false false false answer e = absurd (cc)
 merge_passes false false true answer e = (refl, e)
 
-applied_alone : (failed room : Bool) (answer : Answer) → (if failed then refused 9 else with_room room answer) ≡ applied → answer ≡ applied
+applied_alone : (failure_told room : Bool) (answer : Answer) → (if failure_told then refused 9 else with_room room answer) ≡ applied → answer ≡ applied
 applied_alone true room answer is = absurd (cc)
 applied_alone false true answer is = is
 applied_alone false false (ticket t) is = absurd (cc)
@@ -113,7 +113,7 @@ applied_alone false false answer is = is
 merge_made : (replica : ℕ) (bag : List Message) (s : State) (peer : ℕ) (op : Op) → IsSound replica bag s → IsInBag bag op
     → merge_answer replica s op ≡ applied → Goes replica bag s (with_merge s peer op)
 merge_made replica bag s peer op h told is =
-    let alone = applied_alone s.failed (has_record_room s (op ∷ [])) (merge_alone replica s op) is in
+    let alone = applied_alone s.failure_told (has_record_room s (op ∷ [])) (merge_alone replica s op) is in
     let passes = merge_passes (is_known (clock_of s.list) op) (op.id.replica == replica)
     (is_ready (clock_of s.list) op.id.replica op.deps) (merge_answer_unless s (first_failed s.list op)) alone in
     let follows = passed_follows s.list op passes.0 (applied_unless s (first_failed s.list op) passes.1) in
@@ -149,6 +149,15 @@ goes_with_commit replica bag s c h within = record {
   kept = λ op k. k;
 }
 
+-- the same but for what is told of a failure
+goes_failure_told : (replica : ℕ) (bag : List Message) (s next : State) → IsSound replica bag s → next ≡ with_failure_told s
+    → Goes replica bag s next
+goes_failure_told replica bag s next h at =
+    rw at (record {
+      sound = record { closed = h.closed; foreign = h.foreign; settled = h.settled; commit = h.commit };
+      kept = λ op k. k;
+    })
+
 begun_length : (failed busy nothing full : Bool) (long n : ℕ)
     → (if failed then refused 44 else if busy then refused 8 else if nothing then nothing_new else if full then refused 7 else begun long) ≡ begun n
     → long ≡ n
@@ -166,7 +175,7 @@ begin_goes replica bag s (begun n) next h (is, at) =
     let settled = h.settled in
     rw at (goes_with_commit replica bag s (Some (record { count = n; through = false })) h (omega arith, omega arith))
 begin_goes replica bag s nothing_new next h (is, at) = goes_same replica bag s next h at
-begin_goes replica bag s (refused n) next h (is, at) = goes_same replica bag s next h at
+begin_goes replica bag s (refused n) next h (is, at) = goes_failure_told replica bag s next h at
 begin_goes replica bag s _ next h k = absurd k
 
 within_through : (low high : ℕ) (c : Option Commit) → IsWithin low high c → IsWithin low high (through c)
@@ -207,7 +216,7 @@ settle_goes replica bag s (settled_to n) next h (is, at) =
       sound = record { closed = h.closed; foreign = h.foreign; settled = lies.1; commit = tt };
       kept = λ op k. HasOp-take_more s.settled n s.list op lies.0 k;
     })
-settle_goes replica bag s (refused n) next h (is, at) = goes_same replica bag s next h at
+settle_goes replica bag s (refused n) next h (is, at) = goes_failure_told replica bag s next h at
 settle_goes replica bag s _ next h k = absurd k
 
 ack_goes : (replica : ℕ) (bag : List Message) (s : State) (t : Ticket) (a : Answer) (next : State) → IsSound replica bag s → AckStep s t a next
