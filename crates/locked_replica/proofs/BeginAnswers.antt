@@ -13,6 +13,7 @@ use Rattle.group_commit.specs.declared.error.StoreError.{StoreError}
 use Rattle.locked_replica.specs.Hub.{committed, state_of}
 use Rattle.locked_replica.specs.Fits.{Fits, Commits}
 use Rattle.locked_replica.specs.Calls.{IsCall, Counts, StoreBegins, settled_by}
+use Rattle.locked_replica.proofs.PartsOf.{parts}
 use Rattle.locked_replica.proofs.Keeping.{grows_same, Makes}
 use Rattle.locked_replica.proofs.QuietCalls.{quiet_call, counts_same}
 use Rattle.locked_replica.proofs.RoomLemmas.{room_is_version, none_behind, behind_front}
@@ -28,13 +29,13 @@ all_settled true h current next rest none = let least = ltb-false h.settled (cou
 all_settled false h current next way none = way.settled
 
 -- a begin that the store answers
-pub begin_made : {D : Type 0} (facts : Ghosts D) (h : Held) (s new : StoreHeld D) (answer : Result (Option ℕ) StoreError)
-    → (facts.tells s.disk → IsLawful facts s.disk) → Fits facts (record { replica = h; store = s }) → s.failed ≡ false
+pub begin_made : {D : Type 0} {failure_told : Bool} (facts : Ghosts D) (h : Held) (s new : StoreHeld D) (answer : Result (Option ℕ) StoreError)
+    → (facts.tells s.disk → IsLawful facts s.disk) → Fits facts (parts h s failure_told) → s.failed ≡ false
     → (is_idle s.phase && nat_lt h.settled (committed s)) ≡ false → IsAnswer (begin_due s (drop h.settled h.list)) answer
     → ((n : ℕ) → answer ≡ Ok (Some n) → Begins facts s (drop h.settled h.list) new)
     → (((n : ℕ) → answer ≢ Ok (Some n)) → new ≡ s)
-    → Makes facts begin (answer_due answer) (record { replica = h; store = s }) (record { replica = h; store = new })
-begin_made {D} facts h s new answer lawful fits works none is_answer begins stays = (its_fits answer refl, its_call)
+    → Makes facts begin (answer_due answer) (parts h s failure_told) (parts h new failure_told)
+begin_made {D} {failure_told = failure_told} facts h s new answer lawful fits works none is_answer begins stays = (its_fits answer refl, its_call)
   where
     settled : h.settled ≡ committed s
     settled = all_settled (is_idle s.phase) h s.current s.next fits.commit none
@@ -49,9 +50,9 @@ begin_made {D} facts h s new answer lawful fits works none is_answer begins stay
     due_is : begin_due s (drop h.settled h.list) ≡ due_by (is_idle s.phase) (is_none (drop h.settled h.list)) (has_room s.current (drop h.settled h.list)) (committed s + length (drop h.settled h.list))
     due_is = rw works refl
 
-    machine : begin_answer (state_of (record { replica = h; store = s })) ≡ answer_due (begin_due s (drop h.settled h.list))
+    machine : begin_answer (state_of (parts h s failure_told)) ≡ answer_due (begin_due s (drop h.settled h.list))
     machine =
-        rw works (begin_as_due h (is_idle s.phase) (is_none (drop h.settled h.list)) (has_room s.current (drop h.settled h.list)) (committed s) (count_of s.next.body)
+        rw works (begin_as_due h failure_told (is_idle s.phase) (is_none (drop h.settled h.list)) (has_room s.current (drop h.settled h.list)) (committed s) (count_of s.next.body)
         (version_of s.current.body) (committed s + length (drop h.settled h.list)) none (none_behind h.settled h.list)
         (λ idle. rw settled (room_is_version h s.current fits.sound.closed fits.live)) (λ idle. behind))
 
@@ -64,14 +65,14 @@ begin_made {D} facts h s new answer lawful fits works none is_answer begins stay
     less : (n : ℕ) → answer ≡ Ok (Some n) → committed s < length h.list
     less n is = rw settled at (leb-false (length h.list) h.settled (none_behind h.settled h.list ∙ (due n is).1))
 
-    its_fits : (a : Result (Option ℕ) StoreError) → answer ≡ a → Fits facts (record { replica = h; store = new })
+    its_fits : (a : Result (Option ℕ) StoreError) → answer ≡ a → Fits facts (parts h new failure_told)
     its_fits (Ok (Some n)) is =
         fits_begun facts h s new fits (due n is).0 settled (less n is) (rw settled at (begins n is))
     its_fits (Ok None) is = rw (stays (no_number answer (ap has_number is))) fits
     its_fits (Err e) is = rw (stays (no_number answer (ap has_number is))) fits
 
     new_state : (n : ℕ) → answer ≡ Ok (Some n)
-        → state_of (record { replica = h; store = new }) ≡ record (state_of (record { replica = h; store = s })) { commit = Some (record { count = n; through = false }) }
+        → state_of (parts h new failure_told) ≡ record (state_of (parts h s failure_told)) { commit = Some (record { count = n; through = false }) }
     new_state n is =
         let b = begins n is in
         let all = b.follows.count ∙ (due n is).2 in
@@ -94,17 +95,17 @@ begin_made {D} facts h s new answer lawful fits works none is_answer begins stay
     its_counts (Ok None) is = rw (stays (no_number answer (ap has_number is))) (counts_same facts _ s refl refl)
     its_counts (Err e) is = rw (stays (no_number answer (ap has_number is))) (counts_same facts _ s refl refl)
 
-    its_goes : (a : Result (Option ℕ) StoreError) → answer ≡ a → StoreBegins facts (answer_due a) (record { replica = h; store = s }) new
+    its_goes : (a : Result (Option ℕ) StoreError) → answer ≡ a → StoreBegins facts (answer_due a) (parts h s failure_told) new
     its_goes (Ok (Some n)) is = begins n is
     its_goes (Ok None) is = stays (no_number answer (ap has_number is))
     its_goes (Err e) is = stays (no_number answer (ap has_number is))
 
-    its_call : IsCall facts begin (answer_due answer) (record { replica = h; store = s }) (record { replica = h; store = new })
+    its_call : IsCall facts begin (answer_due answer) (parts h s failure_told) (parts h new failure_told)
     its_call =
         let kept = grows_same h in
         let disk = its_disk answer refl in
-        quiet_call facts begin (answer_due answer) (record { replica = h; store = s }) (record { replica = h; store = new }) disk (rw disk lawful)
+        quiet_call facts begin (answer_due answer) (parts h s failure_told) (parts h new failure_told) disk (rw disk lawful)
         (its_fits answer refl) refl
-        (begin_step (state_of (record { replica = h; store = s })) (state_of (record { replica = h; store = new })) (begin_due s (drop h.settled h.list)) answer machine
-        is_answer new_state (λ other. ap (λ t. state_of (record { replica = h; store = t })) (stays other)))
+        (begin_step (state_of (parts h s failure_told)) (state_of (parts h new failure_told)) (begin_due s (drop h.settled h.list)) answer works machine
+        is_answer new_state (λ other. ap (λ t. state_of (parts h t failure_told)) (stays other)))
         kept.more kept.list (same_settled answer) (omega arith) refl (its_counts answer refl) (its_goes answer refl)

@@ -1,5 +1,5 @@
 -- Begins that are answered before the store is asked.
-use Rattle.std.proofs.Common.{◌≡◌, ℕ, ◌-◌, arith, true, false, ◌&&◌, nat_lt, List, drop, length, length-drop, refl, sym}
+use Rattle.std.proofs.Common.{Bool, ◌≡◌, ℕ, ◌-◌, arith, true, false, ◌&&◌, nat_lt, List, drop, length, length-drop, refl, sym}
 use Rattle.disk_trait.specs.Calls.{IsLawful}
 use Rattle.disk_trait.specs.declared.facts.DiskFacts.{Ghosts}
 use Rattle.change_codec.specs.Stream.{spelled_all, AreOperations}
@@ -13,27 +13,28 @@ use Rattle.group_commit.specs.Held.{Held as StoreHeld}
 use Rattle.locked_replica.specs.Hub.{committed}
 use Rattle.locked_replica.specs.Fits.{Fits}
 use Rattle.locked_replica.specs.Calls.{IsCall}
-use Rattle.locked_replica.proofs.Keeping.{grows_same}
+use Rattle.locked_replica.proofs.PartsOf.{parts}
+use Rattle.locked_replica.proofs.Keeping.{grows_same, fits_told}
 use Rattle.locked_replica.proofs.QuietCalls.{quiet_call, counts_same}
 use Rattle.locked_replica.proofs.StateLemmas.{has_commit}
 
 -- a begin of a hub whose device failed
-pub begin_failed : {D : Type 0} (facts : Ghosts D) (h : Held) (s : StoreHeld D) → (facts.tells s.disk → IsLawful facts s.disk)
-    → Fits facts (record { replica = h; store = s }) → s.failed ≡ true
-    → IsCall facts begin (refused 44) (record { replica = h; store = s }) (record { replica = h; store = s })
-begin_failed facts h s lawful fits failed =
+pub begin_failed : {D : Type 0} {failure_told : Bool} (facts : Ghosts D) (h : Held) (s : StoreHeld D) → (facts.tells s.disk → IsLawful facts s.disk)
+    → Fits facts (parts h s failure_told) → s.failed ≡ true
+    → IsCall facts begin (refused 44) (parts h s failure_told) (parts h s true)
+begin_failed {failure_told = failure_told} facts h s lawful fits failed =
     let kept = grows_same h in
-    quiet_call facts begin (refused 44) (record { replica = h; store = s }) (record { replica = h; store = s }) refl lawful fits refl
+    quiet_call facts begin (refused 44) (parts h s failure_told) (parts h s true) refl lawful (fits_told facts h s failure_told true fits) refl
     (rw failed (refl, refl)) kept.more kept.list refl (omega arith) refl (counts_same facts _ s refl refl) refl
 
 -- one of a hub whose last commit is through and not settled
-pub begin_through : {D : Type 0} (facts : Ghosts D) (h : Held) (s : StoreHeld D) → (facts.tells s.disk → IsLawful facts s.disk)
-    → Fits facts (record { replica = h; store = s }) → s.failed ≡ false → (is_idle s.phase && nat_lt h.settled (committed s)) ≡ true
-    → IsCall facts begin (refused 8) (record { replica = h; store = s }) (record { replica = h; store = s })
-begin_through facts h s lawful fits works through =
+pub begin_through : {D : Type 0} {failure_told : Bool} (facts : Ghosts D) (h : Held) (s : StoreHeld D) → (facts.tells s.disk → IsLawful facts s.disk)
+    → Fits facts (parts h s failure_told) → s.failed ≡ false → (is_idle s.phase && nat_lt h.settled (committed s)) ≡ true
+    → IsCall facts begin (refused 8) (parts h s failure_told) (parts h s failure_told)
+begin_through {failure_told = failure_told} facts h s lawful fits works through =
     let kept = grows_same h in
     let some = has_commit (is_idle s.phase) h.settled (committed s) (count_of s.next.body) through in
-    quiet_call facts begin (refused 8) (record { replica = h; store = s }) (record { replica = h; store = s }) refl lawful fits refl
+    quiet_call facts begin (refused 8) (parts h s failure_told) (parts h s failure_told) refl lawful fits refl
     (rw (works, some) (refl, refl)) kept.more kept.list refl (omega arith) refl (counts_same facts _ s refl refl) refl
 
 -- what the store is given are the records of what isn't settled

@@ -1,5 +1,5 @@
 -- A commit that begins: what the hub then keeps, and the writes and syncs before it.
-use Rattle.std.proofs.Common.{◌≡◌, ℕ, ◌+◌, ◌-◌, ◌<◌, true, false, List, ◌++◌, length, take, drop, sym, ap, ◌∙◌, arith}
+use Rattle.std.proofs.Common.{Bool, ◌≡◌, ℕ, ◌+◌, ◌-◌, ◌<◌, true, false, List, ◌++◌, length, take, drop, sym, ap, ◌∙◌, arith}
 use Rattle.std.specs.Prelude.{if◌then◌else◌}
 use Rattle.std.proofs.lemmas.List.{take-append-drop}
 use Rattle.disk_trait.specs.declared.facts.DiskFacts.{Ghosts}
@@ -19,6 +19,7 @@ use Rattle.group_commit.specs.declared.phase.Phase.TheVariants.{Idle}
 use Rattle.locked_replica.specs.Hub.{committed}
 use Rattle.locked_replica.specs.Fits.{Fits, IsFront, IsAtRest}
 use Rattle.locked_replica.specs.Calls.{Counts}
+use Rattle.locked_replica.proofs.PartsOf.{parts}
 use Rattle.locked_replica.proofs.RoomLemmas.{behind_front}
 use Rattle.locked_replica.proofs.Keeping.{due_behind_all, due_behind_some}
 use Rattle.locked_replica.proofs.ListLemmas.{take_all, fits_both}
@@ -42,10 +43,10 @@ next_front facts h s new live begun =
     }
 
 -- a hub that began a commit
-pub fits_begun : {D : Type 0} (facts : Ghosts D) (h : Held) (s new : StoreHeld D) → Fits facts (record { replica = h; store = s }) → is_idle s.phase ≡ true
+pub fits_begun : {D : Type 0} {failure_told : Bool} (facts : Ghosts D) (h : Held) (s new : StoreHeld D) → Fits facts (parts h s failure_told) → is_idle s.phase ≡ true
     → h.settled ≡ committed s → committed s < length h.list → Begins facts s (drop (committed s) h.list) new
-    → Fits facts (record { replica = h; store = new })
-fits_begun facts h s new fits rest settled more begun =
+    → Fits facts (parts h new failure_told)
+fits_begun {failure_told = failure_told} facts h s new fits rest settled more begun =
     let all : count_of new.next.body ≡ length h.list = begun.follows.count ∙ behind_front (committed s) h.list fits.live.within in
     let at_rest : IsAtRest h s.current = rw rest at fits.commit in
     let none = due_behind_all h in

@@ -1,5 +1,5 @@
 -- One device call of a commit under way, with what it makes of a hub.
-use Rattle.std.proofs.Common.{◌≡◌, ℕ, ◌-◌, true, false, List, refl, sym, ◌∙◌, arith, inl, inr, ◌⊎◌, Result}
+use Rattle.std.proofs.Common.{Bool, ◌≡◌, ℕ, ◌-◌, true, false, List, refl, sym, ◌∙◌, arith, inl, inr, ◌⊎◌, Result}
 use Rattle.disk_trait.specs.Calls.{LeavesOnly}
 use Rattle.disk_trait.specs.declared.facts.DiskFacts.{Ghosts}
 use Rattle.op_model.specs.Machine.{Answer, device_step, goes_on, goes_through, refused, Step}
@@ -13,6 +13,7 @@ use Rattle.group_commit.specs.declared.error.StoreError.{StoreError}
 use Rattle.locked_replica.specs.Hub.{state_of}
 use Rattle.locked_replica.specs.Fits.{Fits, IsUnderWay}
 use Rattle.locked_replica.specs.Calls.{IsCall, IsLeftIn, Counts, StepsOn, StepsFail, StoreSteps, calls_in, failures_in, settled_by}
+use Rattle.locked_replica.proofs.PartsOf.{parts}
 use Rattle.locked_replica.proofs.Recovering.{survivor_has_settled, survivor_is_left, left_of, left_has}
 use Rattle.locked_replica.proofs.Keeping.{grows_same}
 use Rattle.std.proofs.lemmas.Bool.{lt-ltb}
@@ -32,13 +33,13 @@ moments_of facts old new P Q weaker leaves =
     either {file = file} (inr p) = inr (weaker file p)
 
 -- one device call of a commit under way, with what it makes of the hub
-device_call : {D : Type 0} {T : Type 0} (facts : Ghosts D) (h : Held) (s new : StoreHeld D) (writes syncs : ℕ) (error : StoreError) (result : Result T StoreError)
-    (answer : Answer) → Fits facts (record { replica = h; store = s }) → is_idle s.phase ≡ false → IsDeviceCall facts writes syncs error result s new
-    → Step h.replica (state_of (record { replica = h; store = s })) device_step answer (state_of (record { replica = h; store = new }))
+device_call : {D : Type 0} {failure_told : Bool} {T : Type 0} (facts : Ghosts D) (h : Held) (s new : StoreHeld D) (writes syncs : ℕ) (error : StoreError) (result : Result T StoreError)
+    (answer : Answer) → Fits facts (parts h s failure_told) → is_idle s.phase ≡ false → IsDeviceCall facts writes syncs error result s new
+    → Step h.replica (state_of (parts h s failure_told)) device_step answer (state_of (parts h new failure_told))
     → calls_in device_step answer ≡ 1 → failures_of result ≡ failures_in device_step answer → h.settled ≡ settled_by h.settled answer
-    → Fits facts (record { replica = h; store = new }) → Counts facts answer s new → StoreSteps facts answer s new
-    → IsCall facts device_step answer (record { replica = h; store = s }) (record { replica = h; store = new })
-device_call facts h s new writes syncs error result answer fits busy call step one failing same after counts goes =
+    → Fits facts (parts h new failure_told) → Counts facts answer s new → StoreSteps facts answer s new
+    → IsCall facts device_step answer (parts h s failure_told) (parts h new failure_told)
+device_call {failure_told = failure_told} facts h s new writes syncs error result answer fits busy call step one failing same after counts goes =
     let kept = grows_same h in
     record {
       owner = refl;
@@ -51,52 +52,52 @@ device_call facts h s new writes syncs error result answer fits busy call step o
       tells = call.tells;
       time = λ told. rw one ((call.call told).one_more);
       failures = λ told. rw (sym failing) ((call.call told).failures);
-      moments = λ told. moments_of facts s.disk new.disk (IsLeftAround s new) (IsLeftIn (record { replica = h; store = s }) (record { replica = h; store = new })) around
+      moments = λ told. moments_of facts s.disk new.disk (IsLeftAround s new) (IsLeftIn (parts h s failure_told) (parts h new failure_told)) around
           (call.moments told);
-      left = λ told file survives. survivor_has_settled facts (record { replica = h; store = new }) file after told survives;
-      is_left = λ told file survives. survivor_is_left facts (record { replica = h; store = new }) file after told survives;
+      left = λ told file survives. survivor_has_settled facts (parts h new failure_told) file after told survives;
+      is_left = λ told file survives. survivor_is_left facts (parts h new failure_told) file after told survives;
       counts = counts;
     }
   where
-    around : (file : List ℕ) → IsLeftAround s new file → IsLeftIn (record { replica = h; store = s }) (record { replica = h; store = new }) file
+    around : (file : List ℕ) → IsLeftAround s new file → IsLeftIn (parts h s failure_told) (parts h new failure_told) file
     around file (inl is) =
-        let left = left_of facts (record { replica = h; store = s }) file fits is in
-        record { has = left_has facts (record { replica = h; store = s }) file fits left; around = inl left }
+        let left = left_of facts (parts h s failure_told) file fits is in
+        record { has = left_has facts (parts h s failure_told) file fits left; around = inl left }
     around file (inr is) =
-        let left = left_of facts (record { replica = h; store = new }) file after is in
-        record { has = left_has facts (record { replica = h; store = new }) file after left; around = inr left }
+        let left = left_of facts (parts h new failure_told) file after is in
+        record { has = left_has facts (parts h new failure_told) file after left; around = inr left }
 
 -- the commit goes on
-pub call_goes_on : {D : Type 0} {T : Type 0} (facts : Ghosts D) (h : Held) (s new : StoreHeld D) (writes syncs : ℕ) (error : StoreError) (result : Result T StoreError)
-    → Fits facts (record { replica = h; store = s }) → s.failed ≡ false → is_idle s.phase ≡ false → IsDeviceCall facts writes syncs error result s new
+pub call_goes_on : {D : Type 0} {failure_told : Bool} {T : Type 0} (facts : Ghosts D) (h : Held) (s new : StoreHeld D) (writes syncs : ℕ) (error : StoreError) (result : Result T StoreError)
+    → Fits facts (parts h s failure_told) → s.failed ≡ false → is_idle s.phase ≡ false → IsDeviceCall facts writes syncs error result s new
     → is_idle new.phase ≡ false → new.current ≡ s.current → new.next ≡ s.next → new.failed ≡ false
-    → Fits facts (record { replica = h; store = new })
+    → Fits facts (parts h new failure_told)
     → Counts facts goes_on s new → failures_of result ≡ 0 → StepsOn facts s new
-    → IsCall facts device_step goes_on (record { replica = h; store = s }) (record { replica = h; store = new })
-call_goes_on facts h s new writes syncs error result fits works busy call busy' current next works' after counts none goes =
+    → IsCall facts device_step goes_on (parts h s failure_told) (parts h new failure_told)
+call_goes_on {failure_told = failure_told} facts h s new writes syncs error result fits works busy call busy' current next works' after counts none goes =
     device_call facts h s new writes syncs error result goes_on fits busy call (rw (works, busy, works', busy', current, next) (refl, refl, refl)) refl none refl after counts goes
 
 -- the commit is through
-pub call_goes_through : {D : Type 0} {T : Type 0} (facts : Ghosts D) (h : Held) (s new : StoreHeld D) (writes syncs : ℕ) (error : StoreError)
-    (result : Result T StoreError) → Fits facts (record { replica = h; store = s }) → s.failed ≡ false → is_idle s.phase ≡ false
+pub call_goes_through : {D : Type 0} {failure_told : Bool} {T : Type 0} (facts : Ghosts D) (h : Held) (s new : StoreHeld D) (writes syncs : ℕ) (error : StoreError)
+    (result : Result T StoreError) → Fits facts (parts h s failure_told) → s.failed ≡ false → is_idle s.phase ≡ false
     → IsDeviceCall facts writes syncs error result s new → is_idle new.phase ≡ true → new.current ≡ s.next → new.failed ≡ false
-    → Fits facts (record { replica = h; store = new })
+    → Fits facts (parts h new failure_told)
     → Counts facts goes_through s new → failures_of result ≡ 0 → StepsOn facts s new
-    → IsCall facts device_step goes_through (record { replica = h; store = s }) (record { replica = h; store = new })
-call_goes_through facts h s new writes syncs error result fits works busy call rest current works' after counts none goes =
+    → IsCall facts device_step goes_through (parts h s failure_told) (parts h new failure_told)
+call_goes_through {failure_told = failure_told} facts h s new writes syncs error result fits works busy call rest current works' after counts none goes =
     let way : IsUnderWay h s.current s.next = rw busy at fits.commit in
     let more = lt-ltb h.settled (count_of s.next.body) way.owed.more in
     let before : version_of s.next.body - 1 ≡ version_of s.current.body = let after = way.version in omega (arith, after) in
     device_call facts h s new writes syncs error result goes_through fits busy call (rw (works, busy, works', rest, current, more, before) (refl, refl, refl)) refl none refl after counts goes
 
 -- the device failed
-pub call_fails : {D : Type 0} {T : Type 0} (facts : Ghosts D) (h : Held) (s new : StoreHeld D) (writes syncs : ℕ) (error : StoreError) (result : Result T StoreError)
-    (n : ℕ) → Fits facts (record { replica = h; store = s }) → s.failed ≡ false → is_idle s.phase ≡ false → IsDeviceCall facts writes syncs error result s new
+pub call_fails : {D : Type 0} {failure_told : Bool} {T : Type 0} (facts : Ghosts D) (h : Held) (s new : StoreHeld D) (writes syncs : ℕ) (error : StoreError) (result : Result T StoreError)
+    (n : ℕ) → Fits facts (parts h s failure_told) → s.failed ≡ false → is_idle s.phase ≡ false → IsDeviceCall facts writes syncs error result s new
     → is_idle new.phase ≡ false → new.current ≡ s.current → new.next ≡ s.next → new.failed ≡ true → (n ≡ 51) ⊎ (n ≡ 52)
-    → Fits facts (record { replica = h; store = new })
+    → Fits facts (parts h new failure_told)
     → Counts facts (refused n) s new → failures_of result ≡ 1 → StepsFail facts n s new
-    → IsCall facts device_step (refused n) (record { replica = h; store = s }) (record { replica = h; store = new })
-call_fails facts h s new writes syncs error result n fits works busy call busy' current next failed is after counts some goes =
+    → IsCall facts device_step (refused n) (parts h s failure_told) (parts h new failure_told)
+call_fails {failure_told = failure_told} facts h s new writes syncs error result n fits works busy call busy' current next failed is after counts some goes =
     device_call facts h s new writes syncs error result (refused n) fits busy call
     (inr (works, rw busy refl, is, rw (busy, failed, busy', current, next) refl)) (one n is) (some ∙ sym (one n is)) refl after counts (inr goes)
   where
@@ -105,11 +106,11 @@ call_fails facts h s new writes syncs error result n fits works busy call busy' 
     one n (inr is) = rw is refl
 
 -- what a hub keeps is kept where the commit goes on, or failed
-pub fits_going : {D : Type 0} (facts : Ghosts D) (h : Held) (s new : StoreHeld D) → Fits facts (record { replica = h; store = s }) → is_idle s.phase ≡ false
+pub fits_going : {D : Type 0} {failure_told : Bool} (facts : Ghosts D) (h : Held) (s new : StoreHeld D) → Fits facts (parts h s failure_told) → is_idle s.phase ≡ false
     → is_idle new.phase ≡ false → new.current ≡ s.current → new.next ≡ s.next
     → (facts.tells new.disk → (file : List ℕ) → facts.survives new.disk file → IsLeft new.phase new.current new.next file)
-    → Fits facts (record { replica = h; store = new })
-fits_going facts h s new fits busy busy' current next left =
+    → Fits facts (parts h new failure_told)
+fits_going {failure_told = failure_told} facts h s new fits busy busy' current next left =
     record {
       sound = fits.sound;
       live = rw current fits.live;
@@ -118,11 +119,11 @@ fits_going facts h s new fits busy busy' current next left =
     }
 
 -- and where it is through
-pub fits_through : {D : Type 0} (facts : Ghosts D) (h : Held) (s new : StoreHeld D) → Fits facts (record { replica = h; store = s }) → is_idle s.phase ≡ false
+pub fits_through : {D : Type 0} {failure_told : Bool} (facts : Ghosts D) (h : Held) (s new : StoreHeld D) → Fits facts (parts h s failure_told) → is_idle s.phase ≡ false
     → is_idle new.phase ≡ true → new.current ≡ s.next
     → (facts.tells new.disk → (file : List ℕ) → facts.survives new.disk file → IsLeft new.phase new.current new.next file)
-    → Fits facts (record { replica = h; store = new })
-fits_through facts h s new fits busy rest current left =
+    → Fits facts (parts h new failure_told)
+fits_through {failure_told = failure_told} facts h s new fits busy rest current left =
     let way : IsUnderWay h s.current s.next = rw busy at fits.commit in
     let more = way.owed.more in
     let version = way.version in

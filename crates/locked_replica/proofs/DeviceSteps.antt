@@ -19,6 +19,7 @@ use Rattle.locked_replica.specs.Hub.{committed}
 use Rattle.locked_replica.specs.Fits.{Fits}
 use Rattle.locked_replica.specs.Calls.{IsCall, Counts, StepsOn, writes_begun, syncs_begun}
 use Rattle.locked_replica.specs.Steps.{stepped_in}
+use Rattle.locked_replica.proofs.PartsOf.{parts}
 use Rattle.locked_replica.proofs.Keeping.{Grows, grows_same, Makes}
 use Rattle.locked_replica.proofs.QuietCalls.{quiet_call, counts_same}
 use Rattle.locked_replica.proofs.StateLemmas.{no_call_due}
@@ -70,10 +71,10 @@ never_both : (answer : Result Phase StoreError) (e : StoreError) (p : Phase) →
 never_both answer e p is same = absurd (cc)
 
 -- a device step that is answered with a phase
-pub step_made : {D : Type 0} (facts : Ghosts D) (h : Held) (s new : StoreHeld D) (p : Phase) → (facts.tells s.disk → IsLawful facts s.disk)
-    → Fits facts (record { replica = h; store = s }) → Stepped facts s new (Ok p) → p ≡ s.phase → (s.failed ≡ false → new ≡ gone_on s.phase s new.disk)
-    → Makes facts device_step (stepped_in p) (record { replica = h; store = s }) (record { replica = h; store = new })
-step_made {D} facts h s new p lawful fits stepped made went = rw made (by_kind (kind_of s.phase))
+pub step_made : {D : Type 0} {failure_told : Bool} (facts : Ghosts D) (h : Held) (s new : StoreHeld D) (p : Phase) → (facts.tells s.disk → IsLawful facts s.disk)
+    → Fits facts (parts h s failure_told) → Stepped facts s new (Ok p) → p ≡ s.phase → (s.failed ≡ false → new ≡ gone_on s.phase s new.disk)
+    → Makes facts device_step (stepped_in p) (parts h s failure_told) (parts h new failure_told)
+step_made {D} {failure_told = failure_told} facts h s new p lawful fits stepped made went = rw made (by_kind (kind_of s.phase))
   where
     works : s.failed ≡ false
     works = by_test s.failed refl
@@ -89,7 +90,7 @@ step_made {D} facts h s new p lawful fits stepped made went = rw made (by_kind (
     steps = record { next = gone; does = λ told. subst (λ q. Does {T = Phase} facts (Ok q) s.phase s new.disk) made (stepped.does works told) }
 
     by_kind : (s.phase ≡ Idle) ⊎ ((s.phase ≡ Sync3) ⊎ ((is_idle s.phase ≡ false) × (s.phase ≢ Sync3) × (stepped_in s.phase ≡ goes_on)))
-        → Makes facts device_step (stepped_in s.phase) (record { replica = h; store = s }) (record { replica = h; store = new })
+        → Makes facts device_step (stepped_in s.phase) (parts h s failure_told) (parts h new failure_told)
     by_kind (inl is) = rw (stepped.idle works is).1 (fits, at_rest)
       where
         kept : Grows h h
@@ -98,10 +99,10 @@ step_made {D} facts h s new p lawful fits stepped made went = rw made (by_kind (
         rest : is_idle s.phase ≡ true
         rest = ap is_idle is
 
-        at_rest : IsCall facts device_step (stepped_in s.phase) (record { replica = h; store = s }) (record { replica = h; store = s })
+        at_rest : IsCall facts device_step (stepped_in s.phase) (parts h s failure_told) (parts h s failure_told)
         at_rest =
-            subst (λ q. IsCall facts device_step (stepped_in q) (record { replica = h; store = s }) (record { replica = h; store = s })) (sym is) (
-            quiet_call facts device_step idle_answer (record { replica = h; store = s }) (record { replica = h; store = s }) refl lawful fits refl
+            subst (λ q. IsCall facts device_step (stepped_in q) (parts h s failure_told) (parts h s failure_told)) (sym is) (
+            quiet_call facts device_step idle_answer (parts h s failure_told) (parts h s failure_told) refl lawful fits refl
             (works, rw rest (no_call_due h.settled (committed s) (count_of s.next.body)), refl) kept.more kept.list refl (omega arith) refl (counts_same facts _ s refl refl) refl
             )
     by_kind (inr (inl is)) =
@@ -113,7 +114,7 @@ step_made {D} facts h s new p lawful fits stepped made went = rw made (by_kind (
         let its_call = stepped.call works (not_idle s.phase busy) in
         let after = fits_through facts h s new fits busy rest current its_call.left in (
           after,
-          subst (λ q. IsCall facts device_step (stepped_in q) (record { replica = h; store = s }) (record { replica = h; store = new })) (sym is)
+          subst (λ q. IsCall facts device_step (stepped_in q) (parts h s failure_told) (parts h new failure_told)) (sym is)
               (call_goes_through facts h s new _ _ _ _ fits works busy its_call rest current works' after
               (counts_on facts s new p goes_through refl refl works stepped (not_idle s.phase busy) gone) refl steps),
         )
@@ -131,20 +132,20 @@ step_made {D} facts h s new p lawful fits stepped made went = rw made (by_kind (
         )
 
 -- a device step that is refused
-pub step_refused : {D : Type 0} (facts : Ghosts D) (h : Held) (s new : StoreHeld D) (e : StoreError) → (facts.tells s.disk → IsLawful facts s.disk)
-    → Fits facts (record { replica = h; store = s }) → Stepped facts s new (Err e) → (s.failed ≡ false → new ≡ has_failed s new.disk)
-    → Makes facts device_step (refused (number_of e)) (record { replica = h; store = s }) (record { replica = h; store = new })
-step_refused facts h s new e lawful fits stepped gone = by_test s.failed refl
+pub step_refused : {D : Type 0} {failure_told : Bool} (facts : Ghosts D) (h : Held) (s new : StoreHeld D) (e : StoreError) → (facts.tells s.disk → IsLawful facts s.disk)
+    → Fits facts (parts h s failure_told) → Stepped facts s new (Err e) → (s.failed ≡ false → new ≡ has_failed s new.disk)
+    → Makes facts device_step (refused (number_of e)) (parts h s failure_told) (parts h new failure_told)
+step_refused {failure_told = failure_told} facts h s new e lawful fits stepped gone = by_test s.failed refl
   where
     kept : Grows h h
     kept = grows_same h
 
-    by_test : (t : Bool) → s.failed ≡ t → Makes facts device_step (refused (number_of e)) (record { replica = h; store = s }) (record { replica = h; store = new })
+    by_test : (t : Bool) → s.failed ≡ t → Makes facts device_step (refused (number_of e)) (parts h s failure_told) (parts h new failure_told)
     by_test true failed =
         let both = stepped.stopped failed in
         rw (same_error (Err e) e Failed refl both.0, both.1) (
           fits,
-          quiet_call facts device_step (refused 44) (record { replica = h; store = s }) (record { replica = h; store = s }) refl lawful fits refl
+          quiet_call facts device_step (refused 44) (parts h s failure_told) (parts h s failure_told) refl lawful fits refl
               (inl (failed, refl, refl)) kept.more kept.list refl (omega arith) refl (counts_same facts _ s refl refl) (inl (refl, refl)),
         )
     by_test false works =

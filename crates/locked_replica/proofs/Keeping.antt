@@ -21,6 +21,7 @@ use Rattle.group_commit.specs.Held.{Held as StoreHeld}
 use Rattle.locked_replica.specs.Calls.{IsCall}
 use Rattle.locked_replica.specs.Hub.{Parts, committed}
 use Rattle.locked_replica.specs.Fits.{Fits, IsFront, due_behind, CanSettle, IsAtRest, Commits}
+use Rattle.locked_replica.proofs.PartsOf.{parts}
 
 -- what a call of a hub makes of it: it keeps what a hub keeps, and is a step
 abbrev pub Makes : {D : Type 0} → Ghosts D → Event → Answer → Parts D → Parts D → Type 0
@@ -157,9 +158,9 @@ commit_grown false h next current after g way =
     }
 
 -- a hub whose list grew
-pub fits_grown : {D : Type 0} (facts : Ghosts D) (h next : Held) (s : StoreHeld D) → Fits facts (record { replica = h; store = s }) → IsSound next → Grows h next
-    → Fits facts (record { replica = next; store = s })
-fits_grown facts h next s fits sound g =
+pub fits_grown : {D : Type 0} {failure_told : Bool} (facts : Ghosts D) (h next : Held) (s : StoreHeld D) → Fits facts (parts h s failure_told) → IsSound next → Grows h next
+    → Fits facts (parts next s failure_told)
+fits_grown {failure_told = failure_told} facts h next s fits sound g =
     record {
       sound = sound;
       live = front_grown h next s.current g fits.live;
@@ -167,10 +168,14 @@ fits_grown facts h next s fits sound g =
       left = fits.left;
     }
 
+-- a hub of which a failure is told or not
+pub fits_told : {D : Type 0} (facts : Ghosts D) (h : Held) (s : StoreHeld D) (was is : Bool) → Fits facts (parts h s was) → Fits facts (parts h s is)
+fits_told facts h s was is fits = record { sound = fits.sound; live = fits.live; commit = fits.commit; left = fits.left }
+
 -- a hub that settled the commit that is through
-pub fits_settled : {D : Type 0} (facts : Ghosts D) (h : Held) (s : StoreHeld D) → Fits facts (record { replica = h; store = s }) → is_idle s.phase ≡ true
-    → h.settled < committed s → IsSound (with_settled h (committed s)) → Fits facts (record { replica = with_settled h (committed s); store = s })
-fits_settled facts h s fits idle less sound =
+pub fits_settled : {D : Type 0} {failure_told : Bool} (facts : Ghosts D) (h : Held) (s : StoreHeld D) → Fits facts (parts h s failure_told) → is_idle s.phase ≡ true
+    → h.settled < committed s → IsSound (with_settled h (committed s)) → Fits facts (parts (with_settled h (committed s)) s failure_told)
+fits_settled {failure_told = failure_told} facts h s fits idle less sound =
     let rest : IsAtRest h s.current = rw idle at fits.commit in
     let owed = rest.through less in
     let live = fits.live in

@@ -1,3 +1,4 @@
+pub mod PartsOf
 pub mod ListLemmas
 pub mod Recovering
 pub mod Keeping

@@ -19,6 +19,7 @@ use Rattle.locked_replica.specs.Hub.{Parts, state_of, version_at, commit_of}
 use Rattle.locked_replica.specs.Fits.{Fits}
 use Rattle.locked_replica.specs.Recovery.{HasAtLeast}
 use Rattle.locked_replica.specs.Calls.{IsCall, IsLeftIn, Counts, StoreGoes, calls_in, failures_in, settled_by, writes_begun, syncs_begun}
+use Rattle.locked_replica.proofs.PartsOf.{parts}
 use Rattle.locked_replica.proofs.Recovering.{survivor_has_settled, survivor_is_left}
 use Rattle.locked_replica.proofs.Keeping.{grows_edit, grows_merge, grows_same, grows_acked, grows_told, fits_grown}
 
@@ -89,99 +90,99 @@ quiet_call {D} facts event answer old new same lawful fits owner step more list 
         }
 
 -- an edit that is answered with a ticket
-pub edit_call : {D : Type 0} (facts : Ghosts D) (h next : Held) (s : StoreHeld D) (session : ℕ) (e : Edit) (t : Ticket)
-    → (facts.tells s.disk → IsLawful facts s.disk) → Fits facts (record { replica = h; store = s }) → s.failed ≡ false
-    → edit_alone h.replica (alone h) e ≡ ticket t → has_record_room (stored h (version_at h s) (commit_of h s)) (made h.list h.replica e) ≡ true
-    → next ≡ with_edit h session e → IsSound next → IsCall facts (edit session e) (ticket t) (record { replica = h; store = s }) (record { replica = next; store = s })
-edit_call facts h next s session e t lawful fits works answer room is sound =
+pub edit_call : {D : Type 0} {failure_told : Bool} (facts : Ghosts D) (h next : Held) (s : StoreHeld D) (session : ℕ) (e : Edit) (t : Ticket)
+    → (facts.tells s.disk → IsLawful facts s.disk) → Fits facts (parts h s failure_told) → failure_told ≡ false
+    → edit_alone h.replica (alone h) e ≡ ticket t → has_record_room (stored h s.failed (version_at h s) (commit_of h s)) (made h.list h.replica e) ≡ true
+    → next ≡ with_edit h session e → IsSound next → IsCall facts (edit session e) (ticket t) (parts h s failure_told) (parts next s failure_told)
+edit_call {failure_told = failure_told} facts h next s session e t lawful fits quiet answer room is sound =
     rw is (
     let kept = grows_edit h session e in
-    quiet_call facts (edit session e) (ticket t) (record { replica = h; store = s }) (record { replica = with_edit h session e; store = s }) refl lawful
+    quiet_call facts (edit session e) (ticket t) (parts h s failure_told) (parts (with_edit h session e) s failure_told) refl lawful
     (fits_grown facts h (with_edit h session e) s fits (rw is at sound) kept) refl
-    (rw works (edit_step h (with_edit h session e) session e t (version_at h s) (commit_of h s) answer room refl))
+    (rw quiet (edit_step h (with_edit h session e) session e t s.failed (version_at h s) (commit_of h s) answer room refl))
     kept.more kept.list refl (omega arith) refl (counts_same facts _ s refl refl) refl
     )
 
 -- an edit that is refused
-pub edit_call_refused : {D : Type 0} (facts : Ghosts D) (h : Held) (s : StoreHeld D) (session : ℕ) (e : Edit) (n : ℕ)
-    → (facts.tells s.disk → IsLawful facts s.disk) → Fits facts (record { replica = h; store = s }) → s.failed ≡ false
-    → IsRefusal n (with_room (has_record_room (stored h (version_at h s) (commit_of h s)) (made h.list h.replica e)) (edit_alone h.replica (alone h) e))
-    → IsCall facts (edit session e) (refused n) (record { replica = h; store = s }) (record { replica = h; store = s })
-edit_call_refused facts h s session e n lawful fits works answer =
+pub edit_call_refused : {D : Type 0} {failure_told : Bool} (facts : Ghosts D) (h : Held) (s : StoreHeld D) (session : ℕ) (e : Edit) (n : ℕ)
+    → (facts.tells s.disk → IsLawful facts s.disk) → Fits facts (parts h s failure_told) → failure_told ≡ false
+    → IsRefusal n (with_room (has_record_room (stored h s.failed (version_at h s) (commit_of h s)) (made h.list h.replica e)) (edit_alone h.replica (alone h) e))
+    → IsCall facts (edit session e) (refused n) (parts h s failure_told) (parts h s failure_told)
+edit_call_refused {failure_told = failure_told} facts h s session e n lawful fits quiet answer =
     let kept = grows_same h in
-    quiet_call facts (edit session e) (refused n) (record { replica = h; store = s }) (record { replica = h; store = s }) refl lawful fits refl
-    (rw works (edit_step_refused h h session e n (version_at h s) (commit_of h s) answer refl)) kept.more kept.list refl (omega arith) refl (counts_same facts _ s refl refl) refl
+    quiet_call facts (edit session e) (refused n) (parts h s failure_told) (parts h s failure_told) refl lawful fits refl
+    (rw quiet (edit_step_refused h h session e n s.failed (version_at h s) (commit_of h s) answer refl)) kept.more kept.list refl (omega arith) refl (counts_same facts _ s refl refl) refl
 
-pub edit_call_failed : {D : Type 0} (facts : Ghosts D) (h : Held) (s : StoreHeld D) (session : ℕ) (e : Edit)
-    → (facts.tells s.disk → IsLawful facts s.disk) → Fits facts (record { replica = h; store = s }) → s.failed ≡ true
-    → IsCall facts (edit session e) (refused 9) (record { replica = h; store = s }) (record { replica = h; store = s })
-edit_call_failed facts h s session e lawful fits failed =
+pub edit_call_failed : {D : Type 0} {failure_told : Bool} (facts : Ghosts D) (h : Held) (s : StoreHeld D) (session : ℕ) (e : Edit)
+    → (facts.tells s.disk → IsLawful facts s.disk) → Fits facts (parts h s failure_told) → failure_told ≡ true
+    → IsCall facts (edit session e) (refused 9) (parts h s failure_told) (parts h s failure_told)
+edit_call_failed {failure_told = failure_told} facts h s session e lawful fits is_told =
     let kept = grows_same h in
-    quiet_call facts (edit session e) (refused 9) (record { replica = h; store = s }) (record { replica = h; store = s }) refl lawful fits refl
-    (rw failed (refl, refl)) kept.more kept.list refl (omega arith) refl (counts_same facts _ s refl refl) refl
+    quiet_call facts (edit session e) (refused 9) (parts h s failure_told) (parts h s failure_told) refl lawful fits refl
+    (rw is_told (refl, refl)) kept.more kept.list refl (omega arith) refl (counts_same facts _ s refl refl) refl
 
 -- a merge that isn't refused
-pub merge_call : {D : Type 0} (facts : Ghosts D) (h next : Held) (s : StoreHeld D) (peer : ℕ) (op : Op) (m : Merged)
-    → (facts.tells s.disk → IsLawful facts s.disk) → Fits facts (record { replica = h; store = s }) → s.failed ≡ false
+pub merge_call : {D : Type 0} {failure_told : Bool} (facts : Ghosts D) (h next : Held) (s : StoreHeld D) (peer : ℕ) (op : Op) (m : Merged)
+    → (facts.tells s.disk → IsLawful facts s.disk) → Fits facts (parts h s failure_told) → failure_told ≡ false
     → merge_alone h.replica (alone h) op ≡ answer_of m
-    → (m ≡ merged_as.Applied → has_record_room (stored h (version_at h s) (commit_of h s)) (op ∷ []) ≡ true) → next ≡ after_merge m h peer op → IsSound next
-    → IsCall facts (merge peer op) (answer_of m) (record { replica = h; store = s }) (record { replica = next; store = s })
-merge_call facts h next s peer op merged_as.Applied lawful fits works answer room is sound =
+    → (m ≡ merged_as.Applied → has_record_room (stored h s.failed (version_at h s) (commit_of h s)) (op ∷ []) ≡ true) → next ≡ after_merge m h peer op → IsSound next
+    → IsCall facts (merge peer op) (answer_of m) (parts h s failure_told) (parts next s failure_told)
+merge_call {failure_told = failure_told} facts h next s peer op merged_as.Applied lawful fits quiet answer room is sound =
     rw is (
     let kept = grows_merge h peer op in
-    quiet_call facts (merge peer op) applied (record { replica = h; store = s }) (record { replica = with_merge h peer op; store = s }) refl lawful
+    quiet_call facts (merge peer op) applied (parts h s failure_told) (parts (with_merge h peer op) s failure_told) refl lawful
     (fits_grown facts h (with_merge h peer op) s fits (rw is at sound) kept) refl
-    (rw works (merge_step h (with_merge h peer op) peer op merged_as.Applied (version_at h s) (commit_of h s) answer room refl))
+    (rw quiet (merge_step h (with_merge h peer op) peer op merged_as.Applied s.failed (version_at h s) (commit_of h s) answer room refl))
     kept.more kept.list refl (omega arith) refl (counts_same facts _ s refl refl) refl
     )
-merge_call facts h next s peer op merged_as.Known lawful fits works answer room is sound =
+merge_call {failure_told = failure_told} facts h next s peer op merged_as.Known lawful fits quiet answer room is sound =
     rw is (
     let kept = grows_same h in
-    quiet_call facts (merge peer op) known (record { replica = h; store = s }) (record { replica = h; store = s }) refl lawful fits refl
-    (rw works (merge_step h h peer op merged_as.Known (version_at h s) (commit_of h s) answer room refl))
+    quiet_call facts (merge peer op) known (parts h s failure_told) (parts h s failure_told) refl lawful fits refl
+    (rw quiet (merge_step h h peer op merged_as.Known s.failed (version_at h s) (commit_of h s) answer room refl))
     kept.more kept.list refl (omega arith) refl (counts_same facts _ s refl refl) refl
     )
-merge_call facts h next s peer op merged_as.Early lawful fits works answer room is sound =
+merge_call {failure_told = failure_told} facts h next s peer op merged_as.Early lawful fits quiet answer room is sound =
     rw is (
     let kept = grows_same h in
-    quiet_call facts (merge peer op) early (record { replica = h; store = s }) (record { replica = h; store = s }) refl lawful fits refl
-    (rw works (merge_step h h peer op merged_as.Early (version_at h s) (commit_of h s) answer room refl))
+    quiet_call facts (merge peer op) early (parts h s failure_told) (parts h s failure_told) refl lawful fits refl
+    (rw quiet (merge_step h h peer op merged_as.Early s.failed (version_at h s) (commit_of h s) answer room refl))
     kept.more kept.list refl (omega arith) refl (counts_same facts _ s refl refl) refl
     )
 
 -- a merge that is refused
-pub merge_call_refused : {D : Type 0} (facts : Ghosts D) (h : Held) (s : StoreHeld D) (peer : ℕ) (op : Op) (n : ℕ)
-    → (facts.tells s.disk → IsLawful facts s.disk) → Fits facts (record { replica = h; store = s }) → s.failed ≡ false
-    → IsRefusal n (with_room (has_record_room (stored h (version_at h s) (commit_of h s)) (op ∷ [])) (merge_alone h.replica (alone h) op))
-    → IsCall facts (merge peer op) (refused n) (record { replica = h; store = s }) (record { replica = h; store = s })
-merge_call_refused facts h s peer op n lawful fits works answer =
+pub merge_call_refused : {D : Type 0} {failure_told : Bool} (facts : Ghosts D) (h : Held) (s : StoreHeld D) (peer : ℕ) (op : Op) (n : ℕ)
+    → (facts.tells s.disk → IsLawful facts s.disk) → Fits facts (parts h s failure_told) → failure_told ≡ false
+    → IsRefusal n (with_room (has_record_room (stored h s.failed (version_at h s) (commit_of h s)) (op ∷ [])) (merge_alone h.replica (alone h) op))
+    → IsCall facts (merge peer op) (refused n) (parts h s failure_told) (parts h s failure_told)
+merge_call_refused {failure_told = failure_told} facts h s peer op n lawful fits quiet answer =
     let kept = grows_same h in
-    quiet_call facts (merge peer op) (refused n) (record { replica = h; store = s }) (record { replica = h; store = s }) refl lawful fits refl
-    (rw works (merge_step_refused h h peer op n (version_at h s) (commit_of h s) answer refl)) kept.more kept.list refl (omega arith) refl (counts_same facts _ s refl refl) refl
+    quiet_call facts (merge peer op) (refused n) (parts h s failure_told) (parts h s failure_told) refl lawful fits refl
+    (rw quiet (merge_step_refused h h peer op n s.failed (version_at h s) (commit_of h s) answer refl)) kept.more kept.list refl (omega arith) refl (counts_same facts _ s refl refl) refl
 
-pub merge_call_failed : {D : Type 0} (facts : Ghosts D) (h : Held) (s : StoreHeld D) (peer : ℕ) (op : Op)
-    → (facts.tells s.disk → IsLawful facts s.disk) → Fits facts (record { replica = h; store = s }) → s.failed ≡ true
-    → IsCall facts (merge peer op) (refused 9) (record { replica = h; store = s }) (record { replica = h; store = s })
-merge_call_failed facts h s peer op lawful fits failed =
+pub merge_call_failed : {D : Type 0} {failure_told : Bool} (facts : Ghosts D) (h : Held) (s : StoreHeld D) (peer : ℕ) (op : Op)
+    → (facts.tells s.disk → IsLawful facts s.disk) → Fits facts (parts h s failure_told) → failure_told ≡ true
+    → IsCall facts (merge peer op) (refused 9) (parts h s failure_told) (parts h s failure_told)
+merge_call_failed {failure_told = failure_told} facts h s peer op lawful fits is_told =
     let kept = grows_same h in
-    quiet_call facts (merge peer op) (refused 9) (record { replica = h; store = s }) (record { replica = h; store = s }) refl lawful fits refl
-    (rw failed (refl, refl)) kept.more kept.list refl (omega arith) refl (counts_same facts _ s refl refl) refl
+    quiet_call facts (merge peer op) (refused 9) (parts h s failure_told) (parts h s failure_told) refl lawful fits refl
+    (rw is_told (refl, refl)) kept.more kept.list refl (omega arith) refl (counts_same facts _ s refl refl) refl
 
 -- an acknowledgement, also of a hub whose device failed
-pub ack_call : {D : Type 0} (facts : Ghosts D) (h next : Held) (s : StoreHeld D) (t : Ticket) (b : Bool)
-    → (facts.tells s.disk → IsLawful facts s.disk) → Fits facts (record { replica = h; store = s })
+pub ack_call : {D : Type 0} {failure_told : Bool} (facts : Ghosts D) (h next : Held) (s : StoreHeld D) (t : Ticket) (b : Bool)
+    → (facts.tells s.disk → IsLawful facts s.disk) → Fits facts (parts h s failure_told)
     → IsTrue b ↔ (t.end ≤ h.settled) → next ≡ (if b then with_acked h t.end else h) → IsSound next
-    → IsCall facts (ack t) (acknowledged b) (record { replica = h; store = s }) (record { replica = next; store = s })
-ack_call facts h next s t true lawful fits test is sound =
+    → IsCall facts (ack t) (acknowledged b) (parts h s failure_told) (parts next s failure_told)
+ack_call {failure_told = failure_told} facts h next s t true lawful fits test is sound =
     rw is (
     let kept = grows_acked h t.end in
-    quiet_call facts (ack t) (acknowledged true) (record { replica = h; store = s }) (record { replica = with_acked h t.end; store = s }) refl lawful
+    quiet_call facts (ack t) (acknowledged true) (parts h s failure_told) (parts (with_acked h t.end) s failure_told) refl lawful
     (fits_grown facts h (with_acked h t.end) s fits (rw is at sound) kept) refl (test.0 refl, refl) kept.more kept.list refl (omega arith) refl (counts_same facts _ s refl refl) refl
     )
-ack_call facts h next s t false lawful fits test is sound =
+ack_call {failure_told = failure_told} facts h next s t false lawful fits test is sound =
     rw is (
     let kept = grows_same h in
-    quiet_call facts (ack t) (acknowledged false) (record { replica = h; store = s }) (record { replica = h; store = s }) refl lawful fits refl
+    quiet_call facts (ack t) (acknowledged false) (parts h s failure_told) (parts h s failure_told) refl lawful fits refl
     (unsettled test.1, refl) kept.more kept.list refl (omega arith) refl (counts_same facts _ s refl refl) refl
     )
   where
@@ -189,54 +190,54 @@ ack_call facts h next s t false lawful fits test is sound =
     unsettled none = grind (arith, nat_tests)
 
 -- a telling of operations
-pub tell_call : {D : Type 0} (facts : Ghosts D) (h next : Held) (s : StoreHeld D) (c : List (ℕ × ℕ)) (ops : List Op)
-    → (facts.tells s.disk → IsLawful facts s.disk) → Fits facts (record { replica = h; store = s })
+pub tell_call : {D : Type 0} {failure_told : Bool} (facts : Ghosts D) (h next : Held) (s : StoreHeld D) (c : List (ℕ × ℕ)) (ops : List Op)
+    → (facts.tells s.disk → IsLawful facts s.disk) → Fits facts (parts h s failure_told)
     → ops ≡ untold c (alone h) → next ≡ with_told h (reach 64 c (take h.settled h.list)) → IsSound next
-    → IsCall facts (tell c) (operations ops) (record { replica = h; store = s }) (record { replica = next; store = s })
-tell_call facts h next s c ops lawful fits are is sound =
+    → IsCall facts (tell c) (operations ops) (parts h s failure_told) (parts next s failure_told)
+tell_call {failure_told = failure_told} facts h next s c ops lawful fits are is sound =
     rw is (
     let n = reach 64 c (take h.settled h.list) in
     let kept = grows_told h n in
-    quiet_call facts (tell c) (operations ops) (record { replica = h; store = s }) (record { replica = with_told h n; store = s }) refl lawful
+    quiet_call facts (tell c) (operations ops) (parts h s failure_told) (parts (with_told h n) s failure_told) refl lawful
     (fits_grown facts h (with_told h n) s fits (rw is at sound) kept) refl (are, refl) kept.more kept.list refl (omega arith) refl (counts_same facts _ s refl refl) refl
     )
 
 -- a telling of the clock
-pub have_call : {D : Type 0} (facts : Ghosts D) (h next : Held) (s : StoreHeld D) (c : List (ℕ × ℕ))
-    → (facts.tells s.disk → IsLawful facts s.disk) → Fits facts (record { replica = h; store = s })
+pub have_call : {D : Type 0} {failure_told : Bool} (facts : Ghosts D) (h next : Held) (s : StoreHeld D) (c : List (ℕ × ℕ))
+    → (facts.tells s.disk → IsLawful facts s.disk) → Fits facts (parts h s failure_told)
     → c ≡ clock_of (take h.settled h.list) → next ≡ with_told h h.settled → IsSound next
-    → IsCall facts have (clock c) (record { replica = h; store = s }) (record { replica = next; store = s })
-have_call facts h next s c lawful fits is_clock is sound =
+    → IsCall facts have (clock c) (parts h s failure_told) (parts next s failure_told)
+have_call {failure_told = failure_told} facts h next s c lawful fits is_clock is sound =
     rw is (
     let kept = grows_told h h.settled in
-    quiet_call facts have (clock c) (record { replica = h; store = s }) (record { replica = with_told h h.settled; store = s }) refl lawful
+    quiet_call facts have (clock c) (parts h s failure_told) (parts (with_told h h.settled) s failure_told) refl lawful
     (fits_grown facts h (with_told h h.settled) s fits (rw is at sound) kept) refl (is_clock, refl) kept.more kept.list refl (omega arith) refl (counts_same facts _ s refl refl) refl
     )
 
 -- either of them refused for want of memory
-pub tell_call_refused : {D : Type 0} (facts : Ghosts D) (h : Held) (s : StoreHeld D) (c : List (ℕ × ℕ))
-    → (facts.tells s.disk → IsLawful facts s.disk) → Fits facts (record { replica = h; store = s })
-    → IsCall facts (tell c) (refused 1) (record { replica = h; store = s }) (record { replica = h; store = s })
-tell_call_refused facts h s c lawful fits =
+pub tell_call_refused : {D : Type 0} {failure_told : Bool} (facts : Ghosts D) (h : Held) (s : StoreHeld D) (c : List (ℕ × ℕ))
+    → (facts.tells s.disk → IsLawful facts s.disk) → Fits facts (parts h s failure_told)
+    → IsCall facts (tell c) (refused 1) (parts h s failure_told) (parts h s failure_told)
+tell_call_refused {failure_told = failure_told} facts h s c lawful fits =
     let kept = grows_same h in
-    quiet_call facts (tell c) (refused 1) (record { replica = h; store = s }) (record { replica = h; store = s }) refl lawful fits refl (refl, refl) kept.more
+    quiet_call facts (tell c) (refused 1) (parts h s failure_told) (parts h s failure_told) refl lawful fits refl (refl, refl) kept.more
     kept.list refl (omega arith) refl (counts_same facts _ s refl refl) refl
 
-pub have_call_refused : {D : Type 0} (facts : Ghosts D) (h : Held) (s : StoreHeld D)
-    → (facts.tells s.disk → IsLawful facts s.disk) → Fits facts (record { replica = h; store = s })
-    → IsCall facts have (refused 1) (record { replica = h; store = s }) (record { replica = h; store = s })
-have_call_refused facts h s lawful fits =
+pub have_call_refused : {D : Type 0} {failure_told : Bool} (facts : Ghosts D) (h : Held) (s : StoreHeld D)
+    → (facts.tells s.disk → IsLawful facts s.disk) → Fits facts (parts h s failure_told)
+    → IsCall facts have (refused 1) (parts h s failure_told) (parts h s failure_told)
+have_call_refused {failure_told = failure_told} facts h s lawful fits =
     let kept = grows_same h in
-    quiet_call facts have (refused 1) (record { replica = h; store = s }) (record { replica = h; store = s }) refl lawful fits refl (refl, refl) kept.more
+    quiet_call facts have (refused 1) (parts h s failure_told) (parts h s failure_told) refl lawful fits refl (refl, refl) kept.more
     kept.list refl (omega arith) refl (counts_same facts _ s refl refl) refl
 
 -- an edit, and a merge, keep what a hub keeps
-pub edit_kept : {D : Type 0} (facts : Ghosts D) (h next : Held) (s : StoreHeld D) (session : ℕ) (e : Edit) → Fits facts (record { replica = h; store = s })
-    → next ≡ with_edit h session e → IsSound next → Fits facts (record { replica = next; store = s })
-edit_kept facts h next s session e fits is sound = fits_grown facts h next s fits sound (rw is (grows_edit h session e))
+pub edit_kept : {D : Type 0} {failure_told : Bool} (facts : Ghosts D) (h next : Held) (s : StoreHeld D) (session : ℕ) (e : Edit) → Fits facts (parts h s failure_told)
+    → next ≡ with_edit h session e → IsSound next → Fits facts (parts next s failure_told)
+edit_kept {failure_told = failure_told} facts h next s session e fits is sound = fits_grown facts h next s fits sound (rw is (grows_edit h session e))
 
-pub merge_kept : {D : Type 0} (facts : Ghosts D) (h next : Held) (s : StoreHeld D) (peer : ℕ) (op : Op) (m : Merged)
-    → Fits facts (record { replica = h; store = s }) → next ≡ after_merge m h peer op → IsSound next → Fits facts (record { replica = next; store = s })
-merge_kept facts h next s peer op merged_as.Applied fits is sound = fits_grown facts h next s fits sound (rw is (grows_merge h peer op))
-merge_kept facts h next s peer op merged_as.Known fits is sound = fits_grown facts h next s fits sound (rw is (grows_same h))
-merge_kept facts h next s peer op merged_as.Early fits is sound = fits_grown facts h next s fits sound (rw is (grows_same h))
+pub merge_kept : {D : Type 0} {failure_told : Bool} (facts : Ghosts D) (h next : Held) (s : StoreHeld D) (peer : ℕ) (op : Op) (m : Merged)
+    → Fits facts (parts h s failure_told) → next ≡ after_merge m h peer op → IsSound next → Fits facts (parts next s failure_told)
+merge_kept {failure_told = failure_told} facts h next s peer op merged_as.Applied fits is sound = fits_grown facts h next s fits sound (rw is (grows_merge h peer op))
+merge_kept {failure_told = failure_told} facts h next s peer op merged_as.Known fits is sound = fits_grown facts h next s fits sound (rw is (grows_same h))
+merge_kept {failure_told = failure_told} facts h next s peer op merged_as.Early fits is sound = fits_grown facts h next s fits sound (rw is (grows_same h))

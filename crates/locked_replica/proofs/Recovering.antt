@@ -93,16 +93,16 @@ survivor_has_settled facts hub file fits told survives =
     at_least hub.store.phase hub.replica hub.store.current hub.store.next file fits.live fits.commit (survivor_has facts hub file fits told survives)
 
 -- the machine's state with this commit and version
-abbrev state_at : Held → Bool → ℕ → Option Commit → State
-state_at h failed version commit = record (stored h version commit) { failed = failed }
+abbrev state_at : Held → Bool → Bool → ℕ → Option Commit → State
+state_at h failed failure_told version commit = record (stored h failed version commit) { failure_told = failure_told }
 
 -- at rest, a crash leaves the live root's operations
-pub crash_at_rest : (h : Held) (failed : Bool) (live version next : ℕ) → h.settled ≤ live → (h.settled < live → 0 < version)
-    → CrashLeaves (state_at h failed (version_in true h.settled live version) (commit_in true h.settled live next)) (opened (take live h.list) version)
-crash_at_rest h failed live version next settled above = by_test (nat_lt h.settled live) refl
+pub crash_at_rest : (h : Held) (failed failure_told : Bool) (live version next : ℕ) → h.settled ≤ live → (h.settled < live → 0 < version)
+    → CrashLeaves (state_at h failed failure_told (version_in true h.settled live version) (commit_in true h.settled live next)) (opened (take live h.list) version)
+crash_at_rest h failed failure_told live version next settled above = by_test (nat_lt h.settled live) refl
   where
     by_test : (t : Bool) → nat_lt h.settled live ≡ t
-        → CrashLeaves (state_at h failed (if t then version - 1 else version) (if t then Some (record { count = live; through = true }) else None))
+        → CrashLeaves (state_at h failed failure_told (if t then version - 1 else version) (if t then Some (record { count = live; through = true }) else None))
         (opened (take live h.list) version)
     by_test true is =
         let some = above (ltb-true _ _ is) in
@@ -113,13 +113,13 @@ crash_at_rest h failed live version next settled above = by_test (nat_lt h.settl
         ap (λ n. opened (take n h.list) version) same
 
 -- under way, it leaves the live root's operations, which are settled, or the next one's
-pub crash_under_way : (h : Held) (failed : Bool) (live version next : ℕ) (file : List ℕ) → h.settled ≡ live
-    → CrashLeaves (state_at h failed (version_in false h.settled live version) (commit_in false h.settled live next)) (opened (take live h.list) version)
-crash_under_way h failed live version next file same = inl (ap (λ n. opened (take n h.list) version) (sym same))
+pub crash_under_way : (h : Held) (failed failure_told : Bool) (live version next : ℕ) (file : List ℕ) → h.settled ≡ live
+    → CrashLeaves (state_at h failed failure_told (version_in false h.settled live version) (commit_in false h.settled live next)) (opened (take live h.list) version)
+crash_under_way h failed failure_told live version next file same = inl (ap (λ n. opened (take n h.list) version) (sym same))
 
-pub crash_next : (h : Held) (failed : Bool) (live version next after : ℕ) (file : List ℕ) → after ≡ version + 1
-    → CrashLeaves (state_at h failed (version_in false h.settled live version) (commit_in false h.settled live next)) (opened (take next h.list) after)
-crash_next h failed live version next after file same = inr (ap (λ v. opened (take next h.list) v) same)
+pub crash_next : (h : Held) (failed failure_told : Bool) (live version next after : ℕ) (file : List ℕ) → after ≡ version + 1
+    → CrashLeaves (state_at h failed failure_told (version_in false h.settled live version) (commit_in false h.settled live next)) (opened (take next h.list) after)
+crash_next h failed failure_told live version next after file same = inr (ap (λ v. opened (take next h.list) v) same)
 
 -- what is opened from a file with such an image is what the machine's crash leaves
 crash_recovered : {D : Type 0} (facts : Ghosts D) (hub : Parts D) (file : List ℕ) → Fits facts hub → Recovers hub file → IsCrash hub file
@@ -137,14 +137,14 @@ crash_recovered {D} facts hub file fits recovered = by_phase hub.store.phase fit
           version = version_of hub.store.current.body;
           count = committed hub.store;
           image = image;
-          leaves = crash_at_rest h hub.store.failed (committed hub.store) (version_of hub.store.current.body) (count_of hub.store.next.body) commit.settled commit.version;
+          leaves = crash_at_rest h hub.store.failed hub.failure_told (committed hub.store) (version_of hub.store.current.body) (count_of hub.store.next.body) commit.settled commit.version;
         }
 
     under_way : IsUnderWay h hub.store.current hub.store.next
-        → CrashLeaves (state_at h hub.store.failed (version_in false h.settled (committed hub.store) (version_of hub.store.current.body)) (commit_in false h.settled (committed hub.store) (count_of hub.store.next.body)))
+        → CrashLeaves (state_at h hub.store.failed hub.failure_told (version_in false h.settled (committed hub.store) (version_of hub.store.current.body)) (commit_in false h.settled (committed hub.store) (count_of hub.store.next.body)))
         (opened (take (committed hub.store) h.list) (version_of hub.store.current.body))
     under_way commit =
-        crash_under_way h hub.store.failed (committed hub.store) (version_of hub.store.current.body) (count_of hub.store.next.body) file commit.settled
+        crash_under_way h hub.store.failed hub.failure_told (committed hub.store) (version_of hub.store.current.body) (count_of hub.store.next.body) file commit.settled
 
     current_of : (phase : Phase) → HasRootOf h hub.store.current file
         → CrashLeaves (state_of (with_phase phase)) (opened (take (committed hub.store) h.list) (version_of hub.store.current.body)) → IsCrash (with_phase phase) file
@@ -158,7 +158,7 @@ crash_recovered {D} facts hub file fits recovered = by_phase hub.store.phase fit
           count = count_of hub.store.next.body;
           image = image;
           leaves =
-              crash_next h hub.store.failed (committed hub.store) (version_of hub.store.current.body) (count_of hub.store.next.body) _ file commit.version;
+              crash_next h hub.store.failed hub.failure_told (committed hub.store) (version_of hub.store.current.body) (count_of hub.store.next.body) _ file commit.version;
         }
 
     by_phase : (phase : Phase) → Commits (is_idle phase) h hub.store.current hub.store.next

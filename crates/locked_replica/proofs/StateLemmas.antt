@@ -1,8 +1,8 @@
 -- The machine's state of a hub, by the tests that decide on it.
-use Rattle.std.proofs.Common.{◌≡◌, ◌≢◌, ℕ, Bool, true, false, not, ◌&&◌, nat_lt, nat_le, length, refl, sym, ap, ◌∙◌, arith, inl, inr, Option, Some, None, Result, Ok, Err}
+use Rattle.std.proofs.Common.{◌≡◌, ◌≢◌, ℕ, Bool, true, false, not, ◌&&◌, ◌||◌, nat_lt, nat_le, length, refl, sym, ap, ◌∙◌, arith, inl, inr, Option, Some, None, Result, Ok, Err}
 use Rattle.std.specs.Prelude.{if◌then◌else◌, is_some}
 use Rattle.std.proofs.lemmas.Bool.Decides.{nat_tests}
-use Rattle.op_model.specs.Machine.{State, Answer, begun, nothing_new, refused, begin_answer, through_of, is_under_way, BeginStep}
+use Rattle.op_model.specs.Machine.{State, Answer, begun, nothing_new, refused, begin_answer, with_failure_told, through_of, is_under_way, BeginStep}
 use Rattle.replica_core.specs.Held.{Held, stored}
 use Rattle.group_commit.specs.Begin.{is_none, has_room, IsAnswer}
 use Rattle.group_commit.specs.Errors.{number_of}
@@ -12,9 +12,16 @@ use Rattle.locked_replica.specs.Hub.{commit_in, version_in}
 use Rattle.locked_replica.specs.Steps.{begun_of}
 
 -- the state with these tests and numbers
-abbrev pub state_with : Held → Bool → Bool → ℕ → ℕ → ℕ → State
-state_with h failed idle live next version =
-    record (stored h (version_in idle h.settled live version) (commit_in idle h.settled live next)) { failed = failed }
+abbrev pub state_with : Held → Bool → Bool → Bool → ℕ → ℕ → ℕ → State
+state_with h failed failure_told idle live next version =
+    record (stored h failed (version_in idle h.settled live version) (commit_in idle h.settled live next)) { failure_told = failure_told }
+
+-- a refusal tells nothing where the device works
+pub tells_none : (s : State) → s.failed ≡ false → with_failure_told s ≡ s
+tells_none s works = ap (λ b. record s { failure_told = b }) same
+  where
+    same : (s.failed || s.failure_told) ≡ s.failure_told
+    same = rw works refl
 
 -- no commit is through where none is at rest with more than is settled
 pub not_through : (idle : Bool) (settled live next : ℕ) → (idle && nat_lt settled live) ≡ false → through_of (commit_in idle settled live next) ≡ None
@@ -63,10 +70,10 @@ not_not true = refl
 not_not false = refl
 
 -- the machine's answer to a begin is what is due of the store
-pub begin_as_due : (h : Held) (idle none room : Bool) (live next version n : ℕ) → (idle && nat_lt h.settled live) ≡ false
+pub begin_as_due : (h : Held) (failure_told idle none room : Bool) (live next version n : ℕ) → (idle && nat_lt h.settled live) ≡ false
     → nat_le (length h.list) h.settled ≡ none → (idle ≡ true → room ≡ nat_lt version 18446744073709551615) → (idle ≡ true → n ≡ length h.list)
-    → begin_answer (state_with h false idle live next version) ≡ answer_due (due_by idle none room n)
-begin_as_due h idle none room live next version n resting is_none has_room is_all =
+    → begin_answer (state_with h false failure_told idle live next version) ≡ answer_due (due_by idle none room n)
+begin_as_due h failure_told idle none room live next version n resting is_none has_room is_all =
     rw (is_busy idle h.settled live next resting, as_made idle h.settled live version resting, is_none, last_version version 18446744073709551615) (by_idle idle has_room is_all)
   where
     by_idle : (idle : Bool) → (idle ≡ true → room ≡ nat_lt version 18446744073709551615) → (idle ≡ true → n ≡ length h.list)
@@ -77,21 +84,21 @@ begin_as_due h idle none room live next version n resting is_none has_room is_al
         ∙ ap (λ room. answer_due (due_by true none room (length h.list))) (not_not (nat_lt version 18446744073709551615)))
 
 -- a begin with an answer that may be given
-pub begin_step : (old new : State) (due answer : Result (Option ℕ) StoreError) → begin_answer old ≡ answer_due due → IsAnswer due answer
+pub begin_step : (old new : State) (due answer : Result (Option ℕ) StoreError) → old.failed ≡ false → begin_answer old ≡ answer_due due → IsAnswer due answer
     → ((n : ℕ) → answer ≡ Ok (Some n) → new ≡ record old { commit = Some (record { count = n; through = false }) })
     → (((n : ℕ) → answer ≢ Ok (Some n)) → new ≡ old)
     → BeginStep old (answer_due answer) new
-begin_step old new due (Ok (Some n)) is (inl same) began stays = (is ∙ ap answer_due (sym same), began n refl)
-begin_step old new due (Ok (Some n)) is (inr want) began stays = absurd (cc)
-begin_step old new due (Ok None) is (inl same) began stays = (is ∙ ap answer_due (sym same), stays (λ n resting. absurd (cc)))
-begin_step old new due (Ok None) is (inr want) began stays = absurd (cc)
-begin_step old new due (Err e) is (inl same) began stays =
-    (rw (is, sym same) refl, stays (λ n resting. absurd (cc)))
-begin_step old new (Ok (Some n)) (Err e) is (inr want) began stays =
+begin_step old new due (Ok (Some n)) works is (inl same) began stays = (is ∙ ap answer_due (sym same), began n refl)
+begin_step old new due (Ok (Some n)) works is (inr want) began stays = absurd (cc)
+begin_step old new due (Ok None) works is (inl same) began stays = (is ∙ ap answer_due (sym same), stays (λ n resting. absurd (cc)))
+begin_step old new due (Ok None) works is (inr want) began stays = absurd (cc)
+begin_step old new due (Err e) works is (inl same) began stays =
+    (rw (is, sym same) refl, stays (λ n resting. absurd (cc)) ∙ sym (tells_none old works))
+begin_step old new (Ok (Some n)) (Err e) works is (inr want) began stays =
     let memory : e ≡ Memory = cc in
-    (rw (is, memory) refl, stays (λ n resting. absurd (cc)))
-begin_step old new (Ok None) (Err e) is (inr want) began stays = absurd (want.1)
-begin_step old new (Err d) (Err e) is (inr want) began stays = absurd (want.1)
+    (rw (is, memory) refl, stays (λ n resting. absurd (cc)) ∙ sym (tells_none old works))
+begin_step old new (Ok None) (Err e) works is (inr want) began stays = absurd (want.1)
+begin_step old new (Err d) (Err e) works is (inr want) began stays = absurd (want.1)
 
 -- there is a commit where one is through
 pub has_commit : (idle : Bool) (settled live next : ℕ) → (idle && nat_lt settled live) ≡ true → is_some (commit_in idle settled live next) ≡ true

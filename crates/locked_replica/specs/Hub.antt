@@ -6,10 +6,11 @@ use Rattle.replica_core.specs.Held.{stored, Held as ReplicaHeld}
 use Rattle.group_commit.specs.Begin.{is_idle}
 use Rattle.group_commit.specs.Held.{Held as StoreHeld}
 
--- what its replica and its store hold
+-- what its replica and its store hold, and whether a meeting of the two has told a failure of the device
 pub record Parts (D : Type 0) : Type 0 where
   pub replica : ReplicaHeld
   pub store : StoreHeld D
+  pub failure_told : Bool
 
 -- how many operations the live root has
 abbrev pub committed : {D : Type 0} → StoreHeld D → ℕ
@@ -39,4 +40,5 @@ version_at replica store = version_in (is_idle store.phase) replica.settled (com
 
 -- the machine's state
 abbrev pub state_of : {D : Type 0} → Parts D → State
-state_of hub = record (stored hub.replica (version_at hub.replica hub.store) (commit_of hub.replica hub.store)) { failed = hub.store.failed }
+state_of hub =
+    record (stored hub.replica hub.store.failed (version_at hub.replica hub.store) (commit_of hub.replica hub.store)) { failure_told = hub.failure_told }

@@ -32,6 +32,7 @@ impl<D: Disk> Hub<D> {
         ensures call { IsCall D.DiskFacts begin_event (begin_answered result) self.old self.new }
     {
         if self.store.has_failed() {
+            self.failure_told = true;
             return Err(HubRefusal::Store(StoreError::Failed));
         }
         if self.is_through() {
@@ -78,6 +79,7 @@ impl<D: Disk> Hub<D> {
         ensures store { self.new.store ≡ self.old.store }
     {
         if self.store.has_failed() {
+            self.failure_told = true;
             return Err(HubRefusal::Store(StoreError::Failed));
         }
         if !self.is_through() {

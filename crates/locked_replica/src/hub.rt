@@ -13,6 +13,8 @@ use std::marker::Model;
 pub struct Hub<D: Disk> {
     pub(crate) replica: Replica,
     pub(crate) store: Store<D>,
+    /// Whether a refused `begin` or `settle` has told that the device failed.
+    pub(crate) failure_told: bool,
 }
 
 impl<D: Disk> Model for Hub<D> {
@@ -21,10 +23,15 @@ impl<D: Disk> Model for Hub<D> {
 
     ghost Value = { Parts D };
 
-    ghost view = { λ hub. record { replica = hub.replica; store = hub.store } };
+    ghost view = { λ hub. record {
+      replica = hub.replica;
+      store = hub.store;
+      failure_told = hub.failure_told;
+    } };
 
     ghost invariant = { λ hub. Fits D.DiskFacts (record {
       replica = hub.replica;
       store = hub.store;
+      failure_told = hub.failure_told;
     }) };
 }

@@ -37,7 +37,11 @@ impl<D: Disk> Hub<D> {
         match recovery::open(alloc, disk) {
             Ok(Opened { replica, store }) => {
                 let _list = replica.list();
-                Ok(Hub { replica, store })
+                Ok(Hub {
+                    replica,
+                    store,
+                    failure_told: false,
+                })
             }
             Err(fault) => Err(fault),
         }

@@ -15,7 +15,8 @@ use replica_core::{Merged, Ticket};
 
 impl<D: Disk> Hub<D> {
     /// Makes the operations of a session's edit and puts them behind the list; they aren't settled
-    /// yet. Refuses, in this order, with 9 where the device failed, as `Replica::edit` does (6, 5,
+    /// yet. Refuses, in this order, with 9 where a refused `begin` or
+    /// `settle` has told that the device failed, as `Replica::edit` does (6, 5,
     /// 7, 10), with 8 where the records have no room behind those that wait for a commit (1,048,576
     /// bytes), and with 1 for want of memory. A refused edit changes nothing. Costs what
     /// `Replica::edit` does.
@@ -24,7 +25,7 @@ impl<D: Disk> Hub<D> {
             self.old self.new }
         ensures store { self.new.store ≡ self.old.store }
     {
-        if self.store.has_failed() {
+        if self.failure_told {
             return Err(HubRefusal::Failed);
         }
         let bytes = match self.replica.edit_length(edit) {
@@ -43,7 +44,8 @@ impl<D: Disk> Hub<D> {
     }
 
     /// Puts a peer's operation behind the list, or says that it is there already or comes early.
-    /// Refuses, in this order, with 9 where the device failed, as `Replica::merge` does (20 to 24,
+    /// Refuses, in this order, with 9 where a refused `begin` or
+    /// `settle` has told that the device failed, as `Replica::merge` does (20 to 24,
     /// 10), with 8 where the record has no room behind those that wait for a commit (1,048,576
     /// bytes), and with 1 for want of memory. A refused merge changes nothing. Costs what
     /// `Replica::merge` does.
@@ -52,7 +54,7 @@ impl<D: Disk> Hub<D> {
             self.old self.new }
         ensures store { self.new.store ≡ self.old.store }
     {
-        if self.store.has_failed() {
+        if self.failure_told {
             return Err(HubRefusal::Failed);
         }
         match self.replica.decide_merge(&op) {

@@ -8,7 +8,7 @@ use Rattle.session_threads.specs.declared.begun.Begun.TheVariants.{UnderWay, Set
 use Rattle.locked_replica.specs.Run.{Calls}
 use Rattle.session_threads.specs.HubCalls.{IsQuiet, IsOfCommit, AreOfCommit, AreTimes, CommitCalls, CannotSettle, Begins, with_begun}
 use Rattle.session_threads.proofs.CallLemmas.{Calls-append, one_call, more_calls}
-use Rattle.session_threads.proofs.CommitLemmas.{state_begun, nothing_new_settled, begin_refused}
+use Rattle.session_threads.proofs.CommitLemmas.{quiet_has_told, state_begun, nothing_new_settled, begin_refused}
 
 -- a begin that found no memory
 abbrev pub tried : Event × Answer
@@ -32,13 +32,13 @@ module _ {D : Type 0} (facts : Ghosts D) where
   tries_made old between n tries times calls = record { events = tries; calls = calls; only = times_of_commit n tried tries tt times }
 
   pub one_more_try : (old between new : Parts D) (n : ℕ) (tries : List (Event × Answer)) → AreTimes n tried tries
-      → Calls facts old tries between → state_of between ≡ state_of old → IsCall facts begin (refused 1) between new
+      → Calls facts old tries between → state_of between ≡ state_of old → IsQuiet (state_of old) → IsCall facts begin (refused 1) between new
       → (more : List (Event × Answer)) × AreTimes (n + 1) tried more × Calls facts old more new × (state_of new ≡ state_of old)
-  one_more_try old between new n tries times calls same made = (
+  one_more_try old between new n tries times calls same quiet made = (
     tries ++ tried ∷ [],
     AreTimes-more n tried tries times,
     Calls-append facts old between new tries (tried ∷ []) calls (one_call facts between new begin (refused 1) made),
-    made.step.1 ∙ same,
+    made.step.1 ∙ quiet_has_told (state_of between) (subst IsQuiet (sym same) quiet) ∙ same,
   )
 
   pub begins_under_way : (old between new : Parts D) (n m : ℕ) (tries : List (Event × Answer)) → AreTimes n tried tries
@@ -69,14 +69,16 @@ module _ {D : Type 0} (facts : Ghosts D) where
   pub begins_refused : (old between new : Parts D) (n m : ℕ) (tries : List (Event × Answer)) → AreTimes n tried tries
       → Calls facts old tries between → state_of between ≡ state_of old → IsQuiet (state_of old)
       → IsCall facts begin (refused m) between new → (m ≡ 1 → ⊥) → Begins facts old Refused new
-  begins_refused old between new n m tries times calls same quiet made other = record {
-    calls = more_calls facts old between new begin (refused m) (tries_made old between n tries times calls) tt made;
-    ends = (
-      made.step.1 ∙ same,
-      cannot old between new m tries made.step.1
-          (begin_refused (state_of between) (state_of new) m (subst IsQuiet (sym same) quiet) made.step other),
-    );
-  }
+  begins_refused old between new n m tries times calls same quiet made other =
+      let was_quiet = subst IsQuiet (sym same) quiet in
+      let stays = made.step.1 ∙ quiet_has_told (state_of between) was_quiet in
+      record {
+        calls = more_calls facts old between new begin (refused m) (tries_made old between n tries times calls) tt made;
+        ends = (
+          stays ∙ same,
+          cannot old between new m tries stays (begin_refused (state_of between) (state_of new) m was_quiet made.step other),
+        );
+      }
 
   pub begins_never : (old new : Parts D) (n : ℕ) (tries : List (Event × Answer)) → AreTimes n tried tries
       → Calls facts old tries new → state_of new ≡ state_of old → n ≡ 1000 → Begins facts old Refused new

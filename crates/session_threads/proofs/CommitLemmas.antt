@@ -1,12 +1,26 @@
 -- The machine's steps of a commit that is begun where none is under way.
-use Rattle.std.proofs.Common.{◌≡◌, ◌⊎◌, ℕ, ◌≤◌, Bool, true, false, List, length, Option, Some, None, refl, sym, ap, ◌∙◌, subst, inl, inr, arith}
+use Rattle.std.proofs.Common.{◌≡◌, ◌⊎◌, ℕ, ◌≤◌, ◌||◌, Bool, true, false, List, length, Option, Some, None, refl, sym, ap, ◌∙◌, subst, inl, inr, arith}
 use Rattle.std.proofs.lemmas.Bool.Decides.{nat_tests}
 use Rattle.std.specs.Prelude.{is_some, nat_le, if◌then◌else◌}
-use Rattle.op_model.specs.Machine.{State, Commit, Answer, begun, nothing_new, refused, settled_to, idle, goes_on, goes_through, begin_answer, BeginStep, DeviceStep, SettleStep, settle_answer, IsRefusal, is_under_way, with_settled}
+use Rattle.op_model.specs.Machine.{State, Commit, Answer, begun, nothing_new, refused, settled_to, idle, goes_on, goes_through, begin_answer, BeginStep, DeviceStep, SettleStep, settle_answer, IsRefusal, is_under_way, with_settled, with_failure_told}
 use Rattle.group_commit.specs.declared.phase.Phase.{Phase}
 use Rattle.group_commit.specs.declared.phase.Phase.TheVariants.{Idle, Pages, Close, Sync1, Body, Sync2, Gate, Sync3}
 use Rattle.locked_replica.specs.Steps.{stepped_in}
-use Rattle.session_threads.specs.HubCalls.{IsQuiet, with_begun, with_through}
+use Rattle.session_threads.specs.HubCalls.{IsQuiet, IsQuietBy, with_begun, with_through}
+
+-- ---- a failure
+
+-- a quiet state has told its failure
+pub quiet_has_told : (s : State) → IsQuiet s → with_failure_told s ≡ s
+quiet_has_told s quiet = ap (λ b. record s { failure_told = b }) (by_device s.failed s.failure_told s.commit quiet)
+  where
+    by_device : (failed told : Bool) (commit : Option Commit) → IsQuietBy failed told commit → (failed || told) ≡ told
+    by_device false told commit quiet = refl
+    by_device true told commit quiet = sym quiet
+
+-- and where the device works it has no commit
+pub quiet_has_none : (s : State) → IsQuiet s → s.failed ≡ false → s.commit ≡ None
+quiet_has_none s quiet works = rw works at quiet
 
 -- ---- begin
 
@@ -51,7 +65,7 @@ nothing_new_settled s next (answer, is) =
 
 pub begin_refused : (s next : State) (n : ℕ) → IsQuiet s → BeginStep s (refused n) next → (n ≡ 1 → ⊥) → (s.failed ≡ true) ⊎ (n ≡ 7)
 begin_refused s next n quiet (due, is) other =
-    refused_by s.failed (is_some s.commit) _ _ (length s.list) n (λ works. ap is_some (quiet works)) due other
+    refused_by s.failed (is_some s.commit) _ _ (length s.list) n (λ works. ap is_some (quiet_has_none s quiet works)) due other
 
 -- ---- device calls
 
@@ -92,5 +106,13 @@ state_settled s next n works (answer, is) =
 pub never_refused : (s next : State) (n : ℕ) → s.failed ≡ false → SettleStep (with_through (with_begun s)) (refused n) next → ⊥
 never_refused s next n works (answer, is) = let same : settled_to (length s.list) ≡ refused n = sym (due s works) ∙ answer in cc
 
-pub settled_is_quiet : (s next : State) → next ≡ all_settled s → IsQuiet next
-settled_is_quiet s next is = subst IsQuiet (sym is) (λ works. refl)
+pub settled_is_quiet : (s next : State) → s.failed ≡ false → next ≡ all_settled s → IsQuiet next
+settled_is_quiet s next works is = subst IsQuiet (sym is) (rw works refl)
+
+-- a settlement of a device that failed tells it, and settles nothing
+pub failure_is_told : (s next : State) (n : ℕ) → s.failed ≡ true → SettleStep s (refused n) next → (next.failed ≡ true) × IsQuiet next
+failure_is_told s next n failed (answer, is) =
+    (ap (λ t. t.failed) is ∙ failed, subst IsQuiet (sym is) (rw failed refl))
+
+pub settles_nothing : (s next : State) (n : ℕ) → s.failed ≡ true → SettleStep s (settled_to n) next → ⊥
+settles_nothing s next n failed (answer, is) = let same : refused 44 ≡ settled_to n = rw failed at answer in cc

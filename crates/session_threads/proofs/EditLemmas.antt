@@ -31,16 +31,16 @@ by_room false (ticket t) n other is = rw is refl
 by_room false applied n other is = rw is refl
 by_room false answer n other is = other is
 
-by_device : (failed room : Bool) (answer : Answer) (n : ℕ) → (IsRefusal n answer → IsTrue (is_edit_refusal n))
-    → IsRefusal n (if failed then refused 9 else with_room room answer) → IsTrue (is_edit_refusal n)
-by_device true room answer n other is = rw is refl
-by_device false room answer n other is = by_room room answer n other is
+by_telling : (told room : Bool) (answer : Answer) (n : ℕ) → (IsRefusal n answer → IsTrue (is_edit_refusal n))
+    → IsRefusal n (if told then refused 9 else with_room room answer) → IsTrue (is_edit_refusal n)
+by_telling true room answer n other is = rw is refl
+by_telling false room answer n other is = by_room room answer n other is
 
 -- the machine refuses an edit with one of these numbers
 pub edit_refusals : (replica : ℕ) (s next : State) (session : ℕ) (e : Edit) (n : ℕ)
     → EditStep replica s session e (refused n) next → IsTrue (is_edit_refusal n)
 edit_refusals replica s next session e n (is, same) =
-    by_device s.failed (has_record_room s (made s.list replica e)) (edit_alone replica s e) n
+    by_telling s.failure_told (has_record_room s (made s.list replica e)) (edit_alone replica s e) n
     (by_cause replica s e (edit_refusal s.list replica e) n (of_tests _ _ _)) is
 
 -- ---- a ticket
@@ -54,20 +54,20 @@ ticket_by_cause : (replica : ℕ) (s : State) (e : Edit) (cause : Option ℕ) (t
 ticket_by_cause replica s e (Some m) t is = let never : ⊥ = cc in absurd never
 ticket_by_cause replica s e None t is = ticket_by_places (has_places s) t _ is
 
-ticket_by_device : (failed room : Bool) (answer : Answer) (t due : Ticket) → (answer ≡ ticket t → t ≡ due)
-    → (if failed then refused 9 else with_room room answer) ≡ ticket t → t ≡ due
-ticket_by_device true room answer t due other is = let never : ⊥ = cc in absurd never
-ticket_by_device false true answer t due other is = other is
-ticket_by_device false false (ticket u) t due other is = let never : ⊥ = cc in absurd never
-ticket_by_device false false applied t due other is = let never : ⊥ = cc in absurd never
-ticket_by_device false false answer t due other is = other is
+ticket_by_telling : (told room : Bool) (answer : Answer) (t due : Ticket) → (answer ≡ ticket t → t ≡ due)
+    → (if told then refused 9 else with_room room answer) ≡ ticket t → t ≡ due
+ticket_by_telling true room answer t due other is = let never : ⊥ = cc in absurd never
+ticket_by_telling false true answer t due other is = other is
+ticket_by_telling false false (ticket u) t due other is = let never : ⊥ = cc in absurd never
+ticket_by_telling false false applied t due other is = let never : ⊥ = cc in absurd never
+ticket_by_telling false false answer t due other is = other is
 
 -- a ticket ends where the list ends
 pub ticket_ends : (replica : ℕ) (s next : State) (session : ℕ) (e : Edit) (t : Ticket)
     → EditStep replica s session e (ticket t) next → t.end ≡ length next.list
 ticket_ends replica s next session e t (answer, is) =
     let due = ticket_of (s.list ++ made s.list replica e) e.doc in
-    let same : t ≡ due = ticket_by_device s.failed (has_record_room s (made s.list replica e)) (edit_alone replica s e) t due (ticket_by_cause replica s e (edit_refusal s.list replica e) t) answer in
+    let same : t ≡ due = ticket_by_telling s.failure_told (has_record_room s (made s.list replica e)) (edit_alone replica s e) t due (ticket_by_cause replica s e (edit_refusal s.list replica e) t) answer in
     ap (λ given. given.end) same ∙ ap (λ state. length state.list) (sym is)
 
 -- an edit begins no commit
@@ -78,6 +78,15 @@ edit_is_quiet replica s next session e t quiet (answer, is) = subst IsQuiet (sym
 pub refused_is_quiet : (replica : ℕ) (s next : State) (session : ℕ) (e : Edit) (n : ℕ) → IsQuiet s
     → EditStep replica s session e (refused n) next → IsQuiet next
 refused_is_quiet replica s next session e n quiet (due, is) = subst IsQuiet (sym is) quiet
+
+-- a quiet state whose device failed answers each edit so, and stays
+pub edit_fails : (replica : ℕ) (s next : State) (session : ℕ) (e : Edit) (answer : Answer) → IsQuiet s → s.failed ≡ true
+    → EditStep replica s session e answer next → (answer ≡ refused 9) × (next ≡ s)
+edit_fails replica s next session e (ticket t) quiet failed (answer, is) =
+    let told : s.failure_told ≡ true = rw failed at quiet in let same : refused 9 ≡ ticket t = rw told at answer in absurd (cc)
+edit_fails replica s next session e (refused n) quiet failed (due, is) =
+    let told : s.failure_told ≡ true = rw failed at quiet in let same : n ≡ 9 = rw told at due in (ap refused same, is)
+edit_fails replica s next session e _ quiet failed step = absurd step
 
 -- ---- an acknowledgement
 

@@ -10,16 +10,13 @@ use Rattle.locked_replica.specs.Steps.{settle_answered, number_of}
 use Rattle.session_threads.specs.declared.begun.Begun.TheVariants.{UnderWay, Settled, Refused}
 use Rattle.session_threads.specs.HubCalls.{IsQuiet, CommitCalls, Begins, GoesThrough, Commits, with_begun, with_through}
 use Rattle.session_threads.proofs.CallLemmas.{more_calls, both_calls}
-use Rattle.session_threads.proofs.CommitLemmas.{state_settled, never_refused, settled_is_quiet}
+use Rattle.session_threads.proofs.CommitLemmas.{state_settled, never_refused, settled_is_quiet, failure_is_told, settles_nothing}
 
 -- what a commit leaves: its calls and their end, no other commit under way, and the list as it was
 pub record Ended {D : Type 0} (facts : Ghosts D) (old : Parts D) (is_settled : Bool) (new : Parts D) : Type 0 where
   pub commits : Commits facts old is_settled new
   pub quiet : IsQuiet (state_of new)
   pub list : new.replica.list ≡ old.replica.list
-
-both : (b : Bool) → b ≡ true → b ≡ false → ⊥
-both b first second = cc
 
 module _ {D : Type 0} (facts : Ghosts D) where
   pub ended_settled : (old new : Parts D) → IsQuiet (state_of old) → Begins facts old Settled new → Ended facts old true new
@@ -41,15 +38,20 @@ module _ {D : Type 0} (facts : Ghosts D) where
       }
 
   -- the device failed in the commit
-  pub ended_wrong : (old between new : Parts D) → Begins facts old UnderWay between → GoesThrough facts between false new
-      → Ended facts old false new
-  ended_wrong old between new begins goes =
+  pub ended_wrong : (old between broken new : Parts D) (answer : Result ℕ HubRefusal) → Begins facts old UnderWay between
+      → GoesThrough facts between false broken → IsCall facts settle (settle_answered answer) broken new → Ended facts old false new
+  ended_wrong old between broken new (Ok n) begins goes made =
+      absurd (settles_nothing (state_of broken) (state_of new) n (ap (λ s. s.failed) goes.ends) made.step)
+  ended_wrong old between broken new (Err e) begins goes made =
       let (works, begun) = begins.ends in
-      let failed : (state_of new).failed ≡ true = ap (λ s. s.failed) goes.ends in
+      let (failed, told) = failure_is_told (state_of broken) (state_of new) (number_of e) (ap (λ s. s.failed) goes.ends) made.step in
       record {
-        commits = record { calls = both_calls facts old between new begins.calls goes.calls; ends = inl failed };
-        quiet = λ still. absurd (both (state_of new).failed failed still);
-        list = ap (λ s. s.list) goes.ends ∙ ap (λ s. s.list) begun;
+        commits = record {
+          calls = more_calls facts old broken new settle (refused (number_of e)) (both_calls facts old between broken begins.calls goes.calls) tt made;
+          ends = inl failed;
+        };
+        quiet = told;
+        list = ap (λ s. s.list) made.step.1 ∙ ap (λ s. s.list) goes.ends ∙ ap (λ s. s.list) begun;
       }
 
   pub ended_through : (old between through new : Parts D) (answer : Result ℕ HubRefusal) → Begins facts old UnderWay between
@@ -65,7 +67,7 @@ module _ {D : Type 0} (facts : Ghosts D) where
           calls = more_calls facts old through new settle (settled_to n) (both_calls facts old between through begins.calls goes.calls) tt made;
           ends = subst (λ s. length s.list ≤ s.settled) (sym after) (omega arith);
         };
-        quiet = settled_is_quiet (state_of old) (state_of new) after;
+        quiet = settled_is_quiet (state_of old) (state_of new) works after;
         list = ap (λ s. s.list) after;
       }
   ended_through old between through new (Err e) begins goes made =

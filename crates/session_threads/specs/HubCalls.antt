@@ -7,9 +7,14 @@ use Rattle.locked_replica.specs.Run.{Calls}
 use Rattle.session_threads.specs.declared.begun.Begun.{Begun}
 use Rattle.session_threads.specs.declared.begun.Begun.TheVariants.{UnderWay, Settled, Refused}
 
--- no commit is under way, unless the device failed
+-- by whether the device failed and that is told: no commit is under way, or the failure is told
+abbrev pub IsQuietBy : Bool → Bool → Option Commit → Type 0
+IsQuietBy false told commit = commit ≡ None
+IsQuietBy true told commit = told ≡ true
+
+-- no commit is under way; or the device failed, and that is told
 abbrev pub IsQuiet : State → Type 0
-IsQuiet s = s.failed ≡ false → s.commit ≡ None
+IsQuiet s = IsQuietBy s.failed s.failure_told s.commit
 
 -- an event of a commit
 abbrev pub IsOfCommit : Event → Type 0

@@ -24,7 +24,12 @@ pub fn commit<D: Disk>(hub: &mut Hub<D>) -> bool
     match begin(hub) {
         Begun::Settled => true,
         Begun::Refused => false,
-        Begun::UnderWay => go_through(hub) && hub.settle().is_ok(),
+        Begun::UnderWay => {
+            // Where a device call failed, the settlement tells it, and nothing is settled.
+            let is_through = go_through(hub);
+            let is_settled = hub.settle().is_ok();
+            is_through && is_settled
+        }
     }
 }
 

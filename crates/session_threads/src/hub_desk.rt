@@ -9,7 +9,7 @@ use std::marker::Model;
 
 /// A hub that serves one session alone, and whether it was asked to stop. Contracts see both.
 ///
-/// Between two commands no commit is under way, unless the device failed.
+/// Between two commands no commit is under way; or the device failed, and each edit is answered so.
 #[derive(Drop)]
 pub struct HubDesk<D: Disk> {
     pub(crate) hub: Hub<D>,

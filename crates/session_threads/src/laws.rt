@@ -1,8 +1,10 @@
 //! What follows for the calls that a desk makes of its hub.
-ghost use Rattle.std.specs.Prelude.{List};
-ghost use Rattle.op_model.specs.Machine.{Event, Answer};
+ghost use Rattle.std.specs.Prelude.{◌≡◌, List, ℕ, true};
+ghost use Rattle.op_model.specs.declared.edit.Edit.{Edit};
+ghost use Rattle.op_model.specs.Machine.{Event, Answer, State, refused, EditStep};
 ghost use Rattle.locked_replica.specs.Hub.{Parts};
 ghost use Rattle.locked_replica.specs.Run.{Calls, Ran};
+ghost use Rattle.session_threads.specs.HubCalls.{IsQuiet};
 
 use disk_trait::Disk;
 use locked_replica::Hub;
@@ -15,3 +17,9 @@ pub fn calls_are_a_run<D: Disk>(hub: &Hub<D>)
 {
     hub.survivors();
 }
+
+/// Once the device of a quiet hub failed, each edit is answered with 9 and changes nothing. Costs nothing.
+pub fn edits_fail_behind_a_failure()
+    ensures { (replica session : ℕ) (s next : State) (e : Edit) (answer : Answer) → IsQuiet s → s.failed ≡ true
+        → EditStep replica s session e answer next → (answer ≡ refused 9) × (next ≡ s) }
+{}

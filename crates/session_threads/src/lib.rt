@@ -22,5 +22,5 @@ mod tests;
 pub use desk::Desk;
 pub use fault::SessionFault;
 pub use hub_desk::HubDesk;
-pub use laws::calls_are_a_run;
+pub use laws::{calls_are_a_run, edits_fail_behind_a_failure};
 pub use session::Session;

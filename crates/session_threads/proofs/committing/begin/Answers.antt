@@ -24,7 +24,7 @@ pub loop-preserved : goal.loop-preserved
 loop-preserved g c =
     let (tries, times, calls, same) = c.loop.invariant in
     let made = rw (← c.number.ensures, c.if-number-eq1.true) at c.in-Err.ensures.call in
-    one_more_try g.D.DiskFacts _ _ _ c.loop.counter tries times calls same made
+    one_more_try g.D.DiskFacts _ _ _ c.loop.counter tries times calls same c.requires made
 
 pub returns : goal.returns
 returns g c =
