@@ -37,16 +37,6 @@ returns-in-Err g c =
           (λ n is. c.in-Err.ensures.began rest are n is) c.in-Err.ensures.same).1;
     }
 
-pub invariant_of-self : goal.invariant_of-self
-invariant_of-self g c =
-    let rest : List Operation = drop c.self.inside.replica.settled c.self.inside.replica.list in
-    let are : AreRecords rest (c.len.result - c.settled-settled.result) c.records_from-records.result.now =
-    rest_records c.self.inside.replica c.list-list.result c.settled-settled.result c.len.result c.records_from-records.result.now c.list-list.ensures.list c.settled-settled.ensures c.len.ensures
-    c.records_from-records.ensures.spelled_so c.records_from-records.ensures.fits in
-    (begin_made g.D.DiskFacts c.self.inside.replica c.self.inside.store c.begin_records.new.self (Err c.in-Err.error) (λ told. g.met.D.Disk.lawful c.self.inside.store.disk told) c.self.invariant
-    (sym c.has_failed.ensures ∙ c.if-has_failed.false) (ap is_through c.self.view_is ∙ sym c.is_through.ensures ∙ c.if-is_through.false) (c.in-Err.ensures.answer rest are)
-    (λ n is. c.in-Err.ensures.began rest are n is) c.in-Err.ensures.same).0
-
 pub invariant_of-self-2 : goal.invariant_of-self-2
 invariant_of-self-2 g c =
     let rest : List Operation = drop c.self.inside.replica.settled c.self.inside.replica.list in
