@@ -1,0 +1,134 @@
+-- What a store answers to a begin, and what a meeting that begins one answers.
+use Rattle.std.proofs.Common.{◌≡◌, ◌≢◌, ◌⊎◌, ℕ, ◌+◌, ◌-◌, ◌<◌, ◌≤◌, Bool, true, false, ◌&&◌, nat_lt, List, [], ◌∷◌, ◌++◌, length, take, drop, refl, sym, ap, ◌∙◌, arith, inl, inr, length-drop, Option, Some, None, Result, Ok, Err}
+use Rattle.std.proofs.lemmas.Bool.{lt-ltb, ltb-false}
+use Rattle.std.proofs.lemmas.List.{take-append-drop, take_all}
+use Rattle.disk_trait.specs.declared.facts.DiskFacts.{Ghosts}
+use Rattle.op_model.specs.declared.op.Op.{Op}
+use Rattle.change_codec.specs.Stream.{spelled_all, AreOperations}
+use Rattle.op_list.proofs.Recorded.{records_long}
+use Rattle.op_list.specs.Records.{AreRecords}
+use Rattle.root_slots.specs.Root.{count_of}
+use Rattle.group_commit.specs.Begin.{has_room, has_room_for, is_idle, is_none, begin_due, Begins, IsAnswer}
+use Rattle.group_commit.specs.Held.{Held as StoreHeld}
+use Rattle.group_commit.specs.Saved.{Saved}
+use Rattle.group_commit.specs.declared.error.StoreError.{StoreError}
+use Rattle.group_commit.specs.declared.error.StoreError.TheVariants.{Memory, Limit}
+use Rattle.hub_parts.specs.Flusher.{Held as FlusherHeld}
+use Rattle.hub_parts.specs.Locked.{has_commit, IsLocked, Held as LockedHeld}
+use Rattle.hub_parts.specs.Meet.{Meet, side_of}
+use Rattle.hub_parts.specs.Meeting.{pending, due_without, IsMet}
+use Rattle.hub_parts.specs.declared.met.Met.TheVariants.{Begun}
+
+-- a list of some operations isn't empty
+pub some_ops : (ops : List Op) → 0 < length ops → is_none ops ≡ false
+some_ops [] some = absurd (omega (arith, some))
+some_ops (op ∷ ops) some = refl
+
+-- and the other way round
+pub some_long : (ops : List Op) → is_none ops ≡ false → 0 < length ops
+some_long [] some = absurd (cc)
+some_long (op ∷ ops) some = omega arith
+
+-- an empty one has none
+pub no_ops : (ops : List Op) → length ops ≡ 0 → is_none ops ≡ true
+no_ops [] none = refl
+no_ops (op ∷ ops) none = absurd (omega (arith, none))
+
+-- room for records is room for their operations
+pub room_for : (current : Saved) (ops : List Op) (count : ℕ) (records : List ℕ) → AreRecords ops count records
+    → has_room_for current count (length records) ≡ has_room current ops
+room_for current ops count records are = rw (records_long ops count records are, sym are.counted) refl
+
+-- the answer that is due of a store with room
+pub begin_is_due : {D : Type 0} (s : StoreHeld D) (ops : List Op) (count : ℕ) (records : List ℕ) → AreRecords ops count records → s.failed ≡ false
+    → is_idle s.phase ≡ true → 0 < count → has_room_for s.current count (length records) ≡ true
+    → begin_due s ops ≡ Ok (Some (count_of s.current.body + count))
+begin_is_due s ops count records are works idle more room =
+    let counted = are.counted in
+    let some = some_ops ops (omega (arith, counted, more)) in
+    let has = sym (room_for s.current ops count records are) ∙ room in
+    rw (works, idle, some, has, counted) refl
+
+-- where a commit is due, it has the length that is due
+pub began_so : (due : Result (Option ℕ) StoreError) (n m : ℕ) → due ≡ Ok (Some n) → IsAnswer due (Ok (Some m)) → m ≡ n
+began_so due n m is (inl same) = cc
+began_so due n m is (inr memory) = let never = memory.0 in absurd (cc)
+
+-- it isn't said that there is nothing
+pub began_something : (due : Result (Option ℕ) StoreError) (n : ℕ) → due ≡ Ok (Some n) → IsAnswer due (Ok None) → ⊥
+began_something due n is (inl same) = absurd (cc)
+began_something due n is (inr memory) = let never = memory.0 in absurd (cc)
+
+-- and it is refused for want of memory alone
+pub refused_so : (due : Result (Option ℕ) StoreError) (n : ℕ) (error : StoreError) → due ≡ Ok (Some n) → IsAnswer due (Err error) → error ≡ Memory
+refused_so due n error is (inl same) = absurd (cc)
+refused_so due n error is (inr memory) = let same = memory.0 in cc
+
+-- a refusal is no commit
+pub never_begun : (answer : Result (Option ℕ) StoreError) (error : StoreError) → answer ≡ Err error → (n : ℕ) → answer ≢ Ok (Some n)
+never_begun answer error refused n is = absurd (cc)
+
+-- what a meeting hands over are the records of what waits
+pub waiting_records : (l : LockedHeld) (list : List Op) (n long : ℕ) (records : List ℕ) → list ≡ l.replica.list → n ≡ l.begun → long ≡ length list
+    → records ≡ spelled_all (drop n list) → AreOperations (drop n list) → AreRecords (pending l) (long - n) records
+waiting_records l list n long records same begun counted spelled fits = record {
+  spelled_so = sym (rw (same, begun) at spelled);
+  fits = rw (same, begun) at fits;
+  counted = rw (counted, same, begun) (length-drop l.begun l.replica.list);
+}
+
+-- something waits, and there is room for it or not
+pub record IsTested {D : Type 0} (l : LockedHeld) (f : FlusherHeld D) (has : Bool) : Type 0 where
+  pub some : is_none (pending l) ≡ false
+  pub room : has_room f.store.current (pending l) ≡ has
+
+-- the tests of a begin say so
+pub tested : {D : Type 0} (l : LockedHeld) (f : FlusherHeld D) (s : StoreHeld D) (list : List Op) (due : Bool) (count : ℕ) (records : List ℕ) (room : Bool)
+    → record { store = s; list = list; due = due } ≡ f → AreRecords (pending l) count records → count ≢ 0
+    → has_room_for s.current count (length records) ≡ room → IsTested l f room
+tested l f s list due count records room is are more has =
+    let counted = are.counted in
+    let some : 0 < length (pending l) = omega (arith, counted, more) in
+    record {
+      some = some_ops (pending l) some;
+      room = sym (room_for f.store.current (pending l) count records are) ∙ ap (λ h. has_room_for h.store.current count (length records)) (sym is) ∙ has;
+    }
+
+-- the answer that is due where there is no commit and room for one
+pub met_due : {D : Type 0} (l : LockedHeld) (f : FlusherHeld D) → is_none (pending l) ≡ false → has_room f.store.current (pending l) ≡ true
+    → due_without l f ≡ Ok (Begun (count_of f.store.current.body + length (pending l)))
+met_due l f some room = rw (some, room) refl
+
+-- a commit that began is the one that was due
+pub met_begun : {D : Type 0} (l : LockedHeld) (f : FlusherHeld D) (n count : ℕ) (records : List ℕ) → IsTested l f true → AreRecords (pending l) count records
+    → n ≡ count_of f.store.current.body + count → IsMet (due_without l f) (Ok (Begun n))
+met_begun l f n count records test are is =
+    inl (sym (met_due l f test.some test.room ∙ ap (λ k. Ok (Begun (count_of f.store.current.body + k))) are.counted ∙ ap (λ k. Ok (Begun k)) (sym is)))
+
+-- want of memory may stand in its place
+pub met_memory : {D : Type 0} (l : LockedHeld) (f : FlusherHeld D) (error : StoreError) → IsTested l f true → error ≡ Memory
+    → IsMet (due_without l f) (Err error)
+met_memory l f error test is = rw (met_due l f test.some test.room) (inr (ap Err is, tt))
+
+-- where there is no room, the limit is due
+pub met_limit : {D : Type 0} (l : LockedHeld) (f : FlusherHeld D) → IsTested l f false → IsMet (due_without l f) (Err Limit)
+met_limit l f test = inl (rw (test.some, test.room) refl)
+
+-- two parts that fit, behind a begin
+pub meet_begun : {D : Type 0} (facts : Ghosts D) (l : LockedHeld) (s new : StoreHeld D) (list more : List Op) (due due' : Bool) → IsLocked l → has_commit l ≡ false → due ≡ false
+    → is_none (pending l) ≡ false → Begins facts s (pending l) new → more ≡ list ++ pending l → due' ≡ true
+    → Meet l (side_of (record { store = s; list = list; due = due }))
+    → Meet (record l { begun = length l.replica.list }) (side_of (record { store = new; list = more; due = due' }))
+meet_begun facts l s new list more due due' locked none rests some begun is begins meet =
+    let settled = locked.keeps.settled in
+    let long = some_long (pending l) some in
+    let less : l.replica.settled < length l.replica.list = let same = ltb-false l.replica.settled l.begun none in omega (arith, same, settled, long, length-drop l.begun l.replica.list) in
+    record {
+      owner = rw begun.current meet.owner;
+      both = begins ∙ sym (lt-ltb l.replica.settled (length l.replica.list) less);
+      front =
+          is ∙ ap (λ xs. xs ++ pending l) meet.front ∙ take-append-drop l.begun l.replica.list
+          ∙ sym (take_all (length l.replica.list) l.replica.list (omega arith));
+      settled = λ other. rw begun.current (meet.settled (rw rests refl));
+      through = λ way. let never = rw (begins, begun.phase) at way in absurd (cc);
+    }

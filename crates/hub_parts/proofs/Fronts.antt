@@ -1,0 +1,108 @@
+-- A flusher's list with more operations behind it.
+use Rattle.std.proofs.Common.{◌≡◌, ℕ, ◌+◌, ◌-◌, ◌<◌, Bool, true, false, List, ◌++◌, length, take, drop, refl, sym, ap, ◌∙◌, arith, length-append, Some, Ok}
+use Rattle.std.proofs.lemmas.List.{take_at, drop_at, take_all, take-append-le}
+use Rattle.disk_trait.specs.declared.facts.DiskFacts.{Ghosts}
+use Rattle.op_model.specs.declared.op.Op.{Op}
+use Rattle.op_model.specs.Records.{stream_length}
+use Rattle.change_codec.specs.Stream.{spelled_all}
+use Rattle.change_codec.proofs.StreamLaws.{spelled_all-append}
+use Rattle.op_list.proofs.Holding.{fits_append}
+use Rattle.op_list.proofs.Recorded.{records_long}
+use Rattle.op_list.specs.Records.{AreRecords}
+use Rattle.root_slots.specs.Root.{count_of}
+use Rattle.group_commit.specs.Begin.{has_room_for, is_idle, begin_due, Begins}
+use Rattle.group_commit.specs.Held.{Held as StoreHeld}
+use Rattle.group_commit.specs.Saved.{Saved}
+use Rattle.hub_parts.specs.Flusher.{IsFlusher, IsAtRest, IsUnderWay, HasFront, Commits, Held as FlusherHeld}
+use Rattle.hub_parts.proofs.BeginLemmas.{begin_is_due}
+
+-- no commit that isn't settled is one whose device calls are all made
+pub at_rest : {D : Type 0} (facts : Ghosts D) (s : StoreHeld D) (list : List Op) (due : Bool) → IsFlusher facts (record { store = s; list = list; due = due })
+    → due ≡ false → is_idle s.phase ≡ true
+at_rest {D} facts s list due kept none = by_test (is_idle s.phase) kept.commit
+  where
+    by_test : (t : Bool) → Commits t (record { store = s; list = list; due = due }) → t ≡ true
+    by_test true rest = refl
+    by_test false way = let is = way.due in absurd (cc)
+
+-- the answer that is due of the store of a flusher that works, where nothing is under way and there is room
+pub due_at_rest : {D : Type 0} (facts : Ghosts D) (f : FlusherHeld D) (s : StoreHeld D) (list ops : List Op) (due : Bool) (count : ℕ) (records : List ℕ)
+    → record { store = s; list = list; due = due } ≡ f → IsFlusher facts (record { store = s; list = list; due = due }) → f.store.failed ≡ false → f.due ≡ false
+    → AreRecords ops count records → 0 < count → has_room_for f.store.current count (length records) ≡ true
+    → begin_due s ops ≡ Ok (Some (count_of f.store.current.body + count))
+due_at_rest facts f s list ops due count records is kept works none are some room =
+    let store : s ≡ f.store = ap (λ h. h.store) is in
+    let idle = at_rest facts s list due kept (ap (λ h. h.due) is ∙ none) in
+    begin_is_due s ops count records are (ap (λ t. t.failed) store ∙ works) idle some (ap (λ t. has_room_for t.current count (length records)) store ∙ room)
+    ∙ ap (λ t. Ok (Some (count_of t.current.body + count))) store
+
+-- where the device calls are all made, the live root has the whole list
+pub whole_list : {D : Type 0} (facts : Ghosts D) (s : StoreHeld D) (list : List Op) (due : Bool) → IsFlusher facts (record { store = s; list = list; due = due })
+    → is_idle s.phase ≡ true → count_of s.current.body ≡ length list
+whole_list facts s list due kept idle =
+    let rest : IsAtRest (record { store = s; list = list; due = due }) = rw idle at kept.commit in
+    rest.all
+
+-- a root has a beginning of a longer list
+front_grows : (list ops : List Op) (root : Saved) → HasFront list root → HasFront (list ++ ops) root
+front_grows list ops root front =
+    let within = front.within in
+    let same : take (count_of root.body) (list ++ ops) ≡ take (count_of root.body) list = take-append-le (count_of root.body) list ops within in
+    record {
+      within = omega (arith, within, length-append list ops);
+      stream = front.stream ∙ ap spelled_all (sym same);
+      fits = rw same front.fits;
+    }
+
+-- how many operations the root of a commit has that begins
+begun_count : {D : Type 0} (facts : Ghosts D) (s new : StoreHeld D) (list ops : List Op) → count_of s.current.body ≡ length list → Begins facts s ops new
+    → count_of new.next.body ≡ length (list ++ ops)
+begun_count facts s new list ops all begun =
+    begun.follows.count ∙ ap (λ n. n + length ops) all ∙ sym (length-append list ops)
+
+-- the root of a commit that begins has all the operations
+next_front : {D : Type 0} (facts : Ghosts D) (s new : StoreHeld D) (list ops : List Op) → count_of s.current.body ≡ length list → HasFront list s.current
+    → Begins facts s ops new → HasFront (list ++ ops) new.next
+next_front facts s new list ops all live begun =
+    let long = begun_count facts s new list ops all begun in
+    let front : take (count_of s.current.body) list ≡ list = take_all (count_of s.current.body) list (omega (arith, all)) in
+    let whole : take (count_of new.next.body) (list ++ ops) ≡ list ++ ops = take_all (count_of new.next.body) (list ++ ops) (omega (arith, long)) in
+    record {
+      within = omega (arith, long);
+      stream =
+          begun.follows.stream ∙ ap (λ bytes. bytes ++ spelled_all ops) (live.stream ∙ ap spelled_all front) ∙ sym (spelled_all-append list ops)
+          ∙ ap spelled_all (sym whole);
+      fits = rw whole (fits_append list ops (rw front at live.fits) begun.fits);
+    }
+
+-- a flusher that began a commit
+pub flusher_begun : {D : Type 0} (facts : Ghosts D) (s new : StoreHeld D) (list ops : List Op) (due : Bool)
+    → IsFlusher facts (record { store = s; list = list; due = due }) → due ≡ false → Begins facts s ops new
+    → IsFlusher facts (record { store = new; list = list ++ ops; due = true })
+flusher_begun facts s new list ops due kept none begun =
+    let all = whole_list facts s list due kept (at_rest facts s list due kept none) in
+    record {
+      live = rw begun.current (front_grows list ops s.current kept.live);
+      commit = rw begun.phase (record {
+        due = refl;
+        all = begun_count facts s new list ops all begun;
+        front = next_front facts s new list ops all kept.live begun;
+        owner = rw begun.current begun.follows.replica;
+        version = rw begun.current begun.follows.version;
+      });
+      left = begun.left;
+    }
+
+-- where the last operations of a list begin
+cut_at : (list ops : List Op) (count : ℕ) → length ops ≡ count → length list ≡ length (list ++ ops) - count
+cut_at list ops count counted = omega (arith, counted, length-append list ops)
+
+-- a list without the operations that were put behind it
+pub cut_back : (list ops more : List Op) (count : ℕ) → more ≡ list ++ ops → length ops ≡ count → take (length more - count) more ≡ list
+cut_back list ops more count is counted = rw is (take_at list ops (length (list ++ ops) - count) (cut_at list ops count counted))
+
+-- the records of those take so many bytes
+pub cut_bytes : (list ops more : List Op) (count : ℕ) (records : List ℕ) → more ≡ list ++ ops → AreRecords ops count records
+    → stream_length (drop (length more - count) more) ≡ length records
+cut_bytes list ops more count records is are =
+    rw is (ap stream_length (drop_at list ops (length (list ++ ops) - count) (cut_at list ops count are.counted)) ∙ sym (records_long ops count records are))

@@ -1,0 +1,107 @@
+-- What a locked part keeps is kept by each of its calls.
+use Rattle.std.proofs.Common.{◌≡◌, ℕ, ◌+◌, ◌<◌, ◌≤◌, Bool, true, false, nat_lt, nat_le, List, [], ◌∷◌, ◌++◌, length, drop, refl, sym, ap, ◌∙◌, arith, length-append}
+use Rattle.std.specs.Prelude.{if◌then◌else◌, Some, None}
+use Rattle.std.proofs.lemmas.Bool.{leb-true}
+use Rattle.std.proofs.lemmas.Bool.Decides.{nat_tests}
+use Rattle.std.proofs.lemmas.List.{drop-append-le, drop_all}
+use Rattle.op_model.specs.declared.op.Op.{Op}
+use Rattle.op_model.specs.declared.edit.Edit.{Edit}
+use Rattle.op_model.specs.Machine.{taken_in, has_record_room}
+use Rattle.op_model.specs.Made.{made}
+use Rattle.op_model.specs.Records.{stream_length}
+use Rattle.replica_core.specs.Held.{IsSound, with_edit, Held as ReplicaHeld}
+use Rattle.replica_core.specs.Merging.{with_merge}
+use Rattle.replica_core.specs.Steps.{places_left}
+use Rattle.replica_core.proofs.ReachedLemmas.{length_is_reached}
+use Rattle.hub_parts.specs.Locked.{commit_of, state_of, Keeps, Held as LockedHeld}
+use Rattle.hub_parts.proofs.Growing.{Grows, grows_edit, grows_merge, more_edit, more_merge, owed_grown, due_behind_all, due_behind_some}
+
+-- the records of two lists, one behind the other
+pub stream_length-append : (xs ys : List Op) → stream_length (xs ++ ys) ≡ stream_length xs + stream_length ys
+stream_length-append [] ys = omega arith
+stream_length-append (x ∷ xs) ys = let rest = stream_length-append xs ys in omega arith
+
+-- the records that wait where the list grew
+waits_more : (h next : ReplicaHeld) (n : ℕ) (g : Grows h next) → n ≤ length h.list
+    → stream_length (drop n next.list) ≡ stream_length (drop n h.list) + stream_length g.more
+waits_more h next n g within =
+    ap (λ ops. stream_length (drop n ops)) g.list ∙ ap stream_length (drop-append-le n h.list g.more within)
+    ∙ stream_length-append (drop n h.list) g.more
+
+-- what is kept is kept where the list grows, if there is room
+pub keeps_grown : (l : LockedHeld) (next : ReplicaHeld) (g : Grows l.replica next) (more : List Op) → Keeps l → g.more ≡ more
+    → stream_length (drop l.begun l.replica.list) + stream_length more ≤ 1048576 → Keeps (record l { replica = next })
+keeps_grown l next g more k is room =
+    let settled = k.settled in
+    let within = k.within in
+    record {
+      settled = omega (arith, g.settled, settled);
+      within = omega (arith, ap length g.list, length-append l.replica.list g.more, within);
+      commit = λ less. owed_grown l.replica next l.begun g (k.commit (omega (arith, g.settled, less)));
+      places = λ same.
+          let was = k.places (omega (arith, g.settled, same)) in
+          let now = g.places l.begun 0 (omega arith) (omega (arith, was)) in
+          omega (arith, now);
+      pending = omega (arith, waits_more l.replica next l.begun g within, ap stream_length is, room);
+    }
+
+-- the taken operations are the settled ones and those of the commit
+pub taken_is_begun : (l : LockedHeld) → l.replica.settled ≤ l.begun → taken_in (commit_of l) l.replica.settled ≡ l.begun
+taken_is_begun l within = by_test (nat_lt l.replica.settled l.begun) refl
+  where
+    by_test : (t : Bool) → nat_lt l.replica.settled l.begun ≡ t
+        → taken_in (if t then Some (record { count = l.begun; through = false }) else None) l.replica.settled ≡ l.begun
+    by_test true is = refl
+    by_test false is = grind (arith, nat_tests)
+
+-- where the machine has room, so has the part
+pub room_says : (l : LockedHeld) (ops : List Op) → Keeps l → has_record_room (state_of l) ops ≡ true
+    → stream_length (drop l.begun l.replica.list) + stream_length ops ≤ 1048576
+room_says l ops k room =
+    leb-true _ _ (ap (λ n. nat_le (stream_length (drop n l.replica.list) + stream_length ops) 1048576) (sym (taken_is_begun l k.settled)) ∙ room)
+
+-- an edit that has room
+pub keeps_edit : (l : LockedHeld) (next : ReplicaHeld) (session : ℕ) (e : Edit) → Keeps l
+    → has_record_room (state_of l) (made l.replica.list l.replica.replica e) ≡ true → next ≡ with_edit l.replica session e
+    → Keeps (record l { replica = next })
+keeps_edit l next session e k room is =
+    rw is (keeps_grown l (with_edit l.replica session e) (grows_edit l.replica session e) _ k (more_edit l.replica session e) (room_says l _ k room))
+
+-- a merge that has room
+pub keeps_merge : (l : LockedHeld) (next : ReplicaHeld) (peer : ℕ) (op : Op) → Keeps l
+    → has_record_room (state_of l) (op ∷ []) ≡ true → next ≡ with_merge l.replica peer op
+    → Keeps (record l { replica = next })
+keeps_merge l next peer op k room is =
+    rw is (keeps_grown l (with_merge l.replica peer op) (grows_merge l.replica peer op) (op ∷ []) k (more_merge l.replica peer op) (room_says l (op ∷ []) k room))
+
+-- where something waits or is in a commit, there is a place for a settlement
+place_left : (l : LockedHeld) → Keeps l → l.replica.settled < length l.replica.list → 1 ≤ places_left l.replica.steps
+place_left l k less = by_test (nat_lt l.replica.settled l.begun) refl
+  where
+    by_test : (t : Bool) → nat_lt l.replica.settled l.begun ≡ t → 1 ≤ places_left l.replica.steps
+    by_test true is =
+        let under : l.replica.settled < l.begun = grind (arith, nat_tests) in
+        let owed = k.commit under in
+        let places = owed.places in
+        omega (arith, places)
+    by_test false is =
+        let settled = k.settled in
+        let same : l.replica.settled ≡ l.begun = grind (arith, nat_tests) in
+        let one = due_behind_some l.replica l.begun (omega (arith, same, less)) in
+        let places = k.places same in
+        omega (arith, one, places)
+
+-- all operations taken
+pub keeps_taken : (l : LockedHeld) → IsSound l.replica → Keeps l → Keeps (record l { begun = length l.replica.list })
+keeps_taken l sound k =
+    let settled = sound.settled in
+    let none = due_behind_all l.replica in
+    record {
+      settled = settled;
+      within = omega arith;
+      commit = λ less.
+          let one = place_left l k less in
+          record { more = less; reached = length_is_reached l.replica sound; places = omega (arith, none, one) };
+      places = λ same. omega (arith, none);
+      pending = rw (drop_all (length l.replica.list) l.replica.list (omega arith)) (omega arith);
+    }

@@ -1,0 +1,11 @@
+pub mod Growing
+pub mod RoomAnswers
+pub mod KeptParts
+pub mod SharedCalls
+pub mod PhaseLemmas
+pub mod FlusherSteps
+pub mod MeetSteps
+pub mod BeginLemmas
+pub mod Fronts
+pub mod Settling
+pub mod OpenedParts

@@ -1,0 +1,26 @@
+-- Two parts that fit, behind a settlement.
+use Rattle.std.proofs.Common.{◌≡◌, ◌≤◌, Bool, true, false, ◌&&◌, List, length, take, refl, sym, ap, ◌∙◌, arith}
+use Rattle.std.proofs.lemmas.Bool.{le-ltb}
+use Rattle.disk_trait.specs.declared.facts.DiskFacts.{Ghosts}
+use Rattle.op_model.specs.declared.op.Op.{Op}
+use Rattle.replica_core.specs.Held.{with_settled}
+use Rattle.group_commit.specs.Begin.{is_idle}
+use Rattle.group_commit.specs.Held.{Held as StoreHeld}
+use Rattle.hub_parts.specs.Flusher.{IsFlusher}
+use Rattle.hub_parts.specs.Locked.{IsLocked, Held as LockedHeld}
+use Rattle.hub_parts.specs.Meet.{Meet, side_of}
+use Rattle.hub_parts.proofs.Fronts.{whole_list}
+use Rattle.hub_parts.proofs.MeetSteps.{front_length}
+
+-- two parts that fit, behind a settlement
+pub meet_settled : {D : Type 0} (facts : Ghosts D) (l : LockedHeld) (s : StoreHeld D) (list : List Op) (due : Bool)
+    → IsFlusher facts (record { store = s; list = list; due = due }) → IsLocked l → is_idle s.phase ≡ true
+    → Meet l (side_of (record { store = s; list = list; due = due }))
+    → Meet (record l { replica = with_settled l.replica l.begun }) (side_of (record { store = s; list = list; due = false }))
+meet_settled facts l s list due kept locked idle meet = record {
+  owner = meet.owner;
+  both = sym (le-ltb l.begun l.begun (omega arith));
+  front = meet.front;
+  settled = λ none. sym (whole_list facts s list due kept idle ∙ front_length l list locked.keeps.within meet.front);
+  through = λ never. absurd (cc);
+}

@@ -1,0 +1,63 @@
+-- The part of a hub that commits.
+use Rattle.std.specs.Prelude.{◌≡◌, ◌≢◌, ℕ, ◌+◌, ◌<◌, ◌≤◌, Bool, true, false, List, length, take, Result, Ok, Err, IfOk, OnOk, OnErr}
+use Rattle.disk_trait.specs.declared.facts.DiskFacts.{Ghosts}
+use Rattle.op_model.specs.declared.op.Op.{Op}
+use Rattle.change_codec.specs.Stream.{spelled_all, AreOperations}
+use Rattle.root_slots.specs.Root.{version_of, replica_of, count_of}
+use Rattle.group_commit.specs.Begin.{is_idle}
+use Rattle.group_commit.specs.Commit.{IsLeft}
+use Rattle.group_commit.specs.Held.{gone_on, has_failed, Held as StoreHeld}
+use Rattle.group_commit.specs.Saved.{Saved}
+use Rattle.group_commit.specs.Step.{IsDeviceCall, Does, writes_in, syncs_in, error_in}
+use Rattle.group_commit.specs.declared.error.StoreError.{StoreError}
+use Rattle.group_commit.specs.declared.error.StoreError.TheVariants.{Failed}
+use Rattle.group_commit.specs.declared.phase.Phase.{Phase}
+use Rattle.group_commit.specs.declared.phase.Phase.TheVariants.{Idle}
+
+-- the store, the list of the commit or else the committed one, and whether there is a commit that isn't settled
+pub record Held (D : Type 0) : Type 0 where
+  pub store : StoreHeld D
+  pub list : List Op
+  pub due : Bool
+
+-- the root's stream is the records of the first operations of the list, as many as it says
+pub record HasFront (list : List Op) (root : Saved) : Type 0 where
+  pub within : count_of root.body ≤ length list
+  pub stream : root.stream ≡ spelled_all (take (count_of root.body) list)
+  pub fits : AreOperations (take (count_of root.body) list)
+
+-- between two commits the live root has the whole list; that of a commit which isn't settled is not the file's first one
+pub record IsAtRest {D : Type 0} (f : Held D) : Type 0 where
+  pub all : count_of f.store.current.body ≡ length f.list
+  pub version : f.due ≡ true → 0 < version_of f.store.current.body
+
+-- a commit is under way: the root that it makes follows the live one, and has the whole list
+pub record IsUnderWay {D : Type 0} (f : Held D) : Type 0 where
+  pub due : f.due ≡ true
+  pub all : count_of f.store.next.body ≡ length f.list
+  pub front : HasFront f.list f.store.next
+  pub owner : replica_of f.store.next.body ≡ replica_of f.store.current.body
+  pub version : version_of f.store.next.body ≡ version_of f.store.current.body + 1
+
+abbrev pub Commits : {D : Type 0} → Bool → Held D → Type 0
+Commits true f = IsAtRest f
+Commits false f = IsUnderWay f
+
+-- What every flusher keeps: a file that a crash now may leave has the live root, or in the last phase the one that the commit
+-- makes, and each of them has a beginning of the list.
+pub record IsFlusher {D : Type 0} (facts : Ghosts D) (f : Held D) : Type 0 where
+  pub live : HasFront f.list f.store.current
+  pub commit : Commits (is_idle f.store.phase) f
+  pub left : facts.tells f.store.disk → (file : List ℕ) → facts.survives f.store.disk file
+      → IsLeft f.store.phase f.store.current f.store.next file
+
+-- One step of a store: none behind a failure, none at rest, else the device call of its phase, behind which it goes on or has failed.
+pub record IsStoreStep {D : Type 0} (facts : Ghosts D) (old : StoreHeld D) (result : Result Phase StoreError) (new : StoreHeld D) : Type 0 where
+  pub stopped : old.failed ≡ true → (result ≡ Err Failed) × (new ≡ old)
+  pub idle : old.failed ≡ false → old.phase ≡ Idle → (result ≡ Ok Idle) × (new ≡ old)
+  pub made : IfOk result (λ phase. phase ≡ old.phase)
+  pub call : old.failed ≡ false → old.phase ≢ Idle
+      → IsDeviceCall {T = Phase} facts (writes_in old.phase) (syncs_in old.phase) (error_in old.phase) result old new
+  pub does : old.failed ≡ false → facts.tells old.disk → Does {T = Phase} facts result old.phase old new.disk
+  pub went_on : old.failed ≡ false → OnOk result (new ≡ gone_on old.phase old new.disk)
+  pub failed : old.failed ≡ false → OnErr result (new ≡ has_failed old new.disk)

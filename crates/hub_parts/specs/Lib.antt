@@ -1,0 +1,5 @@
+pub mod Flusher
+pub mod Locked
+pub mod Meet
+pub mod Meeting
+pub mod Refusal

@@ -1,0 +1,42 @@
+//! What a meeting does to the locked part.
+ghost use Rattle.std.specs.Prelude.{◌≡◌, true, length};
+ghost use Rattle.replica_core.specs.Held.{with_settled};
+ghost use Rattle.hub_parts.specs.Locked.{has_commit};
+
+use crate::locked::Locked;
+
+impl Locked {
+    /// Whether more operations were taken for a commit than are settled.
+    pub(crate) fn has_commit(&self) -> bool
+        ensures { result ≡ has_commit self.now }
+    {
+        self.replica.settled() < self.begun
+    }
+
+    /// Marks all operations as taken for a commit.
+    pub(crate) fn take_all(&mut self)
+        ensures { self.new ≡ record self.old { begun = length self.old.replica.list } }
+    {
+        self.begun = self.replica.list().len();
+    }
+
+    /// Settles the operations that were taken, and answers how many are settled now.
+    pub(crate) fn settle(&mut self) -> u64
+        requires { has_commit self.old ≡ true }
+        ensures count { result ≡ self.old.begun }
+        ensures settled { self.new ≡ record self.old {
+          replica = with_settled self.old.replica
+              self.old.begun;
+        } }
+    {
+        self.replica.settle(self.begun);
+        self.begun as u64
+    }
+
+    /// Marks that a failure of the device is told.
+    pub(crate) fn tell_failure(&mut self)
+        ensures { self.new ≡ record self.old { failure_told = true } }
+    {
+        self.failure_told = true;
+    }
+}

@@ -1,0 +1,22 @@
+//! The two parts of a hub: the one that stands under a lock, and the flusher, which makes device
+//! calls without it. They meet twice a commit.
+#![tactic(auto)]
+
+mod fitting;
+mod flusher;
+mod keeping;
+mod locked;
+mod meeting;
+mod met;
+mod opening;
+mod reading;
+mod refusal;
+mod sharing;
+mod telling;
+
+pub use flusher::Flusher;
+pub use locked::Locked;
+pub use met::Met;
+pub use opening::{Parts, open};
+pub use refusal::LockedRefusal;
+pub use sharing::MAX_PENDING;

@@ -1,0 +1,49 @@
+//! The part of a hub that stands under the lock.
+ghost use Rattle.std.specs.Prelude.{◌≡◌};
+ghost use Rattle.hub_parts.specs.Locked.{IsLocked};
+
+use replica_core::Replica;
+use std::marker::Model;
+
+/// The part of a hub that stands under the lock: the replica, how many of its operations are
+/// settled or in the commit, and whether a meeting has told a failure of the device. It names no
+/// disk, and none of its calls makes a device call. Contracts see these three.
+///
+/// The operations that wait for the next commit are those of the list behind the taken ones. Their
+/// records stand in the list one after another, so a meeting is lent them as they are. The type
+/// keeps that they have at most 1,048,576 bytes, and that the settlements which are due have their
+/// places among the kept steps.
+#[derive(Debug, Drop)]
+pub struct Locked {
+    pub(crate) replica: Replica,
+    /// How many operations of the list are settled or in the commit.
+    pub(crate) begun: usize,
+    pub(crate) failure_told: bool,
+}
+
+impl Model for Locked {
+    ghost use Rattle.hub_parts.specs.Locked.{Held, Keeps};
+
+    ghost Value = { Held };
+
+    ghost view = { λ l. record {
+      replica = l.replica;
+      begun = l.begun;
+      failure_told = l.failure_told;
+    } };
+
+    ghost invariant = { λ l. Keeps (record {
+      replica = l.replica;
+      begun = l.begun;
+      failure_told = l.failure_told;
+    }) };
+}
+
+impl Locked {
+    /// Tells what the type keeps. Costs nothing.
+    pub fn kept(&self)
+        ensures { IsLocked self.now }
+    {
+        let _list = self.replica.list();
+    }
+}

@@ -1,0 +1,10 @@
+/// What a meeting of the two parts did.
+#[derive(Clone, Copy, Debug, PartialEq, Eq)]
+pub enum Met {
+    /// A commit began, of so many operations from the beginning of the list.
+    Begun(u64),
+    /// A commit was settled, and so many operations are settled now.
+    Settled(u64),
+    /// There is no commit, and nothing waits for one.
+    Nothing,
+}

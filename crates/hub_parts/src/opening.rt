@@ -1,0 +1,73 @@
+//! The opening of a hub's two parts.
+ghost use Rattle.std.specs.Prelude.{◌≡◌, ◌↔◌, false, length, IfOk, IfErr};
+ghost use Rattle.root_slots.specs.Root.{version_of};
+ghost use Rattle.disk_trait.specs.Looks.{OnlyLooks};
+ghost use Rattle.group_commit.specs.declared.phase.Phase.TheVariants.{Idle};
+ghost use Rattle.replica_core.specs.Held.{opened_with};
+ghost use Rattle.recovery.specs.Faults.{IsFault, failures_of};
+ghost use Rattle.recovery.specs.Image.{IsImage};
+ghost use Rattle.hub_parts.specs.Meet.{Meet, side_of};
+
+use crate::flusher::Flusher;
+use crate::locked::Locked;
+use disk_trait::Disk;
+use op_list::Records;
+use recovery::{OpenError, OpenFault, Opened};
+use std::alloc::Global;
+
+/// The two parts of a hub.
+#[derive(Drop)]
+pub struct Parts<D: Disk> {
+    pub locked: Locked,
+    pub flusher: Flusher<D>,
+}
+
+/// Opens the file of a disk: a sync, and then reads alone.
+///
+/// Refuses as `recovery::open` does, with a device number, 42, 43, 45, 46, 47 or 1, and hands the
+/// disk back. Costs what `recovery::open` does, and a copy of the records.
+pub fn open<D: Disk>(alloc: Global, disk: D) -> Result<Parts<D>, OpenFault<D>>
+    // The replica is that of the file's image, as it is right after opening.
+    ensures image { D.tells disk → IfOk result (λ it. IsImage (D.content disk)
+        it.locked.replica.replica (version_of it.flusher.store.current.body)
+        it.locked.replica.list) }
+    ensures locked { IfOk result (λ it. it.locked ≡ record {
+      replica = opened_with it.locked.replica.replica it.locked.replica.list;
+      begun = length it.locked.replica.list;
+      failure_told = false;
+    }) }
+    ensures idle { IfOk result (λ it.
+        (it.flusher.store.phase ≡ Idle) × (it.flusher.store.failed ≡ false)) }
+    ensures fits { IfOk result (λ it. Meet it.locked (side_of it.flusher)) }
+    ensures fault { D.tells disk → IfErr result (λ fault. IsFault fault.cause (D.content disk)) }
+    // It writes nothing.
+    ensures looks { D.tells disk
+        → IfOk result (λ it. OnlyLooks D.DiskFacts 0 1 disk it.flusher.store.disk) }
+    ensures looks_refused { D.tells disk → IfErr result
+        (λ fault. OnlyLooks D.DiskFacts (failures_of fault.cause) 1 disk fault.disk) }
+    ensures tells { IfOk result (λ it. D.tells it.flusher.store.disk ↔ D.tells disk) }
+    ensures tells_refused { IfErr result (λ fault. D.tells fault.disk ↔ D.tells disk) }
+{
+    let Opened { replica, store } = recovery::open(alloc, disk)?;
+    let ops = replica.list();
+    let begun = ops.len();
+    let mut list = Records::new(alloc);
+    if list.append(ops.records_from(0), begun as u64).is_err() {
+        return Err(OpenFault {
+            cause: OpenError::Load(group_commit::OpenError::Memory),
+            disk: store.into_disk(),
+        });
+    }
+    Ok(Parts {
+        locked: Locked {
+            replica,
+            begun,
+            failure_told: false,
+        },
+        flusher: Flusher {
+            store,
+            list,
+            due: false,
+        },
+    })
+}

@@ -1,0 +1,95 @@
+//! What the locked part tells of itself.
+ghost use Rattle.std.specs.Prelude.{◌≡◌, IfOk};
+ghost use Rattle.op_model.specs.Causality.{clock_of};
+ghost use Rattle.op_model.specs.Spans.{spans as spans_of};
+ghost use Rattle.op_model.specs.Text.{text as text_of, rev as rev_of};
+ghost use Rattle.replica_core.specs.Held.{IsSound};
+
+use crate::locked::Locked;
+use op_ids::{Clock, ReplicaId};
+use op_list::OpSlice;
+use op_model::{Span, Text};
+use std::alloc::AllocError;
+
+impl Locked {
+    /// The name of the replica.
+    pub fn replica(&self) -> ReplicaId
+        ensures { result ≡ self.now.replica.replica }
+    {
+        self.replica.replica()
+    }
+
+    /// The operations, in the order of application. The list is causally closed, replaying the kept
+    /// steps gives it, and what is acknowledged and told is settled.
+    pub fn list(&self) -> OpSlice<'_>
+        ensures list { result ≡ self.now.replica.list }
+        ensures sound { IsSound self.now.replica }
+    {
+        self.replica.list()
+    }
+
+    /// How many operations of each replica the list has.
+    pub fn clock(&self) -> &Clock
+        ensures { result.now ≡ clock_of self.now.replica.list }
+    {
+        self.replica.clock()
+    }
+
+    /// How many operations, from the beginning of the list, are settled.
+    pub fn settled(&self) -> usize
+        ensures { result ≡ self.now.replica.settled }
+    {
+        self.replica.settled()
+    }
+
+    /// How many operations, from the beginning of the list, are settled or in the commit.
+    pub fn begun(&self) -> usize
+        ensures { result ≡ self.now.begun }
+    {
+        self.begun
+    }
+
+    /// The greatest number of operations that an edit answered as settled needed.
+    pub fn acked(&self) -> usize
+        ensures { result ≡ self.now.replica.acked }
+    {
+        self.replica.acked()
+    }
+
+    /// The greatest number of operations that a telling needed.
+    pub fn told(&self) -> usize
+        ensures { result ≡ self.now.replica.told }
+    {
+        self.replica.told()
+    }
+
+    /// Whether a meeting has told a failure of the device.
+    pub fn has_told_failure(&self) -> bool
+        ensures { result ≡ self.now.failure_told }
+    {
+        self.failure_told
+    }
+
+    /// How many operations a document has. Costs what `Replica::rev` does.
+    pub fn rev(&self, doc: u32) -> usize
+        ensures { result ≡ rev_of self.now.replica.list doc }
+    {
+        self.replica.rev(doc)
+    }
+
+    /// The text of a document, unsettled operations included. An error is want of memory (1). Costs
+    /// what `Replica::text` does.
+    pub fn text(&self, doc: u32) -> Result<Text, AllocError>
+        ensures { IfOk result (λ seen. seen ≡ text_of self.now.replica.list doc) }
+    {
+        self.replica.text(doc)
+    }
+
+    /// The text of a document, cut where the marks change. An error is want of memory (1). Costs
+    /// what `Replica::spans` does.
+    pub fn spans(&self, doc: u32) -> Result<Vec<Span>, AllocError>
+        ensures { IfOk result (λ found. found.items ≡ spans_of self.now.replica.list doc) }
+    {
+        self.replica.spans(doc)
+    }
+}
