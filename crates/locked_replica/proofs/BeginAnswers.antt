@@ -1,5 +1,5 @@
 -- A begin that the store answers.
-use Rattle.std.proofs.Common.{◌≡◌, ◌≢◌, ℕ, ◌+◌, ◌<◌, Bool, true, false, ◌&&◌, nat_lt, List, length, drop, refl, sym, ap, ◌∙◌, arith, Option, Some, None, Result, Ok, Err}
+use Rattle.std.proofs.Common.{◌≡◌, ◌≢◌, ℕ, ◌+◌, ◌<◌, Bool, true, false, ◌&&◌, nat_lt, List, [], length, drop, refl, sym, ap, ◌∙◌, arith, append-nil, Option, Some, None, Result, Ok, Err}
 use Rattle.disk_trait.specs.Calls.{IsLawful}
 use Rattle.disk_trait.specs.declared.facts.DiskFacts.{Ghosts}
 use Rattle.op_model.specs.declared.op.Op.{Op}
@@ -11,16 +11,15 @@ use Rattle.group_commit.specs.Held.{Held as StoreHeld}
 use Rattle.group_commit.specs.Saved.{Saved}
 use Rattle.group_commit.specs.declared.error.StoreError.{StoreError}
 use Rattle.locked_replica.specs.Hub.{committed, state_of}
-use Rattle.locked_replica.specs.Fits.{Fits, Commits}
+use Rattle.locked_replica.proofs.Fits.{Fits, Commits}
 use Rattle.locked_replica.specs.Calls.{IsCall, Counts, StoreBegins, settled_by}
 use Rattle.locked_replica.proofs.PartsOf.{parts}
-use Rattle.locked_replica.proofs.Keeping.{grows_same, Makes}
 use Rattle.locked_replica.proofs.QuietCalls.{quiet_call, counts_same}
 use Rattle.locked_replica.proofs.RoomLemmas.{room_is_version, none_behind, behind_front}
 use Rattle.locked_replica.proofs.StateLemmas.{answer_due, begin_as_due, begin_step, due_begun, due_by, was_due, as_made, has_number, no_number}
-use Rattle.std.proofs.lemmas.Bool.{ltb-false, leb-false}
+use Rattle.std.proofs.lemmas.Bool.{ltb-false}
 use Rattle.group_commit.proofs.BeginLemmas.{idle_is}
-use Rattle.locked_replica.proofs.BegunCommits.{fits_begun, counts_begun}
+use Rattle.locked_replica.proofs.BegunCommits.{counts_begun}
 
 -- what is settled is what the live root has, where no commit is through
 pub all_settled : (idle : Bool) (h : Held) (current next : Saved) → Commits idle h current next → (idle && nat_lt h.settled (count_of current.body)) ≡ false
@@ -30,12 +29,12 @@ all_settled false h current next way none = way.settled
 
 -- a begin that the store answers
 pub begin_made : {D : Type 0} {failure_told : Bool} (facts : Ghosts D) (h : Held) (s new : StoreHeld D) (answer : Result (Option ℕ) StoreError)
-    → (facts.tells s.disk → IsLawful facts s.disk) → Fits facts (parts h s failure_told) → s.failed ≡ false
+    → (facts.tells s.disk → IsLawful facts s.disk) → Fits facts (parts h s failure_told) → Fits facts (parts h new failure_told) → s.failed ≡ false
     → (is_idle s.phase && nat_lt h.settled (committed s)) ≡ false → IsAnswer (begin_due s (drop h.settled h.list)) answer
     → ((n : ℕ) → answer ≡ Ok (Some n) → Begins facts s (drop h.settled h.list) new)
     → (((n : ℕ) → answer ≢ Ok (Some n)) → new ≡ s)
-    → Makes facts begin (answer_due answer) (parts h s failure_told) (parts h new failure_told)
-begin_made {D} {failure_told = failure_told} facts h s new answer lawful fits works none is_answer begins stays = (its_fits answer refl, its_call)
+    → IsCall facts begin (answer_due answer) (parts h s failure_told) (parts h new failure_told)
+begin_made {D} {failure_told = failure_told} facts h s new answer lawful fits after works none is_answer begins stays = its_call
   where
     settled : h.settled ≡ committed s
     settled = all_settled (is_idle s.phase) h s.current s.next fits.commit none
@@ -61,15 +60,6 @@ begin_made {D} {failure_told = failure_told} facts h s new answer lawful fits wo
     due n is =
         due_begun (is_idle s.phase) (is_none (drop h.settled h.list)) (has_room s.current (drop h.settled h.list)) _ n
         (sym due_is ∙ was_due (begin_due s (drop h.settled h.list)) answer n is is_answer)
-
-    less : (n : ℕ) → answer ≡ Ok (Some n) → committed s < length h.list
-    less n is = rw settled at (leb-false (length h.list) h.settled (none_behind h.settled h.list ∙ (due n is).1))
-
-    its_fits : (a : Result (Option ℕ) StoreError) → answer ≡ a → Fits facts (parts h new failure_told)
-    its_fits (Ok (Some n)) is =
-        fits_begun facts h s new fits (due n is).0 settled (less n is) (rw settled at (begins n is))
-    its_fits (Ok None) is = rw (stays (no_number answer (ap has_number is))) fits
-    its_fits (Err e) is = rw (stays (no_number answer (ap has_number is))) fits
 
     new_state : (n : ℕ) → answer ≡ Ok (Some n)
         → state_of (parts h new failure_told) ≡ record (state_of (parts h s failure_told)) { commit = Some (record { count = n; through = false }) }
@@ -102,10 +92,9 @@ begin_made {D} {failure_told = failure_told} facts h s new answer lawful fits wo
 
     its_call : IsCall facts begin (answer_due answer) (parts h s failure_told) (parts h new failure_told)
     its_call =
-        let kept = grows_same h in
         let disk = its_disk answer refl in
         quiet_call facts begin (answer_due answer) (parts h s failure_told) (parts h new failure_told) disk (rw disk lawful)
-        (its_fits answer refl) refl
+        after refl
         (begin_step (state_of (parts h s failure_told)) (state_of (parts h new failure_told)) (begin_due s (drop h.settled h.list)) answer works machine
         is_answer new_state (λ other. ap (λ t. state_of (parts h t failure_told)) (stays other)))
-        kept.more kept.list (same_settled answer) (omega arith) refl (its_counts answer refl) (its_goes answer refl)
+        [] (sym (append-nil h.list)) (same_settled answer) (omega arith) refl (its_counts answer refl) (its_goes answer refl)

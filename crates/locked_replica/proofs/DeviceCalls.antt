@@ -1,5 +1,5 @@
 -- One device call of a commit under way, with what it makes of a hub.
-use Rattle.std.proofs.Common.{Bool, ◌≡◌, ℕ, ◌-◌, true, false, List, refl, sym, ◌∙◌, arith, inl, inr, ◌⊎◌, Result}
+use Rattle.std.proofs.Common.{Bool, ◌≡◌, ℕ, ◌-◌, true, false, List, [], refl, sym, append-nil, ◌∙◌, arith, inl, inr, ◌⊎◌, Result}
 use Rattle.disk_trait.specs.Calls.{LeavesOnly}
 use Rattle.disk_trait.specs.declared.facts.DiskFacts.{Ghosts}
 use Rattle.op_model.specs.Machine.{Answer, device_step, goes_on, goes_through, refused, Step}
@@ -11,11 +11,10 @@ use Rattle.group_commit.specs.Held.{Held as StoreHeld}
 use Rattle.group_commit.specs.Step.{IsDeviceCall, IsLeftAround, failures_in as failures_of}
 use Rattle.group_commit.specs.declared.error.StoreError.{StoreError}
 use Rattle.locked_replica.specs.Hub.{state_of}
-use Rattle.locked_replica.specs.Fits.{Fits, IsUnderWay}
+use Rattle.locked_replica.proofs.Fits.{Fits, IsUnderWay}
 use Rattle.locked_replica.specs.Calls.{IsCall, IsLeftIn, Counts, StepsOn, StepsFail, StoreSteps, calls_in, failures_in, settled_by}
 use Rattle.locked_replica.proofs.PartsOf.{parts}
 use Rattle.locked_replica.proofs.Recovering.{survivor_has_settled, survivor_is_left, left_of, left_has}
-use Rattle.locked_replica.proofs.Keeping.{grows_same}
 use Rattle.std.proofs.lemmas.Bool.{lt-ltb}
 
 -- what a crash leaves at any moment, said in a weaker way
@@ -40,11 +39,10 @@ device_call : {D : Type 0} {failure_told : Bool} {T : Type 0} (facts : Ghosts D)
     → Fits facts (parts h new failure_told) → Counts facts answer s new → StoreSteps facts answer s new
     → IsCall facts device_step answer (parts h s failure_told) (parts h new failure_told)
 device_call {failure_told = failure_told} facts h s new writes syncs error result answer fits busy call step one failing same after counts goes =
-    let kept = grows_same h in
     record {
       owner = refl;
       step = step;
-      grows = (kept.more, kept.list);
+      grows = ([], sym (append-nil h.list));
       settled = same;
       rises = omega arith;
       sound = fits.sound;
@@ -104,37 +102,3 @@ call_fails {failure_told = failure_told} facts h s new writes syncs error result
     one : (n : ℕ) → (n ≡ 51) ⊎ (n ≡ 52) → calls_in device_step (refused n) ≡ 1
     one n (inl is) = rw is refl
     one n (inr is) = rw is refl
-
--- what a hub keeps is kept where the commit goes on, or failed
-pub fits_going : {D : Type 0} {failure_told : Bool} (facts : Ghosts D) (h : Held) (s new : StoreHeld D) → Fits facts (parts h s failure_told) → is_idle s.phase ≡ false
-    → is_idle new.phase ≡ false → new.current ≡ s.current → new.next ≡ s.next
-    → (facts.tells new.disk → (file : List ℕ) → facts.survives new.disk file → IsLeft new.phase new.current new.next file)
-    → Fits facts (parts h new failure_told)
-fits_going {failure_told = failure_told} facts h s new fits busy busy' current next left =
-    record {
-      sound = fits.sound;
-      live = rw current fits.live;
-      commit = rw (busy', current, next) (rw busy at fits.commit);
-      left = left;
-    }
-
--- and where it is through
-pub fits_through : {D : Type 0} {failure_told : Bool} (facts : Ghosts D) (h : Held) (s new : StoreHeld D) → Fits facts (parts h s failure_told) → is_idle s.phase ≡ false
-    → is_idle new.phase ≡ true → new.current ≡ s.next
-    → (facts.tells new.disk → (file : List ℕ) → facts.survives new.disk file → IsLeft new.phase new.current new.next file)
-    → Fits facts (parts h new failure_told)
-fits_through {failure_told = failure_told} facts h s new fits busy rest current left =
-    let way : IsUnderWay h s.current s.next = rw busy at fits.commit in
-    let more = way.owed.more in
-    let version = way.version in
-    record {
-      sound = fits.sound;
-      live = rw current way.front;
-      commit = rw (rest, current) (record {
-        settled = omega (arith, more);
-        version = λ less. omega (arith, version);
-        through = λ less. way.owed;
-        places = λ same. absurd (omega (arith, more, same));
-      });
-      left = left;
-    }

@@ -10,29 +10,22 @@ use Rattle.group_commit.specs.Errors.{number_of}
 use Rattle.group_commit.specs.Held.{gone_on, has_failed, Held as StoreHeld}
 use Rattle.group_commit.specs.Counts.{writes_left, syncs_left, IsWriting}
 use Rattle.group_commit.proofs.CountLemmas.{writes_fall, syncs_fall}
-use Rattle.group_commit.specs.Step.{IsDeviceCall, Does, error_in, writes_in, syncs_in}
+use Rattle.group_commit.specs.Step.{Does}
+use Rattle.hub_parts.specs.Flusher.{IsStoreStep}
 use Rattle.group_commit.specs.declared.error.StoreError.{StoreError}
 use Rattle.group_commit.specs.declared.error.StoreError.TheVariants.{Failed}
 use Rattle.group_commit.specs.declared.phase.Phase.{Phase}
 use Rattle.group_commit.specs.declared.phase.Phase.TheVariants.{Idle, Sync3}
 use Rattle.locked_replica.specs.Hub.{committed}
-use Rattle.locked_replica.specs.Fits.{Fits}
+use Rattle.locked_replica.proofs.Fits.{Fits}
 use Rattle.locked_replica.specs.Calls.{IsCall, Counts, StepsOn, writes_begun, syncs_begun}
 use Rattle.locked_replica.specs.Steps.{stepped_in}
 use Rattle.locked_replica.proofs.PartsOf.{parts}
-use Rattle.locked_replica.proofs.Keeping.{Grows, grows_same, Makes}
-use Rattle.locked_replica.proofs.QuietCalls.{quiet_call, counts_same}
+use Rattle.locked_replica.proofs.QuietCalls.{quiet_same}
 use Rattle.locked_replica.proofs.StateLemmas.{no_call_due}
-use Rattle.locked_replica.proofs.PhaseLemmas.{going_busy, kind_of, failed_busy, device_number, kept_current, kept_working, not_idle, is_busy}
-use Rattle.locked_replica.proofs.DeviceCalls.{call_goes_on, call_goes_through, call_fails, fits_going, fits_through}
-
--- What a store's step says of itself.
-pub record Stepped {D : Type 0} (facts : Ghosts D) (s new : StoreHeld D) (answer : Result Phase StoreError) : Type 0 where
-  pub stopped : s.failed ≡ true → (answer ≡ Err Failed) × (new ≡ s)
-  pub idle : s.failed ≡ false → s.phase ≡ Idle → (answer ≡ Ok Idle) × (new ≡ s)
-  pub call : s.failed ≡ false → s.phase ≢ Idle
-      → IsDeviceCall {T = Phase} facts (writes_in s.phase) (syncs_in s.phase) (error_in s.phase) answer s new
-  pub does : s.failed ≡ false → facts.tells s.disk → Does {T = Phase} facts answer s.phase s new.disk
+use Rattle.hub_parts.proofs.PhaseLemmas.{going_busy, kind_of, failed_busy, device_number, kept_current, kept_working, not_idle, is_busy}
+use Rattle.locked_replica.proofs.PhaseLemmas.{goes_on_in}
+use Rattle.locked_replica.proofs.DeviceCalls.{call_goes_on, call_goes_through, call_fails}
 
 -- a page that is written is one of the new ones
 page_is_new : {D : Type 0} (facts : Ghosts D) (s : StoreHeld D) (new : D) (answer : Result Phase StoreError) → Does {T = Phase} facts answer s.phase s new
@@ -41,7 +34,7 @@ page_is_new facts s new answer does k at_page = (subst (λ p. Does {T = Phase} f
 
 -- a device call that succeeds makes its part of the writes and syncs that are left
 counts_on : {D : Type 0} (facts : Ghosts D) (s new : StoreHeld D) (p : Phase) (answer : Answer) → writes_begun answer new ≡ 0 → syncs_begun answer ≡ 0
-    → s.failed ≡ false → Stepped facts s new (Ok p) → s.phase ≢ Idle → new ≡ gone_on s.phase s new.disk → Counts facts answer s new
+    → s.failed ≡ false → IsStoreStep facts s (Ok p) new → s.phase ≢ Idle → new ≡ gone_on s.phase s new.disk → Counts facts answer s new
 counts_on facts s new p answer none none_syncs works stepped busy gone =
     record {
       stays = λ failed. absurd (cc);
@@ -72,9 +65,9 @@ never_both answer e p is same = absurd (cc)
 
 -- a device step that is answered with a phase
 pub step_made : {D : Type 0} {failure_told : Bool} (facts : Ghosts D) (h : Held) (s new : StoreHeld D) (p : Phase) → (facts.tells s.disk → IsLawful facts s.disk)
-    → Fits facts (parts h s failure_told) → Stepped facts s new (Ok p) → p ≡ s.phase → (s.failed ≡ false → new ≡ gone_on s.phase s new.disk)
-    → Makes facts device_step (stepped_in p) (parts h s failure_told) (parts h new failure_told)
-step_made {D} {failure_told = failure_told} facts h s new p lawful fits stepped made went = rw made (by_kind (kind_of s.phase))
+    → Fits facts (parts h s failure_told) → Fits facts (parts h new failure_told) → IsStoreStep facts s (Ok p) new
+    → IsCall facts device_step (stepped_in p) (parts h s failure_told) (parts h new failure_told)
+step_made {D} {failure_told = failure_told} facts h s new p lawful fits after stepped = rw stepped.made (by_kind (kind_of s.phase))
   where
     works : s.failed ≡ false
     works = by_test s.failed refl
@@ -84,27 +77,19 @@ step_made {D} {failure_told = failure_told} facts h s new p lawful fits stepped 
         by_test false is = is
 
     gone : new ≡ gone_on s.phase s new.disk
-    gone = went works
+    gone = stepped.went_on works
 
     steps : StepsOn facts s new
-    steps = record { next = gone; does = λ told. subst (λ q. Does {T = Phase} facts (Ok q) s.phase s new.disk) made (stepped.does works told) }
+    steps = record { next = gone; does = λ told. subst (λ q. Does {T = Phase} facts (Ok q) s.phase s new.disk) stepped.made (stepped.does works told) }
 
-    by_kind : (s.phase ≡ Idle) ⊎ ((s.phase ≡ Sync3) ⊎ ((is_idle s.phase ≡ false) × (s.phase ≢ Sync3) × (stepped_in s.phase ≡ goes_on)))
-        → Makes facts device_step (stepped_in s.phase) (parts h s failure_told) (parts h new failure_told)
-    by_kind (inl is) = rw (stepped.idle works is).1 (fits, at_rest)
-      where
-        kept : Grows h h
-        kept = grows_same h
-
-        rest : is_idle s.phase ≡ true
-        rest = ap is_idle is
-
-        at_rest : IsCall facts device_step (stepped_in s.phase) (parts h s failure_told) (parts h s failure_told)
-        at_rest =
-            subst (λ q. IsCall facts device_step (stepped_in q) (parts h s failure_told) (parts h s failure_told)) (sym is) (
-            quiet_call facts device_step idle_answer (parts h s failure_told) (parts h s failure_told) refl lawful fits refl
-            (works, rw rest (no_call_due h.settled (committed s) (count_of s.next.body)), refl) kept.more kept.list refl (omega arith) refl (counts_same facts _ s refl refl) refl
-            )
+    by_kind : (s.phase ≡ Idle) ⊎ ((s.phase ≡ Sync3) ⊎ ((is_idle s.phase ≡ false) × (s.phase ≢ Sync3)))
+        → IsCall facts device_step (stepped_in s.phase) (parts h s failure_told) (parts h new failure_told)
+    by_kind (inl is) =
+        let rest : is_idle s.phase ≡ true = ap is_idle is in
+        rw (stepped.idle works is).1 (
+        subst (λ q. IsCall facts device_step (stepped_in q) (parts h s failure_told) (parts h s failure_told)) (sym is) (
+        quiet_same facts device_step idle_answer h s lawful fits (works, rw rest (no_call_due h.settled (committed s) (count_of s.next.body)), refl) refl refl refl refl
+        refl))
     by_kind (inr (inl is)) =
         let busy : is_idle s.phase ≡ false = ap is_idle is in
         let done : new ≡ gone_on Sync3 s new.disk = gone ∙ ap (λ q. gone_on q s new.disk) is in
@@ -112,57 +97,44 @@ step_made {D} {failure_told = failure_told} facts h s new p lawful fits stepped 
         let current : new.current ≡ s.next = ap (λ t. t.current) done in
         let works' : new.failed ≡ false = ap (λ t. t.failed) done ∙ works in
         let its_call = stepped.call works (not_idle s.phase busy) in
-        let after = fits_through facts h s new fits busy rest current its_call.left in (
-          after,
-          subst (λ q. IsCall facts device_step (stepped_in q) (parts h s failure_told) (parts h new failure_told)) (sym is)
-              (call_goes_through facts h s new _ _ _ _ fits works busy its_call rest current works' after
-              (counts_on facts s new p goes_through refl refl works stepped (not_idle s.phase busy) gone) refl steps),
-        )
-    by_kind (inr (inr (busy, other, on))) =
+        subst (λ q. IsCall facts device_step (stepped_in q) (parts h s failure_told) (parts h new failure_told)) (sym is)
+        (call_goes_through facts h s new _ _ _ _ fits works busy its_call rest current works' after
+        (counts_on facts s new p goes_through refl refl works stepped (not_idle s.phase busy) gone) refl steps)
+    by_kind (inr (inr (busy, other))) =
+        let on = goes_on_in s.phase busy other in
         let kept = kept_current s.phase s new.disk other in
         let busy' : is_idle new.phase ≡ false = ap (λ t. is_idle t.phase) gone ∙ going_busy s.phase s new.disk busy other in
         let current : new.current ≡ s.current = ap (λ t. t.current) gone ∙ kept.0 in
         let next : new.next ≡ s.next = ap (λ t. t.next) gone ∙ kept.1 in
         let works' : new.failed ≡ false = ap (λ t. t.failed) gone ∙ kept_working s.phase s new.disk ∙ works in
         let its_call = stepped.call works (not_idle s.phase busy) in
-        let after = fits_going facts h s new fits busy busy' current next its_call.left in (
-          after,
-          rw on (call_goes_on facts h s new _ _ _ _ fits works busy its_call busy' current next works' after
-              (counts_on facts s new p goes_on refl refl works stepped (not_idle s.phase busy) gone) refl steps),
-        )
+        rw on (call_goes_on facts h s new _ _ _ _ fits works busy its_call busy' current next works' after
+        (counts_on facts s new p goes_on refl refl works stepped (not_idle s.phase busy) gone) refl steps)
 
 -- a device step that is refused
 pub step_refused : {D : Type 0} {failure_told : Bool} (facts : Ghosts D) (h : Held) (s new : StoreHeld D) (e : StoreError) → (facts.tells s.disk → IsLawful facts s.disk)
-    → Fits facts (parts h s failure_told) → Stepped facts s new (Err e) → (s.failed ≡ false → new ≡ has_failed s new.disk)
-    → Makes facts device_step (refused (number_of e)) (parts h s failure_told) (parts h new failure_told)
-step_refused {failure_told = failure_told} facts h s new e lawful fits stepped gone = by_test s.failed refl
+    → Fits facts (parts h s failure_told) → Fits facts (parts h new failure_told) → IsStoreStep facts s (Err e) new
+    → IsCall facts device_step (refused (number_of e)) (parts h s failure_told) (parts h new failure_told)
+step_refused {failure_told = failure_told} facts h s new e lawful fits after stepped = by_test s.failed refl
   where
-    kept : Grows h h
-    kept = grows_same h
-
-    by_test : (t : Bool) → s.failed ≡ t → Makes facts device_step (refused (number_of e)) (parts h s failure_told) (parts h new failure_told)
+    by_test : (t : Bool) → s.failed ≡ t → IsCall facts device_step (refused (number_of e)) (parts h s failure_told) (parts h new failure_told)
     by_test true failed =
         let both = stepped.stopped failed in
         rw (same_error (Err e) e Failed refl both.0, both.1) (
-          fits,
-          quiet_call facts device_step (refused 44) (parts h s failure_told) (parts h s failure_told) refl lawful fits refl
-              (inl (failed, refl, refl)) kept.more kept.list refl (omega arith) refl (counts_same facts _ s refl refl) (inl (refl, refl)),
-        )
+        quiet_same facts device_step (refused 44) h s lawful fits (inl (failed, refl, refl)) refl refl refl refl (inl (refl, refl)))
     by_test false works =
         let some : s.phase ≢ Idle = λ is. never_both (Err e) e Idle refl (stepped.idle works is).0 in
-        let gone_so = gone works in
+        let gone_so = stepped.failed works in
         let busy = is_busy s.phase some in
         let busy' : is_idle new.phase ≡ false = ap (λ t. is_idle t.phase) gone_so ∙ failed_busy s.phase ∙ busy in
         let current : new.current ≡ s.current = ap (λ t. t.current) gone_so in
         let next : new.next ≡ s.next = ap (λ t. t.next) gone_so in
         let failed : new.failed ≡ true = ap (λ t. t.failed) gone_so in
         let its_call = stepped.call works some in
-        let after = fits_going facts h s new fits busy busy' current next its_call.left in
-        let error = its_call.refused in (
-          after,
-          call_fails facts h s new _ _ _ _ (number_of e) fits works busy its_call busy' current next failed (rw error (device_number s.phase)) after (counts_failed facts _ s new failed) refl (record {
-            number = ap number_of error;
-            next = gone_so;
-            does = λ told. subst (λ q. Does {T = Phase} facts (Err q) s.phase s new.disk) error (stepped.does works told);
-          }),
-        )
+        let error = its_call.refused in
+        call_fails facts h s new _ _ _ _ (number_of e) fits works busy its_call busy' current next failed (rw error (device_number s.phase)) after
+        (counts_failed facts _ s new failed) refl (record {
+          number = ap number_of error;
+          next = gone_so;
+          does = λ told. subst (λ q. Does {T = Phase} facts (Err q) s.phase s new.disk) error (stepped.does works told);
+        })

@@ -1,10 +1,11 @@
 pub mod PartsOf
 pub mod ListLemmas
 pub mod Recovering
-pub mod Keeping
+pub mod Fits
+pub mod PartsFit
 pub mod QuietCalls
+pub mod SharedCalls
 pub mod StateLemmas
-pub mod RoomAnswers
 pub mod RoomLemmas
 pub mod PhaseLemmas
 pub mod DeviceCalls
@@ -13,5 +14,5 @@ pub mod BegunCommits
 pub mod BeginAnswers
 pub mod Beginning
 pub mod Settling
-pub mod OpenedHubs
+pub mod MetCalls
 pub mod RunLemmas

@@ -17,7 +17,7 @@ use Rattle.group_commit.specs.Saved.{Saved}
 use Rattle.group_commit.specs.declared.phase.Phase.{Phase}
 use Rattle.group_commit.specs.declared.phase.Phase.TheVariants.{Idle, Pages, Close, Sync1, Body, Sync2, Gate, Sync3}
 use Rattle.locked_replica.specs.Hub.{Parts, committed, commit_in, version_in, state_of}
-use Rattle.locked_replica.specs.Fits.{Fits, IsFront, IsUnderWay, Commits}
+use Rattle.locked_replica.proofs.Fits.{Fits, IsFront, IsUnderWay, Commits}
 use Rattle.locked_replica.specs.Recovery.{HasRootOf, RecoversIn, Recovers, IsCrash, HasAtLeast}
 use Rattle.locked_replica.specs.Calls.{IsLeftOf}
 

@@ -1,19 +1,18 @@
 -- Settlements of a commit that is through.
-use Rattle.std.proofs.Common.{◌≡◌, ℕ, ◌+◌, ◌-◌, ◌<◌, Bool, true, false, ◌&&◌, nat_lt, refl, ap, arith, None}
+use Rattle.std.proofs.Common.{◌≡◌, ℕ, ◌+◌, ◌-◌, ◌<◌, Bool, true, false, ◌&&◌, nat_lt, refl, sym, ap, arith, append-nil, [], None}
 use Rattle.std.proofs.lemmas.Bool.Decides.{nat_tests}
 use Rattle.disk_trait.specs.Calls.{IsLawful}
 use Rattle.disk_trait.specs.declared.facts.DiskFacts.{Ghosts}
 use Rattle.op_model.specs.Machine.{settle, refused, settled_to, Step}
 use Rattle.root_slots.specs.Root.{version_of, count_of}
-use Rattle.replica_core.specs.Held.{Held, IsSound, stored, with_settled}
+use Rattle.replica_core.specs.Held.{Held, stored, with_settled}
 use Rattle.group_commit.specs.Begin.{is_idle}
 use Rattle.group_commit.specs.Held.{Held as StoreHeld}
 use Rattle.locked_replica.specs.Hub.{committed, state_of}
-use Rattle.locked_replica.specs.Fits.{Fits, IsAtRest}
+use Rattle.locked_replica.proofs.Fits.{Fits, fits_told, IsAtRest}
 use Rattle.locked_replica.specs.Calls.{IsCall}
 use Rattle.locked_replica.proofs.PartsOf.{parts}
-use Rattle.locked_replica.proofs.Keeping.{Grows, grows_same, fits_settled, fits_told, Makes}
-use Rattle.locked_replica.proofs.QuietCalls.{quiet_call, counts_same}
+use Rattle.locked_replica.proofs.QuietCalls.{quiet_call, quiet_same, counts_same}
 use Rattle.locked_replica.proofs.StateLemmas.{not_through}
 use Rattle.std.proofs.lemmas.Bool.{lt-ltb, le-ltb}
 
@@ -23,18 +22,14 @@ through_says true a b is = (refl, grind (arith, nat_tests))
 through_says false a b is = absurd (cc)
 
 -- a settlement of the commit that is through
-pub settle_made : {D : Type 0} {failure_told : Bool} (facts : Ghosts D) (h next : Held) (s : StoreHeld D) → (facts.tells s.disk → IsLawful facts s.disk)
-    → Fits facts (parts h s failure_told) → s.failed ≡ false → is_idle s.phase ≡ true → h.settled < committed s
-    → next ≡ with_settled h (committed s) → IsSound next
-    → Makes facts settle (settled_to (committed s)) (parts h s failure_told) (parts next s failure_told)
-settle_made {failure_told = failure_told} facts h next s lawful fits works idle less is sound = rw is (its_fits, its_call)
+pub settle_made : {D : Type 0} {failure_told : Bool} (facts : Ghosts D) (h : Held) (s : StoreHeld D) → (facts.tells s.disk → IsLawful facts s.disk)
+    → Fits facts (parts h s failure_told) → Fits facts (parts (with_settled h (committed s)) s failure_told) → s.failed ≡ false → is_idle s.phase ≡ true
+    → h.settled < committed s
+    → IsCall facts settle (settled_to (committed s)) (parts h s failure_told) (parts (with_settled h (committed s)) s failure_told)
+settle_made {failure_told = failure_told} facts h s lawful fits after works idle less =
+    quiet_call facts settle (settled_to (committed s)) (parts h s failure_told) (parts (with_settled h (committed s)) s failure_told) refl lawful
+    after refl step [] (sym (append-nil h.list)) refl (omega (arith, less)) refl (counts_same facts _ s refl refl) refl
   where
-    its_fits : Fits facts (parts (with_settled h (committed s)) s failure_told)
-    its_fits = fits_settled facts h s fits idle less (rw is at sound)
-
-    kept : Grows h h
-    kept = grows_same h
-
     rest : IsAtRest h s.current
     rest = rw idle at fits.commit
 
@@ -47,24 +42,14 @@ settle_made {failure_told = failure_told} facts h next s lawful fits works idle 
         rw (works, idle, lt-ltb h.settled (committed s) less, le-ltb (committed s) (committed s) (omega arith))
         (refl, ap (λ v. record (stored (with_settled h (committed s)) false v None) { failure_told = failure_told }) version)
 
-    its_call : IsCall facts settle (settled_to (committed s)) (parts h s failure_told) (parts (with_settled h (committed s)) s failure_told)
-    its_call =
-        quiet_call facts settle (settled_to (committed s)) (parts h s failure_told) (parts (with_settled h (committed s)) s failure_told) refl lawful
-        its_fits refl step kept.more kept.list refl (omega (arith, less)) refl (counts_same facts _ s refl refl) refl
-
 pub settle_failed : {D : Type 0} {failure_told : Bool} (facts : Ghosts D) (h : Held) (s : StoreHeld D) → (facts.tells s.disk → IsLawful facts s.disk)
-    → Fits facts (parts h s failure_told) → s.failed ≡ true
-    → IsCall facts settle (refused 44) (parts h s failure_told) (parts h s true)
+    → Fits facts (parts h s failure_told) → s.failed ≡ true → IsCall facts settle (refused 44) (parts h s failure_told) (parts h s true)
 settle_failed {failure_told = failure_told} facts h s lawful fits failed =
-    let kept = grows_same h in
-    quiet_call facts settle (refused 44) (parts h s failure_told) (parts h s true) refl lawful (fits_told facts h s failure_told true fits) refl
-    (rw failed (refl, refl)) kept.more kept.list refl (omega arith) refl (counts_same facts _ s refl refl) refl
+    quiet_same facts settle (refused 44) h s lawful (fits_told facts (parts h s failure_told) true fits) (rw failed (refl, refl)) refl refl refl refl refl
 
 pub settle_busy : {D : Type 0} {failure_told : Bool} (facts : Ghosts D) (h : Held) (s : StoreHeld D) → (facts.tells s.disk → IsLawful facts s.disk)
     → Fits facts (parts h s failure_told) → s.failed ≡ false → (is_idle s.phase && nat_lt h.settled (committed s)) ≡ false
     → IsCall facts settle (refused 8) (parts h s failure_told) (parts h s failure_told)
 settle_busy {failure_told = failure_told} facts h s lawful fits works none =
-    let kept = grows_same h in
     let no_commit = not_through (is_idle s.phase) h.settled (committed s) (count_of s.next.body) none in
-    quiet_call facts settle (refused 8) (parts h s failure_told) (parts h s failure_told) refl lawful fits refl
-    (rw (works, no_commit) (refl, refl)) kept.more kept.list refl (omega arith) refl (counts_same facts _ s refl refl) refl
+    quiet_same facts settle (refused 8) h s lawful fits (rw (works, no_commit) (refl, refl)) refl refl refl refl refl

@@ -1,5 +1,4 @@
 pub mod Calls
-pub mod Fits
 pub mod Hub
 pub mod Recovery
 pub mod Run

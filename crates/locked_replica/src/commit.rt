@@ -11,6 +11,7 @@ use crate::hub::Hub;
 use crate::refusal::HubRefusal;
 use disk_trait::Disk;
 use group_commit::{Phase, StoreError};
+use hub_parts::Met;
 
 impl<D: Disk> Hub<D> {
     /// Whether the last device call of a commit is made, and the commit isn't settled yet. Takes no
@@ -18,35 +19,34 @@ impl<D: Disk> Hub<D> {
     fn is_through(&self) -> bool
         ensures { result ≡ is_through self.now }
     {
-        self.store.phase().is_idle() && (self.replica.settled() as u64) < self.store.committed()
+        self.locked.kept();
+        self.flusher.kept();
+        self.flusher.is_due() && self.flusher.phase().is_idle()
     }
 
     /// Begins a commit of all operations that aren't settled, and answers the length of the list
     /// that it commits; `None` where all are settled. It makes no device call.
     ///
-    /// Refuses, in this order, with 44 where the device failed, 8 where there is a commit, 7 where
-    /// there is no further version, and 1 where a growth was refused. A refused call changes
-    /// nothing. Costs what `Store::begin_records` does: the store is given the list's own records,
-    /// and no operation is read, copied or spelled.
+    /// Refuses, in this order, with 44 where the device failed, which is told then, 8 where there is
+    /// a commit, 7 where there is no further version, and 1 where a growth was refused. A refused
+    /// call changes nothing else. It is a meeting of the two parts, and costs what that does.
     pub fn begin(&mut self) -> Result<Option<u64>, HubRefusal>
         ensures call { IsCall D.DiskFacts begin_event (begin_answered result) self.old self.new }
     {
-        if self.store.has_failed() {
-            self.failure_told = true;
-            return Err(HubRefusal::Store(StoreError::Failed));
-        }
-        if self.is_through() {
+        self.locked.kept();
+        self.flusher.kept();
+        if !self.flusher.has_failed() && self.flusher.is_due() {
             return Err(HubRefusal::Store(StoreError::Busy));
         }
-        let list = self.replica.list();
-        let settled = self.replica.settled();
-        let records = list.records_from(settled);
-        let count = (list.len() - settled) as u64;
-        let begun = match self.store.begin_records(records, count) {
-            Ok(begun) => begun,
-            Err(error) => return Err(HubRefusal::Store(error)),
-        };
-        Ok(begun)
+        let answer = self.flusher.meet(&mut self.locked);
+        self.locked.kept();
+        self.flusher.kept();
+        match answer {
+            Ok(Met::Begun(count)) => Ok(Some(count)),
+            Ok(Met::Nothing) => Ok(None),
+            Ok(Met::Settled(_)) => unreachable!(),
+            Err(error) => Err(HubRefusal::Store(error)),
+        }
     }
 
     /// Makes the next device call of the commit, and answers the phase whose call it was; `Idle`
@@ -63,31 +63,36 @@ impl<D: Disk> Hub<D> {
             ≡ gone_on self.old.store.phase self.old.store self.new.store.disk) }
         ensures replica { self.new.replica ≡ self.old.replica }
     {
-        let phase = match self.store.step() {
-            Ok(phase) => phase,
-            Err(error) => return Err(HubRefusal::Store(error)),
-        };
-        Ok(phase)
+        self.locked.kept();
+        self.flusher.kept();
+        let answer = self.flusher.device_step();
+        self.flusher.kept();
+        match answer {
+            Ok(phase) => Ok(phase),
+            Err(error) => Err(HubRefusal::Store(error)),
+        }
     }
 
     /// Settles the commit that is through, and answers the settled number. Takes no memory.
     ///
-    /// Refuses with 44 where the device failed, else with 8 where no commit is through. A refused
-    /// call changes nothing.
+    /// Refuses with 44 where the device failed, which is told then, else with 8 where no commit is
+    /// through. A refused call changes nothing else. It is a meeting of the two parts.
     pub fn settle(&mut self) -> Result<u64, HubRefusal>
         ensures call { IsCall D.DiskFacts settle_event (settle_answered result) self.old self.new }
         ensures store { self.new.store ≡ self.old.store }
     {
-        if self.store.has_failed() {
-            self.failure_told = true;
-            return Err(HubRefusal::Store(StoreError::Failed));
-        }
-        if !self.is_through() {
+        self.locked.kept();
+        self.flusher.kept();
+        if !self.flusher.has_failed() && !self.is_through() {
             return Err(HubRefusal::Store(StoreError::Busy));
         }
-        let count = self.store.committed();
-        self.replica.settle(count as usize);
-        let _list = self.replica.list();
-        Ok(count)
+        let answer = self.flusher.meet(&mut self.locked);
+        self.locked.kept();
+        self.flusher.kept();
+        match answer {
+            Ok(Met::Settled(count)) => Ok(count),
+            Ok(Met::Begun(_)) | Ok(Met::Nothing) => unreachable!(),
+            Err(error) => Err(HubRefusal::Store(error)),
+        }
     }
 }

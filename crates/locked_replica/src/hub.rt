@@ -1,37 +1,32 @@
 //! A replica and its store.
 use disk_trait::Disk;
-use group_commit::Store;
-use replica_core::Replica;
+use hub_parts::{Flusher, Locked};
 use std::marker::Model;
 
-/// One peer's replica and the store that keeps it on a disk. Contracts see what both hold.
+/// One peer's replica and the store that keeps it on a disk: the part that stands under a lock, and
+/// the one that makes device calls, held together. Contracts see what both hold.
 ///
-/// The type keeps that the live root holds a beginning of the replica's list, that a commit under
-/// way holds a longer one which can be settled, that what is acknowledged and told is settled, and
-/// that every file which a crash may leave has the live root or the one that the commit makes.
+/// The type keeps that the two fit, and each part what it keeps for itself: the live root holds a
+/// beginning of the replica's list, a commit under way holds a longer one which can be settled,
+/// what is acknowledged and told is settled, and every file which a crash may leave has the live
+/// root or the one that the commit makes.
 #[derive(Drop)]
 pub struct Hub<D: Disk> {
-    pub(crate) replica: Replica,
-    pub(crate) store: Store<D>,
-    /// Whether a refused `begin` or `settle` has told that the device failed.
-    pub(crate) failure_told: bool,
+    pub(crate) locked: Locked,
+    pub(crate) flusher: Flusher<D>,
 }
 
 impl<D: Disk> Model for Hub<D> {
-    ghost use Rattle.locked_replica.specs.Fits.{Fits};
+    ghost use Rattle.hub_parts.specs.Meet.{Meet, side_of};
     ghost use Rattle.locked_replica.specs.Hub.{Parts};
 
     ghost Value = { Parts D };
 
     ghost view = { λ hub. record {
-      replica = hub.replica;
-      store = hub.store;
-      failure_told = hub.failure_told;
+      replica = hub.locked.replica;
+      store = hub.flusher.store;
+      failure_told = hub.locked.failure_told;
     } };
 
-    ghost invariant = { λ hub. Fits D.DiskFacts (record {
-      replica = hub.replica;
-      store = hub.store;
-      failure_told = hub.failure_told;
-    }) };
+    ghost invariant = { λ hub. Meet hub.locked (side_of hub.flusher) };
 }

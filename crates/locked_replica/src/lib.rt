@@ -9,7 +9,6 @@ mod hub_step;
 #[cfg(test)]
 mod merge_tests;
 mod opening;
-mod pending;
 #[cfg(test)]
 mod pending_tests;
 mod reading;
@@ -28,6 +27,5 @@ mod world_tests;
 pub use hub::Hub;
 pub use hub_reply::HubReply;
 pub use hub_step::HubStep;
-pub use pending::MAX_PENDING;
 pub use refusal::HubRefusal;
 pub use running::run;

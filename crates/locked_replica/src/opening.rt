@@ -1,5 +1,5 @@
 //! The opening of a hub, and what a crash leaves of it.
-ghost use Rattle.std.specs.Prelude.{◌≡◌, ◌↔◌, List, ℕ, false, IfOk, IfErr};
+ghost use Rattle.std.specs.Prelude.{◌≡◌, ◌↔◌, List, ℕ, IfOk, IfErr};
 ghost use Rattle.root_slots.specs.Root.{version_of};
 ghost use Rattle.disk_trait.specs.Looks.{OnlyLooks};
 ghost use Rattle.op_model.specs.Machine.{opened};
@@ -10,14 +10,15 @@ ghost use Rattle.locked_replica.specs.Recovery.{HasAtLeast, IsCrash, Recovers};
 
 use crate::hub::Hub;
 use disk_trait::Disk;
-use recovery::{OpenFault, Opened};
+use hub_parts::Parts;
+use recovery::OpenFault;
 use std::alloc::Global;
 
 impl<D: Disk> Hub<D> {
     /// Opens the file of a disk: a sync, and then reads alone.
     ///
     /// Refuses as `recovery::open` does, with a device number, 42, 43, 45, 46, 47 or 1, and hands
-    /// the disk back. Costs what `recovery::open` does.
+    /// the disk back. Costs what `recovery::open` does, and a copy of the records.
     pub fn open(alloc: Global, disk: D) -> Result<Hub<D>, OpenFault<D>>
         // The hub is in the state right after opening the file's image.
         ensures image { D.tells disk → IfOk result (λ hub. IsImage (D.content disk)
@@ -34,17 +35,9 @@ impl<D: Disk> Hub<D> {
         ensures tells { IfOk result (λ hub. D.tells hub.store.disk ↔ D.tells disk) }
         ensures tells_refused { IfErr result (λ fault. D.tells fault.disk ↔ D.tells disk) }
     {
-        match recovery::open(alloc, disk) {
-            Ok(Opened { replica, store }) => {
-                let _list = replica.list();
-                Ok(Hub {
-                    replica,
-                    store,
-                    failure_told: false,
-                })
-            }
-            Err(fault) => Err(fault),
-        }
+        let Parts { locked, flusher } = hub_parts::open(alloc, disk)?;
+        flusher.kept();
+        Ok(Hub { locked, flusher })
     }
 
     /// Tells what the type keeps: every file that a crash now may leave has the image of the
@@ -59,6 +52,7 @@ impl<D: Disk> Hub<D> {
             → D.survives self.now.store.disk file
             → HasAtLeast self.now.replica.settled self.now.replica file }
     {
-        let _failed = self.store.has_failed();
+        self.locked.kept();
+        self.flusher.kept();
     }
 }

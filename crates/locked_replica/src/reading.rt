@@ -18,7 +18,7 @@ impl<D: Disk> Hub<D> {
     pub fn replica(&self) -> ReplicaId
         ensures { result ≡ self.now.replica.replica }
     {
-        self.replica.replica()
+        self.locked.replica()
     }
 
     /// The operations, in the order of application. The list is causally closed, replaying the kept
@@ -27,49 +27,49 @@ impl<D: Disk> Hub<D> {
         ensures list { result ≡ self.now.replica.list }
         ensures sound { IsSound self.now.replica }
     {
-        self.replica.list()
+        self.locked.list()
     }
 
     /// How many operations of each replica the list has.
     pub fn clock(&self) -> &Clock
         ensures { result.now ≡ clock_of self.now.replica.list }
     {
-        self.replica.clock()
+        self.locked.clock()
     }
 
     /// How many operations, from the beginning of the list, are settled.
     pub fn settled(&self) -> usize
         ensures { result ≡ self.now.replica.settled }
     {
-        self.replica.settled()
+        self.locked.settled()
     }
 
     /// The greatest number of operations that an edit answered as settled needed.
     pub fn acked(&self) -> usize
         ensures { result ≡ self.now.replica.acked }
     {
-        self.replica.acked()
+        self.locked.acked()
     }
 
     /// The greatest number of operations that a telling needed.
     pub fn told(&self) -> usize
         ensures { result ≡ self.now.replica.told }
     {
-        self.replica.told()
+        self.locked.told()
     }
 
     /// Whether the device failed, so that the store must be opened again. Takes no memory.
     pub fn has_failed(&self) -> bool
         ensures { result ≡ self.now.store.failed }
     {
-        self.store.has_failed()
+        self.flusher.has_failed()
     }
 
     /// How many operations a document has. Costs what `Replica::rev` does.
     pub fn rev(&self, doc: u32) -> usize
         ensures { result ≡ rev_of self.now.replica.list doc }
     {
-        self.replica.rev(doc)
+        self.locked.rev(doc)
     }
 
     /// The text of a document, unsettled operations included. An error is want of memory (1). Costs
@@ -77,7 +77,7 @@ impl<D: Disk> Hub<D> {
     pub fn text(&self, doc: u32) -> Result<Text, AllocError>
         ensures { IfOk result (λ seen. seen ≡ text_of self.now.replica.list doc) }
     {
-        self.replica.text(doc)
+        self.locked.text(doc)
     }
 
     /// The text of a document, cut where the marks change. An error is want of memory (1). Costs
@@ -85,14 +85,14 @@ impl<D: Disk> Hub<D> {
     pub fn spans(&self, doc: u32) -> Result<Vec<Span>, AllocError>
         ensures { IfOk result (λ found. found.items ≡ spans_of self.now.replica.list doc) }
     {
-        self.replica.spans(doc)
+        self.locked.spans(doc)
     }
 
     /// The disk. What a commit under way has written stays there.
     pub fn into_disk(self) -> D
         ensures { result ≡ self.store.disk }
     {
-        let Hub { store, .. } = self;
-        store.into_disk()
+        let Hub { flusher, .. } = self;
+        flusher.into_disk()
     }
 }

@@ -2,6 +2,7 @@
 ghost use Rattle.std.specs.Prelude.{◌≡◌};
 
 use group_commit::StoreError;
+use hub_parts::LockedRefusal;
 use replica_core::Refusal;
 use thiserror::Error;
 
@@ -17,13 +18,25 @@ pub enum HubRefusal {
     /// 8: the records that wait for a commit leave no room.
     #[error("busy")]
     Full,
-    /// 9: the device failed, and the store must be opened again.
+    /// 9: it was told that the device failed, and the file must be opened again.
     #[error("failed")]
     Failed,
 }
 
 impl HubRefusal {
+    ghost use Rattle.hub_parts.specs.Refusal.{number_of as number_of_locked};
     ghost use Rattle.locked_replica.specs.Steps.{number_of};
+
+    /// Why the hub refuses a call that its locked part refuses so: with the same number.
+    pub(crate) fn of(refusal: LockedRefusal) -> HubRefusal
+        ensures { number_of result ≡ number_of_locked refusal }
+    {
+        match refusal {
+            LockedRefusal::Replica(refusal) => HubRefusal::Replica(refusal),
+            LockedRefusal::Full => HubRefusal::Full,
+            LockedRefusal::Failed => HubRefusal::Failed,
+        }
+    }
 
     /// The number of the refusal.
     pub fn number(self) -> u8

@@ -15,63 +15,43 @@ use replica_core::{Merged, Ticket};
 
 impl<D: Disk> Hub<D> {
     /// Makes the operations of a session's edit and puts them behind the list; they aren't settled
-    /// yet. Refuses, in this order, with 9 where a refused `begin` or
-    /// `settle` has told that the device failed, as `Replica::edit` does (6, 5,
-    /// 7, 10), with 8 where the records have no room behind those that wait for a commit (1,048,576
-    /// bytes), and with 1 for want of memory. A refused edit changes nothing. Costs what
-    /// `Replica::edit` does.
+    /// yet. Refuses, in this order, with 9 where a refused `begin` or `settle` has told that the
+    /// device failed, as `Replica::edit` does (6, 5, 7, 10), with 8 where the records have no room
+    /// behind those that wait for a commit (1,048,576 bytes), and with 1 for want of memory. A
+    /// refused edit changes nothing. Costs what `Replica::edit` does.
     pub fn edit(&mut self, session: u64, edit: &Edit) -> Result<Ticket, HubRefusal>
         ensures call { IsCall D.DiskFacts (edit_event session edit.now) (edited result)
             self.old self.new }
         ensures store { self.new.store ≡ self.old.store }
     {
-        if self.failure_told {
-            return Err(HubRefusal::Failed);
+        self.locked.kept();
+        self.flusher.kept();
+        let answer = self.locked.edit(session, edit);
+        self.locked.kept();
+        match answer {
+            Ok(ticket) => Ok(ticket),
+            Err(refusal) => Err(HubRefusal::of(refusal)),
         }
-        let bytes = match self.replica.edit_length(edit) {
-            Ok(bytes) => bytes,
-            Err(refusal) => return Err(HubRefusal::Replica(refusal)),
-        };
-        if !self.has_record_room(bytes) {
-            return Err(HubRefusal::Full);
-        }
-        let ticket = match self.replica.put_edit(session, edit) {
-            Ok(ticket) => ticket,
-            Err(refusal) => return Err(HubRefusal::Replica(refusal)),
-        };
-        let _list = self.replica.list();
-        Ok(ticket)
     }
 
     /// Puts a peer's operation behind the list, or says that it is there already or comes early.
-    /// Refuses, in this order, with 9 where a refused `begin` or
-    /// `settle` has told that the device failed, as `Replica::merge` does (20 to 24,
-    /// 10), with 8 where the record has no room behind those that wait for a commit (1,048,576
-    /// bytes), and with 1 for want of memory. A refused merge changes nothing. Costs what
-    /// `Replica::merge` does.
+    /// Refuses, in this order, with 9 where a refused `begin` or `settle` has told that the device
+    /// failed, as `Replica::merge` does (20 to 24, 10), with 8 where the record has no room behind
+    /// those that wait for a commit (1,048,576 bytes), and with 1 for want of memory. A refused
+    /// merge changes nothing. Costs what `Replica::merge` does.
     pub fn merge(&mut self, peer: u64, op: Op) -> Result<Merged, HubRefusal>
         ensures call { IsCall D.DiskFacts (merge_event peer op) (merge_answered result)
             self.old self.new }
         ensures store { self.new.store ≡ self.old.store }
     {
-        if self.failure_told {
-            return Err(HubRefusal::Failed);
+        self.locked.kept();
+        self.flusher.kept();
+        let answer = self.locked.merge(peer, op);
+        self.locked.kept();
+        match answer {
+            Ok(merged) => Ok(merged),
+            Err(refusal) => Err(HubRefusal::of(refusal)),
         }
-        match self.replica.decide_merge(&op) {
-            Ok(Merged::Applied) => {}
-            Ok(Merged::Known) => return Ok(Merged::Known),
-            Ok(Merged::Early) => return Ok(Merged::Early),
-            Err(refusal) => return Err(HubRefusal::Replica(refusal)),
-        }
-        if !self.has_record_room(op.record_length()) {
-            return Err(HubRefusal::Full);
-        }
-        match self.replica.put_merge(peer, op) {
-            Ok(()) => {}
-            Err(refusal) => return Err(HubRefusal::Replica(refusal)),
-        }
-        let _list = self.replica.list();
-        Ok(Merged::Applied)
     }
 
     /// Whether the operations of a ticket's edit are settled. Then they are acknowledged; otherwise
@@ -81,8 +61,10 @@ impl<D: Disk> Hub<D> {
             self.old self.new }
         ensures store { self.new.store ≡ self.old.store }
     {
-        let settled = self.replica.ack(ticket);
-        let _list = self.replica.list();
+        self.locked.kept();
+        self.flusher.kept();
+        let settled = self.locked.ack(ticket);
+        self.locked.kept();
         settled
     }
 
@@ -93,12 +75,14 @@ impl<D: Disk> Hub<D> {
         ensures call { IsCall D.DiskFacts (tell_event clock.now) (told result) self.old self.new }
         ensures store { self.new.store ≡ self.old.store }
     {
-        let ops = match self.replica.tell(clock) {
-            Ok(ops) => ops,
-            Err(refusal) => return Err(HubRefusal::Replica(refusal)),
-        };
-        let _list = self.replica.list();
-        Ok(ops)
+        self.locked.kept();
+        self.flusher.kept();
+        let answer = self.locked.tell(clock);
+        self.locked.kept();
+        match answer {
+            Ok(ops) => Ok(ops),
+            Err(refusal) => Err(HubRefusal::of(refusal)),
+        }
     }
 
     /// How many operations of each replica are settled. All settled ones count as told. An error is
@@ -107,11 +91,13 @@ impl<D: Disk> Hub<D> {
         ensures call { IsCall D.DiskFacts have_event (had result) self.old self.new }
         ensures store { self.new.store ≡ self.old.store }
     {
-        let clock = match self.replica.have() {
-            Ok(clock) => clock,
-            Err(refusal) => return Err(HubRefusal::Replica(refusal)),
-        };
-        let _list = self.replica.list();
-        Ok(clock)
+        self.locked.kept();
+        self.flusher.kept();
+        let answer = self.locked.have();
+        self.locked.kept();
+        match answer {
+            Ok(clock) => Ok(clock),
+            Err(refusal) => Err(HubRefusal::of(refusal)),
+        }
     }
 }

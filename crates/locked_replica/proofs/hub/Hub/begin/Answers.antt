@@ -1,60 +1,39 @@
-use Rattle.std.proofs.Common.{◌-◌, sym, ap, ◌∙◌, List, drop, length-drop, Ok, Err}
-use Rattle.op_list.specs.Records.{AreRecords}
-use Rattle.op_model.specs.declared.op.Op.{Op as Operation}
-use Rattle.locked_replica.specs.Hub.{is_through}
-use Rattle.locked_replica.proofs.BeginAnswers.{begin_made}
-use Rattle.locked_replica.proofs.Beginning.{begin_failed, begin_through, rest_records}
+use Rattle.std.proofs.Common.{◌≡◌, true, false, not, ◌&&◌, refl, sym, ◌∙◌, ℕ, Result, Ok, Err}
+use Rattle.group_commit.specs.declared.error.StoreError.{StoreError}
+use Rattle.hub_parts.specs.Meeting.{Meets}
+use Rattle.hub_parts.specs.declared.met.Met.{Met}
+use Rattle.hub_parts.specs.declared.met.Met.TheVariants.{Begun, Nothing}
+use Rattle.op_model.specs.Machine.{begin}
+use Rattle.locked_replica.specs.Calls.{IsCall}
+use Rattle.locked_replica.proofs.MetCalls.{as_begun, begin_has, begin_met}
+use Rattle.locked_replica.proofs.PartsFit.{hub_of}
+use Rattle.locked_replica.proofs.StateLemmas.{answer_due}
+use Rattle.locked_replica.proofs.hub.Hub.begin.Goals.{else-not-has_failed-via-then-not-has_failed+else-is_due, else-not-has_failed-via-else-not-has_failed, in-Ok-Begun, in-Ok-Nothing, in-Err}
 use Rattle.locked_replica.proofs.hub.Hub.begin.Goals as goal
 
-pub returns-then-has_failed : goal.returns-then-has_failed
-returns-then-has_failed g c = record { call = rw (sym c.self.view_is) (begin_failed g.D.DiskFacts c.self.inside.replica c.self.inside.store (λ told. g.met.D.Disk.lawful c.self.inside.store.disk told) c.self.invariant (sym c.has_failed.ensures ∙ c.if-has_failed.true)) }
-
-pub returns-then-is_through : goal.returns-then-is_through
-returns-then-is_through g c =
+pub returns-then-is_due : goal.returns-then-is_due
+returns-then-is_due g c =
     record {
-      call = rw (sym c.self.view_is) (begin_through g.D.DiskFacts c.self.inside.replica c.self.inside.store (λ told. g.met.D.Disk.lawful c.self.inside.store.disk told) c.self.invariant (sym c.has_failed.ensures ∙ c.if-has_failed.false) (ap is_through c.self.view_is ∙ sym c.is_through.ensures ∙ c.if-is_through.true));
+      call = rw (sym c.self.view_is) (begin_has g.D.DiskFacts c.self.inside.locked c.self.inside.flusher (λ disk told. g.met.D.Disk.lawful disk told) c.kept.ensures c.kept-2.ensures c.self.invariant
+          (sym c.has_failed.ensures ∙ c.if-not-has_failed.true) (sym c.is_due.ensures ∙ c.if-is_due.true));
     }
-
-pub begin_records-requires : goal.begin_records-requires
-begin_records-requires g c = (
-  drop c.settled-settled.result c.list-list.result,
-  record {
-    spelled_so = sym c.records_from-records.ensures.spelled_so;
-    fits = c.records_from-records.ensures.fits;
-    counted = length-drop c.settled-settled.result c.list-list.result ∙ ap (λ n. n - c.settled-settled.result) (sym c.len.ensures);
-  },
-)
-
-pub returns-in-Err : goal.returns-in-Err
-returns-in-Err g c =
-    let rest : List Operation = drop c.self.inside.replica.settled c.self.inside.replica.list in
-    let are : AreRecords rest (c.len.result - c.settled-settled.result) c.records_from-records.result.now =
-    rest_records c.self.inside.replica c.list-list.result c.settled-settled.result c.len.result c.records_from-records.result.now c.list-list.ensures.list c.settled-settled.ensures c.len.ensures
-    c.records_from-records.ensures.spelled_so c.records_from-records.ensures.fits in
-    record {
-      call = rw (sym c.self.view_is) (begin_made g.D.DiskFacts c.self.inside.replica c.self.inside.store c.begin_records.new.self (Err c.in-Err.error) (λ told. g.met.D.Disk.lawful c.self.inside.store.disk told) c.self.invariant
-          (sym c.has_failed.ensures ∙ c.if-has_failed.false) (ap is_through c.self.view_is ∙ sym c.is_through.ensures ∙ c.if-is_through.false) (c.in-Err.ensures.answer rest are)
-          (λ n is. c.in-Err.ensures.began rest are n is) c.in-Err.ensures.same).1;
-    }
-
-pub invariant_of-self-2 : goal.invariant_of-self-2
-invariant_of-self-2 g c =
-    let rest : List Operation = drop c.self.inside.replica.settled c.self.inside.replica.list in
-    let are : AreRecords rest (c.len.result - c.settled-settled.result) c.records_from-records.result.now =
-    rest_records c.self.inside.replica c.list-list.result c.settled-settled.result c.len.result c.records_from-records.result.now c.list-list.ensures.list c.settled-settled.ensures c.len.ensures
-    c.records_from-records.ensures.spelled_so c.records_from-records.ensures.fits in
-    (begin_made g.D.DiskFacts c.self.inside.replica c.self.inside.store c.begin_records.new.self (Ok c.in-Ok.begun) (λ told. g.met.D.Disk.lawful c.self.inside.store.disk told) c.self.invariant
-    (sym c.has_failed.ensures ∙ c.if-has_failed.false) (ap is_through c.self.view_is ∙ sym c.is_through.ensures ∙ c.if-is_through.false) (c.in-Ok.ensures.answer rest are)
-    (λ n is. c.in-Ok.ensures.began rest are n is) c.in-Ok.ensures.same).0
 
 pub returns : goal.returns
 returns g c =
-    let rest : List Operation = drop c.self.inside.replica.settled c.self.inside.replica.list in
-    let are : AreRecords rest (c.len.result - c.settled-settled.result) c.records_from-records.result.now =
-    rest_records c.self.inside.replica c.list-list.result c.settled-settled.result c.len.result c.records_from-records.result.now c.list-list.ensures.list c.settled-settled.ensures c.len.ensures
-    c.records_from-records.ensures.spelled_so c.records_from-records.ensures.fits in
-    record {
-      call = rw (sym c.self.view_is) (begin_made g.D.DiskFacts c.self.inside.replica c.self.inside.store c.begin_records.new.self (Ok c.in-Ok.begun) (λ told. g.met.D.Disk.lawful c.self.inside.store.disk told) c.self.invariant
-          (sym c.has_failed.ensures ∙ c.if-has_failed.false) (ap is_through c.self.view_is ∙ sym c.is_through.ensures ∙ c.if-is_through.false) (c.in-Ok.ensures.answer rest are)
-          (λ n is. c.in-Ok.ensures.began rest are n is) c.in-Ok.ensures.same).1;
-    }
+    let none : (not c.self.inside.flusher.store.failed && c.self.inside.flusher.due) ≡ false = elim c.else-not-has_failed.branch [
+      | else-not-has_failed-via-then-not-has_failed+else-is_due w ↦ rw (sym c.has_failed.ensures ∙ w.if-not-has_failed.true, sym w.is_due.ensures ∙ w.if-is_due.false) refl
+      | else-not-has_failed-via-else-not-has_failed w ↦ rw (sym c.has_failed.ensures ∙ w.if-not-has_failed.false) refl
+    ] in
+    let call : (answer : Result Met StoreError) → Meets g.D.DiskFacts c.self.inside.locked c.self.inside.flusher answer c.meet-answer.new.locked c.meet-answer.new.self
+    → IsCall g.D.DiskFacts begin (answer_due (as_begun answer)) (hub_of c.self.inside.locked c.self.inside.flusher) (hub_of c.meet-answer.new.locked c.meet-answer.new.self) =
+    λ answer met. (begin_met g.D.DiskFacts c.self.inside.locked c.self.inside.flusher (λ disk told. g.met.D.Disk.lawful disk told) c.kept.ensures c.kept-2.ensures c.self.invariant
+    answer c.meet-answer.new.locked c.meet-answer.new.self none c.kept-3.ensures c.kept-4.ensures (c.meet-answer.ensures.fits c.self.invariant) met) in
+    elim c.match-answer.branch [
+      | in-Ok-Begun w ↦
+          let same : w.in-Ok-Begun.field-0 ≡ Begun w.in-Ok-Begun.count = rw w.in-Ok-Begun.is at w.in-Ok-Begun.field-0-is in
+          record { call = rw (w.result-is, sym c.self.view_is) (call (Ok (Begun w.in-Ok-Begun.count)) (rw (w.in-Ok-Begun.is, same) at c.meet-answer.ensures.met)) }
+      | in-Ok-Nothing w ↦
+          let same : w.in-Ok-Nothing.field-0 ≡ Nothing = rw w.in-Ok-Nothing.is at w.in-Ok-Nothing.field-0-is in
+          record { call = rw (w.result-is, sym c.self.view_is) (call (Ok Nothing) (rw (w.in-Ok-Nothing.is, same) at c.meet-answer.ensures.met)) }
+      | in-Err w ↦ record { call = rw (w.result-is, sym c.self.view_is) (call (Err w.in-Err.error) w.in-Err.ensures.met) }
+    ]

@@ -1,23 +1,20 @@
-use Rattle.std.proofs.Common.{sym}
+use Rattle.std.proofs.Common.{sym, ap, subst}
+use Rattle.hub_parts.specs.Meet.{side_of, Meet}
 use Rattle.locked_replica.proofs.DeviceSteps.{step_made, step_refused}
+use Rattle.locked_replica.proofs.PartsFit.{hub_fits}
+use Rattle.locked_replica.proofs.hub.Hub.device_step.Goals.{in-Ok, in-Err}
 use Rattle.locked_replica.proofs.hub.Hub.device_step.Goals as goal
-
-pub invariant_of-self : goal.invariant_of-self
-invariant_of-self g c =
-    (step_refused g.D.DiskFacts c.self.inside.replica c.self.inside.store c.step.new.self c.in-Err.error (λ told. g.met.D.Disk.lawful c.self.inside.store.disk told) c.self.invariant
-    (record { stopped = c.in-Err.ensures.stopped; idle = c.in-Err.ensures.idle; call = c.in-Err.ensures.call; does = c.in-Err.ensures.does }) c.in-Err.ensures.failed).0
-
-pub returns-in-Err-clause-call : goal.returns-in-Err-clause-call
-returns-in-Err-clause-call g c =
-    rw (sym c.self.view_is) (step_refused g.D.DiskFacts c.self.inside.replica c.self.inside.store c.step.new.self c.in-Err.error (λ told. g.met.D.Disk.lawful c.self.inside.store.disk told) c.self.invariant
-    (record { stopped = c.in-Err.ensures.stopped; idle = c.in-Err.ensures.idle; call = c.in-Err.ensures.call; does = c.in-Err.ensures.does }) c.in-Err.ensures.failed).1
-
-pub invariant_of-self-2 : goal.invariant_of-self-2
-invariant_of-self-2 g c =
-    (step_made g.D.DiskFacts c.self.inside.replica c.self.inside.store c.step.new.self c.in-Ok.phase (λ told. g.met.D.Disk.lawful c.self.inside.store.disk told) c.self.invariant
-    (record { stopped = c.in-Ok.ensures.stopped; idle = c.in-Ok.ensures.idle; call = c.in-Ok.ensures.call; does = c.in-Ok.ensures.does }) c.in-Ok.ensures.made c.in-Ok.ensures.went_on).0
 
 pub returns-clause-call : goal.returns-clause-call
 returns-clause-call g c =
-    rw (sym c.self.view_is) (step_made g.D.DiskFacts c.self.inside.replica c.self.inside.store c.step.new.self c.in-Ok.phase (λ told. g.met.D.Disk.lawful c.self.inside.store.disk told) c.self.invariant
-    (record { stopped = c.in-Ok.ensures.stopped; idle = c.in-Ok.ensures.idle; call = c.in-Ok.ensures.call; does = c.in-Ok.ensures.does }) c.in-Ok.ensures.made c.in-Ok.ensures.went_on).1
+    let fits = hub_fits g.D.DiskFacts c.self.inside.locked c.self.inside.flusher c.kept.ensures c.kept-2.ensures c.self.invariant in
+    let after = hub_fits g.D.DiskFacts c.self.inside.locked c.device_step-answer.new.self c.kept.ensures c.kept-3.ensures
+    (c.device_step-answer.ensures.fits c.self.inside.locked c.kept.ensures c.self.invariant) in
+    elim c.match-answer.branch [
+      | in-Ok w ↦
+          rw (w.result-is, sym c.self.view_is) (step_made g.D.DiskFacts c.self.inside.locked.replica c.self.inside.flusher.store c.device_step-answer.new.self.store
+          w.in-Ok.phase (λ told. g.met.D.Disk.lawful c.self.inside.flusher.store.disk told) fits after w.in-Ok.ensures.step)
+      | in-Err w ↦
+          rw (w.result-is, sym c.self.view_is) (step_refused g.D.DiskFacts c.self.inside.locked.replica c.self.inside.flusher.store c.device_step-answer.new.self.store
+          w.in-Err.error (λ told. g.met.D.Disk.lawful c.self.inside.flusher.store.disk told) fits after w.in-Err.ensures.step)
+    ]

@@ -1,11 +1,15 @@
 use Rattle.std.proofs.Common.{sym}
-use Rattle.locked_replica.proofs.QuietCalls.{have_call, have_call_refused}
+use Rattle.hub_parts.specs.Meet.{side_of}
+use Rattle.locked_replica.proofs.SharedCalls.{call_have, call_have_refused}
+use Rattle.locked_replica.proofs.hub.Hub.have.Goals.{in-Ok, in-Err}
 use Rattle.locked_replica.proofs.hub.Hub.have.Goals as goal
 
-pub returns-in-Err-clause-call : goal.returns-in-Err-clause-call
-returns-in-Err-clause-call g c =
-    rw (c.in-Err.ensures.err, c.in-Err.ensures.memory, sym c.self.view_is) (have_call_refused g.D.DiskFacts c.self.inside.replica c.self.inside.store (λ told. g.met.D.Disk.lawful c.self.inside.store.disk told) c.self.invariant)
-
 pub returns-clause-call : goal.returns-clause-call
-returns-clause-call g c =
-    rw (sym c.self.view_is) (have_call g.D.DiskFacts c.self.inside.replica c.have.new.self c.self.inside.store c.in-Ok.clock (λ told. g.met.D.Disk.lawful c.self.inside.store.disk told) c.self.invariant c.in-Ok.ensures.clock c.in-Ok.ensures.raised c.list-list.ensures.sound)
+returns-clause-call g c = elim c.match-answer.branch [
+  | in-Ok w ↦
+      rw (w.result-is, sym c.self.view_is) (call_have g.D.DiskFacts c.self.inside.locked c.self.inside.flusher (λ told. g.met.D.Disk.lawful c.self.inside.flusher.store.disk told) c.kept.ensures c.kept-2.ensures c.self.invariant
+      w.in-Ok.clock c.have-answer.new.self c.kept-3.ensures (c.have-answer.ensures.fits (side_of c.self.inside.flusher) c.self.invariant) w.in-Ok.ensures.call w.in-Ok.ensures.made)
+  | in-Err w ↦
+      rw (w.result-is, w.of.ensures, sym c.self.view_is) (call_have_refused g.D.DiskFacts c.self.inside.locked c.self.inside.flusher (λ told. g.met.D.Disk.lawful c.self.inside.flusher.store.disk told) c.kept.ensures c.kept-2.ensures c.self.invariant
+      _ c.have-answer.new.self w.in-Err.ensures.call w.in-Err.ensures.same)
+]

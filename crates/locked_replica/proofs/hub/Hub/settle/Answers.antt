@@ -1,17 +1,41 @@
-use Rattle.std.proofs.Common.{sym, ap, ◌∙◌}
+use Rattle.std.proofs.Common.{◌≡◌, true, false, not, ◌&&◌, refl, sym, ap, ◌∙◌, Result, Ok, Err}
+use Rattle.group_commit.specs.Begin.{is_idle}
+use Rattle.group_commit.specs.declared.error.StoreError.{StoreError}
+use Rattle.hub_parts.specs.Meeting.{Meets}
+use Rattle.hub_parts.specs.declared.met.Met.{Met}
+use Rattle.hub_parts.specs.declared.met.Met.TheVariants.{Settled}
+use Rattle.op_model.specs.Machine.{settle}
+use Rattle.locked_replica.specs.Calls.{IsCall}
 use Rattle.locked_replica.specs.Hub.{is_through}
-use Rattle.locked_replica.proofs.Settling.{settle_failed, settle_busy, settle_made, through_says}
+use Rattle.locked_replica.proofs.MetCalls.{as_settled, settle_met, through_is}
+use Rattle.locked_replica.proofs.PartsFit.{hub_fits, hub_of}
+use Rattle.locked_replica.proofs.Settling.{settle_busy}
+use Rattle.locked_replica.proofs.hub.Hub.settle.Goals.{else-not-has_failed-via-then-not-has_failed+else-not-is_through, else-not-has_failed-via-else-not-has_failed, in-Ok-Settled, in-Err}
 use Rattle.locked_replica.proofs.hub.Hub.settle.Goals as goal
-
-pub returns-then-has_failed-clause-call : goal.returns-then-has_failed-clause-call
-returns-then-has_failed-clause-call g c = rw (sym c.self.view_is) (settle_failed g.D.DiskFacts c.self.inside.replica c.self.inside.store (λ told. g.met.D.Disk.lawful c.self.inside.store.disk told) c.self.invariant (sym c.has_failed.ensures ∙ c.if-has_failed.true))
 
 pub returns-then-not-is_through-clause-call : goal.returns-then-not-is_through-clause-call
 returns-then-not-is_through-clause-call g c =
-    rw (sym c.self.view_is) (settle_busy g.D.DiskFacts c.self.inside.replica c.self.inside.store (λ told. g.met.D.Disk.lawful c.self.inside.store.disk told) c.self.invariant (sym c.has_failed.ensures ∙ c.if-has_failed.false) (ap is_through c.self.view_is ∙ sym c.is_through.ensures ∙ c.if-not-is_through.true))
+    let fits = hub_fits g.D.DiskFacts c.self.inside.locked c.self.inside.flusher c.kept.ensures c.kept-2.ensures c.self.invariant in
+    let works = sym c.has_failed.ensures ∙ c.if-not-has_failed.true in
+    let none = ap is_through c.self.view_is ∙ sym c.is_through.ensures ∙ c.if-not-is_through.true in
+    rw (sym c.self.view_is) (settle_busy g.D.DiskFacts c.self.inside.locked.replica c.self.inside.flusher.store (λ told. g.met.D.Disk.lawful c.self.inside.flusher.store.disk told) fits works none)
 
 pub returns-clause-call : goal.returns-clause-call
 returns-clause-call g c =
-    let both = (through_says _ _ _ (ap is_through c.self.view_is ∙ sym c.is_through.ensures ∙ c.if-not-is_through.false)) in
-    rw (sym c.self.view_is, c.committed-count.ensures)
-    (settle_made g.D.DiskFacts c.self.inside.replica c.settle.new.self c.self.inside.store (λ told. g.met.D.Disk.lawful c.self.inside.store.disk told) c.self.invariant (sym c.has_failed.ensures ∙ c.if-has_failed.false) both.0 both.1 (rw c.committed-count.ensures at c.settle.ensures) c.list-list.ensures.sound).1
+    let through = through_is g.D.DiskFacts c.self.inside.locked c.self.inside.flusher (λ disk told. g.met.D.Disk.lawful disk told) c.kept.ensures c.kept-2.ensures c.self.invariant in
+    let none : (not c.self.inside.flusher.store.failed && not (c.self.inside.flusher.due && is_idle c.self.inside.flusher.store.phase)) ≡ false = elim c.else-not-has_failed.branch [
+      | else-not-has_failed-via-then-not-has_failed+else-not-is_through w ↦
+          let is = through ∙ ap is_through c.self.view_is ∙ sym w.is_through.ensures ∙ w.if-not-is_through.false in
+          rw (sym c.has_failed.ensures ∙ w.if-not-has_failed.true, is) refl
+      | else-not-has_failed-via-else-not-has_failed w ↦ rw (sym c.has_failed.ensures ∙ w.if-not-has_failed.false) refl
+    ] in
+    let call : (answer : Result Met StoreError) → Meets g.D.DiskFacts c.self.inside.locked c.self.inside.flusher answer c.meet-answer.new.locked c.meet-answer.new.self
+    → IsCall g.D.DiskFacts settle (as_settled answer) (hub_of c.self.inside.locked c.self.inside.flusher) (hub_of c.meet-answer.new.locked c.meet-answer.new.self) =
+    λ answer met. settle_met g.D.DiskFacts c.self.inside.locked c.self.inside.flusher (λ disk told. g.met.D.Disk.lawful disk told) c.kept.ensures c.kept-2.ensures c.self.invariant
+    answer c.meet-answer.new.locked c.meet-answer.new.self none c.kept-3.ensures c.kept-4.ensures (c.meet-answer.ensures.fits c.self.invariant) met in
+    elim c.match-answer.branch [
+      | in-Ok-Settled w ↦
+          let same : w.in-Ok-Settled.field-0 ≡ Settled w.in-Ok-Settled.count = rw w.in-Ok-Settled.is at w.in-Ok-Settled.field-0-is in
+          rw (w.result-is, sym c.self.view_is) (call (Ok (Settled w.in-Ok-Settled.count)) (rw (w.in-Ok-Settled.is, same) at c.meet-answer.ensures.met))
+      | in-Err w ↦ rw (w.result-is, sym c.self.view_is) (call (Err w.in-Err.error) w.in-Err.ensures.met)
+    ]

@@ -1,14 +1,14 @@
--- What a hub keeps.
+-- What two parts that fit keep together.
 use Rattle.std.specs.Prelude.{◌≡◌, ℕ, ◌+◌, ◌<◌, ◌≤◌, Bool, true, false, nat_lt, if◌then◌else◌, List, length, take, Contains}
 use Rattle.disk_trait.specs.declared.facts.DiskFacts.{Ghosts}
 use Rattle.change_codec.specs.Stream.{spelled_all, AreOperations}
-use Rattle.op_model.specs.Replay.{reached}
 use Rattle.replica_core.specs.Held.{Held, IsSound}
 use Rattle.replica_core.specs.Steps.{places_left}
 use Rattle.root_slots.specs.Root.{version_of, replica_of, count_of}
 use Rattle.group_commit.specs.Begin.{is_idle}
 use Rattle.group_commit.specs.Commit.{IsLeft}
 use Rattle.group_commit.specs.Saved.{Saved}
+use Rattle.hub_parts.specs.Locked.{due_behind, CanSettle}
 use Rattle.locked_replica.specs.Hub.{Parts}
 
 -- the root is this replica's, and its stream is the records of the first operations of the list, as many as it says
@@ -17,17 +17,6 @@ pub record IsFront (h : Held) (root : Saved) : Type 0 where
   pub within : count_of root.body ≤ length h.list
   pub stream : root.stream ≡ spelled_all (take (count_of root.body) h.list)
   pub fits : AreOperations (take (count_of root.body) h.list)
-
--- how many settlements are due behind a commit or a settlement of the first n operations: one for all behind them
-abbrev pub due_behind : Held → ℕ → ℕ
-due_behind h n = if nat_lt n (length h.list) then 1 else 0
-
--- a commit of the first n operations can be settled: the list had that length, and there are places for its settlement and for
--- the one of all behind it
-pub record CanSettle (h : Held) (n : ℕ) : Type 0 where
-  pub more : h.settled < n
-  pub reached : Contains (reached h.opened h.steps) n
-  pub places : 1 + due_behind h n ≤ places_left h.steps
 
 -- the root that the commit under way makes is the next one, of more operations than the live one, which are settled
 pub record IsUnderWay (h : Held) (current next : Saved) : Type 0 where
@@ -58,3 +47,7 @@ pub record Fits {D : Type 0} (facts : Ghosts D) (hub : Parts D) : Type 0 where
   -- every file that a crash now may leave has the live root, or in the last phase the one that the commit makes
   pub left : facts.tells hub.store.disk → (c : List ℕ) → facts.survives hub.store.disk c
       → IsLeft hub.store.phase hub.store.current hub.store.next c
+
+-- whether a failure is told or not
+pub fits_told : {D : Type 0} (facts : Ghosts D) (hub : Parts D) (told : Bool) → Fits facts hub → Fits facts (record hub { failure_told = told })
+fits_told facts hub told fits = record { sound = fits.sound; live = fits.live; commit = fits.commit; left = fits.left }
