@@ -13,7 +13,7 @@ use Rattle.root_slots.specs.Root.{count_of}
 use Rattle.group_commit.specs.Begin.{has_room_for, is_idle, begin_due, Begins}
 use Rattle.group_commit.specs.Held.{Held as StoreHeld}
 use Rattle.group_commit.specs.Saved.{Saved}
-use Rattle.hub_parts.specs.Flusher.{IsFlusher, IsAtRest, IsUnderWay, HasFront, Commits, Held as FlusherHeld}
+use Rattle.hub_parts.specs.Flusher.{IsFlusher, IsAtRest, HasFront, Commits, Held as FlusherHeld}
 use Rattle.hub_parts.proofs.BeginLemmas.{begin_is_due}
 
 -- no commit that isn't settled is one whose device calls are all made

@@ -76,45 +76,6 @@ pub more_merge : (h : Held) (peer : ℕ) (op : Op) → (grows_merge h peer op).m
 unfolding grows_merge
 more_merge h peer op = refl
 
--- nothing comes behind a list that stays
-pub grows_same : (h : Held) → Grows h h
-grows_same h =
-    record {
-      owner = refl;
-      opened = refl;
-      settled = refl;
-      more = [];
-      list = sym (append-nil h.list);
-      reaches = λ n has. has;
-      places = λ n k small was. was;
-    }
-
--- nor by an acknowledgement
-pub grows_acked : (h : Held) (n : ℕ) → Grows h (with_acked h n)
-grows_acked h n =
-    record {
-      owner = refl;
-      opened = refl;
-      settled = refl;
-      more = [];
-      list = sym (append-nil h.list);
-      reaches = λ n has. has;
-      places = λ n k small was. was;
-    }
-
--- nor by a telling
-pub grows_told : (h : Held) (n : ℕ) → Grows h (with_told h n)
-grows_told h n =
-    record {
-      owner = refl;
-      opened = refl;
-      settled = refl;
-      more = [];
-      list = sym (append-nil h.list);
-      reaches = λ n has. has;
-      places = λ n k small was. was;
-    }
-
 -- a front stays as it is
 pub same_front : (h next : Held) (g : Grows h next) (n : ℕ) → n ≤ length h.list → take n next.list ≡ take n h.list
 same_front h next g n within = ap (λ ops. take n ops) g.list ∙ take-append-le n h.list g.more within

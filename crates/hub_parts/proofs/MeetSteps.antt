@@ -1,15 +1,14 @@
 -- One device call, with what it makes of two parts that fit.
-use Rattle.std.proofs.Common.{◌≡◌, ℕ, ◌≤◌, Bool, true, false, ◌&&◌, List, length, take, refl, sym, ap, ◌∙◌, arith, inl, inr}
+use Rattle.std.proofs.Common.{◌≡◌, ◌≤◌, Bool, List, length, take, ap, ◌∙◌, arith, inl, inr}
 use Rattle.std.proofs.lemmas.List.{length-take-le}
 use Rattle.disk_trait.specs.declared.facts.DiskFacts.{Ghosts}
 use Rattle.op_model.specs.declared.op.Op.{Op}
 use Rattle.root_slots.specs.Root.{count_of}
-use Rattle.group_commit.specs.Begin.{is_idle}
 use Rattle.group_commit.specs.Held.{Held as StoreHeld}
 use Rattle.hub_parts.specs.Flusher.{IsFlusher, IsUnderWay}
 use Rattle.hub_parts.specs.Locked.{IsLocked, Held as LockedHeld}
 use Rattle.hub_parts.specs.Meet.{Meet, side_of}
-use Rattle.hub_parts.proofs.FlusherSteps.{Goes, GoesThrough, Outcome}
+use Rattle.hub_parts.proofs.FlusherSteps.{GoesThrough, Outcome}
 
 -- the flusher's list has as many operations as were taken
 pub front_length : (l : LockedHeld) (list : List Op) → l.begun ≤ length l.replica.list → list ≡ take l.begun l.replica.list → length list ≡ l.begun

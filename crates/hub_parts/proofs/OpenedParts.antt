@@ -1,12 +1,11 @@
 -- The two parts right after opening.
-use Rattle.std.proofs.Common.{◌≡◌, ℕ, ◌≤◌, Bool, true, false, ◌&&◌, nat_lt, List, [], ◌++◌, length, take, drop, refl, sym, ap, ◌∙◌, arith, Result, Ok, Err}
+use Rattle.std.proofs.Common.{◌≡◌, ℕ, ◌≤◌, Bool, false, List, length, take, drop, sym, ap, ◌∙◌, arith, Result, Ok, Err}
 use Rattle.std.specs.Prelude.{OnOk}
 use Rattle.std.specs.Result.{is_err}
 use Rattle.std.proofs.lemmas.Bool.{le-ltb}
 use Rattle.std.proofs.lemmas.List.{take_all, drop_all}
 use Rattle.disk_trait.specs.declared.facts.DiskFacts.{Ghosts}
 use Rattle.op_model.specs.declared.op.Op.{Op}
-use Rattle.op_model.specs.Records.{stream_length}
 use Rattle.change_codec.specs.Stream.{spelled_all, AreOperations}
 use Rattle.op_list.specs.Records.{AreRecords}
 use Rattle.root_slots.specs.Root.{count_of}
@@ -15,7 +14,7 @@ use Rattle.group_commit.specs.Held.{Held as StoreHeld}
 use Rattle.group_commit.specs.Loading.{IsHistory}
 use Rattle.group_commit.specs.declared.phase.Phase.TheVariants.{Idle}
 use Rattle.hub_parts.specs.Flusher.{IsFlusher}
-use Rattle.hub_parts.specs.Locked.{due_behind, Keeps}
+use Rattle.hub_parts.specs.Locked.{due_behind, Keeps, Held as LockedHeld}
 use Rattle.hub_parts.specs.Meet.{Meet, side_of}
 use Rattle.hub_parts.proofs.FlusherSteps.{CrashLeaves}
 
@@ -24,6 +23,10 @@ pub opened_records : (list ops : List Op) (long : ℕ) (records : List ℕ) → 
     → AreOperations (drop 0 ops) → AreRecords list long records
 opened_records list ops long records same counted spelled fits =
     record { spelled_so = sym (rw same at spelled); fits = rw same at fits; counted = sym (rw same at counted) }
+
+-- a locked part to which no failure is told
+abbrev pub first_held : ReplicaHeld → ℕ → LockedHeld
+first_held h begun = record { replica = h; begun = begun; failure_told = false }
 
 -- nothing is due right after opening, and nothing waits
 pub keeps_opened : (h : ReplicaHeld) (begun : ℕ) → h ≡ opened_with h.replica h.list → begun ≡ length h.list
@@ -40,6 +43,11 @@ keeps_opened h begun opened is =
   where
     none : due_behind h begun ≤ 0
     none = rw (is, le-ltb (length h.list) (length h.list) (omega arith)) (omega arith)
+
+-- it is what a replica is right after opening, and all of it is taken
+pub opened_so : (h : ReplicaHeld) (begun : ℕ) → h ≡ opened_with h.replica h.list → begun ≡ length h.list
+    → first_held h begun ≡ first_held (opened_with h.replica h.list) (length h.list)
+opened_so h begun opened is = ap (λ x. first_held x begun) opened ∙ ap (λ n. first_held (opened_with h.replica h.list) n) is
 
 -- the flusher has the whole list, and no commit
 pub flusher_opened : {D : Type 0} (facts : Ghosts D) (s : StoreHeld D) (replica : ℕ) (ops list : List Op) → IsHistory s.current replica ops → s.phase ≡ Idle

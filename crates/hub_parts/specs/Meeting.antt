@@ -1,10 +1,11 @@
 -- What a meeting of the two parts does.
-use Rattle.std.specs.Prelude.{◌≡◌, ◌⊎◌, ℕ, ◌+◌, Bool, true, false, not, ◌&&◌, if◌then◌else◌, List, ◌++◌, length, drop, Result, Ok, Err}
+use Rattle.std.specs.Prelude.{◌≡◌, ◌⊎◌, ℕ, ◌+◌, ◌<◌, Bool, true, false, not, if◌then◌else◌, List, ◌++◌, length, drop, Result, Ok, Err}
 use Rattle.disk_trait.specs.declared.facts.DiskFacts.{Ghosts}
 use Rattle.op_model.specs.declared.op.Op.{Op}
+use Rattle.op_list.specs.Records.{AreRecords}
 use Rattle.root_slots.specs.Root.{count_of}
 use Rattle.replica_core.specs.Held.{with_settled}
-use Rattle.group_commit.specs.Begin.{has_room, is_idle, is_none, Begins}
+use Rattle.group_commit.specs.Begin.{has_room, has_room_for, is_idle, is_none, Begins}
 use Rattle.group_commit.specs.declared.error.StoreError.{StoreError}
 use Rattle.group_commit.specs.declared.error.StoreError.TheVariants.{Memory, Limit, Busy, Failed}
 use Rattle.hub_parts.specs.Locked.{has_commit, Held as LockedHeld}
@@ -50,6 +51,15 @@ IsBeginning (Err e) = ⊥
 -- the answer is the one that is due, or want of memory in place of a commit
 abbrev pub IsMet : Result Met StoreError → Result Met StoreError → Type 0
 IsMet due answer = (answer ≡ due) ⊎ ((answer ≡ Err Memory) × IsBeginning due)
+
+-- a commit of operations can begin whose records these are: the device works, there is none, and there is room for them
+pub record CanCommit {D : Type 0} (f : FlusherHeld D) (records : List ℕ) (count : ℕ) : Type 0 where
+  pub works : f.store.failed ≡ false
+  pub rests : f.due ≡ false
+  pub ops : List Op
+  pub are : AreRecords ops count records
+  pub some : 0 < count
+  pub room : has_room_for f.store.current count (length records) ≡ true
 
 -- the flusher takes all that waits, and begins a commit of just these operations
 pub record TakesAll {D : Type 0} (facts : Ghosts D) (l : LockedHeld) (f : FlusherHeld D) (l' : LockedHeld) (f' : FlusherHeld D) : Type 0 where

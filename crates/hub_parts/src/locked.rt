@@ -1,5 +1,4 @@
 //! The part of a hub that stands under the lock.
-ghost use Rattle.std.specs.Prelude.{◌≡◌};
 ghost use Rattle.hub_parts.specs.Locked.{IsLocked};
 
 use replica_core::Replica;

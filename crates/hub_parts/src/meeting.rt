@@ -1,14 +1,14 @@
 //! The meetings of the two parts.
-ghost use Rattle.std.specs.Prelude.{◌≡◌, ◌+◌, ◌<◌, ◌++◌, false, true, List, length};
+ghost use Rattle.std.specs.Prelude.{◌≡◌, ◌+◌, ◌++◌, false, true, List};
 ghost use Rattle.std.specs.Prelude.{IfOk, IfErr, OnOk, OnErr};
 ghost use Rattle.op_list.specs.Records.{AreRecords};
 ghost use Rattle.op_model.specs.declared.op.Op.{Op as Operation};
 ghost use Rattle.root_slots.specs.Root.{count_of};
-ghost use Rattle.group_commit.specs.Begin.{has_room_for, Begins};
+ghost use Rattle.group_commit.specs.Begin.{Begins};
 ghost use Rattle.group_commit.specs.declared.error.StoreError.TheVariants.{Memory};
 ghost use Rattle.hub_parts.specs.Locked.{has_commit};
 ghost use Rattle.hub_parts.specs.Meet.{Meet, side_of};
-ghost use Rattle.hub_parts.specs.Meeting.{due_without, IsMet, Leaves, Meets};
+ghost use Rattle.hub_parts.specs.Meeting.{due_without, CanCommit, IsMet, Leaves, Meets};
 
 use crate::flusher::Flusher;
 use crate::locked::Locked;
@@ -27,8 +27,8 @@ impl<D: Disk> Flusher<D> {
     /// - else a commit begins of all that waits. Where the store has no room (7) or a growth was
     ///   refused (1), both parts are as before.
     ///
-    /// Costs the bytes of the records that wait and of the pages that the commit writes; nothing
-    /// else of either list is read, copied or spelled, and where `reserve` made room, nothing moves.
+    /// Costs the bytes of the records that wait and of the pages that the commit writes. Nothing
+    /// else of either list is read, copied or spelled; where `reserve` made room, nothing moves.
     pub fn meet(&mut self, locked: &mut Locked) -> Result<Met, StoreError>
         ensures met { Meets D.DiskFacts locked.old self.old result locked.new self.new }
         ensures fits { Meet locked.old (side_of self.old) → Meet locked.new (side_of self.new) }
@@ -80,17 +80,12 @@ impl<D: Disk> Flusher<D> {
     /// them, and answers the length of the list that it commits. It is refused for want of memory
     /// alone, and changes nothing then.
     fn begin_commit(&mut self, records: &[u8], count: u64) -> Result<u64, StoreError>
-        requires works { self.old.store.failed ≡ false }
-        requires rests { self.old.due ≡ false }
-        requires records { (ops : List Operation) × AreRecords ops count records.now }
-        requires some { 0 < count }
-        requires room { has_room_for self.old.store.current count (length records.now) ≡ true }
+        requires { CanCommit self.old records.now count }
         ensures length { IfOk result (λ n. n ≡ count_of self.old.store.current.body + count) }
-        ensures begins { OnOk result ((ops : List Operation) → AreRecords ops count records.now
-            → Begins D.DiskFacts self.old.store ops self.new.store) }
-        ensures list { OnOk result ((ops : List Operation) → AreRecords ops count records.now
-            → self.new.list ≡ self.old.list ++ ops) }
-        ensures due { OnOk result (self.new.due ≡ true) }
+        ensures taken { OnOk result ((self.new.due ≡ true)
+            × ((ops : List Operation) → AreRecords ops count records.now
+            → Begins D.DiskFacts self.old.store ops self.new.store
+            × (self.new.list ≡ self.old.list ++ ops))) }
         ensures refused { IfErr result (λ error. error ≡ Memory) }
         ensures same { OnErr result (self.new ≡ self.old) }
     {

@@ -1,12 +1,9 @@
 //! The opening of a hub's two parts.
-ghost use Rattle.std.specs.Prelude.{◌≡◌, ◌↔◌, false, length, IfOk, IfErr};
+ghost use Rattle.std.specs.Prelude.{IfOk, IfErr};
 ghost use Rattle.root_slots.specs.Root.{version_of};
-ghost use Rattle.disk_trait.specs.Looks.{OnlyLooks};
-ghost use Rattle.group_commit.specs.declared.phase.Phase.TheVariants.{Idle};
-ghost use Rattle.replica_core.specs.Held.{opened_with};
 ghost use Rattle.recovery.specs.Faults.{IsFault, failures_of};
 ghost use Rattle.recovery.specs.Image.{IsImage};
-ghost use Rattle.hub_parts.specs.Meet.{Meet, side_of};
+ghost use Rattle.hub_parts.specs.Opening.{IsLookedAt, IsOpened};
 
 use crate::flusher::Flusher;
 use crate::locked::Locked;
@@ -31,22 +28,13 @@ pub fn open<D: Disk>(alloc: Global, disk: D) -> Result<Parts<D>, OpenFault<D>>
     ensures image { D.tells disk → IfOk result (λ it. IsImage (D.content disk)
         it.locked.replica.replica (version_of it.flusher.store.current.body)
         it.locked.replica.list) }
-    ensures locked { IfOk result (λ it. it.locked ≡ record {
-      replica = opened_with it.locked.replica.replica it.locked.replica.list;
-      begun = length it.locked.replica.list;
-      failure_told = false;
-    }) }
-    ensures idle { IfOk result (λ it.
-        (it.flusher.store.phase ≡ Idle) × (it.flusher.store.failed ≡ false)) }
-    ensures fits { IfOk result (λ it. Meet it.locked (side_of it.flusher)) }
+    ensures opened { IfOk result (λ it. IsOpened it.locked it.flusher) }
     ensures fault { D.tells disk → IfErr result (λ fault. IsFault fault.cause (D.content disk)) }
     // It writes nothing.
-    ensures looks { D.tells disk
-        → IfOk result (λ it. OnlyLooks D.DiskFacts 0 1 disk it.flusher.store.disk) }
-    ensures looks_refused { D.tells disk → IfErr result
-        (λ fault. OnlyLooks D.DiskFacts (failures_of fault.cause) 1 disk fault.disk) }
-    ensures tells { IfOk result (λ it. D.tells it.flusher.store.disk ↔ D.tells disk) }
-    ensures tells_refused { IfErr result (λ fault. D.tells fault.disk ↔ D.tells disk) }
+    ensures looks { IfOk result
+        (λ it. IsLookedAt D.DiskFacts 0 disk it.flusher.store.disk) }
+    ensures looks_refused { IfErr result
+        (λ fault. IsLookedAt D.DiskFacts (failures_of fault.cause) disk fault.disk) }
 {
     let Opened { replica, store } = recovery::open(alloc, disk)?;
     let ops = replica.list();

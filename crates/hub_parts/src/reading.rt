@@ -63,13 +63,6 @@ impl Locked {
         self.replica.told()
     }
 
-    /// Whether a meeting has told a failure of the device.
-    pub fn has_told_failure(&self) -> bool
-        ensures { result ≡ self.now.failure_told }
-    {
-        self.failure_told
-    }
-
     /// How many operations a document has. Costs what `Replica::rev` does.
     pub fn rev(&self, doc: u32) -> usize
         ensures { result ≡ rev_of self.now.replica.list doc }

@@ -1,11 +1,14 @@
 -- Calls of the locked part are calls of the hub.
-use Rattle.std.proofs.Common.{◌≡◌, ℕ, ◌≤◌, ◌+◌, Bool, true, false, nat_le, List, [], ◌∷◌, ◌++◌, drop, take, refl, sym, ap, ◌∙◌, subst, arith, append-nil, Option}
+use Rattle.std.proofs.Common.{◌≡◌, ℕ, ◌≤◌, ◌+◌, Bool, true, false, nat_le, List, [], ◌∷◌, ◌++◌, drop, take, refl, sym, ap, ◌∙◌, subst, arith}
+use Rattle.std.proofs.Common.{append-nil, Option}
 use Rattle.std.specs.Prelude.{if◌then◌else◌}
 use Rattle.disk_trait.specs.Calls.{IsLawful}
 use Rattle.disk_trait.specs.declared.facts.DiskFacts.{Ghosts}
 use Rattle.op_model.specs.declared.op.Op.{Op}
 use Rattle.op_model.specs.declared.edit.Edit.{Edit}
-use Rattle.op_model.specs.Machine.{Commit, State, edit, merge, ack, tell, have, Ticket, ticket, applied, known, early, acknowledged, operations, clock, refused, has_record_room, with_room, edit_answer, edit_alone, merge_answer, merge_alone, reach, taken_in, IsRefusal, EditStep, MergeStep, AckStep, TellStep, HaveStep}
+use Rattle.op_model.specs.Machine.{Commit, State, edit, merge, ack, tell, have, Ticket, ticket, applied, known, early, acknowledged, operations, clock}
+use Rattle.op_model.specs.Machine.{refused, has_record_room, with_room, edit_answer, edit_alone, merge_answer, merge_alone, reach, taken_in, IsRefusal}
+use Rattle.op_model.specs.Machine.{EditStep, MergeStep, AckStep, TellStep, HaveStep}
 use Rattle.op_model.specs.Made.{made}
 use Rattle.op_model.specs.Records.{stream_length}
 use Rattle.replica_core.specs.Held.{alone, stored, with_acked, with_edit, with_told, Held}

@@ -13,8 +13,9 @@ use locked_replica::Hub;
 /// How often a begin that finds no memory is made, in a row.
 const TRIES: u32 = 1_000;
 
-/// Commits all that a hub holds, to the end. Answers whether all is settled then; else the device failed, or no commit
-/// could begin. Takes no memory but for the begin. So many device calls as the commit has.
+/// Commits all that a hub holds, to the end. Answers whether all is settled then; else the device
+/// failed, or no commit could begin. Takes no memory but for the begin. So many device calls as the
+/// commit has.
 pub fn commit<D: Disk>(hub: &mut Hub<D>) -> bool
     requires { IsQuiet (state_of hub.old) }
     ensures commits { Commits D.DiskFacts hub.old result hub.new }
@@ -49,7 +50,8 @@ fn begin<D: Disk>(hub: &mut Hub<D>) -> Begun
     Begun::Refused
 }
 
-/// Makes the device calls of the commit under way, and answers whether it is through; else the device failed.
+/// Makes the device calls of the commit under way, and answers whether it is through; else the
+/// device failed.
 fn go_through<D: Disk>(hub: &mut Hub<D>) -> bool
     requires under_way { is_under_way (state_of hub.old).commit ≡ true }
     requires works { (state_of hub.old).failed ≡ false }

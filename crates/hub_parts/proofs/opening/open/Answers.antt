@@ -1,7 +1,6 @@
-use Rattle.std.proofs.Common.{◌≡◌, List, [], ◌++◌, length, ap, ◌∙◌}
-use Rattle.op_model.specs.declared.op.Op.{Op}
+use Rattle.std.proofs.Common.{◌≡◌, ◌++◌, length, ap, ◌∙◌}
 use Rattle.op_list.specs.Records.{AreRecords}
-use Rattle.hub_parts.proofs.OpenedParts.{opened_records, keeps_opened, flusher_opened, meet_opened, when_ok}
+use Rattle.hub_parts.proofs.OpenedParts.{opened_records, opened_so, keeps_opened, flusher_opened, meet_opened, when_ok}
 use Rattle.hub_parts.proofs.opening.open.Goals as goal
 
 pub invariant_of-result : goal.invariant_of-result
@@ -17,10 +16,15 @@ invariant_of-result-2 g c =
     flusher_opened g.D.DiskFacts c.in_ok-replica.field-0.store c.in_ok-replica.field-0.replica.replica c.in_ok-replica.field-0.replica.list c.append.new.self c.in_ok-replica.ensures.history c.in_ok-replica.ensures.idle.0
     (λ told. c.in_ok-replica.ensures.left (c.in_ok-replica.ensures.tells.0 told)) same
 
-pub returns-clause-fits : goal.returns-clause-fits
-returns-clause-fits g c =
+pub returns-clause-opened : goal.returns-clause-opened
+returns-clause-opened g c =
     let are : AreRecords c.in_ok-replica.field-0.replica.list c.len-begun.result c.records_from.result.now =
     opened_records c.in_ok-replica.field-0.replica.list c.list-ops.result c.len-begun.result c.records_from.result.now c.list-ops.ensures.list c.len-begun.ensures c.records_from.ensures.spelled_so c.records_from.ensures.fits in
     let same : c.append.new.self ≡ c.in_ok-replica.field-0.replica.list =
     when_ok _ c.append.result c.is_err.result c.is_err.ensures.value c.if-is_err.false c.append.ensures.ok c.in_ok-replica.field-0.replica.list are ∙ ap (λ xs. xs ++ c.in_ok-replica.field-0.replica.list) c.new-list.ensures in
-    meet_opened c.in_ok-replica.field-0.replica c.len-begun.result c.in_ok-replica.field-0.store c.append.new.self c.in_ok-replica.ensures.replica (c.len-begun.ensures ∙ ap length c.list-ops.ensures.list) c.in_ok-replica.ensures.history same
+    record {
+      locked = opened_so c.in_ok-replica.field-0.replica c.len-begun.result c.in_ok-replica.ensures.replica (c.len-begun.ensures ∙ ap length c.list-ops.ensures.list);
+      idle = c.in_ok-replica.ensures.idle.0;
+      works = c.in_ok-replica.ensures.idle.1;
+      fits = meet_opened c.in_ok-replica.field-0.replica c.len-begun.result c.in_ok-replica.field-0.store c.append.new.self c.in_ok-replica.ensures.replica (c.len-begun.ensures ∙ ap length c.list-ops.ensures.list) c.in_ok-replica.ensures.history same;
+    }

@@ -1,4 +1,4 @@
-use Rattle.std.proofs.Common.{◌≡◌, ◌-◌, true, false, sym, ◌∙◌}
+use Rattle.std.proofs.Common.{◌-◌, true, false, sym, ◌∙◌}
 use Rattle.std.proofs.lemmas.Result.{err_from_is_err_and}
 use Rattle.op_list.specs.Records.{AreRecords}
 use Rattle.hub_parts.specs.Meeting.{pending}
@@ -36,9 +36,9 @@ returns-clause-leaves g c =
     waiting_records c.args.locked.now c.list-list.result c.begun-begun.result c.len.result c.records_from-records.result.now c.list-list.ensures.list c.begun-begun.ensures c.len.ensures c.records_from-records.ensures.spelled_so c.records_from-records.ensures.fits in
     record {
       locked = c.take_all.ensures;
-      begins = c.in_ok-length.ensures.begins (pending c.args.locked.now) are;
-      list = c.in_ok-length.ensures.list (pending c.args.locked.now) are;
-      due = c.in_ok-length.ensures.due;
+      begins = (c.in_ok-length.ensures.taken.1 (pending c.args.locked.now) are).0;
+      list = (c.in_ok-length.ensures.taken.1 (pending c.args.locked.now) are).1;
+      due = c.in_ok-length.ensures.taken.0;
     }
 
 pub returns-clause-fits : goal.returns-clause-fits
@@ -50,4 +50,4 @@ returns-clause-fits g c =
     rw c.take_all.ensures
     (meet_begun g.D.DiskFacts c.args.locked.now c.args.self.now.store c.begin_commit.new.self.store c.args.self.now.list c.begin_commit.new.self.list c.args.self.now.due c.begin_commit.new.self.due
     (record { sound = c.kept.ensures.sound; keeps = c.kept.ensures.keeps }) c.requires.settled c.requires.rests test.some
-    (c.in_ok-length.ensures.begins (pending c.args.locked.now) are) (c.in_ok-length.ensures.list (pending c.args.locked.now) are) c.in_ok-length.ensures.due)
+    (c.in_ok-length.ensures.taken.1 (pending c.args.locked.now) are).0 (c.in_ok-length.ensures.taken.1 (pending c.args.locked.now) are).1 c.in_ok-length.ensures.taken.0)

@@ -8,7 +8,8 @@ use Rattle.locked_replica.specs.Calls.{IsCall}
 use Rattle.locked_replica.proofs.MetCalls.{as_begun, begin_has, begin_met}
 use Rattle.locked_replica.proofs.PartsFit.{hub_of}
 use Rattle.locked_replica.proofs.StateLemmas.{answer_due}
-use Rattle.locked_replica.proofs.hub.Hub.begin.Goals.{else-not-has_failed-via-then-not-has_failed+else-is_due, else-not-has_failed-via-else-not-has_failed, in-Ok-Begun, in-Ok-Nothing, in-Err}
+use Rattle.locked_replica.proofs.hub.Hub.begin.Goals.{else-not-has_failed-via-then-not-has_failed+else-is_due}
+use Rattle.locked_replica.proofs.hub.Hub.begin.Goals.{else-not-has_failed-via-else-not-has_failed, in-Ok-Begun, in-Ok-Nothing, in-Err}
 use Rattle.locked_replica.proofs.hub.Hub.begin.Goals as goal
 
 pub returns-then-is_due : goal.returns-then-is_due

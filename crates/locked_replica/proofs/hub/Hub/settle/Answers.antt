@@ -10,7 +10,8 @@ use Rattle.locked_replica.specs.Hub.{is_through}
 use Rattle.locked_replica.proofs.MetCalls.{as_settled, settle_met, through_is}
 use Rattle.locked_replica.proofs.PartsFit.{hub_fits, hub_of}
 use Rattle.locked_replica.proofs.Settling.{settle_busy}
-use Rattle.locked_replica.proofs.hub.Hub.settle.Goals.{else-not-has_failed-via-then-not-has_failed+else-not-is_through, else-not-has_failed-via-else-not-has_failed, in-Ok-Settled, in-Err}
+use Rattle.locked_replica.proofs.hub.Hub.settle.Goals.{else-not-has_failed-via-then-not-has_failed+else-not-is_through}
+use Rattle.locked_replica.proofs.hub.Hub.settle.Goals.{else-not-has_failed-via-else-not-has_failed, in-Ok-Settled, in-Err}
 use Rattle.locked_replica.proofs.hub.Hub.settle.Goals as goal
 
 pub returns-then-not-is_through-clause-call : goal.returns-then-not-is_through-clause-call

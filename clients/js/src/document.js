@@ -1,0 +1,109 @@
+/** A document of a session. */
+
+import { keyOf } from "./marks.js";
+import { Reading } from "./reading.js";
+
+/**
+ * @typedef {import("./marks.js").Mark} Mark
+ * @typedef {import("./marks.js").Span} Span
+ */
+
+/**
+ * A document, by its number. Places are counted in characters (Unicode scalar values), from 0; `read` gives a text with
+ * edits that are counted as JavaScript's strings are. An edit may name the `rev` that it was made for.
+ *
+ * Each edit answers the document's new `rev` once it is settled on the disk: it then outlives a power cut.
+ */
+export class Document {
+  /**
+   * @param {import("./session.js").Session} session
+   * @param {number} number
+   */
+  constructor(session, number) {
+    this.session = session;
+    this.number = number;
+  }
+
+  /**
+   * Puts 1 to 256 characters before the one at a place, or at the end.
+   * @param {number} at
+   * @param {string} text
+   * @param {number} [rev]
+   */
+  insert(at, text, rev) {
+    return this.edit({ op: "insert", at, text }, rev);
+  }
+
+  /**
+   * Takes away 1 to 256 characters from a place on.
+   * @param {number} at
+   * @param {number} count
+   * @param {number} [rev]
+   */
+  delete(at, count, rev) {
+    return this.edit({ op: "delete", at, count }, rev);
+  }
+
+  /**
+   * Marks the characters from a place up to another, that one not included.
+   * @param {number} from
+   * @param {number} to
+   * @param {Mark} mark
+   * @param {number} [rev]
+   */
+  mark(from, to, mark, rev) {
+    return this.edit({ op: "mark", from, to, ...mark }, rev);
+  }
+
+  /**
+   * Takes a mark away from the characters from a place up to another, that one not included.
+   * @param {number} from
+   * @param {number} to
+   * @param {Mark} mark
+   * @param {number} [rev]
+   */
+  unmark(from, to, mark, rev) {
+    return this.edit({ op: "unmark", from, to, ...keyOf(mark) }, rev);
+  }
+
+  /**
+   * Sends the fields of an edit.
+   * @param {Record<string, unknown>} fields
+   * @param {number} [rev]
+   * @returns {Promise<number>}
+   */
+  async edit(fields, rev) {
+    const answer = await this.session.send({ doc: this.number, ...fields, rev });
+    return answer.rev;
+  }
+
+  /** The text. */
+  async text() {
+    return (await this.read()).text;
+  }
+
+  /** The text with its `rev`, and edits of just this text. */
+  async read() {
+    const { text, rev } = await this.session.send({ op: "text", doc: this.number });
+    return new Reading(this, text, rev);
+  }
+
+  /** The text in runs of equal marks. */
+  async spans() {
+    return (await this.readSpans()).spans;
+  }
+
+  /**
+   * The spans with their `rev`.
+   * @returns {Promise<{spans: Span[], rev: number}>}
+   */
+  async readSpans() {
+    const { spans, rev } = await this.session.send({ op: "spans", doc: this.number });
+    return { spans, rev };
+  }
+
+  /** How many operations the document has. */
+  async rev() {
+    return (await this.read()).rev;
+  }
+}

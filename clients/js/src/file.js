@@ -1,0 +1,113 @@
+/** Sessions of a program of their own, for Node. */
+
+import { spawn } from "node:child_process";
+import { randomUUID } from "node:crypto";
+
+import { Ended, refused } from "./refusals.js";
+import { Session } from "./session.js";
+
+/** The lines of a child process. */
+class Child {
+  /** @type {(line: string) => void} */
+  onLine = () => {};
+  onEnd = () => {};
+  #child;
+  #said = "";
+  #rest = "";
+
+  /**
+   * @param {string} program
+   * @param {string[]} words
+   */
+  constructor(program, words) {
+    const child = spawn(program, words, { stdio: ["pipe", "pipe", "pipe"] });
+    this.#child = child;
+    // A program that ended takes nothing more; its end is told below.
+    child.stdin.on("error", () => {});
+    child.stdout.setEncoding("utf8").on("data", (chunk) => this.#take(chunk));
+    child.stderr.setEncoding("utf8").on("data", (chunk) => (this.#said += chunk));
+    /** @type {Promise<number | string | null>} */
+    this.end = new Promise((resolve) => {
+      child.on("error", (error) => resolve(error.message));
+      child.on("close", resolve);
+    });
+    this.end.then(() => this.onEnd());
+  }
+
+  /** @param {string} line */
+  send(line) {
+    this.#child.stdin.write(`${line}\n`);
+  }
+
+  close() {
+    this.#child.stdin.end();
+  }
+
+  /** Waits for the program, and throws what its end tells, where it isn't a good one. */
+  async check() {
+    const status = await this.end;
+    const said = this.#said.trim();
+    const [, number, word] = /^peritext: (\d+) (.*)$/s.exec(said) ?? [];
+    if (number !== undefined) throw refused(Number(number), word);
+    if (typeof status === "string") throw new Ended(status);
+    if (status !== 0) throw new Ended(said || `the program ended with status ${status}`);
+  }
+
+  /** @param {string} chunk */
+  #take(chunk) {
+    // Only LF ends a line: a text may hold other line ends.
+    const lines = (this.#rest + chunk).split("\n");
+    this.#rest = /** @type {string} */ (lines.pop());
+    for (const line of lines) this.onLine(line);
+  }
+}
+
+/** A session of a program of its own, which holds the file alone. */
+export class FileSession extends Session {
+  #child;
+
+  /**
+   * @param {string} program
+   * @param {string} file
+   */
+  constructor(program, file) {
+    const child = new Child(program, ["edit", file]);
+    super(child);
+    this.#child = child;
+  }
+
+  /** Ends the session and waits for the program. `Refused` where it ends by a refusal. */
+  async close() {
+    await super.close();
+    await this.#child.check();
+  }
+}
+
+/**
+ * Makes the file of a new replica, with an id that nobody else has, and gives that id.
+ * @param {string} file
+ * @param {{replica?: string, program?: string}} options
+ */
+export async function init(file, { replica = randomUUID(), program = "peritext" } = {}) {
+  const child = new Child(program, ["init", file, "--replica", replica]);
+  child.close();
+  await child.check();
+  return replica;
+}
+
+/**
+ * A session over a file, which no other program can have open meanwhile. `Refused` where it can't be opened, as 54 where
+ * another program has it.
+ * @param {string} file
+ * @param {{program?: string}} options
+ */
+export async function open(file, { program = "peritext" } = {}) {
+  const session = new FileSession(program, file);
+  try {
+    await session.send({ op: "status" });
+  } catch (error) {
+    await session.close();
+    throw error;
+  }
+  return session;
+}

@@ -1,0 +1,47 @@
+/**
+ * Two ways to count: the program counts a text in characters (Unicode scalar values), a place being the number of
+ * them before it; JavaScript's strings count UTF-16 units, so a character such as "😀" has two.
+ */
+
+/**
+ * The place of an index of a text.
+ * @param {string} text
+ * @param {number} index
+ * @returns {number}
+ */
+export function toPlace(text, index) {
+  let place = 0;
+  let at = 0;
+  while (at < index && at < text.length) {
+    at += unitsAt(text, at);
+    place += 1;
+  }
+  if (at !== index) throw new RangeError(`${index} is no index between characters of the text`);
+  return place;
+}
+
+/**
+ * The index of a place of a text.
+ * @param {string} text
+ * @param {number} place
+ * @returns {number}
+ */
+export function toIndex(text, place) {
+  let index = 0;
+  let left = place;
+  while (left > 0 && index < text.length) {
+    index += unitsAt(text, index);
+    left -= 1;
+  }
+  if (left !== 0) throw new RangeError(`${place} is no place of the text`);
+  return index;
+}
+
+/**
+ * How many units the character at an index has.
+ * @param {string} text
+ * @param {number} index
+ */
+function unitsAt(text, index) {
+  return /** @type {number} */ (text.codePointAt(index)) > 0xffff ? 2 : 1;
+}

@@ -1,0 +1,71 @@
+/** A text that was read. */
+
+import { toPlace } from "./places.js";
+
+/**
+ * A text and the `rev` that it has. Its edits count as JavaScript's strings do, are made in just this text or are
+ * `Stale`, and answer the next reading. An index within a pair of surrogates is a `RangeError`.
+ */
+export class Reading {
+  /**
+   * @param {import("./document.js").Document} document
+   * @param {string} text
+   * @param {number} rev
+   */
+  constructor(document, text, rev) {
+    this.document = document;
+    this.text = text;
+    this.rev = rev;
+  }
+
+  /**
+   * Puts 1 to 256 characters in at an index.
+   * @param {number} index
+   * @param {string} text
+   */
+  async insert(index, text) {
+    const rev = await this.document.insert(toPlace(this.text, index), text, this.rev);
+    return this.#next(this.text.slice(0, index) + text + this.text.slice(index), rev);
+  }
+
+  /**
+   * Takes away the 1 to 256 characters from an index up to another.
+   * @param {number} from
+   * @param {number} to
+   */
+  async delete(from, to) {
+    const at = toPlace(this.text, from);
+    const rev = await this.document.delete(at, toPlace(this.text, to) - at, this.rev);
+    return this.#next(this.text.slice(0, from) + this.text.slice(to), rev);
+  }
+
+  /**
+   * Marks the characters from an index up to another.
+   * @param {number} from
+   * @param {number} to
+   * @param {import("./marks.js").Mark} mark
+   */
+  async mark(from, to, mark) {
+    const rev = await this.document.mark(toPlace(this.text, from), toPlace(this.text, to), mark, this.rev);
+    return this.#next(this.text, rev);
+  }
+
+  /**
+   * Takes a mark away from the characters from an index up to another.
+   * @param {number} from
+   * @param {number} to
+   * @param {import("./marks.js").Mark} mark
+   */
+  async unmark(from, to, mark) {
+    const rev = await this.document.unmark(toPlace(this.text, from), toPlace(this.text, to), mark, this.rev);
+    return this.#next(this.text, rev);
+  }
+
+  /**
+   * @param {string} text
+   * @param {number} rev
+   */
+  #next(text, rev) {
+    return new Reading(this.document, text, rev);
+  }
+}

@@ -1,0 +1,288 @@
+// The ProseMirror binding over a model of the program.
+
+import assert from "node:assert/strict";
+import { test } from "node:test";
+
+import { EM, Ended, STRONG, comment, link } from "peritext";
+
+import { Store } from "./fake.mjs";
+import { editorOver, plainSchema, prosemirror } from "./support.mjs";
+
+const modules = prosemirror();
+const { TextSelection } = modules.state;
+const schema = plainSchema(modules.model);
+const { strong, link: linkType } = schema.marks;
+const COMMENT = "00000000-0000-0000-0000-000000000007";
+
+function editor(store, options) {
+  return editorOver(store, modules, schema, options);
+}
+
+function change(view, make) {
+  view.dispatch(make(view.state.tr));
+}
+
+function putCaret(view, anchor, head = anchor) {
+  change(view, (tr) => tr.setSelection(TextSelection.create(tr.doc, anchor, head)));
+}
+
+/** The text with the caret, or both ends of the selection, shown in it. */
+function shown({ state: { doc, selection } }) {
+  const text = (from, to) => doc.textBetween(from, to, "\n");
+  const { from, to, empty } = selection;
+  return `${text(0, from)}|${empty ? "" : `${text(from, to)}|`}${text(to, doc.content.size)}`;
+}
+
+test("the document is read, and typing is sent", async () => {
+  const store = new Store();
+  const { document } = await editor(store);
+  await document.insert(0, "The quick fox\nruns");
+  await document.mark(4, 9, STRONG);
+  const { view, binding } = await editor(store);
+  assert.equal(view.state.doc.toString(), 'doc(paragraph("The ", strong("quick"), " fox"), paragraph("runs"))');
+  change(view, (tr) => tr.insertText("😀!", 20));
+  change(view, (tr) => tr.split(5));
+  change(view, (tr) => tr.delete(1, 3));
+  await binding.settled();
+  assert.equal(await document.text(), "e \nquick fox\nruns😀!");
+});
+
+test("each edit has the rev that it was made at", async () => {
+  const { view, binding, transport } = await editor(new Store());
+  const sent = [];
+  const send = transport.send.bind(transport);
+  transport.send = (line) => {
+    if (!line.includes('"spans"')) sent.push(JSON.parse(line));
+    send(line);
+  };
+  change(view, (tr) => tr.insertText("abc", 1));
+  change(view, (tr) => tr.addMark(2, 4, strong.create()));
+  change(view, (tr) => tr.delete(1, 2));
+  await binding.settled();
+  assert.deepEqual(sent, [
+    { doc: 1, op: "insert", at: 0, text: "abc", rev: 0 },
+    { doc: 1, op: "mark", from: 1, to: 3, kind: "strong", rev: 3 },
+    { doc: 1, op: "delete", at: 0, count: 1, rev: 4 },
+  ]);
+});
+
+test("marks are given and taken away", async () => {
+  const { view, binding, document } = await editor(new Store());
+  change(view, (tr) => tr.insertText("abcd", 1));
+  const marks = [strong.create(), linkType.create({ href: "u" }), schema.marks.comment.create({ id: COMMENT })];
+  for (const mark of marks) change(view, (tr) => tr.addMark(1, 4, mark));
+  change(view, (tr) => tr.addMark(2, 3, linkType.create({ href: "v" })));
+  for (const mark of marks) change(view, (tr) => tr.removeMark(3, 4, mark));
+  await binding.settled();
+  assert.deepEqual(await document.spans(), [
+    { comments: [COMMENT], link: "u", strong: true, text: "a" },
+    { comments: [COMMENT], link: "v", strong: true, text: "b" },
+    { text: "cd" },
+  ]);
+});
+
+test("what is typed has the editor's marks, whatever it came to have", async () => {
+  const store = new Store();
+  const { document } = await editor(store);
+  await document.insert(0, "abcd");
+  await document.mark(0, 2, STRONG);
+  await document.mark(0, 4, link("u"));
+  const { view, binding } = await editor(store);
+  change(view, (tr) => tr.insert(3, schema.text("x")));
+  change(view, (tr) => tr.insert(1, schema.text("y", [strong.create()])));
+  await binding.settled();
+  const doc = 'doc(paragraph(strong("y"), link(strong("ab")), "x", link("cd")))';
+  assert.equal(view.state.doc.toString(), doc);
+  assert.deepEqual(await document.spans(), [
+    { strong: true, text: "y" },
+    { link: "u", strong: true, text: "ab" },
+    { text: "x" },
+    { link: "u", text: "cd" },
+  ]);
+});
+
+test("a stale edit is moved and sent again", async () => {
+  const store = new Store();
+  const { view, binding, document, transport } = await editor(store);
+  change(view, (tr) => tr.insertText("The fox", 1));
+  await binding.settled();
+  const other = (await editor(store)).document;
+  transport.held = true;
+  change(view, (tr) => tr.insertText(" runs", 8));
+  change(view, (tr) => tr.insertText("!", 13));
+  await other.insert(4, "quick ");
+  await other.delete(0, 4);
+  await other.mark(0, 5, EM);
+  transport.release();
+  await binding.settled();
+  assert.equal(await document.text(), "quick fox runs!");
+  assert.equal(view.state.doc.toString(), 'doc(paragraph(em("quick"), " fox runs!"))');
+});
+
+test("what is typed into a text that goes meanwhile is kept", async () => {
+  const store = new Store();
+  const { view, binding, document, transport } = await editor(store);
+  change(view, (tr) => tr.insertText("abcdef", 1));
+  await binding.settled();
+  transport.held = true;
+  change(view, (tr) => tr.insertText("X", 4));
+  await (await editor(store)).document.delete(1, 4);
+  transport.release();
+  await binding.settled();
+  assert.equal(await document.text(), "aXf");
+});
+
+test("what others put into a text that is taken away stays", async () => {
+  const store = new Store();
+  const { view, binding, document, transport } = await editor(store);
+  change(view, (tr) => tr.insertText("ab😀", 1).split(5).insertText("cd", 7));
+  await binding.settled();
+  const other = (await editor(store)).document;
+  transport.held = true;
+  change(view, (tr) => tr.delete(2, 8));
+  change(view, (tr) => tr.insertText("!", 2));
+  await other.insert(4, "Y");
+  await other.insert(3, "X");
+  transport.release();
+  await binding.settled();
+  assert.equal(await document.text(), "aXY!d");
+  assert.equal(view.state.doc.toString(), 'doc(paragraph("aXY!d"))');
+});
+
+test("what was typed and is taken away again goes, wherever it came to stand", async () => {
+  const store = new Store();
+  const { view, binding, document, transport } = await editor(store);
+  change(view, (tr) => tr.insertText("abcd", 1));
+  await binding.settled();
+  transport.held = true;
+  change(view, (tr) => tr.insertText("Y", 4));
+  change(view, (tr) => tr.insertText("😀", 2));
+  change(view, (tr) => tr.delete(2, 7));
+  await (await editor(store)).document.delete(1, 2);
+  transport.release();
+  await binding.settled();
+  assert.equal(await document.text(), "ad");
+});
+
+test("a link that others changed goes where it is taken away", async () => {
+  const store = new Store();
+  const { view, binding, document, transport } = await editor(store);
+  change(view, (tr) => tr.insert(1, schema.text("a", [linkType.create({ href: "u" })])));
+  await binding.settled();
+  transport.held = true;
+  change(view, (tr) => tr.removeMark(1, 2, linkType.create({ href: "u" })));
+  await (await editor(store)).document.mark(0, 1, link("v"));
+  transport.release();
+  await binding.settled();
+  assert.deepEqual(await document.spans(), [{ text: "a" }]);
+  assert.equal(view.state.doc.toString(), 'doc(paragraph("a"))');
+});
+
+test("remote changes keep the caret and the selection with their text", async () => {
+  const store = new Store();
+  const { view, binding } = await editor(store);
+  change(view, (tr) => tr.insertText("The fox", 1));
+  await binding.settled();
+  const other = (await editor(store)).document;
+  const after = async (edit) => {
+    await edit;
+    await binding.pull();
+    return shown(view);
+  };
+  putCaret(view, 5);
+  assert.equal(await after(other.insert(0, "X\n")), "X\nThe |fox");
+  assert.equal(await after(other.insert(9, "Y")), "X\nThe |foxY");
+  assert.equal(await after(other.insert(6, "Z")), "X\nThe |ZfoxY");
+  assert.equal(await after(other.delete(2, 4)), "X\n|ZfoxY");
+  assert.equal(await after(other.mark(0, 7, EM)), "X\n|ZfoxY");
+  putCaret(view, 5, 8);
+  assert.equal(shown(view), "X\nZ|fox|Y");
+  assert.equal(await after(other.insert(6, "2")), "X\nZ|fox|2Y");
+  assert.equal(await after(other.insert(3, "1")), "X\nZ1|fox|2Y");
+  assert.equal(await after(other.delete(4, 3)), "X\nZ1|2Y");
+});
+
+test("marks that the next typing is to have stay", async () => {
+  const store = new Store();
+  const { view, binding } = await editor(store);
+  change(view, (tr) => tr.addStoredMark(strong.create()));
+  await (await editor(store)).document.insert(0, "abc");
+  await binding.pull();
+  change(view, (tr) => tr.replaceSelectionWith(schema.text("x"), true));
+  await binding.settled();
+  assert.equal(view.state.doc.toString(), 'doc(paragraph(strong("x"), "abc"))');
+});
+
+test("remote changes aren't undone by this editor", async () => {
+  const store = new Store();
+  const { view, binding } = await editor(store);
+  const { dispatch } = view;
+  const histories = [];
+  view.dispatch = (tr) => {
+    if (tr.docChanged) histories.push(tr.getMeta("addToHistory"));
+    dispatch.call(view, tr);
+  };
+  await (await editor(store)).document.insert(0, "abc");
+  await binding.pull();
+  assert.deepEqual(histories, [false]);
+});
+
+test("what peritext can't hold isn't taken into the document", async () => {
+  const { view, binding, document } = await editor(new Store());
+  change(view, (tr) => tr.insertText("a😀", 1));
+  const { doc } = view.state;
+  change(view, (tr) => tr.setBlockType(1, 1, schema.nodes.heading));
+  change(view, (tr) => tr.insert(1, schema.node("image")));
+  change(view, (tr) => tr.addMark(1, 2, schema.marks.code.create()));
+  change(view, (tr) => tr.delete(2, 3));
+  change(view, (tr) => tr.addMark(1, 3, strong.create()));
+  assert(view.state.doc.eq(doc));
+  await binding.settled();
+  assert.equal(await document.text(), "a😀");
+});
+
+test("marks that the schema doesn't have are left alone", async () => {
+  const store = new Store();
+  const { document } = await editor(store);
+  await document.insert(0, "abc");
+  await document.mark(0, 3, comment(COMMENT));
+  const small = new modules.model.Schema({ nodes: schema.spec.nodes, marks: { strong: {} } });
+  const { view, binding } = await editorOver(store, modules, small);
+  change(view, (tr) => tr.addMark(2, 3, small.marks.strong.create()));
+  change(view, (tr) => tr.insertText("!", 4));
+  await binding.settled();
+  assert.deepEqual(await document.spans(), [
+    { comments: [COMMENT], text: "a" },
+    { comments: [COMMENT], strong: true, text: "b" },
+    { comments: [COMMENT], text: "c" },
+    { text: "!" },
+  ]);
+});
+
+test("a refusal is told, and what is left is sent again", async () => {
+  const store = new Store();
+  const errors = [];
+  const { view, binding, document, transport } = await editor(store, { onError: (error) => errors.push(error.message) });
+  const { send } = transport;
+  transport.send = (line) => send.call(transport, line.replace('"insert"', '"sing"'));
+  change(view, (tr) => tr.insertText("a", 1));
+  await assert.rejects(binding.settled(), { number: 3 });
+  assert.deepEqual(errors, ["3 request"]);
+  transport.send = send;
+  change(view, (tr) => tr.insertText("b", 2));
+  await binding.settled();
+  assert.equal(await document.text(), "ab");
+  transport.onEnd();
+  await assert.rejects(binding.pull(), Ended);
+});
+
+test("an editor that is gone is left alone", async () => {
+  const { view, binding, transport } = await editor(new Store());
+  transport.held = true;
+  change(view, (tr) => tr.insertText("a", 1));
+  await new Promise(setImmediate);
+  view.destroy();
+  transport.release();
+  await binding.settled();
+  assert.equal(shown(view), "a|");
+});

@@ -1,0 +1,28 @@
+// The client's tests: node clients/js/tests/run.mjs
+// Those over the real program take its path from PERITEXT; those of the binding take Debian's node-prosemirror packages.
+
+import { spawnSync } from "node:child_process";
+import { existsSync } from "node:fs";
+import { fileURLToPath } from "node:url";
+
+import { LIBRARIES } from "./support.mjs";
+
+const program = process.env.PERITEXT || undefined;
+const hasEditor = existsSync(`${LIBRARIES}/prosemirror-state`);
+
+function run(name, missing) {
+  if (missing !== undefined) return console.log(`skipped: ${name}, ${missing}`);
+  const file = fileURLToPath(new URL(`${name}.mjs`, import.meta.url));
+  const words = ["--test-reporter=spec", "--test", file];
+  const { status } = spawnSync(process.execPath, words, { stdio: "inherit", env: { ...process.env, NODE_PATH: LIBRARIES } });
+  if (status !== 0) process.exitCode = 1;
+}
+
+const noProgram = program === undefined ? "for PERITEXT names no program" : undefined;
+const noEditor = hasEditor ? undefined : "for node-prosemirror-state isn't installed";
+run("client");
+run("file", noProgram);
+run("paragraphs", noEditor);
+run("binding", noEditor);
+run("agreement", noEditor);
+run("examples");
