@@ -30,8 +30,8 @@ pub returns-in-Ok-Some-clause-taken : goal.returns-in-Ok-Some-clause-taken
 returns-in-Ok-Some-clause-taken g c = (
   refl,
   λ ops are. rw (sym c.self.view_is) (
-      c.begin_records.ensures.began ops are c.in-Ok-Some.length (c.in-Ok-Some.is ∙ ap Ok c.in-Ok-Some.field-0-is),
-      c.in_ok-append.ensures.ok ops are,
+    c.begin_records.ensures.began ops are c.in-Ok-Some.length (c.in-Ok-Some.is ∙ ap Ok c.in-Ok-Some.field-0-is),
+    c.in_ok-append.ensures.ok ops are,
   ),
 )
 
