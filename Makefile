@@ -11,7 +11,7 @@ run:
 	cd crates/edit_shell && rt try < stdin
 
 # Everything from nothing: each proof, each must-fail edit, each test, the program's stored run. Then the proved program on real files,
-# and the Python client over it.
+# and the clients over it; that for JavaScript only where there is node.
 # It is kept as bin/peritext with the line of its sources, unless these changed meanwhile.
 test:
 	@mkdir -p bin; rm -f bin/sources; $(SUM) > bin/asked
@@ -19,6 +19,8 @@ test:
 	@if $(SUM) | cmp -s - bin/asked; then cp $(PROGRAM) bin/peritext && mv bin/asked bin/sources; fi
 	python3 checks/run.py $(PROGRAM)
 	PERITEXT=$(abspath $(PROGRAM)) python3 clients/python/tests/run.py
+	@if command -v node > /dev/null; then PERITEXT=$(abspath $(PROGRAM)) node clients/js/tests/run.mjs; \
+	else echo "skipped: clients/js, for there is no node"; fi
 
 # The proved program, as bin/peritext. It is built anew unless the one that is there was built of these very sources: times of files tell nothing
 # of a tree that was copied.
