@@ -136,8 +136,7 @@ abbrev pub merge_answer_unless : State → Option ℕ → Answer
 merge_answer_unless s (Some n) = refused n
 merge_answer_unless s None = if has_places s then applied else refused 10
 
--- the answers of a merge into a replica without a store, in the order of test: known, own but unknown 20, early, then the checks,
--- steps 10
+-- the answers of a merge without a store, in the order of test: known, own but unknown 20, early, then the checks, steps 10
 abbrev pub merge_alone : ℕ → State → Op → Answer
 merge_alone replica s op =
     if is_known (clock_of s.list) op then known
