@@ -19,8 +19,9 @@ test:
 	@if $(SUM) | cmp -s - bin/asked; then cp $(PROGRAM) bin/peritext && mv bin/asked bin/sources; fi
 	python3 checks/run.py $(PROGRAM)
 	PERITEXT=$(abspath $(PROGRAM)) python3 clients/python/tests/run.py
-	@if command -v node > /dev/null; then PERITEXT=$(abspath $(PROGRAM)) node clients/js/tests/run.mjs; \
-	else echo "skipped: clients/js, for there is no node"; fi
+	@if node -e 'process.exit(parseInt(process.versions.node) < 20 ? 1 : 0)' 2> /dev/null; then \
+	    PERITEXT=$(abspath $(PROGRAM)) node clients/js/tests/run.mjs; \
+	else echo "skipped: clients/js, for there is no node of version 20 or later"; fi
 
 # The proved program, as bin/peritext. It is built anew unless the one that is there was built of these very sources: times of files tell nothing
 # of a tree that was copied.
