@@ -30,11 +30,6 @@ pub some_long : (ops : List Op) → is_none ops ≡ false → 0 < length ops
 some_long [] some = absurd (cc)
 some_long (op ∷ ops) some = omega arith
 
--- an empty one has none
-pub no_ops : (ops : List Op) → length ops ≡ 0 → is_none ops ≡ true
-no_ops [] none = refl
-no_ops (op ∷ ops) none = absurd (omega (arith, none))
-
 -- room for records is room for their operations
 pub room_for : (current : Saved) (ops : List Op) (count : ℕ) (records : List ℕ) → AreRecords ops count records
     → has_room_for current count (length records) ≡ has_room current ops
@@ -49,11 +44,6 @@ begin_is_due s ops count records are works idle more room =
     let some = some_ops ops (omega (arith, counted, more)) in
     let has = sym (room_for s.current ops count records are) ∙ room in
     rw (works, idle, some, has, counted) refl
-
--- where a commit is due, it has the length that is due
-pub began_so : (due : Result (Option ℕ) StoreError) (n m : ℕ) → due ≡ Ok (Some n) → IsAnswer due (Ok (Some m)) → m ≡ n
-began_so due n m is (inl same) = cc
-began_so due n m is (inr memory) = let never = memory.0 in absurd (cc)
 
 -- it isn't said that there is nothing
 pub began_something : (due : Result (Option ℕ) StoreError) (n : ℕ) → due ≡ Ok (Some n) → IsAnswer due (Ok None) → ⊥

@@ -5,6 +5,7 @@ use Rattle.std.specs.Prelude.{if◌then◌else◌, Some, None}
 use Rattle.std.proofs.lemmas.Bool.{leb-true}
 use Rattle.std.proofs.lemmas.Bool.Decides.{nat_tests}
 use Rattle.std.proofs.lemmas.List.{drop-append-le, drop_all}
+use Rattle.op_list.proofs.EndsOf.{stream_length-append}
 use Rattle.op_model.specs.declared.op.Op.{Op}
 use Rattle.op_model.specs.declared.edit.Edit.{Edit}
 use Rattle.op_model.specs.Machine.{taken_in, has_record_room}
@@ -16,11 +17,6 @@ use Rattle.replica_core.specs.Steps.{places_left}
 use Rattle.replica_core.proofs.ReachedLemmas.{length_is_reached}
 use Rattle.hub_parts.specs.Locked.{commit_of, state_of, Keeps, Held as LockedHeld}
 use Rattle.hub_parts.proofs.Growing.{Grows, grows_edit, grows_merge, more_edit, more_merge, owed_grown, due_behind_all, due_behind_some}
-
--- the records of two lists, one behind the other
-pub stream_length-append : (xs ys : List Op) → stream_length (xs ++ ys) ≡ stream_length xs + stream_length ys
-stream_length-append [] ys = omega arith
-stream_length-append (x ∷ xs) ys = let rest = stream_length-append xs ys in omega arith
 
 -- the records that wait where the list grew
 waits_more : (h next : ReplicaHeld) (n : ℕ) (g : Grows h next) → n ≤ length h.list

@@ -7,17 +7,9 @@ pub refused_alone : (room : Bool) (n : ℕ) (answer : Answer) → answer ≡ ref
 refused_alone true n answer is = rw is refl
 refused_alone false n answer is = rw is refl
 
--- no room for an edit's records
-pub full_edit : (room : Bool) (t : Ticket) (answer : Answer) → room ≡ false → answer ≡ ticket t → IsRefusal 8 (with_room room answer)
-full_edit room t answer none is = rw (none, is) refl
-
 -- no room for a merged operation's record
 pub full_merge : (room : Bool) (answer : Answer) → room ≡ false → answer ≡ applied → IsRefusal 8 (with_room room answer)
 full_merge room answer none is = rw (none, is) refl
-
--- room for an edit, and no memory
-pub wanting_edit : (room : Bool) (t : Ticket) (n : ℕ) (answer : Answer) → room ≡ true → answer ≡ ticket t → n ≡ 1 → IsRefusal n (with_room room answer)
-wanting_edit room t n answer some is one = rw (some, is) one
 
 -- room for a merge, and no memory
 pub wanting_merge : (room : Bool) (n : ℕ) (answer : Answer) → room ≡ true → answer ≡ applied → n ≡ 1 → IsRefusal n (with_room room answer)

@@ -26,7 +26,7 @@ use Rattle.locked_replica.proofs.BeginAnswers.{begin_made}
 use Rattle.locked_replica.proofs.Beginning.{begin_busy, begin_failed}
 use Rattle.locked_replica.proofs.PartsFit.{hub_fits, hub_of, taken_all}
 use Rattle.locked_replica.proofs.PartsOf.{parts}
-use Rattle.locked_replica.proofs.Settling.{settle_failed, settle_made, through_says}
+use Rattle.locked_replica.proofs.Settling.{settle_failed, settle_made}
 use Rattle.locked_replica.proofs.StateLemmas.{answer_due, due_by}
 
 -- a meeting's answer as that of a begin

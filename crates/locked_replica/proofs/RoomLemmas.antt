@@ -4,6 +4,7 @@ use Rattle.std.specs.List.{list_all}
 use Rattle.std.proofs.lemmas.Bool.Decides.{nat_tests}
 use Rattle.std.proofs.lemmas.Bool.{leb-true, le-leb}
 use Rattle.std.proofs.lemmas.List.{take-append-drop, length-take-le, append-nil}
+use Rattle.op_list.proofs.EndsOf.{stream_length-append}
 use Rattle.op_model.specs.declared.op.Op.{Op}
 use Rattle.op_model.specs.Causality.{FollowInTurn, IsCausallyClosed, is_within_limits, is_in_range, clock_of, documents}
 use Rattle.op_model.specs.Records.{stream_length}
@@ -33,10 +34,6 @@ few_of ops closed =
       leb-true (length ops) 16777216 both.0,
       leb-true (stream_length ops) 1073741824 both.1,
     )
-
-pub stream_length-append : (xs ys : List Op) → stream_length (xs ++ ys) ≡ stream_length xs + stream_length ys
-stream_length-append [] ys = omega arith
-stream_length-append (x ∷ xs) ys = let rest = stream_length-append xs ys in omega arith
 
 -- the operations behind a front
 pub behind_front : (n : ℕ) (ops : List Op) → n ≤ length ops → n + length (drop n ops) ≡ length ops

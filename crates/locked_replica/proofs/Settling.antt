@@ -16,11 +16,6 @@ use Rattle.locked_replica.proofs.QuietCalls.{quiet_call, quiet_same, counts_same
 use Rattle.locked_replica.proofs.StateLemmas.{not_through}
 use Rattle.std.proofs.lemmas.Bool.{lt-ltb, le-ltb}
 
--- a commit is through where a test says so
-pub through_says : (idle : Bool) (a b : ℕ) → (idle && nat_lt a b) ≡ true → (idle ≡ true) × (a < b)
-through_says true a b is = (refl, grind (arith, nat_tests))
-through_says false a b is = absurd (cc)
-
 -- a settlement of the commit that is through
 pub settle_made : {D : Type 0} {failure_told : Bool} (facts : Ghosts D) (h : Held) (s : StoreHeld D) → (facts.tells s.disk → IsLawful facts s.disk)
     → Fits facts (parts h s failure_told) → Fits facts (parts (with_settled h (committed s)) s failure_told) → s.failed ≡ false → is_idle s.phase ≡ true

@@ -100,11 +100,6 @@ begin_step old new (Ok (Some n)) (Err e) works is (inr want) began stays =
 begin_step old new (Ok None) (Err e) works is (inr want) began stays = absurd (want.1)
 begin_step old new (Err d) (Err e) works is (inr want) began stays = absurd (want.1)
 
--- there is a commit where one is through
-pub has_commit : (idle : Bool) (settled live next : ℕ) → (idle && nat_lt settled live) ≡ true → is_some (commit_in idle settled live next) ≡ true
-has_commit false settled live next is = absurd (cc)
-has_commit true settled live next is = rw is refl
-
 -- a commit begins at rest, with some operations, and has all of them
 pub due_begun : (idle none room : Bool) (n m : ℕ) → due_by idle none room n ≡ Ok (Some m) → (idle ≡ true) × (none ≡ false) × (n ≡ m)
 due_begun true false true n m is = (refl, refl, cc)
