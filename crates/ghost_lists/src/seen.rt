@@ -15,6 +15,9 @@ impl<T> Model for Seen<T> {
     ghost also_owns = { λ _. ftrue };
 }
 
+// It owns nothing.
+unsafe impl<T: Send> Send for Seen<T> {}
+
 impl<T> Seen<T> {
     /// The value as it is now. It isn't read.
     pub fn of(value: &T) -> Seen<T>

@@ -16,6 +16,9 @@ impl<T> Model for Written<T> {
     ghost also_owns = { λ _. ftrue };
 }
 
+// It owns nothing.
+unsafe impl<T: Send> Send for Written<T> {}
+
 impl<T> Written<T> {
     /// Nothing so far.
     pub fn new() -> Written<T>

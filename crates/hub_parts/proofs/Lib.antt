@@ -9,3 +9,4 @@ pub mod BeginLemmas
 pub mod Fronts
 pub mod Settling
 pub mod OpenedParts
+pub mod TicketEnds

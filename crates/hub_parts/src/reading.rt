@@ -63,6 +63,13 @@ impl Locked {
         self.replica.told()
     }
 
+    /// Whether a meeting has told a failure of the device.
+    pub fn is_failure_told(&self) -> bool
+        ensures { result ≡ self.now.failure_told }
+    {
+        self.failure_told
+    }
+
     /// How many operations a document has. Costs what `Replica::rev` does.
     pub fn rev(&self, doc: u32) -> usize
         ensures { result ≡ rev_of self.now.replica.list doc }

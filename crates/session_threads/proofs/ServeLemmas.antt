@@ -14,7 +14,8 @@ use Rattle.locked_replica.specs.Run.{Calls}
 use Rattle.session_threads.specs.HubCalls.{IsQuiet, Commits, is_edit_refusal}
 use Rattle.session_threads.specs.HubServing.{session, AnswersEdit, AnswersTicket}
 use Rattle.session_threads.proofs.CallLemmas.{Calls-append, one_call}
-use Rattle.session_threads.proofs.EditLemmas.{edit_refusals, ticket_ends, edit_is_quiet, refused_is_quiet, acknowledges, ack_is_quiet}
+use Rattle.hub_parts.proofs.TicketEnds.{ticket_ends}
+use Rattle.session_threads.proofs.EditLemmas.{edit_refusals, edit_is_quiet, refused_is_quiet, acknowledges, ack_is_quiet}
 
 module _ {D : Type 0} (facts : Ghosts D) where
   -- a ticket's answer is the edit's

@@ -1,4 +1,5 @@
 //! Who serves the commands of a session.
+ghost use Rattle.std.specs.Prelude.{◌≡◌};
 
 use session_lines::{Answer, Command};
 use std::alloc::Global;
@@ -10,6 +11,10 @@ pub trait Desk {
 
     /// A command may be given this answer: the desk before, the command, the answer, the desk after.
     ghost serves: { Self → Command → Answer → Self → Type 0 };
+
+    /// Is told that a line has been read, before that is looked at.
+    fn line_read(&mut self)
+        ensures { self.new ≡ self.old };
 
     /// Serves a command. Want of memory is an answer like any other refusal.
     fn serve(&mut self, alloc: Global, command: Command) -> Answer

@@ -49,6 +49,7 @@ pub fn exchange<W: Write, D: Desk>(
     ensures err { OnErr result ((text : List ℕ) × Exchange D.serves desk.old room.old.line text desk.new
         × AppendsFront (W.contents writer.old) (W.contents writer.new) text) }
 {
+    desk.line_read();
     let answer = answer(alloc, &room.line, desk);
     room.text.say(alloc, &answer);
     put(writer, room.text.as_slice())

@@ -15,6 +15,8 @@ impl<D: Disk> Desk for HubDesk<D> {
 
     ghost serves = { Serves D.DiskFacts };
 
+    fn line_read(&mut self) {}
+
     fn serve(&mut self, _alloc: Global, command: Command) -> Answer {
         match command {
             Command::Edit(edit) => self.edit(&edit),

@@ -18,6 +18,8 @@ impl Desk for Counter {
 
     ghost serves = { λ old _ _ new. old.asked ≤ new.asked };
 
+    fn line_read(&mut self) {}
+
     fn serve(&mut self, _alloc: Global, command: Command) -> Answer {
         self.asked = self.asked.saturating_add(1);
         match command {

@@ -1,0 +1,3 @@
+mod BookLemmas
+mod MeetLemmas
+mod OpeningLemmas

@@ -1,0 +1,35 @@
+-- Passes that are made one after another, and the books of a hub that has made no step.
+use Rattle.std.proofs.Common.{◌≡◌, ℕ, ◌+◌, ◌<◌, List, [], ◌∷◌, ◌++◌, length, drop, All, Some, refl, sym, ap, ◌∙◌, arith, slice_get}
+use Rattle.std.proofs.Math.ListN.{get_or}
+use Rattle.std.proofs.lemmas.List.{drop_more, length-drop}
+use Rattle.std.proofs.lemmas.List.Elements.{All-append, All-cons, All-drop, All-map}
+use Rattle.std.proofs.lemmas.Option.{slice_get_read, slice_get_within, get_or_from_slice_get}
+use Rattle.op_model.specs.Replay.{Kept}
+use Rattle.pass_books.specs.Accounts.{Account, entries_of}
+use Rattle.shared_hub.specs.Books.{ends_of, BooksFit}
+
+-- the first of what is left of a list behind n elements is its n-th
+pub next_of : {A : Type 0} (xs : List A) (n : ℕ) (x : A) (ys : List A) → drop n xs ≡ x ∷ ys
+    → (slice_get xs n ≡ Some x) × (drop (n + 1) xs ≡ ys)
+next_of xs n x ys is =
+    let within : n < length xs = omega (arith, ap length is, length-drop n xs) in
+    let both : x ∷ ys ≡ get_or xs n x ∷ drop (n + 1) xs = sym is ∙ drop_more xs n x within in
+    let first : x ≡ get_or xs n x = cc in
+    let rest : ys ≡ drop (n + 1) xs = cc in (slice_get_read xs (length xs) n x refl within first, sym rest)
+
+-- books without entries fit a hub that has made no step
+pub fresh_fit : (steps : List Kept) (accounts : List Account) → steps ≡ [] → All (λ (a : Account). a.entries ≡ []) accounts
+    → BooksFit steps (entries_of accounts)
+fresh_fit steps accounts none fresh n entries found =
+    let all : All (λ es. es ≡ []) (entries_of accounts) = All-map (λ es. es ≡ []) (λ (a : Account). a.entries) accounts fresh in
+    let within = slice_get_within (entries_of accounts) n entries found in
+    sym (get_or_from_slice_get (entries_of accounts) n entries entries found) ∙ all n entries within
+    ∙ ap (λ kept. ends_of n kept) (sym none)
+
+-- what holds of all but one, and of that one
+pub all_and : {A : Type 0} (P : A → Type 0) (xs : List A) (x : A) → All P xs → P x → All P (xs ++ x ∷ [])
+all_and P xs x all one = All-append P xs (x ∷ []) all (All-cons P x [] one (λ k d less. absurd (omega (arith, less))))
+
+-- what holds of all holds of the first, and of those behind it
+pub all_behind : {A : Type 0} (P : A → Type 0) (x : A) (xs : List A) → All P (x ∷ xs) → P x × All P xs
+all_behind P x xs all = (all 0 x (omega arith), All-drop P 1 (x ∷ xs) all)

@@ -1,0 +1,10 @@
+use Rattle.std.proofs.Common.{sym, ◌∙◌}
+use Rattle.shared_hub.proofs.MeetLemmas.{meeting_ends}
+use Rattle.shared_hub.proofs.guarded.Guarded.meet.Goals as goal
+
+-- the books fit as before
+pub invariant_of-self : goal.invariant_of-self
+invariant_of-self g c n entries found =
+    c.self.invariant n entries found
+    ∙ sym (meeting_ends g.D.DiskFacts c.self.inside.locked c.args.flusher.now c.meet-result.result c.meet-result.new.locked c.meet-result.new.self
+    c.meet-result.ensures.met.leaves n)

@@ -1,0 +1,24 @@
+use Rattle.std.proofs.Common.{◌≡◌, [], ◌∷◌, All, vec_len, ap, sym, ◌∙◌}
+use Rattle.pass_books.specs.Accounts.{Account, names_of}
+use Rattle.shared_hub.proofs.OpeningLemmas.{next_of, all_and, all_behind}
+use Rattle.shared_hub.proofs.opening.numbered.Goals as goal
+
+-- the next share has the name behind those of the passes
+pub of-requires : goal.of-requires
+of-requires g c =
+    let behind = c.next.new.self.rest.items in
+    let is = sym c.loop-share.invariant.0 ∙ ap names_of c.in-Some.ensures.steps.0 in
+    rw c.len.ensures ((next_of g.J.Desks.names (vec_len c.loop-share.passes) c.in-Some.share.name (names_of behind) is).0)
+
+pub loop-share-preserved : goal.loop-share-preserved
+loop-share-preserved g c =
+    let behind = c.next.new.self.rest.items in
+    let share = c.in-Some.share in
+    let is = sym c.loop-share.invariant.0 ∙ ap names_of c.in-Some.ensures.steps.0 in
+    let left : All (λ (s : Account). s.entries ≡ []) (share ∷ behind) = rw c.in-Some.ensures.steps.0 at c.loop-share.invariant.1 in
+    let both = all_behind (λ (s : Account). s.entries ≡ []) share behind left in (
+      rw c.in_ok-push.ensures.len (sym (next_of g.J.Desks.names (vec_len c.loop-share.passes) share.name (names_of behind) is).1),
+      both.1,
+      rw c.in_ok-push.ensures.items (all_and (λ p. p.entries ≡ []) c.loop-share.passes.items c.of.result c.loop-share.invariant.2
+          (ap (λ p. p.entries) c.of.ensures ∙ both.0)),
+    )

@@ -1,0 +1,34 @@
+-- What stands under the lock of a shared hub.
+use Rattle.std.specs.Prelude.{◌≡◌, ℕ, Bool, List, ◌∷◌, Result, Ok, Err}
+use Rattle.op_model.specs.Machine.{Ticket}
+use Rattle.hub_parts.specs.Locked.{Held as LockedHeld}
+use Rattle.pass_books.specs.Accounts.{PassHeld}
+use Rattle.replica_core.specs.declared.merged.Merged.{Merged}
+use Rattle.replica_core.specs.declared.merged.Merged.TheVariants as merged_as
+use Rattle.shared_hub.specs.declared.refusal.SharedRefusal.{SharedRefusal}
+
+-- the locked part, the entries of each book, and whether it was asked to stop
+pub record Held : Type 0 where
+  pub locked : LockedHeld
+  pub books : List (List ℕ)
+  pub stopping : Bool
+
+-- the pass with one entry more
+abbrev pub with_end : PassHeld → ℕ → PassHeld
+with_end p end = record p { entries = end ∷ p.entries }
+
+-- what an edit leaves of the pass: an entry more, where a ticket was given
+abbrev pub after_edit : Result Ticket SharedRefusal → PassHeld → PassHeld
+after_edit (Ok t) p = with_end p t.end
+after_edit (Err e) p = p
+
+-- what a merge leaves of the pass, behind which the list has this length: an entry more, where the operation was applied
+abbrev pub after_merge : Result Merged SharedRefusal → ℕ → PassHeld → PassHeld
+after_merge (Ok merged_as.Applied) end p = with_end p end
+after_merge (Ok merged_as.Known) end p = p
+after_merge (Ok merged_as.Early) end p = p
+after_merge (Err e) end p = p
+
+-- the pass has an entry more where the operation was applied, and else is as before
+abbrev pub Merges : Result Merged SharedRefusal → PassHeld → PassHeld → Type 0
+Merges result old new = (end : ℕ) × (new ≡ after_merge result end old)

@@ -1,0 +1,4 @@
+pub mod Books
+pub mod Guarded
+pub mod Refusal
+pub mod Shared

@@ -1,0 +1,116 @@
+//! Edits and merges under the lock of a shared hub.
+ghost use Rattle.std.specs.Prelude.{◌≡◌, true, false, Err, length, OnOk, OnErr, IfOk};
+ghost use Rattle.op_model.specs.Machine.{edit as edit_event, merge as merge_event, EditStep, MergeStep};
+ghost use Rattle.hub_parts.specs.Locked.{state_of, IsLocked};
+ghost use Rattle.replica_core.specs.Held.{with_edit};
+ghost use Rattle.replica_core.specs.Merging.{after_merge as replica_after_merge};
+ghost use Rattle.shared_hub.specs.Books.{ends_of};
+ghost use Rattle.shared_hub.specs.Guarded.{after_edit, after_merge};
+ghost use Rattle.shared_hub.specs.Refusal.{edited, merged};
+ghost use Rattle.shared_hub.specs.Shared.{MakesFor};
+ghost use Rattle.shared_hub.specs.declared.refusal.SharedRefusal.TheVariants.{Stopping};
+
+use crate::guarded::Guarded;
+use crate::refusal::SharedRefusal;
+use op_model::{Edit, Op};
+use pass_books::{Desks, Pass};
+use replica_core::{Merged, Ticket};
+
+impl<J: Desks> Guarded<J> {
+    /// Makes an edit, as a step of the pass's number, and enters it. Refuses with 12 where it was
+    /// asked to stop, else as `Locked::edit` does (9, 6, 5, 7, 10, 8, 1). A refused edit changes
+    /// nothing. Costs what `Locked::edit` does.
+    pub fn edit(&mut self, pass: &mut Pass<J>, edit: &Edit) -> Result<Ticket, SharedRefusal>
+        ensures stopping { self.old.stopping ≡ true → result ≡ Err Stopping }
+        ensures call { self.old.stopping ≡ false → MakesFor self.old.locked self.new.locked
+            pass.old pass.new (edit_event pass.old.number edit.now) (edited result) }
+        ensures made { OnOk result (self.new.locked ≡ record self.old.locked {
+          replica = with_edit self.old.locked.replica pass.old.number edit.now;
+        }) }
+        ensures pass { pass.new ≡ after_edit result pass.old }
+        ensures same { OnErr result (self.new ≡ self.old) }
+        ensures goes_on { self.new.stopping ≡ self.old.stopping }
+    {
+        if self.is_stopping {
+            return Err(SharedRefusal::Stopping);
+        }
+        self.audit(pass);
+        let result = self.enter_edit(pass, edit);
+        self.audit(pass);
+        result
+    }
+
+    /// Makes an edit, and enters it.
+    fn enter_edit(&mut self, pass: &mut Pass<J>, edit: &Edit) -> Result<Ticket, SharedRefusal>
+        requires sound { IsLocked self.old.locked }
+        requires mine { pass.old.entries
+            ≡ ends_of pass.old.number self.old.locked.replica.steps }
+        ensures call { EditStep self.old.locked.replica.replica (state_of self.old.locked)
+            pass.old.number edit.now (edited result) (state_of self.new.locked) }
+        ensures made { OnOk result (self.new.locked ≡ record self.old.locked {
+          replica = with_edit self.old.locked.replica pass.old.number edit.now;
+        }) }
+        ensures pass { pass.new ≡ after_edit result pass.old }
+        ensures same { OnErr result (self.new ≡ self.old) }
+        ensures goes_on { self.new.stopping ≡ self.old.stopping }
+    {
+        match self.locked.edit(pass.number() as u64, edit) {
+            Ok(ticket) => {
+                self.books.add(pass, ticket.end as u64);
+                Ok(ticket)
+            }
+            Err(refusal) => Err(SharedRefusal::Locked(refusal)),
+        }
+    }
+
+    /// Merges a peer's operation, as a step of the pass's number, and enters it where it is applied.
+    /// Refuses with 12 where it was asked to stop, else as `Locked::merge` does (9, 20 to 24, 10, 8,
+    /// 1). A refused merge changes nothing. Costs what `Locked::merge` does.
+    pub fn merge(&mut self, pass: &mut Pass<J>, op: Op) -> Result<Merged, SharedRefusal>
+        ensures stopping { self.old.stopping ≡ true → result ≡ Err Stopping }
+        ensures call { self.old.stopping ≡ false → MakesFor self.old.locked self.new.locked
+            pass.old pass.new (merge_event pass.old.number op) (merged result) }
+        ensures made { IfOk result (λ m. self.new.locked ≡ record self.old.locked {
+          replica = replica_after_merge m self.old.locked.replica pass.old.number op;
+        }) }
+        ensures pass { pass.new
+            ≡ after_merge result (length self.new.locked.replica.list) pass.old }
+        ensures same { OnErr result (self.new ≡ self.old) }
+        ensures goes_on { self.new.stopping ≡ self.old.stopping }
+    {
+        if self.is_stopping {
+            return Err(SharedRefusal::Stopping);
+        }
+        self.audit(pass);
+        let result = self.enter_merge(pass, op);
+        self.audit(pass);
+        result
+    }
+
+    /// Merges a peer's operation, and enters it where it is applied.
+    fn enter_merge(&mut self, pass: &mut Pass<J>, op: Op) -> Result<Merged, SharedRefusal>
+        requires sound { IsLocked self.old.locked }
+        requires mine { pass.old.entries
+            ≡ ends_of pass.old.number self.old.locked.replica.steps }
+        ensures call { MergeStep self.old.locked.replica.replica (state_of self.old.locked)
+            pass.old.number op (merged result) (state_of self.new.locked) }
+        ensures made { IfOk result (λ m. self.new.locked ≡ record self.old.locked {
+          replica = replica_after_merge m self.old.locked.replica pass.old.number op;
+        }) }
+        ensures pass { pass.new
+            ≡ after_merge result (length self.new.locked.replica.list) pass.old }
+        ensures same { OnErr result (self.new ≡ self.old) }
+        ensures goes_on { self.new.stopping ≡ self.old.stopping }
+    {
+        match self.locked.merge(pass.number() as u64, op) {
+            Ok(Merged::Applied) => {
+                let end = self.locked.list().len() as u64;
+                self.books.add(pass, end);
+                Ok(Merged::Applied)
+            }
+            Ok(Merged::Known) => Ok(Merged::Known),
+            Ok(Merged::Early) => Ok(Merged::Early),
+            Err(refusal) => Err(SharedRefusal::Locked(refusal)),
+        }
+    }
+}

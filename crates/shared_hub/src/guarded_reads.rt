@@ -1,0 +1,55 @@
+//! What is read under the lock of a shared hub.
+ghost use Rattle.std.specs.Prelude.{◌≡◌, IfOk, length};
+ghost use Rattle.op_model.specs.Spans.{spans as spans_of};
+ghost use Rattle.op_model.specs.Text.{text as text_of, rev as rev_of};
+
+use crate::guarded::Guarded;
+use crate::shown::Shown;
+use crate::status::Status;
+use op_model::{Span, Text};
+use pass_books::Desks;
+use std::alloc::AllocError;
+
+impl<J: Desks> Guarded<J> {
+    /// How far it is. Takes no memory. Constant.
+    pub fn status(&self) -> Status
+        ensures { result ≡ record {
+          applied = length self.now.locked.replica.list;
+          settled = self.now.locked.replica.settled;
+          has_failed = self.now.locked.failure_told;
+          is_stopping = self.now.stopping;
+        } }
+    {
+        Status {
+            applied: self.locked.list().len() as u64,
+            settled: self.locked.settled() as u64,
+            has_failed: self.locked.is_failure_told(),
+            is_stopping: self.is_stopping,
+        }
+    }
+
+    /// The text of a document, unsettled operations included. An error is want of memory (1). Costs
+    /// what `Locked::text` does.
+    pub fn text(&self, doc: u32) -> Result<Shown<Text>, AllocError>
+        ensures rev { IfOk result (λ it. it.rev ≡ rev_of self.now.locked.replica.list doc) }
+        ensures text { IfOk result (λ it. it.content ≡ text_of self.now.locked.replica.list doc) }
+    {
+        Ok(Shown {
+            rev: self.locked.rev(doc) as u64,
+            content: self.locked.text(doc)?,
+        })
+    }
+
+    /// The text of a document, cut where its marks change. An error is want of memory (1). Costs
+    /// what `Locked::spans` does.
+    pub fn spans(&self, doc: u32) -> Result<Shown<Vec<Span>>, AllocError>
+        ensures rev { IfOk result (λ it. it.rev ≡ rev_of self.now.locked.replica.list doc) }
+        ensures spans { IfOk result
+            (λ it. it.content.items ≡ spans_of self.now.locked.replica.list doc) }
+    {
+        Ok(Shown {
+            rev: self.locked.rev(doc) as u64,
+            content: self.locked.spans(doc)?,
+        })
+    }
+}

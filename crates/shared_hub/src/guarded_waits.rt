@@ -1,0 +1,116 @@
+//! What a thread under the lock of a shared hub waits for.
+ghost use Rattle.std.specs.Prelude.{◌≡◌, ◌≢◌, ◌≤◌, true, length};
+ghost use Rattle.op_model.specs.Machine.{ack as ack_event, acknowledged};
+ghost use Rattle.shared_hub.specs.Shared.{MakesFor, Moment};
+ghost use Rattle.shared_hub.specs.declared.awaited.Awaited.TheVariants.{Settled};
+
+use crate::awaited::Awaited;
+use crate::guarded::Guarded;
+use crate::news::News;
+use pass_books::{Desks, Pass};
+use replica_core::Ticket;
+
+impl<J: Desks> Guarded<J> {
+    /// Acknowledges a ticket where its operations are settled; else says whether to wait for that.
+    pub(crate) fn try_ack(&mut self, pass: &mut Pass<J>, ticket: Ticket) -> Awaited
+        ensures call { result ≡ Settled → MakesFor self.old.locked self.new.locked
+            pass.old pass.new (ack_event ticket) (acknowledged true) }
+        ensures pass { pass.new ≡ pass.old }
+    {
+        self.audit(pass);
+        let is_acknowledged = self.ack(ticket);
+        self.audit(pass);
+        if is_acknowledged {
+            return Awaited::Settled;
+        }
+        self.without_settlement(ticket.end)
+    }
+
+    /// Whether all operations are settled; else whether to wait for that.
+    pub(crate) fn all_settled(&self) -> Awaited
+        ensures { result ≡ Settled
+            → Moment (λ l. length l.replica.list ≤ l.replica.settled) }
+    {
+        self.locked.kept();
+        let length = self.locked.list().len();
+        if length <= self.locked.settled() {
+            return Awaited::Settled;
+        }
+        self.without_settlement(length)
+    }
+
+    /// What a thread does that waits for the settlement of the list up to this length.
+    fn without_settlement(&self, end: usize) -> Awaited
+        ensures { result ≢ Settled }
+    {
+        if self.locked.is_failure_told() || end <= self.turns.given_up {
+            Awaited::Lost
+        } else {
+            Awaited::Pending
+        }
+    }
+
+    /// Takes no more edits. What waits is tried anew, also where that was given up.
+    pub(crate) fn stop(&mut self)
+        ensures { self.new ≡ record self.old { stopping = true } }
+    {
+        self.is_stopping = true;
+        self.turns.given_up = 0;
+    }
+
+    /// Whether operations wait for a commit that can begin.
+    pub(crate) fn has_work(&self) -> bool {
+        let length = self.locked.list().len();
+        !self.locked.is_failure_told()
+            && self.locked.begun() < length
+            && self.turns.given_up < length
+    }
+
+    /// Whether the flusher sleeps and has work: whoever asks is to wake it.
+    pub(crate) fn wakes_flusher(&mut self) -> bool
+        ensures { self.new ≡ self.old }
+    {
+        let wakes = self.turns.flusher_sleeps && self.has_work();
+        if wakes {
+            self.turns.flusher_sleeps = false;
+        }
+        wakes
+    }
+
+    /// Marks that the flusher sleeps.
+    pub(crate) fn sleep_flusher(&mut self)
+        ensures { self.new ≡ self.old }
+    {
+        self.turns.flusher_sleeps = true;
+    }
+
+    /// Gives up the commit of what waits now, until another operation comes.
+    pub(crate) fn give_up(&mut self)
+        ensures { self.new ≡ self.old }
+    {
+        self.turns.given_up = self.locked.list().len();
+    }
+
+    /// What is to be seen by a thread that tells.
+    pub(crate) fn news(&self) -> News {
+        News {
+            settled: self.locked.settled(),
+            calls: self.turns.calls,
+            is_closing: self.turns.is_closing,
+        }
+    }
+
+    /// Calls the threads that tell.
+    pub(crate) fn call(&mut self)
+        ensures { self.new ≡ self.old }
+    {
+        self.turns.calls = self.turns.calls.wrapping_add(1);
+    }
+
+    /// Asks the threads to end.
+    pub(crate) fn close(&mut self)
+        ensures { self.new ≡ self.old }
+    {
+        self.turns.is_closing = true;
+    }
+}

@@ -1,0 +1,35 @@
+//! A hub that threads share: what stands under its lock, the passes of the threads that use it, and
+//! what the flusher's thread does.
+#![tactic(auto)]
+
+mod awaited;
+mod flushing;
+mod gate;
+mod guarded;
+mod guarded_edits;
+mod guarded_reads;
+mod guarded_tells;
+mod guarded_waits;
+mod meeting;
+mod news;
+mod opening;
+mod refusal;
+mod shared;
+mod shared_reads;
+mod shared_tells;
+mod shared_waits;
+mod shown;
+mod status;
+#[cfg(test)]
+mod tests;
+mod turns;
+
+pub use flushing::flush;
+pub use gate::{Gate, NoGate, Point};
+pub use guarded::Guarded;
+pub use news::News;
+pub use opening::{Named, Opened, PASSES};
+pub use refusal::SharedRefusal;
+pub use shared::Shared;
+pub use shown::Shown;
+pub use status::Status;

@@ -1,0 +1,27 @@
+//! The meetings of the flusher and what stands under the lock.
+ghost use Rattle.std.specs.Prelude.{◌≡◌};
+ghost use Rattle.hub_parts.specs.Meet.{Meet, side_of};
+ghost use Rattle.shared_hub.specs.Shared.{MeetsSound};
+
+use crate::guarded::Guarded;
+use disk_trait::Disk;
+use group_commit::StoreError;
+use hub_parts::{Flusher, Met};
+use pass_books::Desks;
+
+impl<J: Desks> Guarded<J> {
+    /// Meets the flusher, as `Flusher::meet` says: a commit of all that waits begins, or one whose
+    /// device calls are all made is settled. Refuses as that does (44, 8, 7, 1).
+    pub fn meet<D: Disk>(&mut self, flusher: &mut Flusher<D>) -> Result<Met, StoreError>
+        ensures met { MeetsSound D.DiskFacts self.old.locked flusher.old result
+            self.new.locked flusher.new }
+        ensures fits { Meet self.old.locked (side_of flusher.old)
+            → Meet self.new.locked (side_of flusher.new) }
+        ensures others { self.new ≡ record self.old { locked = self.new.locked } }
+    {
+        self.locked.kept();
+        let result = flusher.meet(&mut self.locked);
+        self.locked.kept();
+        result
+    }
+}

@@ -1,0 +1,99 @@
+//! What threads of a shared hub wait for.
+ghost use Rattle.std.specs.Prelude.{◌≡◌, ◌≤◌, IsTrue, true, length};
+ghost use Rattle.op_model.specs.Machine.{ack as ack_event, acknowledged};
+ghost use Rattle.shared_hub.specs.Shared.{HappensTo, Moment};
+
+use crate::awaited::Awaited;
+use crate::news::News;
+use crate::shared::Shared;
+use pass_books::{Desks, Pass};
+use replica_core::Ticket;
+use std::sync::Wait;
+
+impl<J: Desks> Shared<J> {
+    /// Waits until the operations of a ticket are settled, and acknowledges them; else the device
+    /// failed, or no commit could begin (9). Wakes for each settlement.
+    pub fn acknowledge<R: Wait>(&self, rt: &R, pass: &mut Pass<J>, ticket: Ticket) -> bool
+        ensures same { pass.new ≡ pass.old }
+        ensures call { IsTrue result
+            → HappensTo pass.old pass.old (ack_event ticket) (acknowledged true) }
+    {
+        let mut guard = self.guarded.lock(rt);
+        for _ in rt.forever() {
+            match guard.try_ack(pass, ticket) {
+                Awaited::Settled => return true,
+                Awaited::Lost => return false,
+                Awaited::Pending => guard = self.settled.wait(rt, guard),
+            }
+        }
+        unreachable!()
+    }
+
+    /// Refuses all further edits and merges with 12, and waits until all operations are settled;
+    /// else the device failed, or no commit could begin (9).
+    pub fn stop<R: Wait>(&self, rt: &R) -> bool
+        ensures { IsTrue result
+            → Moment (λ l. length l.replica.list ≤ l.replica.settled) }
+    {
+        let mut guard = self.guarded.lock(rt);
+        guard.stop();
+        self.wake_flusher(guard.wakes_flusher());
+        for _ in rt.forever() {
+            match guard.all_settled() {
+                Awaited::Settled => return true,
+                Awaited::Lost => return false,
+                Awaited::Pending => guard = self.settled.wait(rt, guard),
+            }
+        }
+        unreachable!()
+    }
+
+    /// Waits until there is something that wasn't seen, and gives what is to be seen then.
+    pub fn wait_for_news<R: Wait>(&self, rt: &R, seen: News) -> News {
+        let mut guard = self.guarded.lock(rt);
+        for _ in rt.forever() {
+            let news = guard.news();
+            if news != seen {
+                return news;
+            }
+            guard = self.news.wait(rt, guard);
+        }
+        unreachable!()
+    }
+
+    /// Wakes the threads that tell.
+    pub fn call<R: Wait>(&self, rt: &R) {
+        self.guarded.lock(rt).call();
+        self.news.notify_all();
+    }
+
+    /// Asks the flusher and the threads that tell to end. The flusher first commits what waits.
+    pub fn close<R: Wait>(&self, rt: &R) {
+        self.guarded.lock(rt).close();
+        self.settled.notify_all();
+        self.work.notify_all();
+        self.news.notify_all();
+    }
+
+    /// Waits until operations wait for a commit; not so where the threads were asked to end.
+    pub(crate) fn wait_for_work<R: Wait>(&self, rt: &R) -> bool {
+        let mut guard = self.guarded.lock(rt);
+        for _ in rt.forever() {
+            if guard.has_work() {
+                return true;
+            }
+            if guard.news().is_closing {
+                return false;
+            }
+            guard.sleep_flusher();
+            guard = self.work.wait(rt, guard);
+        }
+        unreachable!()
+    }
+
+    /// Gives up the commit of what waits now, and tells those who wait for it.
+    pub(crate) fn give_up<R: Wait>(&self, rt: &R) {
+        self.guarded.lock(rt).give_up();
+        self.settled.notify_all();
+    }
+}

@@ -1,0 +1,135 @@
+ghost use Rattle.std.specs.Prelude.{◌≡◌, [], IfSome};
+
+use crate::flushing::flush;
+use crate::gate::NoGate;
+use crate::opening::{Named, Opened};
+use crate::shared::Shared;
+use disk_trait::MemDisk;
+use group_commit::Store;
+use hub_parts::{Flusher, Parts, open};
+use op_ids::ReplicaId;
+use op_model::{Change, Edit, EditText};
+use pass_books::{Desks, Pass};
+use std::alloc::Global;
+use std::marker::Brand;
+use std::sync::{Mutex, Wait};
+use std::test::Fail;
+use std::thread::{self, Threads};
+
+// How many edits each of the four threads makes.
+const EDITS: u64 = 50;
+
+// The insert of one character at the beginning of document 1.
+fn insert(alloc: Global) -> Option<Edit> {
+    let mut text = Vec::new(alloc);
+    text.push('a').ok()?;
+    Some(Edit {
+        doc: 1,
+        rev: None,
+        change: Change::Insert {
+            at: 0,
+            text: EditText::new(text)?,
+        },
+    })
+}
+
+// The parts of a new replica's hub.
+fn parts(alloc: Global) -> Option<Parts<MemDisk>>
+    ensures { IfSome result (λ it. it.locked.replica.steps ≡ []) }
+{
+    let own = ReplicaId::read([0, 0, 0, 0, 0, 0, 0x40, 0, 0x80, 0, 0, 0, 0, 0, 0, 1])?;
+    let disk = MemDisk::new(alloc, 1_048_576, 65_536).ok()?;
+    let store = Store::init(alloc, disk, own).ok()?;
+    open(alloc, store.into_disk()).ok()
+}
+
+// Makes the edits, each of which is acknowledged before the next one. Gives how many entries the
+// pass has then.
+fn make_edits<R: Wait, J: Desks>(
+    rt: &R,
+    alloc: Global,
+    shared: &Shared<J>,
+    pass: &mut Pass<J>,
+) -> Option<u64> {
+    for _ in 0..EDITS {
+        let edit = insert(alloc)?;
+        let ticket = shared.edit(rt, pass, &edit).ok()?;
+        if !shared.acknowledge(rt, pass, ticket) {
+            return None;
+        }
+    }
+    Some(pass.made())
+}
+
+// Four threads edit beside the flusher's. Gives how many entries their passes have in all, and how
+// many operations the list has then, where the two parts fit.
+fn four_edit<J: Desks + Send + Sync, R: Wait + Threads + Sync>(
+    rt: &R,
+    alloc: Global,
+    opened: Opened,
+) -> Option<(u64, usize)>
+    requires { opened ≡ J.names }
+{
+    let Parts {
+        locked,
+        mut flusher,
+    } = parts(alloc)?;
+    let Named { shared, passes } = opened.share::<J>(alloc, locked).ok()?;
+    let made = Mutex::new(0);
+    edit_beside(rt, alloc, &shared, &made, passes, &mut flusher);
+    let made = made.into_inner();
+    let locked = shared.end().into_locked();
+    if locked.fits(&flusher) {
+        Some((made, locked.list().len()))
+    } else {
+        None
+    }
+}
+
+// Four threads edit while this one flushes.
+fn edit_beside<J: Desks + Send + Sync, R: Wait + Threads + Sync>(
+    rt: &R,
+    alloc: Global,
+    shared: &Shared<J>,
+    made: &Mutex<u64>,
+    passes: Vec<Pass<J>>,
+    flusher: &mut Flusher<MemDisk>,
+) {
+    thread::scope(thread::scope_env(), rt, |scope| {
+        let editing = scope.spawn(move || {
+            all_edit(rt, alloc, shared, made, passes);
+            shared.close(rt);
+        });
+        if editing.is_ok() {
+            flush(rt, shared, flusher, &NoGate);
+        }
+    });
+}
+
+// Four threads edit, each with a pass of its own.
+fn all_edit<J: Desks + Send + Sync, R: Wait + Threads + Sync>(
+    rt: &R,
+    alloc: Global,
+    shared: &Shared<J>,
+    made: &Mutex<u64>,
+    passes: Vec<Pass<J>>,
+) {
+    thread::scope(thread::scope_env(), rt, |scope| {
+        for pass in passes.into_iter().take(4) {
+            let mut pass = pass;
+            let _ = scope.spawn(move || {
+                let entries = make_edits(rt, alloc, shared, &mut pass).unwrap_or(0);
+                let mut made = made.lock(rt);
+                *made = made.saturating_add(entries);
+            });
+        }
+    });
+}
+
+#[test]
+fn four_threads_edit(rt: HostRuntime) -> Result<(), Fail> {
+    let opened = Opened::new(rt.alloc())?;
+    let (made, applied) = four_edit::<Brand, _>(&rt, rt.alloc(), opened).ok_or("four")?;
+    assert!(rt; made == 4 * EDITS && applied == 200);
+    Ok(())
+}
