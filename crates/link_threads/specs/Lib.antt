@@ -1,0 +1,6 @@
+pub mod Errors
+pub mod LinkLine
+pub mod Outcomes
+pub mod Speaking
+pub mod Telling
+pub mod Writing

@@ -1,0 +1,94 @@
+//! The thread of a link that tells.
+
+use crate::line::Line;
+use crate::link_end::LinkEnd;
+use crate::locked_line::LockedLine;
+use crate::shared_peer::SharedPeer;
+use crate::speak_error::SpeakError;
+use crate::speaker::Speaker;
+use crate::write_out::write_out;
+use pass_books::Desks;
+use rtrb::Consumer;
+use shared_hub::{News, Shared};
+use std::alloc::Global;
+use std::io::Write;
+use std::rt::Clock;
+use std::sync::Wait;
+use std::thread;
+use std::time::Duration;
+
+/// The pause before a HAVE that asks for operations again, in milliseconds: the first one. It
+/// doubles up to the longest.
+pub(crate) const PAUSE: u64 = 10;
+
+const LONGEST_PAUSE: u64 = 1_000;
+
+/// What the thread of a link that tells works with.
+#[derive(Drop)]
+pub(crate) struct Telling<'a, R: Wait + Clock, J: Desks> {
+    pub rt: &'a R,
+    pub shared: &'a Shared<J>,
+    pub end: &'a LinkEnd,
+    /// The notes of the thread that hears: a HAVE is due.
+    pub notes: Consumer<u8>,
+    pub speaker: Speaker,
+    /// The next pause, in milliseconds.
+    pub pause: u64,
+}
+
+impl<'a, R: Wait + Clock, J: Desks> Telling<'a, R, J> {
+    /// Says what is due, each time that there is something, until nothing more is heard or the
+    /// daemon ends; and then BYE.
+    pub fn run<S: Write>(&mut self, alloc: Global, stream: &mut S) {
+        let mut peer = SharedPeer {
+            rt: self.rt,
+            shared: self.shared,
+        };
+        let mut line = LockedLine {
+            rt: self.rt,
+            end: self.end,
+        };
+        let mut seen = News::none();
+        for _ in self.rt.forever() {
+            if self.end.is_over(self.rt) || seen.is_closing {
+                break;
+            }
+            let is_have_due = self.has_notes();
+            match self
+                .speaker
+                .speak(alloc, &mut peer, &mut line, stream, is_have_due)
+            {
+                Ok(true) => {}
+                Ok(false) => seen = self.shared.wait_for_news(self.rt, seen),
+                Err(SpeakError::Memory) => thread::sleep(self.rt, Duration::from_millis(PAUSE)),
+                Err(_) => break,
+            }
+        }
+        let _ = line.say_bye();
+        let _ = write_out(&mut line, stream);
+    }
+
+    /// Whether there are notes, which are taken then; before that is answered, there is a pause.
+    fn has_notes(&mut self) -> bool {
+        if !self.take_notes() {
+            self.pause = PAUSE;
+            return false;
+        }
+        thread::sleep(self.rt, Duration::from_millis(self.pause));
+        self.pause = LONGEST_PAUSE.min(self.pause.saturating_mul(2));
+        let _ = self.take_notes();
+        true
+    }
+
+    /// Takes all notes, and answers whether there were any.
+    fn take_notes(&mut self) -> bool {
+        let mut found = false;
+        for _ in 0..self.notes.capacity() {
+            if self.notes.pop().is_err() {
+                break;
+            }
+            found = true;
+        }
+        found
+    }
+}
