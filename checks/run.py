@@ -12,6 +12,7 @@ import full_disk
 import kills
 import locks
 import long_texts
+import serving
 import streams
 import words
 from program import Checks
@@ -25,7 +26,7 @@ def main():
     checks = Checks()
     with tempfile.TemporaryDirectory(prefix="peritext-") as room:
         os.chdir(room)
-        for group in (words, examples, long_texts, streams, locks, full_disk, crafted, damage, kills):
+        for group in (words, examples, long_texts, streams, locks, full_disk, crafted, damage, kills, serving):
             before = checks.passed, checks.failed, checks.skipped
             group.check(checks, program, started + LIMIT)
             took = time.monotonic() - started

@@ -18,4 +18,5 @@ number_of fault.ReadFailed = 50
 number_of fault.WriteFailed = 51
 number_of fault.SyncFailed = 52
 number_of fault.OpenFailed = 54
+number_of fault.Socket = 70
 number_of fault.Stream = 71

@@ -21,6 +21,22 @@ edit_app = with_rule (new_app (codes "edit")) (needed (codes "FILE"))
 abbrev pub dump_app : App
 dump_app = with_rule (with_rule (new_app (codes "dump")) (needed (codes "FILE"))) (needed (codes "DOC"))
 
+-- an option with the value PORT
+abbrev pub port_option : List ℕ → Rule
+port_option name = record (new_rule name) { long = Some name; value_names = 1 }
+
+-- an option with the value PORT that has to be given
+abbrev pub needed_port : List ℕ → Rule
+needed_port name = record (port_option name) { required = true }
+
+-- `serve FILE --sessions PORT --peers PORT [--link PORT]`
+abbrev pub serve_app : App
+serve_app =
+    with_rule
+    (with_rule (with_rule (with_rule (new_app (codes "serve")) (needed (codes "FILE"))) (needed_port (codes "sessions")))
+    (needed_port (codes "peers")))
+    (port_option (codes "link"))
+
 -- a command that tells its version
 abbrev pub versioned : Shape → Shape
 versioned command = record command { has_version = true }
@@ -31,4 +47,6 @@ bare_program = on_top versioned (new_app (codes "peritext"))
 
 -- all commands of the program
 abbrev pub program : App
-program = with_subcommand (with_subcommand (with_subcommand bare_program init_app.top) edit_app.top) dump_app.top
+program =
+    with_subcommand (with_subcommand (with_subcommand (with_subcommand bare_program init_app.top) edit_app.top) dump_app.top)
+    serve_app.top

@@ -2,45 +2,51 @@
 ghost use Rattle.std.specs.Prelude.{◌≡◌, ◌≢◌, [], Some, None, IfOk, IfErr, OnOk, option_map};
 ghost use Rattle.clap.specs.Words.{fault_of, first_of, found_of, rows_of};
 ghost use Rattle.clap.specs.Words.{subcommand_of, subcommand_rows_of};
-ghost use Rattle.edit_shell.specs.declared.order_fault.OrderFault.TheVariants.{Field};
+ghost use Rattle.edit_shell.specs.declared.order_fault.OrderFault.TheVariants.{Field, Port};
 ghost use Rattle.edit_shell.specs.Program.{program};
-ghost use Rattle.edit_shell.specs.Asked.{texts, meant, asked, asked_of, init_of, edit_of, dump_of};
-ghost use Rattle.edit_shell.specs.Faults.{RefusedBy};
+ghost use Rattle.edit_shell.specs.Asked.{texts, meant, asked, asked_of, init_of, edit_of, dump_of, serve_of};
+ghost use Rattle.edit_shell.specs.Asked.{told, bad_port_of, bad_port_at};
+ghost use Rattle.edit_shell.specs.Faults.{RefusedBy, BreaksRule, TellsOf};
 
+use crate::bad_port::BadPort;
 use crate::commands::commands;
 use crate::order::Order;
 use crate::order_fault::OrderFault;
-use crate::values::{doc, replica};
+use crate::serve_order::ServeOrder;
+use crate::store_order::StoreOrder;
+use crate::values::{doc, optional_port, port, replica};
 use clap::ArgMatches;
 use clap::error::ErrorKind;
 use std::alloc::Global;
 
 /// What the words of a command line ask for, of which the first is the program's name. `Usage`
-/// where they aren't those of a command, or ask for help. `Field` (4) where a UUID or a document
-/// number breaks its rule. `Memory` (1) where a growth was refused.
-pub fn order<'a>(alloc: Global, words: &'a [&'a str]) -> Result<Order<'a>, OrderFault>
+/// where they aren't those of a command, or ask for help. `Port` where a port breaks its rule, and
+/// `Field` (4) where a UUID or a document number does. `Memory` (1) where a growth was refused.
+pub fn order<'a>(alloc: Global, words: &'a [&'a str]) -> Result<Order<'a>, OrderFault<'a>>
     ensures taken { OnOk result (fault_of program (texts words.entry.now) ≡ []) }
     ensures ok { IfOk result (λ order. asked (texts words.entry.now) ≡ Some (meant order)) }
     ensures refused { IfErr result (RefusedBy (fault_of program (texts words.entry.now))) }
     ensures field { IfErr result (λ fault. fault ≡ Field → asked (texts words.entry.now) ≡ None) }
+    ensures rule { IfErr result (BreaksRule (texts words.entry.now)) }
 {
     let matches = matches(alloc, words)?;
     match matches.subcommand() {
-        None => Ok(Order::InMemory),
+        None => Ok(Order::Store(StoreOrder::InMemory)),
         Some((name, inner)) => match command_order(name, inner) {
             Some(order) => Ok(order),
-            None => Err(OrderFault::Field),
+            None => Err(bad_value(inner)),
         },
     }
 }
 
 /// What was found for the words of a command line.
-fn matches<'a>(alloc: Global, words: &'a [&'a str]) -> Result<ArgMatches<'a>, OrderFault>
+fn matches<'a>(alloc: Global, words: &'a [&'a str]) -> Result<ArgMatches<'a>, OrderFault<'a>>
     ensures taken { OnOk result (fault_of program (texts words.entry.now) ≡ []) }
     ensures ok { IfOk result (λ matches.
         subcommand_rows_of matches ≡ subcommand_of program (texts words.entry.now)) }
     ensures refused { IfErr result (RefusedBy (fault_of program (texts words.entry.now))) }
     ensures no_field { IfErr result (λ fault. fault ≢ Field) }
+    ensures no_port { IfErr result (λ fault. (port : BadPort) → fault ≢ Port port) }
 {
     let commands = commands(alloc)?;
     match commands.try_get_matches_from(words) {
@@ -58,6 +64,7 @@ fn command_order<'a>(name: &str, matches: &ArgMatches<'a>) -> Option<Order<'a>>
         "init" => init(matches),
         "edit" => edit(matches),
         "dump" => dump(matches),
+        "serve" => serve(matches),
         _ => None,
     }
 }
@@ -68,7 +75,7 @@ fn init<'a>(matches: &ArgMatches<'a>) -> Option<Order<'a>>
 {
     let file = value(matches, "FILE")?;
     let replica = replica(value(matches, "UUID")?)?;
-    Some(Order::Init { file, replica })
+    Some(Order::Store(StoreOrder::Init { file, replica }))
 }
 
 /// The order of an `edit`.
@@ -76,7 +83,7 @@ fn edit<'a>(matches: &ArgMatches<'a>) -> Option<Order<'a>>
     ensures { option_map meant result ≡ edit_of (rows_of (found_of matches.now)) }
 {
     let file = value(matches, "FILE")?;
-    Some(Order::Edit { file })
+    Some(Order::Store(StoreOrder::Edit { file }))
 }
 
 /// The order of a `dump`.
@@ -85,7 +92,53 @@ fn dump<'a>(matches: &ArgMatches<'a>) -> Option<Order<'a>>
 {
     let file = value(matches, "FILE")?;
     let doc = doc(value(matches, "DOC")?)?;
-    Some(Order::Dump { file, doc })
+    Some(Order::Store(StoreOrder::Dump { file, doc }))
+}
+
+/// The order of a `serve`.
+fn serve<'a>(matches: &ArgMatches<'a>) -> Option<Order<'a>>
+    ensures { option_map meant result ≡ serve_of (rows_of (found_of matches.now)) }
+{
+    let file = value(matches, "FILE")?;
+    let sessions = port(value(matches, "sessions")?)?;
+    let peers = port(value(matches, "peers")?)?;
+    let link = optional_port(value(matches, "link"))?;
+    Some(Order::Serve(ServeOrder {
+        file,
+        sessions,
+        peers,
+        link,
+    }))
+}
+
+/// Why a command asks for nothing: a value of it breaks its rule.
+fn bad_value<'a>(matches: &ArgMatches<'a>) -> OrderFault<'a>
+    ensures { TellsOf (bad_port_of (rows_of (found_of matches.now))) result }
+{
+    match bad_port(matches) {
+        Some(port) => OrderFault::Port(port),
+        None => OrderFault::Field,
+    }
+}
+
+/// The first port that breaks its rule.
+fn bad_port<'a>(matches: &ArgMatches<'a>) -> Option<BadPort<'a>>
+    ensures { option_map told result ≡ bad_port_of (rows_of (found_of matches.now)) }
+{
+    bad_port_at(matches, "sessions")
+        .or(bad_port_at(matches, "peers"))
+        .or(bad_port_at(matches, "link"))
+}
+
+/// The port that this option has, where it breaks its rule.
+fn bad_port_at<'a>(matches: &ArgMatches<'a>, option: &'a str) -> Option<BadPort<'a>>
+    ensures { option_map told result ≡ bad_port_at option.now (rows_of (found_of matches.now)) }
+{
+    let word = value(matches, option)?;
+    match port(word) {
+        Some(_) => None,
+        None => Some(BadPort { option, word }),
+    }
 }
 
 /// The value of an argument.

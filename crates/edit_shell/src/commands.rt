@@ -1,8 +1,8 @@
 //! The commands that the program knows.
 ghost use Rattle.std.specs.Prelude.{◌≡◌, IfOk, false};
-ghost use Rattle.clap.specs.Words.{app_of};
+ghost use Rattle.clap.specs.Words.{app_of, rule_of};
 ghost use Rattle.clap.specs.declared.builder.command.Command.TheViews.{out-Command};
-ghost use Rattle.edit_shell.specs.Program.{init_app, edit_app, dump_app, program};
+ghost use Rattle.edit_shell.specs.Program.{init_app, edit_app, dump_app, serve_app, port_option, program};
 
 use clap::{Arg, Command};
 use std::alloc::{AllocError, Global};
@@ -16,6 +16,7 @@ Examples:
   peritext init notes --replica 00000000-0000-4000-8000-000000000001
   echo '{\"op\":\"insert\",\"doc\":1,\"at\":0,\"text\":\"Hello\"}' | peritext edit notes
   peritext dump notes 1
+  peritext serve notes --sessions 7001 --peers 7002
 
 Without a command: a session over a new store in memory.
 Exit status: 0; 1 with a line 'peritext: NUMBER WORD' on standard error; 2 for other words.";
@@ -46,6 +47,16 @@ The file is only read. No session can have it open meanwhile (54).
 Example:
   peritext dump notes 1";
 
+const SERVE_EXAMPLES: &str = "\
+Sessions and peers come in on 127.0.0.1, at a port each: a number from 1 to 65535, in decimal
+digits. A session writes requests and reads answers, a line each, as with 'edit'; the first 'stop'
+ends the program. Nobody else can have the file open meanwhile (54). A port that is taken, or where
+no peer can be joined, is refused (70).
+
+Examples:
+  peritext serve notes --sessions 7001 --peers 7002
+  peritext serve copy --sessions 7101 --peers 7102 --link 7002";
+
 /// All commands of the program.
 pub fn commands<'a>(alloc: Global) -> Result<Command<'a>, AllocError>
     ensures { IfOk result (λ command. app_of command ≡ program) }
@@ -53,13 +64,15 @@ pub fn commands<'a>(alloc: Global) -> Result<Command<'a>, AllocError>
     let init = init_command(alloc)?;
     let edit = edit_command(alloc)?;
     let dump = dump_command(alloc)?;
+    let serve = serve_command(alloc)?;
     let all = Command::new(alloc, "peritext")
         .version(VERSION)
         .about("Crash-safe rich text for one peer")
         .after_help(EXAMPLES)
         .subcommand(init)?
         .subcommand(edit)?
-        .subcommand(dump)?;
+        .subcommand(dump)?
+        .subcommand(serve)?;
     Ok(all)
 }
 
@@ -111,4 +124,34 @@ fn dump_command<'a>(alloc: Global) -> Result<Command<'a>, AllocError>
         .arg(file)?
         .arg(doc)?;
     Ok(command)
+}
+
+/// `serve FILE --sessions PORT --peers PORT [--link PORT]`.
+fn serve_command<'a>(alloc: Global) -> Result<Command<'a>, AllocError>
+    ensures app { IfOk result (λ command. app_of command ≡ serve_app) }
+    ensures local { IfOk result (λ command. (out-Command command).has_globals ≡ false) }
+{
+    let file = Arg::new(alloc, "FILE").help("The store").required(true);
+    let sessions = port(alloc, "sessions", "Where sessions come in").required(true);
+    let peers = port(alloc, "peers", "Where peers come in").required(true);
+    let link = port(alloc, "link", "Where the peer listens that is joined");
+    let command = Command::new(alloc, "serve")
+        .about("Serves sessions and peers over sockets")
+        .after_help(SERVE_EXAMPLES)
+        .arg(file)?
+        .arg(sessions)?
+        .arg(peers)?
+        .arg(link)?;
+    Ok(command)
+}
+
+/// An option with the value PORT.
+fn port<'a>(alloc: Global, name: &'a str, help: &'a str) -> Arg<'a>
+    ensures rule { rule_of result ≡ port_option name.entry.now }
+    ensures local { result.global ≡ false }
+{
+    Arg::new(alloc, name)
+        .long(name)
+        .value_name("PORT")
+        .help(help)
 }

@@ -1,6 +1,6 @@
 //! Orders over disks in memory whose calls fail.
-use crate::order::Order;
 use crate::perform::perform;
+use crate::store_order::StoreOrder;
 use crate::test_runs::{EDIT, made, run, written};
 use disk_trait::{FaultDisk, MemDisk};
 use std::alloc::Global;

@@ -52,6 +52,9 @@ pub enum Fault {
     /// 54: the file can't be opened or made.
     #[error("open failed")]
     OpenFailed,
+    /// 70: a socket can't be opened, or the peer can't be joined.
+    #[error("socket")]
+    Socket,
     /// 71: standard input or output failed.
     #[error("stream")]
     Stream,
@@ -76,6 +79,7 @@ impl Fault {
             Fault::WriteFailed => 51,
             Fault::SyncFailed => 52,
             Fault::OpenFailed => 54,
+            Fault::Socket => 70,
             Fault::Stream => 71,
         }
     }

@@ -1,6 +1,7 @@
 //! The program `peritext`.
 #![tactic(auto)]
 
+mod bad_port;
 mod command_line;
 mod commands;
 #[cfg(test)]
@@ -17,7 +18,9 @@ mod page_tests;
 mod perform;
 #[cfg(test)]
 mod perform_tests;
+mod serve_order;
 mod standard;
+mod store_order;
 #[cfg(test)]
 mod test_runs;
 #[cfg(test)]

@@ -1,5 +1,5 @@
 //! Marks through sessions over disks in memory.
-use crate::order::Order;
+use crate::store_order::StoreOrder;
 use crate::test_runs::{EDIT, run, session, written};
 use std::process::Abort;
 use std::test::Fail;
@@ -81,7 +81,7 @@ fn marks_are_there_after_opening_again(rt: HostRuntime) -> Result<(), Fail> {
         "{\"op\":\"insert\",\"doc\":1,\"at\":0,\"text\":\"abc\"}\n{\"op\":\"mark\",\"doc\":1,\"from\":0,\"to\":2,\"kind\":\"link\",\"url\":\"u\"}\n{\"op\":\"mark\",\"doc\":1,\"from\":1,\"to\":3,\"kind\":\"comment\",\"id\":\"00000000-0000-4000-8000-0000000000c2\"}\n{\"op\":\"delete\",\"doc\":1,\"at\":1,\"count\":1}\n",
         "{\"ok\":true,\"rev\":3}\n{\"ok\":true,\"rev\":4}\n{\"ok\":true,\"rev\":5}\n{\"ok\":true,\"rev\":6}\n",
     )?;
-    let dumped = run(rt.alloc(), &Order::Dump { file: "", doc: 1 }, disk, "");
+    let dumped = run(rt.alloc(), &StoreOrder::Dump { file: "", doc: 1 }, disk, "");
     let seen =
         "{\"ok\":true,\"rev\":6,\"text\":\"ac\"}\n{\"ok\":true,\"rev\":6,\"spans\":[{\"link\":\"u\",\"text\":\"a\"},{\"comments\":[\"00000000-0000-4000-8000-0000000000c2\"],\"text\":\"c\"}]}\n";
     let disk = written(&rt, dumped, 0, seen, "");

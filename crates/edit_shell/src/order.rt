@@ -1,14 +1,11 @@
-use op_ids::ReplicaId;
+use crate::serve_order::ServeOrder;
+use crate::store_order::StoreOrder;
 
 /// What a command line asks for. Files are named as they were written.
 #[derive(Clone, Copy, Debug, PartialEq, Eq)]
 pub enum Order<'a> {
-    /// A session over a store in memory.
-    InMemory,
-    /// A new store of a replica.
-    Init { file: &'a str, replica: ReplicaId },
-    /// A session over a store.
-    Edit { file: &'a str },
-    /// The text and the spans of a document of a store, by its number from 1 on.
-    Dump { file: &'a str, doc: u32 },
+    /// What is done over one disk, a reader and writers.
+    Store(StoreOrder<'a>),
+    /// What is done over a file and sockets.
+    Serve(ServeOrder<'a>),
 }

@@ -1,16 +1,20 @@
 ghost use Rattle.std.specs.Prelude.{◌≡◌};
 ghost use Rattle.edit_shell.specs.declared.order_fault.OrderFault.TheVariants.{Memory};
 
+use crate::bad_port::BadPort;
 use std::alloc::AllocError;
 use thiserror::Error;
 
 /// Why the words of a command line give no order.
 #[derive(Debug, Drop, Error)]
-pub enum OrderFault {
+pub enum OrderFault<'a> {
     /// The words aren't those of a command, or ask for help: its text says where it goes and what
     /// status it ends with.
     #[error("{0}")]
     Usage(clap::Error),
+    /// A word that is no port. It ends the program as words that `clap` refuses do.
+    #[error("{0}")]
+    Port(BadPort<'a>),
     /// 4: a UUID or a document number breaks its rule.
     #[error("field")]
     Field,
@@ -19,10 +23,10 @@ pub enum OrderFault {
     Memory,
 }
 
-impl From<AllocError> for OrderFault {
+impl<'a> From<AllocError> for OrderFault<'a> {
     ghost from_gives = { λ _ fault. fault ≡ Memory };
 
-    fn from(_error: AllocError) -> OrderFault {
+    fn from(_error: AllocError) -> OrderFault<'a> {
         OrderFault::Memory
     }
 }

@@ -1,8 +1,8 @@
-//! What an order does, over any disk, reader and writers.
+//! What an order over one disk does, over any disk, reader and writers.
 
 use crate::ended::{Ended, status};
 use crate::fault::Fault;
-use crate::order::Order;
+use crate::store_order::StoreOrder;
 use disk_trait::Disk;
 use group_commit::Store;
 use locked_replica::Hub;
@@ -22,17 +22,17 @@ pub struct Performed<D: Disk> {
 /// Does what an order asks for, and gives the disk and the exit status: 0, or 1 with a line in `faults`.
 pub fn perform<D: Disk, R: Read + Drop, W: Write, F: Write>(
     alloc: Global,
-    order: &Order<'_>,
+    order: &StoreOrder<'_>,
     disk: D,
     input: R,
     output: &mut W,
     faults: &mut F,
 ) -> Performed<D> {
     let Ended { disk, end } = match *order {
-        Order::InMemory => in_memory(alloc, disk, input, output),
-        Order::Init { replica, .. } => init(alloc, disk, replica, output),
-        Order::Edit { .. } => edit(alloc, disk, input, output),
-        Order::Dump { doc, .. } => dump(alloc, disk, doc, output),
+        StoreOrder::InMemory => in_memory(alloc, disk, input, output),
+        StoreOrder::Init { replica, .. } => init(alloc, disk, replica, output),
+        StoreOrder::Edit { .. } => edit(alloc, disk, input, output),
+        StoreOrder::Dump { doc, .. } => dump(alloc, disk, doc, output),
     };
     Performed {
         disk,

@@ -1,6 +1,6 @@
 //! Orders over disks in memory.
 use crate::fault::Fault;
-use crate::order::Order;
+use crate::store_order::StoreOrder;
 use crate::test_runs::{EDIT, fresh, made, replica, run, session, written};
 use disk_trait::Disk;
 use std::test::Fail;
@@ -8,7 +8,7 @@ use std::test::Fail;
 #[test]
 fn without_a_file_a_new_store_is_edited(rt: HostRuntime) -> Result<(), Fail> {
     let input = "{\"op\":\"insert\",\"doc\":1,\"at\":0,\"text\":\"a\"}\n";
-    let done = run(rt.alloc(), &Order::InMemory, fresh(rt.alloc())?, input);
+    let done = run(rt.alloc(), &StoreOrder::InMemory, fresh(rt.alloc())?, input);
     written(&rt, done, 0, "{\"ok\":true}\n{\"ok\":true,\"rev\":1}\n", "");
     Ok(())
 }
@@ -71,11 +71,11 @@ fn what_was_edited_is_there_after_opening_again(rt: HostRuntime) -> Result<(), F
         "{\"op\":\"insert\",\"doc\":1,\"at\":0,\"text\":\"a\"}\n",
         "{\"ok\":true,\"rev\":1}\n",
     )?;
-    let dumped = run(alloc, &Order::Dump { file: "", doc: 1 }, disk, "");
+    let dumped = run(alloc, &StoreOrder::Dump { file: "", doc: 1 }, disk, "");
     let text =
         "{\"ok\":true,\"rev\":1,\"text\":\"a\"}\n{\"ok\":true,\"rev\":1,\"spans\":[{\"text\":\"a\"}]}\n";
     let disk = written(&rt, dumped, 0, text, "");
-    let dumped = run(alloc, &Order::Dump { file: "", doc: 9 }, disk, "");
+    let dumped = run(alloc, &StoreOrder::Dump { file: "", doc: 9 }, disk, "");
     let text = "{\"ok\":true,\"rev\":0,\"text\":\"\"}\n{\"ok\":true,\"rev\":0,\"spans\":[]}\n";
     let disk = written(&rt, dumped, 0, text, "");
     let input =
@@ -92,14 +92,14 @@ fn a_file_that_is_no_store_is_refused(rt: HostRuntime) -> Result<(), Fail> {
     let alloc = rt.alloc();
     let opened = run(alloc, &EDIT, fresh(alloc)?, "{\"op\":\"status\"}\n");
     written(&rt, opened, 1, "", "peritext: 42 no root\n");
-    let order = Order::Init {
+    let order = StoreOrder::Init {
         file: "",
         replica: replica()?,
     };
     let again = run(alloc, &order, made(&rt)?, "");
     let mut disk = written(&rt, again, 1, "", "peritext: 48 not empty\n");
     assert!(rt; disk.write_at(15, b"2").is_ok());
-    let dumped = run(alloc, &Order::Dump { file: "", doc: 1 }, disk, "");
+    let dumped = run(alloc, &StoreOrder::Dump { file: "", doc: 1 }, disk, "");
     written(&rt, dumped, 1, "", "peritext: 43 bad root\n");
     Ok(())
 }
@@ -121,6 +121,7 @@ fn a_fault_has_its_word(rt: HostRuntime) -> Result<(), Fail> {
         (Fault::WriteFailed, 51, "write failed"),
         (Fault::SyncFailed, 52, "sync failed"),
         (Fault::OpenFailed, 54, "open failed"),
+        (Fault::Socket, 70, "socket"),
         (Fault::Stream, 71, "stream"),
     ] {
         assert_eq!(rt; fault.number(), number);

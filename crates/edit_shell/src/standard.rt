@@ -1,5 +1,6 @@
 //! The program over its command line, files and standard streams.
 
+use crate::bad_port::BadPort;
 use crate::command_line::order;
 use crate::ended::status;
 use crate::fault::Fault;
@@ -7,10 +8,18 @@ use crate::held::hold_closed_streams;
 use crate::order::Order;
 use crate::order_fault::OrderFault;
 use crate::perform::{Performed, perform};
+use crate::serve_order::ServeOrder;
+use crate::store_order::StoreOrder;
 use disk_trait::{Disk, DiskError, FileDisk, MemDisk};
+use hub_parts::open;
+use serve_threads::{Joined, Sockets, serve_all};
+use shared_hub::NoGate;
 use std::fs::File;
 use std::io::{ErrorKind, Write};
-use std::rt::{Env, Files};
+use std::net::{Net, TcpListener, TcpStream};
+use std::rt::{Clock, Env, Files};
+use std::sync::Wait;
+use std::thread::Threads;
 use std::{env, io};
 
 /// The bytes of a store in memory.
@@ -19,13 +28,25 @@ const ROOM: usize = 1_048_576;
 /// The device calls of a store in memory.
 const CALLS: usize = 1_024;
 
+/// Where sockets are.
+const HOST: &str = "127.0.0.1";
+
 /// Runs the program, and gives its exit status: 0; 1 where a refusal ended it, which is written as
-/// `peritext: NUMBER WORD`; 2 with the text of `clap` where the words aren't those of an order.
-pub fn run<R: Env + Files<File = File> + Input + AllocGlobal, W: Write, F: Write>(
-    rt: &R,
-    output: &mut W,
-    faults: &mut F,
-) -> u8 {
+/// `peritext: NUMBER WORD`; 2 with the text of `clap`, or that of a bad port, where the words aren't
+/// those of an order.
+pub fn run<
+    R: Env
+        + Files<File = File>
+        + Input
+        + Clock
+        + Wait
+        + Threads
+        + Sync
+        + Net<Listener = TcpListener, Stream = TcpStream>
+        + AllocGlobal,
+    W: Write,
+    F: Write,
+>(rt: &R, output: &mut W, faults: &mut F) -> u8 {
     let alloc = rt.alloc();
     let given: io::Result<Vec<String>> = match env::args(rt) {
         Ok(given) => given.collect(alloc).map_err(io::Error::from),
@@ -55,15 +76,22 @@ fn no_words<R: AllocGlobal, F: Write>(rt: &R, error: &io::Error, faults: &mut F)
 }
 
 /// Runs the program for these words.
-fn run_words<R: Files<File = File> + Input + AllocGlobal, W: Write, F: Write>(
-    rt: &R,
-    words: &[&str],
-    output: &mut W,
-    faults: &mut F,
-) -> u8 {
+fn run_words<
+    R: Files<File = File>
+        + Input
+        + Clock
+        + Wait
+        + Threads
+        + Sync
+        + Net<Listener = TcpListener, Stream = TcpStream>
+        + AllocGlobal,
+    W: Write,
+    F: Write,
+>(rt: &R, words: &[&str], output: &mut W, faults: &mut F) -> u8 {
     match order(rt.alloc(), words) {
         Ok(order) => run_order(rt, &order, output, faults),
         Err(OrderFault::Usage(error)) => usage(&error, output, faults),
+        Err(OrderFault::Port(port)) => bad_port(port, faults),
         Err(OrderFault::Field) => status(rt.alloc(), Err(Fault::Field), faults),
         Err(OrderFault::Memory) => status(rt.alloc(), Err(Fault::Memory), faults),
     }
@@ -79,35 +107,127 @@ fn usage<W: Write, F: Write>(error: &clap::Error, output: &mut W, faults: &mut F
     0
 }
 
-/// Does what an order asks for, over the disk that it names. No file gets the descriptor of a
-/// standard stream.
-fn run_order<R: Files<File = File> + Input + AllocGlobal, W: Write, F: Write>(
-    rt: &R,
-    order: &Order<'_>,
-    output: &mut W,
-    faults: &mut F,
-) -> u8 {
+/// Tells of a bad port as `clap` tells of a bad value.
+fn bad_port<F: Write>(port: BadPort<'_>, faults: &mut F) -> u8 {
+    let _ = write!(
+        faults,
+        "error: {port}\n\nFor more information, try '--help'.\n"
+    );
+    2
+}
+
+/// Does what an order asks for. No file or socket gets the descriptor of a standard stream.
+fn run_order<
+    R: Files<File = File>
+        + Input
+        + Clock
+        + Wait
+        + Threads
+        + Sync
+        + Net<Listener = TcpListener, Stream = TcpStream>
+        + AllocGlobal,
+    W: Write,
+    F: Write,
+>(rt: &R, order: &Order<'_>, output: &mut W, faults: &mut F) -> u8 {
     match hold_closed_streams(rt) {
         Ok(_held) => run_held(rt, order, output, faults),
         Err(_) => status(rt.alloc(), Err(Fault::OpenFailed), faults),
     }
 }
 
-/// Does what an order asks for, where no file that is opened can be taken for a stream.
-fn run_held<R: Files<File = File> + Input + AllocGlobal, W: Write, F: Write>(
+/// Does what an order asks for, where no file or socket that is opened can be taken for a stream.
+fn run_held<
+    R: Files<File = File>
+        + Input
+        + Clock
+        + Wait
+        + Threads
+        + Sync
+        + Net<Listener = TcpListener, Stream = TcpStream>
+        + AllocGlobal,
+    W: Write,
+    F: Write,
+>(rt: &R, order: &Order<'_>, output: &mut W, faults: &mut F) -> u8 {
+    match order {
+        Order::Store(order) => run_on_disk(rt, order, output, faults),
+        Order::Serve(order) => status(rt.alloc(), serve(rt, order), faults),
+    }
+}
+
+/// Serves the sessions and the peers of a file. Faults come in this order: the file can't be opened
+/// (54); it is no store, the device fails or memory is refused (42 to 47, 50, 52, 1); a socket can't
+/// be opened or the peer can't be joined (70); the device failed while it served (9).
+fn serve<
+    R: Files<File = File>
+        + Clock
+        + Wait
+        + Threads
+        + Sync
+        + Net<Listener = TcpListener, Stream = TcpStream>
+        + AllocGlobal,
+>(rt: &R, order: &ServeOrder<'_>) -> Result<(), Fault> {
+    let Ok(disk) = FileDisk::open(rt, order.file) else {
+        return Err(Fault::OpenFailed);
+    };
+    let parts = match open(rt.alloc(), disk) {
+        Ok(parts) => parts,
+        Err(fault) => return Err(Fault::from(fault.cause)),
+    };
+    let Ok(sockets) = open_sockets(rt, order) else {
+        return Err(Fault::Socket);
+    };
+    let served = serve_all(rt, rt.alloc(), parts, sockets, &NoGate);
+    if !served.has_begun {
+        Err(Fault::Memory)
+    } else if served.has_failed {
+        Err(Fault::Failed)
+    } else {
+        Ok(())
+    }
+}
+
+/// Opens the sockets that an order names, in its order, and joins its peer.
+fn open_sockets<R: Net<Listener = TcpListener, Stream = TcpStream>>(
     rt: &R,
-    order: &Order<'_>,
+    order: &ServeOrder<'_>,
+) -> io::Result<Sockets> {
+    let sessions = TcpListener::bind(rt, (HOST, order.sessions))?;
+    let peers = TcpListener::bind(rt, (HOST, order.peers))?;
+    let joined = match order.link {
+        Some(port) => Some(Joined {
+            stream: TcpStream::connect(rt, (HOST, port))?,
+            port,
+        }),
+        None => None,
+    };
+    Ok(Sockets {
+        sessions,
+        peers,
+        joined,
+    })
+}
+
+/// Does what an order over one disk asks for, over the disk that it names.
+fn run_on_disk<R: Files<File = File> + Input + AllocGlobal, W: Write, F: Write>(
+    rt: &R,
+    order: &StoreOrder<'_>,
     output: &mut W,
     faults: &mut F,
 ) -> u8 {
     match *order {
-        Order::InMemory => match MemDisk::new(rt.alloc(), ROOM, CALLS) {
+        StoreOrder::InMemory => match MemDisk::new(rt.alloc(), ROOM, CALLS) {
             Ok(disk) => run_on(rt, order, disk, output, faults).status,
             Err(_) => status(rt.alloc(), Err(Fault::Memory), faults),
         },
-        Order::Init { file, .. } => run_init(rt, order, file, output, faults),
-        Order::Edit { file } => run_on_file(rt, order, FileDisk::open(rt, file), output, faults),
-        Order::Dump { file, .. } => {
+        StoreOrder::Init { file, .. } => run_init(rt, order, file, output, faults),
+        StoreOrder::Edit { file } => run_on_file(
+            rt,
+            order,
+            FileDisk::open(rt, file),
+            output,
+            faults,
+        ),
+        StoreOrder::Dump { file, .. } => {
             run_on_file(rt, order, FileDisk::open_to_read(rt, file), output, faults)
         }
     }
@@ -117,7 +237,7 @@ fn run_held<R: Files<File = File> + Input + AllocGlobal, W: Write, F: Write>(
 /// where this fails.
 fn run_init<R: Files<File = File> + Input + AllocGlobal, W: Write, F: Write>(
     rt: &R,
-    order: &Order<'_>,
+    order: &StoreOrder<'_>,
     path: &str,
     output: &mut W,
     faults: &mut F,
@@ -137,7 +257,7 @@ fn run_init<R: Files<File = File> + Input + AllocGlobal, W: Write, F: Write>(
 /// Does what an order asks for over a file, where it can be opened.
 fn run_on_file<R: Input + AllocGlobal, W: Write, F: Write>(
     rt: &R,
-    order: &Order<'_>,
+    order: &StoreOrder<'_>,
     opened: Result<FileDisk, DiskError>,
     output: &mut W,
     faults: &mut F,
@@ -151,7 +271,7 @@ fn run_on_file<R: Input + AllocGlobal, W: Write, F: Write>(
 /// Does what an order asks for over a disk.
 fn run_on<R: Input + AllocGlobal, D: Disk, W: Write, F: Write>(
     rt: &R,
-    order: &Order<'_>,
+    order: &StoreOrder<'_>,
     disk: D,
     output: &mut W,
     faults: &mut F,

@@ -1,6 +1,6 @@
 //! Runs of orders over disks in memory, for tests.
-use crate::order::Order;
 use crate::perform::{Performed, perform};
+use crate::store_order::StoreOrder;
 use disk_trait::{Disk, MemDisk};
 use op_ids::ReplicaId;
 use std::alloc::{AllocError, Global};
@@ -16,7 +16,7 @@ pub struct Ran<D: Disk> {
     pub faults: Vec<u8>,
 }
 
-pub fn run<D: Disk>(alloc: Global, order: &Order<'_>, disk: D, input: &str) -> Ran<D> {
+pub fn run<D: Disk>(alloc: Global, order: &StoreOrder<'_>, disk: D, input: &str) -> Ran<D> {
     let mut output = Vec::new(alloc);
     let mut faults = Vec::new(alloc);
     let Performed { disk, status } = perform(
@@ -40,7 +40,7 @@ pub fn replica() -> Result<ReplicaId, Fail> {
     Ok(ReplicaId::read(bytes).ok_or("nil")?)
 }
 
-pub const EDIT: Order<'static> = Order::Edit { file: "" };
+pub const EDIT: StoreOrder<'static> = StoreOrder::Edit { file: "" };
 
 pub fn written<D: Disk>(rt: &impl Abort, run: Ran<D>, status: u8, output: &str, faults: &str) -> D {
     assert!(rt;
@@ -63,7 +63,7 @@ pub fn fresh(alloc: Global) -> Result<MemDisk, AllocError> {
 
 /// A fresh store, made by an `init`.
 pub fn made(rt: &(impl Abort + AllocGlobal)) -> Result<MemDisk, Fail> {
-    let order = Order::Init {
+    let order = StoreOrder::Init {
         file: "",
         replica: replica()?,
     };

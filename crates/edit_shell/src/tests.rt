@@ -1,6 +1,9 @@
+use crate::bad_port::BadPort;
 use crate::command_line::order;
 use crate::order::Order;
 use crate::order_fault::OrderFault;
+use crate::serve_order::ServeOrder;
+use crate::store_order::StoreOrder;
 use op_ids::ReplicaId;
 use std::process::Abort;
 use std::test::Fail;
@@ -8,7 +11,7 @@ use std::test::Fail;
 #[test]
 fn no_words_ask_for_a_session_in_memory(rt: HostRuntime) {
     let found = order(rt.alloc(), &["peritext"]);
-    assert!(rt; matches!(found, Ok(Order::InMemory)));
+    assert!(rt; matches!(found, Ok(Order::Store(StoreOrder::InMemory))));
 }
 
 #[test]
@@ -22,10 +25,10 @@ fn an_init_names_a_file_and_a_replica(rt: HostRuntime) -> Result<(), Fail> {
     ];
     let bytes = [0, 0, 0, 0, 0, 0, 0x40, 0, 0x80, 0, 0, 0, 0, 0, 0, 0xc1];
     let replica = ReplicaId::read(bytes).ok_or("nil")?;
-    let asked = Order::Init {
+    let asked = Order::Store(StoreOrder::Init {
         file: "a store",
         replica,
-    };
+    });
     match order(rt.alloc(), words.as_slice()) {
         Ok(found) => assert!(rt; found == asked),
         Err(fault) => assert!(rt; false, "{fault}"),
@@ -36,7 +39,7 @@ fn an_init_names_a_file_and_a_replica(rt: HostRuntime) -> Result<(), Fail> {
 #[test]
 fn an_edit_names_a_file(rt: HostRuntime) {
     let found = order(rt.alloc(), &["peritext", "edit", "store"]);
-    assert!(rt; matches!(found, Ok(Order::Edit { file: "store" })));
+    assert!(rt; matches!(found, Ok(Order::Store(StoreOrder::Edit { file: "store" }))));
 }
 
 #[test]
@@ -44,7 +47,9 @@ fn a_dump_names_a_file_and_a_document(rt: HostRuntime) {
     for (text, number) in [("1", 1), ("4294967295", 4_294_967_295), ("007", 7)] {
         let words = ["peritext", "dump", "store", text];
         match order(rt.alloc(), words.as_slice()) {
-            Ok(Order::Dump { file, doc }) => assert!(rt; file == "store" && doc == number),
+            Ok(Order::Store(StoreOrder::Dump { file, doc })) => assert!(rt;
+                file == "store" && doc == number
+            ),
             _ => assert!(rt; false, "{text}"),
         }
     }
@@ -65,6 +70,112 @@ fn bad_numbers_and_ids_are_refused(rt: HostRuntime) {
     }
 }
 
+/// The words of a `serve` with these ports of sessions and peers.
+fn serving<'a>(sessions: &'a str, peers: &'a str) -> [&'a str; 7] {
+    [
+        "peritext",
+        "serve",
+        "store",
+        "--sessions",
+        sessions,
+        "--peers",
+        peers,
+    ]
+}
+
+#[test]
+fn a_serve_names_a_file_and_ports(rt: HostRuntime) {
+    for (text, port) in [("1", 1), ("65535", 65_535), ("007", 7)] {
+        let words = serving(text, "7002");
+        let asked = Order::Serve(ServeOrder {
+            file: "store",
+            sessions: port,
+            peers: 7_002,
+            link: None,
+        });
+        match order(rt.alloc(), words.as_slice()) {
+            Ok(found) => assert!(rt; found == asked),
+            Err(fault) => assert!(rt; false, "{fault}"),
+        }
+    }
+}
+
+#[test]
+fn a_serve_joins_a_peer_where_one_is_named(rt: HostRuntime) {
+    let words = [
+        "peritext",
+        "serve",
+        "--link=7102",
+        "--peers=7002",
+        "--sessions=7001",
+        "store",
+    ];
+    let asked = Order::Serve(ServeOrder {
+        file: "store",
+        sessions: 7_001,
+        peers: 7_002,
+        link: Some(7_102),
+    });
+    match order(rt.alloc(), words.as_slice()) {
+        Ok(found) => assert!(rt; found == asked),
+        Err(fault) => assert!(rt; false, "{fault}"),
+    }
+}
+
+#[test]
+fn the_first_bad_port_is_told(rt: HostRuntime) -> Result<(), Fail> {
+    let alloc = rt.alloc();
+    for text in [
+        "0",
+        "65536",
+        "4294967376",
+        "1x",
+        "1.0",
+        "+1",
+        " 1",
+        "1 ",
+        "",
+    ] {
+        for (words, name) in [
+            (serving(text, "7002"), "sessions"),
+            (serving("7001", text), "peers"),
+            (serving(text, text), "sessions"),
+        ] {
+            let due = BadPort {
+                option: name,
+                word: text,
+            };
+            match order(alloc, words.as_slice()) {
+                Err(OrderFault::Port(port)) => assert!(rt; port == due, "{text}"),
+                _ => assert!(rt; false, "{text}"),
+            }
+        }
+    }
+    Ok(())
+}
+
+#[test]
+fn a_bad_port_has_its_text(rt: HostRuntime) -> Result<(), Fail> {
+    let words = [
+        "peritext",
+        "serve",
+        "store",
+        "--sessions",
+        "1",
+        "--peers",
+        "2",
+        "--link=-1",
+    ];
+    let text = match order(rt.alloc(), words.as_slice()) {
+        Ok(_) => return Err(Fail::from("no fault")),
+        Err(fault) => fault.to_string(rt.alloc())?,
+    };
+    let due =
+        "invalid value '-1' for '--link <PORT>': a port is a number from 1 to 65535, in decimal digits";
+    assert_eq!(rt; text.as_str(), due);
+    Ok(())
+}
+
 fn ends_with<'a>(rt: &(impl Abort + AllocGlobal), words: &'a [&'a str], status: i32) {
     match order(rt.alloc(), words) {
         Err(OrderFault::Usage(error)) => assert!(rt; error.exit_code() == status, "{words:?}"),
@@ -80,6 +191,8 @@ fn other_words_are_refused(rt: HostRuntime) {
     ends_with(&rt, &["peritext", "init", "store"], 2);
     ends_with(&rt, &["peritext", "dump", "store", "-1"], 2);
     ends_with(&rt, &["peritext", "init", "--version"], 2);
+    ends_with(&rt, &["peritext", "serve", "store", "--sessions", "1"], 2);
+    ends_with(&rt, &["peritext", "serve", "--help"], 0);
     ends_with(&rt, &["peritext", "--help"], 0);
     ends_with(&rt, &["peritext", "--version"], 0);
 }

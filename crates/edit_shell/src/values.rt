@@ -1,8 +1,8 @@
 //! The values of a command line that aren't taken as written.
-ghost use Rattle.std.specs.Prelude.{◌≡◌};
+ghost use Rattle.std.specs.Prelude.{◌≡◌, option_map};
 ghost use Rattle.std.specs.List.{list_all};
 ghost use Rattle.std.specs.Char.{is_ascii_digit};
-ghost use Rattle.edit_shell.specs.Asked.{number_of, doc_of, replica_of};
+ghost use Rattle.edit_shell.specs.Asked.{number_of, doc_of, port_of, optional_port_of, replica_of};
 
 use op_ids::ReplicaId;
 use uuid::Uuid;
@@ -14,6 +14,27 @@ pub fn doc(text: &str) -> Option<u32>
     match number(text) {
         Some(0) | None => None,
         Some(doc) => Some(doc),
+    }
+}
+
+/// A port in decimal digits, from 1 to 65,535.
+pub fn port(text: &str) -> Option<u16>
+    ensures { result ≡ port_of text.now }
+{
+    let port = u16::try_from(number(text)?).ok()?;
+    if port == 0 { None } else { Some(port) }
+}
+
+/// A port that may be left out: where it is, there is none.
+pub fn optional_port(text: Option<&str>) -> Option<Option<u16>>
+    ensures { result ≡ optional_port_of (option_map (λ text. text.now) text.entry) }
+{
+    match text {
+        None => Some(None),
+        Some(text) => match port(text) {
+            Some(port) => Some(Some(port)),
+            None => None,
+        },
     }
 }
 

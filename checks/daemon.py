@@ -1,0 +1,122 @@
+"""A daemon under `serve`, and sessions and links to it over sockets."""
+
+import json
+import os
+import signal
+import socket
+import subprocess
+import time
+
+from program import REPLICA, new_file, run
+
+HOST = "127.0.0.1"
+# Seconds until something that is due has to have come.
+PATIENCE = 20
+
+
+def free_ports(count):
+    """Ports on which nobody listens now."""
+    held = [socket.create_server((HOST, 0)) for _ in range(count)]
+    ports = [server.getsockname()[1] for server in held]
+    for server in held:
+        server.close()
+    return ports
+
+
+def within(what, is_so, seconds=PATIENCE):
+    """Waits until something is so; else this is an error."""
+    until = time.monotonic() + seconds
+    while not is_so():
+        if time.monotonic() > until:
+            raise TimeoutError(what)
+        time.sleep(0.005)
+
+
+def connection(port):
+    """A socket to a port where somebody listens soon."""
+    until = time.monotonic() + PATIENCE
+    while True:
+        try:
+            return socket.create_connection((HOST, port), timeout=PATIENCE)
+        except ConnectionRefusedError:
+            if time.monotonic() > until:
+                raise
+            time.sleep(0.01)
+
+
+class Talk:
+    """A session over a socket, which is asked line by line."""
+
+    def __init__(self, port):
+        self.socket = connection(port)
+        self.file = self.socket.makefile("rb")
+
+    def send(self, data):
+        self.socket.sendall(data)
+
+    def answer(self):
+        """The next answer, or None where the connection ended."""
+        line = self.file.readline()
+        return json.loads(line) if line.endswith(b"\n") else None
+
+    def ask(self, request):
+        self.send(request)
+        return self.answer()
+
+    def ended(self):
+        """Whether the daemon ended the connection."""
+        try:
+            return self.file.read() == b""
+        except ConnectionResetError:
+            return True
+
+    def close(self):
+        self.file.close()
+        self.socket.close()
+
+
+class Daemon:
+    """A program that serves a file, and its ports."""
+
+    def __init__(self, program, name, ports=None, link=None):
+        self.program, self.name, self.link = program, name, link
+        self.sessions, self.peers = ports or free_ports(2)
+        self.start()
+
+    def start(self):
+        words = [self.program, "serve", self.name, "--sessions", str(self.sessions), "--peers", str(self.peers)]
+        if self.link:
+            words += ["--link", str(self.link)]
+        self.run = subprocess.Popen(words, stdin=subprocess.DEVNULL, stdout=subprocess.PIPE, stderr=subprocess.PIPE)
+        # A connection that only probes gives its place back.
+        Talk(self.sessions).close()
+
+    def talk(self):
+        return Talk(self.sessions)
+
+    def ended(self):
+        """Exit status, standard output and standard error of a program that ends by itself."""
+        output, faults = self.run.communicate(timeout=PATIENCE)
+        return self.run.returncode, output, faults
+
+    def stop(self):
+        """Asks for a stop: the answer, and how the program ended."""
+        talk = self.talk()
+        answer = talk.ask(b'{"op":"stop"}\n')
+        talk.close()
+        return answer, self.ended()
+
+    def kill(self):
+        self.run.send_signal(signal.SIGKILL)
+        self.run.communicate(timeout=PATIENCE)
+
+
+def new_daemon(program, name, replica=REPLICA, **how):
+    """A daemon over a new file of a replica."""
+    if os.path.exists(name):
+        os.remove(name)
+    if replica == REPLICA:
+        new_file(program, name)
+    else:
+        run(program, "init", name, "--replica", replica)
+    return Daemon(program, name, **how)

@@ -1,0 +1,91 @@
+-- What a desk over a shared hub answers to a command, and what it makes of its pass.
+use Rattle.std.specs.Prelude.{◌≡◌, ◌≢◌, ◌⊎◌, ℕ, ◌≤◌, ◌==◌, ◌||◌, Bool, true, false, List, length}
+use Rattle.op_model.specs.declared.edit.Edit.{Edit}
+use Rattle.op_model.specs.Text.{text, rev}
+use Rattle.op_model.specs.Spans.{spans}
+use Rattle.op_model.specs.Machine.{Ticket, edit, ack, ticket, acknowledged, refused}
+use Rattle.pass_books.specs.Accounts.{PassHeld}
+use Rattle.session_lines.specs.Saying.{number_of}
+use Rattle.session_lines.specs.declared.command.Command.{Command}
+use Rattle.session_lines.specs.declared.command.Command.TheVariants as command
+use Rattle.session_lines.specs.declared.answer.Answer.{Answer}
+use Rattle.session_lines.specs.declared.answer.Answer.TheVariants.{Edited, Text, Spans, Status, Stopped, Done, Refused}
+use Rattle.session_lines.specs.declared.answer.State.{State}
+use Rattle.session_lines.specs.declared.answer.State.TheVariants as state
+use Rattle.session_lines.specs.declared.refusal.Refusal.{Refusal}
+use Rattle.session_lines.specs.declared.refusal.Refusal.TheVariants.{Memory, Failed, Stopping}
+use Rattle.session_threads.specs.HubCalls.{is_edit_refusal as is_hub_refusal}
+use Rattle.shared_hub.specs.Shared.{HappensTo, Moment, MomentOf}
+
+-- the numbers that an edit may be refused with: those of a hub, and 12
+abbrev pub is_edit_refusal : ℕ → Bool
+is_edit_refusal n = is_hub_refusal n || n == 12
+
+-- the hub gave a ticket for the edit, and later the ticket was acknowledged: only so an edit is answered
+pub record IsAcknowledged (old : PassHeld) (e : Edit) (rev : ℕ) (new : PassHeld) : Type 0 where
+  pub given : Ticket
+  pub edited : HappensTo old new (edit old.number e) (ticket given)
+  pub acked : HappensTo new new (ack given) (acknowledged true)
+  pub same : given.rev ≡ rev
+
+-- the hub gave a ticket, and what became of that isn't known: the device failed, or no commit could begin
+pub record IsLeftOpen (old : PassHeld) (e : Edit) (new : PassHeld) : Type 0 where
+  pub given : Ticket
+  pub edited : HappensTo old new (edit old.number e) (ticket given)
+
+-- the hub refused the edit with this number, or was asked to stop before
+pub record IsRefusedEdit (old : PassHeld) (e : Edit) (refusal : Refusal) (new : PassHeld) : Type 0 where
+  pub same : new ≡ old
+  pub cause : refusal ≢ Stopping → HappensTo old old (edit old.number e) (refused (number_of refusal))
+
+-- an edit is acknowledged; or the hub refused it so; or it is answered as failed
+abbrev pub ServesEdit : PassHeld → Edit → Answer → PassHeld → Type 0
+ServesEdit old e (Edited rev) new = IsAcknowledged old e rev new
+ServesEdit old e (Refused refusal) new = IsRefusedEdit old e refusal new ⊎ ((refusal ≡ Failed) × IsLeftOpen old e new)
+ServesEdit old e (Text rev t) new = ⊥
+ServesEdit old e (Spans rev s) new = ⊥
+ServesEdit old e (Status applied settled s) new = ⊥
+ServesEdit old e Stopped new = ⊥
+ServesEdit old e Done new = ⊥
+
+-- the text of a document at some moment, at which the pass's entries were the kept steps of its number; or want of memory
+abbrev pub ServesText : PassHeld → ℕ → Answer → PassHeld → Type 0
+ServesText old doc answer new =
+    (new ≡ old)
+    × ((answer ≡ Refused Memory)
+    ⊎ MomentOf old (λ l. answer ≡ Text (rev l.replica.list doc) (text l.replica.list doc)))
+
+-- the spans of a document likewise
+abbrev pub ServesSpans : PassHeld → ℕ → Answer → PassHeld → Type 0
+ServesSpans old doc answer new =
+    (new ≡ old)
+    × ((answer ≡ Refused Memory)
+    ⊎ MomentOf old (λ l. answer ≡ Spans (rev l.replica.list doc) (spans l.replica.list doc)))
+
+-- whether edits are taken: a failure that was told goes before a stop
+abbrev pub state_in : Bool → Bool → State
+state_in true stopping = state.Failed
+state_in false true = state.Stopping
+state_in false false = state.Open
+
+-- how far the hub was at some moment
+abbrev pub ServesStatus : PassHeld → Answer → PassHeld → Type 0
+ServesStatus old answer new =
+    (new ≡ old)
+    × MomentOf old (λ l. (stopping : Bool)
+    × (answer ≡ Status (length l.replica.list) l.replica.settled (state_in l.failure_told stopping)))
+
+-- a stop is answered where at some moment all was settled, or as failed
+abbrev pub ServesStop : PassHeld → Answer → PassHeld → Type 0
+ServesStop old answer new =
+    (new ≡ old)
+    × ((answer ≡ Refused Failed)
+    ⊎ ((answer ≡ Stopped) × Moment (λ l. length l.replica.list ≤ l.replica.settled)))
+
+-- what is answered to a command, and what the pass is then
+abbrev pub Serves : PassHeld → Command → Answer → PassHeld → Type 0
+Serves old (command.Edit e) answer new = ServesEdit old e answer new
+Serves old (command.Text doc) answer new = ServesText old doc answer new
+Serves old (command.Spans doc) answer new = ServesSpans old doc answer new
+Serves old command.Status answer new = ServesStatus old answer new
+Serves old command.Stop answer new = ServesStop old answer new

@@ -1,0 +1,105 @@
+//! The threads that let connections in.
+
+use crate::hall::Hall;
+use crate::session_thread::serve_session;
+use link_threads::serve_link;
+use pass_books::Desks;
+use session_lines::{Answer, Refusal, say};
+use shared_hub::Gate;
+use std::alloc::Global;
+use std::io::Write;
+use std::net::{TcpListener, TcpStream};
+use std::rt::Clock;
+use std::sync::Wait;
+use std::thread;
+use std::thread::Threads;
+use std::time::Duration;
+
+/// The pause behind a connection that couldn't be accepted.
+const PAUSE: u64 = 10;
+
+/// Lets sessions in, each of which gets a thread, until the daemon is asked to end; then waits for
+/// their ends. One that finds no place is answered 8 and closed.
+pub(crate) fn accept_sessions<
+    R: Wait + Clock + Threads + Sync,
+    J: Desks + Send + Sync,
+    G: Gate + Sync,
+>(rt: &R, alloc: Global, hall: &Hall<J>, gate: &G, listener: &TcpListener) {
+    thread::scope(thread::scope_env(), rt, |scope| {
+        for stream in listener.incoming() {
+            if hall.ending.is_asked(rt) {
+                break;
+            }
+            let Ok(stream) = stream else {
+                thread::sleep(rt, Duration::from_millis(PAUSE));
+                continue;
+            };
+            let Some(entry) = hall.sessions.enter(rt, &stream) else {
+                refuse(alloc, &stream);
+                continue;
+            };
+            let session = scope.spawn(move || serve_session(rt, alloc, hall, gate, entry, &stream));
+            if session.is_err() {
+                hall.sessions.leave(rt, entry, None);
+            }
+        }
+    });
+}
+
+/// Answers a session for which there is no place.
+fn refuse(alloc: Global, stream: &TcpStream) {
+    let mut text = Vec::new(alloc);
+    let mut writer = stream;
+    if say(alloc, &Answer::Refused(Refusal::Busy), &mut text).is_ok() {
+        let _ = writer.write_all(&text);
+    }
+}
+
+/// Lets links in, each of which gets two threads, until the daemon is asked to end; then waits for
+/// their ends. One that finds no place is closed.
+pub(crate) fn accept_links<
+    R: Wait + Clock + Threads + Sync,
+    J: Desks + Send + Sync,
+    G: Gate + Sync,
+>(rt: &R, alloc: Global, hall: &Hall<J>, gate: &G, listener: &TcpListener) {
+    thread::scope(thread::scope_env(), rt, |scope| {
+        for stream in listener.incoming() {
+            if hall.ending.is_asked(rt) {
+                break;
+            }
+            let Ok(stream) = stream else {
+                thread::sleep(rt, Duration::from_millis(PAUSE));
+                continue;
+            };
+            let Some(entry) = hall.links.enter(rt, &stream) else {
+                continue;
+            };
+            let link = scope.spawn(move || {
+                let _ = link(rt, alloc, hall, gate, entry, &stream);
+            });
+            if link.is_err() {
+                hall.links.leave(rt, entry, None);
+            }
+        }
+    });
+}
+
+/// Serves a link whose connection is in the lobby, to its end, and gives its place back. Answers
+/// whether the other end said HELLO.
+pub(crate) fn link<R: Wait + Clock + Threads + Sync, J: Desks + Send + Sync, G: Gate + Sync>(
+    rt: &R,
+    alloc: Global,
+    hall: &Hall<J>,
+    gate: &G,
+    entry: u64,
+    stream: &TcpStream,
+) -> bool {
+    let _ = stream.set_nodelay(true);
+    let Some(mut pass) = hall.links.take_pass(rt) else {
+        hall.links.leave(rt, entry, None);
+        return false;
+    };
+    let greeted = serve_link(rt, alloc, hall.own, &hall.shared, &mut pass, stream, gate);
+    hall.links.leave(rt, entry, Some(pass));
+    greeted
+}

@@ -1,0 +1,64 @@
+//! The link that this daemon joins by itself.
+
+use crate::accepting::link;
+use crate::hall::Hall;
+use pass_books::Desks;
+use shared_hub::Gate;
+use std::alloc::Global;
+use std::net::{Net, TcpListener, TcpStream};
+use std::rt::Clock;
+use std::sync::Wait;
+use std::thread::Threads;
+use std::time::Duration;
+
+/// The pauses before a peer is joined again, in milliseconds: the first, which doubles up to the
+/// longest.
+const PAUSE: u64 = 100;
+
+const LONGEST_PAUSE: u64 = 5_000;
+
+/// A peer that was joined, and where it listens on 127.0.0.1.
+#[derive(Drop)]
+pub struct Joined {
+    pub stream: TcpStream,
+    pub port: u16,
+}
+
+/// Serves the link to a peer that was joined. Where that ends, the peer is joined again, with pauses
+/// that double from 100 milliseconds to 5 seconds, until the daemon is asked to end.
+pub(crate) fn keep_joined<
+    R: Wait + Clock + Threads + Net<Listener = TcpListener, Stream = TcpStream> + Sync,
+    J: Desks + Send + Sync,
+    G: Gate + Sync,
+>(rt: &R, alloc: Global, hall: &Hall<J>, gate: &G, joined: Joined) {
+    let Joined { stream, port } = joined;
+    let mut pause = PAUSE;
+    let mut stream = Some(stream);
+    for _ in rt.forever() {
+        if let Some(stream) = stream {
+            if is_greeted(rt, alloc, hall, gate, &stream) {
+                pause = PAUSE;
+            }
+        }
+        if hall.ending.wait_at_most(rt, Duration::from_millis(pause)) {
+            return;
+        }
+        pause = LONGEST_PAUSE.min(pause.saturating_mul(2));
+        stream = TcpStream::connect(rt, ("127.0.0.1", port)).ok();
+    }
+}
+
+/// Serves the link over a stream to its end, where there is a place for it, and answers whether the
+/// peer said HELLO.
+fn is_greeted<R: Wait + Clock + Threads + Sync, J: Desks + Send + Sync, G: Gate + Sync>(
+    rt: &R,
+    alloc: Global,
+    hall: &Hall<J>,
+    gate: &G,
+    stream: &TcpStream,
+) -> bool {
+    match hall.links.enter(rt, stream) {
+        Some(entry) => link(rt, alloc, hall, gate, entry, stream),
+        None => false,
+    }
+}

@@ -1,0 +1,154 @@
+//! The daemon.
+ghost use Rattle.std.specs.Prelude.{◌≡◌, []};
+
+use crate::accepting::{accept_links, accept_sessions};
+use crate::hall::Hall;
+use crate::rejoining::{Joined, keep_joined};
+use disk_trait::Disk;
+use hub_parts::{Flusher, Parts};
+use pass_books::Desks;
+use shared_hub::{Gate, Opened, flush};
+use std::alloc::{AllocError, Global};
+use std::marker::Brand;
+use std::net::{Net, Shutdown, TcpListener, TcpStream};
+use std::os::fd::OwnedFd;
+use std::rt::Clock;
+use std::sync::Wait;
+use std::thread;
+use std::thread::Threads;
+use std::time::Duration;
+
+/// How long sessions and links have for their last words, in milliseconds.
+const LAST_WORDS: u64 = 1_000;
+
+/// Where the daemon listens, and the peer that it joined.
+#[derive(Drop)]
+pub struct Sockets {
+    pub sessions: TcpListener,
+    pub peers: TcpListener,
+    pub joined: Option<Joined>,
+}
+
+/// How the daemon ended.
+#[derive(Drop)]
+pub struct Served<D: Disk> {
+    pub disk: D,
+    /// Whether the device failed, so that the file must be opened again.
+    pub has_failed: bool,
+    /// Whether there was memory to begin with.
+    pub has_begun: bool,
+}
+
+/// Serves sessions and links over a hub that was just opened, until a session asked for a stop and
+/// what was applied is settled; then hands back the disk.
+///
+/// At most 32 sessions and 8 links are served at once: a further session is answered 8 and closed,
+/// a further link is closed. At the end they have a second for their last words.
+pub fn serve_all<
+    D: Disk + Drop + Send,
+    R: Wait + Clock + Threads + Net<Listener = TcpListener, Stream = TcpStream> + Sync,
+    G: Gate + Sync,
+>(rt: &R, alloc: Global, parts: Parts<D>, sockets: Sockets, gate: &G) -> Served<D>
+    requires { parts.locked.replica.steps ≡ [] }
+{
+    match Opened::new(alloc) {
+        Ok(opened) => serve_named::<Brand, D, R, G>(rt, alloc, opened, parts, sockets, gate),
+        Err(AllocError) => without_memory(parts.flusher),
+    }
+}
+
+/// How the daemon ends that didn't begin.
+fn without_memory<D: Disk>(flusher: Flusher<D>) -> Served<D> {
+    Served {
+        has_failed: false,
+        has_begun: false,
+        disk: flusher.into_disk(),
+    }
+}
+
+/// Serves with the books that have these names.
+fn serve_named<
+    J: Desks + Send + Sync,
+    D: Disk + Drop + Send,
+    R: Wait + Clock + Threads + Net<Listener = TcpListener, Stream = TcpStream> + Sync,
+    G: Gate + Sync,
+>(rt: &R, alloc: Global, opened: Opened, parts: Parts<D>, sockets: Sockets, gate: &G) -> Served<D>
+    requires names { opened ≡ J.names }
+    requires fresh { parts.locked.replica.steps ≡ [] }
+{
+    let Parts { locked, flusher } = parts;
+    let mut flusher = flusher;
+    let own = locked.replica();
+    let Ok(named) = opened.share::<J>(alloc, locked) else {
+        return without_memory(flusher);
+    };
+    let Ok(hall) = Hall::new(alloc, own, named) else {
+        return without_memory(flusher);
+    };
+    run(rt, alloc, &hall, &mut flusher, sockets, gate);
+    Served {
+        has_failed: flusher.has_failed(),
+        has_begun: true,
+        disk: flusher.into_disk(),
+    }
+}
+
+/// Starts the threads, waits until one asks to end, and ends them all.
+fn run<
+    J: Desks + Send + Sync,
+    D: Disk + Drop + Send,
+    R: Wait + Clock + Threads + Net<Listener = TcpListener, Stream = TcpStream> + Sync,
+    G: Gate + Sync,
+>(rt: &R, alloc: Global, hall: &Hall<J>, flusher: &mut Flusher<D>, sockets: Sockets, gate: &G) {
+    let Sockets {
+        sessions,
+        peers,
+        joined,
+    } = sockets;
+    let (sessions, peers) = (&sessions, &peers);
+    thread::scope(thread::scope_env(), rt, |scope| {
+        let at_sessions = scope.spawn(move || accept_sessions(rt, alloc, hall, gate, sessions));
+        let at_peers = scope.spawn(move || accept_links(rt, alloc, hall, gate, peers));
+        let joining = match joined {
+            Some(joined) => scope
+                .spawn(move || keep_joined(rt, alloc, hall, gate, joined))
+                .is_ok(),
+            None => true,
+        };
+        let ending = scope.spawn(move || {
+            hall.ending.wait(rt);
+            end_all(rt, hall, sessions, peers);
+        });
+        if ending.is_err() {
+            end_all(rt, hall, sessions, peers);
+        } else if at_sessions.is_err() || at_peers.is_err() || !joining {
+            hall.ending.ask(rt);
+        }
+        // This thread is the flusher's.
+        flush(rt, &hall.shared, flusher, gate);
+    });
+}
+
+/// Ends all threads: nobody is let in any more, and those that are connected have a second.
+fn end_all<J: Desks, R: Wait + Clock>(
+    rt: &R,
+    hall: &Hall<J>,
+    sessions: &TcpListener,
+    peers: &TcpListener,
+) {
+    hall.ending.ask(rt);
+    hall.sessions.close(rt);
+    hall.links.close(rt);
+    close_listener(sessions);
+    close_listener(peers);
+    hall.sessions.clear(rt, Duration::from_millis(LAST_WORDS));
+    hall.shared.close(rt);
+    hall.links.clear(rt, Duration::from_millis(LAST_WORDS));
+}
+
+/// Ends the wait of whoever accepts connections there.
+fn close_listener(listener: &TcpListener) {
+    if let Ok(copy) = listener.try_clone() {
+        let _ = TcpStream::from(OwnedFd::from(copy)).shutdown(Shutdown::Both);
+    }
+}
