@@ -8,7 +8,7 @@ import threading
 import time
 
 from daemon import Daemon, Talk, connection, free_ports, new_daemon, within
-from program import REPLICA, delete, fault, insert, line, new_file, run, text_of, texts
+from program import NAME, REPLICA, delete, fault, insert, line, new_file, run, text_of, texts
 
 OTHER = REPLICA[:-1] + "2"
 THIRD = REPLICA[:-1] + "3"
@@ -192,11 +192,8 @@ def check_three(checks, program):
 def check_crowd(checks, program):
     """The 33rd session, the ninth link, and places that come back."""
     daemon = new_daemon(program, "crowd")
-    talks = [daemon.talk() for _ in range(SESSIONS)]
-    checks.holds("32 sessions are served", all(talk.ask(STATUS)["ok"] for talk in talks))
-    late = daemon.talk()
-    checks.same("a 33rd session", (late.answer(), late.ended()), (BUSY, True))
-    talks.pop().close()
+    talks = []
+
     def is_served():
         talk = daemon.talk()
         try:
@@ -206,6 +203,13 @@ def check_crowd(checks, program):
             return False
         talks.append(talk)
         return True
+
+    for _ in range(SESSIONS):
+        # The probe of the start may have its place still.
+        within("a session is served", is_served)
+    late = daemon.talk()
+    checks.same("a 33rd session", (late.answer(), late.ended()), (BUSY, True))
+    talks.pop().close()
     within("a place came back", is_served)
     links = []
     for _ in range(LINKS):
@@ -215,10 +219,12 @@ def check_crowd(checks, program):
     ninth = connection(daemon.peers)
     checks.same("a ninth link", ninth.recv(23), b"")
     links.pop().close()
+
     def is_greeted():
         link = connection(daemon.peers)
         links.append(link)
         return link.recv(23) != b""
+
     within("a link's place came back", is_greeted)
     started = time.monotonic()
     checks.same("a stop beside 32 sessions and 8 links", talks[0].ask(STOP), STOPPED)
@@ -244,10 +250,10 @@ def check_rude(checks, program):
     checks.same("an edit beside them", talk.ask(insert(0, "a")), done(257))
     for what, frames in [
         ("no frame", b"\xff\xff\xff\xff"), ("nonsense", b"GET / HTTP/1.1\r\n\r\n"), ("a HAVE before HELLO", b"\0\0\0\2\2\0"),
-        ("our own name", bytes.fromhex("00000013010001") + bytes.fromhex("00000000000040008000000000000001")),
+        ("our own name", bytes.fromhex("00000013010001") + NAME),
         ("a frame of no type", HELLO + b"\0\0\0\1\x09"), ("a BYE", HELLO + b"\0\0\0\1\4"),
-        ("an operation of ours that we don't know", HELLO + bytes.fromhex(
-            "0000002a030001" "00000023010000000100000000000000ff00000000000040008000000000000001000000000061")),
+        ("an operation of ours that we don't know", HELLO + bytes.fromhex("00000042030001" "0000003b0100000001000000000000ffff")
+            + NAME + b"\1" + NAME + bytes.fromhex("00000000000003e8" "0000000061")),
     ]:
         link = connection(daemon.peers)
         link.sendall(frames)

@@ -86,8 +86,8 @@ impl<'a, R: Wait, J: Desks, G: Gate> Hearing<'a, R, J, G> {
     }
 }
 
-/// Whether the other end may say an operation again that was refused so: memory 1, busy 8, failed 9,
-/// steps 10.
+/// Whether the other end may say an operation again that was refused so: memory 1, busy 8, failed
+/// 9, steps 10.
 fn may_come_again(refusal: SharedRefusal) -> bool {
     matches!(refusal.number(), 1 | 8 | 9 | 10)
 }

@@ -1,4 +1,5 @@
-//! The daemon's threads: sessions and peer links over sockets, which share one hub, and its flusher.
+//! The daemon's threads: sessions and peer links over sockets, which share one hub, and its
+//! flusher.
 #![tactic(auto)]
 
 mod accepting;

@@ -24,8 +24,8 @@ pub struct Joined {
     pub port: u16,
 }
 
-/// Serves the link to a peer that was joined. Where that ends, the peer is joined again, with pauses
-/// that double from 100 milliseconds to 5 seconds, until the daemon is asked to end.
+/// Serves the link to a peer that was joined. Where that ends, the peer is joined again, with
+/// pauses that double from 100 milliseconds to 5 seconds, until the daemon is asked to end.
 pub(crate) fn keep_joined<
     R: Wait + Clock + Threads + Net<Listener = TcpListener, Stream = TcpStream> + Sync,
     J: Desks + Send + Sync,

@@ -8,8 +8,8 @@ use hub_parts::Locked;
 use pass_books::{Books, Desks, Pass};
 use std::marker::Model;
 
-/// What stands under the lock of a shared hub: its locked part, the books of the passes, and whether
-/// it was asked to stop. Contracts see these three.
+/// What stands under the lock of a shared hub: its locked part, the books of the passes, and
+/// whether it was asked to stop. Contracts see these three.
 ///
 /// The type keeps that each book has an entry for each kept step of its number: how long the list
 /// was behind that step. None of its calls waits, and none makes a device call.

@@ -63,9 +63,9 @@ impl<J: Desks> Guarded<J> {
         }
     }
 
-    /// Merges a peer's operation, as a step of the pass's number, and enters it where it is applied.
-    /// Refuses with 12 where it was asked to stop, else as `Locked::merge` does (9, 20 to 24, 10, 8,
-    /// 1). A refused merge changes nothing. Costs what `Locked::merge` does.
+    /// Merges a peer's operation, as a step of the pass's number, and enters it where it is
+    /// applied. Refuses with 12 where it was asked to stop, else as `Locked::merge` does (9, 20 to
+    /// 24, 10, 8, 1). A refused merge changes nothing. Costs what `Locked::merge` does.
     pub fn merge(&mut self, pass: &mut Pass<J>, op: Op) -> Result<Merged, SharedRefusal>
         ensures stopping { self.old.stopping ≡ true → result ≡ Err Stopping }
         ensures call { self.old.stopping ≡ false → MakesFor self.old.locked self.new.locked

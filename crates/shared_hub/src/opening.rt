@@ -1,5 +1,5 @@
 //! How a hub comes to be shared.
-ghost use Rattle.std.specs.Prelude.{◌≡◌, [], All, IfOk, vec_len};
+ghost use Rattle.std.specs.Prelude.{◌≡◌, [], All, IfOk};
 ghost use Rattle.pass_books.specs.Accounts.{Account, names_of};
 
 use crate::guarded::Guarded;
@@ -20,7 +20,7 @@ pub struct Opened {
 }
 
 impl Model for Opened {
-    ghost use Rattle.std.specs.Prelude.{◌≡◌, [], List, All, vec_len};
+    ghost use Rattle.std.specs.Prelude.{◌≡◌, [], List, All};
     ghost use Rattle.pass_books.specs.Accounts.{Account, Name, names_of};
 
     ghost Value = { List Name };

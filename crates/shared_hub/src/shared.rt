@@ -1,5 +1,5 @@
 //! A hub that threads share.
-ghost use Rattle.std.specs.Prelude.{◌≡◌, ◌≢◌, ◌⊎◌, Err};
+ghost use Rattle.std.specs.Prelude.{◌≡◌, ◌≢◌, Err};
 ghost use Rattle.op_model.specs.Machine.{edit as edit_event, merge as merge_event};
 ghost use Rattle.shared_hub.specs.Guarded.{after_edit, Merges};
 ghost use Rattle.shared_hub.specs.Refusal.{edited, merged};

@@ -1,5 +1,4 @@
 //! What a shared hub tells its peers, and how the flusher meets it.
-ghost use Rattle.std.specs.Prelude.{◌≡◌};
 ghost use Rattle.op_model.specs.Machine.{tell as tell_event, have as have_event};
 ghost use Rattle.shared_hub.specs.Refusal.{told, had};
 ghost use Rattle.shared_hub.specs.Shared.{Happens, MeetsOnce};
@@ -31,8 +30,8 @@ impl<J: Desks> Shared<J> {
         self.guarded.lock(rt).have()
     }
 
-    /// The flusher meets what stands under the lock, once, and wakes all who wait where that settles
-    /// something or tells a failure. Refuses as `Flusher::meet` does (44, 8, 7, 1).
+    /// The flusher meets what stands under the lock, once, and wakes all who wait where that
+    /// settles something or tells a failure. Refuses as `Flusher::meet` does (44, 8, 7, 1).
     pub(crate) fn meet<R: Wait, D: Disk>(
         &self,
         rt: &R,
