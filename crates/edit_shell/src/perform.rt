@@ -19,7 +19,8 @@ pub struct Performed<D: Disk> {
     pub status: u8,
 }
 
-/// Does what an order asks for, and gives the disk and the exit status: 0, or 1 with a line in `faults`.
+/// Does what an order asks for, and gives the disk and the exit status: 0, or 1 with a line in
+/// `faults`.
 pub fn perform<D: Disk, R: Read + Drop, W: Write, F: Write>(
     alloc: Global,
     order: &StoreOrder<'_>,

@@ -32,8 +32,8 @@ const CALLS: usize = 1_024;
 const HOST: &str = "127.0.0.1";
 
 /// Runs the program, and gives its exit status: 0; 1 where a refusal ended it, which is written as
-/// `peritext: NUMBER WORD`; 2 with the text of `clap`, or that of a bad port, where the words aren't
-/// those of an order.
+/// `peritext: NUMBER WORD`; 2 with the text of `clap`, or that of a bad port, where the words
+/// aren't those of an order.
 pub fn run<
     R: Env
         + Files<File = File>
@@ -155,8 +155,8 @@ fn run_held<
 }
 
 /// Serves the sessions and the peers of a file. Faults come in this order: the file can't be opened
-/// (54); it is no store, the device fails or memory is refused (42 to 47, 50, 52, 1); a socket can't
-/// be opened or the peer can't be joined (70); the device failed while it served (9).
+/// (54); it is no store, the device fails or memory is refused (42 to 47, 50, 52, 1); a socket
+/// can't be opened or the peer can't be joined (70); the device failed while it served (9).
 fn serve<
     R: Files<File = File>
         + Clock
