@@ -194,10 +194,7 @@ fn open_sockets<R: Net<Listener = TcpListener, Stream = TcpStream>>(
     let sessions = TcpListener::bind(rt, (HOST, order.sessions))?;
     let peers = TcpListener::bind(rt, (HOST, order.peers))?;
     let joined = match order.link {
-        Some(port) => Some(Joined {
-            stream: TcpStream::connect(rt, (HOST, port))?,
-            port,
-        }),
+        Some(port) => Some(Joined::to(rt, port)?),
         None => None,
     };
     Ok(Sockets {

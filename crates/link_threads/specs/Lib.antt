@@ -3,4 +3,3 @@ pub mod LinkLine
 pub mod Outcomes
 pub mod Speaking
 pub mod Telling
-pub mod Writing

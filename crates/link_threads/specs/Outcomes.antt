@@ -6,7 +6,7 @@ use Rattle.link_threads.specs.declared.line.Line.{Ghosts as LineFacts}
 use Rattle.link_threads.specs.declared.speak_error.SpeakError.{SpeakError}
 use Rattle.link_threads.specs.declared.speak_error.SpeakError.TheVariants.{Stream}
 use Rattle.link_threads.specs.Speaking.{SpeaksHave, SpeaksOps, IsHaveUnsaid, StopsBeforeOps}
-use Rattle.link_threads.specs.Writing.{AppendsFront}
+use Rattle.byte_streams.specs.Fronts.{AppendsFront}
 
 module _ {P L : Type 0} (peers : PeerFacts P) (lines : LineFacts L) where
   module _ (is_asked : Bool) (last next : Option (List (ℕ × ℕ))) (peer_old peer_new : P) (line_old line_new : L) where

@@ -16,3 +16,4 @@ pub mod Beginning
 pub mod Settling
 pub mod MetCalls
 pub mod RunLemmas
+pub mod Reopened

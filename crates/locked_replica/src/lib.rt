@@ -3,6 +3,8 @@
 #![tactic(auto)]
 
 mod commit;
+#[cfg(test)]
+mod failing_tests;
 mod hub;
 mod hub_reply;
 mod hub_step;
@@ -13,6 +15,7 @@ mod opening;
 mod pending_tests;
 mod reading;
 mod refusal;
+mod reopening;
 mod running;
 mod sharing;
 #[cfg(test)]

@@ -3,8 +3,10 @@ use crate::{Hub, HubReply, HubStep, run};
 use disk_trait::{Fate, MemDisk};
 use group_commit::Phase;
 use op_ids::Clock;
+use op_model::{Change, Edit};
 use replica_core::{Merged, Ticket};
 use std::alloc::Global;
+use std::num::NonZeroU32;
 use std::process::Abort;
 use std::test::Fail;
 
@@ -134,11 +136,44 @@ fn a_torn_gate_is_not_closed(rt: HostRuntime) -> Result<(), Fail> {
     Ok(())
 }
 
-// How many operations a crash leaves of a second commit that is stopped behind so many device
-// calls.
-fn left_behind(alloc: Global, calls: usize, fate: Fate, grown: bool) -> Result<usize, Fail> {
-    let mut hub = with_first(alloc)?;
-    made(alloc, &mut hub, &commit_of(alloc, 1, 'b', calls)?)?;
+// A hub with so many edits settled, each of one operation: "a", then "ab", then "b".
+fn with_settled(alloc: Global, edits: usize) -> Result<Box<Hub<MemDisk>>, Fail> {
+    let mut hub = peer(alloc, 1)?;
+    for number in 0..edits {
+        let mut steps = commit_number(alloc, number, 8)?;
+        steps.push(HubStep::Settle)?;
+        made(alloc, &mut hub, &steps)?;
+    }
+    Ok(hub)
+}
+
+// The edit of this number, and a commit with so many device calls.
+fn commit_number(alloc: Global, number: usize, calls: usize) -> Result<Vec<HubStep>, Fail> {
+    let value = if number == 0 { 'a' } else { 'b' };
+    let mut steps = commit_of(alloc, number.min(1) as u32, value, calls)?;
+    if number == 2 {
+        let count = NonZeroU32::new(1).ok_or("one")?;
+        let edit = Edit {
+            doc: 1,
+            rev: None,
+            change: Change::Delete { at: 0, count },
+        };
+        steps[0] = HubStep::Edit { session: 1, edit };
+    }
+    Ok(steps)
+}
+
+// How many operations a crash leaves of the commit of this number that is stopped behind so many
+// device calls.
+fn left_behind(
+    alloc: Global,
+    number: usize,
+    calls: usize,
+    fate: Fate,
+    grown: bool,
+) -> Result<usize, Fail> {
+    let mut hub = with_settled(alloc, number)?;
+    made(alloc, &mut hub, &commit_number(alloc, number, calls)?)?;
     Ok(crashed(alloc, hub, fate, grown)?.list().len())
 }
 
@@ -153,17 +188,17 @@ fn a_stop_leaves_the_settled_list_or_the_commits(rt: HostRuntime) -> Result<(), 
         Fate::Fill(7),
         Fate::Fill(255),
     ];
-    for calls in 0..9 {
-        for fate in fates {
-            let short = left_behind(alloc, calls, fate, false)?;
-            let grown = left_behind(alloc, calls, fate, true)?;
-            let is_raised = matches!(fate, Fate::New | Fate::Fill(1));
-            let wanted = if calls == 8 || calls == 7 && is_raised {
-                2
-            } else {
-                1
-            };
-            assert!(rt; short == wanted && grown == wanted, "{calls} calls");
+    // The first commit has no gate to close: it makes 7 calls, the others 8.
+    for (number, last) in [(0, 7), (1, 8), (2, 8)] {
+        for calls in 0..last + 1 {
+            for fate in fates {
+                let short = left_behind(alloc, number, calls, fate, false)?;
+                let grown = left_behind(alloc, number, calls, fate, true)?;
+                let is_raised = matches!(fate, Fate::New | Fate::Fill(1));
+                let is_new = calls == last || calls + 1 == last && is_raised;
+                let wanted = if is_new { number + 1 } else { number };
+                assert!(rt; short == wanted && grown == wanted, "{calls} calls");
+            }
         }
     }
     Ok(())

@@ -18,13 +18,24 @@ use std::time::Duration;
 /// The pause behind a connection that couldn't be accepted.
 const PAUSE: u64 = 10;
 
-/// Lets sessions in, each of which gets a thread, until the daemon is asked to end; then waits for
-/// their ends. One that finds no place is answered 8 and closed.
-pub(crate) fn accept_sessions<
-    R: Wait + Clock + Threads + Sync,
-    J: Desks + Send + Sync,
-    G: Gate + Sync,
->(rt: &R, alloc: Global, hall: &Hall<J>, gate: &G, listener: &TcpListener) {
+/// What a connection is for.
+#[derive(Clone, Copy, Debug, PartialEq, Eq)]
+pub(crate) enum Kind {
+    Session,
+    Link,
+}
+
+/// Lets connections of one kind in, each of which gets a thread, until the daemon is asked to end;
+/// then waits for their ends. One that finds no place is closed, a session with the answer 8.
+pub(crate) fn accept<R: Wait + Clock + Threads + Sync, J: Desks + Send + Sync, G: Gate + Sync>(
+    rt: &R,
+    alloc: Global,
+    hall: &Hall<J>,
+    gate: &G,
+    kind: Kind,
+    listener: &TcpListener,
+) {
+    let lobby = hall.lobby(kind);
     thread::scope(thread::scope_env(), rt, |scope| {
         for stream in listener.incoming() {
             if hall.ending.is_asked(rt) {
@@ -34,16 +45,36 @@ pub(crate) fn accept_sessions<
                 thread::sleep(rt, Duration::from_millis(PAUSE));
                 continue;
             };
-            let Some(entry) = hall.sessions.enter(rt, &stream) else {
-                refuse(alloc, &stream);
+            let Some(entry) = lobby.enter(rt, &stream) else {
+                if kind == Kind::Session {
+                    refuse(alloc, &stream);
+                }
                 continue;
             };
-            let session = scope.spawn(move || serve_session(rt, alloc, hall, gate, entry, &stream));
-            if session.is_err() {
-                hall.sessions.leave(rt, entry, None);
+            let served = scope.spawn(move || serve(rt, alloc, hall, gate, kind, entry, &stream));
+            if served.is_err() {
+                lobby.leave(rt, entry, None);
             }
         }
     });
+}
+
+/// Serves a connection that is in the lobby of its kind, to its end, and gives its place back.
+fn serve<R: Wait + Clock + Threads + Sync, J: Desks + Send + Sync, G: Gate + Sync>(
+    rt: &R,
+    alloc: Global,
+    hall: &Hall<J>,
+    gate: &G,
+    kind: Kind,
+    entry: u64,
+    stream: &TcpStream,
+) {
+    match kind {
+        Kind::Session => serve_session(rt, alloc, hall, gate, entry, stream),
+        Kind::Link => {
+            let _is_greeted = link(rt, alloc, hall, gate, entry, stream);
+        }
+    }
 }
 
 /// Answers a session for which there is no place.
@@ -53,35 +84,6 @@ fn refuse(alloc: Global, stream: &TcpStream) {
     if say(alloc, &Answer::Refused(Refusal::Busy), &mut text).is_ok() {
         let _ = writer.write_all(&text);
     }
-}
-
-/// Lets links in, each of which gets two threads, until the daemon is asked to end; then waits for
-/// their ends. One that finds no place is closed.
-pub(crate) fn accept_links<
-    R: Wait + Clock + Threads + Sync,
-    J: Desks + Send + Sync,
-    G: Gate + Sync,
->(rt: &R, alloc: Global, hall: &Hall<J>, gate: &G, listener: &TcpListener) {
-    thread::scope(thread::scope_env(), rt, |scope| {
-        for stream in listener.incoming() {
-            if hall.ending.is_asked(rt) {
-                break;
-            }
-            let Ok(stream) = stream else {
-                thread::sleep(rt, Duration::from_millis(PAUSE));
-                continue;
-            };
-            let Some(entry) = hall.links.enter(rt, &stream) else {
-                continue;
-            };
-            let link = scope.spawn(move || {
-                let _ = link(rt, alloc, hall, gate, entry, &stream);
-            });
-            if link.is_err() {
-                hall.links.leave(rt, entry, None);
-            }
-        }
-    });
 }
 
 /// Serves a link whose connection is in the lobby, to its end, and gives its place back. Answers

@@ -1,5 +1,6 @@
 //! What the daemon's threads share.
 
+use crate::accepting::Kind;
 use crate::ending::Ending;
 use crate::lobby::Lobby;
 use op_ids::ReplicaId;
@@ -34,5 +35,13 @@ impl<J: Desks> Hall<J> {
             links: Lobby::new(alloc, links)?,
             ending: Ending::new(),
         })
+    }
+
+    /// The connections of one kind.
+    pub fn lobby(&self, kind: Kind) -> &Lobby<J> {
+        match kind {
+            Kind::Session => &self.sessions,
+            Kind::Link => &self.links,
+        }
     }
 }

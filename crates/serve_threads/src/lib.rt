@@ -3,6 +3,8 @@
 #![tactic(auto)]
 
 mod accepting;
+#[cfg(test)]
+mod asking_gate;
 mod desk_serving;
 mod ending;
 mod hall;
@@ -11,7 +13,13 @@ mod rejoining;
 mod serving;
 mod session_thread;
 mod shared_desk;
+#[cfg(test)]
+mod test_daemons;
+#[cfg(test)]
+mod tests;
 mod until_asked;
+#[cfg(test)]
+mod waiting_disk;
 
 pub use rejoining::Joined;
 pub use serving::{Served, Sockets, serve_all};

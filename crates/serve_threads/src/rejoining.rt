@@ -5,7 +5,8 @@ use crate::hall::Hall;
 use pass_books::Desks;
 use shared_hub::Gate;
 use std::alloc::Global;
-use std::net::{Net, TcpListener, TcpStream};
+use std::io;
+use std::net::{Ipv4Addr, Net, SocketAddr, TcpListener, TcpStream};
 use std::rt::Clock;
 use std::sync::Wait;
 use std::thread::Threads;
@@ -17,11 +18,27 @@ const PAUSE: u64 = 100;
 
 const LONGEST_PAUSE: u64 = 5_000;
 
+/// How long a peer has to take the connection, in milliseconds. One that listens and takes none
+/// would hold up the daemon's end.
+const PATIENCE: u64 = 1_000;
+
 /// A peer that was joined, and where it listens on 127.0.0.1.
 #[derive(Drop)]
 pub struct Joined {
     pub stream: TcpStream,
     pub port: u16,
+}
+
+impl Joined {
+    /// Joins the peer that listens on this port of 127.0.0.1. An error where nobody does, or where
+    /// the peer doesn't take the connection within a second.
+    pub fn to<R: Net<Listener = TcpListener, Stream = TcpStream>>(
+        rt: &R,
+        port: u16,
+    ) -> io::Result<Joined> {
+        let stream = connect(rt, port)?;
+        Ok(Joined { stream, port })
+    }
 }
 
 /// Serves the link to a peer that was joined. Where that ends, the peer is joined again, with
@@ -44,8 +61,17 @@ pub(crate) fn keep_joined<
             return;
         }
         pause = LONGEST_PAUSE.min(pause.saturating_mul(2));
-        stream = TcpStream::connect(rt, ("127.0.0.1", port)).ok();
+        stream = connect(rt, port).ok();
     }
+}
+
+/// A connection to a port of this machine, where somebody takes it in time.
+fn connect<R: Net<Listener = TcpListener, Stream = TcpStream>>(
+    rt: &R,
+    port: u16,
+) -> io::Result<TcpStream> {
+    let place = SocketAddr::from((Ipv4Addr::LOCALHOST, port));
+    TcpStream::connect_timeout(rt, &place, Duration::from_millis(PATIENCE))
 }
 
 /// Serves the link over a stream to its end, where there is a place for it, and answers whether the

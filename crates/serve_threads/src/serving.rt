@@ -1,7 +1,7 @@
 //! The daemon.
 ghost use Rattle.std.specs.Prelude.{◌≡◌, []};
 
-use crate::accepting::{accept_links, accept_sessions};
+use crate::accepting::{Kind, accept};
 use crate::hall::Hall;
 use crate::rejoining::{Joined, keep_joined};
 use disk_trait::Disk;
@@ -107,8 +107,15 @@ fn run<
     } = sockets;
     let (sessions, peers) = (&sessions, &peers);
     thread::scope(thread::scope_env(), rt, |scope| {
-        let at_sessions = scope.spawn(move || accept_sessions(rt, alloc, hall, gate, sessions));
-        let at_peers = scope.spawn(move || accept_links(rt, alloc, hall, gate, peers));
+        let at_sessions = scope.spawn(move || accept(
+            rt,
+            alloc,
+            hall,
+            gate,
+            Kind::Session,
+            sessions,
+        ));
+        let at_peers = scope.spawn(move || accept(rt, alloc, hall, gate, Kind::Link, peers));
         let joining = match joined {
             Some(joined) => scope
                 .spawn(move || keep_joined(rt, alloc, hall, gate, joined))

@@ -3,7 +3,8 @@ use Rattle.std.proofs.Common.{◌≡◌, ℕ, List, [], ◌∷◌, ◌++◌, Opt
 use Rattle.session_lines.specs.declared.command.Command.{Command}
 use Rattle.session_lines.specs.declared.answer.Answer.{Answer}
 use Rattle.session_threads.specs.Exchanges.{Exchange, Exchanges}
-use Rattle.session_threads.specs.Outcomes.{BeginsWith, CutOff}
+use Rattle.byte_streams.specs.Fronts.{BeginsWith}
+use Rattle.session_threads.specs.Outcomes.{CutOff}
 
 pub begins_with_itself : {A : Type 0} (xs : List A) → BeginsWith xs xs
 begins_with_itself xs = ([], sym (append-nil xs))

@@ -12,3 +12,4 @@ pub mod OutcomeLemmas
 pub mod RanLemmas
 pub mod ServeLemmas
 pub mod SettleLemmas
+pub mod SessionRuns

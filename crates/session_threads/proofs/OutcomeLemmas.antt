@@ -7,7 +7,8 @@ use Rattle.session_lines.specs.declared.answer.Answer.{Answer}
 use Rattle.session_threads.specs.Lines.{lines_read}
 use Rattle.session_threads.specs.Held.{lines_after, held_after}
 use Rattle.session_threads.specs.Exchanges.{Exchanges}
-use Rattle.session_threads.specs.Outcomes.{BeginsWith, CutOff, Served, CutShort}
+use Rattle.byte_streams.specs.Fronts.{BeginsWith}
+use Rattle.session_threads.specs.Outcomes.{CutOff, Served, CutShort}
 use Rattle.session_threads.proofs.ExchangeLemmas.{begins_with_itself, Exchanges-append, CutOff-append, CutOff-whole}
 use Rattle.session_threads.proofs.LineLemmas.{lines_after-all, lines_after-append}
 

@@ -1,18 +1,11 @@
 -- How a session ends.
 use Rattle.std.specs.Prelude.{◌≡◌, List, [], ◌∷◌, ◌++◌, ℕ, Option}
 use Rattle.std.specs.Io.KnownBytes.{Appends, Consumes, IsAtEnd}
+use Rattle.byte_streams.specs.Fronts.{BeginsWith}
 use Rattle.session_lines.specs.declared.command.Command.{Command}
 use Rattle.session_lines.specs.declared.answer.Answer.{Answer}
 use Rattle.session_threads.specs.Lines.{lines_read}
 use Rattle.session_threads.specs.Exchanges.{Exchange, Exchanges}
-
--- a list begins with this one
-abbrev pub BeginsWith : {A : Type 0} → List A → List A → Type 0
-BeginsWith {A} all front = (rest : List A) × (all ≡ front ++ rest)
-
--- known bytes grow by a beginning of these
-abbrev pub AppendsFront : Option (List ℕ) → Option (List ℕ) → List ℕ → Type 0
-AppendsFront old new text = (written : List ℕ) × BeginsWith text written × Appends old new written
 
 module _ {D : Type 0} (serves : D → Command → Answer → D → Type 0) where
   -- each line is answered, one after the other, but of the last one's answer only a beginning may have been written

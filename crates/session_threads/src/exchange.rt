@@ -4,12 +4,12 @@ ghost use Rattle.std.specs.Io.KnownBytes.{Appends};
 ghost use Rattle.session_lines.specs.declared.command.Command.{Command};
 ghost use Rattle.session_lines.specs.declared.refusal.Refusal.{Refusal};
 ghost use Rattle.session_threads.specs.Exchanges.{IsTaken, IsAnswered, Exchange};
-ghost use Rattle.session_threads.specs.Outcomes.{AppendsFront};
+ghost use Rattle.byte_streams.specs.Fronts.{AppendsFront};
 
 use crate::desk::Desk;
 use crate::held_line::HeldLine;
 use crate::room::Room;
-use crate::stream::put;
+use byte_streams::put;
 use session_lines::{Answer, Command, Refusal, serve_line};
 use std::alloc::Global;
 use std::io;

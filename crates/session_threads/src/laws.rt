@@ -1,11 +1,16 @@
 //! What follows for the calls that a desk makes of its hub.
-ghost use Rattle.std.specs.Prelude.{◌≡◌, List, ℕ, true};
+ghost use Rattle.std.specs.Prelude.{◌≡◌, List, ℕ, Option, true};
 ghost use Rattle.op_model.specs.declared.edit.Edit.{Edit};
 ghost use Rattle.op_model.specs.Machine.{Event, Answer, State, refused, EditStep};
 ghost use Rattle.locked_replica.specs.Hub.{Parts};
 ghost use Rattle.locked_replica.specs.Run.{Calls, Ran};
+ghost use Rattle.session_threads.specs.Exchanges.{Exchanges};
+ghost use Rattle.session_threads.specs.HeldDesk.{HeldDesk};
 ghost use Rattle.session_threads.specs.HubCalls.{IsQuiet};
+ghost use Rattle.session_threads.specs.HubServing.{Serves};
+ghost use Rattle.session_threads.specs.Outcomes.{CutOff};
 
+use crate::hub_desk::HubDesk;
 use disk_trait::Disk;
 use locked_replica::Hub;
 
@@ -16,6 +21,20 @@ pub fn calls_are_a_run<D: Disk>(hub: &Hub<D>)
         → Calls D.DiskFacts hub.now events new → Ran D.DiskFacts hub.now events new }
 {
     hub.survivors();
+}
+
+/// All that a desk over a hub makes of the lines of a session, whole or cut off by a stream that
+/// failed, is one run: a run of the machine, and a crash at any moment of it leaves a beginning of
+/// the list with all that was settled by then. Costs nothing.
+pub fn a_session_is_a_run<D: Disk>(desk: &HubDesk<D>)
+    ensures answered { (lines : List (Option (List ℕ))) (text : List ℕ) (new : HeldDesk D)
+        → Exchanges (Serves D.DiskFacts) desk.now lines text new
+        → (events : List (Event × Answer)) × Ran D.DiskFacts desk.now.hub events new.hub }
+    ensures cut_off { (lines : List (Option (List ℕ))) (text : List ℕ) (new : HeldDesk D)
+        → CutOff (Serves D.DiskFacts) desk.now lines text new
+        → (events : List (Event × Answer)) × Ran D.DiskFacts desk.now.hub events new.hub }
+{
+    calls_are_a_run(&desk.hub);
 }
 
 /// Once the device of a quiet hub failed, each edit is answered with 9 and changes nothing. Costs

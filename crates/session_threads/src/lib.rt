@@ -15,12 +15,11 @@ mod laws;
 mod pieces;
 mod room;
 mod session;
-mod stream;
 #[cfg(test)]
 mod tests;
 
 pub use desk::Desk;
 pub use fault::SessionFault;
 pub use hub_desk::HubDesk;
-pub use laws::{calls_are_a_run, edits_fail_behind_a_failure};
+pub use laws::{a_session_is_a_run, calls_are_a_run, edits_fail_behind_a_failure};
 pub use session::Session;

@@ -3,7 +3,8 @@ ghost use Rattle.std.specs.Prelude.{◌≡◌, ◌==◌, ◌∷◌, ◌++◌, Li
 ghost use Rattle.std.specs.Io.KnownBytes.{Appends};
 ghost use Rattle.session_threads.specs.Held.{Fits, lines_after, held_after, HasNoFeed};
 ghost use Rattle.session_threads.specs.Exchanges.{Exchanges};
-ghost use Rattle.session_threads.specs.Outcomes.{BeginsWith, CutOff};
+ghost use Rattle.byte_streams.specs.Fronts.{BeginsWith};
+ghost use Rattle.session_threads.specs.Outcomes.{CutOff};
 
 use crate::desk::Desk;
 use crate::exchange::exchange;

@@ -7,7 +7,7 @@ use crate::desk::Desk;
 use crate::fault::SessionFault;
 use crate::pieces::serve_piece;
 use crate::room::Room;
-use crate::stream::{endless, read_some};
+use byte_streams::{endless, read_some};
 use std::alloc::Global;
 use std::io;
 use std::io::{Read, Write};

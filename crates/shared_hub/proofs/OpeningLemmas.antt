@@ -1,12 +1,12 @@
 -- Passes that are made one after another, and the books of a hub that has made no step.
-use Rattle.std.proofs.Common.{◌≡◌, ℕ, ◌+◌, ◌<◌, List, [], ◌∷◌, ◌++◌, length, drop, All, Some, refl, sym, ap, ◌∙◌, arith, slice_get}
+use Rattle.std.proofs.Common.{◌≡◌, ℕ, ◌+◌, ◌<◌, ◌≤◌, List, [], ◌∷◌, ◌++◌, length, drop, All, Some, refl, sym, ap, ◌∙◌, arith, add-one, length-append, slice_get, zero, suc}
 use Rattle.std.proofs.Math.ListN.{get_or}
 use Rattle.std.proofs.lemmas.List.{drop_more, length-drop}
-use Rattle.std.proofs.lemmas.List.Elements.{All-append, All-cons, All-drop, All-map}
+use Rattle.std.proofs.lemmas.List.Elements.{All-drop, All-map}
 use Rattle.std.proofs.lemmas.Option.{slice_get_read, slice_get_within, get_or_from_slice_get}
 use Rattle.op_model.specs.Replay.{Kept}
-use Rattle.pass_books.specs.Accounts.{Account, entries_of}
-use Rattle.shared_hub.specs.Books.{ends_of, BooksFit}
+use Rattle.pass_books.specs.Accounts.{Account, PassHeld, entries_of}
+use Rattle.shared_hub.specs.Books.{ends_of, BooksFit, new_passes}
 
 -- the first of what is left of a list behind n elements is its n-th
 pub next_of : {A : Type 0} (xs : List A) (n : ℕ) (x : A) (ys : List A) → drop n xs ≡ x ∷ ys
@@ -26,10 +26,20 @@ fresh_fit steps accounts none fresh n entries found =
     sym (get_or_from_slice_get (entries_of accounts) n entries entries found) ∙ all n entries within
     ∙ ap (λ kept. ends_of n kept) (sym none)
 
--- what holds of all but one, and of that one
-pub all_and : {A : Type 0} (P : A → Type 0) (xs : List A) (x : A) → All P xs → P x → All P (xs ++ x ∷ [])
-all_and P xs x all one = All-append P xs (x ∷ []) all (All-cons P x [] one (λ k d less. absurd (omega (arith, less))))
-
 -- what holds of all holds of the first, and of those behind it
 pub all_behind : {A : Type 0} (P : A → Type 0) (x : A) (xs : List A) → All P (x ∷ xs) → P x × All P xs
 all_behind P x xs all = (all 0 x (omega arith), All-drop P 1 (x ∷ xs) all)
+
+-- the next pass makes the first ones one more
+pub one_more : (passes : List PassHeld) (p : PassHeld) (n : ℕ) → passes ≡ new_passes n → p ≡ record { number = n; entries = [] }
+    → passes ++ p ∷ [] ≡ new_passes (n + 1)
+one_more passes p n first is = rw (first, is, add-one n) refl
+
+-- where nothing is left behind the first n of a list, it has no more
+pub none_left : {A : Type 0} (xs : List A) (n : ℕ) → n ≤ length xs → drop n xs ≡ [] → n ≡ length xs
+none_left xs n within none = omega (arith, within, ap length none, length-drop n xs)
+
+-- there are so many of them
+pub length_new : (n : ℕ) → length (new_passes n) ≡ n
+length_new zero = refl
+length_new (suc n) = length-append (new_passes n) (record { number = n; entries = [] } ∷ []) ∙ ap (λ k. k + 1) (length_new n) ∙ add-one n

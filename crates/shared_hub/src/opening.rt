@@ -1,6 +1,7 @@
 //! How a hub comes to be shared.
-ghost use Rattle.std.specs.Prelude.{◌≡◌, [], All, IfOk};
+ghost use Rattle.std.specs.Prelude.{◌≡◌, [], All, IfOk, drop, length};
 ghost use Rattle.pass_books.specs.Accounts.{Account, names_of};
+ghost use Rattle.shared_hub.specs.Books.{new_passes};
 
 use crate::guarded::Guarded;
 use crate::shared::Shared;
@@ -12,7 +13,8 @@ use std::marker::Model;
 /// How many passes a shared hub has: they are numbered from 1.
 pub const PASSES: usize = 40;
 
-/// Books that no lock has yet, with the shares of them. Contracts see their names, by number.
+/// Books that no lock has yet, one for each number from 0 to 40, with the shares of them. Contracts
+/// see their names, by number.
 #[derive(Drop)]
 pub struct Opened {
     books: Vec<Book>,
@@ -20,14 +22,15 @@ pub struct Opened {
 }
 
 impl Model for Opened {
-    ghost use Rattle.std.specs.Prelude.{◌≡◌, [], List, All};
+    ghost use Rattle.std.specs.Prelude.{◌≡◌, [], List, All, vec_len};
     ghost use Rattle.pass_books.specs.Accounts.{Account, Name, names_of};
 
     ghost Value = { List Name };
 
     ghost view = { λ o. names_of o.books.items };
 
-    ghost invariant = { λ o. (names_of o.shares.items ≡ names_of o.books.items)
+    ghost invariant = { λ o. (vec_len o.books ≡ 41)
+        × (names_of o.shares.items ≡ names_of o.books.items)
         × All (λ (b : Account). b.entries ≡ []) o.books.items
         × All (λ (s : Account). s.entries ≡ []) o.shares.items };
 }
@@ -46,7 +49,7 @@ impl Opened {
         let mut books = Vec::new(alloc);
         let mut shares = Vec::new(alloc);
         // The book with number 0 is nobody's.
-        for _ in 0..=PASSES {
+        while books.len() <= PASSES {
             let (book, share) = open(alloc)?;
             books.push(book)?;
             shares.push(share)?;
@@ -54,12 +57,13 @@ impl Opened {
         Ok(Opened { books, shares })
     }
 
-    /// Puts the locked part of a hub that has made no step under a lock, with these books. An error
-    /// is want of memory (1).
+    /// Puts the locked part of a hub that has made no step under a lock, with these books. Gives 40
+    /// passes, numbered from 1. An error is want of memory (1).
     pub fn share<J: Desks>(self, alloc: Global, locked: Locked) -> Result<Named<J>, AllocError>
         requires names { self ≡ J.names }
         requires fresh { locked.replica.steps ≡ [] }
-        ensures passes { IfOk result (λ it. All (λ p. p.entries ≡ []) it.passes.items) }
+        // The pass with number 0 is left out.
+        ensures passes { IfOk result (λ it. it.passes.items ≡ drop 1 (new_passes 41)) }
     {
         let Opened { books, shares } = self;
         let mut all = numbered(alloc, shares)?;
@@ -74,7 +78,7 @@ impl Opened {
 fn numbered<J: Desks>(alloc: Global, shares: Vec<Share>) -> Result<Vec<Pass<J>>, AllocError>
     requires names { names_of shares.items ≡ J.names }
     requires fresh { All (λ (s : Account). s.entries ≡ []) shares.items }
-    ensures { IfOk result (λ passes. All (λ p. p.entries ≡ []) passes.items) }
+    ensures { IfOk result (λ passes. passes.items ≡ new_passes (length J.names)) }
 {
     let mut passes = Vec::new(alloc);
     for share in shares {

@@ -1,6 +1,7 @@
-use Rattle.std.proofs.Common.{◌≡◌, [], ◌∷◌, All, vec_len, ap, sym, ◌∙◌}
+use Rattle.std.proofs.Common.{◌≡◌, ◌+◌, ◌<◌, ◌≤◌, [], ◌∷◌, All, vec_len, length, ap, refl, sym, ◌∙◌, arith}
+use Rattle.std.proofs.lemmas.Option.{slice_get_within}
 use Rattle.pass_books.specs.Accounts.{Account, names_of}
-use Rattle.shared_hub.proofs.OpeningLemmas.{next_of, all_and, all_behind}
+use Rattle.shared_hub.proofs.OpeningLemmas.{next_of, all_behind, one_more, none_left}
 use Rattle.shared_hub.proofs.opening.numbered.Goals as goal
 
 -- the next share has the name behind those of the passes
@@ -16,9 +17,12 @@ loop-share-preserved g c =
     let share = c.in-Some.share in
     let is = sym c.loop-share.invariant.0 ∙ ap names_of c.in-Some.ensures.steps.0 in
     let left : All (λ (s : Account). s.entries ≡ []) (share ∷ behind) = rw c.in-Some.ensures.steps.0 at c.loop-share.invariant.1 in
-    let both = all_behind (λ (s : Account). s.entries ≡ []) share behind left in (
-      rw c.in_ok-push.ensures.len (sym (next_of g.J.Desks.names (vec_len c.loop-share.passes) share.name (names_of behind) is).1),
+    let both = all_behind (λ (s : Account). s.entries ≡ []) share behind left in
+    let next = next_of g.J.Desks.names (vec_len c.loop-share.passes) share.name (names_of behind) is in
+    let within : vec_len c.loop-share.passes < length g.J.Desks.names = slice_get_within _ _ _ next.0 in (
+      rw c.in_ok-push.ensures.len (sym next.1),
       both.1,
-      rw c.in_ok-push.ensures.items (all_and (λ p. p.entries ≡ []) c.loop-share.passes.items c.of.result c.loop-share.invariant.2
-          (ap (λ p. p.entries) c.of.ensures ∙ both.0)),
+      rw (c.in_ok-push.ensures.items, c.in_ok-push.ensures.len) (one_more c.loop-share.passes.items c.of.result (vec_len c.loop-share.passes) c.loop-share.invariant.2
+          (rw (c.of.ensures, c.len.ensures, both.0) refl)),
+      rw c.in_ok-push.ensures.len (omega (arith, within)),
     )

@@ -1,6 +1,6 @@
 -- Nothing was read by calls that were interrupted.
 use Rattle.std.specs.Io.KnownBytes.{Keeps}
-use Rattle.session_threads.proofs.stream.read_some.Given as goal
+use Rattle.byte_streams.proofs.reading.read_some.Given as goal
 
 abbrev pub invariant-loop : goal.invariant-loop
 invariant-loop g l = Keeps (g.R.Read.remaining l.initial.reader) (g.R.Read.remaining l.reader)

@@ -1,6 +1,6 @@
 -- Nothing was written by calls that were interrupted.
 use Rattle.std.specs.Io.KnownBytes.{Keeps}
-use Rattle.session_threads.proofs.stream.write_some.Given as goal
+use Rattle.byte_streams.proofs.writing.write_some.Given as goal
 
 abbrev pub invariant-loop : goal.invariant-loop
 invariant-loop g l = Keeps (g.W.Write.contents l.initial.writer) (g.W.Write.contents l.writer)

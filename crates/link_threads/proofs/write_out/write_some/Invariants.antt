@@ -1,6 +1,0 @@
--- Nothing was written by calls that were interrupted.
-use Rattle.std.specs.Io.KnownBytes.{Keeps}
-use Rattle.link_threads.proofs.write_out.write_some.Given as goal
-
-abbrev pub invariant-loop : goal.invariant-loop
-invariant-loop g l = Keeps (g.W.Write.contents l.initial.writer) (g.W.Write.contents l.writer)

@@ -1,0 +1,35 @@
+//! The opening of a hub's file anew.
+ghost use Rattle.std.specs.Prelude.{◌≡◌, ◌⊎◌, ◌↔◌, IfOk, IfErr};
+ghost use Rattle.disk_trait.specs.Looks.{OnlyLooks};
+ghost use Rattle.recovery.specs.Faults.{number_of, failures_of};
+ghost use Rattle.locked_replica.specs.Reopening.{IsReopened};
+
+use crate::hub::Hub;
+use disk_trait::Disk;
+use recovery::OpenFault;
+use std::alloc::Global;
+
+impl<D: Disk> Hub<D> {
+    /// Opens the file anew as it reads now, also where the device failed: a hub that goes on. What was
+    /// applied and isn't in the live root is gone, as after a crash.
+    ///
+    /// Refuses with 1, or with 50 or 52 where the device fails, and hands the disk back: its file can be
+    /// opened again. Costs what `Hub::open` does.
+    pub fn reopen(self, alloc: Global) -> Result<Hub<D>, OpenFault<D>>
+        ensures crash { D.tells self.store.disk
+            → IfOk result (λ hub. IsReopened D.DiskFacts self hub) }
+        ensures fault { D.tells self.store.disk → IfErr result
+            (λ fault. (number_of fault.cause ≡ 1) ⊎ (failures_of fault.cause ≡ 1)) }
+        // It writes nothing.
+        ensures looks { D.tells self.store.disk
+            → IfOk result (λ hub. OnlyLooks D.DiskFacts 0 1 self.store.disk hub.store.disk) }
+        ensures looks_refused { D.tells self.store.disk → IfErr result (λ fault.
+            OnlyLooks D.DiskFacts (failures_of fault.cause) 1 self.store.disk fault.disk) }
+        ensures tells { IfOk result (λ hub. D.tells hub.store.disk ↔ D.tells self.store.disk) }
+        ensures tells_refused { IfErr result
+            (λ fault. D.tells fault.disk ↔ D.tells self.store.disk) }
+    {
+        self.survivors();
+        Hub::open(alloc, self.into_disk())
+    }
+}

@@ -1,0 +1,95 @@
+//! A gate that holds the flusher up until a session was served.
+
+use crate::test_daemons::Talk;
+use shared_hub::{Gate, Point};
+use std::alloc::Global;
+use std::net::{Net, TcpListener, TcpStream};
+use std::rt::Clock;
+use std::sync::{Condvar, Mutex, Wait};
+
+/// How far the flusher is.
+#[derive(Clone, Copy, Debug, PartialEq, Eq)]
+pub enum Held {
+    /// It has made no device call yet.
+    Before,
+    /// It is held up behind its first device call.
+    Now,
+    /// It went on.
+    Behind,
+}
+
+/// A gate that holds the flusher up behind its first device call, until a session of the gate's own
+/// is told what it waits for.
+#[derive(Drop)]
+pub struct AskingGate<'a, R> {
+    rt: &'a R,
+    alloc: Global,
+    /// The sessions' port.
+    port: u16,
+    request: &'static str,
+    answer: &'static str,
+    held: Mutex<Held>,
+    came: Condvar,
+    /// Whether the answer came.
+    is_told: Mutex<bool>,
+}
+
+impl<'a, R: Wait> AskingGate<'a, R> {
+    /// A gate that waits for this answer to a request.
+    pub fn new(
+        rt: &'a R,
+        alloc: Global,
+        port: u16,
+        request: &'static str,
+        answer: &'static str,
+    ) -> AskingGate<'a, R> {
+        AskingGate {
+            rt,
+            alloc,
+            port,
+            request,
+            answer,
+            held: Mutex::new(Held::Before),
+            came: Condvar::new(),
+            is_told: Mutex::new(false),
+        }
+    }
+
+    /// Waits until the flusher is held up, or went on.
+    pub fn wait(&self) {
+        let held = self.held.lock(self.rt);
+        let _held = self
+            .came
+            .wait_while(self.rt, held, |held| *held == Held::Before);
+    }
+
+    /// Whether the answer came that the gate waited for.
+    pub fn is_told(&self) -> bool {
+        *self.is_told.lock(self.rt)
+    }
+
+    /// Notes how far the flusher is, and gives how far it was.
+    fn put(&self, now: Held) -> Held {
+        let mut held = self.held.lock(self.rt);
+        let before = *held;
+        *held = now;
+        drop(held);
+        self.came.notify_all();
+        before
+    }
+}
+
+impl<'a, R: Wait + Clock + Net<Listener = TcpListener, Stream = TcpStream>> Gate
+    for AskingGate<'a, R> {
+    fn pass(&self, point: Point) {
+        if point != Point::DeviceCall || *self.held.lock(self.rt) != Held::Before {
+            return;
+        }
+        self.put(Held::Now);
+        if let Some(mut talk) = Talk::to(self.rt, self.alloc, self.port) {
+            let is_told = talk.comes_to(self.rt, self.request, self.answer);
+            *self.is_told.lock(self.rt) = is_told;
+        }
+        self.put(Held::Behind);
+    }
+}

@@ -1,0 +1,74 @@
+-- What a desk over a hub makes of the lines of a session is one list of calls.
+use Rattle.std.proofs.Common.{◌≡◌, ℕ, Bool, true, false, List, [], ◌∷◌, ◌++◌, ap, inl, inr, Option, Result, Ok, Err}
+use Rattle.disk_trait.specs.declared.facts.DiskFacts.{Ghosts}
+use Rattle.op_model.specs.declared.edit.Edit.{Edit}
+use Rattle.op_model.specs.Machine.{Event, Answer as Reply, edit, ack, ticket, acknowledged, refused}
+use Rattle.locked_replica.specs.Hub.{Parts}
+use Rattle.locked_replica.specs.Run.{Calls}
+use Rattle.session_lines.specs.Saying.{number_of}
+use Rattle.session_lines.specs.declared.command.Command.{Command}
+use Rattle.session_lines.specs.declared.command.Command.TheVariants as command
+use Rattle.session_lines.specs.declared.answer.Answer.{Answer}
+use Rattle.session_lines.specs.declared.answer.Answer.TheVariants.{Edited, Text, Spans, Status, Stopped, Done, Refused}
+use Rattle.session_lines.specs.declared.refusal.Refusal.{Refusal}
+use Rattle.session_threads.specs.Exchanges.{IsAnswered, Exchange, Exchanges}
+use Rattle.session_threads.specs.HeldDesk.{HeldDesk}
+use Rattle.session_threads.specs.HubServing.{session, AnswersEdit, ServesEdit, Serves}
+use Rattle.session_threads.specs.Outcomes.{CutOff}
+use Rattle.session_threads.proofs.CallLemmas.{Calls-append}
+
+module _ {D : Type 0} (facts : Ghosts D) where
+  -- some calls lead from one hub to the other
+  abbrev pub Goes : Parts D → Parts D → Type 0
+  Goes old new = (events : List (Event × Reply)) × Calls facts old events new
+
+  stays : (old new : HeldDesk D) → new ≡ old → Goes old.hub new.hub
+  stays old new same = ([], ap (λ (d : HeldDesk D). d.hub) same)
+
+  edit_goes : (old new : Parts D) (e : Edit) (answer : Answer) → AnswersEdit facts old e answer new → Goes old new
+  edit_goes old new e (Edited rev) it = ((edit session e, ticket it.given) ∷ it.commit ++ (ack it.given, acknowledged true) ∷ [], it.calls)
+  edit_goes old new e (Refused refusal) (inl calls) = ((edit session e, refused (number_of refusal)) ∷ [], calls)
+  edit_goes old new e (Refused refusal) (inr (failed, it)) = ((edit session e, ticket it.given) ∷ it.commit, it.calls)
+  edit_goes old new e (Text rev text) never = absurd never
+  edit_goes old new e (Spans rev spans) never = absurd never
+  edit_goes old new e (Status applied settled s) never = absurd never
+  edit_goes old new e Stopped never = absurd never
+  edit_goes old new e Done never = absurd never
+
+  -- behind a stop the hub isn't asked
+  desk_edit_goes : (hub : Parts D) (stopping : Bool) (new : HeldDesk D) (e : Edit) (answer : Answer)
+      → ServesEdit facts (record { hub = hub; stopping = stopping }) e answer new → Goes hub new.hub
+  desk_edit_goes hub true new e answer (said, same) = stays (record { hub = hub; stopping = true }) new same
+  desk_edit_goes hub false new e answer (answered, goes_on) = edit_goes hub new.hub e answer answered
+
+  command_goes : (old new : HeldDesk D) (c : Command) (answer : Answer) → Serves facts old c answer new → Goes old.hub new.hub
+  command_goes old new (command.Edit e) answer it = desk_edit_goes old.hub old.stopping new e answer it
+  command_goes old new (command.Text doc) answer (said, same) = stays old new same
+  command_goes old new (command.Spans doc) answer (said, same) = stays old new same
+  command_goes old new command.Status answer (said, same) = stays old new same
+  command_goes old new command.Stop answer (is_settled, said, commits, stopping) = (commits.calls.events, commits.calls.calls)
+
+  answer_goes : (old new : HeldDesk D) (taken : Result Command Refusal) (answer : Answer) → IsAnswered (Serves facts) old taken answer new
+      → Goes old.hub new.hub
+  answer_goes old new (Err refusal) answer (said, same) = stays old new same
+  answer_goes old new (Ok c) answer serves = command_goes old new c answer serves
+
+  exchange_goes : (old new : HeldDesk D) (line : Option (List ℕ)) (text : List ℕ) → Exchange (Serves facts) old line text new
+      → Goes old.hub new.hub
+  exchange_goes old new line text it = answer_goes old new it.taken it.answer it.is_answered
+
+  then_goes : (old between new : Parts D) → Goes old between → Goes between new → Goes old new
+  then_goes old between new (es, calls) (fs, later) = (es ++ fs, Calls-append facts old between new es fs calls later)
+
+  pub exchanges_go : (lines : List (Option (List ℕ))) (old new : HeldDesk D) (text : List ℕ) → Exchanges (Serves facts) old lines text new
+      → Goes old.hub new.hub
+  exchanges_go [] old new text (nothing, same) = stays old new same
+  exchanges_go (line ∷ lines) old new text (between, first, rest, one, more, joined) =
+      then_goes old.hub between.hub new.hub (exchange_goes old between line first one) (exchanges_go lines between new rest more)
+
+  pub cut_off_goes : (lines : List (Option (List ℕ))) (old new : HeldDesk D) (written : List ℕ) → CutOff (Serves facts) old lines written new
+      → Goes old.hub new.hub
+  cut_off_goes [] old new written (nothing, same) = stays old new same
+  cut_off_goes (line ∷ []) old new written (text, one, begins) = exchange_goes old new line text one
+  cut_off_goes (line ∷ next ∷ lines) old new written (between, first, rest, one, more, joined) =
+      then_goes old.hub between.hub new.hub (exchange_goes old between line first one) (cut_off_goes (next ∷ lines) between new rest more)
