@@ -1,5 +1,5 @@
 # The commands of the repository. `make test` is the gate.
-.PHONY: run test peritext
+.PHONY: run test peritext demo test-demo
 
 PROGRAM = crates/edit_shell/out/edit_shell
 
@@ -34,3 +34,22 @@ peritext:
 	    { $(SUM) | cmp -s - bin/asked || { echo "the sources changed meanwhile"; exit 1; }; } && \
 	    cp $(PROGRAM) bin/peritext && mv bin/asked bin/sources; \
 	fi
+
+# What the demo and its test run: bin/peritext, which is built only where it isn't there, or another program that PERITEXT names.
+PERITEXT ?= bin/peritext
+HAS_NODE = node -e 'process.exit(parseInt(process.versions.node) < 20 ? 1 : 0)' 2> /dev/null
+HAS_PROGRAM = test "$(PERITEXT)" != bin/peritext || test -x bin/peritext || $(MAKE) peritext
+
+# Where the demo keeps its two files.
+DEMO ?= bin/demo
+
+# A page with two editors, each over a daemon of its own, until Ctrl-C.
+demo:
+	@$(HAS_NODE) || { echo "The demo can't be shown, for there is no node of version 20 or later: apt-get install nodejs (from Debian 13 on)"; exit 1; }
+	@$(HAS_PROGRAM)
+	@PERITEXT="$(PERITEXT)" node clients/web/src/main.js "$(DEMO)"
+
+# The same in a browser without a window. PICTURES=docs takes the pictures of docs/ anew.
+test-demo:
+	@if $(HAS_NODE); then $(HAS_PROGRAM) && PERITEXT="$(PERITEXT)" PICTURES="$(PICTURES)" node clients/web/tests/run.mjs; \
+	else echo "skipped: clients/web, for there is no node of version 20 or later: apt-get install nodejs (from Debian 13 on)"; fi

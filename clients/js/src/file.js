@@ -3,6 +3,7 @@
 import { spawn } from "node:child_process";
 import { randomUUID } from "node:crypto";
 
+import { Lines } from "./lines.js";
 import { Ended, refused } from "./refusals.js";
 import { Session } from "./session.js";
 
@@ -13,7 +14,7 @@ class Child {
   onEnd = () => {};
   #child;
   #said = "";
-  #rest = "";
+  #lines = new Lines();
 
   /**
    * @param {string} program
@@ -28,7 +29,7 @@ class Child {
     child.stderr.setEncoding("utf8").on("data", (chunk) => (this.#said += chunk));
     /** @type {Promise<number | string | null>} */
     this.end = new Promise((resolve) => {
-      child.on("error", (error) => resolve(error.message));
+      child.on("error", (error) => resolve(`${error.message}: build the program with \`make peritext\`, and name it by { program }`));
       child.on("close", resolve);
     });
     this.end.then(() => this.onEnd());
@@ -55,10 +56,7 @@ class Child {
 
   /** @param {string} chunk */
   #take(chunk) {
-    // Only LF ends a line: a text may hold other line ends.
-    const lines = (this.#rest + chunk).split("\n");
-    this.#rest = /** @type {string} */ (lines.pop());
-    for (const line of lines) this.onLine(line);
+    for (const line of this.#lines.take(chunk)) this.onLine(line);
   }
 }
 

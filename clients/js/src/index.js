@@ -1,8 +1,9 @@
 /** Documents of the peritext program, over any transport of lines: what runs in browsers too. */
 
 export { Document } from "./document.js";
+export { Lines } from "./lines.js";
 export { EM, STRONG, comment, link } from "./marks.js";
 export { toIndex, toPlace } from "./places.js";
 export { Reading } from "./reading.js";
-export { Ended, Refused, Stale } from "./refusals.js";
+export { Ended, NoDaemon, Refused, Stale } from "./refusals.js";
 export { Session } from "./session.js";

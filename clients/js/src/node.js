@@ -1,4 +1,5 @@
-/** What `index.js` has, and sessions of a program of one's own. */
+/** What `index.js` has, and sessions of a program of one's own or of a daemon. */
 
 export * from "./index.js";
 export { FileSession, init, open } from "./file.js";
+export { connect } from "./socket.js";

@@ -7,9 +7,10 @@
  */
 
 import { charactersOfSpans, documentOf, isHeld } from "./paragraphs/characters.js";
+import { isMade } from "./paragraphs/made.js";
 import { corrected, moved } from "./paragraphs/moved.js";
 import { applied, editsOf, requestOf, stepsBetween } from "./paragraphs/steps.js";
-import { Stale } from "./refusals.js";
+import { Ended, Stale } from "./refusals.js";
 
 /**
  * @typedef {import("./document.js").Document} Document
@@ -48,6 +49,13 @@ class Binding {
   /** @type {Promise<void> | undefined} */
   #work;
   #pulls = false;
+  /**
+   * Where it goes on.
+   * @type {Document | undefined}
+   */
+  #next;
+  /** Whether the first pending edit may be made already, though nothing was answered. */
+  #unsure = false;
 
   /**
    * @param {Modules} modules
@@ -67,6 +75,22 @@ class Binding {
     this.doc = doc;
     /** The plugin for the editor's state. */
     this.plugin = this.#plugin({ base: doc, rev, pending: [] });
+  }
+
+  /** How many edits aren't answered yet. */
+  get waiting() {
+    return this.#view === undefined ? 0 : this.#known().pending.length;
+  }
+
+  /**
+   * Goes on over another session, where the first one has ended: what was typed meanwhile is sent there.
+   * @param {Document} document the same one
+   */
+  async resume(document) {
+    this.#next = document;
+    // What is under way over the first session fails on its own.
+    await this.#work?.catch(() => {});
+    return this.settled();
   }
 
   /** Reads what others did, and sends what is left to send. */
@@ -139,13 +163,27 @@ class Binding {
     await undefined;
     try {
       while (this.#view !== undefined) {
-        if (this.#known().pending.length > 0) await this.#sendFirst();
+        if (this.#next !== undefined) await this.#goOver(this.#next);
+        else if (this.#known().pending.length > 0) await this.#sendFirst();
         else if (this.#pulls) await this.#read();
         else break;
       }
     } finally {
       this.#work = undefined;
     }
+  }
+
+  /** @param {Document} document */
+  async #goOver(document) {
+    const reading = await document.readSpans();
+    if (this.#view === undefined || this.#next !== document) return;
+    this.#next = undefined;
+    this.#document = document;
+    const { base, rev, pending } = this.#known();
+    const isThere = this.#unsure && isMade(this.#modules, base, pending[0], this.#shown(reading.spans), reading.rev - rev);
+    this.#unsure = false;
+    if (isThere) this.#confirm(reading.rev, reading);
+    this.#take(reading);
   }
 
   async #read() {
@@ -168,6 +206,10 @@ class Binding {
   async #exchange(request, rev) {
     const [edit, reading] = await Promise.allSettled([this.#document.edit(request, rev), this.#document.readSpans()]);
     if (this.#view === undefined) return;
+    if (edit.status === "fulfilled") this.#unsure = false;
+    // One that couldn't be sent leaves open what became of the one before.
+    else if (!(edit.reason instanceof Ended)) this.#unsure = edit.reason.number === 9;
+    else if (edit.reason.wasSent) this.#unsure = true;
     if (edit.status === "fulfilled") this.#confirm(edit.value, reading.status === "fulfilled" ? reading.value : undefined);
     else if (!(edit.reason instanceof Stale)) throw edit.reason;
     if (reading.status === "rejected") throw reading.reason;

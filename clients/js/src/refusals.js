@@ -1,5 +1,42 @@
 /** What the program answers in place of a result. */
 
+const LINE = "the line is no request of docs/PROTOCOL.md; mend what made it";
+const BYTES = "the file isn't what this program wrote: keep a copy, and go on from a peer with a new replica";
+const DEVICE = "look at the disk (is it full?), and open the file again: what was answered is there";
+
+/**
+ * What to do about a refusal, by its number; docs/OPERATING.md says more.
+ * @type {Record<number, string>}
+ */
+const ADVICE = {
+  1: "the system gave no memory; send it again",
+  2: LINE,
+  3: LINE,
+  4: LINE,
+  5: "there is no such place in the text; read it anew",
+  6: "the document has moved on; read it anew, and make the edit for what is there",
+  7: "at most 256 characters in one request; else the file has reached a limit, and can only be read",
+  8: "too much waits, or all places for sessions are taken; try again a little later",
+  9: "the device failed, and the edit may be there or not; end the program, look at the disk, open again",
+  10: "a million steps since opening; end the program and start it again",
+  11: LINE,
+  12: "the program was told to stop; start it again",
+  42: "the file isn't a store, or its making was cut off; make one under another name with init",
+  43: BYTES,
+  45: BYTES,
+  46: BYTES,
+  47: BYTES,
+  48: "something is in the file already; open it, or choose another name",
+  50: DEVICE,
+  51: DEVICE,
+  52: DEVICE,
+  54:
+    "the file isn't there (make it with init), may not be read and written, or another program has it open: " +
+    "where that is a daemon, connect to its port",
+  70: "a port is taken (choose another), or nobody listens where --link points (start that daemon first)",
+  71: "standard input or output failed; look at the other end of the pipe",
+};
+
 /**
  * A request that was refused: its number and its word. Nothing was changed, except where the number is 9: then the
  * device failed, and whether the edit is there is known once the file is opened again.
@@ -10,7 +47,8 @@ export class Refused extends Error {
    * @param {string} word
    */
   constructor(number, word) {
-    super(`${number} ${word}`);
+    const advice = ADVICE[number];
+    super(advice === undefined ? `${number} ${word}` : `${number} ${word}: ${advice}`);
     this.name = new.target.name;
     this.number = number;
     this.word = word;
@@ -22,10 +60,23 @@ export class Stale extends Refused {}
 
 /** The session ended before this request was answered. Whether an edit is there is known once the file is opened again. */
 export class Ended extends Error {
+  /**
+   * @param {string} message
+   * @param {{wasSent?: boolean}} options whether the request was sent before
+   */
+  constructor(message, { wasSent = false } = {}) {
+    super(message);
+    this.name = "Ended";
+    this.wasSent = wasSent;
+  }
+}
+
+/** Nobody listens on the port, or somebody who serves no sessions. */
+export class NoDaemon extends Error {
   /** @param {string} message */
   constructor(message) {
     super(message);
-    this.name = "Ended";
+    this.name = "NoDaemon";
   }
 }
 

@@ -3,6 +3,8 @@
 import { Document } from "./document.js";
 import { Ended, refused } from "./refusals.js";
 
+const UNANSWERED = "the session ended before this request was answered: begin another one, and read what is there";
+
 /**
  * What carries lines to the program and back. A session sets `onLine` and `onEnd`; the transport calls the first with
  * each line that comes, without its end, and the second once no more will come.
@@ -69,6 +71,14 @@ export class Session {
     return settled === applied;
   }
 
+  /**
+   * Has all that was edited settled, and no more edits taken (`Refused`, 12). A daemon ends with that, for all its
+   * sessions and peers.
+   */
+  async stop() {
+    await this.send({ op: "stop" });
+  }
+
   /** Ends the session, once all that was sent is answered. */
   async close() {
     this.#open = false;
@@ -96,7 +106,7 @@ export class Session {
     this.#open = false;
     const left = this.#waiting;
     this.#waiting = [];
-    for (const { reject } of left) reject(new Ended("the session ended before this request was answered"));
+    for (const { reject } of left) reject(new Ended(UNANSWERED, { wasSent: true }));
   }
 }
 

@@ -267,7 +267,7 @@ test("a refusal is told, and what is left is sent again", async () => {
   transport.send = (line) => send.call(transport, line.replace('"insert"', '"sing"'));
   change(view, (tr) => tr.insertText("a", 1));
   await assert.rejects(binding.settled(), { number: 3 });
-  assert.deepEqual(errors, ["3 request"]);
+  assert.deepEqual(errors, ["3 request: the line is no request of docs/PROTOCOL.md; mend what made it"]);
   transport.send = send;
   change(view, (tr) => tr.insertText("b", 2));
   await binding.settled();

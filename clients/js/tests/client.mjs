@@ -53,8 +53,9 @@ test("each kind of mark is given and taken away", async () => {
 
 test("a refusal has its number and word", async () => {
   const document = new Session(new Store().session()).document(1);
-  await assert.rejects(document.insert(1, "x"), { name: "Refused", number: 5, word: "range", message: "5 range" });
+  await assert.rejects(document.insert(1, "x"), { name: "Refused", number: 5, word: "range", message: /^5 range: .*read it anew$/ });
   await assert.rejects(document.insert(0, "\ud800"), { number: 2 });
+  assert.equal(new Refused(99, "odd").message, "99 odd");
   await document.insert(0, "a");
   await assert.rejects(document.insert(0, "b", 0), { name: "Stale", number: 6 });
   await document.insert(0, "c");

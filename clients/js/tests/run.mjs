@@ -22,7 +22,9 @@ const noProgram = program === undefined ? "for PERITEXT names no program" : unde
 const noEditor = hasEditor ? undefined : "for node-prosemirror-state isn't installed";
 run("client");
 run("file", noProgram);
+run("daemon", noProgram);
 run("paragraphs", noEditor);
 run("binding", noEditor);
+run("resume", noEditor);
 run("agreement", noEditor);
 run("examples");

@@ -1,4 +1,4 @@
-"""Documents of the peritext program: open a file, edit, read text and spans.
+"""Documents of the peritext program: open a file or connect to a daemon, edit, read text and spans.
 
 >>> import peritext
 >>> with peritext.open(a_file, program=the_program) as session:
@@ -13,9 +13,10 @@
 [Span(text='The '), Span(text='quick', strong=True), Span(text=' fox')]
 """
 
+from .daemon import connect
 from .document import Document, Reading
 from .marks import EM, STRONG, Comment, Link, Mark, Span
-from .refusals import Ended, Refused, Stale
+from .refusals import Ended, NoDaemon, Refused, Stale
 from .session import Session, init, open
 
 __all__ = [
@@ -25,12 +26,14 @@ __all__ = [
     "Ended",
     "Link",
     "Mark",
+    "NoDaemon",
     "Reading",
     "Refused",
     "STRONG",
     "Session",
     "Span",
     "Stale",
+    "connect",
     "init",
     "open",
 ]

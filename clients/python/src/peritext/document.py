@@ -66,7 +66,8 @@ class Document:
         return self.read().rev
 
     def _edit(self, rev: int | None, **fields: Any) -> int:
-        return self.session.ask(doc=self.number, **fields, **({} if rev is None else {"rev": rev}))["rev"]
+        answer = self.session.ask(doc=self.number, **fields, **({} if rev is None else {"rev": rev}))
+        return int(answer["rev"])
 
     def send_insert(self, at: int, text: str) -> Future[dict[str, Any]]:
         """The same as `insert`, without waiting: many may be under way, and they are made in this order.

@@ -2,13 +2,51 @@
 
 from __future__ import annotations
 
+_LINE = "the line is no request of docs/PROTOCOL.md; mend what made it"
+_BYTES = "the file isn't what this program wrote: keep a copy, and go on from a peer with a new replica"
+_DEVICE = "look at the disk (is it full?), and open the file again: what was answered is there"
+
+# What to do about a refusal, by its number; docs/OPERATING.md says more.
+ADVICE = {
+    1: "the system gave no memory; send it again",
+    2: _LINE,
+    3: _LINE,
+    4: _LINE,
+    5: "there is no such place in the text; read it anew",
+    6: "the document has moved on; read it anew, and make the edit for what is there",
+    7: "at most 256 characters in one request; else the file has reached a limit, and can only be read",
+    8: "too much waits, or all places for sessions are taken; try again a little later",
+    9: "the device failed, and the edit may be there or not; end the program, look at the disk, open again",
+    10: "a million steps since opening; end the program and start it again",
+    11: _LINE,
+    12: "the program was told to stop; start it again",
+    42: "the file isn't a store, or its making was cut off; make one under another name with init",
+    43: _BYTES,
+    45: _BYTES,
+    46: _BYTES,
+    47: _BYTES,
+    48: "something is in the file already; open it, or choose another name",
+    50: _DEVICE,
+    51: _DEVICE,
+    52: _DEVICE,
+    54: "the file isn't there (make it with init), may not be read and written, or another program has it open: "
+    "where that is a daemon, connect to its port",
+    70: "a port is taken (choose another), or nobody listens where --link points (start that daemon first)",
+    71: "standard input or output failed; look at the other end of the pipe",
+}
+
 
 class Refused(Exception):
     """A request that was refused: its number and its word. Nothing was changed, except where the number is 9: then the device failed, and
-    whether the edit is there is known once the file is opened again."""
+    whether the edit is there is known once the file is opened again.
+
+    >>> str(Refused(5, "range"))
+    '5 range: there is no such place in the text; read it anew'
+    """
 
     def __init__(self, number: int, word: str) -> None:
-        super().__init__(f"{number} {word}")
+        advice = ADVICE.get(number)
+        super().__init__(f"{number} {word}: {advice}" if advice else f"{number} {word}")
         self.number = number
         self.word = word
 
@@ -19,6 +57,10 @@ class Stale(Refused):
 
 class Ended(Exception):
     """The session ended before this request was answered. Whether an edit is there is known once the file is opened again."""
+
+
+class NoDaemon(ConnectionError):
+    """Nobody listens on the port, or somebody who serves no sessions."""
 
 
 def refused(number: int, word: str) -> Refused:

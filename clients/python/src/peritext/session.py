@@ -2,6 +2,7 @@
 
 from __future__ import annotations
 
+import errno
 import json
 import os
 import subprocess
@@ -66,15 +67,23 @@ class Session:
         status = self.ask(op="status")
         return bool(status["settled"] == status["applied"])
 
+    def stop(self) -> None:
+        """Has all that was edited settled, and no more edits taken (`Refused`, 12). A daemon ends with that, for all its sessions and peers."""
+        self.ask(op="stop")
+
     def close(self) -> None:
         """Ends the session, once all that was sent is answered."""
         with self._writing:
             try:
-                self._requests.close()
+                self._end_requests()
             except OSError:
                 pass
         self._reader.join()
         self._answers.close()
+
+    def _end_requests(self) -> None:
+        """Says that no more is sent."""
+        self._requests.close()
 
     def __enter__(self) -> Session:
         return self
@@ -95,7 +104,7 @@ class Session:
             self._ended = True
             left, self._waiting = self._waiting, deque()
         for answer in left:
-            answer.set_exception(Ended("the session ended before this request was answered"))
+            answer.set_exception(Ended("the session ended before this request was answered: begin another one, and read what is there"))
 
     @staticmethod
     def _give(answer: Future[dict[str, Any]], told: dict[str, Any]) -> None:
@@ -109,7 +118,7 @@ class FileSession(Session):
     """A session of a program of its own, which holds the file alone."""
 
     def __init__(self, program: Path, file: Path) -> None:
-        self._program = subprocess.Popen([program, "edit", file], stdin=subprocess.PIPE, stdout=subprocess.PIPE, stderr=subprocess.PIPE)
+        self._program = started(program, "edit", file)
         assert self._program.stdin and self._program.stdout
         super().__init__(self._program.stdin, self._program.stdout)
 
@@ -120,6 +129,14 @@ class FileSession(Session):
         said = self._program.stderr.read().decode(errors="replace")
         self._program.stderr.close()
         check(self._program.wait(), said)
+
+
+def started(program: Path, *words: Path) -> subprocess.Popen[bytes]:
+    """The program, running."""
+    try:
+        return subprocess.Popen([program, *words], stdin=subprocess.PIPE, stdout=subprocess.PIPE, stderr=subprocess.PIPE)
+    except FileNotFoundError:
+        raise FileNotFoundError(errno.ENOENT, "no such program; build it with `make peritext`, and name it by program=", program) from None
 
 
 def check(status: int, said: str) -> None:
@@ -135,8 +152,9 @@ def check(status: int, said: str) -> None:
 def init(file: Path, replica: UUID | None = None, program: Path = "peritext") -> UUID:
     """Makes the file of a new replica, with an id that nobody else has, and gives that id."""
     replica = replica or uuid4()
-    done = subprocess.run([program, "init", file, "--replica", str(replica)], stdout=subprocess.DEVNULL, stderr=subprocess.PIPE, check=False)
-    check(done.returncode, done.stderr.decode(errors="replace"))
+    program_run = started(program, "init", file, "--replica", str(replica))
+    _, said = program_run.communicate()
+    check(program_run.returncode, said.decode(errors="replace"))
     return replica
 
 

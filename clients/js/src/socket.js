@@ -1,0 +1,85 @@
+/** Sessions of a daemon, for Node: `peritext serve` has a file open for many programs at once. */
+
+import { createConnection } from "node:net";
+
+import { Lines } from "./lines.js";
+import { Ended, NoDaemon } from "./refusals.js";
+import { Session } from "./session.js";
+
+/** A daemon listens on this machine alone. */
+const HOST = "127.0.0.1";
+
+/** Milliseconds until somebody who listens has to answer. */
+const PATIENCE = 10_000;
+
+/** The lines of a connection. */
+class Connection {
+  /** @type {(line: string) => void} */
+  onLine = () => {};
+  onEnd = () => {};
+  /**
+   * Why there is no connection.
+   * @type {string | undefined}
+   */
+  fault;
+  #socket;
+
+  /** @param {number} port */
+  constructor(port) {
+    // A request is small, and waits for nothing; behind the last one the answers still come.
+    const socket = createConnection({ host: HOST, port, noDelay: true, allowHalfOpen: true });
+    const lines = new Lines();
+    this.#socket = socket;
+    socket.setEncoding("utf8").on("data", (/** @type {string} */ part) => {
+      for (const line of lines.take(part)) this.onLine(line);
+    });
+    socket.on("end", () => socket.end());
+    socket.on("error", (error) => (this.fault = error.message));
+    socket.on("close", () => this.onEnd());
+  }
+
+  /** @param {string} line */
+  send(line) {
+    this.#socket.write(`${line}\n`);
+  }
+
+  close() {
+    this.#socket.end();
+  }
+
+  abandon() {
+    this.#socket.destroy();
+  }
+}
+
+/**
+ * A session of the daemon whose `--sessions` port this is. `NoDaemon` where there is none; `Refused` with the number 8
+ * where all 32 places are taken.
+ * @param {number} port
+ * @param {{patience?: number}} options milliseconds until somebody who listens has to answer
+ */
+export async function connect(port, { patience = PATIENCE } = {}) {
+  const connection = new Connection(port);
+  const session = new Session(connection);
+  const timer = setTimeout(() => connection.abandon(), patience);
+  try {
+    // A daemon without a place for this session says so in place of the answer.
+    await session.send({ op: "status" });
+  } catch (error) {
+    connection.abandon();
+    throw error instanceof Ended ? noDaemon(port, connection.fault) : error;
+  } finally {
+    clearTimeout(timer);
+  }
+  return session;
+}
+
+/**
+ * @param {number} port
+ * @param {string | undefined} fault
+ */
+function noDaemon(port, fault) {
+  return fault === undefined
+    ? new NoDaemon(`no session is served on port ${port}: name the port behind --sessions, not that behind --peers`)
+    : new NoDaemon(`nobody listens on port ${port} (${fault}): start \`peritext serve FILE --sessions ${port} --peers PORT\``);
+}

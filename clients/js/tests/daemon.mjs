@@ -1,0 +1,127 @@
+// Sessions over a daemon of the real program, which PERITEXT names.
+
+import assert from "node:assert/strict";
+import { spawn } from "node:child_process";
+import { once } from "node:events";
+import { readFileSync } from "node:fs";
+import { connect as connectTo, createServer } from "node:net";
+import { resolve } from "node:path";
+import { test } from "node:test";
+
+import { Ended, NoDaemon, STRONG, Stale, connect, init, open } from "peritext";
+
+import { withFile } from "./support.mjs";
+
+const program = resolve(process.env.PERITEXT ?? "bin/peritext");
+const SESSIONS = 32;
+
+/** A port on which nobody listens now. */
+async function freePort() {
+  const server = createServer().listen(0, "127.0.0.1");
+  await once(server, "listening");
+  const { port } = server.address();
+  await new Promise((done) => server.close(done));
+  return port;
+}
+
+async function isHeard(port) {
+  const socket = connectTo(port, "127.0.0.1");
+  const heard = await once(socket, "connect").then(() => true, () => false);
+  socket.destroy();
+  return heard;
+}
+
+async function start(file) {
+  const [port, peers] = [await freePort(), await freePort()];
+  const child = spawn(program, ["serve", file, "--sessions", port, "--peers", peers], { stdio: "ignore" });
+  const ended = once(child, "exit");
+  while (!(await isHeard(port))) await new Promise((done) => setTimeout(done, 20));
+  const kill = async () => {
+    child.kill("SIGKILL");
+    await ended;
+  };
+  return { port, peers, ended, kill };
+}
+
+function withDaemon(work) {
+  return withFile(async (file) => {
+    await init(file, { program });
+    const daemon = await start(file);
+    try {
+      await work(daemon, file);
+    } finally {
+      await daemon.kill();
+    }
+  });
+}
+
+test("two sessions see each other", () =>
+  withDaemon(async ({ port }) => {
+    const [one, other] = [await connect(port), await connect(port)];
+    await one.document(1).insert(0, "The quick 🦊");
+    const reading = await one.document(1).read();
+    await other.document(1).mark(4, 9, STRONG);
+    await assert.rejects(reading.insert(0, "x"), Stale);
+    assert.deepEqual(await one.document(1).spans(), [{ text: "The " }, { strong: true, text: "quick" }, { text: " 🦊" }]);
+    await one.close();
+    await other.close();
+  }));
+
+test("many under way are answered in order, and before the close", () =>
+  withDaemon(async ({ port }) => {
+    const session = await connect(port);
+    const places = [...Array(100).keys()];
+    const answers = places.map((place) => session.document(1).insert(place, "x"));
+    await session.close();
+    assert.deepEqual(await Promise.all(answers), places.map((place) => place + 1));
+    await assert.rejects(session.document(1).text(), Ended);
+  }));
+
+test("the 33rd session is refused", () =>
+  withDaemon(async ({ port }) => {
+    const held = await Promise.all([...Array(SESSIONS)].map(() => connect(port)));
+    for (let again = 0; again < 5; again += 1) await assert.rejects(connect(port), { number: 8, word: "busy" });
+    await assert.rejects(held[0].document(1).insert(1, "x"), { number: 5 });
+    await Promise.all(held.map((session) => session.close()));
+  }));
+
+test("a kill ends all that waits, and stop ends the daemon", () =>
+  withDaemon(async (daemon, file) => {
+    const session = await connect(daemon.port);
+    assert.equal(await session.document(1).insert(0, "x"), 1);
+    const waits = Promise.allSettled([...Array(20)].map(() => session.document(1).insert(0, "y")));
+    await daemon.kill();
+    const ends = await waits;
+    assert(ends.every(({ status, reason }) => status === "fulfilled" || reason instanceof Ended));
+    const again = await start(file);
+    const other = await connect(again.port);
+    const { length } = await other.document(1).text();
+    assert(length > ends.filter(({ status }) => status === "fulfilled").length);
+    await other.stop();
+    assert.deepEqual(await again.ended, [0, null]);
+    await other.close();
+  }));
+
+test("the example of the page is so", () =>
+  withDaemon(async ({ port }) => {
+    const page = readFileSync(new URL("../README.md", import.meta.url), "utf8");
+    const [[, code], ...more] = page.matchAll(/^```javascript\nimport \{ connect \} from "peritext";\n(.*?)^```$/gms);
+    assert.equal(more.length, 0);
+    const AsyncFunction = (async () => {}).constructor;
+    const printed = [];
+    await new AsyncFunction("connect", "console", code.replace("7001", port))(connect, { log: (text) => printed.push(text) });
+    assert.deepEqual(printed, ["The quick fox"]);
+  }));
+
+test("where there is no daemon it is said what to do", () =>
+  withDaemon(async ({ port, peers }, file) => {
+    const free = await freePort();
+    await assert.rejects(connect(free), (error) => error instanceof NoDaemon && error.message.includes(`serve FILE --sessions ${free}`));
+    await assert.rejects(connect(peers), (error) => error instanceof NoDaemon && error.message.includes("not that behind --peers"));
+    await assert.rejects(open(file, { program }), { number: 54, message: /connect to its port/ });
+    const silent = createServer().listen(0, "127.0.0.1");
+    await once(silent, "listening");
+    await assert.rejects(connect(silent.address().port, { patience: 200 }), NoDaemon);
+    silent.close();
+    await (await connect(port)).close();
+  }));

@@ -1,0 +1,119 @@
+"""Sessions of a program of their own, over a file."""
+
+import doctest
+import os
+import signal
+import threading
+from uuid import UUID
+
+import peritext
+from peritext import document, session
+from support import PROGRAM, WithFile
+
+
+class Edits(WithFile):
+    def test_marks_are_read_as_spans(self):
+        comment = UUID(int=7)
+        with self.open() as opened:
+            text = opened.document(1)
+            self.assertEqual(text.insert(0, "abcdef"), 6)
+            text.mark(0, 3, peritext.STRONG)
+            text.mark(2, 4, peritext.EM)
+            text.mark(2, 4, peritext.Comment(comment))
+            text.mark(4, 6, peritext.Link("u"))
+            text.unmark(0, 1, peritext.STRONG)
+            text.unmark(5, 6, peritext.Link())
+            self.assertEqual(
+                text.spans(),
+                [
+                    peritext.Span("a"),
+                    peritext.Span("b", strong=True),
+                    peritext.Span("c", strong=True, em=True, comments=(comment,)),
+                    peritext.Span("d", em=True, comments=(comment,)),
+                    peritext.Span("e", link="u"),
+                    peritext.Span("f"),
+                ],
+            )
+            self.assertTrue(opened.settled())
+
+    def test_characters_are_code_points(self):
+        with self.open() as opened:
+            text = opened.document(4_294_967_295)
+            text.insert(0, "ä😀\n\"\\ü")
+            text.delete(1, 1)
+            self.assertEqual(text.text(), "ä\n\"\\ü")
+
+    def test_what_was_answered_is_there_after_a_kill(self):
+        opened = self.open()
+        for place in range(20):
+            opened.document(1).insert(place, "x")
+        os.kill(opened._program.pid, signal.SIGKILL)
+        with self.assertRaises(peritext.Ended):
+            opened.document(1).insert(0, "y")
+        with self.assertRaises(peritext.Ended):
+            opened.close()
+        with self.open() as again:
+            self.assertEqual(again.document(1).text(), "x" * 20)
+
+
+class Refusals(WithFile):
+    def test_refusals_have_number_and_word(self):
+        with self.open() as opened:
+            text = opened.document(1)
+            rev = text.insert(0, "ab")
+            self.assertEqual(self.refusal(text.insert, 3, "x"), (5, "range"))
+            self.assertEqual(self.refusal(text.insert, 0, "x" * 257), (7, "limit"))
+            self.assertEqual(self.refusal(text.insert, 0, ""), (4, "field"))
+            self.assertEqual(self.refusal(opened.ask, op="sing"), (3, "request"))
+            text.insert(0, "c", rev)
+            with self.assertRaises(peritext.Stale):
+                text.insert(0, "d", rev)
+
+    def test_a_file_is_held_by_one_session(self):
+        with self.open():
+            self.assertEqual(self.refusal(self.open), (54, "open failed"))
+
+    def test_no_store_is_no_session(self):
+        with open(self.name, "wb") as file:
+            file.write(bytes(8_192))
+        self.assertEqual(self.refusal(self.open), (42, "no root"))
+        self.assertEqual(self.refusal(peritext.init, self.name, program=PROGRAM), (48, "not empty"))
+
+
+class ManyAtOnce(WithFile):
+    def test_requests_under_way_are_made_in_order(self):
+        with self.open() as opened:
+            text = opened.document(1)
+            under_way = [text.send_insert(place, "abcdefghij"[place % 10]) for place in range(2_000)]
+            self.assertEqual([edit.result()["rev"] for edit in under_way], list(range(1, 2_001)))
+            self.assertEqual(text.text(), "abcdefghij" * 200)
+
+    def test_threads_share_a_session(self):
+        with self.open() as opened:
+
+            def type_some(letter):
+                for _ in range(50):
+                    opened.document(1).insert(0, letter)
+
+            threads = [threading.Thread(target=type_some, args=(letter,)) for letter in "abcdefgh"]
+            for thread in threads:
+                thread.start()
+            for thread in threads:
+                thread.join()
+            self.assertEqual(sorted(opened.document(1).text()), sorted("abcdefgh" * 50))
+
+    def test_a_closed_session_takes_nothing(self):
+        opened = self.open()
+        opened.close()
+        with self.assertRaises(peritext.Ended):
+            opened.document(1).text()
+
+
+class Examples(WithFile):
+    def test_the_examples_of_the_docs_are_so(self):
+        with self.open() as opened:
+            names = {"document": opened.document(9)}
+            results = [doctest.testmod(module, extraglobs=names) for module in (document, session)]
+        results.append(doctest.testmod(peritext, extraglobs={"a_file": self.name, "the_program": PROGRAM}))
+        self.assertEqual([result.failed for result in results], [0, 0, 0])
+        self.assertGreater(sum(result.attempted for result in results), 6)

@@ -1,0 +1,80 @@
+"""What the tests share: the client, the program, files and daemons that are gone afterwards."""
+
+import os
+import signal
+import socket
+import subprocess
+import tempfile
+import time
+import unittest
+
+import peritext
+
+CLIENT = os.path.dirname(os.path.dirname(os.path.abspath(__file__)))
+PROGRAM = os.path.abspath(os.environ.get("PERITEXT", "bin/peritext"))
+# Seconds until something that is due has to have come.
+PATIENCE = 20
+
+
+class WithFile(unittest.TestCase):
+    def setUp(self):
+        self.room = tempfile.TemporaryDirectory()
+        self.addCleanup(self.room.cleanup)
+        self.name = os.path.join(self.room.name, "store")
+        peritext.init(self.name, program=PROGRAM)
+
+    def open(self):
+        return peritext.open(self.name, program=PROGRAM)
+
+    def refusal(self, call, *words, **fields):
+        with self.assertRaises(peritext.Refused) as caught:
+            call(*words, **fields)
+        return caught.exception.number, caught.exception.word
+
+
+class WithDaemon(WithFile):
+    def setUp(self):
+        super().setUp()
+        self.daemon = Daemon(self.name)
+        self.addCleanup(self.daemon.kill)
+
+    def connect(self):
+        session = peritext.connect(self.daemon.port)
+        self.addCleanup(session.close)
+        return session
+
+
+class Daemon:
+    """A program that serves a file."""
+
+    def __init__(self, name, port=None):
+        self.port = port or free_port()
+        words = [PROGRAM, "serve", name, "--sessions", str(self.port), "--peers", str(free_port())]
+        self.run = subprocess.Popen(words, stdin=subprocess.DEVNULL, stdout=subprocess.DEVNULL, stderr=subprocess.PIPE)
+        until = time.monotonic() + PATIENCE
+        while self.run.poll() is None and not is_heard(self.port) and time.monotonic() < until:
+            time.sleep(0.01)
+
+    def kill(self):
+        if self.run.poll() is None:
+            self.run.send_signal(signal.SIGKILL)
+        return self.ended()
+
+    def ended(self):
+        """Exit status, and standard error, once it has ended."""
+        _, said = self.run.communicate(timeout=PATIENCE)
+        return self.run.returncode, said.decode() if said else ""
+
+
+def free_port():
+    """A port on which nobody listens now."""
+    with socket.create_server(("127.0.0.1", 0)) as server:
+        return server.getsockname()[1]
+
+
+def is_heard(port):
+    try:
+        socket.create_connection(("127.0.0.1", port), timeout=PATIENCE).close()
+    except OSError:
+        return False
+    return True

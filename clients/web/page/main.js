@@ -1,0 +1,43 @@
+/** The page: two peers side by side, and the link between them. */
+
+import { Controls } from "./controls.js";
+import { Peer } from "./peer.js";
+
+const NAMES = ["alice", "bob"];
+
+/** Each character with its marks, as a text. An editor has comments on one character in the order in which they came; here that doesn't matter. */
+function shown(doc) {
+  const characters = [];
+  doc?.descendants(({ isText, text, marks }) => {
+    const names = marks.map((mark) => JSON.stringify(mark)).sort();
+    if (isText) for (const character of text) characters.push([character, ...names]);
+    else characters.push([]);
+  });
+  return JSON.stringify(characters);
+}
+
+function showSameness() {
+  const docs = peers.map(({ doc }) => doc);
+  const isSame = docs.length === NAMES.length && docs.every((doc) => doc !== undefined && shown(doc) === shown(docs[0]));
+  const place = document.querySelector("#same");
+  place.dataset.same = isSame;
+  place.textContent = isSame ? "both show the same" : "they differ";
+}
+
+const peers = [];
+const template = document.querySelector("#peer");
+const cards = new Map();
+for (const name of NAMES) {
+  const card = template.content.cloneNode(true).firstElementChild;
+  card.id = name;
+  document.querySelector("main").append(card);
+  cards.set(name, card);
+}
+
+for (const [name, card] of cards) peers.push(new Peer(name, card, showSameness));
+new Controls(cards);
+
+// What waits is in this page alone, and would go with it.
+addEventListener("beforeunload", (event) => {
+  if (peers.some(({ waiting }) => waiting > 0)) event.preventDefault();
+});

@@ -1,0 +1,160 @@
+// The demo and its page in a browser, with what a person does there.
+
+import { mkdtempSync, rmSync } from "node:fs";
+import { tmpdir } from "node:os";
+import { join, resolve } from "node:path";
+
+import { connect } from "../../js/src/node.js";
+import { Demo } from "../src/demo.js";
+import { Browser } from "./webdriver.mjs";
+
+export const PROGRAM = resolve(process.env.PERITEXT || "bin/peritext");
+
+/** Runs a test over a new demo, which is gone afterwards. */
+export async function withPage(test) {
+  const folder = mkdtempSync(join(tmpdir(), "peritext-demo-"));
+  const demo = new Demo(PROGRAM, folder);
+  try {
+    const address = await demo.start();
+    const browser = await Browser.start();
+    const page = new Page(browser, demo, address);
+    try {
+      await browser.open(address);
+      await page.isRead();
+      await test(page);
+    } catch (error) {
+      error.message += `\nThe page: ${await browser.run(() => document.body.innerText).catch(() => "is gone")}`;
+      throw error;
+    } finally {
+      await browser.close();
+    }
+  } finally {
+    await demo.stop();
+    rmSync(folder, { recursive: true });
+  }
+}
+
+export class Page {
+  constructor(browser, demo, address) {
+    Object.assign(this, { browser, demo, address });
+  }
+
+  /** Waits until both editors are there. */
+  isRead() {
+    return this.browser.until(() => document.querySelectorAll(".ProseMirror").length === 2);
+  }
+
+  /** Puts the caret at the end of an editor. */
+  async goTo(name) {
+    await this.browser.run((id) => {
+      const editor = document.querySelector(`#${id} .ProseMirror`);
+      editor.focus();
+      getSelection().selectAllChildren(editor.lastElementChild);
+      getSelection().collapseToEnd();
+    }, name);
+    await pause(60);
+  }
+
+  /** Selects a text within one text node of an editor. */
+  async select(name, text) {
+    await this.browser.run(
+      (id, wanted) => {
+        const editor = document.querySelector(`#${id} .ProseMirror`);
+        editor.focus();
+        const walker = document.createTreeWalker(editor, NodeFilter.SHOW_TEXT);
+        while (walker.nextNode()) {
+          const at = walker.currentNode.data.indexOf(wanted);
+          if (at >= 0) return getSelection().setBaseAndExtent(walker.currentNode, at, walker.currentNode, at + wanted.length);
+        }
+        throw new Error(`there is no ${wanted}`);
+      },
+      name,
+      text,
+    );
+    await pause(60);
+  }
+
+  press(name, what) {
+    return this.browser.click(`#${name} [data-do="${what}"]`);
+  }
+
+  /** Kills the daemon of a peer, or starts it. */
+  power(name) {
+    return this.browser.click(`#${name} .power`);
+  }
+
+  async type(name, text) {
+    await this.goTo(name);
+    await this.browser.keys(text);
+  }
+
+  paste(name, text, type = "text/plain") {
+    return this.browser.run(
+      (id, pasted, as) => {
+        const clipboardData = new DataTransfer();
+        clipboardData.setData(as, pasted);
+        const paste = new ClipboardEvent("paste", { clipboardData, bubbles: true, cancelable: true });
+        document.querySelector(`#${id} .ProseMirror`).dispatchEvent(paste);
+      },
+      name,
+      text,
+      type,
+    );
+  }
+
+  /** What an editor shows, a line for each paragraph. */
+  text(name) {
+    return this.browser.run((id) => [...document.querySelectorAll(`#${id} .ProseMirror p`)].map((p) => p.textContent).join("\n"), name);
+  }
+
+  html(name) {
+    return this.browser.run((id) => document.querySelector(`#${id} .ProseMirror`).innerHTML, name);
+  }
+
+  /** Waits until an editor shows a text. */
+  shows(name, text) {
+    return this.browser.until(
+      (id, wanted) => [...document.querySelectorAll(`#${id} .ProseMirror p`)].map((p) => p.textContent).join("\n") === wanted,
+      name,
+      text,
+    );
+  }
+
+  /** Waits until both show the same and nothing waits. */
+  agrees() {
+    return this.browser.until(
+      () =>
+        document.querySelector("#same").dataset.same === "true" &&
+        [...document.querySelectorAll(".saved")].every((saved) => saved.dataset.state === "saved"),
+    );
+  }
+
+  link(state) {
+    return this.browser.until((wanted) => document.querySelector("#link").dataset.state === wanted, state);
+  }
+
+  daemonIs(name, state) {
+    return this.browser.until((id, wanted) => document.querySelector(`#${id} .daemon`).dataset.state === wanted, name, state);
+  }
+
+  savedIs(name, state) {
+    return this.browser.until((id, wanted) => document.querySelector(`#${id} .saved`).dataset.state === wanted, name, state);
+  }
+
+  /** A session of one's own at the daemon of a peer. */
+  session(name) {
+    return connect(this.demo.daemon(name).ports.sessions);
+  }
+
+  /** What the daemon of a peer has. */
+  async spans(name) {
+    const session = await this.session(name);
+    const spans = await session.document(1).spans();
+    await session.close();
+    return spans;
+  }
+}
+
+export function pause(milliseconds) {
+  return new Promise((done) => setTimeout(done, milliseconds));
+}

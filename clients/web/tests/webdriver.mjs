@@ -1,0 +1,146 @@
+// A browser without a window, by WebDriver: Debian's chromium and chromium-driver.
+
+import { spawn, spawnSync } from "node:child_process";
+import { mkdtempSync, rmSync } from "node:fs";
+import { tmpdir } from "node:os";
+import { join } from "node:path";
+
+const ELEMENT = "element-6066-11e4-a52e-4f735466cecf";
+
+/** Milliseconds until something that is due has to have come. */
+const PATIENCE = 20_000;
+
+/** What is missing, in words that say what to do; or nothing. */
+export function missingBrowser() {
+  const isThere = (program) => spawnSync(program, ["--version"], { stdio: "ignore" }).error === undefined;
+  const names = ["chromium", "chromedriver"].filter((program) => !isThere(program));
+  return names.length === 0 ? undefined : `for there is no ${names.join(" and no ")}: apt-get install chromium chromium-driver`;
+}
+
+export class Browser {
+  #driver;
+  #profile;
+  #base;
+
+  /** Starts a browser that reaches this machine alone. */
+  static async start({ width = 1100, height = 700 } = {}) {
+    const browser = new Browser();
+    await browser.#startDriver();
+    await browser.#startSession(width, height);
+    return browser;
+  }
+
+  async close() {
+    await this.#ask("DELETE", "").catch(() => {});
+    this.#driver.kill();
+    rmSync(this.#profile, { recursive: true, force: true, maxRetries: 10, retryDelay: 100 });
+  }
+
+  open(url) {
+    return this.#ask("POST", "/url", { url });
+  }
+
+  reload() {
+    return this.#ask("POST", "/refresh", {});
+  }
+
+  /** What a function gives in the page. It is sent as text. */
+  run(work, ...args) {
+    return this.#ask("POST", "/execute/sync", { script: `return (${work})(...arguments)`, args });
+  }
+
+  async click(selector) {
+    await this.#ask("POST", `/element/${await this.#find(selector)}/click`, {});
+  }
+
+  /** Types keys where the focus is, with Control held where it is said. */
+  async keys(text, { control = false } = {}) {
+    const strokes = [...text].flatMap((value) => [{ type: "keyDown", value }, { type: "keyUp", value }]);
+    const held = control ? [{ type: "keyDown", value: "\uE009" }, ...strokes, { type: "keyUp", value: "\uE009" }] : strokes;
+    await this.#ask("POST", "/actions", { actions: [{ type: "key", id: "keys", actions: held }] });
+  }
+
+  /** Puts a text in at once, as an input method or a list of emoji does. */
+  put(text) {
+    return this.#command("Input.insertText", { text });
+  }
+
+  /** Composes a word, as an input method does; `put` ends it. */
+  compose(text) {
+    return this.#command("Input.imeSetComposition", { text, selectionStart: text.length, selectionEnd: text.length });
+  }
+
+  #command(cmd, params) {
+    return this.#ask("POST", "/goog/cdp/execute", { cmd, params });
+  }
+
+  /** The page as a picture. */
+  async picture() {
+    return Buffer.from(await this.#ask("GET", "/screenshot"), "base64");
+  }
+
+  /** What the page complained of since the last time. */
+  async complaints() {
+    const entries = await this.#ask("POST", "/se/log", { type: "browser" });
+    return entries.filter(({ level }) => level === "SEVERE").map(({ message }) => message);
+  }
+
+  /** Waits until a function gives something true in the page. */
+  async until(work, ...args) {
+    const end = Date.now() + PATIENCE;
+    for (;;) {
+      const found = await this.run(work, ...args);
+      if (found) return found;
+      if (Date.now() > end) throw new Error(`in vain was waited for ${work}(${args.map((arg) => JSON.stringify(arg))})`);
+      await new Promise((done) => setTimeout(done, 50));
+    }
+  }
+
+  async #find(selector) {
+    return (await this.#ask("POST", "/element", { using: "css selector", value: selector }))[ELEMENT];
+  }
+
+  async #startDriver() {
+    this.#driver = spawn("chromedriver", ["--port=0"], { stdio: ["ignore", "pipe", "ignore"] });
+    let said = "";
+    const port = await new Promise((resolve, reject) => {
+      this.#driver.on("exit", () => reject(new Error(`chromedriver ended: ${said}`)));
+      this.#driver.stdout.setEncoding("utf8").on("data", (part) => {
+        said += part;
+        const [, found] = /started successfully on port (\d+)/.exec(said) ?? [];
+        if (found) resolve(found);
+      });
+    });
+    this.#base = `http://127.0.0.1:${port}/session`;
+  }
+
+  async #startSession(width, height) {
+    this.#profile = mkdtempSync(join(tmpdir(), "peritext-browser-"));
+    const words = [
+      "--headless=new",
+      `--window-size=${width},${height}`,
+      `--user-data-dir=${this.#profile}`,
+      "--disable-dev-shm-usage",
+      "--disable-gpu",
+      "--hide-scrollbars",
+      "--no-first-run",
+      "--disable-background-networking",
+      "--disable-component-update",
+      "--disable-sync",
+      "--host-resolver-rules=MAP * ~NOTFOUND, EXCLUDE 127.0.0.1",
+    ];
+    // Its sandbox isn't for root.
+    if (process.getuid() === 0) words.push("--no-sandbox");
+    const wanted = { browserName: "chrome", "goog:chromeOptions": { args: words }, "goog:loggingPrefs": { browser: "ALL" } };
+    const capabilities = { alwaysMatch: { ...wanted, unhandledPromptBehavior: "accept" } };
+    const { sessionId } = await this.#ask("POST", "", { capabilities });
+    this.#base += `/${sessionId}`;
+  }
+
+  async #ask(method, path, body) {
+    const response = await fetch(this.#base + path, { method, body: body && JSON.stringify(body) });
+    const { value } = await response.json();
+    if (!response.ok) throw new Error(`${value.error}: ${value.message}`);
+    return value;
+  }
+}
