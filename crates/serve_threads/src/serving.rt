@@ -35,7 +35,7 @@ pub struct Served<D: Disk> {
     pub disk: D,
     /// Whether the device failed, so that the file must be opened again.
     pub has_failed: bool,
-    /// Whether there was memory to begin with.
+    /// Whether there was memory to begin with, that of its threads included.
     pub has_begun: bool,
 }
 
@@ -85,21 +85,29 @@ fn serve_named<
     let Ok(hall) = Hall::new(alloc, own, named) else {
         return without_memory(flusher);
     };
-    run(rt, alloc, &hall, &mut flusher, sockets, gate);
+    let has_begun = run(rt, alloc, &hall, &mut flusher, sockets, gate);
     Served {
         has_failed: flusher.has_failed(),
-        has_begun: true,
+        has_begun,
         disk: flusher.into_disk(),
     }
 }
 
-/// Starts the threads, waits until one asks to end, and ends them all.
+/// Starts the threads, waits until one asks to end, and ends them all. Answers whether all could be
+/// started; where not, they end at once.
 fn run<
     J: Desks + Send + Sync,
     D: Disk + Drop + Send,
     R: Wait + Clock + Threads + Net<Listener = TcpListener, Stream = TcpStream> + Sync,
     G: Gate + Sync,
->(rt: &R, alloc: Global, hall: &Hall<J>, flusher: &mut Flusher<D>, sockets: Sockets, gate: &G) {
+>(
+    rt: &R,
+    alloc: Global,
+    hall: &Hall<J>,
+    flusher: &mut Flusher<D>,
+    sockets: Sockets,
+    gate: &G,
+) -> bool {
     let Sockets {
         sessions,
         peers,
@@ -126,14 +134,16 @@ fn run<
             hall.ending.wait(rt);
             end_all(rt, hall, sessions, peers);
         });
+        let has_begun = at_sessions.is_ok() && at_peers.is_ok() && joining && ending.is_ok();
         if ending.is_err() {
             end_all(rt, hall, sessions, peers);
-        } else if at_sessions.is_err() || at_peers.is_err() || !joining {
+        } else if !has_begun {
             hall.ending.ask(rt);
         }
         // This thread is the flusher's.
         flush(rt, &hall.shared, flusher, gate);
-    });
+        has_begun
+    })
 }
 
 /// Ends all threads: nobody is let in any more, and those that are connected have a second.

@@ -74,10 +74,10 @@ fn count_right<R: Net<Listener = TcpListener, Stream = TcpStream>>(
     let Some(mut talk) = Talk::to(rt, alloc, port) else {
         return 0;
     };
-    let mut right = 0;
+    let mut right: usize = 0;
     for (request, answer) in exchanges.iter() {
         if talk.is_answered(request, answer) {
-            right += 1;
+            right = right.saturating_add(1);
         }
     }
     right
