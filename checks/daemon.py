@@ -1,7 +1,9 @@
 """A daemon under `serve`, and sessions and links to it over sockets."""
 
+import itertools
 import json
 import os
+import random
 import signal
 import socket
 import subprocess
@@ -14,12 +16,20 @@ HOST = "127.0.0.1"
 PATIENCE = 20
 
 
+# Ports below those that the system gives to connections by itself, from one by chance on.
+FIRST_PORT, PORTS = 20_000, 12_000
+numbers = itertools.count(random.randrange(PORTS))
+
+
 def free_ports(count):
-    """Ports on which nobody listens now."""
-    held = [socket.create_server((HOST, 0)) for _ in range(count)]
-    ports = [server.getsockname()[1] for server in held]
-    for server in held:
-        server.close()
+    """Ports on which nobody listens now, none of which this run was given before."""
+    ports = []
+    while len(ports) < count:
+        port = FIRST_PORT + next(numbers) % PORTS
+        # It isn't tried by listening: a program that another thread starts just then would have that socket for a moment.
+        with socket.socket() as probe:
+            if probe.connect_ex((HOST, port)):
+                ports.append(port)
     return ports
 
 
@@ -47,8 +57,8 @@ def connection(port):
 class Talk:
     """A session over a socket, which is asked line by line."""
 
-    def __init__(self, port):
-        self.socket = connection(port)
+    def __init__(self, port, made=None):
+        self.socket = made or connection(port)
         self.file = self.socket.makefile("rb")
 
     def send(self, data):
@@ -76,18 +86,24 @@ class Talk:
 
 
 class Daemon:
-    """A program that serves a file, and its ports."""
+    """A program that serves a file, its ports, and how it is run."""
 
-    def __init__(self, program, name, ports=None, link=None):
-        self.program, self.name, self.link = program, name, link
+    def __init__(self, program, name, ports=None, link=None, **how):
+        self.program, self.name, self.link, self.how = program, name, link, how
         self.sessions, self.peers = ports or free_ports(2)
         self.start()
 
-    def start(self):
+    def words(self):
+        """The command line."""
         words = [self.program, "serve", self.name, "--sessions", str(self.sessions), "--peers", str(self.peers)]
-        if self.link:
-            words += ["--link", str(self.link)]
-        self.run = subprocess.Popen(words, stdin=subprocess.DEVNULL, stdout=subprocess.PIPE, stderr=subprocess.PIPE)
+        return words + ["--link", str(self.link)] if self.link else words
+
+    def run_it(self):
+        pipes = {"stdin": subprocess.DEVNULL, "stdout": subprocess.PIPE, "stderr": subprocess.PIPE}
+        self.run = subprocess.Popen(self.words(), **pipes, **self.how)
+
+    def start(self):
+        self.run_it()
         # A connection that only probes gives its place back.
         Talk(self.sessions).close()
 

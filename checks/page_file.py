@@ -1,8 +1,16 @@
 """A plain reader of a page file, written from docs/FORMATS.md alone: what a file stands for, or the number that is due."""
 
+from collections import namedtuple
+
 PAGE = 4096
 MAGIC = b"PTXTPG01"
 INSERT, REMOVE, ADD_MARK, REMOVE_MARK = 1, 2, 3, 4
+STRONG, EM, LINK, COMMENT = 1, 2, 3, 4
+
+# `names` are the ids that it names, `value` the character of an insert, `mark` what a mark operation says.
+Operation = namedtuple("Operation", "kind doc own deps names value mark")
+# `value` is a URL or the 16 bytes of a comment; an anchor is a tag and an id.
+Mark = namedtuple("Mark", "kind value start end")
 
 
 class Refused(Exception):
@@ -110,8 +118,21 @@ class Fields:
         return (tag, None) if tag == bare else (tag, self.id())
 
 
+def mark_of(kind, fields):
+    """What an operation says that adds or removes a mark."""
+    mark, value = fields.number(1, STRONG, COMMENT), None
+    if mark == LINK and kind == ADD_MARK:
+        try:
+            value = fields.take(fields.number(2, 1, 1024)).decode("utf-8")
+        except UnicodeDecodeError:
+            raise Refused(46) from None
+    if mark == COMMENT:
+        value = fields.take(16)
+    return Mark(mark, value, fields.anchor(0, 3), fields.anchor(3, 0))
+
+
 def operation(body):
-    """One operation: kind, document, id, deps, and the ids that it names."""
+    """One operation."""
     fields = Fields(body)
     kind = fields.number(1, INSERT, REMOVE_MARK)
     doc = fields.number(4, 0, 2**32 - 1)
@@ -121,7 +142,7 @@ def operation(body):
         replica = fields.number(16, last + 1, 2**128 - 1)
         deps[replica] = fields.number(8, 1, 2**24)
         last = replica
-    names, value = [], None
+    names, value, mark = [], None, None
     if kind == INSERT:
         if fields.number(1, 0, 1):
             names.append(fields.id())
@@ -131,19 +152,11 @@ def operation(body):
     elif kind == REMOVE:
         names.append(fields.id())
     else:
-        mark = fields.number(1, 1, 4)
-        if mark == 3 and kind == ADD_MARK:
-            try:
-                fields.take(fields.number(2, 1, 1024)).decode("utf-8")
-            except UnicodeDecodeError:
-                raise Refused(46) from None
-        if mark == 4:
-            fields.take(16)
-        anchors = [fields.anchor(0, 3), fields.anchor(3, 0)]
-        names += [found for _, found in anchors if found]
+        mark = mark_of(kind, fields)
+        names += [found for _, found in (mark.start, mark.end) if found]
     if fields.at < len(body):
         raise Refused(46)
-    return kind, doc, own, deps, names, value
+    return Operation(kind, doc, own, deps, names, value, mark)
 
 
 def operations(data, count):
@@ -163,7 +176,7 @@ def operations(data, count):
 def check_order(ops):
     """Each operation may follow those before it."""
     clock, inserts, last, docs = {}, {}, {}, set()
-    for kind, doc, (counter, replica), deps, names, _ in ops:
+    for kind, doc, (counter, replica), deps, names, _, _ in ops:
         known = clock.get(replica, 0)
         ready = deps.get(replica, 0) == known and all(clock.get(r, 0) >= n for r, n in deps.items())
         named = all(
@@ -191,19 +204,23 @@ def image(data):
     return replica, ops
 
 
-def text(ops, doc):
-    """The text of a document: the walk of its insertion tree, without the characters that were removed."""
-    children, removed, values = {}, set(), {}
-    for kind, its_doc, own, _, names, value in ops:
-        if its_doc == doc and kind == INSERT:
-            children.setdefault(names[0] if names else None, []).append(own)
-            values[own] = value
-        elif its_doc == doc and kind == REMOVE:
-            removed.add(names[0])
+def walk(ops):
+    """The ids of the characters of one document's operations in the order of its text, removed ones too."""
+    children = {}
+    for op in ops:
+        if op.kind == INSERT:
+            children.setdefault(op.names[0] if op.names else None, []).append(op.own)
     found, left = [], sorted(children.get(None, []))
     while left:
         own = left.pop()
-        if own not in removed:
-            found.append(chr(values[own]))
+        found.append(own)
         left += sorted(children.get(own, []))
-    return "".join(found)
+    return found
+
+
+def text(ops, doc):
+    """The text of a document: the walk of its insertion tree, without the characters that were removed."""
+    ops = [op for op in ops if op.doc == doc]
+    values = {op.own: chr(op.value) for op in ops if op.kind == INSERT}
+    removed = {op.names[0] for op in ops if op.kind == REMOVE}
+    return "".join(values[own] for own in walk(ops) if own not in removed)

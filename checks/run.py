@@ -7,17 +7,25 @@ import time
 
 import crafted
 import damage
+import each_byte
 import examples
 import full_disk
 import kills
 import locks
 import long_texts
+import memory
+import rude
+import served_limits
 import serving
 import streams
 import words
+import worst
 from program import Checks
 
 LIMIT = 600
+GROUPS = (
+    words, examples, long_texts, streams, locks, full_disk, crafted, damage, each_byte, kills, memory, serving, served_limits, rude, worst,
+)
 
 
 def main():
@@ -26,7 +34,7 @@ def main():
     checks = Checks()
     with tempfile.TemporaryDirectory(prefix="peritext-") as room:
         os.chdir(room)
-        for group in (words, examples, long_texts, streams, locks, full_disk, crafted, damage, kills, serving):
+        for group in GROUPS:
             before = checks.passed, checks.failed, checks.skipped
             group.check(checks, program, started + LIMIT)
             took = time.monotonic() - started

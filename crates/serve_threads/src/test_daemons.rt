@@ -1,16 +1,19 @@
 //! Daemons over disks in memory, and sessions to them over sockets, for tests.
 ghost use Rattle.std.specs.Prelude.{◌≡◌, [], IfSome};
 
-use crate::serving::Sockets;
+use crate::serving::{Served, Sockets, serve_all};
 use disk_trait::{Disk, MemDisk};
 use group_commit::Store;
 use hub_parts::{Parts, open};
 use op_ids::ReplicaId;
+use shared_hub::Gate;
 use std::alloc::Global;
 use std::io::{Read, Write};
 use std::net::{Net, TcpListener, TcpStream};
 use std::rt::Clock;
+use std::sync::Wait;
 use std::thread;
+use std::thread::Threads;
 use std::time::Duration;
 
 /// How often a session asks for something at most, a pause apart.
@@ -30,10 +33,25 @@ pub fn new_disk(alloc: Global, last: u8) -> Option<MemDisk> {
 }
 
 /// The parts of the hub that a disk holds.
-pub fn parts<D: Disk + Drop>(alloc: Global, disk: D) -> Option<Parts<D>>
+fn parts<D: Disk + Drop>(alloc: Global, disk: D) -> Option<Parts<D>>
     ensures { IfSome result (λ it. it.locked.replica.steps ≡ []) }
 {
     open(alloc, disk).ok()
+}
+
+/// How many operations the file of a disk has.
+pub fn count_settled<D: Disk + Drop>(alloc: Global, disk: D) -> Option<usize> {
+    Some(parts(alloc, disk)?.locked.list().len())
+}
+
+/// Serves the file of a disk to the daemon's end.
+pub fn serve_disk<
+    D: Disk + Drop + Send,
+    R: Wait + Clock + Threads + Net<Listener = TcpListener, Stream = TcpStream> + Sync,
+    G: Gate + Sync,
+>(rt: &R, alloc: Global, disk: D, sockets: Sockets, gate: &G) -> Option<Served<D>> {
+    let parts = parts(alloc, disk)?;
+    Some(serve_all(rt, alloc, parts, sockets, gate))
 }
 
 /// A listener on a port that nobody else has, and that port.

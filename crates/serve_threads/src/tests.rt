@@ -1,8 +1,8 @@
 //! Daemons that are met over sockets: what only threads can show.
 use crate::asking_gate::AskingGate;
 use crate::rejoining::Joined;
-use crate::serving::{Served, serve_all};
-use crate::test_daemons::{TURNS, Talk, new_disk, parts, sockets};
+use crate::serving::Served;
+use crate::test_daemons::{TURNS, Talk, count_settled, new_disk, serve_disk, sockets};
 use crate::waiting_disk::{Meeting, WaitingDisk};
 use disk_trait::{FaultDisk, MemDisk};
 use shared_hub::NoGate;
@@ -102,7 +102,7 @@ fn add_right<R: Wait + Net<Listener = TcpListener, Stream = TcpStream>>(
 fn edit_in_a_commit<
     R: Wait + Clock + Threads + Net<Listener = TcpListener, Stream = TcpStream> + Sync,
 >(rt: &R, alloc: Global) -> Option<(usize, bool)> {
-    let parts = parts(alloc, new_disk(alloc, 1)?)?;
+    let disk = new_disk(alloc, 1)?;
     let (sockets, port, _) = sockets(rt)?;
     let gate = AskingGate::new(rt, alloc, port, STATUS, BOTH_APPLIED);
     let right = Mutex::new(0);
@@ -113,7 +113,7 @@ fn edit_in_a_commit<
             held.wait();
             add_right(rt, alloc, port, &OF_THE_SECOND, counted);
         });
-        let _served = serve_all(rt, alloc, parts, sockets, held);
+        let _served = serve_disk(rt, alloc, disk, sockets, held);
     });
     Some((right.into_inner(), gate.is_told()))
 }
@@ -132,13 +132,12 @@ fn ask_in_a_device_call<
     R: Wait + Clock + Threads + Net<Listener = TcpListener, Stream = TcpStream> + Sync,
 >(rt: &R, alloc: Global) -> Option<(usize, bool)> {
     let meeting = Meeting::new();
+    let (sockets, port, _) = sockets(rt)?;
     let disk = WaitingDisk {
         rt,
         disk: new_disk(alloc, 1)?,
         meeting: &meeting,
     };
-    let parts = parts(alloc, disk)?;
-    let (sockets, port, _) = sockets(rt)?;
     let right = Mutex::new(0);
     let (met, counted) = (&meeting, &right);
     thread::scope(thread::scope_env(), rt, |scope| {
@@ -148,7 +147,7 @@ fn ask_in_a_device_call<
                 met.serve(rt);
             }
         });
-        let _served = serve_all(rt, alloc, parts, sockets, &NoGate);
+        let _served = serve_disk(rt, alloc, disk, sockets, &NoGate);
     });
     Some((right.into_inner(), meeting.has_met(rt)))
 }
@@ -169,7 +168,7 @@ fn edited<R: Wait + Clock + Threads + Net<Listener = TcpListener, Stream = TcpSt
     last: u8,
     insert: &'static str,
 ) -> Option<MemDisk> {
-    let parts = parts(alloc, new_disk(alloc, last)?)?;
+    let disk = new_disk(alloc, last)?;
     let (sockets, port, _) = sockets(rt)?;
     let right = Mutex::new(0);
     let counted = &right;
@@ -183,12 +182,11 @@ fn edited<R: Wait + Clock + Threads + Net<Listener = TcpListener, Stream = TcpSt
                 counted,
             )
         });
-        serve_all(rt, alloc, parts, sockets, &NoGate)
+        serve_disk(rt, alloc, disk, sockets, &NoGate)
     });
-    if right.into_inner() == 2 {
-        Some(served.disk)
-    } else {
-        None
+    match served {
+        Some(Served { disk, .. }) if right.into_inner() == 2 => Some(disk),
+        _ => None,
     }
 }
 
@@ -222,8 +220,8 @@ fn link_two<R: Wait + Clock + Threads + Net<Listener = TcpListener, Stream = Tcp
     rt: &R,
     alloc: Global,
 ) -> Option<u32> {
-    let first = parts(alloc, edited(rt, alloc, 1, INSERT_A)?)?;
-    let second = parts(alloc, edited(rt, alloc, 2, INSERT_B)?)?;
+    let first = edited(rt, alloc, 1, INSERT_A)?;
+    let second = edited(rt, alloc, 2, INSERT_B)?;
     let (first_sockets, first_port, peers) = sockets(rt)?;
     let (mut second_sockets, second_port, _) = sockets(rt)?;
     second_sockets.joined = Joined::to(rt, peers).ok();
@@ -240,9 +238,9 @@ fn link_two<R: Wait + Clock + Threads + Net<Listener = TcpListener, Stream = Tcp
             });
         }
         let _ = scope.spawn(move || {
-            let _served = serve_all(rt, alloc, first, first_sockets, &NoGate);
+            let _served = serve_disk(rt, alloc, first, first_sockets, &NoGate);
         });
-        let _served = serve_all(rt, alloc, second, second_sockets, &NoGate);
+        let _served = serve_disk(rt, alloc, second, second_sockets, &NoGate);
     });
     Some(right.into_inner())
 }
@@ -271,21 +269,21 @@ fn edit_over_a_failing_disk<
     R: Wait + Clock + Threads + Net<Listener = TcpListener, Stream = TcpStream> + Sync,
 >(rt: &R, alloc: Global) -> Option<(usize, bool, usize)> {
     // The calls of opening are a sync, a size and a read; the sixth one is the commit's first sync.
-    let parts_before = parts(alloc, FaultDisk::new(new_disk(alloc, 1)?, 6))?;
+    let disk = FaultDisk::new(new_disk(alloc, 1)?, 6);
     let (sockets, port, _) = sockets(rt)?;
     let right = Mutex::new(0);
     let counted = &right;
     let served = thread::scope(thread::scope_env(), rt, |scope| {
         let _ = scope.spawn(move || add_right(rt, alloc, port, &OVER_A_FAILED_DISK, counted));
-        serve_all(rt, alloc, parts_before, sockets, &NoGate)
+        serve_disk(rt, alloc, disk, sockets, &NoGate)
     });
     let Served {
         disk,
         has_failed,
         ..
-    } = served;
-    let again = parts(alloc, disk.into_inner())?;
-    Some((right.into_inner(), has_failed, again.locked.list().len()))
+    } = served?;
+    let settled = count_settled(alloc, disk.into_inner())?;
+    Some((right.into_inner(), has_failed, settled))
 }
 
 #[test]

@@ -1,0 +1,142 @@
+"""A daemon at the limits of its machine: few open files, a full disk; and stops while many sessions edit."""
+
+import json
+import resource
+import socket
+import subprocess
+import time
+
+from beside import Beside, together
+from daemon import HOST, Daemon, within
+from full_disk import limited
+from program import PAGE, REPLICA, insert, line, new_file, run, text_of
+
+OTHER = REPLICA[:-1] + "2"
+STATUS, STOP = line(op="status"), line(op="stop")
+FILES, COMERS = 24, 60
+EDITORS, EDITS = 8, 400
+FAILED = {"code": 9, "error": "failed", "ok": False}
+
+
+def few_files():
+    resource.setrlimit(resource.RLIMIT_NOFILE, (FILES, FILES))
+
+
+def check_few_files(checks, program):
+    """More connections than files may be open: those that are served go on, and when the others are gone new ones are served."""
+    new_file(program, "few-served")
+    daemon = Daemon(program, "few-served", preexec_fn=few_files)
+    try:
+        with Beside(daemon, 2) as beside:
+            comers = [socket.create_connection((HOST, port)) for port in (daemon.sessions, daemon.peers) for _ in range(COMERS)]
+            time.sleep(0.5)
+            for comer in comers:
+                comer.close()
+        beside.told(checks, "more connections than files", 2, 16_000_000)
+
+        def is_served():
+            talk = daemon.talk()
+            try:
+                return talk.ask(STATUS) in ({"applied": n, "ok": True, "settled": n, "state": "open"} for n in [beside.edits])
+            except OSError:
+                return False
+            finally:
+                talk.close()
+
+        within("a new session is served", is_served)
+        checks.same("the end after few files", daemon.stop(), ({"ok": True}, (0, b"", b"")))
+    finally:
+        if daemon.run.poll() is None:
+            daemon.kill()
+
+
+def check_full_disk(checks, program):
+    """The disk is full while a daemon serves, and a peer tells it more: edits are answered 9, reads go on, and it ends with 9."""
+    new_file(program, "full-served")
+    run(program, "init", "full-peer", "--replica", OTHER)
+    peer = Daemon(program, "full-peer")
+    daemon = Daemon(program, "full-served", link=peer.peers, **limited(40 * PAGE))
+    try:
+        talk, other = daemon.talk(), peer.talk()
+        answers = []
+        for number in range(200):
+            other.ask(insert(0, "p", 2))
+            answers.append(talk.ask(insert(0, "f" * 50)))
+        ok = [answer for answer in answers if answer["ok"]]
+        checks.same("edits on a full disk", answers, ok + [FAILED] * (len(answers) - len(ok)))
+        checks.holds(f"{len(ok)} edits before the disk is full", 0 < len(ok) < len(answers))
+        checks.same("the state on a full disk", talk.ask(STATUS)["state"], "failed")
+        checks.holds("a text on a full disk", talk.ask(line(op="text", doc=1))["ok"])
+        checks.holds("the peer goes on", other.ask(insert(0, "p", 2))["ok"])
+        other.close()
+        checks.same("a stop on a full disk", talk.ask(STOP), FAILED)
+        checks.same("the end on a full disk", daemon.ended(), (1, b"", b"peritext: 9 failed\n"))
+        count = len(text_of(program, "full-served")) // 50
+        checks.holds(f"{len(ok)} answered, {count} there", len(ok) <= count <= len(ok) + 1)
+        checks.same("whole edits after a full disk", text_of(program, "full-served"), "f" * 50 * count)
+        again = Daemon(program, "full-served", ports=(daemon.sessions, daemon.peers), link=peer.peers)
+        talk, other = again.talk(), peer.talk()
+        both = lambda: talk.ask(line(op="text", doc=2)) == other.ask(line(op="text", doc=2))
+        within("what the peer has comes when there is room again", both)
+        talk.close()
+        other.close()
+        checks.same("the end when there is room", again.stop(), ({"ok": True}, (0, b"", b"")))
+        peer.stop()
+    finally:
+        for one in (daemon, peer):
+            if one.run.poll() is None:
+                one.kill()
+
+
+def check_stop_under_load(checks, program):
+    """A stop while sessions edit without waiting: each answered edit is in the file, and each other one is refused or unanswered."""
+    new_file(program, "stopped")
+    daemon = Daemon(program, "stopped")
+    answered, talks = [0] * EDITORS, [daemon.talk() for _ in range(EDITORS)]
+
+    def edit(number):
+        talk = talks[number]
+        try:
+            talk.send(insert(0, "s", number + 1) * EDITS)
+            while (answer := talk.answer()) and answer["ok"]:
+                answered[number] += 1
+        except OSError:
+            return
+
+    def stop():
+        within("some edits", lambda: sum(answered) > EDITORS * EDITS // 20)
+        talk = daemon.talk()
+        checks.same("a stop under load", talk.ask(STOP), {"ok": True})
+        talk.close()
+
+    together(*[lambda number=number: edit(number) for number in range(EDITORS)], stop)
+    checks.same("the end under load", daemon.ended(), (0, b"", b""))
+    for number in range(EDITORS):
+        shown = json.loads(run(program, "dump", "stopped", str(number + 1))[1].splitlines()[0])
+        checks.holds(f"session {number}: {answered[number]} answered, {shown['rev']} there", answered[number] <= shown["rev"] <= answered[number] + 1)
+
+
+def check_half_closed(checks, program):
+    """A session that says all and then only listens is answered all, and a daemon that is joined to itself serves on."""
+    new_file(program, "half-closed")
+    daemon = Daemon(program, "half-closed")
+    talk = daemon.talk()
+    talk.send(insert(0, "h") * 50 + STATUS + b'{"op":"te')
+    talk.socket.shutdown(socket.SHUT_WR)
+    answers = [talk.answer() for _ in range(51)]
+    checks.same("answers after the end of what is said", [answer["ok"] for answer in answers], [True] * 51)
+    checks.holds("then it ends", talk.ended())
+    checks.same("the end after that", daemon.stop(), ({"ok": True}, (0, b"", b"")))
+    own = Daemon(program, "half-closed", ports=(daemon.sessions, daemon.peers), link=daemon.peers)
+    talk = own.talk()
+    checks.same("an edit of a daemon that is its own peer", talk.ask(insert(0, "o")), {"ok": True, "rev": 51})
+    talk.close()
+    checks.same("the end of a daemon that is its own peer", own.stop(), ({"ok": True}, (0, b"", b"")))
+
+
+def check(checks, program, _until):
+    for part in (check_few_files, check_full_disk, check_stop_under_load, check_half_closed):
+        try:
+            part(checks, program)
+        except (OSError, TimeoutError, subprocess.TimeoutExpired) as error:
+            checks.same(f"{part.__name__} comes to its end", repr(error), None)
