@@ -45,7 +45,7 @@ pub struct Served<D: Disk> {
 /// At most 32 sessions and 8 links are served at once: a further session is answered 8 and closed,
 /// a further link is closed. At the end they have a second for their last words.
 pub fn serve_all<
-    D: Disk + Drop + Send,
+    D: Disk + Drop,
     R: Wait + Clock + Threads + Net<Listener = TcpListener, Stream = TcpStream> + Sync,
     G: Gate + Sync,
 >(rt: &R, alloc: Global, parts: Parts<D>, sockets: Sockets, gate: &G) -> Served<D>
@@ -69,7 +69,7 @@ fn without_memory<D: Disk>(flusher: Flusher<D>) -> Served<D> {
 /// Serves with the books that have these names.
 fn serve_named<
     J: Desks + Send + Sync,
-    D: Disk + Drop + Send,
+    D: Disk + Drop,
     R: Wait + Clock + Threads + Net<Listener = TcpListener, Stream = TcpStream> + Sync,
     G: Gate + Sync,
 >(rt: &R, alloc: Global, opened: Opened, parts: Parts<D>, sockets: Sockets, gate: &G) -> Served<D>
@@ -97,7 +97,7 @@ fn serve_named<
 /// started; where not, they end at once.
 fn run<
     J: Desks + Send + Sync,
-    D: Disk + Drop + Send,
+    D: Disk + Drop,
     R: Wait + Clock + Threads + Net<Listener = TcpListener, Stream = TcpStream> + Sync,
     G: Gate + Sync,
 >(

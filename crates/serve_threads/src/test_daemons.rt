@@ -46,7 +46,7 @@ pub fn count_settled<D: Disk + Drop>(alloc: Global, disk: D) -> Option<usize> {
 
 /// Serves the file of a disk to the daemon's end.
 pub fn serve_disk<
-    D: Disk + Drop + Send,
+    D: Disk + Drop,
     R: Wait + Clock + Threads + Net<Listener = TcpListener, Stream = TcpStream> + Sync,
     G: Gate + Sync,
 >(rt: &R, alloc: Global, disk: D, sockets: Sockets, gate: &G) -> Option<Served<D>> {

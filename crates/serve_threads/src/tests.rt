@@ -220,7 +220,6 @@ fn link_two<R: Wait + Clock + Threads + Net<Listener = TcpListener, Stream = Tcp
     rt: &R,
     alloc: Global,
 ) -> Option<u32> {
-    let first = edited(rt, alloc, 1, INSERT_A)?;
     let second = edited(rt, alloc, 2, INSERT_B)?;
     let (first_sockets, first_port, peers) = sockets(rt)?;
     let (mut second_sockets, second_port, _) = sockets(rt)?;
@@ -238,7 +237,9 @@ fn link_two<R: Wait + Clock + Threads + Net<Listener = TcpListener, Stream = Tcp
             });
         }
         let _ = scope.spawn(move || {
-            let _served = serve_disk(rt, alloc, first, first_sockets, &NoGate);
+            if let Some(first) = edited(rt, alloc, 1, INSERT_A) {
+                let _served = serve_disk(rt, alloc, first, first_sockets, &NoGate);
+            }
         });
         let _served = serve_disk(rt, alloc, second, second_sockets, &NoGate);
     });
