@@ -1,28 +1,13 @@
 //! Device calls that fail, and what is there when the file is opened anew.
 use crate::Hub;
-use crate::test_hubs::{insert, new_disk, open};
+use crate::test_hubs::{edit_of, insert, new_disk, open};
 use disk_trait::{Disk, Fate, FaultDisk, MemDisk};
 use group_commit::Phase;
-use op_model::{Change, Edit};
+use op_model::Edit;
 use std::alloc::Global;
-use std::num::NonZeroU32;
 use std::test::Fail;
 
 type Failing = Hub<FaultDisk<MemDisk>>;
-
-/// The edits that are made one after the other, each of one operation: "a", "ab", "b".
-fn edit_of(alloc: Global, number: usize) -> Result<Edit, Fail> {
-    if number < 2 {
-        let value = if number == 0 { 'a' } else { 'b' };
-        return insert(alloc, number as u32, value);
-    }
-    let count = NonZeroU32::new(1).ok_or("one")?;
-    Ok(Edit {
-        doc: 1,
-        rev: None,
-        change: Change::Delete { at: 0, count },
-    })
-}
 
 /// Makes the device calls of a commit. Tells whether none failed.
 fn make_calls(hub: &mut Failing) -> bool {

@@ -5,6 +5,7 @@ use group_commit::{Phase, Store};
 use op_ids::ReplicaId;
 use op_model::{Change, Edit, EditText};
 use std::alloc::Global;
+use std::num::NonZeroU32;
 use std::test::Fail;
 
 // The replica whose last byte is this.
@@ -50,6 +51,20 @@ pub(crate) fn insert(alloc: Global, at: u32, value: char) -> Result<Edit, Fail> 
         doc: 1,
         rev: None,
         change: Change::Insert { at, text },
+    })
+}
+
+// Three edits that are made one after the other, each of one operation: "a", then "ab", then "b".
+pub(crate) fn edit_of(alloc: Global, number: usize) -> Result<Edit, Fail> {
+    if number < 2 {
+        let value = if number == 0 { 'a' } else { 'b' };
+        return insert(alloc, number as u32, value);
+    }
+    let count = NonZeroU32::new(1).ok_or("one")?;
+    Ok(Edit {
+        doc: 1,
+        rev: None,
+        change: Change::Delete { at: 0, count },
     })
 }
 

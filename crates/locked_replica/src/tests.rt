@@ -1,12 +1,10 @@
-use crate::test_hubs::{insert, open, peer};
+use crate::test_hubs::{edit_of, insert, open, peer};
 use crate::{Hub, HubReply, HubStep, run};
 use disk_trait::{Fate, MemDisk};
 use group_commit::Phase;
 use op_ids::Clock;
-use op_model::{Change, Edit};
 use replica_core::{Merged, Ticket};
 use std::alloc::Global;
-use std::num::NonZeroU32;
 use std::process::Abort;
 use std::test::Fail;
 
@@ -21,15 +19,20 @@ fn made(alloc: Global, hub: &mut Hub<MemDisk>, steps: &[HubStep]) -> Result<Vec<
     Ok(run(alloc, hub, steps)?)
 }
 
-// An insert, and a commit with so many device calls.
-fn commit_of(alloc: Global, at: u32, value: char, calls: usize) -> Result<Vec<HubStep>, Fail> {
+// An edit, and a commit with so many device calls.
+fn commit(alloc: Global, edit: HubStep, calls: usize) -> Result<Vec<HubStep>, Fail> {
     let mut steps = Vec::new(alloc);
-    steps.push(insert_step(alloc, at, value)?)?;
+    steps.push(edit)?;
     steps.push(HubStep::Begin)?;
     for _ in 0..calls {
         steps.push(HubStep::DeviceStep)?;
     }
     Ok(steps)
+}
+
+// An insert, and a commit with so many device calls.
+fn commit_of(alloc: Global, at: u32, value: char, calls: usize) -> Result<Vec<HubStep>, Fail> {
+    commit(alloc, insert_step(alloc, at, value)?, calls)
 }
 
 // The phases of the device calls that were answered.
@@ -136,31 +139,21 @@ fn a_torn_gate_is_not_closed(rt: HostRuntime) -> Result<(), Fail> {
     Ok(())
 }
 
-// A hub with so many edits settled, each of one operation: "a", then "ab", then "b".
+// The edit of this number, as a call.
+fn edit_step(alloc: Global, number: usize) -> Result<HubStep, Fail> {
+    let edit = edit_of(alloc, number)?;
+    Ok(HubStep::Edit { session: 1, edit })
+}
+
+// A hub with the edits below this number settled.
 fn with_settled(alloc: Global, edits: usize) -> Result<Box<Hub<MemDisk>>, Fail> {
     let mut hub = peer(alloc, 1)?;
     for number in 0..edits {
-        let mut steps = commit_number(alloc, number, 8)?;
+        let mut steps = commit(alloc, edit_step(alloc, number)?, 8)?;
         steps.push(HubStep::Settle)?;
         made(alloc, &mut hub, &steps)?;
     }
     Ok(hub)
-}
-
-// The edit of this number, and a commit with so many device calls.
-fn commit_number(alloc: Global, number: usize, calls: usize) -> Result<Vec<HubStep>, Fail> {
-    let value = if number == 0 { 'a' } else { 'b' };
-    let mut steps = commit_of(alloc, number.min(1) as u32, value, calls)?;
-    if number == 2 {
-        let count = NonZeroU32::new(1).ok_or("one")?;
-        let edit = Edit {
-            doc: 1,
-            rev: None,
-            change: Change::Delete { at: 0, count },
-        };
-        steps[0] = HubStep::Edit { session: 1, edit };
-    }
-    Ok(steps)
 }
 
 // How many operations a crash leaves of the commit of this number that is stopped behind so many
@@ -173,7 +166,11 @@ fn left_behind(
     grown: bool,
 ) -> Result<usize, Fail> {
     let mut hub = with_settled(alloc, number)?;
-    made(alloc, &mut hub, &commit_number(alloc, number, calls)?)?;
+    made(
+        alloc,
+        &mut hub,
+        &commit(alloc, edit_step(alloc, number)?, calls)?,
+    )?;
     Ok(crashed(alloc, hub, fate, grown)?.list().len())
 }
 
