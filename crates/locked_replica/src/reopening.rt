@@ -10,11 +10,11 @@ use recovery::OpenFault;
 use std::alloc::Global;
 
 impl<D: Disk> Hub<D> {
-    /// Opens the file anew as it reads now, also where the device failed: a hub that goes on. What was
-    /// applied and isn't in the live root is gone, as after a crash.
+    /// Opens the file anew as it reads now, also where the device failed: a hub that goes on. What
+    /// was applied and isn't in the live root is gone, as after a crash.
     ///
-    /// Refuses with 1, or with 50 or 52 where the device fails, and hands the disk back: its file can be
-    /// opened again. Costs what `Hub::open` does.
+    /// Refuses with 1, or with 50 or 52 where the device fails, and hands the disk back: its file
+    /// can be opened again. Costs what `Hub::open` does.
     pub fn reopen(self, alloc: Global) -> Result<Hub<D>, OpenFault<D>>
         ensures crash { D.tells self.store.disk
             → IfOk result (λ hub. IsReopened D.DiskFacts self hub) }

@@ -85,7 +85,13 @@ fn serve_named<
     let Ok(hall) = Hall::new(alloc, own, named) else {
         return without_memory(flusher);
     };
-    let has_begun = run(rt, alloc, &hall, &mut flusher, sockets, gate);
+    let Sockets {
+        sessions,
+        peers,
+        joined,
+    } = sockets;
+    let listeners = (&sessions, &peers);
+    let has_begun = run(rt, alloc, &hall, &mut flusher, listeners, joined, gate);
     Served {
         has_failed: flusher.has_failed(),
         has_begun,
@@ -105,15 +111,10 @@ fn run<
     alloc: Global,
     hall: &Hall<J>,
     flusher: &mut Flusher<D>,
-    sockets: Sockets,
+    (sessions, peers): (&TcpListener, &TcpListener),
+    joined: Option<Joined>,
     gate: &G,
 ) -> bool {
-    let Sockets {
-        sessions,
-        peers,
-        joined,
-    } = sockets;
-    let (sessions, peers) = (&sessions, &peers);
     thread::scope(thread::scope_env(), rt, |scope| {
         let at_sessions = scope.spawn(move || accept(
             rt,
