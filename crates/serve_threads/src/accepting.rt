@@ -15,8 +15,11 @@ use std::thread;
 use std::thread::Threads;
 use std::time::Duration;
 
-/// The pause behind a connection that couldn't be accepted.
+/// The pause behind a connection that couldn't be accepted, in milliseconds.
 const PAUSE: u64 = 10;
+
+/// How long a peer may take nothing of what it is told, in seconds: then its link ends.
+const PATIENCE: u64 = 30;
 
 /// What a connection is for.
 #[derive(Clone, Copy, Debug, PartialEq, Eq)]
@@ -97,6 +100,7 @@ pub(crate) fn link<R: Wait + Clock + Threads + Sync, J: Desks + Send + Sync, G: 
     stream: &TcpStream,
 ) -> bool {
     let _ = stream.set_nodelay(true);
+    let _ = stream.set_write_timeout(Some(Duration::from_secs(PATIENCE)));
     let Some(mut pass) = hall.links.take_pass(rt) else {
         hall.links.leave(rt, entry, None);
         return false;

@@ -6,6 +6,7 @@ mod accepting;
 #[cfg(test)]
 mod asking_gate;
 mod desk_serving;
+mod doors;
 mod ending;
 mod hall;
 mod lobby;

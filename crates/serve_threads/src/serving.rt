@@ -2,6 +2,7 @@
 ghost use Rattle.std.specs.Prelude.{◌≡◌, []};
 
 use crate::accepting::{Kind, accept};
+use crate::doors::Doors;
 use crate::hall::Hall;
 use crate::rejoining::{Joined, keep_joined};
 use disk_trait::Disk;
@@ -10,8 +11,7 @@ use pass_books::Desks;
 use shared_hub::{Gate, Opened, flush};
 use std::alloc::{AllocError, Global};
 use std::marker::Brand;
-use std::net::{Net, Shutdown, TcpListener, TcpStream};
-use std::os::fd::OwnedFd;
+use std::net::{Net, TcpListener, TcpStream};
 use std::rt::Clock;
 use std::sync::Wait;
 use std::thread;
@@ -33,7 +33,8 @@ pub struct Sockets {
 #[derive(Drop)]
 pub struct Served<D: Disk> {
     pub disk: D,
-    /// Whether the device failed, so that the file must be opened again.
+    /// Whether the device failed, or a commit couldn't begin: then the file may lack what was
+    /// applied and not answered.
     pub has_failed: bool,
     /// Whether there was memory to begin with, that of its threads included.
     pub has_begun: bool,
@@ -90,10 +91,14 @@ fn serve_named<
         peers,
         joined,
     } = sockets;
-    let listeners = (&sessions, &peers);
-    let has_begun = run(rt, alloc, &hall, &mut flusher, listeners, joined, gate);
+    let Ok(doors) = Doors::new(sessions, peers) else {
+        return without_memory(flusher);
+    };
+    let has_begun = run(rt, alloc, &hall, &mut flusher, &doors, joined, gate);
+    let Hall { shared, .. } = hall;
+    let locked = shared.end().into_locked();
     Served {
-        has_failed: flusher.has_failed(),
+        has_failed: flusher.has_failed() || locked.settled() < locked.list().len(),
         has_begun,
         disk: flusher.into_disk(),
     }
@@ -111,7 +116,7 @@ fn run<
     alloc: Global,
     hall: &Hall<J>,
     flusher: &mut Flusher<D>,
-    (sessions, peers): (&TcpListener, &TcpListener),
+    doors: &Doors,
     joined: Option<Joined>,
     gate: &G,
 ) -> bool {
@@ -122,9 +127,9 @@ fn run<
             hall,
             gate,
             Kind::Session,
-            sessions,
+            &doors.sessions,
         ));
-        let at_peers = scope.spawn(move || accept(rt, alloc, hall, gate, Kind::Link, peers));
+        let at_peers = scope.spawn(move || accept(rt, alloc, hall, gate, Kind::Link, &doors.peers));
         let joining = match joined {
             Some(joined) => scope
                 .spawn(move || keep_joined(rt, alloc, hall, gate, joined))
@@ -133,11 +138,11 @@ fn run<
         };
         let ending = scope.spawn(move || {
             hall.ending.wait(rt);
-            end_all(rt, hall, sessions, peers);
+            end_all(rt, hall, doors);
         });
         let has_begun = at_sessions.is_ok() && at_peers.is_ok() && joining && ending.is_ok();
         if ending.is_err() {
-            end_all(rt, hall, sessions, peers);
+            end_all(rt, hall, doors);
         } else if !has_begun {
             hall.ending.ask(rt);
         }
@@ -148,25 +153,12 @@ fn run<
 }
 
 /// Ends all threads: nobody is let in any more, and those that are connected have a second.
-fn end_all<J: Desks, R: Wait + Clock>(
-    rt: &R,
-    hall: &Hall<J>,
-    sessions: &TcpListener,
-    peers: &TcpListener,
-) {
+fn end_all<J: Desks, R: Wait + Clock>(rt: &R, hall: &Hall<J>, doors: &Doors) {
     hall.ending.ask(rt);
     hall.sessions.close(rt);
     hall.links.close(rt);
-    close_listener(sessions);
-    close_listener(peers);
+    doors.close();
     hall.sessions.clear(rt, Duration::from_millis(LAST_WORDS));
     hall.shared.close(rt);
     hall.links.clear(rt, Duration::from_millis(LAST_WORDS));
-}
-
-/// Ends the wait of whoever accepts connections there.
-fn close_listener(listener: &TcpListener) {
-    if let Ok(copy) = listener.try_clone() {
-        let _ = TcpStream::from(OwnedFd::from(copy)).shutdown(Shutdown::Both);
-    }
 }
