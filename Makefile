@@ -10,7 +10,7 @@ SUM = { rt version; cat crates.txt; find crates -name out -prune -o -type f -pri
 run:
 	cd crates/edit_shell && rt try < stdin
 
-# Everything from nothing: each proof, each must-fail edit, each test, the program's stored run. Then the proved program on real files,
+# Everything from nothing, but for what an earlier run on this machine passed: each proof, each must-fail edit, each test, the program's stored run. Then the proved program on real files,
 # and the clients over it; that for JavaScript only where there is node.
 # It is kept as bin/peritext with the line of its sources, unless these changed meanwhile.
 test:
