@@ -1,8 +1,10 @@
-"""Three linked daemons in a row under 32 sessions, one of them killed every few seconds and started again: what they show afterwards.
+"""Three linked daemons in a row under 32 sessions and with 8 links, one of them killed every few seconds and started again: what they show
+afterwards.
 
 python3 bench/soak.py PROGRAM [MINUTES [FOLDER]]. 10 minutes, if none are given; the files are made in FOLDER, or here. Each edit inserts a
 token that nothing else inserts. At the end all three have to show the same texts, each answered token once, each other one at most once,
-and whole. The first daemon isn't killed in the first half, so that its memory can be seen beside that of the same file opened anew.
+and whole. Beside the two links between them, six peers only listen: at the end each has to have been told every operation once. The first
+daemon isn't killed in the first half, so that its memory can be seen beside that of the same file opened anew.
 """
 
 import os
@@ -12,9 +14,10 @@ import tempfile
 import threading
 import time
 
+from followers import Follower
 from servers import REPLICAS, Daemon, Refused
 
-SESSIONS, DAEMONS, DOCUMENTS = 32, 3, 8
+SESSIONS, DAEMONS, DOCUMENTS, FOLLOWERS = 32, 3, 8, 6
 # A token has so many characters; nobody inserts inside one, so each is whole in the text.
 TOKEN = 6
 # Seconds between two edits of a session, and between two kills, at most.
@@ -187,7 +190,16 @@ def faults(texts, tokens):
     return wrong
 
 
-def told(tokens, row, texts, took, memory):
+def followed(row, followers):
+    """What is wrong with what the peers were told that only listen."""
+    count = row.applied()
+    found = [f"peer {n} was told {told} of {count} operations" for n, it in enumerate(followers) if (told := it.told(count)) != count]
+    for it in followers:
+        it.end()
+    return found
+
+
+def told(tokens, row, texts, took, memory, followers):
     times = sorted(tokens.times)
     answered = sum(map(len, tokens.answered))
     there = sum(map(len, texts)) // TOKEN
@@ -197,6 +209,7 @@ def told(tokens, row, texts, took, memory):
     print(f"| kills | {row.kills} |")
     print(f"| p50, p99 and greatest time of an answer | {times[len(times) // 2] * 1e3:.1f}, {times[len(times) * 99 // 100] * 1e3:.1f}, {times[-1] * 1e3:.0f} ms |")
     print(f"| until all three showed the same | {took:.2f} s |")
+    print(f"| peers that only listen, their links | {len(followers)}, {sum(it.links for it in followers)} |")
     print(f"| memory of the first daemon | {memory} |")
 
 
@@ -205,16 +218,20 @@ def main():
     minutes = float(sys.argv[2]) if len(sys.argv) > 2 else 10
     with tempfile.TemporaryDirectory(dir=sys.argv[3] if len(sys.argv) > 3 else ".") as folder:
         row, tokens = Row(program, os.path.abspath(folder)), Tokens()
+        followers = [Follower(n, row.daemons[n % DAEMONS].peers) for n in range(FOLLOWERS)]
+        for follower in followers:
+            follower.start()
         try:
             memory = soaked(row, tokens, minutes * 60, random.Random(5))
             texts, took = alike(row)
+            wrong = followed(row, followers)
             for daemon in reversed(row.daemons):
                 daemon.stop()
         finally:
             for daemon in row.daemons:
                 daemon.kill()
-    told(tokens, row, texts, took, memory)
-    wrong = faults(texts, tokens)
+    told(tokens, row, texts, took, memory, followers)
+    wrong += faults(texts, tokens)
     print("\n".join(wrong) or "all texts are as they should be")
     return 1 if wrong else 0
 

@@ -49,17 +49,25 @@ impl<'a, R: Wait + Clock, J: Desks> Telling<'a, R, J> {
             end: self.end,
         };
         let mut seen = News::none();
+        let mut is_have_due = false;
         for _ in self.rt.forever() {
             if self.end.is_over(self.rt) || seen.is_closing {
                 break;
             }
-            let is_have_due = self.has_notes();
+            // A HAVE that found no memory stays due.
+            if !is_have_due {
+                is_have_due = self.has_notes();
+            }
             match self
                 .speaker
                 .speak(alloc, &mut peer, &mut line, stream, is_have_due)
             {
-                Ok(true) => {}
-                Ok(false) => seen = self.shared.wait_for_news(self.rt, seen),
+                Ok(has_told) => {
+                    is_have_due = false;
+                    if !has_told {
+                        seen = self.shared.wait_for_news(self.rt, seen);
+                    }
+                }
                 Err(SpeakError::Memory) => thread::sleep(self.rt, Duration::from_millis(PAUSE)),
                 Err(_) => break,
             }

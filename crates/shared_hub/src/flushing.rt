@@ -23,7 +23,8 @@ enum Begun {
 
 /// Commits what the threads of a shared hub make, one commit after the other, until they were asked
 /// to end or the device fails. It makes device calls with no lock held, and holds the lock twice a
-/// commit. It sleeps where nothing waits.
+/// commit. It sleeps where nothing waits. Behind it whoever waits for a settlement is told that
+/// none comes.
 pub fn flush<R: Wait, D: Disk, J: Desks, G: Gate>(
     rt: &R,
     shared: &Shared<J>,
@@ -32,9 +33,10 @@ pub fn flush<R: Wait, D: Disk, J: Desks, G: Gate>(
 ) {
     for _ in rt.forever() {
         if !shared.wait_for_work(rt) || !commit(rt, shared, flusher, gate) {
-            return;
+            break;
         }
     }
+    shared.end_flushing(rt);
 }
 
 /// Makes one commit, and answers whether the device still works.

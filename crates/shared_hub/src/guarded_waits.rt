@@ -43,11 +43,16 @@ impl<J: Desks> Guarded<J> {
     fn without_settlement(&self, end: usize) -> Awaited
         ensures { result ≢ Settled }
     {
-        if self.locked.is_failure_told() || end <= self.turns.given_up {
+        if self.locked.is_failure_told() || self.turns.has_ended || self.is_given_up(end) {
             Awaited::Lost
         } else {
             Awaited::Pending
         }
+    }
+
+    /// Whether the commit of the list up to this length was given up, and no later one has it.
+    fn is_given_up(&self, end: usize) -> bool {
+        end <= self.turns.given_up && self.locked.begun() < end
     }
 
     /// Takes no more edits. What waits is tried anew, also where that was given up.
@@ -55,6 +60,7 @@ impl<J: Desks> Guarded<J> {
         ensures { self.new ≡ record self.old { stopping = true } }
     {
         self.is_stopping = true;
+        self.turns.tried = 0;
         self.turns.given_up = 0;
     }
 
@@ -84,11 +90,26 @@ impl<J: Desks> Guarded<J> {
         self.turns.flusher_sleeps = true;
     }
 
-    /// Gives up the commit of what waits now, until another operation comes.
+    /// Marks that a commit of what waits now is tried.
+    pub(crate) fn note_try(&mut self)
+        ensures { self.new ≡ self.old }
+    {
+        self.turns.tried = self.locked.list().len();
+    }
+
+    /// Gives up the commit that was tried last, until another operation comes: one that came behind
+    /// that try, or comes yet.
     pub(crate) fn give_up(&mut self)
         ensures { self.new ≡ self.old }
     {
-        self.turns.given_up = self.locked.list().len();
+        self.turns.given_up = self.turns.tried;
+    }
+
+    /// Marks that the flusher has ended: nothing more is settled.
+    pub(crate) fn end_flushing(&mut self)
+        ensures { self.new ≡ self.old }
+    {
+        self.turns.has_ended = true;
     }
 
     /// What is to be seen by a thread that tells.

@@ -39,7 +39,10 @@ impl<J: Desks> Shared<J> {
     ) -> Result<Met, StoreError>
         ensures { MeetsOnce D.DiskFacts flusher.old result flusher.new }
     {
-        let result = self.guarded.lock(rt).meet(flusher);
+        let mut guard = self.guarded.lock(rt);
+        guard.note_try();
+        let result = guard.meet(flusher);
+        drop(guard);
         if matches!(result, Ok(Met::Settled(_)) | Err(StoreError::Failed)) {
             self.settled.notify_all();
             self.news.notify_all();

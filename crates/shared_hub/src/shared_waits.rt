@@ -12,7 +12,7 @@ use std::sync::Wait;
 
 impl<J: Desks> Shared<J> {
     /// Waits until the operations of a ticket are settled, and acknowledges them; else the device
-    /// failed, or no commit could begin (9). Wakes for each settlement.
+    /// failed, no commit could begin, or the flusher has ended (9). Wakes for each settlement.
     pub fn acknowledge<R: Wait>(&self, rt: &R, pass: &mut Pass<J>, ticket: Ticket) -> bool
         ensures same { pass.new ≡ pass.old }
         ensures call { IsTrue result
@@ -30,7 +30,7 @@ impl<J: Desks> Shared<J> {
     }
 
     /// Refuses all further edits and merges with 12, and waits until all operations are settled;
-    /// else the device failed, or no commit could begin (9).
+    /// else the device failed, no commit could begin, or the flusher has ended (9).
     pub fn stop<R: Wait>(&self, rt: &R) -> bool
         ensures { IsTrue result
             → Moment (λ l. length l.replica.list ≤ l.replica.settled) }
@@ -75,11 +75,13 @@ impl<J: Desks> Shared<J> {
         self.news.notify_all();
     }
 
-    /// Waits until operations wait for a commit; not so where the threads were asked to end.
+    /// Waits until operations wait for a commit, which is tried then; not so where the threads were
+    /// asked to end.
     pub(crate) fn wait_for_work<R: Wait>(&self, rt: &R) -> bool {
         let mut guard = self.guarded.lock(rt);
         for _ in rt.forever() {
             if guard.has_work() {
+                guard.note_try();
                 return true;
             }
             if guard.news().is_closing {
@@ -91,9 +93,15 @@ impl<J: Desks> Shared<J> {
         unreachable!()
     }
 
-    /// Gives up the commit of what waits now, and tells those who wait for it.
+    /// Gives up the commit that was tried last, and tells those who wait for it.
     pub(crate) fn give_up<R: Wait>(&self, rt: &R) {
         self.guarded.lock(rt).give_up();
+        self.settled.notify_all();
+    }
+
+    /// Tells those who wait for a settlement that none comes any more.
+    pub(crate) fn end_flushing<R: Wait>(&self, rt: &R) {
+        self.guarded.lock(rt).end_flushing();
         self.settled.notify_all();
     }
 }

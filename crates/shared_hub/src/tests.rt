@@ -133,3 +133,47 @@ fn four_threads_edit(rt: HostRuntime) -> Result<(), Fail> {
     assert!(rt; made == 4 * EDITS && applied == 200);
     Ok(())
 }
+
+// Whether an edit behind the flusher's end is acknowledged, and whether a stop finds all settled.
+fn waits_behind_the_end<J: Desks, R: Wait>(
+    rt: &R,
+    alloc: Global,
+    shared: &Shared<J>,
+    passes: Vec<Pass<J>>,
+) -> Option<(bool, bool)> {
+    let mut pass = passes.into_iter().next()?;
+    let edit = insert(alloc)?;
+    let ticket = shared.edit(rt, &mut pass, &edit).ok()?;
+    let is_acknowledged = shared.acknowledge(rt, &mut pass, ticket);
+    Some((is_acknowledged, shared.stop(rt)))
+}
+
+// Ends the flusher, and then edits and stops.
+fn edit_behind_the_end<J: Desks, R: Wait>(
+    rt: &R,
+    alloc: Global,
+    opened: Opened,
+) -> Option<(bool, bool)>
+    requires { opened ≡ J.names }
+{
+    let Parts {
+        locked,
+        mut flusher,
+    } = parts(alloc)?;
+    let Named { shared, passes } = opened.share::<J>(alloc, locked).ok()?;
+    shared.close(rt);
+    flush(rt, &shared, &mut flusher, &NoGate);
+    waits_behind_the_end(rt, alloc, &shared, passes)
+}
+
+#[test]
+fn nobody_waits_behind_the_flushers_end(rt: HostRuntime) -> Result<(), Fail> {
+    let opened = Opened::new(rt.alloc())?;
+    let (is_acknowledged, is_settled) = edit_behind_the_end::<Brand, _>(
+        &rt,
+        rt.alloc(),
+        opened,
+    ).ok_or("behind")?;
+    assert!(rt; !is_acknowledged && !is_settled);
+    Ok(())
+}

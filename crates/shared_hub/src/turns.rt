@@ -3,7 +3,9 @@
 /// Who sleeps, and what wakes it. No contract speaks of it.
 #[derive(Clone, Copy, Debug)]
 pub(crate) struct Turns {
-    /// How long the list was when the last try at a commit was given up.
+    /// How long the list was when a commit was last tried.
+    pub tried: usize,
+    /// How long it was at the last try of the commit that was given up last.
     pub given_up: usize,
     /// Whether the flusher sleeps.
     pub flusher_sleeps: bool,
@@ -11,16 +13,20 @@ pub(crate) struct Turns {
     pub calls: u64,
     /// Whether the threads were asked to end.
     pub is_closing: bool,
+    /// Whether the flusher has ended, so that nothing more is settled.
+    pub has_ended: bool,
 }
 
 impl Turns {
     /// Nobody sleeps, and nothing was given up.
     pub fn new() -> Turns {
         Turns {
+            tried: 0,
             given_up: 0,
             flusher_sleeps: false,
             calls: 0,
             is_closing: false,
+            has_ended: false,
         }
     }
 }
