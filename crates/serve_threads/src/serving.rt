@@ -1,5 +1,7 @@
 //! The daemon.
 ghost use Rattle.std.specs.Prelude.{◌≡◌, []};
+ghost use Rattle.hub_parts.specs.Flusher.{IsFlusher};
+ghost use Rattle.shared_hub.specs.Going.{Goes, ComesBack};
 
 use crate::accepting::{Kind, accept};
 use crate::doors::Doors;
@@ -51,6 +53,8 @@ pub fn serve_all<
     G: Gate + Sync,
 >(rt: &R, alloc: Global, parts: Parts<D>, sockets: Sockets, gate: &G) -> Served<D>
     requires { parts.locked.replica.steps ≡ [] }
+    // What a crash leaves of the disk begins with what it left before.
+    ensures { ComesBack D.DiskFacts parts.flusher result.disk }
 {
     match Opened::new(alloc) {
         Ok(opened) => serve_named::<Brand, D, R, G>(rt, alloc, opened, parts, sockets, gate),
@@ -59,7 +63,10 @@ pub fn serve_all<
 }
 
 /// How the daemon ends that didn't begin.
-fn without_memory<D: Disk>(flusher: Flusher<D>) -> Served<D> {
+fn without_memory<D: Disk>(flusher: Flusher<D>) -> Served<D>
+    ensures { ComesBack D.DiskFacts flusher result.disk }
+{
+    flusher.kept();
     Served {
         has_failed: false,
         has_begun: false,
@@ -76,9 +83,9 @@ fn serve_named<
 >(rt: &R, alloc: Global, opened: Opened, parts: Parts<D>, sockets: Sockets, gate: &G) -> Served<D>
     requires names { opened ≡ J.names }
     requires fresh { parts.locked.replica.steps ≡ [] }
+    ensures { ComesBack D.DiskFacts parts.flusher result.disk }
 {
     let Parts { locked, flusher } = parts;
-    let mut flusher = flusher;
     let own = locked.replica();
     let Ok(named) = opened.share::<J>(alloc, locked) else {
         return without_memory(flusher);
@@ -94,7 +101,7 @@ fn serve_named<
     let Ok(doors) = Doors::new(sessions, peers) else {
         return without_memory(flusher);
     };
-    let has_begun = run(rt, alloc, &hall, &mut flusher, &doors, joined, gate);
+    let (has_begun, flusher) = run(rt, alloc, &hall, flusher, &doors, joined, gate);
     let Hall { shared, .. } = hall;
     let locked = shared.end().into_locked();
     Served {
@@ -105,7 +112,7 @@ fn serve_named<
 }
 
 /// Starts the threads, waits until one asks to end, and ends them all. Answers whether all could be
-/// started; where not, they end at once.
+/// started, where not, they end at once; and gives the flusher back.
 fn run<
     J: Desks + Send + Sync,
     D: Disk + Drop,
@@ -115,41 +122,59 @@ fn run<
     rt: &R,
     alloc: Global,
     hall: &Hall<J>,
-    flusher: &mut Flusher<D>,
+    flusher: Flusher<D>,
     doors: &Doors,
     joined: Option<Joined>,
     gate: &G,
-) -> bool {
-    thread::scope(thread::scope_env(), rt, |scope| {
-        let at_sessions = scope.spawn(move || accept(
-            rt,
-            alloc,
-            hall,
-            gate,
-            Kind::Session,
-            &doors.sessions,
-        ));
-        let at_peers = scope.spawn(move || accept(rt, alloc, hall, gate, Kind::Link, &doors.peers));
-        let joining = match joined {
-            Some(joined) => scope
-                .spawn(move || keep_joined(rt, alloc, hall, gate, joined))
-                .is_ok(),
-            None => true,
-        };
-        let ending = scope.spawn(move || {
-            hall.ending.wait(rt);
-            end_all(rt, hall, doors);
-        });
-        let has_begun = at_sessions.is_ok() && at_peers.is_ok() && joining && ending.is_ok();
-        if ending.is_err() {
-            end_all(rt, hall, doors);
-        } else if !has_begun {
-            hall.ending.ask(rt);
-        }
-        // This thread is the flusher's.
-        flush(rt, &hall.shared, flusher, gate);
-        has_begun
-    })
+) -> (bool, Flusher<D>)
+    ensures kept { IsFlusher D.DiskFacts result.1 }
+    ensures goes { Goes D.DiskFacts flusher result.1 }
+{
+    thread::scope(
+        thread::scope_env(),
+        rt,
+        move |scope| -> (bool, Flusher<D>)
+            ensures kept { IsFlusher D.DiskFacts result.1 }
+            ensures goes { Goes D.DiskFacts flusher result.1 }
+        {
+            let mut flusher = flusher;
+            let at_sessions = scope.spawn(move || accept(
+                rt,
+                alloc,
+                hall,
+                gate,
+                Kind::Session,
+                &doors.sessions,
+            ));
+            let at_peers = scope.spawn(move || accept(
+                rt,
+                alloc,
+                hall,
+                gate,
+                Kind::Link,
+                &doors.peers,
+            ));
+            let joining = match joined {
+                Some(joined) => scope
+                    .spawn(move || keep_joined(rt, alloc, hall, gate, joined))
+                    .is_ok(),
+                None => true,
+            };
+            let ending = scope.spawn(move || {
+                hall.ending.wait(rt);
+                end_all(rt, hall, doors);
+            });
+            let has_begun = at_sessions.is_ok() && at_peers.is_ok() && joining && ending.is_ok();
+            if ending.is_err() {
+                end_all(rt, hall, doors);
+            } else if !has_begun {
+                hall.ending.ask(rt);
+            }
+            // This thread is the flusher's.
+            flush(rt, &hall.shared, &mut flusher, gate);
+            (has_begun, flusher)
+        },
+    )
 }
 
 /// Ends all threads: nobody is let in any more, and those that are connected have a second.

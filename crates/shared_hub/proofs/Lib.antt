@@ -1,3 +1,4 @@
 mod BookLemmas
+pub mod GoingLemmas
 mod MeetLemmas
 mod OpeningLemmas

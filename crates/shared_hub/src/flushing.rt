@@ -1,4 +1,6 @@
 //! The flusher's thread.
+ghost use Rattle.hub_parts.specs.Flusher.{IsFlusher};
+ghost use Rattle.shared_hub.specs.Going.{Goes};
 
 use crate::gate::{Gate, Point};
 use crate::shared::Shared;
@@ -30,13 +32,32 @@ pub fn flush<R: Wait, D: Disk, J: Desks, G: Gate>(
     shared: &Shared<J>,
     flusher: &mut Flusher<D>,
     gate: &G,
-) {
+)
+    ensures kept { IsFlusher D.DiskFacts flusher.new }
+    ensures goes { Goes D.DiskFacts flusher.old flusher.new }
+{
+    commit_each(rt, shared, flusher, gate);
+    shared.end_flushing(rt);
+    flusher.kept();
+}
+
+/// Makes one commit after the other, until the threads were asked to end or the device fails.
+fn commit_each<R: Wait, D: Disk, J: Desks, G: Gate>(
+    rt: &R,
+    shared: &Shared<J>,
+    flusher: &mut Flusher<D>,
+    gate: &G,
+)
+    ensures { Goes D.DiskFacts flusher.old flusher.new }
+{
     for _ in rt.forever() {
-        if !shared.wait_for_work(rt) || !commit(rt, shared, flusher, gate) {
-            break;
+        if !shared.wait_for_work(rt) {
+            return;
+        }
+        if !commit(rt, shared, flusher, gate) {
+            return;
         }
     }
-    shared.end_flushing(rt);
 }
 
 /// Makes one commit, and answers whether the device still works.
@@ -45,7 +66,9 @@ fn commit<R: Wait, D: Disk, J: Desks, G: Gate>(
     shared: &Shared<J>,
     flusher: &mut Flusher<D>,
     gate: &G,
-) -> bool {
+) -> bool
+    ensures { Goes D.DiskFacts flusher.old flusher.new }
+{
     match begin(rt, shared, flusher) {
         Begun::UnderWay => {}
         Begun::Without => return true,
@@ -63,31 +86,47 @@ fn commit<R: Wait, D: Disk, J: Desks, G: Gate>(
 
 /// Begins a commit. A begin that finds no memory is made again, at most 1,000 times in a row; after
 /// that, and where the store has no room, it is given up.
-fn begin<R: Wait, D: Disk, J: Desks>(
-    rt: &R,
-    shared: &Shared<J>,
-    flusher: &mut Flusher<D>,
-) -> Begun {
+fn begin<R: Wait, D: Disk, J: Desks>(rt: &R, shared: &Shared<J>, flusher: &mut Flusher<D>) -> Begun
+    ensures { Goes D.DiskFacts flusher.old flusher.new }
+{
     for _ in 0..TRIES {
-        if flusher.reserve().is_err() {
-            continue;
-        }
-        match shared.meet(rt, flusher) {
+        match try_once(rt, shared, flusher) {
             Ok(Met::Begun(_)) => return Begun::UnderWay,
             Ok(_) => return Begun::Without,
             Err(StoreError::Failed) => return Begun::Failed,
             Err(StoreError::Memory) => {}
-            Err(_) => break,
+            Err(_) => return give_up(rt, shared),
         }
     }
+    give_up(rt, shared)
+}
+
+/// Gives up the commit that was tried.
+fn give_up<R: Wait, J: Desks>(rt: &R, shared: &Shared<J>) -> Begun {
     shared.give_up(rt);
     Begun::Without
 }
 
+/// Tries once to begin a commit.
+fn try_once<R: Wait, D: Disk, J: Desks>(
+    rt: &R,
+    shared: &Shared<J>,
+    flusher: &mut Flusher<D>,
+) -> Result<Met, StoreError>
+    ensures { Goes D.DiskFacts flusher.old flusher.new }
+{
+    if flusher.reserve().is_err() {
+        return Err(StoreError::Memory);
+    }
+    shared.meet(rt, flusher)
+}
+
 /// Makes the device calls of the commit under way, until it is through or one of them fails.
-fn go_through<R: Wait, D: Disk, G: Gate>(rt: &R, flusher: &mut Flusher<D>, gate: &G) {
+fn go_through<R: Wait, D: Disk, G: Gate>(rt: &R, flusher: &mut Flusher<D>, gate: &G)
+    ensures { Goes D.DiskFacts flusher.old flusher.new }
+{
     for _ in rt.forever() {
-        match flusher.device_step() {
+        match device_call(flusher) {
             Ok(phase) => {
                 gate.pass(Point::DeviceCall);
                 if matches!(phase, Phase::Sync3 | Phase::Idle) {
@@ -97,4 +136,12 @@ fn go_through<R: Wait, D: Disk, G: Gate>(rt: &R, flusher: &mut Flusher<D>, gate:
             Err(_) => return,
         }
     }
+}
+
+/// Makes the next device call of the commit under way.
+fn device_call<D: Disk>(flusher: &mut Flusher<D>) -> Result<Phase, StoreError>
+    ensures { Goes D.DiskFacts flusher.old flusher.new }
+{
+    flusher.kept();
+    flusher.device_step()
 }
