@@ -12,7 +12,7 @@ import tempfile
 import time
 
 from daemon import within
-from program import REPLICA, Checks, all_of, insert, line, new_file, read, run
+from program import REPLICA, Checks, all_of, fault, insert, line, new_file, read, run
 from refusing import MEMORY, Pipe, Refusal, RefusedDaemon, Wrong, compiled, ended
 from words import MADE, OK
 
@@ -24,6 +24,8 @@ ROWS = (1, 3, 40)
 SECONDS, LEAST = 6, 5
 LONGEST = 7_200
 REFUSED = line(code=1, error="memory", ok=False)
+FAILED = {"code": 9, "error": "failed", "ok": False}
+MEGABYTE = 1_000_000
 
 
 def comment(last):
@@ -97,8 +99,8 @@ class Sweep:
     def __init__(self, checks, program, library, seconds):
         self.checks, self.program, self.library, self.seconds = checks, program, library, seconds
 
-    def refusal(self, name, first=0, many=1):
-        return Refusal(self.library, name + ".count", first, many)
+    def refusal(self, name, first=0, many=1, size=0):
+        return Refusal(self.library, name + ".count", first, many, size)
 
     def each(self, what, count, one):
         """A run for each row of refusals and each first request, until the time is over; `one` gives None where all is well."""
@@ -257,6 +259,24 @@ def sweep_serve(sweep, joins):
     sweep.each(what, counted.count(), one)
 
 
+def check_no_commit(sweep):
+    """No commit finds the megabyte that it asks for first: an edit is answered 9 after a thousand tries, and so is the end."""
+    checks = sweep.checks
+    new_file(sweep.program, "uncommitted")
+    daemon = RefusedDaemon(sweep.program, "uncommitted", sweep.refusal("uncommitted", size=MEGABYTE).around)
+    try:
+        talk = daemon.talk()
+        for number in (1, 2):
+            checks.same(f"edit {number} that can't be committed", talk.ask(insert(0, "u")), FAILED)
+            checks.same("how far it is then", talk.ask(STATUS), {"applied": number, "ok": True, "settled": 0, "state": "open"})
+        checks.same("a stop where nothing can be committed", talk.ask(STOP), FAILED)
+        checks.same("the end where nothing can be committed", daemon.ended(), fault(9))
+        checks.same("what is there then", run(sweep.program, "edit", "uncommitted", lines=STATUS)[1], line(applied=0, ok=True, settled=0, state="open"))
+    finally:
+        if daemon.run.poll() is None:
+            daemon.kill()
+
+
 def sweep_all(checks, program, seconds):
     library = compiled()
     if not library:
@@ -268,6 +288,7 @@ def sweep_all(checks, program, seconds):
     if not counted.count():
         checks.skip("refused memory", "this program doesn't ask the C library for its memory")
         return
+    check_no_commit(sweep)
     sweep_init(sweep)
     sweep_dump(sweep)
     sweep_edit(sweep, "a short session", SHORT)

@@ -30,13 +30,15 @@ def compiled():
 
 
 class Refusal:
-    """So many requests for memory in a row are refused, from one on; none where that is 0. It counts those of a run."""
+    """So many requests for memory in a row are refused, from one on, none where that is 0; and each for so many bytes or more, if that isn't 0.
+    It counts those of a run."""
 
-    def __init__(self, library, name, first=0, many=1):
+    def __init__(self, library, name, first=0, many=1, size=0):
         with open(name, "wb") as file:
             file.write(bytes(8))
         self.name = os.path.abspath(name)
-        self.around = dict(os.environ, LD_PRELOAD=library, REFUSE_COUNT=self.name, REFUSE_FROM=str(first), REFUSE_MANY=str(many))
+        numbers = {"REFUSE_FROM": str(first), "REFUSE_MANY": str(many), "REFUSE_SIZE": str(size)}
+        self.around = dict(os.environ, LD_PRELOAD=library, REFUSE_COUNT=self.name, **numbers)
 
     def count(self):
         with open(self.name, "rb") as file:

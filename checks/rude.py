@@ -15,6 +15,8 @@ from program import insert, line, run
 SOON = 2
 SECONDS = 2
 CONNECTIONS = 2_000
+# How many links there may be, and seconds after which a peer that takes nothing is let go.
+LINKS, TAKES_NOTHING = 8, 31
 MEGABYTE = 1_000_000
 BESIDE, READ, TRICKLED, PEERS = 50, 51, 52, 53
 STOP = line(op="stop")
@@ -170,6 +172,15 @@ def check_malformed(checks, daemon):
     talk.close()
 
 
+def check_places(checks, daemon, deaf_since):
+    """A peer that takes nothing for half a minute is let go: then there is room for as many as there may be."""
+    time.sleep(max(0, deaf_since + TAKES_NOTHING - time.monotonic()))
+    peers = [link(daemon, replica(60 + number)) for number in range(LINKS)]
+    checks.same("links where deaf peers were let go", len(peers), LINKS)
+    for peer in peers:
+        peer.close()
+
+
 def check_end(checks, program, daemon, docs):
     """The daemon ends while rude ones are still there, and the file opens."""
     talk = seat(daemon)
@@ -187,9 +198,11 @@ def check(checks, program, _until):
     daemon = new_daemon(program, "rude")
     held = []
     try:
-        held += check_sessions(checks, daemon)
         held += check_peers(checks, daemon)
+        deaf_since = time.monotonic()
+        held += check_sessions(checks, daemon)
         check_malformed(checks, daemon)
+        check_places(checks, daemon, deaf_since)
         check_end(checks, program, daemon, (BESIDE, BESIDE + 100, READ, TRICKLED, PEERS))
     except (OSError, TimeoutError, subprocess.TimeoutExpired) as error:
         checks.same("rude ones come to their end", repr(error), None)

@@ -7,7 +7,7 @@ import subprocess
 import time
 
 from beside import Beside, together
-from daemon import HOST, Daemon, within
+from daemon import HOST, PATIENCE, Daemon, within
 from full_disk import limited
 from program import PAGE, REPLICA, insert, line, new_file, run, text_of
 
@@ -48,6 +48,39 @@ def check_few_files(checks, program):
     finally:
         if daemon.run.poll() is None:
             daemon.kill()
+
+
+def check_end_without_files(checks, program):
+    """A stop where sessions hold all files that may be open."""
+    new_file(program, "none-left")
+    daemon = Daemon(program, "none-left", preexec_fn=few_files)
+    talks = []
+    try:
+        within("no more sessions are served", lambda: not is_served(daemon, talks))
+        checks.holds(f"{len(talks)} sessions over {FILES} files", 4 < len(talks) < FILES)
+        checks.same("an edit where no file is left", talks[0].ask(insert(0, "n")), {"ok": True, "rev": 1})
+        checks.same("a stop where no file is left", talks[0].ask(STOP), {"ok": True})
+        checks.same("the end where no file is left", daemon.ended(), (0, b"", b""))
+    finally:
+        for talk in talks:
+            talk.close()
+        if daemon.run.poll() is None:
+            daemon.kill()
+
+
+def is_served(daemon, talks):
+    """Whether one more session is answered in half a second; it is kept."""
+    talks.append(daemon.talk())
+    talks[-1].socket.settimeout(0.5)
+    try:
+        talks[-1].send(STATUS)
+        answer = talks[-1].answer()
+    except (TimeoutError, OSError):
+        answer = None
+    talks[-1].socket.settimeout(PATIENCE)
+    if not answer:
+        talks.pop().close()
+    return bool(answer)
 
 
 def check_full_disk(checks, program):
@@ -135,7 +168,7 @@ def check_half_closed(checks, program):
 
 
 def check(checks, program, _until):
-    for part in (check_few_files, check_full_disk, check_stop_under_load, check_half_closed):
+    for part in (check_few_files, check_end_without_files, check_full_disk, check_stop_under_load, check_half_closed):
         try:
             part(checks, program)
         except (OSError, TimeoutError, subprocess.TimeoutExpired) as error:

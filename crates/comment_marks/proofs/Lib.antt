@@ -1,3 +1,4 @@
 pub mod Members
 pub mod Rising
 pub mod Deciding
+mod Kept

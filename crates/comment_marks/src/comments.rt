@@ -1,10 +1,12 @@
-ghost use Rattle.std.specs.Prelude.{◌≡◌, ◌↔◌, ℕ, List, IsTrue, Contains, map, IfOk};
-ghost use Rattle.op_model.specs.Spans.{comment_ids};
+ghost use Rattle.std.specs.Prelude.{◌≡◌, ◌↔◌, ℕ, List, IsTrue, Contains, map, filter, IfOk};
+ghost use Rattle.std.specs.BTreeMap.{keys};
+ghost use Rattle.comment_marks.specs.Decisions.{about, is_added};
 ghost use Rattle.comment_marks.specs.Standing.{standing};
 
-use crate::choosing::decided;
-use op_model::{CommentId, CommentIds, MarkKey, Marking, insert_rising};
+use crate::decisions::{Decision, decisions};
+use op_model::{CommentId, CommentIds, Marking};
 use std::alloc::{AllocError, Global};
+use std::collections::BTreeMap;
 use std::marker::Model;
 
 /// The comments that stand in a set of mark operations, in the order of their numbers. Contracts
@@ -22,16 +24,13 @@ impl Model for Comments {
 
 impl Comments {
     /// The comments that stand in a set: of the mark operations about each the one with the
-    /// greatest id adds it. An error is want of memory (1). For each comment that the set names a
-    /// pass over the set, and the square of how many it names.
+    /// greatest id adds it. An error is want of memory (1). For each mark operation of the set a
+    /// search among the comments that it names.
     pub fn of(alloc: Global, set: &[&Marking]) -> Result<Comments, AllocError>
         ensures { IfOk result (λ comments. comments ≡ standing (map (λ m. m.now) set.now)) }
     {
-        let ids = named(alloc, set)?
-            .iter()
-            .copied()
-            .filter(|id| decided(set, &MarkKey::Comment(*id)).is_some())
-            .collect::<Vec<CommentId>>(alloc)?;
+        let decisions = decisions(alloc, set)?;
+        let ids = added(alloc, &decisions)?;
         Ok(Comments {
             ids: CommentIds::from(ids),
         })
@@ -59,18 +58,29 @@ impl Comments {
     }
 }
 
-/// The comments that mark operations name, in rising order. An error is want of memory (1).
-fn named(alloc: Global, set: &[&Marking]) -> Result<Vec<CommentId>, AllocError>
-    ensures { IfOk result (λ ids. ids.items ≡ comment_ids (map (λ m. m.now) set.now)) }
+/// The comments that are added, in rising order. An error is want of memory (1).
+fn added(
+    alloc: Global,
+    decisions: &BTreeMap<CommentId, Decision>,
+) -> Result<Vec<CommentId>, AllocError>
+    ensures { IfOk result (λ ids. ids.items
+        ≡ filter (λ id. is_added (about id decisions.now.entries)) (keys decisions.now)) }
 {
-    let mut ids = Vec::new(alloc);
-    let mut i = set.len();
-    while i > 0 {
-        i -= 1;
-        let key = set[i].key;
-        if let MarkKey::Comment(id) = key {
-            insert_rising(&mut ids, id)?;
-        }
+    Ok(
+        decisions
+            .keys()
+            .copied()
+            .filter(|id| adds(decisions, *id))
+            .collect::<Vec<CommentId>>(alloc)?,
+    )
+}
+
+/// Whether what is decided about a comment adds it.
+fn adds(decisions: &BTreeMap<CommentId, Decision>, id: CommentId) -> bool
+    ensures { result ≡ is_added (about id decisions.now.entries) }
+{
+    match decisions.get(&id) {
+        Some(decision) => decision.adds,
+        None => false,
     }
-    Ok(ids)
 }

@@ -3,6 +3,7 @@
 
 mod choosing;
 mod comments;
+mod decisions;
 pub mod laws;
 #[cfg(test)]
 mod tests;

@@ -1,11 +1,11 @@
 use Rattle.std.proofs.Common.{◌≡◌, ◌≤◌, length, drop, map}
-use Rattle.op_model.specs.Spans.{comment_ids}
-use Rattle.comment_marks.proofs.comments.named.Given as goal
+use Rattle.comment_marks.specs.Decisions.{decisions}
+use Rattle.comment_marks.proofs.decisions.decisions.Given as goal
 
 abbrev pub invariant-loop-i : goal.invariant-loop-i
 invariant-loop-i l = record {
   within : l.i ≤ length l.set;
-  ids : l.ids.items ≡ comment_ids (map (λ m. m.now) (drop l.i l.set));
+  entries : l.found.entries ≡ decisions (map (λ m. m.now) (drop l.i l.set));
 }
 
 abbrev pub decreases-loop-i : goal.decreases-loop-i
