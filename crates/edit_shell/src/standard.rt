@@ -156,7 +156,8 @@ fn run_held<
 
 /// Serves the sessions and the peers of a file. Faults come in this order: the file can't be opened
 /// (54); it is no store, the device fails or memory is refused (42 to 47, 50, 52, 1); a socket
-/// can't be opened or the peer can't be joined (70); the device failed while it served (9).
+/// can't be opened or the peer can't be joined (70); the device failed while it served, or what was
+/// applied couldn't be settled (9).
 fn serve<
     R: Files<File = File>
         + Clock

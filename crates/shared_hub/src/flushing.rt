@@ -54,6 +54,7 @@ fn commit_each<R: Wait, D: Disk, J: Desks, G: Gate>(
         if !shared.wait_for_work(rt) {
             return;
         }
+        shared.gather(rt);
         if !commit(rt, shared, flusher, gate) {
             return;
         }

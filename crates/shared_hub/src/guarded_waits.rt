@@ -72,6 +72,11 @@ impl<J: Desks> Guarded<J> {
             && self.turns.given_up < length
     }
 
+    /// How many operations wait for a commit.
+    pub(crate) fn waiting(&self) -> usize {
+        self.locked.list().len().saturating_sub(self.locked.begun())
+    }
+
     /// Whether the flusher sleeps and has work: whoever asks is to wake it.
     pub(crate) fn wakes_flusher(&mut self) -> bool
         ensures { self.new ≡ self.old }

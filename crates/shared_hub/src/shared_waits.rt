@@ -9,6 +9,10 @@ use crate::shared::Shared;
 use pass_books::{Desks, Pass};
 use replica_core::Ticket;
 use std::sync::Wait;
+use std::thread;
+
+/// How often the flusher looks at the most whether more operations wait, before it begins a commit.
+const LOOKS: u32 = 64;
 
 impl<J: Desks> Shared<J> {
     /// Waits until the operations of a ticket are settled, and acknowledges them; else the device
@@ -91,6 +95,20 @@ impl<J: Desks> Shared<J> {
             guard = self.work.wait(rt, guard);
         }
         unreachable!()
+    }
+
+    /// Lets other threads run as long as each look finds that more operations wait: they share the
+    /// commit that begins next.
+    pub(crate) fn gather<R: Wait>(&self, rt: &R) {
+        let mut seen = 0;
+        for _ in 0..LOOKS {
+            let waiting = self.guarded.lock(rt).waiting();
+            if waiting <= seen {
+                return;
+            }
+            seen = waiting;
+            thread::yield_now();
+        }
     }
 
     /// Gives up the commit that was tried last, and tells those who wait for it.
