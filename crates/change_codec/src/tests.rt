@@ -22,23 +22,34 @@ const STRONG_TO_THE_END: &str =
 /// Strong removed from the start to the end of the text.
 const NO_STRONG: &str = "00000021 04 00000001 0000000000000001 A 00 01 00 03";
 
-/// The bytes that pieces of hex say, where `A` stands for the replica.
-fn bytes_of(alloc: Global, pieces: &str) -> Result<Vec<u8>, Fail> {
-    let mut bytes = Vec::new(alloc);
-    for piece in pieces.split_whitespace() {
-        let digits = if piece == "A" { NAME } else { piece };
-        let mut high = None;
-        for digit in digits.chars() {
-            let value = (digit.to_digit(16).ok_or("a digit")? % 16) as u8;
-            match high {
-                None => high = Some(value),
-                Some(first) => {
-                    bytes.push(first % 16 * 16 + value)?;
-                    high = None;
-                }
+/// Puts the bytes that hex digits say behind the others.
+fn push_digits(bytes: &mut Vec<u8>, digits: &str) -> Result<(), Fail> {
+    let mut high = None;
+    for digit in digits.chars() {
+        let value = (digit.to_digit(16).ok_or("a digit")? % 16) as u8;
+        match high {
+            None => high = Some(value),
+            Some(first) => {
+                bytes.push(first % 16 * 16 + value)?;
+                high = None;
             }
         }
     }
+    Ok(())
+}
+
+/// Puts the bytes that pieces of hex say behind the others, where `A` stands for the replica.
+fn push_pieces(bytes: &mut Vec<u8>, pieces: &str) -> Result<(), Fail> {
+    for piece in pieces.split_whitespace() {
+        push_digits(bytes, if piece == "A" { NAME } else { piece })?;
+    }
+    Ok(())
+}
+
+/// The bytes that pieces of hex say.
+fn bytes_of(alloc: Global, pieces: &str) -> Result<Vec<u8>, Fail> {
+    let mut bytes = Vec::new(alloc);
+    push_pieces(&mut bytes, pieces)?;
     Ok(bytes)
 }
 
@@ -51,18 +62,60 @@ fn id(counter: u64) -> Result<OpId, Fail> {
     Ok(OpId::try_new(counter, replica()?).ok_or("counter")?)
 }
 
-/// The operation with this counter, which counts all before it.
-fn op(alloc: Global, counter: u64, body: Body) -> Result<Op, Fail> {
+/// The id with this counter, and the clock that counts all before it.
+fn place(alloc: Global, counter: u64) -> Result<(OpId, Clock), Fail> {
+    let id = id(counter)?;
     let mut deps = Clock::new(alloc);
     if counter > 1 {
         deps.advance(replica()?)?;
     }
-    Ok(Op {
-        id: id(counter)?,
+    Ok((id, deps))
+}
+
+// The operation with this counter, which counts all before it. In a box, so that a test which
+// returns early drops a box: that an operation is dropped is then proved once, and not at each
+// return.
+fn op(alloc: Global, counter: u64, body: Body) -> Result<Box<Op>, Fail> {
+    let (id, deps) = place(alloc, counter)?;
+    let op = Op {
+        id,
         doc: 1,
         deps,
         body,
-    })
+    };
+    Ok(Box::new(alloc, op)?)
+}
+
+fn insert(alloc: Global, counter: u64, origin: Option<OpId>, value: char) -> Result<Box<Op>, Fail> {
+    op(alloc, counter, Body::Insert { origin, value })
+}
+
+fn remove(alloc: Global, counter: u64, target: OpId) -> Result<Box<Op>, Fail> {
+    op(alloc, counter, Body::Remove { target })
+}
+
+fn add_mark(
+    alloc: Global,
+    counter: u64,
+    mark: Mark,
+    start: Start,
+    end: End,
+) -> Result<Box<Op>, Fail> {
+    op(alloc, counter, Body::AddMark { mark, start, end })
+}
+
+fn remove_mark(
+    alloc: Global,
+    counter: u64,
+    key: MarkKey,
+    start: Start,
+    end: End,
+) -> Result<Box<Op>, Fail> {
+    op(alloc, counter, Body::RemoveMark { key, start, end })
+}
+
+fn link(alloc: Global, url: &str) -> Result<Mark, Fail> {
+    Ok(Mark::Link(Url::new(String::from_str(alloc, url)?).ok_or("url")?))
 }
 
 /// The number of the refusal of these bytes, or 0.
@@ -74,17 +127,37 @@ fn refusal(alloc: Global, pieces: &str) -> Result<u8, Fail> {
     })
 }
 
-/// Both directions, and that no beginning is an operation.
-fn is_spelled(rt: &impl Abort, alloc: Global, pieces: &str, expected: Op) -> Result<(), Fail> {
-    let bytes = bytes_of(alloc, pieces)?;
+/// Whether an operation is written as these bytes.
+fn is_written(alloc: Global, op: &Op, bytes: &[u8]) -> bool {
     let mut out = Vec::new(alloc);
-    put_op(&expected, &mut out)?;
-    assert_eq!(rt; out.as_slice(), bytes.as_slice());
-    let (taken, len) = take_op(alloc, &bytes)?.ok_or("no record")?;
-    assert_eq!(rt; len, bytes.len());
-    assert_eq!(rt; taken, expected);
+    put_op(op, &mut out).is_ok() && out.as_slice() == bytes
+}
+
+/// Whether these bytes are taken as an operation, to the last one.
+fn is_taken(alloc: Global, bytes: &[u8], expected: &Op) -> bool {
+    match take_op(alloc, bytes) {
+        Ok(Some((taken, len))) => len == bytes.len() && taken == *expected,
+        Ok(None) => false,
+        Err(_) => false,
+    }
+}
+
+/// Whether these bytes may go on to a record, and aren't one.
+fn is_unfinished(alloc: Global, bytes: &[u8]) -> bool {
+    match take_op(alloc, bytes) {
+        Ok(None) => true,
+        Ok(Some(_)) => false,
+        Err(_) => false,
+    }
+}
+
+/// Both directions, and that no beginning is an operation.
+fn is_spelled(rt: &impl Abort, alloc: Global, pieces: &str, expected: &Op) -> Result<(), Fail> {
+    let bytes = bytes_of(alloc, pieces)?;
+    assert!(rt; is_written(alloc, expected, &bytes));
+    assert!(rt; is_taken(alloc, &bytes, expected));
     for end in 0..bytes.len() {
-        assert!(rt; take_op(alloc, &bytes[..end])?.is_none());
+        assert!(rt; is_unfinished(alloc, &bytes[..end]));
     }
     Ok(())
 }
@@ -92,176 +165,133 @@ fn is_spelled(rt: &impl Abort, alloc: Global, pieces: &str, expected: Op) -> Res
 #[test]
 fn the_vectors_are_spelled(rt: HostRuntime) -> Result<(), Fail> {
     let alloc = rt.alloc();
-    let first = Body::Insert {
-        origin: None,
-        value: 'a',
-    };
-    is_spelled(&rt, alloc, FIRST_INSERT, op(alloc, 1, first)?)?;
-    let second = Body::Insert {
-        origin: Some(id(1)?),
-        value: 'b',
-    };
-    is_spelled(&rt, alloc, SECOND_INSERT, op(alloc, 2, second)?)?;
-    let strong = Body::AddMark {
-        mark: Mark::Strong,
-        start: Start::From(Anchor::Before(id(1)?)),
-        end: End::OfText,
-    };
-    is_spelled(&rt, alloc, STRONG_TO_THE_END, op(alloc, 2, strong)?)?;
-    let plain = Body::RemoveMark {
-        key: MarkKey::Strong,
-        start: Start::OfText,
-        end: End::OfText,
-    };
-    is_spelled(&rt, alloc, NO_STRONG, op(alloc, 1, plain)?)
+    let a = id(1)?;
+    let op = insert(alloc, 1, None, 'a')?;
+    is_spelled(&rt, alloc, FIRST_INSERT, &op)?;
+    let op = insert(alloc, 2, Some(a), 'b')?;
+    is_spelled(&rt, alloc, SECOND_INSERT, &op)?;
+    let start = Start::From(Anchor::Before(a));
+    let op = add_mark(alloc, 2, Mark::Strong, start, End::OfText)?;
+    is_spelled(&rt, alloc, STRONG_TO_THE_END, &op)?;
+    let op = remove_mark(alloc, 1, MarkKey::Strong, Start::OfText, End::OfText)?;
+    is_spelled(&rt, alloc, NO_STRONG, &op)
 }
+
+/// A link over the text up to "a".
+const LINK: &str =
+    "0000003d 03 00000001 0000000000000001 A 00 03 0002 c3a9 00 02 0000000000000001 A";
+
+/// A comment over the text.
+const COMMENT: &str =
+    "00000031 03 00000001 0000000000000001 A 00 04 00000000000000000000000000000000 00 03";
+
+/// A remove of "a".
+const REMOVE: &str = "00000036 02 00000001 0000000000000001 A 00 0000000000000001 A";
 
 #[test]
 fn links_comments_and_removes_are_spelled(rt: HostRuntime) -> Result<(), Fail> {
     let alloc = rt.alloc();
-    let link = Body::AddMark {
-        mark: Mark::Link(Url::new(String::from_str(alloc, "é")?).ok_or("url")?),
-        start: Start::OfText,
-        end: End::To(Anchor::After(id(1)?)),
-    };
-    let spelled =
-        "0000003d 03 00000001 0000000000000001 A 00 03 0002 c3a9 00 02 0000000000000001 A";
-    is_spelled(&rt, alloc, spelled, op(alloc, 1, link)?)?;
-    let comment = Body::AddMark {
-        mark: Mark::Comment(CommentId::read([0; 16])),
-        start: Start::OfText,
-        end: End::OfText,
-    };
-    let spelled =
-        "00000031 03 00000001 0000000000000001 A 00 04 00000000000000000000000000000000 00 03";
-    is_spelled(&rt, alloc, spelled, op(alloc, 1, comment)?)?;
-    let remove = Body::Remove { target: id(1)? };
-    let spelled = "00000036 02 00000001 0000000000000001 A 00 0000000000000001 A";
-    is_spelled(&rt, alloc, spelled, op(alloc, 1, remove)?)
+    let a = id(1)?;
+    let end = End::To(Anchor::After(a));
+    let op = add_mark(alloc, 1, link(alloc, "é")?, Start::OfText, end)?;
+    is_spelled(&rt, alloc, LINK, &op)?;
+    let comment = Mark::Comment(CommentId::read([0; 16]));
+    let op = add_mark(alloc, 1, comment, Start::OfText, End::OfText)?;
+    is_spelled(&rt, alloc, COMMENT, &op)?;
+    let op = remove(alloc, 1, a)?;
+    is_spelled(&rt, alloc, REMOVE, &op)
+}
+
+/// Bytes that are refused, and the number of their refusal.
+#[derive(Clone, Copy)]
+struct Row<'a>(&'a str, u8);
+
+fn are_refused(rt: &impl Abort, alloc: Global, rows: &[Row<'_>]) -> Result<(), Fail> {
+    for row in rows {
+        assert_eq!(rt; refusal(alloc, row.0)?, row.1, "{}", row.0);
+    }
+    Ok(())
 }
 
 #[test]
 fn lengths_are_told_first(rt: HostRuntime) -> Result<(), Fail> {
     let alloc = rt.alloc();
-    assert!(rt; take_op(alloc, &[0, 0, 0])?.is_none());
-    assert!(rt; take_op(alloc, &[0, 0, 5, 0xd3])?.is_none());
-    assert_eq!(rt; refusal(alloc, "00000020")?, 30);
-    assert_eq!(rt; refusal(alloc, "000005d4")?, 30);
-    assert_eq!(rt;
-        refusal(
-            alloc,
-            "00000024 01 00000001 0000000000000001 A 00 00 00000061 00"
-        )?,
-        30
-    );
-    assert_eq!(rt;
-        refusal(
-            alloc,
-            "00000022 01 00000001 0000000000000001 A 00 00 000000"
-        )?,
-        30
-    );
-    assert_eq!(rt;
-        refusal(alloc, "00000020 05 00000001 0000000000000001 A 00 00 00")?,
-        30
-    );
-    Ok(())
+    assert!(rt; is_unfinished(alloc, &[0, 0, 0]));
+    assert!(rt; is_unfinished(alloc, &[0, 0, 5, 0xd3]));
+    let rows = [
+        Row("00000020", 30),
+        Row("000005d4", 30),
+        Row(
+            "00000024 01 00000001 0000000000000001 A 00 00 00000061 00",
+            30,
+        ),
+        Row("00000022 01 00000001 0000000000000001 A 00 00 000000", 30),
+        Row("00000020 05 00000001 0000000000000001 A 00 00 00", 30),
+    ];
+    are_refused(&rt, alloc, &rows)
 }
+
+/// Two deps of one replica.
+const TWICE: &str =
+    "00000053 01 00000001 0000000000000002 A 02 A 0000000000000001 A 0000000000000001 00 00000062";
+
+/// The same, of which the second counts nothing.
+const TWICE_FOR_NOTHING: &str =
+    "00000053 01 00000001 0000000000000002 A 02 A 0000000000000001 A 0000000000000000 00 00000062";
 
 #[test]
 fn the_first_fault_decides(rt: HostRuntime) -> Result<(), Fail> {
-    let alloc = rt.alloc();
-    assert_eq!(rt;
-        refusal(
-            alloc,
-            "00000023 05 00000001 0000000000000001 A 00 00 00000061"
-        )?,
-        31
-    );
-    assert_eq!(rt;
-        refusal(
-            alloc,
-            "00000023 05 00000001 0000000000000000 A 00 00 00000061"
-        )?,
-        31
-    );
-    assert_eq!(rt;
-        refusal(
-            alloc,
-            "00000023 01 00000001 0000000000000000 A 00 00 00000061"
-        )?,
-        32
-    );
-    assert_eq!(rt;
-        refusal(
-            alloc,
-            "00000023 01 00000001 0000000000000000 A 00 00 0000d800"
-        )?,
-        32
-    );
-    assert_eq!(rt;
-        refusal(
-            alloc,
-            "00000023 01 00000001 0000000000000001 A 00 00 0000d800"
-        )?,
-        33
-    );
-    assert_eq!(rt;
-        refusal(
-            alloc,
-            "00000024 01 00000001 0000000000000001 A 00 00 0000d800 00"
-        )?,
-        33
-    );
-    assert_eq!(rt;
-        refusal(
-            alloc,
-            "00000024 03 00000001 0000000000000001 A 00 03 0001 ff 00 03"
-        )?,
-        34
-    );
-    assert_eq!(rt;
-        refusal(
-            alloc,
-            "00000024 03 00000001 0000000000000001 A 00 03 0001 ff 00 00"
-        )?,
-        34
-    );
-    let twice =
-        "00000053 01 00000001 0000000000000002 A 02 A 0000000000000001 A 0000000000000001 00 00000062";
-    assert_eq!(rt; refusal(alloc, twice)?, 35);
-    let twice_for_nothing =
-        "00000053 01 00000001 0000000000000002 A 02 A 0000000000000001 A 0000000000000000 00 00000062";
-    assert_eq!(rt; refusal(alloc, twice_for_nothing)?, 35);
-    assert_eq!(rt;
-        refusal(alloc, "00000021 04 00000001 0000000000000001 A 00 01 00 00")?,
-        36
-    );
-    assert_eq!(rt;
-        refusal(
-            alloc,
-            "00000022 04 00000001 0000000000000001 A 00 01 03 03 00"
-        )?,
-        36
-    );
-    Ok(())
+    let rows = [
+        Row("00000023 05 00000001 0000000000000001 A 00 00 00000061", 31),
+        Row("00000023 05 00000001 0000000000000000 A 00 00 00000061", 31),
+        Row("00000023 01 00000001 0000000000000000 A 00 00 00000061", 32),
+        Row("00000023 01 00000001 0000000000000000 A 00 00 0000d800", 32),
+        Row("00000023 01 00000001 0000000000000001 A 00 00 0000d800", 33),
+        Row(
+            "00000024 01 00000001 0000000000000001 A 00 00 0000d800 00",
+            33,
+        ),
+        Row(
+            "00000024 03 00000001 0000000000000001 A 00 03 0001 ff 00 03",
+            34,
+        ),
+        Row(
+            "00000024 03 00000001 0000000000000001 A 00 03 0001 ff 00 00",
+            34,
+        ),
+        Row(TWICE, 35),
+        Row(TWICE_FOR_NOTHING, 35),
+        Row("00000021 04 00000001 0000000000000001 A 00 01 00 00", 36),
+        Row("00000022 04 00000001 0000000000000001 A 00 01 03 03 00", 36),
+    ];
+    are_refused(&rt, rt.alloc(), &rows)
+}
+
+/// Whether a record that stands at the front of these bytes is written as it stands there.
+fn is_spelling_or_refused(alloc: Global, bytes: &[u8]) -> bool {
+    match take_op(alloc, bytes) {
+        Ok(Some((op, len))) => is_written(alloc, &op, &bytes[..len]),
+        Ok(None) => true,
+        Err(_) => true,
+    }
+}
+
+/// The bytes that pieces of hex say, with one of them changed.
+fn changed(alloc: Global, pieces: &str, index: usize, value: u8) -> Result<Vec<u8>, Fail> {
+    let mut bytes = bytes_of(alloc, pieces)?;
+    if index < bytes.len() {
+        bytes[index] = value;
+    }
+    Ok(bytes)
 }
 
 /// Each change of one byte to 0, 1 or 255 gives a spelling or is refused.
 fn is_swept(rt: &impl Abort, alloc: Global, pieces: &str) -> Result<(), Fail> {
-    let bytes = bytes_of(alloc, pieces)?;
-    for index in 0..bytes.len() {
+    let count = bytes_of(alloc, pieces)?.len();
+    for index in 0..count {
         for value in [0, 1, 255] {
-            let mut changed = bytes_of(alloc, pieces)?;
-            if index < changed.len() {
-                changed[index] = value;
-            }
-            if let Ok(Some((op, len))) = take_op(alloc, &changed) {
-                let mut out = Vec::new(alloc);
-                put_op(&op, &mut out)?;
-                changed.truncate(len);
-                assert_eq!(rt; out.as_slice(), changed.as_slice());
-            }
+            let bytes = changed(alloc, pieces, index, value)?;
+            assert!(rt; is_spelling_or_refused(alloc, &bytes));
         }
     }
     Ok(())
@@ -274,34 +304,65 @@ fn changed_bytes_are_spellings_or_refused(rt: HostRuntime) -> Result<(), Fail> {
     is_swept(&rt, rt.alloc(), STRONG_TO_THE_END)
 }
 
+/// The bytes of the first insert, and others behind them.
+fn behind_the_first(alloc: Global, pieces: &str) -> Result<Vec<u8>, Fail> {
+    let mut bytes = bytes_of(alloc, FIRST_INSERT)?;
+    push_pieces(&mut bytes, pieces)?;
+    Ok(bytes)
+}
+
+/// How many operations a stream has, or none where it isn't one.
+fn count_of(alloc: Global, bytes: &[u8]) -> Option<usize> {
+    match take_ops(alloc, bytes) {
+        Ok(ops) => Some(ops.len()),
+        Err(_) => None,
+    }
+}
+
+/// Whether a stream of these operations has this length, and the first one's record this one.
+fn have_lengths(ops: &[Op], stream: u64, first: usize) -> bool {
+    match ops.first() {
+        Some(op) => stream_length(ops) == stream && record_len(op) == first,
+        None => false,
+    }
+}
+
+/// Whether these operations are written as these bytes.
+fn are_written(alloc: Global, ops: &[Op], bytes: &[u8]) -> bool {
+    let mut out = Vec::new(alloc);
+    put_ops(ops, &mut out).is_ok() && out.as_slice() == bytes
+}
+
 #[test]
 fn a_stream_is_written_and_read(rt: HostRuntime) -> Result<(), Fail> {
     let alloc = rt.alloc();
-    let bytes = bytes_of(alloc, &format!(in alloc; "{FIRST_INSERT} {SECOND_INSERT}")?)?;
+    let bytes = behind_the_first(alloc, SECOND_INSERT)?;
+    assert!(rt; count_of(alloc, &bytes) == Some(2));
     let ops = take_ops(alloc, &bytes)?;
-    assert_eq!(rt; ops.len(), 2);
-    assert_eq!(rt; stream_length(&ops), 126);
-    assert_eq!(rt; record_len(&ops[0]), 39);
-    let mut out = Vec::new(alloc);
-    put_ops(&ops, &mut out)?;
-    assert_eq!(rt; out.as_slice(), bytes.as_slice());
-    assert!(rt; take_ops(alloc, &[])?.is_empty());
+    assert!(rt; have_lengths(&ops, 126, 39));
+    assert!(rt; are_written(alloc, &ops, &bytes));
+    assert!(rt; count_of(alloc, &[]) == Some(0));
     Ok(())
+}
+
+/// The number of the refusal of a stream, or 0.
+fn stream_refusal(alloc: Global, bytes: &[u8]) -> u8 {
+    match take_ops(alloc, bytes) {
+        Ok(_) => 0,
+        Err(fault) => fault.number(),
+    }
 }
 
 #[test]
 fn what_is_no_stream_is_refused(rt: HostRuntime) -> Result<(), Fail> {
     let alloc = rt.alloc();
-    let bytes = bytes_of(alloc, &format!(in alloc; "{FIRST_INSERT} {SECOND_INSERT}")?)?;
+    let bytes = behind_the_first(alloc, SECOND_INSERT)?;
     for end in 1..bytes.len() {
         let is_whole = end == 39;
-        assert!(rt; take_ops(alloc, &bytes[..end]).is_ok() == is_whole);
+        assert!(rt; (stream_refusal(alloc, &bytes[..end]) == 0) == is_whole);
     }
-    let zeros = bytes_of(alloc, &format!(in alloc; "{FIRST_INSERT} 00000000")?)?;
-    match take_ops(alloc, &zeros) {
-        Ok(_) => Err("a stream")?,
-        Err(fault) => assert_eq!(rt; fault.number(), 46),
-    }
+    let zeros = behind_the_first(alloc, "00000000")?;
+    assert!(rt; stream_refusal(alloc, &zeros) == 46);
     Ok(())
 }
 

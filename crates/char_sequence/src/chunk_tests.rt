@@ -57,6 +57,19 @@ fn counters(rt: &HostRuntime, chunks: &Chunks) -> Result<Vec<u64>, Fail> {
     Ok(found)
 }
 
+/// Whether these are the counters of all cells, in order.
+fn has_counters(rt: &HostRuntime, chunks: &Chunks, expected: &[u64]) -> Result<bool, Fail> {
+    Ok(counters(rt, chunks)?.as_slice() == expected)
+}
+
+/// Whether a cell is a tombstone, where it is there.
+fn is_removed(chunks: &Chunks, i: usize, j: usize) -> bool {
+    match chunks.cell(i, j, &mut Ticks::new()) {
+        Some(cell) => cell.is_removed,
+        None => false,
+    }
+}
+
 /// Whether each of so many chunks has from 256 to 512 cells, and there are no more chunks.
 fn are_sized(chunks: &Chunks, count: usize) -> bool {
     let ticks = &mut Ticks::new();
@@ -72,45 +85,81 @@ fn are_sized(chunks: &Chunks, count: usize) -> bool {
     chunks.chunk(count, ticks).is_none()
 }
 
-#[test]
-fn cells_keep_their_order_in_chunks_of_256_to_512(rt: HostRuntime) -> Result<(), Fail> {
-    let mut chunks = Chunks::new(rt.alloc());
-    for counter in 1..1501 {
+// In a box, so that a test which returns early drops a box: that chunks are dropped is then proved
+// once, and not at each return.
+fn empty(rt: &HostRuntime) -> Result<Box<Chunks>, Fail> {
+    Ok(Box::new(rt.alloc(), Chunks::new(rt.alloc()))?)
+}
+
+/// Puts the cells of these counters behind all, one after another.
+fn push_each(chunks: &mut Chunks, from: u64, to: u64) -> Result<(), Fail> {
+    for counter in from..to {
         chunks.push(cell(counter)?)?;
     }
-    assert!(rt; are_sized(&chunks, 5));
-    for counter in 1501..3001 {
-        put(&mut chunks, 0, 0, &[cell(counter)?])?;
+    Ok(())
+}
+
+/// Puts the cells of these counters before all, one after another.
+fn put_each(chunks: &mut Chunks, from: u64, to: u64) -> Result<(), Fail> {
+    for counter in from..to {
+        put(chunks, 0, 0, &[cell(counter)?])?;
     }
+    Ok(())
+}
+
+/// Puts these counters behind the others, rising.
+fn push_rising(counters: &mut Vec<u64>, from: u64, to: u64) -> Result<(), Fail> {
+    for counter in from..to {
+        counters.push(counter)?;
+    }
+    Ok(())
+}
+
+/// The counters of the cells that the test below puts.
+fn expected(rt: &HostRuntime) -> Result<Vec<u64>, Fail> {
+    let mut expected = Vec::new(rt.alloc());
+    for fallen in 0..1500 {
+        expected.push(3000 - fallen)?;
+    }
+    push_rising(&mut expected, 1, 100)?;
+    push_rising(&mut expected, 3001, 3701)?;
+    push_rising(&mut expected, 100, 1501)?;
+    Ok(expected)
+}
+
+#[test]
+fn cells_keep_their_order_in_chunks_of_256_to_512(rt: HostRuntime) -> Result<(), Fail> {
+    let more = run(&rt, 3001, 3701)?;
+    let expected = expected(&rt)?;
+    let mut chunks = empty(&rt)?;
+    push_each(&mut chunks, 1, 1501)?;
+    assert!(rt; are_sized(&chunks, 5));
+    put_each(&mut chunks, 1501, 3001)?;
     assert!(rt; are_sized(&chunks, 10));
     // 471 cells in the first chunk, 257 in each of the next five.
-    let more = put(&mut chunks, 5, 100, &run(&rt, 3001, 3701)?)?;
-    assert_eq!(rt; more, 2);
+    assert!(rt; put(&mut chunks, 5, 100, &more)? == 2);
     assert!(rt; are_sized(&chunks, 12));
-    let mut expected: Vec<u64> = Vec::new(rt.alloc());
-    expected.extend((1501..3001).rev())?;
-    expected.extend(1..100)?;
-    expected.extend(3001..3701)?;
-    expected.extend(100..1501)?;
-    assert_eq!(rt; counters(&rt, &chunks)?.as_slice(), expected.as_slice());
+    assert!(rt; has_counters(&rt, &chunks, &expected)?);
     Ok(())
 }
 
 #[test]
 fn a_chunk_counts_what_a_reader_sees(rt: HostRuntime) -> Result<(), Fail> {
-    let mut chunks = Chunks::new(rt.alloc());
-    chunks.push(cell(1)?)?;
-    put(&mut chunks, 0, 1, &run(&rt, 2, 5)?)?;
+    let first = cell(1)?;
+    let more = run(&rt, 2, 5)?;
+    let mut chunks = empty(&rt)?;
+    chunks.push(first)?;
+    put(&mut chunks, 0, 1, &more)?;
     remove(&mut chunks, 0, 2)?;
     remove(&mut chunks, 0, 2)?;
-    assert_eq!(rt; put(&mut chunks, 0, 0, &[])?, 0);
+    assert!(rt; put(&mut chunks, 0, 0, &[])? == 0);
     let ticks = &mut Ticks::new();
     assert_eq!(rt;
         chunks.chunk(0, ticks),
         Some(ChunkSize { cells: 4, shown: 3 })
     );
     assert_eq!(rt; chunks.chunk(1, ticks), None);
-    assert!(rt; chunks.cell(0, 2, ticks).is_some_and(|cell| cell.is_removed));
-    assert_eq!(rt; counters(&rt, &chunks)?.as_slice(), [1, 2, 3, 4].as_slice());
+    assert!(rt; is_removed(&chunks, 0, 2));
+    assert!(rt; has_counters(&rt, &chunks, &[1, 2, 3, 4])?);
     Ok(())
 }

@@ -1,5 +1,6 @@
 -- Why what is made is what the definition says.
-use Rattle.std.proofs.Common.{◌≡◌, ℕ, zero, suc, ◌+◌, ◌-◌, ◌≤◌, ◌<◌, Bool, true, false, if◌then◌else◌, List, [], ◌∷◌, ◌++◌, length, map, filter, take, drop, length-append, Option, Some, None, refl, sym, ◌∙◌, ap, arith}
+use Rattle.std.proofs.Common.{◌≡◌, ℕ, zero, suc, ◌+◌, ◌-◌, ◌≤◌, ◌<◌, Bool, true, false, if◌then◌else◌, List, [], ◌∷◌, ◌++◌, length, map, filter, take}
+use Rattle.std.proofs.Common.{drop, length-append, Option, Some, None, refl, sym, ◌∙◌, ap, arith}
 use Rattle.std.specs.Prelude.{nat_le}
 use Rattle.std.proofs.Math.Seq.{drop-nil, take-nil}
 use Rattle.std.proofs.lemmas.Bool.{le-leb}
@@ -19,7 +20,8 @@ use Rattle.op_model.specs.declared.edit.Change.TheVariants as change
 use Rattle.op_model.specs.declared.character.Character.{Character}
 use Rattle.op_model.specs.Causality.{optional, clock_of}
 use Rattle.op_model.specs.Text.{visible}
-use Rattle.op_model.specs.Made.{id_at, id_before, last_or, tombstones_at, ends_after, origin_of, insert_bodies, numbered, greatest_counter, made, start_of, end_of}
+use Rattle.op_model.specs.Made.{id_at, id_before, last_or, tombstones_at, ends_after, origin_of, insert_bodies, numbered, greatest_counter, made}
+use Rattle.op_model.specs.Made.{start_of, end_of}
 use Rattle.char_sequence.specs.Content.{last_ended, AreRemoves, IsRun}
 use Rattle.mark_anchors.specs.Keeping.{kept_end_after, AreMarksOf, Kept}
 use Rattle.mark_anchors.proofs.EndLemmas.{kept_say_ends}

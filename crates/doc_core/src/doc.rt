@@ -1,9 +1,10 @@
-ghost use Rattle.std.specs.Prelude.{◌≡◌, ◌<◌, ◌^◌, List, [], IfOk, length, nat_le};
+ghost use Rattle.std.specs.Prelude.{◌≡◌, ◌≤◌, ◌<◌, ◌^◌, List, [], IfOk, length, nat_le};
 ghost use Rattle.op_model.specs.declared.op.Op.{Op};
 ghost use Rattle.op_model.specs.Made.{id_before, is_inside as is_inside_of, origin_of};
 ghost use Rattle.op_model.specs.Spans.{spans as spans_of};
 ghost use Rattle.op_model.specs.Text.{text as text_of, rev as rev_of, visible};
 ghost use Rattle.doc_core.specs.Standing.{StandsFor};
+ghost use Rattle.span_flatten.specs.Listing.{listed};
 
 use char_sequence::Sequence;
 use mark_anchors::Anchors;
@@ -67,13 +68,13 @@ impl Doc {
         self.sequence.text()
     }
 
-    /// The text that a reader sees, cut where the marks change. An error is want of memory (1).
-    /// Costs what `span_flatten::spans` does: for each mark operation two passes over the
-    /// characters, tombstones counted; for each character that a reader sees a pass over the mark
-    /// operations, and the square of those about comments that cover it.
+    /// The text that a reader sees, cut where the marks change. An error is want of memory (1). An
+    /// answer lists at most 1,048,576 comment ids, one counted in each span that lists it: beyond
+    /// it is 1. Costs what `span_flatten::spans` does.
     pub fn spans(&self) -> Result<Vec<Span>, AllocError>
-        ensures { IfOk result (λ found. (ops : List Op) → StandsFor self.now ops
+        ensures spans { IfOk result (λ found. (ops : List Op) → StandsFor self.now ops
             → found.items ≡ spans_of ops self.now.number) }
+        ensures few { IfOk result (λ found. listed found.items ≤ 1048576) }
     {
         span_flatten::spans(&self.sequence, &self.anchors)
     }

@@ -1,5 +1,5 @@
 ghost use Rattle.std.specs.Prelude.{◌≡◌, ◌↔◌, ◌≤◌, List, length, map, take, drop, true, false};
-ghost use Rattle.std.specs.Prelude.{IfOk, OnOk, IsErrOf};
+ghost use Rattle.std.specs.Prelude.{IfOk, IsErrOf};
 ghost use Rattle.op_model.specs.declared.edit.Change.TheVariants as change;
 ghost use Rattle.op_model.specs.declared.op.Op.{Op};
 ghost use Rattle.op_model.specs.Made.{is_inside};

@@ -1,5 +1,6 @@
 -- How long the records are that an edit makes.
-use Rattle.std.proofs.Common.{◌≡◌, ℕ, zero, suc, ◌+◌, ◌-◌, ◌*◌, ◌<◌, ◌≤◌, true, List, [], ◌∷◌, length, map, filter, take, drop, refl, sym, ◌∙◌, ap, Option, Some, None, arith}
+use Rattle.std.proofs.Common.{◌≡◌, ℕ, zero, suc, ◌+◌, ◌-◌, ◌*◌, ◌<◌, ◌≤◌, true, List, [], ◌∷◌, length, map, filter, take, drop, refl, sym, ◌∙◌, ap}
+use Rattle.std.proofs.Common.{Option, Some, None, arith}
 use Rattle.std.specs.Prelude.{◌==◌, ◌&&◌, nat_lt, nat_le, if◌then◌else◌}
 use Rattle.std.proofs.lemmas.List.{length-map}
 use Rattle.std.proofs.lemmas.Bool.Decides.{nat_tests}
@@ -17,7 +18,8 @@ use Rattle.op_model.specs.declared.mark.MarkKey.{MarkKey}
 use Rattle.op_model.specs.Marks.{key_of}
 use Rattle.op_model.specs.declared.character.Character.{Character}
 use Rattle.op_model.specs.Causality.{clock_of}
-use Rattle.op_model.specs.Made.{tombstones_at, is_inside, end_of, ends_after, last_or, id_at, id_before, origin_of, start_before, end_before, end_after, greatest_counter, numbered, insert_bodies, bodies_of, made, size_of}
+use Rattle.op_model.specs.Made.{tombstones_at, is_inside, end_of, ends_after, last_or, id_at, id_before, origin_of, start_before, end_before}
+use Rattle.op_model.specs.Made.{end_after, greatest_counter, numbered, insert_bodies, bodies_of, made, size_of}
 use Rattle.op_model.specs.Records.{origin_length, start_length, end_length, mark_length, key_length, stream_length}
 use Rattle.op_model.specs.Text.{visible}
 use Rattle.slow_programs.specs.Asking.{IsAskedRight}

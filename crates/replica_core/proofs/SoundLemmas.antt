@@ -1,5 +1,6 @@
 -- What a replica keeps through its steps.
-use Rattle.std.proofs.Common.{◌≡◌, ℕ, ◌+◌, ◌≤◌, ◌<◌, Bool, true, false, not, ◌&&◌, nat_le, nat_lt, List, [], ◌∷◌, ◌++◌, length, take, max, cond, sum_by, refl, sym, ◌∙◌, ap, Option, Some, None, arith, length-append}
+use Rattle.std.proofs.Common.{◌≡◌, ℕ, ◌+◌, ◌≤◌, ◌<◌, Bool, true, false, not, ◌&&◌, nat_le, nat_lt, List, [], ◌∷◌, ◌++◌, length, take, max, cond}
+use Rattle.std.proofs.Common.{sum_by, refl, sym, ◌∙◌, ap, Option, Some, None, arith, length-append}
 use Rattle.std.specs.Prelude.{◌==◌, ◌≢◌, if◌then◌else◌}
 use Rattle.std.specs.List.{list_all}
 use Rattle.std.proofs.Math.Seq.{take-append_seam}
@@ -11,7 +12,8 @@ use Rattle.op_ids.specs.Clock.{advanced, is_ready}
 use Rattle.op_model.specs.declared.op.Op.{Op}
 use Rattle.op_model.specs.declared.op.Body.{Body}
 use Rattle.op_model.specs.declared.edit.Edit.{Edit}
-use Rattle.op_model.specs.Causality.{clock_of, documents, made_by, first_failed, is_counted_up, is_in_range, is_known, is_within_limits, names_inserts, MayFollow}
+use Rattle.op_model.specs.Causality.{clock_of, documents, made_by, first_failed, is_counted_up, is_in_range, is_known, is_within_limits}
+use Rattle.op_model.specs.Causality.{names_inserts, MayFollow}
 use Rattle.op_model.specs.Made.{is_at_rev, is_inside, is_small, made, numbered, bodies_of, greatest_counter, edit_refusal, size_of}
 use Rattle.op_model.specs.Records.{stream_length}
 use Rattle.op_model.specs.Machine.{Ticket, edit_alone, merge_alone, applied, ticket}

@@ -6,7 +6,8 @@ use Rattle.op_model.specs.declared.edit.Edit.{Edit}
 use Rattle.op_model.specs.Causality.{clock_of}
 use Rattle.std.specs.Prelude.{nat_le}
 use Rattle.std.proofs.lemmas.Bool.{le-leb}
-use Rattle.op_model.specs.Machine.{Commit, Ticket, ticket, ticket_of, refused, acknowledged, operations, clock, known, early, edit_alone, merge_alone, with_room, has_record_room, untold, reach, IsRefusal, EditStep, MergeStep, AckStep, TellStep, HaveStep}
+use Rattle.op_model.specs.Machine.{Commit, Ticket, ticket, ticket_of, refused, acknowledged, operations, clock, known, early, edit_alone, merge_alone}
+use Rattle.op_model.specs.Machine.{with_room, has_record_room, untold, reach, IsRefusal, EditStep, MergeStep, AckStep, TellStep, HaveStep}
 use Rattle.op_model.specs.Machine.{with_settled as state_settled}
 use Rattle.replica_core.specs.declared.merged.Merged.{Merged}
 use Rattle.replica_core.specs.declared.merged.Merged.TheVariants as merged_as

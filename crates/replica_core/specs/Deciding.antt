@@ -1,3 +1,5 @@
+-- Used by private functions and proofs alone.
+--
 -- What decides on an operation before anything changes.
 use Rattle.std.specs.Prelude.{◌≡◌, ℕ, ◌+◌, Bool, ◌&&◌, nat_lt, List, [], ◌∷◌}
 use Rattle.std.specs.List.{list_all}

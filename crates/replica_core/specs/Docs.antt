@@ -1,3 +1,5 @@
+-- Used by private functions and proofs alone.
+--
 -- The documents of a list.
 use Rattle.std.specs.Prelude.{◌≡◌, ◌≤◌, ◌<◌, ℕ, List, [], ◌∷◌, ◌++◌, length, map, take, drop, slice_index_or, Result, MatchResult}
 use Rattle.doc_core.specs.declared.doc.Doc.{Doc}

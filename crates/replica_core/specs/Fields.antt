@@ -1,3 +1,5 @@
+-- Used by private functions and proofs alone.
+--
 -- The fields of a replica.
 use Rattle.std.specs.Prelude.{◌≡◌, ℕ, List}
 use Rattle.op_model.specs.declared.op.Op.{Op}

@@ -1,3 +1,5 @@
+-- Used by private functions and proofs alone.
+--
 -- What is known of a list without a pass over it.
 use Rattle.std.specs.Prelude.{◌≡◌, ℕ, List}
 use Rattle.op_model.specs.declared.op.Op.{Op}

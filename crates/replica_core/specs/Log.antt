@@ -1,3 +1,5 @@
+-- Used by private functions and proofs alone.
+--
 -- What a call leaves of the operations of a replica, and of what is known of them.
 use Rattle.std.specs.Prelude.{◌≡◌, ℕ, List, ◌++◌}
 use Rattle.op_model.specs.declared.op.Op.{Op}

@@ -1,3 +1,5 @@
+-- Used by private functions and proofs alone.
+--
 -- Where the operations of each replica stand in a list.
 use Rattle.std.specs.Prelude.{◌≡◌, ℕ, ◌+◌, ◌-◌, ◌<◌, ◌==◌, if◌then◌else◌, true, nat_lt, List, [], ◌∷◌, ◌++◌}
 use Rattle.std.specs.Prelude.{Option, Some, None, slice_get, vec_len, vec_capacity}

@@ -1,5 +1,7 @@
 ghost use Rattle.std.specs.Prelude.{◌≡◌, ◌<◌, ◌++◌, ◌∷◌, [], ◌&&◌, ◌==◌, nat_le, nat_lt, length, true, MatchOption, Some, None, IsTrue, ◌↔◌};
-ghost use Rattle.op_model.specs.Causality.{IsCausallyClosed, MayFollow, documents, first_failed as first_failed_of, is_counted_up as is_counted_up_of, is_covered_insert as is_covered_insert_of, is_known as is_known_in, is_within_limits, named_by_anchor, named_by_end, named_by_start, names_inserts as names_inserts_of};
+ghost use Rattle.op_model.specs.Causality.{IsCausallyClosed, MayFollow, documents, first_failed as first_failed_of};
+ghost use Rattle.op_model.specs.Causality.{is_counted_up as is_counted_up_of, is_covered_insert as is_covered_insert_of, is_known as is_known_in};
+ghost use Rattle.op_model.specs.Causality.{is_within_limits, named_by_anchor, named_by_end, named_by_start, names_inserts as names_inserts_of};
 ghost use Rattle.op_model.specs.Spans.{with_number};
 ghost use Rattle.replica_core.specs.Deciding.{AreCounted, names_all};
 ghost use Rattle.replica_core.specs.Indexes.{IsIndexOf};

@@ -36,4 +36,8 @@ mod merge_tests;
 #[cfg(test)]
 mod tell_tests;
 #[cfg(test)]
+mod test_asks;
+#[cfg(test)]
+mod test_exchange;
+#[cfg(test)]
 mod test_peers;

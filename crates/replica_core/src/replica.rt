@@ -9,6 +9,7 @@ ghost use Rattle.op_model.specs.Text.{text as text_of, rev as rev_of};
 ghost use Rattle.replica_core.specs.Held.{alone, opened_with, IsSound};
 ghost use Rattle.replica_core.specs.Held.{with_acked, with_settled, with_told};
 ghost use Rattle.replica_core.specs.Steps.{places_left};
+ghost use Rattle.span_flatten.specs.Listing.{listed};
 
 use crate::counting::clock_of_front;
 use crate::docs::{count, find};
@@ -166,10 +167,12 @@ impl Replica {
         find(&self.log.docs, &empty).text()
     }
 
-    /// The text of a document, cut where the marks change. An error is want of memory (1). A search
-    /// by halves for the document, and what `Doc::spans` costs.
+    /// The text of a document, cut where the marks change. An error is want of memory (1). An
+    /// answer lists at most 1,048,576 comment ids, one counted in each span that lists it: beyond
+    /// it is 1. A search by halves for the document, and what `Doc::spans` costs.
     pub fn spans(&self, doc: u32) -> Result<Vec<Span>, AllocError>
-        ensures { IfOk result (λ found. found.items ≡ spans_of self.now.list doc) }
+        ensures spans { IfOk result (λ found. found.items ≡ spans_of self.now.list doc) }
+        ensures few { IfOk result (λ found. listed found.items ≤ 1048576) }
     {
         let empty = Doc::new(self.log.list.allocator(), doc);
         find(&self.log.docs, &empty).spans()

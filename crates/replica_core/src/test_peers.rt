@@ -1,15 +1,13 @@
-//! What the tests of edits and of merges share. Helpers answer plain values, so that a test has few
-//! ways out: those are what its proof costs.
+//! What the tests ask of one replica. The answers are plain values.
 use super::*;
-use op_ids::{Clock, ReplicaId};
+use op_ids::{Clock, OpId, ReplicaId};
 use op_list::{OpList, OpSlice};
-use op_model::{Change, Edit, EditText, Op, Text};
-use std::alloc::Global;
-use std::num::NonZeroU32;
+use op_model::{Change, Edit, Op, Text};
+use std::alloc::{AllocError, Global};
 use std::test::Fail;
 
 /// What stands for an answer where a helper couldn't make what it needs.
-const NOTHING: u8 = 255;
+const NOTHING: usize = 255;
 
 fn bytes_ending(last: u8) -> [u8; 16] {
     let mut bytes = [0; 16];
@@ -21,49 +19,38 @@ pub fn replica_id(last: u8) -> Result<ReplicaId, Fail> {
     Ok(ReplicaId::read(bytes_ending(last)).ok_or("nil")?)
 }
 
-/// A replica without operations. It is boxed, so that a test which returns early drops a box: that
-/// a replica is dropped is then proved once, and not at each return.
-pub fn empty(alloc: Global, last: u8) -> Result<Box<Replica>, Fail> {
-    let id = replica_id(last)?;
-    Ok(Box::new(alloc, Replica::new(alloc, id))?)
-}
-
-pub fn insert(alloc: Global, at: u32, text: &str) -> Option<Change> {
-    let text = text.chars().collect(alloc).ok()?;
-    Some(Change::Insert {
-        at,
-        text: EditText::new(text)?,
-    })
-}
-
-pub fn delete(at: u32, count: u32) -> Option<Change> {
-    Some(Change::Delete {
-        at,
-        count: NonZeroU32::new(count)?,
-    })
+pub fn id_of(counter: u64, last: u8) -> Option<OpId> {
+    OpId::try_new(counter, ReplicaId::read(bytes_ending(last))?)
 }
 
 /// The number of the refusal of an edit, or 0.
-pub fn refusal(replica: &mut Replica, doc: u32, rev: Option<u32>, change: Option<Change>) -> u8 {
+pub fn refusal(replica: &mut Replica, doc: u32, rev: Option<u32>, change: Option<Change>) -> usize {
     match change {
         Some(change) => refusal_of(replica, &Edit { doc, rev, change }),
         None => NOTHING,
     }
 }
 
-fn refusal_of(replica: &mut Replica, edit: &Edit) -> u8 {
+fn refusal_of(replica: &mut Replica, edit: &Edit) -> usize {
     match replica.edit(1, edit) {
         Ok(_) => 0,
-        Err(refusal) => refusal.number(),
+        Err(refusal) => refusal.number() as usize,
+    }
+}
+
+/// An edit of document 1, whatever its number of operations.
+fn first_edit(change: Change) -> Edit {
+    Edit {
+        doc: 1,
+        rev: None,
+        change,
     }
 }
 
 /// The rev of the ticket of an edit of document 1, or 0 where it is refused.
 pub fn rev_after(replica: &mut Replica, change: Option<Change>) -> usize {
-    let doc = 1;
-    let rev = None;
     match change {
-        Some(change) => ticket_rev(replica, &Edit { doc, rev, change }),
+        Some(change) => ticket_rev(replica, &first_edit(change)),
         None => 0,
     }
 }
@@ -75,13 +62,50 @@ fn ticket_rev(replica: &mut Replica, edit: &Edit) -> usize {
     }
 }
 
+/// How many bytes the records take of an edit of document 1 that is put behind the list, or 0.
+pub fn put_length(replica: &mut Replica, change: Option<Change>) -> usize {
+    match change {
+        Some(change) => put(replica, &first_edit(change)),
+        None => 0,
+    }
+}
+
+fn put(replica: &mut Replica, edit: &Edit) -> usize {
+    match replica.edit_length(edit) {
+        Ok(bytes) => match replica.put_edit(1, edit) {
+            Ok(_) => bytes as usize,
+            Err(_) => 0,
+        },
+        Err(_) => 0,
+    }
+}
+
+/// Makes an edit of document 1 and settles it. The settled number, or 0 where the edit is refused.
+pub fn edit_and_settle(replica: &mut Replica, change: Option<Change>) -> usize {
+    match change {
+        Some(change) => settled_after(replica, &first_edit(change)),
+        None => 0,
+    }
+}
+
+fn settled_after(replica: &mut Replica, edit: &Edit) -> usize {
+    match replica.edit(1, edit) {
+        Ok(_) => {
+            let end = replica.list().len();
+            replica.settle(end);
+            replica.settled()
+        }
+        Err(_) => 0,
+    }
+}
+
 /// What a merge answers: 0 applied, 2 known, 3 early, or the number of the refusal.
-pub fn merge(replica: &mut Replica, op: Op) -> u8 {
+pub fn merge(replica: &mut Replica, op: Op) -> usize {
     match replica.merge(40, op) {
         Ok(Merged::Applied) => 0,
         Ok(Merged::Known) => 2,
         Ok(Merged::Early) => 3,
-        Err(refusal) => refusal.number(),
+        Err(refusal) => refusal.number() as usize,
     }
 }
 
@@ -100,23 +124,22 @@ fn op_in(alloc: Global, ops: &OpSlice<'_>, index: usize) -> Option<Op> {
     }
 }
 
-/// What a merge of another peer's operation at an index answers.
-pub fn merge_from(alloc: Global, replica: &mut Replica, other: &Replica, index: usize) -> u8 {
-    match op_at(alloc, other, index) {
-        Some(op) => merge(replica, op),
-        None => NOTHING,
+/// The operations of a replica from an index on.
+pub fn ops_from(alloc: Global, replica: &Replica, from: usize) -> Result<OpList, AllocError> {
+    let list = replica.list();
+    if from > list.len() {
+        return Err(AllocError);
     }
-}
-
-/// How many operations a replica has.
-pub fn len(replica: &Replica) -> usize {
-    replica.list().len()
+    let copies = list.copy_from(alloc, from)?;
+    let mut ops = OpList::new(alloc);
+    ops.append(&copies)?;
+    Ok(ops)
 }
 
 /// Whether document 1 has a text; it hasn't where a growth was refused.
 pub fn has_text(alloc: Global, replica: &Replica, expected: &str) -> bool {
     match text_of(alloc, expected) {
-        Some(expected) => is_text(replica, &expected),
+        Some(expected) => is_text(replica, 1, &expected),
         None => false,
     }
 }
@@ -126,52 +149,27 @@ fn text_of(alloc: Global, text: &str) -> Option<Text> {
     Some(Text::from(chars))
 }
 
-fn is_text(replica: &Replica, expected: &Text) -> bool {
-    match replica.text(1) {
+fn is_text(replica: &Replica, doc: u32, expected: &Text) -> bool {
+    match replica.text(doc) {
         Ok(text) => text == *expected,
         Err(_) => false,
     }
 }
 
-/// A peer that inserted a text into document 1.
-pub fn typed(alloc: Global, last: u8, text: &str) -> Result<Box<Replica>, Fail> {
-    let mut peer = empty(alloc, last)?;
-    if rev_after(&mut peer, insert(alloc, 0, text)) == 0 {
-        return Err("refused")?;
+/// Whether a document has the text that it has at another replica.
+pub fn has_text_of(replica: &Replica, other: &Replica, doc: u32) -> bool {
+    match other.text(doc) {
+        Ok(expected) => is_text(replica, doc, &expected),
+        Err(_) => false,
     }
-    Ok(peer)
 }
 
-/// The operations of a replica from an index on.
-pub fn ops_from(alloc: Global, replica: &Replica, from: usize) -> Result<OpList, Fail> {
-    let list = replica.list();
-    if from > list.len() {
-        return Err("no operation")?;
+/// How many spans document 1 has.
+pub fn spans_of(replica: &Replica) -> usize {
+    match replica.spans(1) {
+        Ok(spans) => spans.len(),
+        Err(_) => NOTHING,
     }
-    let copies = list.copy_from(alloc, from)?;
-    let mut ops = OpList::new(alloc);
-    ops.append(&copies)?;
-    Ok(ops)
-}
-
-/// A replica that was opened with another peer's operations.
-pub fn opened(alloc: Global, other: &Replica) -> Result<Box<Replica>, Fail> {
-    let ops = ops_from(alloc, other, 0)?;
-    open(alloc, ops)
-}
-
-fn open(alloc: Global, ops: OpList) -> Result<Box<Replica>, Fail> {
-    let id = replica_id(1)?;
-    let replica = Replica::from_list(alloc, id, ops)?;
-    Ok(Box::new(alloc, replica)?)
-}
-
-/// The number of the refusal to open a list, or 0.
-pub fn open_refusal(alloc: Global, ops: OpList) -> Result<u8, Fail> {
-    Ok(match Replica::from_list(alloc, replica_id(1)?, ops) {
-        Ok(_) => 0,
-        Err(refusal) => refusal.number(),
-    })
 }
 
 /// How many operations are told to a peer that has nothing.
@@ -182,10 +180,61 @@ pub fn told_to_none(alloc: Global, replica: &mut Replica) -> usize {
     }
 }
 
-/// Whether the clock told is that of another peer.
-pub fn has_clock_of(replica: &mut Replica, other: &Replica) -> bool {
+/// How many operations a replica tells a peer that counts so many of replicas 1, 2 and 3, or 255
+/// where these aren't those that a look at each operation finds.
+pub fn told(alloc: Global, replica: &mut Replica, counts: &[u64; 3]) -> usize {
+    match counting(alloc, counts) {
+        Some(clock) => told_behind(alloc, replica, &clock),
+        None => NOTHING,
+    }
+}
+
+fn counting(alloc: Global, counts: &[u64; 3]) -> Option<Clock> {
+    let mut clock = Clock::new(alloc);
+    for (i, count) in counts.iter().enumerate() {
+        let id = ReplicaId::read(bytes_ending(i as u8 + 1))?;
+        clock.advance_by(id, *count).ok()?;
+    }
+    Some(clock)
+}
+
+fn told_behind(alloc: Global, replica: &mut Replica, clock: &Clock) -> usize {
+    let expected = match uncounted(alloc, &replica.list(), clock) {
+        Ok(ids) => ids,
+        Err(_) => return NOTHING,
+    };
+    match replica.tell(clock) {
+        Ok(ops) if have_ids(&ops, &expected) => ops.len(),
+        _ => NOTHING,
+    }
+}
+
+/// The ids of the first operations, at most 64, that a clock doesn't count, by a look at each.
+fn uncounted(alloc: Global, list: &OpSlice<'_>, clock: &Clock) -> Result<Vec<OpId>, AllocError> {
+    let mut ids = Vec::new(alloc);
+    for i in 0..list.len() {
+        let op = list.get(alloc, i)?;
+        let is_counted = op.deps.get(op.id.replica()) < clock.get(op.id.replica());
+        if !is_counted && ids.len() < 64 {
+            ids.push(op.id)?;
+        }
+    }
+    Ok(ids)
+}
+
+fn have_ids(ops: &[Op], ids: &[OpId]) -> bool {
+    ops.len() == ids.len() && ops.iter().zip(ids).all(|(op, id)| op.id.is_same(*id))
+}
+
+/// How many operations of each replica the list has.
+pub fn clock_of(replica: &Replica) -> Option<Clock> {
+    replica.clock().copy().ok()
+}
+
+/// Whether this is the clock that a replica tells.
+pub fn tells_clock(replica: &mut Replica, expected: &Clock) -> bool {
     match replica.have() {
-        Ok(clock) => clock == *other.clock(),
+        Ok(clock) => clock == *expected,
         Err(_) => false,
     }
 }

@@ -21,4 +21,6 @@ pub use reading::{is_removed, rev, text, visible};
 pub use spanning::spans;
 
 #[cfg(test)]
+mod test_peer;
+#[cfg(test)]
 mod tests;

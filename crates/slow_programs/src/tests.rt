@@ -1,394 +1,222 @@
-use super::*;
-use op_ids::ReplicaId;
-use op_model::{
-    Change, CommentId, CommentIds, Edit, EditText, Mark, MarkKey, Marks, Op, Span, Text, Url,
+use crate::test_peer::{
+    Look, Peer, Shown, asked, comment, edit_text, link, replica, span_marks, text_of,
 };
-use std::alloc::{AllocError, Global};
-use std::num::NonZeroU32;
+use op_model::{Change, CommentIds, Edit, Mark, MarkKey, Marks, Text};
+use std::alloc::Global;
 use std::test::Fail;
-
-/// A replica and its list of operations, all in document 1.
-#[derive(Drop)]
-struct Peer {
-    alloc: Global,
-    replica: ReplicaId,
-    ops: Vec<Op>,
-}
-
-impl Peer {
-    // Boxed, so that a test which returns early drops a box: that a peer is dropped is then proved
-    // once, and not at each return.
-    fn new(alloc: Global, last: u8) -> Result<Box<Peer>, Fail> {
-        let mut bytes = [0; 16];
-        bytes[15] = last;
-        let peer = Peer {
-            alloc,
-            replica: ReplicaId::read(bytes).ok_or("nil")?,
-            ops: Vec::new(alloc),
-        };
-        Ok(Box::new(alloc, peer)?)
-    }
-
-    fn change(&mut self, change: Change) -> Result<(), Fail> {
-        let edit = Edit {
-            doc: 1,
-            rev: None,
-            change,
-        };
-        for op in made(self.alloc, &self.ops, self.replica, &edit)? {
-            self.ops.push(op)?;
-        }
-        Ok(())
-    }
-
-    fn insert(&mut self, at: u32, text: &str) -> Result<(), Fail> {
-        let text = edit_text(self.alloc, text)?;
-        self.change(Change::Insert { at, text })
-    }
-
-    fn delete(&mut self, at: u32, count: u32) -> Result<(), Fail> {
-        let count = NonZeroU32::new(count).ok_or("zero")?;
-        self.change(Change::Delete { at, count })
-    }
-
-    fn mark(&mut self, from: u32, to: u32, mark: Mark) -> Result<(), Fail> {
-        self.change(Change::Mark { from, to, mark })
-    }
-
-    fn unmark(&mut self, from: u32, to: u32, key: MarkKey) -> Result<(), Fail> {
-        self.change(Change::Unmark { from, to, key })
-    }
-
-    /// The operations of another peer from an index on, as they come from it.
-    fn take_from(&mut self, other: &Peer, from: usize) -> Result<(), Fail> {
-        for op in other.ops.iter().skip(from) {
-            self.ops.push(op.copy()?)?;
-        }
-        Ok(())
-    }
-
-    fn refusal(&self, change: Change, rev: Option<u32>) -> Result<u8, Fail> {
-        let edit = Edit {
-            doc: 1,
-            rev,
-            change,
-        };
-        match made(self.alloc, &self.ops, self.replica, &edit) {
-            Ok(_) => Ok(0),
-            Err(error) => Ok(error.number()),
-        }
-    }
-
-    fn has_text(&self, expected: &str) -> Result<bool, Fail> {
-        let expected: Vec<char> = expected.chars().collect(self.alloc)?;
-        Ok(text(self.alloc, &self.ops, 1)? == Text::from(expected))
-    }
-
-    fn has_spans(&self, expected: &[Span]) -> Result<bool, Fail> {
-        Ok(spans(self.alloc, &self.ops, 1)?.as_slice() == expected)
-    }
-}
-
-fn edit_text(alloc: Global, text: &str) -> Result<EditText, Fail> {
-    Ok(EditText::new(text.chars().collect(alloc)?).ok_or("no text")?)
-}
-
-fn link(alloc: Global, text: &str) -> Result<Mark, Fail> {
-    Ok(Mark::Link(Url::new(String::from_str(alloc, text)?).ok_or("no link")?))
-}
-
-fn comment(last: u8) -> CommentId {
-    let mut bytes = [0; 16];
-    bytes[15] = last;
-    CommentId::read(bytes)
-}
-
-fn plain(alloc: Global, text: &str) -> Result<Span, AllocError> {
-    Ok(Span {
-        text: Text::from(text.chars().collect::<Vec<char>>(alloc)?),
-        marks: Marks {
-            strong: false,
-            em: false,
-            link: None,
-            comments: CommentIds::from(Vec::new(alloc)),
-        },
-    })
-}
-
-fn strong(alloc: Global, text: &str) -> Result<Span, AllocError> {
-    let mut span = plain(alloc, text)?;
-    span.marks.strong = true;
-    Ok(span)
-}
-
-fn em(alloc: Global, text: &str) -> Result<Span, AllocError> {
-    let mut span = plain(alloc, text)?;
-    span.marks.em = true;
-    Ok(span)
-}
-
-fn linked(alloc: Global, text: &str, url: &str) -> Result<Span, Fail> {
-    let mut span = plain(alloc, text)?;
-    span.marks.link = Url::new(String::from_str(alloc, url)?);
-    Ok(span)
-}
-
-fn commented(alloc: Global, text: &str, last: u8) -> Result<Span, AllocError> {
-    let mut span = plain(alloc, text)?;
-    span.marks.comments = CommentIds::from(vec![in alloc; comment(last)]?);
-    Ok(span)
-}
 
 #[test]
 fn strong_grows_at_its_end(rt: HostRuntime) -> Result<(), Fail> {
-    let alloc = rt.alloc();
-    let mut a = Peer::new(alloc, 1)?;
-    a.insert(0, "abc")?;
-    a.mark(0, 3, Mark::Strong)?;
-    assert_eq!(rt; rev(&a.ops, 1), 4);
-    a.insert(3, "d")?;
-    assert_eq!(rt; rev(&a.ops, 1), 5);
-    assert!(rt; a.has_spans(&[strong(alloc, "abcd")?])?);
+    let mut a = Peer::new(rt.alloc(), replica(1)?);
+    assert!(rt; a.insert(0, "abc"));
+    assert!(rt; a.mark(0, 3, Mark::Strong));
+    assert!(rt; a.rev() == 4);
+    assert!(rt; a.insert(3, "d"));
+    assert!(rt; a.rev() == 5);
+    assert!(rt; a.has_spans(&[Shown("abcd", Look::Strong)]));
     Ok(())
 }
 
 #[test]
 fn em_grows_before_the_next_character(rt: HostRuntime) -> Result<(), Fail> {
-    let alloc = rt.alloc();
-    let mut a = Peer::new(alloc, 1)?;
-    a.insert(0, "abc")?;
-    a.mark(0, 2, Mark::Em)?;
-    a.insert(2, "x")?;
-    assert!(rt; a.has_spans(&[em(alloc, "abx")?, plain(alloc, "c")?])?);
+    let mut a = Peer::new(rt.alloc(), replica(1)?);
+    assert!(rt; a.insert(0, "abc"));
+    assert!(rt; a.mark(0, 2, Mark::Em));
+    assert!(rt; a.insert(2, "x"));
+    assert!(rt; a.has_spans(&[Shown("abx", Look::Em), Shown("c", Look::Plain)]));
     Ok(())
 }
 
 #[test]
 fn a_link_keeps_its_end(rt: HostRuntime) -> Result<(), Fail> {
-    let alloc = rt.alloc();
-    let mut a = Peer::new(alloc, 1)?;
-    a.insert(0, "abc")?;
-    a.mark(0, 2, link(alloc, "u")?)?;
-    a.insert(2, "x")?;
-    assert!(rt; a.has_spans(&[linked(alloc, "ab", "u")?, plain(alloc, "xc")?])?);
+    let mut a = Peer::new(rt.alloc(), replica(1)?);
+    assert!(rt; a.insert(0, "abc"));
+    assert!(rt; a.link(0, 2, "u"));
+    assert!(rt; a.insert(2, "x"));
+    assert!(rt; a.has_spans(&[Shown("ab", Look::Linked("u")), Shown("xc", Look::Plain)]));
     Ok(())
 }
 
 #[test]
 fn a_link_that_ends_on_a_tombstone_keeps_its_end(rt: HostRuntime) -> Result<(), Fail> {
-    let alloc = rt.alloc();
-    let mut a = Peer::new(alloc, 1)?;
-    a.insert(0, "ab")?;
-    a.mark(0, 2, link(alloc, "u")?)?;
-    a.delete(1, 1)?;
-    a.insert(1, "x")?;
-    assert_eq!(rt; rev(&a.ops, 1), 5);
-    assert!(rt; a.has_spans(&[linked(alloc, "a", "u")?, plain(alloc, "x")?])?);
+    let mut a = Peer::new(rt.alloc(), replica(1)?);
+    assert!(rt; a.insert(0, "ab"));
+    assert!(rt; a.link(0, 2, "u"));
+    assert!(rt; a.delete(1, 1));
+    assert!(rt; a.insert(1, "x"));
+    assert!(rt; a.rev() == 5);
+    assert!(rt; a.has_spans(&[Shown("a", Look::Linked("u")), Shown("x", Look::Plain)]));
     Ok(())
 }
 
 #[test]
 fn a_link_over_nothing_left_covers_nothing_new(rt: HostRuntime) -> Result<(), Fail> {
-    let alloc = rt.alloc();
-    let mut a = Peer::new(alloc, 1)?;
-    a.insert(0, "a")?;
-    a.mark(0, 1, link(alloc, "u")?)?;
-    a.delete(0, 1)?;
-    a.insert(0, "x")?;
-    assert_eq!(rt; rev(&a.ops, 1), 4);
-    assert!(rt; a.has_spans(&[plain(alloc, "x")?])?);
+    let mut a = Peer::new(rt.alloc(), replica(1)?);
+    assert!(rt; a.insert(0, "a"));
+    assert!(rt; a.link(0, 1, "u"));
+    assert!(rt; a.delete(0, 1));
+    assert!(rt; a.insert(0, "x"));
+    assert!(rt; a.rev() == 4);
+    assert!(rt; a.has_spans(&[Shown("x", Look::Plain)]));
     Ok(())
 }
 
 #[test]
 fn overlapping_strong_is_one_span(rt: HostRuntime) -> Result<(), Fail> {
-    let alloc = rt.alloc();
-    let mut a = Peer::new(alloc, 1)?;
-    a.insert(0, "The fox jumped")?;
-    a.mark(0, 7, Mark::Strong)?;
-    a.mark(4, 14, Mark::Strong)?;
-    assert_eq!(rt; rev(&a.ops, 1), 16);
-    assert!(rt; a.has_spans(&[strong(alloc, "The fox jumped")?])?);
+    let mut a = Peer::new(rt.alloc(), replica(1)?);
+    assert!(rt; a.insert(0, "The fox jumped"));
+    assert!(rt; a.mark(0, 7, Mark::Strong));
+    assert!(rt; a.mark(4, 14, Mark::Strong));
+    assert!(rt; a.rev() == 16);
+    assert!(rt; a.has_spans(&[Shown("The fox jumped", Look::Strong)]));
     Ok(())
 }
 
 #[test]
 fn the_greatest_covering_operation_decides(rt: HostRuntime) -> Result<(), Fail> {
-    let alloc = rt.alloc();
-    let mut a = Peer::new(alloc, 1)?;
-    a.insert(0, "ab")?;
-    a.mark(0, 2, Mark::Strong)?;
-    a.unmark(1, 2, MarkKey::Strong)?;
-    a.insert(2, "c")?;
-    assert_eq!(rt; rev(&a.ops, 1), 5);
-    assert!(rt; a.has_spans(&[strong(alloc, "a")?, plain(alloc, "bc")?])?);
+    let mut a = Peer::new(rt.alloc(), replica(1)?);
+    assert!(rt; a.insert(0, "ab"));
+    assert!(rt; a.mark(0, 2, Mark::Strong));
+    assert!(rt; a.unmark(1, 2, MarkKey::Strong));
+    assert!(rt; a.insert(2, "c"));
+    assert!(rt; a.rev() == 5);
+    assert!(rt; a.has_spans(&[Shown("a", Look::Strong), Shown("bc", Look::Plain)]));
     Ok(())
 }
 
 #[test]
 fn each_comment_is_decided_by_itself(rt: HostRuntime) -> Result<(), Fail> {
-    let alloc = rt.alloc();
-    let mut a = Peer::new(alloc, 1)?;
-    a.insert(0, "abc")?;
-    a.mark(0, 2, Mark::Comment(comment(0xc1)))?;
-    a.mark(1, 3, Mark::Comment(comment(0xc2)))?;
-    a.unmark(1, 2, MarkKey::Comment(comment(0xc1)))?;
-    assert_eq!(rt; rev(&a.ops, 1), 6);
-    assert!(rt; a.has_spans(&[commented(alloc, "a", 0xc1)?, commented(alloc, "bc", 0xc2)?])?);
+    let mut a = Peer::new(rt.alloc(), replica(1)?);
+    assert!(rt; a.insert(0, "abc"));
+    assert!(rt; a.mark(0, 2, Mark::Comment(comment(0xc1))));
+    assert!(rt; a.mark(1, 3, Mark::Comment(comment(0xc2))));
+    assert!(rt; a.unmark(1, 2, MarkKey::Comment(comment(0xc1))));
+    assert!(rt; a.rev() == 6);
+    assert!(rt;
+        a.has_spans(&[
+            Shown("a", Look::Commented(0xc1)),
+            Shown("bc", Look::Commented(0xc2))
+        ])
+    );
     Ok(())
 }
 
 #[test]
 fn first_inserts_of_two_peers_stand_in_falling_order(rt: HostRuntime) -> Result<(), Fail> {
-    let mut a = Peer::new(rt.alloc(), 1)?;
-    let mut b = Peer::new(rt.alloc(), 2)?;
-    a.insert(0, "a")?;
-    b.insert(0, "b")?;
-    a.take_from(&b, 0)?;
-    b.take_from(&a, 0)?;
-    assert!(rt; a.has_text("ba")?);
-    assert_eq!(rt; rev(&a.ops, 1), 2);
+    let (one, two) = (replica(1)?, replica(2)?);
+    let mut a = Peer::new(rt.alloc(), one);
+    let mut b = Peer::new(rt.alloc(), two);
+    assert!(rt; a.insert(0, "a"));
+    assert!(rt; b.insert(0, "b"));
+    assert!(rt; a.take_from(&b, 0));
+    assert!(rt; b.take_from(&a, 0));
+    assert!(rt; a.has_text("ba"));
+    assert!(rt; a.rev() == 2);
     Ok(())
 }
 
 #[test]
 fn concurrent_inserts_skip_what_hangs_below_greater_ids(rt: HostRuntime) -> Result<(), Fail> {
-    let mut a = Peer::new(rt.alloc(), 1)?;
-    let mut b = Peer::new(rt.alloc(), 2)?;
-    a.insert(0, "x")?;
-    b.take_from(&a, 0)?;
-    a.insert(1, "y")?;
-    b.insert(1, "z")?;
-    a.insert(2, "w")?;
+    let (one, two) = (replica(1)?, replica(2)?);
+    let mut a = Peer::new(rt.alloc(), one);
+    let mut b = Peer::new(rt.alloc(), two);
+    assert!(rt; a.insert(0, "x"));
+    assert!(rt; b.take_from(&a, 0));
+    assert!(rt; a.insert(1, "y"));
+    assert!(rt; b.insert(1, "z"));
+    assert!(rt; a.insert(2, "w"));
     let own = a.ops.len();
-    a.take_from(&b, 1)?;
-    assert!(rt; a.has_text("xzyw")?);
-    assert_eq!(rt; a.ops.len(), own + 1);
-    b.take_from(&a, 1)?;
-    b.ops.pop();
-    assert!(rt; b.has_text("xzyw")?);
+    assert!(rt; a.take_from(&b, 1));
+    assert!(rt; a.has_text("xzyw"));
+    assert!(rt; a.ops.len() == own + 1);
+    assert!(rt; b.take_from(&a, 1));
+    b.forget_last();
+    assert!(rt; b.has_text("xzyw"));
     Ok(())
+}
+
+/// So many characters.
+fn long(alloc: Global, count: usize) -> Result<String, Fail> {
+    let mut long = String::new(alloc);
+    for _ in 0..count {
+        long.push_str("x")?;
+    }
+    Ok(long)
 }
 
 #[test]
 fn an_edit_is_refused_by_its_first_cause(rt: HostRuntime) -> Result<(), Fail> {
     let alloc = rt.alloc();
-    let mut a = Peer::new(alloc, 1)?;
-    let mut long = String::new(alloc);
-    for _ in 0..256 {
-        long.push_str("x")?;
-    }
-    a.insert(0, long.as_str())?;
-    assert_eq!(rt; rev(&a.ops, 1), 256);
-    long.push_str("x")?;
-    let at_start = Change::Insert {
-        at: 0,
-        text: edit_text(alloc, long.as_str())?,
-    };
-    let behind = Change::Insert {
-        at: 257,
-        text: edit_text(alloc, long.as_str())?,
-    };
-    assert_eq!(rt; a.refusal(at_start, None)?, 7);
-    assert_eq!(rt; a.refusal(behind, None)?, 5);
-    let one = NonZeroU32::new(1).ok_or("zero")?;
-    assert_eq!(rt;
-        a.refusal(
-            Change::Delete {
-                at: 256,
-                count: one
-            },
-            None
-        )?,
-        5
-    );
-    assert_eq!(rt;
-        a.refusal(
-            Change::Delete {
-                at: 255,
-                count: one
-            },
-            Some(255)
-        )?,
-        6
-    );
-    assert_eq!(rt;
-        a.refusal(
-            Change::Delete {
-                at: 255,
-                count: one
-            },
-            Some(256)
-        )?,
-        0
-    );
+    let most = long(alloc, 256)?;
+    let more = long(alloc, 257)?;
+    let mut a = Peer::new(alloc, replica(1)?);
+    assert!(rt; a.insert(0, most.as_str()));
+    assert!(rt; a.rev() == 256);
+    assert!(rt; a.insert_refusal(1, None, 0, more.as_str()) == Some(7));
+    assert!(rt; a.insert_refusal(1, None, 257, more.as_str()) == Some(5));
+    assert!(rt; a.delete_refusal(None, 256) == 5);
+    assert!(rt; a.delete_refusal(Some(255), 255) == 6);
+    assert!(rt; a.delete_refusal(Some(256), 255) == 0);
     Ok(())
 }
 
 #[test]
 fn document_zero_and_an_empty_range_are_refused(rt: HostRuntime) -> Result<(), Fail> {
-    let alloc = rt.alloc();
-    let a = Peer::new(alloc, 1)?;
-    let edit = Edit {
-        doc: 0,
-        rev: Some(0),
-        change: Change::Insert {
-            at: 0,
-            text: edit_text(alloc, "a")?,
-        },
-    };
-    let refused = made(alloc, &a.ops, a.replica, &edit);
-    assert_eq!(rt; refused.err().map_or(0, |error| error.number()), 7);
+    let a = Peer::new(rt.alloc(), replica(1)?);
+    assert!(rt; a.insert_refusal(0, Some(0), 0, "a") == Some(7));
     let none = Change::Mark {
         from: 0,
         to: 0,
         mark: Mark::Em,
     };
-    assert_eq!(rt; a.refusal(none, None)?, 5);
+    assert!(rt; a.refusal(asked(1, None, none)) == 5);
     Ok(())
 }
 
 #[test]
 fn the_first_operation_depends_on_all_before(rt: HostRuntime) -> Result<(), Fail> {
-    let mut a = Peer::new(rt.alloc(), 1)?;
-    a.insert(0, "ab")?;
-    a.delete(0, 1)?;
-    assert_eq!(rt; a.ops.len(), 3);
-    assert_eq!(rt; a.ops[2].id.counter(), 3);
-    assert_eq!(rt; a.ops[2].deps.get(a.replica), 2);
-    assert_eq!(rt; visible(rt.alloc(), &a.ops, 1)?.len(), 1);
-    assert_eq!(rt; walk(rt.alloc(), &a.ops, 1)?.len(), 2);
-    assert_eq!(rt; characters(rt.alloc(), &a.ops, 1)?.len(), 2);
-    assert_eq!(rt; markings(rt.alloc(), &a.ops, 1)?.len(), 0);
+    let mut a = Peer::new(rt.alloc(), replica(1)?);
+    assert!(rt; a.insert(0, "ab"));
+    assert!(rt; a.delete(0, 1));
+    assert!(rt; a.ops.len() == 3);
+    assert!(rt; a.ops[2].id.counter() == 3);
+    assert!(rt; a.ops[2].deps.get(a.replica) == 2);
+    assert!(rt; a.has_counts([1, 2, 2, 0]));
     Ok(())
+}
+
+fn is_edit_copied(edit: Edit) -> Result<bool, Fail> {
+    Ok(edit.copy()? == edit)
+}
+
+fn are_marks_copied(marks: Marks) -> Result<bool, Fail> {
+    Ok(marks.copy()? == marks)
+}
+
+fn is_text_copied(text: Text) -> Result<bool, Fail> {
+    Ok(text.copy()? == text)
+}
+
+fn are_ids_copied(ids: CommentIds) -> Result<bool, Fail> {
+    Ok(ids.copy()? == ids)
 }
 
 #[test]
 fn copies_are_equal(rt: HostRuntime) -> Result<(), Fail> {
     let alloc = rt.alloc();
-    let marked = Edit {
-        doc: 1,
-        rev: Some(2),
-        change: Change::Mark {
-            from: 0,
-            to: 1,
-            mark: link(alloc, "u")?,
-        },
+    let mark = link(alloc, "u")?;
+    let change = Change::Mark {
+        from: 0,
+        to: 1,
+        mark,
     };
-    assert!(rt; marked.copy()? == marked);
-    let typed = Edit {
-        doc: 1,
-        rev: None,
-        change: Change::Insert {
-            at: 0,
-            text: edit_text(alloc, "ab")?,
-        },
-    };
-    assert!(rt; typed.copy()? == typed);
-    let span = linked(alloc, "a", "u")?;
-    assert!(rt; span.marks.copy()? == span.marks);
-    assert!(rt; span.text.copy()? == span.text);
-    let ids = CommentIds::from(vec![in alloc; comment(1), comment(2)]?);
-    assert!(rt; ids.copy()? == ids);
+    assert!(rt; is_edit_copied(asked(1, Some(2), change))?);
+    let text = edit_text(alloc, "ab")?;
+    let change = Change::Insert { at: 0, text };
+    assert!(rt; is_edit_copied(asked(1, None, change))?);
+    assert!(rt; are_marks_copied(span_marks(alloc, Look::Linked("u"))?)?);
+    assert!(rt; is_text_copied(text_of(alloc, "a")?)?);
+    let ids = vec![in alloc; comment(1), comment(2)]?;
+    assert!(rt; are_ids_copied(CommentIds::from(ids))?);
     Ok(())
 }

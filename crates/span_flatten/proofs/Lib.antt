@@ -3,6 +3,7 @@ pub mod BackLemmas
 pub mod CellLemmas
 pub mod HeldLemmas
 pub mod IndexLemmas
+pub mod ListedLemmas
 pub mod PassLemmas
 pub mod RunLemmas
 pub mod CoverLemmas

@@ -23,6 +23,7 @@ use Rattle.span_flatten.specs.declared.run.Run.{Run}
 use Rattle.span_flatten.specs.declared.sweep.Sweep.{Sweep}
 use Rattle.span_flatten.specs.Covering.{covering}
 use Rattle.span_flatten.specs.Formatting.{marks_in}
+use Rattle.span_flatten.specs.Listing.{listed}
 use Rattle.span_flatten.specs.Runs.{cell_runs}
 
 -- where the first so many cells were reached, and the first so many of them passed, a mark operation with this start has begun
@@ -112,8 +113,13 @@ IsLast marks (s ∷ t ∷ ss) = IsLast marks (t ∷ ss)
 abbrev pub IsFresh : List Run → Bool → List ℕ → List Marking → Type 0
 IsFresh runs is_changed set ms = is_changed ≡ false → IsLast (marks_in (picked ms set)) (map forward_span runs)
 
+-- how many comment ids these runs list, and so many more
+abbrev pub listed_and : List Run → ℕ → ℕ
+listed_and runs left = listed (map forward_span runs) + left
+
 -- the first k of these cells were passed
 pub record IsSwept (s : Sweep) (cells : List Cell) (ms : List Marking) (k : ℕ) : Type 0 where
   pub active : IsActive s.active (length ms) (begun_at cells ms k k) (ended_at cells ms k k)
   pub fresh : IsFresh s.runs.items s.is_changed s.active.set.items ms
+  pub few : listed_and s.runs.items s.left ≡ 1048576
   pub runs : map forward_span s.runs.items ≡ cell_runs (λ i. marks_in (covering cells ms i)) 0 (take k cells)

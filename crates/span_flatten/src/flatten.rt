@@ -5,6 +5,7 @@ ghost use Rattle.char_sequence.specs.Content.{Holds};
 ghost use Rattle.mark_anchors.specs.Keeping.{AreMarksOf};
 ghost use Rattle.op_model.specs.declared.op.Op.{Op};
 ghost use Rattle.op_model.specs.Spans.{spans as spans_of_ops};
+ghost use Rattle.span_flatten.specs.Listing.{listed};
 ghost use Rattle.span_flatten.specs.Reading.{offset};
 ghost use Rattle.span_flatten.specs.Runs.{cell_runs, marks_at, spans_of_runs};
 
@@ -17,18 +18,24 @@ use op_model::{Span, Ticks};
 use std::alloc::{AllocError, Global};
 
 /// The greatest runs of visible characters of a document with equal marks. An error is want of
-/// memory (1). Costs what `spans_in` does.
+/// memory (1). An answer lists at most 1,048,576 comment ids, one counted in each span that lists
+/// it, and takes at most 134,217,728 steps: beyond either it is 1. Costs what `spans_in` does.
 pub fn spans(sequence: &Sequence, anchors: &Anchors) -> Result<Vec<Span>, AllocError>
-    ensures { IfOk result (λ found. (ops : List Op) (doc : ℕ) → Holds sequence.now ops doc
+    ensures spans { IfOk result (λ found. (ops : List Op) (doc : ℕ) → Holds sequence.now ops doc
         → AreMarksOf anchors.now ops doc → found.items ≡ spans_of_ops ops doc) }
+    ensures few { IfOk result (λ found. listed found.items ≤ 1048576) }
 {
     spans_in(sequence, anchors, &mut Ticks::new())
 }
 
 /// The same, in one pass: two ticks at the most for each character, tombstones counted, and one at
 /// the end. An error is want of memory (1). For each character a search by halves among the mark
-/// operations, for each edge of one a step for each that has begun and not ended, and where these
-/// changed, the square of them for the marks.
+/// operations; for each edge of one a step for each that has begun and not ended; and where these
+/// changed, for each of them a search among the comments that they name.
+///
+/// An answer lists at most 1,048,576 comment ids, one counted in each span that lists it: beyond it
+/// is 1, before that span is made. So it is beyond 134,217,728 steps, of which a character at which
+/// n operations are in force and e begin or end takes n times e + 1.
 pub fn spans_in(
     sequence: &Sequence,
     anchors: &Anchors,
@@ -36,6 +43,7 @@ pub fn spans_in(
 ) -> Result<Vec<Span>, AllocError>
     ensures spans { IfOk result (λ found. (ops : List Op) (doc : ℕ) → Holds sequence.now ops doc
         → AreMarksOf anchors.now ops doc → found.items ≡ spans_of_ops ops doc) }
+    ensures few { IfOk result (λ found. listed found.items ≤ 1048576) }
     ensures ticks { ticks.new ≤ ticks.old + (2 * length (cells_of sequence.now) + 1) }
 {
     let alloc = sequence.allocator();
@@ -49,9 +57,9 @@ pub fn spans_in(
     sweep.spans(alloc)
 }
 
-/// The same, character by character. An error is want of memory (1). A copy of the characters,
-/// tombstones too; for each visible character a search for both characters of each mark operation,
-/// and the square of those about comments that cover it.
+/// The same, character by character, however many comment ids are listed. An error is want of
+/// memory (1). A copy of the characters, tombstones too; for each visible character a search for
+/// both characters of each mark operation, and the square of those about comments that cover it.
 pub fn spans_slow(sequence: &Sequence, anchors: &Anchors) -> Result<Vec<Span>, AllocError>
     ensures { IfOk result (λ found. (ops : List Op) (doc : ℕ) → Holds sequence.now ops doc
         → AreMarksOf anchors.now ops doc → found.items ≡ spans_of_ops ops doc) }

@@ -4,6 +4,7 @@
 mod active;
 mod flatten;
 mod formatting;
+mod listing;
 mod run;
 mod sweep;
 

@@ -6,12 +6,13 @@ ghost use Rattle.char_sequence.specs.Chunks.{cells_of, size_at};
 ghost use Rattle.mark_anchors.specs.Keeping.{in_order};
 ghost use Rattle.span_flatten.specs.Formatting.{marks_in};
 ghost use Rattle.span_flatten.specs.Reading.{offset};
-ghost use Rattle.span_flatten.specs.Sweeping.{forward_span, picked, with_back};
+ghost use Rattle.span_flatten.specs.Sweeping.{forward_span, listed_and, picked, with_back};
 ghost use Rattle.span_flatten.specs.Sweeping.{extended, IsFresh, IsLast, IsSwept};
 ghost use Rattle.span_flatten.specs.Sweeping.{is_last_same as is_last_same_of};
 
 use crate::active::Active;
 use crate::formatting::marks_of;
+use crate::listing::{LISTED_LIMIT, STEPS_LIMIT, count_down};
 use crate::run::Run;
 use char_sequence::{Cell, ChunkSize, Sequence};
 use mark_anchors::{Anchors, Edge};
@@ -27,6 +28,10 @@ pub struct Sweep {
     pub runs: Vec<Run>,
     /// Whether mark operations began or ended since the last visible character.
     pub is_changed: bool,
+    /// How many comment ids further runs may list.
+    pub left: usize,
+    /// How many steps the marks of further characters may take.
+    pub steps: usize,
 }
 
 impl Sweep {
@@ -38,6 +43,8 @@ impl Sweep {
             active: Active::new(alloc, markings)?,
             runs: Vec::new(alloc),
             is_changed: true,
+            left: LISTED_LIMIT,
+            steps: STEPS_LIMIT,
         })
     }
 
@@ -76,6 +83,7 @@ impl Sweep {
     {
         anchors.are_edges();
         let edges = anchors.edges_at(cell.id);
+        count_down(steps_at(edges, &self.active), &mut self.steps)?;
         self.is_changed = is_changed(self.is_changed, edges);
         self.active.take(edges, false)?;
         self.see(alloc, cell, anchors.in_order())?;
@@ -93,6 +101,8 @@ impl Sweep {
         ensures fresh { OnOk result (IsFresh self.old.runs.items self.old.is_changed
             self.old.active.set.items markings.now → IsFresh self.new.runs.items
             self.new.is_changed self.new.active.set.items markings.now) }
+        ensures few { OnOk result (listed_and self.new.runs.items self.new.left
+            ≡ listed_and self.old.runs.items self.old.left) }
         ensures active { self.new.active ≡ self.old.active }
     {
         if cell.is_removed {
@@ -104,6 +114,8 @@ impl Sweep {
     /// A character that a reader sees, with the marks of the mark operations that have begun and
     /// not ended: they are worked out only where these changed. An error is want of memory (1).
     fn show(&mut self, alloc: Global, value: char, markings: &[Marking]) -> Result<(), AllocError>
+        ensures few { OnOk result (listed_and self.new.runs.items self.new.left
+            ≡ listed_and self.old.runs.items self.old.left) }
         ensures shown { OnOk result (IsFresh self.old.runs.items self.old.is_changed
             self.old.active.set.items markings.now → map forward_span self.new.runs.items
             ≡ with_back value (marks_in (picked markings.now self.old.active.set.items))
@@ -118,7 +130,7 @@ impl Sweep {
         }
         let set = self.active.markings(alloc, markings)?;
         let marks = marks_of(alloc, &set)?;
-        put_behind(alloc, value, marks, &mut self.runs)?;
+        put_behind(alloc, value, marks, &mut self.runs, &mut self.left)?;
         self.is_changed = false;
         Ok(())
     }
@@ -135,6 +147,15 @@ impl Sweep {
     }
 }
 
+/// How many steps the marks of a character with these edges take.
+fn steps_at(edges: &[Edge], active: &Active) -> usize {
+    if edges.is_empty() {
+        return 0;
+    }
+    let of_each = edges.len().saturating_add(1);
+    active.set.len().saturating_mul(of_each)
+}
+
 /// Whether mark operations changed before, or do so at these edges.
 fn is_changed(was: bool, edges: &[Edge]) -> bool
     ensures { result ≡ false → (was ≡ false) × (edges.now ≡ []) }
@@ -145,21 +166,26 @@ fn is_changed(was: bool, edges: &[Edge]) -> bool
     true
 }
 
-/// Puts a character behind these runs: it joins the last one, if that has its marks. An error is
-/// want of memory (1).
+/// Puts a character behind these runs: it joins the last one, if that has its marks, else it begins
+/// one, whose comment ids are counted first. An error is want of memory (1), or that they are more
+/// than may yet be listed.
 fn put_behind(
     alloc: Global,
     value: char,
     marks: Marks,
     runs: &mut Vec<Run>,
+    left: &mut usize,
 ) -> Result<(), AllocError>
     ensures shown { OnOk result (map forward_span runs.new.items
         ≡ with_back value marks (map forward_span runs.old.items)) }
     ensures last { OnOk result (IsLast marks (map forward_span runs.new.items)) }
+    ensures few { OnOk result (listed_and runs.new.items left.new
+        ≡ listed_and runs.old.items left.old) }
 {
     if is_last_same(runs, &marks) {
         return join(value, runs);
     }
+    count_down(marks.comments.as_slice().len(), left)?;
     let values = vec![in alloc; value]?;
     runs.push(Run { values, marks })?;
     Ok(())

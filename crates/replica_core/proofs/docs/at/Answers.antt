@@ -1,5 +1,4 @@
-use Rattle.std.proofs.Common.{◌≡◌, refl}
-use Rattle.std.specs.Prelude.{slice_index_or}
+use Rattle.std.proofs.Common.{refl}
 use Rattle.replica_core.proofs.DocLemmas.{fresh_stands, stands_at}
 use Rattle.replica_core.proofs.docs.at.Goals as goal
 

@@ -4,6 +4,7 @@ use Rattle.char_sequence.specs.Chunks.{cells_of}
 use Rattle.mark_anchors.specs.Keeping.{in_order}
 use Rattle.span_flatten.specs.Formatting.{marks_in}
 use Rattle.span_flatten.specs.Covering.{covering}
+use Rattle.span_flatten.specs.Listing.{listed}
 use Rattle.span_flatten.specs.Reading.{offset}
 use Rattle.span_flatten.specs.Runs.{cell_runs}
 use Rattle.std.proofs.lemmas.List.{take_all}
@@ -58,6 +59,12 @@ returns-clause-spans c =
     IfOk-weaker c.spans.result _ _ (λ found is_it. λ ops doc holds marks.
     is_it ∙ (c.loop-size.invariant.swept.runs ∙ (ap (cell_runs (λ k. marks_in (covering cells ms k)) 0) whole
     ∙ spans_same ops doc cells ms holds.content marks.all))) c.spans.ensures
+
+pub returns-clause-few : goal.returns-clause-few
+returns-clause-few c =
+    IfOk-weaker c.spans.result _ _ (λ found is_it.
+    let same = ap listed is_it in let few = c.loop-size.invariant.swept.few in
+    (omega (arith, same, few))) c.spans.ensures
 
 pub returns-clause-ticks : goal.returns-clause-ticks
 returns-clause-ticks c =

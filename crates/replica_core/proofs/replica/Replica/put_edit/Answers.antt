@@ -1,4 +1,4 @@
-use Rattle.std.proofs.Common.{◌≡◌, ◌+◌, ◌≤◌, ◌<◌, ◌++◌, ◌∙◌, length, ap, Err, refl, rules, arith}
+use Rattle.std.proofs.Common.{◌≡◌, ◌<◌, ◌++◌, ◌∙◌, length, ap, Err, refl, rules, arith}
 use Rattle.doc_core.proofs.FittingLemmas.{made_fit}
 use Rattle.op_model.specs.Causality.{clock_of}
 use Rattle.op_model.specs.Made.{made, size_of}

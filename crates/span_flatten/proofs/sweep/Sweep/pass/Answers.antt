@@ -25,6 +25,7 @@ returns c =
       active = passed c.take-2.new.self cells ms es k c.args.cell.now there c.are_edges.ensures
           (rw c.edges_at-edges.ensures at (taken (length ms) (begun_at cells ms (k + 1) k) (ended_at cells ms (k + 1) k) still));
       fresh = λ e. rw (c.take-2.ensures.none (c.is_changed-self-2.ensures e).1) (fresh_too (c.is_changed-self-2.ensures e).0);
+      few = c.in_ok-see.ensures.few ∙ swept.few;
       runs = runs_more cells ms k c.args.cell.now _ (map forward_span c.args.self.now.runs.items) (map forward_span c.see.new.self.runs.items) there covers
           swept.runs (c.in_ok-see.ensures.seen fresh);
     }) c.take-2.ensures.active

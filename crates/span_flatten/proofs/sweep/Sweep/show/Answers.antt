@@ -1,8 +1,10 @@
-use Rattle.std.proofs.Common.{map, sym, ◌∙◌}
+use Rattle.std.proofs.Common.{◌+◌, map, ap, sym, ◌∙◌}
 use Rattle.std.proofs.lemmas.Result.{on_ok_weaker}
 use Rattle.span_flatten.specs.Formatting.{marks_in}
+use Rattle.span_flatten.specs.Listing.{listed}
 use Rattle.span_flatten.specs.Sweeping.{forward_span, picked}
 use Rattle.span_flatten.proofs.BackLemmas.{back_joined, last_extended, last_same}
+use Rattle.span_flatten.proofs.ListedLemmas.{listed_extended}
 use Rattle.span_flatten.proofs.sweep.Sweep.show.Goals as goal
 
 pub returns-then-not-self-clause-shown : goal.returns-then-not-self-clause-shown
@@ -17,3 +19,9 @@ returns-then-not-self-clause-fresh c =
     let marks = marks_in (picked c.args.markings.now c.args.self.now.active.set.items) in
     let before = map forward_span c.args.self.now.runs.items in
     on_ok_weaker c.join.result (λ is. λ fresh. λ e. rw is (last_extended c.args.value marks before (fresh e))) c.join.ensures
+
+pub returns-then-not-self-clause-few : goal.returns-then-not-self-clause-few
+returns-then-not-self-clause-few c =
+    let before = map forward_span c.args.self.now.runs.items in
+    on_ok_weaker c.join.result (λ is. ap (λ ss. listed ss + c.args.self.now.left) is
+    ∙ ap (λ n. n + c.args.self.now.left) (listed_extended c.args.value before)) c.join.ensures

@@ -1,0 +1,24 @@
+ghost use Rattle.std.specs.Prelude.{◌≡◌, ◌+◌, ◌<◌, OnErr, OnOk};
+
+use std::alloc::AllocError;
+
+/// An answer lists at most so many comment ids, one counted in each span that lists it: n staggered
+/// comments over n characters would list half the square of n.
+pub const LISTED_LIMIT: usize = 1_048_576;
+
+/// The marks of a document take at most so many steps: at each character at which mark operations
+/// begin or end, one for each that has begun and not ended, and that again for each of its edges.
+/// n operations over a text with m edges take m times n of them.
+pub const STEPS_LIMIT: usize = 134_217_728;
+
+/// Counts so many against those that are left. An error is that they are more.
+pub fn count_down(count: usize, left: &mut usize) -> Result<(), AllocError>
+    ensures counted { OnOk result (left.new + count ≡ left.old) }
+    ensures more { OnErr result (left.old < count) }
+{
+    if *left < count {
+        return Err(AllocError);
+    }
+    *left -= count;
+    Ok(())
+}
