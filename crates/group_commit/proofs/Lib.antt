@@ -23,6 +23,7 @@ pub mod SlotReads
 pub mod Sound
 pub mod Steps
 pub mod StreamReads
+pub mod Stopped
 pub mod Streams
 pub mod TailLemmas
 pub mod ZeroLemmas

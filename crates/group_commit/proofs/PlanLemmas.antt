@@ -15,7 +15,7 @@ use Rattle.root_slots.proofs.SpellingLemmas.{all_words}
 use Rattle.group_commit.specs.Saved.{Saved, HasDataPages}
 use Rattle.group_commit.specs.Changes.{cut, changed, parts, data_of, changed_data, changed_tables}
 use Rattle.group_commit.specs.Commit.{Makes}
-use Rattle.group_commit.specs.Plan.{IsNext, Plans, kept_of, filled}
+use Rattle.group_commit.specs.Plan.{IsNext, KeepsPages, Plans, kept_of, filled}
 use Rattle.group_commit.specs.declared.phase.Phase.TheVariants.{Pages}
 use Rattle.group_commit.proofs.CutLemmas.{cut_changed}
 use Rattle.group_commit.proofs.KeptLemmas.{kept_is, more_pages, data_front, data_stays, tables_stay, pages_hold}
@@ -196,6 +196,18 @@ module _ (current next : Saved) (records : List ℕ) (more kept : ℕ) (olds new
       (4096 * pages_for 4096 (length next.stream) - length next.stream) file f.has_data.valid (sym f.has_data.long) refl f.has_data.count
       (rw (f.has_data.reaches) at f.has_data.apart) (rw (f.tables) made))
 
+  -- the pages that stay, and those that are written
+  keeps_pages : KeepsPages current records next
+  keeps_pages =
+      let mine : data_of current ≡ olds = data_is current olds f.had in
+      let its : data_of next ≡ take kept olds ++ new_data = data_is next (take kept olds ++ new_data) f.has_data in
+      record {
+        had = rw mine f.had;
+        has = rw its f.has_data;
+        data_pages = rw (sym f.kept_so, mine, new_data_are) its;
+        tables = rw (sym f.kept_so, new_tables_are) f.tables;
+      }
+
   pub plan_of : AreLowest current.pages (new_data ++ new_tables) → ((i : ℕ) → get_or (take kept olds ++ new_data) i 0 < 2 ^ 32)
       → Plans current records more next (new_data ++ new_tables)
       (filled (4096 * length new_data) (drop (4096 * kept) next.stream)
@@ -218,6 +230,7 @@ module _ (current next : Saved) (records : List ℕ) (more kept : ℕ) (olds new
       length-filled (4096 * length new_tables) (number_bytes (drop (1024 * (kept / 1024)) (take kept olds ++ new_data))) table_room,
     );
     changes = ap (λ ns. ns ++ new_tables) (sym new_data_are) ∙ ap (λ ns. changed_data current next ++ ns) (sym new_tables_are);
+    pages = keeps_pages;
   }
     where
       first_phase : (k : ℕ) → Pages 0 ≡ Pages k → k ≡ 0

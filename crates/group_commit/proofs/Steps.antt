@@ -7,7 +7,7 @@ use Rattle.page_file.proofs.Parts.{pages_other, pages_behind, page_other, part_o
 use Rattle.page_file.proofs.Apart.{no_two, each_behind}
 use Rattle.root_slots.specs.Root.{version_of}
 use Rattle.root_slots.specs.Slots.{gate, body, live}
-use Rattle.group_commit.specs.Image.{stored, in_slot, with_stream, stream, tables_in, data_pages_in}
+use Rattle.group_commit.specs.Image.{in_slot, with_stream, stream, tables_in, data_pages_in}
 use Rattle.group_commit.specs.Saved.{Saved}
 use Rattle.group_commit.specs.Commit.{HasPages, IsOlder, Stands, ReadAs, Reads, Makes, Is, IsLeft}
 use Rattle.group_commit.specs.declared.phase.Phase.{Phase}
@@ -160,10 +160,13 @@ stands_sync3 slot stale_open current next other file below newer is s =
     }
 
 -- the image of a file whose live slot is this
-stored_in : (file : List ℕ) (slot : ℕ) (root : Saved) → live file ≡ Ok slot → body slot file ≡ root.body → HasPages root file
-    → stored file ≡ Ok (root.body, root.stream)
+stored_in : (file : List ℕ) (slot : ℕ) (root : Saved) → live file ≡ Ok slot → body slot file ≡ root.body → HasPages root file → Is root file
 stored_in file slot root is holds has_pages =
-    ap (λ l. in_slot file l) is ∙ ap (λ b. with_stream b (stream file b)) holds ∙ ap (λ r. with_stream root.body r) has_pages.spells
+    record {
+      holds =
+          ap (λ l. in_slot file l) is ∙ ap (λ b. with_stream b (stream file b)) holds ∙ ap (λ r. with_stream root.body r) has_pages.spells;
+      reaches = has_pages.reaches;
+    }
 
 -- with the stale slot older or closed, the image is the committed root
 is_by_older : (phase : Phase) (slot : ℕ) (stale_open : Bool) (current next : Saved) (file : List ℕ) → slot < 2 → IsOlder slot current file

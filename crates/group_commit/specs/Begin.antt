@@ -12,22 +12,16 @@ use Rattle.group_commit.specs.Changes.{changed_pages}
 use Rattle.group_commit.specs.Saved.{Saved}
 use Rattle.group_commit.specs.Commit.{IsLeft}
 use Rattle.group_commit.specs.Held.{Held}
-use Rattle.group_commit.specs.Plan.{IsNext}
+use Rattle.group_commit.specs.Plan.{IsNext, KeepsPages}
 use Rattle.group_commit.specs.declared.error.StoreError.{StoreError}
 use Rattle.group_commit.specs.declared.error.StoreError.TheVariants.{Memory, Limit, Busy, Failed}
 use Rattle.group_commit.specs.declared.phase.Phase.{Phase}
-use Rattle.group_commit.specs.declared.phase.Phase.TheVariants.{Idle, Pages, Close, Sync1, Body, Sync2, Gate, Sync3}
+use Rattle.group_commit.specs.declared.phase.Phase.TheVariants.{Idle, Pages}
 
 -- no commit is under way
 abbrev pub is_idle : Phase → Bool
 is_idle Idle = true
-is_idle (Pages k) = false
-is_idle Close = false
-is_idle Sync1 = false
-is_idle Body = false
-is_idle Sync2 = false
-is_idle Gate = false
-is_idle Sync3 = false
+is_idle phase = false
 
 abbrev pub is_none : List Op → Bool
 is_none [] = true
@@ -56,8 +50,7 @@ begin_due held ops =
 -- a commit is due to begin
 abbrev pub IsBegun : Result (Option ℕ) StoreError → Type 0
 IsBegun (Ok (Some n)) = Unit {0}
-IsBegun (Ok None) = ⊥
-IsBegun (Err e) = ⊥
+IsBegun answer = ⊥
 
 -- the answer is the one that is due, or want of memory in place of a commit
 abbrev pub IsAnswer : Result (Option ℕ) StoreError → Result (Option ℕ) StoreError → Type 0
@@ -78,5 +71,7 @@ pub record Begins {D : Type 0} (facts : Ghosts D) (old : Held D) (ops : List Op)
   pub lowest : AreLowest old.current.pages new.numbers
   pub follows : IsNext old.current (spelled_all ops) (length ops) new.next
   pub fits : AreOperations ops
+  -- it reaches these and the live root's that stay
+  pub pages : KeepsPages old.current (spelled_all ops) new.next
   pub live_slot : facts.tells new.disk → (c : List ℕ) → facts.survives new.disk c → live c ≡ Ok new.slot
   pub left : facts.tells new.disk → (c : List ℕ) → facts.survives new.disk c → IsLeft new.phase new.current new.next c

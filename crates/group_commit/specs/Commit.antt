@@ -5,7 +5,7 @@ use Rattle.page_file.specs.Pages.{page}
 use Rattle.root_slots.specs.Root.{version_of}
 use Rattle.root_slots.specs.Slots.{gate, body}
 use Rattle.group_commit.specs.Saved.{Saved}
-use Rattle.group_commit.specs.Image.{Stores, stored}
+use Rattle.group_commit.specs.Image.{Stores, stored, reached}
 use Rattle.group_commit.specs.declared.phase.Phase.{Phase}
 use Rattle.group_commit.specs.declared.phase.Phase.TheVariants.{Idle, Pages, Close, Sync1, Body, Sync2, Gate, Sync3}
 
@@ -62,9 +62,10 @@ Reads Sync3 slot next numbers fresh file = gate (1 - slot) file ≡ 1
 abbrev pub Makes : Saved → List ℕ → List ℕ → Saved → Type 0
 Makes current numbers fresh next = (file : List ℕ) → HasPages current file → ReadAs (length numbers) numbers fresh file → HasPages next file
 
--- this file's live slot has this root, and its stream
-abbrev pub Is : Saved → List ℕ → Type 0
-Is root file = stored file ≡ Ok (root.body, root.stream)
+-- this file's live slot has this root and its stream, and the pages that it reaches in the file are the root's
+pub record Is (root : Saved) (file : List ℕ) : Type 0 where
+  pub holds : stored file ≡ Ok (root.body, root.stream)
+  pub reaches : reached file root.body ≡ root.pages
 
 abbrev pub IsOneOf : Saved → Saved → List ℕ → Type 0
 IsOneOf current next file = Is current file ⊎ Is next file
@@ -72,10 +73,4 @@ IsOneOf current next file = Is current file ⊎ Is next file
 -- what the image of a file may be that a crash leaves in a phase: the committed root, and from the gate's write on either one
 abbrev pub IsLeft : Phase → Saved → Saved → List ℕ → Type 0
 IsLeft Sync3 current next file = IsOneOf current next file
-IsLeft Idle current next file = Is current file
-IsLeft (Pages k) current next file = Is current file
-IsLeft Close current next file = Is current file
-IsLeft Sync1 current next file = Is current file
-IsLeft Body current next file = Is current file
-IsLeft Sync2 current next file = Is current file
-IsLeft Gate current next file = Is current file
+IsLeft phase current next file = Is current file

@@ -17,13 +17,11 @@ writes_from Sync3 pages stale_open = 0
 
 abbrev pub syncs_from : Phase → ℕ
 syncs_from Idle = 0
-syncs_from (Pages k) = 3
-syncs_from Close = 3
-syncs_from Sync1 = 3
 syncs_from Body = 2
 syncs_from Sync2 = 2
 syncs_from Gate = 1
 syncs_from Sync3 = 1
+syncs_from phase = 3
 
 -- how many writes and syncs there are up to the end of the commit
 abbrev pub writes_left : {D : Type 0} → Held D → ℕ

@@ -39,14 +39,10 @@ gone_on Sync3 held disk =
 
 -- the phase in which a failed call leaves a commit: behind a write that may be there or not, else where it was
 abbrev pub left_at : Phase → Phase
-left_at Idle = Idle
-left_at (Pages k) = Pages k
 left_at Close = Sync1
-left_at Sync1 = Sync1
 left_at Body = Sync2
-left_at Sync2 = Sync2
 left_at Gate = Sync3
-left_at Sync3 = Sync3
+left_at phase = phase
 
 -- what a device call that fails makes of the store
 abbrev pub has_failed : {D : Type 0} → Held D → D → Held D

@@ -27,13 +27,9 @@ number_of SyncFailed = 52
 
 -- a refusal has met a failure of the device, or not
 abbrev pub failures_of : OpenError → ℕ
-failures_of Memory = 0
-failures_of NoRoot = 0
-failures_of BadRoot = 0
-failures_of BadTable = 0
-failures_of BadStream = 0
 failures_of ReadFailed = 1
 failures_of SyncFailed = 1
+failures_of error = 0
 
 -- a refusal of the root slots is one of the file
 abbrev pub of_roots : RootsError → OpenError

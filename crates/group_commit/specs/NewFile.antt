@@ -1,7 +1,9 @@
 -- The file of a new store.
-use Rattle.std.specs.Prelude.{◌≡◌, ◌≢◌, ◌⊎◌, ℕ, ◌+◌, Bool, true, false, List, [], ◌∷◌, ◌++◌, replicate}
+use Rattle.std.specs.Prelude.{◌≡◌, ◌≢◌, ◌⊎◌, ◌≤◌, ℕ, ◌+◌, Bool, true, false, List, [], ◌∷◌, ◌++◌, take, drop, replicate}
 use Rattle.disk_trait.specs.Calls.{Keeps}
 use Rattle.disk_trait.specs.declared.facts.DiskFacts.{Ghosts}
+use Rattle.root_slots.specs.Body.{Root, root_of}
+use Rattle.root_slots.specs.Slots.{gate}
 use Rattle.group_commit.specs.declared.init_fault.InitError.{InitError}
 use Rattle.group_commit.specs.declared.init_fault.InitError.TheVariants.{Memory, NotEmpty, ReadFailed, WriteFailed, SyncFailed}
 
@@ -12,6 +14,10 @@ slot_page gate body = gate ∷ (replicate 7 0 ++ body)
 -- the first slot is open with this body, the second is zero
 abbrev pub new_file : List ℕ → List ℕ
 new_file body = slot_page 1 body ++ replicate 4096 0
+
+-- the root of a new store
+abbrev pub first_root : ℕ → Root
+first_root replica = record { version = 1; replica = replica; stream_length = 0; operations = 0; tables = [] }
 
 -- each refusal has one number
 abbrev pub number_of : InitError → ℕ
@@ -25,29 +31,65 @@ number_of SyncFailed = 52
 abbrev pub failures_of : InitError → ℕ
 failures_of Memory = 0
 failures_of NotEmpty = 0
-failures_of ReadFailed = 1
-failures_of WriteFailed = 1
-failures_of SyncFailed = 1
+failures_of cause = 1
 
 -- a refusal before anything was written
 abbrev pub is_unwritten : InitError → Bool
-is_unwritten Memory = true
-is_unwritten NotEmpty = true
-is_unwritten ReadFailed = true
 is_unwritten WriteFailed = false
 is_unwritten SyncFailed = false
-
--- why a file wasn't made, and what that leaves
-pub record Refuses {D : Type 0} (facts : Ghosts D) (cause : InitError) (old new : D) : Type 0 where
-  -- 48 is of a file that has bytes; and where it has some, it is 48, or 50 where the device failed
-  pub not_empty : cause ≡ NotEmpty → facts.content old ≢ []
-  pub occupied : facts.content old ≢ [] → (cause ≡ NotEmpty) ⊎ (cause ≡ ReadFailed)
-  -- these two and want of memory leave the disk as it was
-  pub kept : is_unwritten cause ≡ true → Keeps facts old new
-  pub failures : facts.failures new ≡ facts.failures old + failures_of cause
+is_unwritten cause = true
 
 -- in some calls so many failed, and so many were writes and syncs
 pub record Counts {D : Type 0} (facts : Ghosts D) (more_failures more_writes more_syncs : ℕ) (old new : D) : Type 0 where
   pub failures : facts.failures new ≡ facts.failures old + more_failures
   pub writes : facts.writes new ≡ facts.writes old + more_writes
   pub syncs : facts.syncs new ≡ facts.syncs old + more_syncs
+
+-- A file is made by two writes of slots, a sync, the write of a gate, and a sync. So many writes and syncs there are up to the one
+-- that failed with this refusal.
+abbrev pub IsUpTo : InitError → ℕ → ℕ → Type 0
+IsUpTo WriteFailed writes syncs = ((1 ≤ writes) × (writes ≤ 2) × (syncs ≡ 0)) ⊎ ((writes ≡ 3) × (syncs ≡ 1))
+IsUpTo SyncFailed writes syncs = ((writes ≡ 2) × (syncs ≡ 1)) ⊎ ((writes ≡ 3) × (syncs ≡ 2))
+IsUpTo cause writes syncs = (writes ≡ 0) × (syncs ≡ 0)
+
+-- a file has the two slots of a new store, but for the byte of the gate
+pub record HasSlots (replica : ℕ) (file : List ℕ) : Type 0 where
+  pub body : List ℕ
+  pub root : root_of body ≡ first_root replica
+  pub rest : drop 1 file ≡ drop 1 (new_file body)
+
+-- where the making of a file stopped, and what is left
+pub record Stops {D : Type 0} (facts : Ghosts D) (replica : ℕ) (cause : InitError) (old new : D) : Type 0 where
+  pub writes : ℕ
+  pub syncs : ℕ
+  pub up_to : IsUpTo cause writes syncs
+  pub counts : Counts facts (failures_of cause) writes syncs old new
+  -- the slot's page is written with a closed gate
+  pub closed : writes ≡ 2 → gate 0 (facts.content new) ≡ 0
+  -- once the gate is written, a crash leaves the slots: they were settled before
+  pub slots : writes ≡ 3 → (c : List ℕ) → facts.survives new c → HasSlots replica c
+
+-- why a file wasn't made, and what that leaves
+pub record Refuses {D : Type 0} (facts : Ghosts D) (replica : ℕ) (cause : InitError) (old new : D) : Type 0 where
+  -- 48 is of a file that has bytes; and where it has some, it is 48, or 50 where the device failed
+  pub not_empty : cause ≡ NotEmpty → facts.content old ≢ []
+  pub occupied : facts.content old ≢ [] → (cause ≡ NotEmpty) ⊎ (cause ≡ ReadFailed)
+  -- these two and want of memory leave the disk as it was
+  pub kept : is_unwritten cause ≡ true → Keeps facts old new
+  pub stops : Stops facts replica cause old new
+
+-- of two writes of slots the first failed, or the second behind it
+abbrev pub PutsPartly : {D : Type 0} → Ghosts D → List ℕ → D → D → Type 0
+PutsPartly facts first old new =
+    Counts facts 1 1 0 old new ⊎ (Counts facts 1 2 0 old new × (take 4096 (facts.content new) ≡ first))
+
+-- a crash leaves the file that reads gave before, but for its first byte
+abbrev pub IsLeftBehind : {D : Type 0} → Ghosts D → D → D → Type 0
+IsLeftBehind facts old new = (c : List ℕ) → facts.survives new c → drop 1 c ≡ drop 1 (facts.content old)
+
+-- of a sync, the write of the first byte, and a sync one failed: nothing was written, or what was there is settled
+abbrev pub OpensPartly : {D : Type 0} → Ghosts D → InitError → D → D → Type 0
+OpensPartly facts e old new =
+    ((e ≡ SyncFailed) × Counts facts 1 0 1 old new × (facts.content new ≡ facts.content old))
+    ⊎ ((e ≡ WriteFailed) × Counts facts 1 1 1 old new × IsLeftBehind facts old new)
+    ⊎ ((e ≡ SyncFailed) × Counts facts 1 1 2 old new × IsLeftBehind facts old new)

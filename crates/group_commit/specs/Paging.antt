@@ -4,7 +4,7 @@ use Rattle.page_file.specs.Index.{Index}
 use Rattle.root_slots.specs.Root.{tables_of}
 use Rattle.group_commit.specs.Saved.{Paged}
 use Rattle.group_commit.specs.declared.phase.Phase.{Phase}
-use Rattle.group_commit.specs.declared.phase.Phase.TheVariants.{Idle, Pages, Close, Sync1, Body, Sync2, Gate, Sync3}
+use Rattle.group_commit.specs.declared.phase.Phase.TheVariants.{Idle, Pages}
 
 -- the live pages are those of this root
 pub record IsIndexOf (root : Paged) (index : Index) : Type 0 where
@@ -15,12 +15,7 @@ pub record IsIndexOf (root : Paged) (index : Index) : Type 0 where
 abbrev pub taken_in : Phase → List ℕ → List ℕ
 taken_in Idle numbers = []
 taken_in (Pages k) numbers = take k numbers
-taken_in Close numbers = numbers
-taken_in Sync1 numbers = numbers
-taken_in Body numbers = numbers
-taken_in Sync2 numbers = numbers
-taken_in Gate numbers = numbers
-taken_in Sync3 numbers = numbers
+taken_in phase numbers = numbers
 
 -- The next root keeps the first data pages of the live one, and the table pages that name these alone. The first new pages come
 -- behind these data pages, the others behind these tables.

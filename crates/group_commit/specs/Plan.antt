@@ -1,8 +1,8 @@
 -- What a commit is about to write.
-use Rattle.std.specs.Prelude.{◌≡◌, ℕ, ◌+◌, ◌-◌, ◌*◌, if◌then◌else◌, List, ◌++◌, length, take, replicate}
+use Rattle.std.specs.Prelude.{◌≡◌, ℕ, ◌+◌, ◌-◌, ◌*◌, ◌/◌, if◌then◌else◌, List, ◌++◌, length, take, replicate}
 use Rattle.page_file.specs.Pages.{is_zero}
 use Rattle.root_slots.specs.Root.{version_of, replica_of, count_of, tables_of, pages_for}
-use Rattle.group_commit.specs.Changes.{changed_pages}
+use Rattle.group_commit.specs.Changes.{data_of, changed_data, changed_tables, changed_pages}
 use Rattle.group_commit.specs.Saved.{Saved, HasDataPages}
 use Rattle.group_commit.specs.Held.{IsPlan}
 use Rattle.group_commit.specs.declared.phase.Phase.TheVariants.{Pages}
@@ -14,12 +14,28 @@ pub record IsNext (current : Saved) (records : List ℕ) (more : ℕ) (next : Sa
   pub replica : replica_of next.body ≡ replica_of current.body
   pub count : count_of next.body ≡ count_of current.body + more
 
+-- How many data pages stay, behind a stream of so many bytes: all of them, or all but the last one where what comes into its rest
+-- isn't zero.
+abbrev pub kept_of : ℕ → List ℕ → ℕ
+kept_of long records =
+    if is_zero (take (4096 * pages_for 4096 long - long) records) then pages_for 4096 long else pages_for 4096 long - 1
+
+-- Which pages the root behind this one reaches: the data pages that stay and those that are written, and the table pages that name
+-- pages that stay alone and those that are written. Both have as many data pages as their streams take.
+pub record KeepsPages (current : Saved) (records : List ℕ) (next : Saved) : Type 0 where
+  pub had : HasDataPages current (data_of current)
+  pub has : HasDataPages next (data_of next)
+  pub data_pages : data_of next ≡ take (kept_of (length current.stream) records) (data_of current) ++ changed_data current next
+  pub tables : tables_of next.body
+      ≡ take (kept_of (length current.stream) records / 1024) (tables_of current.body) ++ changed_tables current next
+
 -- a plan for these records, with 4,096 bytes for each new page: those that change or are new
 pub record Plans (current : Saved) (records : List ℕ) (more : ℕ) (next : Saved) (numbers fresh : List ℕ) : Type 0 where
   pub follows : IsNext current records more next
   pub plan : IsPlan (Pages 0) current next numbers fresh
   pub room : length fresh ≡ 4096 * length numbers
   pub changes : numbers ≡ changed_pages current next
+  pub pages : KeepsPages current records next
 
 -- the root behind one of this body with so many more operations, its stream on these pages
 pub record IsGrown (body : List ℕ) (more : ℕ) (data_pages tables : List ℕ) (next : Saved) : Type 0 where
@@ -28,12 +44,6 @@ pub record IsGrown (body : List ℕ) (more : ℕ) (data_pages tables : List ℕ)
   pub version : version_of next.body ≡ version_of body + 1
   pub replica : replica_of next.body ≡ replica_of body
   pub count : count_of next.body ≡ count_of body + more
-
--- How many data pages stay, behind a stream of so many bytes: all of them, or all but the last one where what comes into its rest
--- isn't zero.
-abbrev pub kept_of : ℕ → List ℕ → ℕ
-kept_of long records =
-    if is_zero (take (4096 * pages_for 4096 long - long) records) then pages_for 4096 long else pages_for 4096 long - 1
 
 -- with zeros behind, up to a size
 abbrev pub filled : ℕ → List ℕ → List ℕ

@@ -60,34 +60,27 @@ Does facts result Sync2 held new = Syncs facts result held.disk new
 Does facts result Gate held new = Writes facts result (4096 * (1 - held.slot)) (1 ∷ []) held.disk new
 Does facts result Sync3 held new = Syncs facts result held.disk new
 
--- how many writes and syncs the call of a phase is
+-- the device call of a phase: how many writes and syncs it is, and its failure, 52 of a sync, else 51
+pub record Call : Type 0 where
+  pub writes : ℕ
+  pub syncs : ℕ
+  pub error : StoreError
+
+abbrev pub sync_call : Call
+sync_call = record { writes = 0; syncs = 1; error = SyncFailed }
+
+abbrev pub call_in : Phase → Call
+call_in Idle = record { writes = 0; syncs = 0; error = WriteFailed }
+call_in Sync1 = sync_call
+call_in Sync2 = sync_call
+call_in Sync3 = sync_call
+call_in phase = record { writes = 1; syncs = 0; error = WriteFailed }
+
 abbrev pub writes_in : Phase → ℕ
-writes_in Idle = 0
-writes_in (Pages k) = 1
-writes_in Close = 1
-writes_in Sync1 = 0
-writes_in Body = 1
-writes_in Sync2 = 0
-writes_in Gate = 1
-writes_in Sync3 = 0
+writes_in phase = (call_in phase).writes
 
 abbrev pub syncs_in : Phase → ℕ
-syncs_in Idle = 0
-syncs_in (Pages k) = 0
-syncs_in Close = 0
-syncs_in Sync1 = 1
-syncs_in Body = 0
-syncs_in Sync2 = 1
-syncs_in Gate = 0
-syncs_in Sync3 = 1
+syncs_in phase = (call_in phase).syncs
 
--- the failure of the call of a phase: 52 of a sync, else 51
 abbrev pub error_in : Phase → StoreError
-error_in Idle = WriteFailed
-error_in (Pages k) = WriteFailed
-error_in Close = WriteFailed
-error_in Sync1 = SyncFailed
-error_in Body = WriteFailed
-error_in Sync2 = SyncFailed
-error_in Gate = WriteFailed
-error_in Sync3 = SyncFailed
+error_in phase = (call_in phase).error

@@ -1,13 +1,16 @@
 //! The making of a new file.
-ghost use Rattle.std.specs.Prelude.{◌≡◌, ◌+◌, ◌++◌, [], ◌∷◌, ◌↔◌, ℕ, List, true, false};
+ghost use Rattle.std.specs.Prelude.{◌≡◌, ◌≤◌, ◌++◌, [], ◌∷◌, ◌↔◌, ℕ, List, true, false};
 ghost use Rattle.std.specs.Prelude.{length, replicate, IfOk, IfErr, OnOk, OnErr};
-ghost use Rattle.disk_trait.specs.Calls.{Keeps};
+ghost use Rattle.disk_trait.specs.Calls.{IsOneCall, Keeps, Settles};
 ghost use Rattle.disk_trait.specs.File.{overwritten};
+ghost use Rattle.disk_trait.specs.Writing.{Writes, failures_in};
 ghost use Rattle.root_slots.specs.Body.{root_of};
 ghost use Rattle.root_slots.specs.Root.{is_root, stream_length_of};
 ghost use Rattle.group_commit.specs.Commit.{IsLeft};
-ghost use Rattle.group_commit.specs.NewFile.{slot_page, new_file, failures_of, is_unwritten};
-ghost use Rattle.group_commit.specs.NewFile.{Counts, Refuses};
+ghost use Rattle.group_commit.specs.NewFile.{slot_page, new_file, first_root, Counts, Refuses};
+ghost use Rattle.group_commit.specs.NewFile.{PutsPartly, OpensPartly};
+ghost use Rattle.group_commit.specs.declared.init_fault.InitError.TheVariants.{WriteFailed};
+ghost use Rattle.group_commit.specs.declared.init_fault.InitError.TheVariants.{SyncFailed};
 ghost use Rattle.group_commit.specs.declared.phase.Phase.TheVariants.{Idle};
 
 use crate::init_fault::{InitError, InitFault};
@@ -15,13 +18,16 @@ use crate::phase::Phase;
 use crate::root::Root;
 use crate::store::Store;
 use crate::stream_tail::StreamTail;
-use disk_trait::{Disk, DiskError, write_inside};
+use disk_trait::{Disk, write_inside};
 use op_ids::ReplicaId;
 use page_file::Pages;
 use root_slots::Roots;
 use std::alloc::{AllocError, Global};
 
 const PAGE: usize = 4096;
+
+// The gate of an open slot.
+const OPEN: [u8; 1] = [1];
 
 // The page of a slot with a closed gate and this body. An error is want of memory (1).
 fn closed_slot(alloc: Global, body: &[u8]) -> Result<Vec<u8>, AllocError>
@@ -38,7 +44,7 @@ fn check_empty<D: Disk>(disk: &mut D) -> Result<(), InitError>
     ensures taken { D.tells disk.old → OnOk result (D.content disk.old ≡ []) }
     ensures empty { D.tells disk.old → OnOk result (D.content disk.new ≡ []) }
     ensures refused { D.tells disk.old → IfErr result
-        (λ e. Refuses D.DiskFacts e disk.old disk.new) }
+        (λ e. (replica : ℕ) → Refuses D.DiskFacts replica e disk.old disk.new) }
     ensures counts { D.tells disk.old → OnOk result (Counts D.DiskFacts 0 0 0 disk.old disk.new) }
     ensures keeps { D.tells disk.old → Keeps D.DiskFacts disk.old disk.new }
     ensures tells { D.tells disk.new ↔ D.tells disk.old }
@@ -50,63 +56,66 @@ fn check_empty<D: Disk>(disk: &mut D) -> Result<(), InitError>
     }
 }
 
-// The two slots of a file without bytes.
-fn put_slots<D: Disk>(disk: &mut D, first: &[u8], second: &[u8]) -> Result<(), DiskError>
+// Writes bytes at an offset in the file or at its end. It is refused only where the device failed
+// (51).
+fn put<D: Disk>(disk: &mut D, at: u64, bytes: &[u8]) -> Result<(), InitError>
+    requires inside { D.tells disk.old → at ≤ length (D.content disk.old) }
+    ensures writes { D.tells disk.old
+        → Writes D.DiskFacts result at bytes.now disk.old disk.new }
+    ensures tells { D.tells disk.new ↔ D.tells disk.old }
+    ensures refused { IfErr result (λ e. e ≡ WriteFailed) }
+{
+    match write_inside(disk, at, bytes) {
+        Ok(()) => Ok(()),
+        Err(_) => Err(InitError::WriteFailed),
+    }
+}
+
+// Settles all that was written. It is refused only where the device failed (52).
+fn settle<D: Disk>(disk: &mut D) -> Result<(), InitError>
+    ensures settled { D.tells disk.old → OnOk result (Settles D.DiskFacts disk.old disk.new) }
+    ensures unsettled { D.tells disk.old → OnErr result (Keeps D.DiskFacts disk.old disk.new) }
+    ensures call { D.tells disk.old
+        → IsOneCall D.DiskFacts (failures_in result) 0 1 disk.old disk.new }
+    ensures tells { D.tells disk.new ↔ D.tells disk.old }
+    ensures refused { IfErr result (λ e. e ≡ SyncFailed) }
+{
+    match disk.sync() {
+        Ok(()) => Ok(()),
+        Err(_) => Err(InitError::SyncFailed),
+    }
+}
+
+// The two slots of a file without bytes. It is refused only where the device failed (51).
+fn put_slots<D: Disk>(disk: &mut D, first: &[u8], second: &[u8]) -> Result<(), InitError>
     requires empty { D.tells disk.old → D.content disk.old ≡ [] }
     requires size { length first.now ≡ 4096 }
     ensures written { D.tells disk.old
         → OnOk result (D.content disk.new ≡ first.now ++ second.now) }
     ensures counts { D.tells disk.old → OnOk result (Counts D.DiskFacts 0 2 0 disk.old disk.new) }
-    ensures failed { D.tells disk.old
-        → OnErr result (D.failures disk.new ≡ D.failures disk.old + 1) }
+    ensures partly { D.tells disk.old
+        → OnErr result (PutsPartly D.DiskFacts first.now disk.old disk.new) }
+    ensures refused { IfErr result (λ e. e ≡ WriteFailed) }
     ensures tells { D.tells disk.new ↔ D.tells disk.old }
 {
-    write_inside(disk, 0, first)?;
-    write_inside(disk, 4096, second)
+    put(disk, 0, first)?;
+    put(disk, 4096, second)
 }
 
-// Opens the first slot's gate between two syncs.
-fn open_first<D: Disk>(disk: &mut D) -> Result<(), DiskError>
+// Opens the first slot's gate between two syncs: by then the slots are on the disk.
+fn open_first<D: Disk>(disk: &mut D) -> Result<(), InitError>
     ensures written { D.tells disk.old → OnOk result
         (D.content disk.new ≡ overwritten (D.content disk.old) 0 (1 ∷ [])) }
     ensures only { D.tells disk.old → OnOk result
         ((c : List ℕ) → D.survives disk.new c → c ≡ D.content disk.new) }
     ensures counts { D.tells disk.old → OnOk result (Counts D.DiskFacts 0 1 2 disk.old disk.new) }
-    ensures failed { D.tells disk.old
-        → OnErr result (D.failures disk.new ≡ D.failures disk.old + 1) }
+    ensures partly { D.tells disk.old
+        → IfErr result (λ e. OpensPartly D.DiskFacts e disk.old disk.new) }
     ensures tells { D.tells disk.new ↔ D.tells disk.old }
 {
-    disk.sync()?;
-    write_inside(disk, 0, &[1])?;
-    disk.sync()
-}
-
-// What a refused device call is.
-fn cause(error: DiskError) -> InitError
-    ensures failed { failures_of result ≡ 1 }
-    ensures other { is_unwritten result ≡ false }
-{
-    match error {
-        DiskError::SyncFailed => InitError::SyncFailed,
-        _ => InitError::WriteFailed,
-    }
-}
-
-// The two slots of a file without bytes, the first one open.
-fn put_file<D: Disk>(disk: &mut D, first: &[u8], second: &[u8]) -> Result<(), InitError>
-    requires empty { D.tells disk.old → D.content disk.old ≡ [] }
-    requires size { length first.now ≡ 4096 }
-    ensures written { D.tells disk.old → OnOk result
-        (D.content disk.new ≡ overwritten (first.now ++ second.now) 0 (1 ∷ [])) }
-    ensures only { D.tells disk.old → OnOk result
-        ((c : List ℕ) → D.survives disk.new c → c ≡ D.content disk.new) }
-    ensures counts { D.tells disk.old → OnOk result (Counts D.DiskFacts 0 3 2 disk.old disk.new) }
-    ensures refused { D.tells disk.old → IfErr result
-        (λ e. Refuses D.DiskFacts e disk.old disk.new) }
-    ensures tells { D.tells disk.new ↔ D.tells disk.old }
-{
-    put_slots(disk, first, second).map_err(cause)?;
-    open_first(disk).map_err(cause)
+    settle(disk)?;
+    put(disk, 0, &OPEN)?;
+    settle(disk)
 }
 
 // The file of a new store with this body. An error is want of memory (1) or the device's.
@@ -118,23 +127,19 @@ fn make_file<D: Disk>(alloc: Global, disk: &mut D, body: &[u8]) -> Result<(), In
         ((c : List ℕ) → D.survives disk.new c → c ≡ D.content disk.new) }
     ensures counts { D.tells disk.old → OnOk result (Counts D.DiskFacts 0 3 2 disk.old disk.new) }
     ensures refused { D.tells disk.old → IfErr result
-        (λ e. Refuses D.DiskFacts e disk.old disk.new) }
+        (λ e. (replica : ℕ) → root_of body.now ≡ first_root replica
+        → Refuses D.DiskFacts replica e disk.old disk.new) }
     ensures tells { D.tells disk.new ↔ D.tells disk.old }
 {
     let first = closed_slot(alloc, body)?;
-    put_file(disk, &first, &[0; PAGE])
+    put_slots(disk, &first, &[0; PAGE])?;
+    open_first(disk)
 }
 
 // The two roots of a new store: the live one, and one in the place of a commit's. An error is want
 // of memory (1).
 fn empty_roots(alloc: Global, replica: ReplicaId) -> Result<(Root, Root, Pages), AllocError>
-    ensures root { IfOk result (λ roots. root_of roots.0.body ≡ record {
-      version = 1;
-      replica = replica;
-      stream_length = 0;
-      operations = 0;
-      tables = [];
-    }) }
+    ensures root { IfOk result (λ roots. root_of roots.0.body ≡ first_root replica) }
     ensures empty { IfOk result (λ roots. (roots.0.pages ≡ [])
         × (is_root roots.0.body ≡ true) × (stream_length_of roots.1.body ≡ 0)) }
     ensures index { IfOk result (λ roots. (roots.2.tables ≡ []) × (roots.2.data_pages ≡ [])
@@ -153,13 +158,7 @@ fn format<D: Disk>(
     replica: ReplicaId,
 ) -> Result<(Root, Root, Pages), InitError>
     requires empty { D.tells disk.old → D.content disk.old ≡ [] }
-    ensures root { IfOk result (λ roots. root_of roots.0.body ≡ record {
-      version = 1;
-      replica = replica;
-      stream_length = 0;
-      operations = 0;
-      tables = [];
-    }) }
+    ensures root { IfOk result (λ roots. root_of roots.0.body ≡ first_root replica) }
     ensures empty { IfOk result (λ roots. (roots.0.pages ≡ [])
         × (is_root roots.0.body ≡ true) × (stream_length_of roots.1.body ≡ 0)) }
     ensures index { IfOk result (λ roots. (roots.2.tables ≡ []) × (roots.2.data_pages ≡ [])
@@ -170,7 +169,7 @@ fn format<D: Disk>(
         (λ roots. (c : List ℕ) → D.survives disk.new c → c ≡ new_file roots.0.body) }
     ensures counts { D.tells disk.old → OnOk result (Counts D.DiskFacts 0 3 2 disk.old disk.new) }
     ensures refused { D.tells disk.old → IfErr result
-        (λ e. Refuses D.DiskFacts e disk.old disk.new) }
+        (λ e. Refuses D.DiskFacts replica e disk.old disk.new) }
     ensures tells { D.tells disk.new ↔ D.tells disk.old }
 {
     let roots = empty_roots(alloc, replica)?;
@@ -186,20 +185,14 @@ fn begin_file<D: Disk>(
     disk: &mut D,
     replica: ReplicaId,
 ) -> Result<(Root, Root, Pages), InitError>
-    ensures root { IfOk result (λ roots. root_of roots.0.body ≡ record {
-      version = 1;
-      replica = replica;
-      stream_length = 0;
-      operations = 0;
-      tables = [];
-    }) }
+    ensures root { IfOk result (λ roots. root_of roots.0.body ≡ first_root replica) }
     ensures empty { IfOk result (λ roots. (roots.0.pages ≡ [])
         × (is_root roots.0.body ≡ true) × (stream_length_of roots.1.body ≡ 0)) }
     ensures index { IfOk result (λ roots. (roots.2.tables ≡ []) × (roots.2.data_pages ≡ [])
         × (roots.2.taken ≡ [])) }
     ensures taken { D.tells disk.old → OnOk result (D.content disk.old ≡ []) }
     ensures refused { D.tells disk.old → IfErr result
-        (λ e. Refuses D.DiskFacts e disk.old disk.new) }
+        (λ e. Refuses D.DiskFacts replica e disk.old disk.new) }
     ensures made { D.tells disk.old → IfOk result
         (λ roots. D.content disk.new ≡ new_file roots.0.body) }
     ensures left { D.tells disk.old → IfOk result
@@ -217,22 +210,18 @@ impl<D: Disk> Store<D> {
     ///
     /// Refuses with 48 where the file has bytes, then with 1 where a growth was refused, and with
     /// 50, 51 or 52 where the device failed. The disk comes back either way: after 48, 50 and 1 as
-    /// it was. After 51 and 52 nothing is promised of the file, which had no bytes.
+    /// it was. After 51 and 52 the file, which had no bytes, may hold anything in its two slots up
+    /// to the first sync; the gate is written behind that, and then the slots are whole but for
+    /// the gate.
     pub fn init(alloc: Global, disk: D, replica: ReplicaId) -> Result<Store<D>, InitFault<D>>
-        ensures root { IfOk result (λ store. root_of store.current.body ≡ record {
-          version = 1;
-          replica = replica;
-          stream_length = 0;
-          operations = 0;
-          tables = [];
-        }) }
+        ensures root { IfOk result (λ store. root_of store.current.body ≡ first_root replica) }
         ensures empty { IfOk result (λ store. store.current.stream ≡ []) }
         ensures idle { IfOk result (λ store. (store.phase ≡ Idle) × (store.failed ≡ false)
             × (store.stale_open ≡ false) × (store.slot ≡ 0)) }
         // It is made of a file without bytes alone; one that has some is left as it was.
         ensures taken { D.tells disk → OnOk result (D.content disk ≡ []) }
         ensures refused { D.tells disk → IfErr result
-            (λ fault. Refuses D.DiskFacts fault.cause disk fault.disk) }
+            (λ fault. Refuses D.DiskFacts replica fault.cause disk fault.disk) }
         ensures made { D.tells disk → IfOk result
             (λ store. D.content store.disk ≡ new_file store.current.body) }
         // A crash leaves a file that has that root.

@@ -31,6 +31,8 @@ pub use store::Store;
 #[cfg(test)]
 mod load_tests;
 #[cfg(test)]
+mod mute_tests;
+#[cfg(test)]
 mod page_tests;
 #[cfg(test)]
 mod test_files;

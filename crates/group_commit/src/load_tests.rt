@@ -20,21 +20,26 @@ fn sync(disk: &mut MemDisk) -> Result<(), Fail> {
     Ok(())
 }
 
-// A disk with a file of these pages, each filled with zeros.
-fn disk_of(alloc: Global, pages: &[&str]) -> Result<MemDisk, Fail> {
-    let file = file_with(alloc, pages)?;
-    let mut disk = MemDisk::new(alloc, 8 * 4096, 64)?;
+// Writes a file, page by page.
+fn fill(disk: &mut MemDisk, file: &[u8]) -> Result<(), Fail> {
     let mut at: u64 = 0;
     for page in file.chunks(4096) {
-        write(&mut disk, at, page)?;
+        write(disk, at, page)?;
         at = at.saturating_add(4096);
     }
-    sync(&mut disk)?;
+    sync(disk)
+}
+
+// A disk with a file of these pages, each filled with zeros.
+fn disk_of(alloc: Global, pages: &[&str]) -> Result<Box<MemDisk>, Fail> {
+    let file = file_with(alloc, pages)?;
+    let mut disk = Box::new(alloc, MemDisk::new(alloc, 8 * 4096, 64)?)?;
+    fill(&mut disk, &file)?;
     Ok(disk)
 }
 
 // The file after a commit of one insert.
-fn first_disk(alloc: Global) -> Result<MemDisk, Fail> {
+fn first_disk(alloc: Global) -> Result<Box<MemDisk>, Fail> {
     disk_of(alloc, &[MADE, ONE, INSERT_A, "00000002"])
 }
 
@@ -73,7 +78,7 @@ fn has_records(alloc: Global, disk: MemDisk, count: usize, records: &str) -> Res
 // Whether the file of these pages is.
 fn opens(alloc: Global, pages: &[&str], count: usize, records: &str) -> Result<bool, Fail> {
     let disk = disk_of(alloc, pages)?;
-    has_records(alloc, disk, count, records)
+    has_records(alloc, Box::into_inner(disk), count, records)
 }
 
 #[test]
@@ -89,7 +94,7 @@ fn files_are_opened(rt: HostRuntime) -> Result<(), Fail> {
 fn a_closed_slot_is_passed(rt: HostRuntime) -> Result<(), Fail> {
     let mut disk = first_disk(rt.alloc())?;
     write(&mut disk, 4096, &[0])?;
-    assert!(rt; has_records(rt.alloc(), disk, 0, "")?);
+    assert!(rt; has_records(rt.alloc(), Box::into_inner(disk), 0, "")?);
     Ok(())
 }
 
@@ -97,7 +102,7 @@ fn a_closed_slot_is_passed(rt: HostRuntime) -> Result<(), Fail> {
 fn number_with(alloc: Global, at: u64, byte: u8) -> Result<u8, Fail> {
     let mut disk = first_disk(alloc)?;
     write(&mut disk, at, &[byte])?;
-    Ok(number_of(alloc, disk))
+    Ok(number_of(alloc, Box::into_inner(disk)))
 }
 
 #[test]
@@ -121,14 +126,14 @@ fn a_byte_breaks_a_file(rt: HostRuntime) -> Result<(), Fail> {
 // The number with which the file of these pages is refused.
 fn number_of_pages(alloc: Global, pages: &[&str]) -> Result<u8, Fail> {
     let disk = disk_of(alloc, pages)?;
-    Ok(number_of(alloc, disk))
+    Ok(number_of(alloc, Box::into_inner(disk)))
 }
 
 #[test]
 fn a_made_file_with_another_magic_is_refused(rt: HostRuntime) -> Result<(), Fail> {
     let mut made = disk_of(rt.alloc(), &[MADE, ""])?;
     write(&mut made, 15, &[0x32])?;
-    assert_eq!(rt; number_of(rt.alloc(), made), 43);
+    assert_eq!(rt; number_of(rt.alloc(), Box::into_inner(made)), 43);
     Ok(())
 }
 
@@ -152,7 +157,7 @@ fn a_page_past_the_end_is_refused(rt: HostRuntime) -> Result<(), Fail> {
 // The number with which the file of one insert is refused where the n-th call of the disk fails.
 fn number_at_fault(alloc: Global, n: u64) -> Result<u8, Fail> {
     let disk = first_disk(alloc)?;
-    Ok(number_of(alloc, FaultDisk::new(disk, n)))
+    Ok(number_of(alloc, FaultDisk::new(Box::into_inner(disk), n)))
 }
 
 #[test]

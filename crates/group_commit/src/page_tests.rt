@@ -72,7 +72,7 @@ fn commit_inserts(
 }
 
 // The size of a store's file.
-fn size_of(alloc: Global, store: Store<MemDisk>) -> Result<usize, Fail> {
+fn size_of(alloc: Global, store: Box<Store<MemDisk>>) -> Result<usize, Fail> {
     let file = file_of(alloc, store)?;
     Ok(file.len())
 }
@@ -94,7 +94,7 @@ fn put_numbers(
 }
 
 // The store behind so many commits: 256 inserts, then one more each.
-fn committed(alloc: Global, commits: u64) -> Result<Store<MemDisk>, Fail> {
+fn committed(alloc: Global, commits: u64) -> Result<Box<Store<MemDisk>>, Fail> {
     let mut store = store(alloc, 16)?;
     commit_inserts(&mut store, alloc, 1, 256)?;
     for counter in 257..commits.saturating_add(256) {
@@ -157,7 +157,7 @@ fn almost_a_page(alloc: Global) -> Result<Vec<Op>, Fail> {
 }
 
 // A store behind a commit of these.
-fn filled(alloc: Global) -> Result<Store<MemDisk>, Fail> {
+fn filled(alloc: Global) -> Result<Box<Store<MemDisk>>, Fail> {
     let mut store = store(alloc, 16)?;
     let ops = almost_a_page(alloc)?;
     commit(&mut store, &ops)?;

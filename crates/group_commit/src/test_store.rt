@@ -14,16 +14,16 @@ pub(crate) fn replica() -> Result<ReplicaId, Fail> {
 }
 
 /// A new store on this disk.
-pub(crate) fn store_on<D: Disk + Drop>(alloc: Global, disk: D) -> Result<Store<D>, Fail> {
+pub(crate) fn store_on<D: Disk + Drop>(alloc: Global, disk: D) -> Result<Box<Store<D>>, Fail> {
     let replica = replica()?;
     match Store::init(alloc, disk, replica) {
-        Ok(store) => Ok(store),
+        Ok(store) => Ok(Box::new(alloc, store)?),
         Err(_) => Err("refused".into()),
     }
 }
 
 /// A new store on a disk in memory with room for so many pages.
-pub(crate) fn store(alloc: Global, pages: usize) -> Result<Store<MemDisk>, Fail> {
+pub(crate) fn store(alloc: Global, pages: usize) -> Result<Box<Store<MemDisk>>, Fail> {
     let disk = MemDisk::new(alloc, pages.saturating_mul(4096), 4096)?;
     store_on(alloc, disk)
 }
@@ -59,16 +59,15 @@ fn size_of(disk: &mut MemDisk) -> Result<usize, Fail> {
     Ok(usize::try_from(size)?)
 }
 
-/// Fills these bytes from a disk's file.
-fn read(disk: &mut MemDisk, bytes: &mut [u8]) -> Result<(), Fail> {
-    disk.read_at(0, bytes)?;
-    Ok(())
+/// The bytes of a disk's file.
+fn read(alloc: Global, disk: &mut MemDisk) -> Result<Vec<u8>, Fail> {
+    let mut file = Vec::from_elem(alloc, 0, size_of(disk)?)?;
+    disk.read_at(0, &mut file)?;
+    Ok(file)
 }
 
 /// The file of a store.
-pub(crate) fn file_of(alloc: Global, store: Store<MemDisk>) -> Result<Vec<u8>, Fail> {
-    let mut disk = store.into_disk();
-    let mut file = Vec::from_elem(alloc, 0, size_of(&mut disk)?)?;
-    read(&mut disk, &mut file)?;
-    Ok(file)
+pub(crate) fn file_of(alloc: Global, store: Box<Store<MemDisk>>) -> Result<Vec<u8>, Fail> {
+    let mut disk = Box::into_inner(store).into_disk();
+    read(alloc, &mut disk)
 }

@@ -86,7 +86,7 @@ fn commits_are_counted(rt: HostRuntime) -> Result<(), Fail> {
 }
 
 /// A store whose disk fails at the n-th call of its first commit, which has begun.
-fn failing(alloc: Global, n: u64) -> Result<Store<FaultDisk<MemDisk>>, Fail> {
+fn failing(alloc: Global, n: u64) -> Result<Box<Store<FaultDisk<MemDisk>>>, Fail> {
     let disk = MemDisk::new(alloc, 65_536, 256)?;
     let mut store = store_on(alloc, FaultDisk::new(disk, n.saturating_add(6)))?;
     let first = ops(alloc, INSERT_A)?;

@@ -44,9 +44,7 @@ meeting_due l f =
 -- a commit is due to begin
 abbrev pub IsBeginning : Result Met StoreError → Type 0
 IsBeginning (Ok (Begun n)) = Unit {0}
-IsBeginning (Ok (Settled n)) = ⊥
-IsBeginning (Ok Nothing) = ⊥
-IsBeginning (Err e) = ⊥
+IsBeginning answer = ⊥
 
 -- the answer is the one that is due, or want of memory in place of a commit
 abbrev pub IsMet : Result Met StoreError → Result Met StoreError → Type 0

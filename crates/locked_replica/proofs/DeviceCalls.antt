@@ -6,7 +6,6 @@ use Rattle.op_model.specs.Machine.{Answer, device_step, goes_on, goes_through, r
 use Rattle.root_slots.specs.Root.{version_of, count_of}
 use Rattle.replica_core.specs.Held.{Held}
 use Rattle.group_commit.specs.Begin.{is_idle}
-use Rattle.group_commit.specs.Commit.{IsLeft}
 use Rattle.group_commit.specs.Held.{Held as StoreHeld}
 use Rattle.group_commit.specs.Step.{IsDeviceCall, IsLeftAround, failures_in as failures_of}
 use Rattle.group_commit.specs.declared.error.StoreError.{StoreError}

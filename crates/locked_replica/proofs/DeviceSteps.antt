@@ -1,24 +1,24 @@
 -- A device step of a hub, as its store answers it.
-use Rattle.std.proofs.Common.{◌≡◌, ◌≢◌, Bool, true, false, refl, sym, ap, subst, ◌∙◌, arith, inl, inr, ◌⊎◌, Result, Ok, Err}
-use Rattle.disk_trait.specs.Calls.{IsLawful}
+use Rattle.std.proofs.Common.{◌≡◌, ◌≢◌, ℕ, ◌+◌, Bool, true, false, length, refl, sym, ap, subst, ◌∙◌, arith, inl, inr, ◌⊎◌, Result, Ok, Err}
+use Rattle.disk_trait.specs.Calls.{IsLawful, IsOneCall}
 use Rattle.disk_trait.specs.declared.facts.DiskFacts.{Ghosts}
 use Rattle.op_model.specs.Machine.{Answer, device_step, idle as idle_answer, goes_on, goes_through, refused}
 use Rattle.root_slots.specs.Root.{count_of}
 use Rattle.replica_core.specs.Held.{Held}
 use Rattle.group_commit.specs.Begin.{is_idle}
 use Rattle.group_commit.specs.Errors.{number_of}
-use Rattle.group_commit.specs.Held.{gone_on, has_failed, Held as StoreHeld}
-use Rattle.group_commit.specs.Counts.{writes_left, syncs_left, IsWriting}
+use Rattle.group_commit.specs.Held.{gone_on, has_failed, left_at, Held as StoreHeld}
+use Rattle.group_commit.specs.Counts.{writes_from, writes_left, syncs_left, IsWriting}
 use Rattle.group_commit.proofs.CountLemmas.{writes_fall, syncs_fall}
-use Rattle.group_commit.specs.Step.{Does}
+use Rattle.group_commit.specs.Step.{Does, error_in, writes_in, syncs_in, failures_in}
 use Rattle.hub_parts.specs.Flusher.{IsStoreStep}
 use Rattle.group_commit.specs.declared.error.StoreError.{StoreError}
-use Rattle.group_commit.specs.declared.error.StoreError.TheVariants.{Failed}
+use Rattle.group_commit.specs.declared.error.StoreError.TheVariants.{Failed, WriteFailed}
 use Rattle.group_commit.specs.declared.phase.Phase.{Phase}
-use Rattle.group_commit.specs.declared.phase.Phase.TheVariants.{Idle, Sync3}
+use Rattle.group_commit.specs.declared.phase.Phase.TheVariants.{Idle, Pages, Close, Sync1, Body, Sync2, Gate, Sync3}
 use Rattle.locked_replica.specs.Hub.{committed}
 use Rattle.locked_replica.proofs.Fits.{Fits}
-use Rattle.locked_replica.specs.Calls.{IsCall, Counts, StepsOn, writes_begun, syncs_begun}
+use Rattle.locked_replica.specs.Calls.{IsCall, IsCounted, NoWriteFails, Counts, StepsOn, writes_begun, syncs_begun}
 use Rattle.locked_replica.specs.Steps.{stepped_in}
 use Rattle.locked_replica.proofs.PartsOf.{parts}
 use Rattle.locked_replica.proofs.QuietCalls.{quiet_same}
@@ -31,6 +31,11 @@ use Rattle.locked_replica.proofs.DeviceCalls.{call_goes_on, call_goes_through, c
 page_is_new : {D : Type 0} (facts : Ghosts D) (s : StoreHeld D) (new : D) (answer : Result Phase StoreError) → Does {T = Phase} facts answer s.phase s new
     → IsWriting s
 page_is_new facts s new answer does k at_page = (subst (λ p. Does {T = Phase} facts answer p s new) at_page does).within
+
+-- a call is counted as its phase's
+counted_by : {D : Type 0} (facts : Ghosts D) (s new : StoreHeld D) (answer : Result Phase StoreError)
+    → IsOneCall facts (failures_in answer) (writes_in s.phase) (syncs_in s.phase) s.disk new.disk → IsCounted facts s new
+counted_by facts s new answer call = record { writes = call.writes; syncs = call.syncs }
 
 -- a device call that succeeds makes its part of the writes and syncs that are left
 counts_on : {D : Type 0} (facts : Ghosts D) (s new : StoreHeld D) (p : Phase) (answer : Answer) → writes_begun answer new ≡ 0 → syncs_begun answer ≡ 0
@@ -50,10 +55,33 @@ counts_on facts s new p answer none none_syncs works stepped busy gone =
           omega (arith, call, left, after, none_syncs);
     }
 
--- of one that fails nothing is said
-counts_failed : {D : Type 0} (facts : Ghosts D) (answer : Answer) (s new : StoreHeld D) → new.failed ≡ true → Counts facts answer s new
-counts_failed facts answer s new failed =
-    record { stays = λ was. failed; writes = λ told working. absurd (cc); syncs = λ told working. absurd (cc) }
+-- a sync that fails makes no write, and leaves those that were left
+sync_keeps : (phase : Phase) (pages : ℕ) (stale_open : Bool) → error_in phase ≢ WriteFailed
+    → (writes_in phase ≡ 0) × (writes_from (left_at phase) pages stale_open ≡ writes_from phase pages stale_open)
+sync_keeps Idle pages stale_open other = absurd (other refl)
+sync_keeps (Pages k) pages stale_open other = absurd (other refl)
+sync_keeps Close pages stale_open other = absurd (other refl)
+sync_keeps Sync1 pages stale_open other = (refl, refl)
+sync_keeps Body pages stale_open other = absurd (other refl)
+sync_keeps Sync2 pages stale_open other = (refl, refl)
+sync_keeps Gate pages stale_open other = absurd (other refl)
+sync_keeps Sync3 pages stale_open other = (refl, refl)
+
+-- the counts behind one that fails
+counts_failed : {D : Type 0} (facts : Ghosts D) (s new : StoreHeld D) (e : StoreError) → s.failed ≡ false → new.failed ≡ true → IsStoreStep facts s (Err e) new
+    → s.phase ≢ Idle → e ≡ error_in s.phase → new ≡ has_failed s new.disk → Counts facts (refused (number_of e)) s new
+counts_failed facts s new e works failed stepped busy error gone =
+    record { stays = λ was. failed; writes = λ told none. by_cause told none; syncs = λ told working. absurd (cc) }
+  where
+    by_cause : facts.tells s.disk → NoWriteFails (refused (number_of e)) new → facts.writes new.disk + writes_left new ≡ facts.writes s.disk + writes_left s + 0
+    by_cause told (inl working) = absurd (cc)
+    by_cause told (inr other) =
+        let call = ((stepped.call works busy).call told).writes in
+        let kept = sync_keeps s.phase (length s.numbers) s.stale_open (λ is. other (ap (λ e. refused (number_of e)) (error ∙ is))) in
+        let none = kept.0 in
+        let same = kept.1 in
+        let after = ap writes_left gone in
+        omega (arith, call, none, same, after)
 
 -- one answer has one error
 same_error : (answer : Result Phase StoreError) (e f : StoreError) → answer ≡ Err e → answer ≡ Err f → e ≡ f
@@ -79,8 +107,12 @@ step_made {D} {failure_told = failure_told} facts h s new p lawful fits after st
     gone : new ≡ gone_on s.phase s new.disk
     gone = stepped.went_on works
 
-    steps : StepsOn facts s new
-    steps = record { next = gone; does = λ told. subst (λ q. Does {T = Phase} facts (Ok q) s.phase s new.disk) stepped.made (stepped.does works told) }
+    steps : s.phase ≢ Idle → StepsOn facts s new
+    steps busy = record {
+      counted = λ told. counted_by facts s new (Ok p) ((stepped.call works busy).call told);
+      next = gone;
+      does = λ told. subst (λ q. Does {T = Phase} facts (Ok q) s.phase s new.disk) stepped.made (stepped.does works told);
+    }
 
     by_kind : (s.phase ≡ Idle) ⊎ ((s.phase ≡ Sync3) ⊎ ((is_idle s.phase ≡ false) × (s.phase ≢ Sync3)))
         → IsCall facts device_step (stepped_in s.phase) (parts h s failure_told) (parts h new failure_told)
@@ -99,7 +131,7 @@ step_made {D} {failure_told = failure_told} facts h s new p lawful fits after st
         let its_call = stepped.call works (not_idle s.phase busy) in
         subst (λ q. IsCall facts device_step (stepped_in q) (parts h s failure_told) (parts h new failure_told)) (sym is)
         (call_goes_through facts h s new _ _ _ _ fits works busy its_call rest current works' after
-        (counts_on facts s new p goes_through refl refl works stepped (not_idle s.phase busy) gone) refl steps)
+        (counts_on facts s new p goes_through refl refl works stepped (not_idle s.phase busy) gone) refl (steps (not_idle s.phase busy)))
     by_kind (inr (inr (busy, other))) =
         let on = goes_on_in s.phase busy other in
         let kept = kept_current s.phase s new.disk other in
@@ -109,7 +141,7 @@ step_made {D} {failure_told = failure_told} facts h s new p lawful fits after st
         let works' : new.failed ≡ false = ap (λ t. t.failed) gone ∙ kept_working s.phase s new.disk ∙ works in
         let its_call = stepped.call works (not_idle s.phase busy) in
         rw on (call_goes_on facts h s new _ _ _ _ fits works busy its_call busy' current next works' after
-        (counts_on facts s new p goes_on refl refl works stepped (not_idle s.phase busy) gone) refl steps)
+        (counts_on facts s new p goes_on refl refl works stepped (not_idle s.phase busy) gone) refl (steps (not_idle s.phase busy)))
 
 -- a device step that is refused
 pub step_refused : {D : Type 0} {failure_told : Bool} (facts : Ghosts D) (h : Held) (s new : StoreHeld D) (e : StoreError) → (facts.tells s.disk → IsLawful facts s.disk)
@@ -133,7 +165,8 @@ step_refused {failure_told = failure_told} facts h s new e lawful fits after ste
         let its_call = stepped.call works some in
         let error = its_call.refused in
         call_fails facts h s new _ _ _ _ (number_of e) fits works busy its_call busy' current next failed (rw error (device_number s.phase)) after
-        (counts_failed facts _ s new failed) refl (record {
+        (counts_failed facts s new e works failed stepped some error gone_so) refl (record {
+          counted = λ told. counted_by facts s new (Err e) (its_call.call told);
           number = ap number_of error;
           next = gone_so;
           does = λ told. subst (λ q. Does {T = Phase} facts (Err q) s.phase s new.disk) error (stepped.does works told);

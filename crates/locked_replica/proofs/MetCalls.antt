@@ -1,5 +1,5 @@
 -- A begin and a settlement of a hub are meetings of its two parts.
-use Rattle.std.proofs.Common.{◌≡◌, ◌≢◌, ◌⊎◌, ℕ, ◌+◌, ◌<◌, Bool, true, false, not, ◌&&◌, nat_lt, List, length, drop, refl, sym, ap, ◌∙◌, subst, arith}
+use Rattle.std.proofs.Common.{◌≡◌, ◌≢◌, ℕ, ◌<◌, Bool, true, false, not, ◌&&◌, nat_lt, drop, refl, sym, ap, ◌∙◌, subst, arith}
 use Rattle.std.proofs.Common.{inl, inr, Option, Some, None, Result, Ok, Err}
 use Rattle.std.specs.Prelude.{if◌then◌else◌, is_some}
 use Rattle.std.proofs.lemmas.Bool.{ltb-true, ltb-false}
@@ -9,14 +9,13 @@ use Rattle.op_model.specs.Machine.{Answer, begin, begun, nothing_new, settle, re
 use Rattle.root_slots.specs.Root.{count_of}
 use Rattle.replica_core.specs.Held.{with_settled}
 use Rattle.group_commit.specs.Begin.{begin_due, has_room, is_idle, is_none, Begins, IsAnswer}
-use Rattle.group_commit.specs.Held.{Held as StoreHeld}
 use Rattle.group_commit.specs.Errors.{number_of}
 use Rattle.group_commit.specs.declared.error.StoreError.{StoreError}
-use Rattle.group_commit.specs.declared.error.StoreError.TheVariants.{Memory, Limit, Busy, Failed}
+use Rattle.group_commit.specs.declared.error.StoreError.TheVariants.{Limit, Failed}
 use Rattle.hub_parts.specs.Locked.{has_commit, IsLocked, Held as LockedHeld}
 use Rattle.hub_parts.specs.Flusher.{Commits as CommitsOf, IsAtRest, IsFlusher, Held as FlusherHeld}
 use Rattle.hub_parts.specs.Meet.{Meet, side_of}
-use Rattle.hub_parts.specs.Meeting.{differ, due_with_commit, due_without, meeting_due, pending, IsBeginning, IsMet, Leaves, Meets}
+use Rattle.hub_parts.specs.Meeting.{differ, due_without, meeting_due, pending, IsMet, Leaves, Meets}
 use Rattle.hub_parts.specs.declared.met.Met.{Met}
 use Rattle.hub_parts.specs.declared.met.Met.TheVariants.{Begun, Settled, Nothing}
 use Rattle.locked_replica.specs.Calls.{IsCall}

@@ -1,5 +1,5 @@
 -- What a crash leaves of a hub, by what the hub keeps.
-use Rattle.std.proofs.Common.{◌≡◌, ℕ, ◌+◌, ◌-◌, ◌<◌, ◌≤◌, Bool, true, false, nat_lt, List, take, drop, refl, sym, ap, ◌∙◌, arith, inl, inr, Ok, Option, Some, None}
+use Rattle.std.proofs.Common.{◌≡◌, ℕ, ◌+◌, ◌-◌, ◌<◌, ◌≤◌, Bool, true, false, nat_lt, List, length, take, drop, refl, sym, ap, ◌∙◌, arith, inl, inr, Ok, Option, Some, None}
 use Rattle.std.specs.Prelude.{if◌then◌else◌}
 use Rattle.std.proofs.lemmas.Bool.{ltb-true}
 use Rattle.std.proofs.lemmas.Bool.Decides.{nat_tests}
@@ -7,7 +7,7 @@ use Rattle.std.proofs.lemmas.List.{take-append-drop, length-take-le}
 use Rattle.disk_trait.specs.declared.facts.DiskFacts.{Ghosts}
 use Rattle.op_model.specs.declared.op.Op.{Op}
 use Rattle.op_model.specs.Causality.{IsCausallyClosed}
-use Rattle.op_model.specs.Machine.{Commit, State, CrashLeaves, opened}
+use Rattle.op_model.specs.Machine.{Commit, State, CrashLeaves, CrashLeavesOf, opened}
 use Rattle.model_laws.proofs.Growth.{closed_front}
 use Rattle.root_slots.specs.Root.{version_of, count_of}
 use Rattle.replica_core.specs.Held.{Held, IsSound, stored}
@@ -16,9 +16,9 @@ use Rattle.group_commit.specs.Commit.{Is, IsLeft}
 use Rattle.group_commit.specs.Saved.{Saved}
 use Rattle.group_commit.specs.declared.phase.Phase.{Phase}
 use Rattle.group_commit.specs.declared.phase.Phase.TheVariants.{Idle, Pages, Close, Sync1, Body, Sync2, Gate, Sync3}
-use Rattle.locked_replica.specs.Hub.{Parts, committed, commit_in, version_in, state_of}
+use Rattle.locked_replica.specs.Hub.{Parts, commit_in, version_in, commit_of, version_at}
 use Rattle.locked_replica.proofs.Fits.{Fits, IsFront, IsUnderWay, Commits}
-use Rattle.locked_replica.specs.Recovery.{HasRootOf, RecoversIn, Recovers, IsCrash, HasAtLeast}
+use Rattle.locked_replica.specs.Recovery.{HasFront, is_gated, RecoversWith, RecoversIn, Recovers, IsCrash, HasAtLeast}
 use Rattle.locked_replica.specs.Calls.{IsLeftOf}
 
 -- a front of a causally closed list is closed
@@ -26,11 +26,12 @@ closed_take : (n : ℕ) (ops : List Op) → IsCausallyClosed ops → IsCausallyC
 closed_take n ops closed = closed_front (take n ops) (drop n ops) (rw (take-append-drop n ops) closed)
 
 -- a file with a root that is a front has the front as its image
-pub image_of : (h : Held) (root : Saved) (file : List ℕ) → IsSound h → IsFront h root → Is root file → HasRootOf h root file
+image_of : (h : Held) (root : Saved) (file : List ℕ) → IsSound h → IsFront h root → Is root file
+    → HasFront h (version_of root.body) (count_of root.body) file
 image_of h root file sound front is =
     record {
       body = root.body;
-      holds = is ∙ ap (λ bytes. Ok (root.body, bytes)) front.stream;
+      holds = is.holds ∙ ap (λ bytes. Ok (root.body, bytes)) front.stream;
       fits = front.fits;
       count = length-take-le (count_of root.body) h.list front.within;
       owner = front.owner;
@@ -38,48 +39,90 @@ image_of h root file sound front is =
       closed = closed_take (count_of root.body) h.list sound.closed;
     }
 
+-- at rest the live root's operations are settled, or those of a commit that is through
+recovers_at_rest : (gated : Bool) (h : Held) (live version next : ℕ) (file : List ℕ) → h.settled ≤ live → (h.settled < live → 0 < version)
+    → HasFront h version live file
+    → RecoversIn gated h (version_in true h.settled live version) (commit_in true h.settled live next) file
+recovers_at_rest gated h live version next file settled above image = by_test (nat_lt h.settled live) refl
+  where
+    by_test : (t : Bool) → nat_lt h.settled live ≡ t
+        → RecoversIn gated h (if t then version - 1 else version) (if t then Some (record { count = live; through = true }) else None) file
+    by_test true is =
+        let some = above (ltb-true _ _ is) in
+        let same : (version - 1) + 1 ≡ version = omega arith in
+        rw same image
+    by_test false is =
+        let same : h.settled ≡ live = grind (arith, nat_tests) in
+        rw same image
+
+-- under way the live root's are settled, and those of the next one are the commit's
+recovers_settled : (gated : Bool) (h : Held) (current next : Saved) (file : List ℕ) → IsUnderWay h current next
+    → HasFront h (version_of current.body) (count_of current.body) file
+    → RecoversIn gated h (version_of current.body) (commit_in false h.settled (count_of current.body) (count_of next.body)) file
+recovers_settled true h current next file commit image = inl (rw (commit.settled) image)
+recovers_settled false h current next file commit image = rw (commit.settled) image
+
+recovers_next : (h : Held) (current next : Saved) (file : List ℕ) → IsUnderWay h current next
+    → HasFront h (version_of next.body) (count_of next.body) file
+    → RecoversIn true h (version_of current.body) (commit_in false h.settled (count_of current.body) (count_of next.body)) file
+recovers_next h current next file commit image = inr (rw (sym commit.version) image)
+
 -- what is left has the image of the live root, or in the last phase of the next one
 pub recovers : (phase : Phase) (h : Held) (current next : Saved) (file : List ℕ) → IsSound h → IsFront h current → Commits (is_idle phase) h current next
-    → IsLeft phase current next file → RecoversIn phase h current next file
-recovers Sync3 h current next file sound live commit (inl is) = inl (image_of h current file sound live is)
-recovers Sync3 h current next file sound live commit (inr is) = inr (image_of h next file sound commit.front is)
-recovers Idle h current next file sound live commit is = image_of h current file sound live is
-recovers (Pages k) h current next file sound live commit is = image_of h current file sound live is
-recovers Close h current next file sound live commit is = image_of h current file sound live is
-recovers Sync1 h current next file sound live commit is = image_of h current file sound live is
-recovers Body h current next file sound live commit is = image_of h current file sound live is
-recovers Sync2 h current next file sound live commit is = image_of h current file sound live is
-recovers Gate h current next file sound live commit is = image_of h current file sound live is
+    → IsLeft phase current next file
+    → RecoversIn (is_gated phase) h (version_in (is_idle phase) h.settled (count_of current.body) (version_of current.body))
+    (commit_in (is_idle phase) h.settled (count_of current.body) (count_of next.body)) file
+recovers phase h current next file sound live commit left = by_phase phase commit left
+  where
+    settled : (gated : Bool) → IsUnderWay h current next → Is current file
+        → RecoversIn gated h (version_of current.body) (commit_in false h.settled (count_of current.body) (count_of next.body)) file
+    settled gated commit is = recovers_settled gated h current next file commit (image_of h current file sound live is)
 
--- the live root of a hub has all that is settled
-pub settled_within : (idle : Bool) (h : Held) (current next : Saved) → Commits idle h current next → h.settled ≤ count_of current.body
-settled_within true h current next commit = commit.settled
-settled_within false h current next commit = let same = commit.settled in omega arith
+    by_phase : (phase : Phase) → Commits (is_idle phase) h current next → IsLeft phase current next file
+        → RecoversIn (is_gated phase) h (version_in (is_idle phase) h.settled (count_of current.body) (version_of current.body))
+        (commit_in (is_idle phase) h.settled (count_of current.body) (count_of next.body)) file
+    by_phase Sync3 commit (inl is) = settled true commit is
+    by_phase Sync3 commit (inr is) = recovers_next h current next file commit (image_of h next file sound commit.front is)
+    by_phase Idle commit is =
+        recovers_at_rest false h (count_of current.body) (version_of current.body) (count_of next.body) file commit.settled commit.version
+        (image_of h current file sound live is)
+    by_phase (Pages k) commit is = settled false commit is
+    by_phase Close commit is = settled false commit is
+    by_phase Sync1 commit is = settled false commit is
+    by_phase Body commit is = settled false commit is
+    by_phase Sync2 commit is = settled false commit is
+    by_phase Gate commit is = settled false commit is
+
+-- the operations of a commit are in the list, and all that are settled among them
+abbrev IsWithin : Held → Option Commit → Type 0
+IsWithin h None = Unit {0}
+IsWithin h (Some c) = (h.settled ≤ c.count) × (c.count ≤ length h.list)
+
+commit_within : (idle : Bool) (h : Held) (current next : Saved) → IsFront h current → Commits idle h current next
+    → IsWithin h (commit_in idle h.settled (count_of current.body) (count_of next.body))
+commit_within true h current next live commit = by_test (nat_lt h.settled (count_of current.body))
+  where
+    by_test : (t : Bool) → IsWithin h (if t then Some (record { count = count_of current.body; through = true }) else None)
+    by_test true = (commit.settled, live.within)
+    by_test false = tt
+commit_within false h current next live commit = let more = commit.owed.more in (omega (arith, more), commit.front.within)
+
+settled_within : (idle : Bool) (h : Held) (current next : Saved) → IsFront h current → Commits idle h current next → h.settled ≤ length h.list
+settled_within true h current next live commit = let within = live.within in let settled = commit.settled in omega (arith, within, settled)
+settled_within false h current next live commit = let within = live.within in let settled = commit.settled in omega (arith, within, settled)
 
 -- so the image has at least the settled operations
-pub at_least : (phase : Phase) (h : Held) (current next : Saved) (file : List ℕ) → IsFront h current → Commits (is_idle phase) h current next
-    → RecoversIn phase h current next file → HasAtLeast h.settled h file
-at_least phase h current next file live commit image = by_phase phase commit image
+at_least : (gated : Bool) (h : Held) (version : ℕ) (commit : Option Commit) (file : List ℕ) → h.settled ≤ length h.list → IsWithin h commit
+    → RecoversIn gated h version commit file → HasAtLeast h.settled h file
+at_least gated h version None file settled within image =
+    record { version = version; count = h.settled; enough = omega arith; within = settled; image = image }
+at_least gated h version (Some c) file settled within image = by_kind c.through gated image
   where
-    of_current : h.settled ≤ count_of current.body → HasRootOf h current file → HasAtLeast h.settled h file
-    of_current enough image =
-        record { version = version_of current.body; count = count_of current.body; enough = enough; within = live.within; image = image }
-
-    of_next : IsUnderWay h current next → HasRootOf h next file → HasAtLeast h.settled h file
-    of_next way image =
-        let more = way.owed.more in
-        record { version = version_of next.body; count = count_of next.body; enough = omega arith; within = way.front.within; image = image }
-
-    by_phase : (phase : Phase) → Commits (is_idle phase) h current next → RecoversIn phase h current next file → HasAtLeast h.settled h file
-    by_phase Sync3 commit (inl image) = of_current (settled_within false h current next commit) image
-    by_phase Sync3 commit (inr image) = of_next commit image
-    by_phase Idle commit image = of_current (settled_within true h current next commit) image
-    by_phase (Pages k) commit image = of_current (settled_within false h current next commit) image
-    by_phase Close commit image = of_current (settled_within false h current next commit) image
-    by_phase Sync1 commit image = of_current (settled_within false h current next commit) image
-    by_phase Body commit image = of_current (settled_within false h current next commit) image
-    by_phase Sync2 commit image = of_current (settled_within false h current next commit) image
-    by_phase Gate commit image = of_current (settled_within false h current next commit) image
+    by_kind : (through gated : Bool) → RecoversWith through gated h version c.count file → HasAtLeast h.settled h file
+    by_kind true gated image = record { version = version + 1; count = c.count; enough = within.0; within = within.1; image = image }
+    by_kind false true (inl image) = record { version = version; count = h.settled; enough = omega arith; within = settled; image = image }
+    by_kind false true (inr image) = record { version = version + 1; count = c.count; enough = within.0; within = within.1; image = image }
+    by_kind false false image = record { version = version; count = h.settled; enough = omega arith; within = settled; image = image }
 
 -- every survivor has them
 pub survivor_has : {D : Type 0} (facts : Ghosts D) (hub : Parts D) (file : List ℕ) → Fits facts hub → facts.tells hub.store.disk → facts.survives hub.store.disk file
@@ -87,107 +130,55 @@ pub survivor_has : {D : Type 0} (facts : Ghosts D) (hub : Parts D) (file : List 
 survivor_has facts hub file fits told survives =
     recovers hub.store.phase hub.replica hub.store.current hub.store.next file fits.sound fits.live fits.commit (fits.left told file survives)
 
+recovered_has : {D : Type 0} (facts : Ghosts D) (hub : Parts D) (file : List ℕ) → Fits facts hub → Recovers hub file → HasAtLeast hub.replica.settled hub.replica file
+recovered_has facts hub file fits recovered =
+    at_least (is_gated hub.store.phase) hub.replica (version_at hub.replica hub.store) (commit_of hub.replica hub.store) file
+    (settled_within (is_idle hub.store.phase) hub.replica hub.store.current hub.store.next fits.live fits.commit)
+    (commit_within (is_idle hub.store.phase) hub.replica hub.store.current hub.store.next fits.live fits.commit) recovered
+
 pub survivor_has_settled : {D : Type 0} (facts : Ghosts D) (hub : Parts D) (file : List ℕ) → Fits facts hub → facts.tells hub.store.disk
     → facts.survives hub.store.disk file → HasAtLeast hub.replica.settled hub.replica file
-survivor_has_settled facts hub file fits told survives =
-    at_least hub.store.phase hub.replica hub.store.current hub.store.next file fits.live fits.commit (survivor_has facts hub file fits told survives)
+survivor_has_settled facts hub file fits told survives = recovered_has facts hub file fits (survivor_has facts hub file fits told survives)
 
 -- the machine's state with this commit and version
 abbrev state_at : Held → Bool → Bool → ℕ → Option Commit → State
 state_at h failed failure_told version commit = record (stored h failed version commit) { failure_told = failure_told }
 
--- at rest, a crash leaves the live root's operations
-pub crash_at_rest : (h : Held) (failed failure_told : Bool) (live version next : ℕ) → h.settled ≤ live → (h.settled < live → 0 < version)
-    → CrashLeaves (state_at h failed failure_told (version_in true h.settled live version) (commit_in true h.settled live next)) (opened (take live h.list) version)
-crash_at_rest h failed failure_told live version next settled above = by_test (nat_lt h.settled live) refl
-  where
-    by_test : (t : Bool) → nat_lt h.settled live ≡ t
-        → CrashLeaves (state_at h failed failure_told (if t then version - 1 else version) (if t then Some (record { count = live; through = true }) else None))
-        (opened (take live h.list) version)
-    by_test true is =
-        let some = above (ltb-true _ _ is) in
-        let same : version ≡ (version - 1) + 1 = omega arith in
-        ap (λ v. opened (take live h.list) v) same
-    by_test false is =
-        let same : live ≡ h.settled = grind (arith, nat_tests) in
-        ap (λ n. opened (take n h.list) version) same
-
--- under way, it leaves the live root's operations, which are settled, or the next one's
-pub crash_under_way : (h : Held) (failed failure_told : Bool) (live version next : ℕ) (file : List ℕ) → h.settled ≡ live
-    → CrashLeaves (state_at h failed failure_told (version_in false h.settled live version) (commit_in false h.settled live next)) (opened (take live h.list) version)
-crash_under_way h failed failure_told live version next file same = inl (ap (λ n. opened (take n h.list) version) (sym same))
-
-pub crash_next : (h : Held) (failed failure_told : Bool) (live version next after : ℕ) (file : List ℕ) → after ≡ version + 1
-    → CrashLeaves (state_at h failed failure_told (version_in false h.settled live version) (commit_in false h.settled live next)) (opened (take next h.list) after)
-crash_next h failed failure_told live version next after file same = inr (ap (λ v. opened (take next h.list) v) same)
-
 -- what is opened from a file with such an image is what the machine's crash leaves
-crash_recovered : {D : Type 0} (facts : Ghosts D) (hub : Parts D) (file : List ℕ) → Fits facts hub → Recovers hub file → IsCrash hub file
-crash_recovered {D} facts hub file fits recovered = by_phase hub.store.phase fits.commit recovered
+opened_from : (gated : Bool) (h : Held) (failed failure_told : Bool) (version : ℕ) (commit : Option Commit) (file : List ℕ)
+    → RecoversIn gated h version commit file
+    → (v n : ℕ) × HasFront h v n file × CrashLeaves (state_at h failed failure_told version commit) (opened (take n h.list) v)
+opened_from gated h failed failure_told version None file image = (version, h.settled, image, refl)
+opened_from gated h failed failure_told version (Some c) file image = by_kind c.through gated image
   where
-    h : Held
-    h = hub.replica
+    by_kind : (through gated : Bool) → RecoversWith through gated h version c.count file
+        → (v n : ℕ) × HasFront h v n file
+        × CrashLeavesOf (state_at h failed failure_told version (Some c)) (record { count = c.count; through = through }) (opened (take n h.list) v)
+    by_kind true gated image = (version + 1, c.count, image, refl)
+    by_kind false true (inl image) = (version, h.settled, image, inl refl)
+    by_kind false true (inr image) = (version + 1, c.count, image, inr refl)
+    by_kind false false image = (version, h.settled, image, inl refl)
 
-    with_phase : Phase → Parts D
-    with_phase phase = record hub { store = record hub.store { phase = phase } }
-
-    rest : Commits true h hub.store.current hub.store.next → HasRootOf h hub.store.current file → IsCrash (with_phase Idle) file
-    rest commit image =
-        record {
-          version = version_of hub.store.current.body;
-          count = committed hub.store;
-          image = image;
-          leaves = crash_at_rest h hub.store.failed hub.failure_told (committed hub.store) (version_of hub.store.current.body) (count_of hub.store.next.body) commit.settled commit.version;
-        }
-
-    under_way : IsUnderWay h hub.store.current hub.store.next
-        → CrashLeaves (state_at h hub.store.failed hub.failure_told (version_in false h.settled (committed hub.store) (version_of hub.store.current.body)) (commit_in false h.settled (committed hub.store) (count_of hub.store.next.body)))
-        (opened (take (committed hub.store) h.list) (version_of hub.store.current.body))
-    under_way commit =
-        crash_under_way h hub.store.failed hub.failure_told (committed hub.store) (version_of hub.store.current.body) (count_of hub.store.next.body) file commit.settled
-
-    current_of : (phase : Phase) → HasRootOf h hub.store.current file
-        → CrashLeaves (state_of (with_phase phase)) (opened (take (committed hub.store) h.list) (version_of hub.store.current.body)) → IsCrash (with_phase phase) file
-    current_of phase image leaves =
-        record { version = version_of hub.store.current.body; count = committed hub.store; image = image; leaves = leaves }
-
-    next_of : IsUnderWay h hub.store.current hub.store.next → HasRootOf h hub.store.next file → IsCrash (with_phase Sync3) file
-    next_of commit image =
-        record {
-          version = version_of hub.store.next.body;
-          count = count_of hub.store.next.body;
-          image = image;
-          leaves =
-              crash_next h hub.store.failed hub.failure_told (committed hub.store) (version_of hub.store.current.body) (count_of hub.store.next.body) _ file commit.version;
-        }
-
-    by_phase : (phase : Phase) → Commits (is_idle phase) h hub.store.current hub.store.next
-        → RecoversIn phase h hub.store.current hub.store.next file → IsCrash (with_phase phase) file
-    by_phase Sync3 commit (inl image) = current_of Sync3 image (under_way commit)
-    by_phase Sync3 commit (inr image) = next_of commit image
-    by_phase Idle commit image = rest commit image
-    by_phase (Pages k) commit image = current_of (Pages k) image (under_way commit)
-    by_phase Close commit image = current_of Close image (under_way commit)
-    by_phase Sync1 commit image = current_of Sync1 image (under_way commit)
-    by_phase Body commit image = current_of Body image (under_way commit)
-    by_phase Sync2 commit image = current_of Sync2 image (under_way commit)
-    by_phase Gate commit image = current_of Gate image (under_way commit)
+crash_recovered : {D : Type 0} (hub : Parts D) (file : List ℕ) → Recovers hub file → IsCrash hub file
+crash_recovered hub file recovered =
+    let from = opened_from (is_gated hub.store.phase) hub.replica hub.store.failed hub.failure_told (version_at hub.replica hub.store)
+    (commit_of hub.replica hub.store) file recovered in
+    record { version = from.0; count = from.1; image = from.2; leaves = from.3 }
 
 pub crash_of : {D : Type 0} (facts : Ghosts D) (hub : Parts D) (file : List ℕ) → Fits facts hub → facts.tells hub.store.disk → facts.survives hub.store.disk file
     → IsCrash hub file
-crash_of facts hub file fits told survives = crash_recovered facts hub file fits (survivor_has facts hub file fits told survives)
+crash_of facts hub file fits told survives = crash_recovered hub file (survivor_has facts hub file fits told survives)
 
 -- what the store says of a file that a crash leaves is so of the hub
 pub left_of : {D : Type 0} (facts : Ghosts D) (hub : Parts D) (file : List ℕ) → Fits facts hub → IsLeft hub.store.phase hub.store.current hub.store.next file
     → IsLeftOf hub file
 left_of facts hub file fits is =
     let recovered : Recovers hub file = recovers hub.store.phase hub.replica hub.store.current hub.store.next file fits.sound fits.live fits.commit is in
-    record { recovers = recovered; crash = crash_recovered facts hub file fits recovered }
+    record { recovers = recovered; crash = crash_recovered hub file recovered }
 
 pub left_has : {D : Type 0} (facts : Ghosts D) (hub : Parts D) (file : List ℕ) → Fits facts hub → IsLeftOf hub file
     → HasAtLeast hub.replica.settled hub.replica file
-left_has facts hub file fits left =
-    at_least hub.store.phase hub.replica hub.store.current hub.store.next file fits.live fits.commit left.recovers
+left_has facts hub file fits left = recovered_has facts hub file fits left.recovers
 
 pub survivor_is_left : {D : Type 0} (facts : Ghosts D) (hub : Parts D) (file : List ℕ) → Fits facts hub → facts.tells hub.store.disk
     → facts.survives hub.store.disk file → IsLeftOf hub file

@@ -1,5 +1,5 @@
 -- What is opened from the file that reads give is what the machine's crash leaves.
-use Rattle.std.proofs.Common.{◌≡◌, ◌⊎◌, ℕ, List, take, refl, sym, ap, ◌∙◌, IfOk, IfErr, Result, Ok, Err}
+use Rattle.std.proofs.Common.{◌≡◌, ◌⊎◌, ℕ, List, take, ap, ◌∙◌, IfOk, IfErr, Result, Ok, Err}
 use Rattle.disk_trait.specs.declared.facts.DiskFacts.{Ghosts}
 use Rattle.op_model.specs.declared.op.Op.{Op}
 use Rattle.op_model.specs.Machine.{opened}

@@ -1,18 +1,17 @@
 -- One call more of a list of calls.
-use Rattle.std.proofs.Common.{◌≡◌, ℕ, suc, zero, ◌+◌, ◌≤◌, Bool, true, false, nat_le, List, [], ◌∷◌, ◌++◌, length, take, drop, refl, sym, ap, ◌∙◌, arith, length-append, inl, inr, ◌⊎◌}
+use Rattle.std.proofs.Common.{◌≡◌, ◌≢◌, ℕ, suc, zero, ◌+◌, ◌≤◌, Bool, true, false, nat_le, List, [], ◌∷◌, ◌++◌, length, take, refl, sym, ap, ◌∙◌, arith, length-append, inl, inr, ◌⊎◌}
 use Rattle.std.proofs.lemmas.Bool.Decides.{nat_tests}
 use Rattle.std.proofs.lemmas.List.{take-append-le}
 use Rattle.disk_trait.specs.Calls.{IsLawful}
 use Rattle.disk_trait.specs.declared.facts.DiskFacts.{Ghosts}
 use Rattle.op_model.specs.declared.op.Op.{Op}
-use Rattle.op_model.specs.Machine.{State, Event, Answer, Step, Run}
+use Rattle.op_model.specs.Machine.{State, Event, Answer, refused, Step, Run}
 use Rattle.replica_core.specs.Held.{Held}
 use Rattle.locked_replica.specs.Hub.{Parts, state_of}
-use Rattle.locked_replica.specs.Calls.{IsCall, IsLeftIn, IsLeftOf, calls_in, settled_by, writes_begun, syncs_begun}
+use Rattle.locked_replica.specs.Calls.{IsCall, IsLeftIn, IsLeftOf, calls_in, settled_by, writes_begun, syncs_begun, NoWriteFails}
 use Rattle.locked_replica.specs.Recovery.{HasAtLeast, IsCrash, Recovers}
-use Rattle.locked_replica.specs.Run.{Ran, Calls, CrashesIn, FrontsStand, calls_made, settled_behind, writes_planned, syncs_planned}
-use Rattle.locked_replica.specs.Steps.{event_of, answer_of, events_of, IsReplyTo, AreRepliesTo}
-use Rattle.locked_replica.specs.declared.hub_step.HubStep.{HubStep}
+use Rattle.locked_replica.specs.Run.{Ran, Calls, CrashesIn, FrontsStand, calls_made, settled_behind, writes_planned, syncs_planned, NoneFailed, NamePhases}
+use Rattle.locked_replica.specs.Steps.{NamesPhase}
 use Rattle.locked_replica.specs.declared.hub_reply.HubReply.{HubReply}
 use Rattle.locked_replica.proofs.ListLemmas.{take_all}
 use Rattle.locked_replica.proofs.QuietCalls.{has_fewer}
@@ -130,11 +129,11 @@ up_to k n within = by_test (nat_le k n) refl
     by_test true is = inl (grind (arith, nat_tests))
     by_test false is = inr (grind (arith, nat_tests))
 
--- one call more
-pub ran_more : {D : Type 0} (facts : Ghosts D) (old mid new : Parts D) (es : List (Event × Answer)) (event : Event) (answer : Answer)
+-- what was made, and one call more
+unfoldable made_more : {D : Type 0} (facts : Ghosts D) (old mid new : Parts D) (es : List (Event × Answer)) (event : Event) (answer : Answer)
     → (facts.tells new.store.disk → IsLawful facts new.store.disk) → Ran facts old es mid → IsCall facts event answer mid new
     → Ran facts old (es ++ (event, answer) ∷ []) new
-ran_more facts old mid new es event answer lawful ran call =
+made_more facts old mid new es event answer lawful ran call =
     record {
       owner = call.owner ∙ ran.owner;
       machine = run_more old.replica.replica (state_of old) (state_of mid) (state_of new) es (event, answer) ran.machine (rw ran.owner at call.step);
@@ -147,8 +146,8 @@ ran_more facts old mid new es event answer lawful ran call =
       crashes = its_crashes;
       writes = λ told works.
           let more = writes_more facts old mid new es event answer ran.calls call in
-          let before = ran.writes told (worked works) in
-          let after = call.counts.writes (ran.tells.1 told) works in
+          let before = ran.writes told (earlier_writes works) in
+          let after = call.counts.writes (ran.tells.1 told) (last_write works) in
           omega (arith, more, before, after);
       syncs = λ told works.
           let more = syncs_more es event answer in
@@ -175,6 +174,22 @@ ran_more facts old mid new es event answer lawful ran call =
             differ : true ≡ false → ⊥
             differ is = absurd (cc)
         by_test false is = is
+
+    earlier_writes : (new.store.failed ≡ false) ⊎ NoneFailed (es ++ (event, answer) ∷ []) → (mid.store.failed ≡ false) ⊎ NoneFailed es
+    earlier_writes (inl works) = inl (worked works)
+    earlier_writes (inr none) = inr (none_before es none)
+      where
+        none_before : (es : List (Event × Answer)) → NoneFailed (es ++ (event, answer) ∷ []) → NoneFailed es
+        none_before [] none = tt
+        none_before (e ∷ es) none = (none.0, none_before es none.1)
+
+    last_write : (new.store.failed ≡ false) ⊎ NoneFailed (es ++ (event, answer) ∷ []) → NoWriteFails answer new.store
+    last_write (inl works) = inl works
+    last_write (inr none) = inr (none_last es none)
+      where
+        none_last : (es : List (Event × Answer)) → NoneFailed (es ++ (event, answer) ∷ []) → answer ≢ refused 51
+        none_last [] none = none.0
+        none_last (e ∷ es) none = none_last es none.1
 
     its_settled : new.replica.settled ≡ settled_behind old.replica.settled (es ++ (event, answer) ∷ [])
     its_settled = call.settled ∙ ap (λ n. settled_by n answer) ran.settled ∙ sym (settled_more old.replica.settled es (event, answer))
@@ -227,30 +242,30 @@ ran_more facts old mid new es event answer lawful ran call =
             let now : facts.left_since new.store.disk (facts.time new.store.disk) file = rw (whole k is, sym (its_time told)) at since in
             rw (whole k is, sym its_settled) (call.left told_new file ((lawful told_new).only_now file now))
 
--- calls with one answer more
-pub events_more : (steps rest : List HubStep) (replies : List HubReply) (step : HubStep) (reply : HubReply) → drop (length replies) steps ≡ step ∷ rest
-    → events_of steps (replies ++ reply ∷ []) ≡ events_of steps replies ++ (event_of step, answer_of reply) ∷ []
-events_more [] rest [] step reply is = absurd (cc)
-events_more [] rest (r ∷ rs) step reply is = absurd (cc)
-events_more (s ∷ ss) rest [] step reply is = first (s ∷ ss) is
-  where
-    first : (all : List HubStep) → all ≡ step ∷ rest → events_of all (reply ∷ []) ≡ events_of all [] ++ (event_of step, answer_of reply) ∷ []
-    first all same = rw same (ends rest)
-      where
-        ends : (rest : List HubStep) → events_of (step ∷ rest) (reply ∷ []) ≡ events_of (step ∷ rest) [] ++ (event_of step, answer_of reply) ∷ []
-        ends [] = refl
-        ends (s ∷ ss) = refl
-events_more (s ∷ ss) rest (r ∷ rs) step reply is = ap (λ es. (event_of s, answer_of r) ∷ es) (events_more ss rest rs step reply is)
+-- one call more
+pub ran_more : {D : Type 0} (facts : Ghosts D) (old mid new : Parts D) (es : List (Event × Answer)) (event : Event) (answer : Answer)
+    → (facts.tells new.store.disk → IsLawful facts new.store.disk) → Ran facts old es mid → IsCall facts event answer mid new
+    → Ran facts old (es ++ (event, answer) ∷ []) new
+ran_more facts old mid new es event answer lawful ran call = made_more facts old mid new es event answer lawful ran call
 
--- no answers are no events
-pub events_none : (steps : List HubStep) → events_of steps [] ≡ []
-events_none [] = refl
-events_none (s ∷ ss) = refl
+-- the phases that replies name, and one more
+phases_more : {D : Type 0} (facts : Ghosts D) (old mid new : Parts D) (rs : List HubReply) (es : List (Event × Answer)) (reply : HubReply) (event : Event) (answer : Answer)
+    (calls : Calls facts old es mid) (call : IsCall facts event answer mid new) → length rs ≡ length es → NamesPhase reply mid.store
+    → NamePhases facts old rs es mid calls
+    → NamePhases facts old (rs ++ reply ∷ []) (es ++ (event, answer) ∷ []) new (calls_chain facts old mid new es event answer calls call)
+phases_more facts old mid new [] [] reply event answer calls call same names phases = (rw (sym calls) names, tt)
+phases_more facts old mid new [] (e ∷ es) reply event answer calls call same names phases = absurd (omega (arith, same))
+phases_more facts old mid new (r ∷ rs) [] reply event answer calls call same names phases = absurd (omega (arith, same))
+phases_more facts old mid new (r ∷ rs) (e ∷ es) reply event answer calls call same names phases =
+    (phases.0, phases_more facts calls.0 mid new rs es reply event answer calls.2 call (omega (arith, same)) names phases.1)
 
--- replies with one more
-pub replies_more : (steps rest : List HubStep) (replies : List HubReply) (step : HubStep) (reply : HubReply) → drop (length replies) steps ≡ step ∷ rest
-    → AreRepliesTo steps replies → IsReplyTo step reply → AreRepliesTo steps (replies ++ reply ∷ [])
-replies_more [] rest [] step reply is are one = absurd (cc)
-replies_more [] rest (r ∷ rs) step reply is are one = absurd (cc)
-replies_more (s ∷ ss) rest [] step reply is are one = let same : s ≡ step = cc in (rw same one, tt)
-replies_more (s ∷ ss) rest (r ∷ rs) step reply is are one = (are.0, replies_more ss rest rs step reply is are.1 one)
+-- one call more, whose reply names its phase
+pub ran_named : {D : Type 0} (facts : Ghosts D) (old mid new : Parts D) (es : List (Event × Answer)) (event : Event) (answer : Answer) (rs : List HubReply) (reply : HubReply)
+    → (facts.tells new.store.disk → IsLawful facts new.store.disk) → (ran : Ran facts old es mid) → IsCall facts event answer mid new → length rs ≡ length es
+    → NamesPhase reply mid.store → NamePhases facts old rs es mid ran.calls
+    → (more : Ran facts old (es ++ (event, answer) ∷ []) new) × NamePhases facts old (rs ++ reply ∷ []) (es ++ (event, answer) ∷ []) new more.calls
+unfolding made_more
+ran_named facts old mid new es event answer rs reply lawful ran call same names phases = (
+  made_more facts old mid new es event answer lawful ran call,
+  phases_more facts old mid new rs es reply event answer ran.calls call same names phases,
+)

@@ -1,15 +1,15 @@
 -- What one call of a hub does.
-use Rattle.std.specs.Prelude.{◌≡◌, ◌↔◌, ◌⊎◌, ℕ, ◌+◌, ◌≤◌, ◌==◌, true, false, if◌then◌else◌, List, ◌++◌, length, drop, Ok, Err}
+use Rattle.std.specs.Prelude.{◌≡◌, ◌≢◌, ◌↔◌, ◌⊎◌, ℕ, ◌+◌, ◌≤◌, ◌==◌, true, false, if◌then◌else◌, List, ◌++◌, length, drop, Ok, Err}
 use Rattle.op_model.specs.declared.op.Op.{Op}
 use Rattle.disk_trait.specs.Calls.{LeavesOnly}
 use Rattle.disk_trait.specs.declared.facts.DiskFacts.{Ghosts}
-use Rattle.op_model.specs.Machine.{Event, edit, merge, begin, device_step, settle, ack, tell, have, Answer, begun, goes_on, goes_through, settled_to, refused, Step}
+use Rattle.op_model.specs.Machine.{Event, begin, device_step, Answer, begun, goes_on, goes_through, settled_to, refused, Step}
 use Rattle.group_commit.specs.Begin.{Begins}
 use Rattle.group_commit.specs.Changes.{changed_pages}
 use Rattle.group_commit.specs.Counts.{writes_left, syncs_left}
 use Rattle.group_commit.specs.Errors.{number_of}
 use Rattle.group_commit.specs.Held.{Held as StoreHeld, gone_on, has_failed}
-use Rattle.group_commit.specs.Step.{error_in, Does}
+use Rattle.group_commit.specs.Step.{error_in, writes_in, syncs_in, Does}
 use Rattle.group_commit.specs.declared.phase.Phase.{Phase}
 use Rattle.replica_core.specs.Held.{IsSound}
 use Rattle.locked_replica.specs.Hub.{Parts, state_of}
@@ -25,13 +25,7 @@ device_calls a = 0
 -- how many device calls an event with this answer makes
 abbrev pub calls_in : Event → Answer → ℕ
 calls_in device_step a = device_calls a
-calls_in (edit session e) a = 0
-calls_in (merge peer op) a = 0
-calls_in begin a = 0
-calls_in settle a = 0
-calls_in (ack t) a = 0
-calls_in (tell c) a = 0
-calls_in have a = 0
+calls_in event a = 0
 
 -- how many of them fail: each that is refused
 abbrev pub device_failures : Answer → ℕ
@@ -41,13 +35,7 @@ device_failures a = 0
 -- how many failures of the device an event with this answer has met
 abbrev pub failures_in : Event → Answer → ℕ
 failures_in device_step a = device_failures a
-failures_in (edit session e) a = 0
-failures_in (merge peer op) a = 0
-failures_in begin a = 0
-failures_in settle a = 0
-failures_in (ack t) a = 0
-failures_in (tell c) a = 0
-failures_in have a = 0
+failures_in event a = 0
 
 -- the settled number behind an answer
 abbrev pub settled_by : ℕ → Answer → ℕ
@@ -65,11 +53,15 @@ abbrev pub syncs_begun : Answer → ℕ
 syncs_begun (begun n) = 3
 syncs_begun a = 0
 
--- The disk's own counts, together with what the commit under way still makes, rise by what a commit makes that begins, as long as
--- no device call fails. One that failed stays so.
+-- no write of a page, a gate or a body has failed: no device call has, or this one isn't answered so
+abbrev pub NoWriteFails : {D : Type 0} → Answer → StoreHeld D → Type 0
+NoWriteFails answer new = (new.failed ≡ false) ⊎ (answer ≢ refused 51)
+
+-- The disk's own counts, together with what the commit under way still makes, rise by what a commit makes that begins: the writes
+-- as long as none fails, behind a failed sync too, and the syncs as long as no device call fails. One that failed stays so.
 pub record Counts {D : Type 0} (facts : Ghosts D) (answer : Answer) (old new : StoreHeld D) : Type 0 where
   pub stays : old.failed ≡ true → new.failed ≡ true
-  pub writes : facts.tells old.disk → new.failed ≡ false
+  pub writes : facts.tells old.disk → NoWriteFails answer new
       → facts.writes new.disk + writes_left new ≡ facts.writes old.disk + writes_left old + writes_begun answer new
   pub syncs : facts.tells old.disk → new.failed ≡ false
       → facts.syncs new.disk + syncs_left new ≡ facts.syncs old.disk + syncs_left old + syncs_begun answer
@@ -79,13 +71,20 @@ abbrev pub StoreBegins : {D : Type 0} → Ghosts D → Answer → Parts D → St
 StoreBegins facts (begun n) old new = Begins facts old.store (drop old.replica.settled old.replica.list) new
 StoreBegins facts a old new = new ≡ old.store
 
+-- the call of the phase is counted, whether it fails or not
+pub record IsCounted {D : Type 0} (facts : Ghosts D) (old new : StoreHeld D) : Type 0 where
+  pub writes : facts.writes new.disk ≡ facts.writes old.disk + writes_in old.phase
+  pub syncs : facts.syncs new.disk ≡ facts.syncs old.disk + syncs_in old.phase
+
 -- A device step that succeeds made the call of its phase, and goes on to the next one.
 pub record StepsOn {D : Type 0} (facts : Ghosts D) (old new : StoreHeld D) : Type 0 where
+  pub counted : facts.tells old.disk → IsCounted facts old new
   pub next : new ≡ gone_on old.phase old new.disk
   pub does : facts.tells old.disk → Does {T = Phase} facts (Ok old.phase) old.phase old new.disk
 
 -- One that fails has the number of its phase's failure; a write may be torn, in its range alone.
 pub record StepsFail {D : Type 0} (facts : Ghosts D) (n : ℕ) (old new : StoreHeld D) : Type 0 where
+  pub counted : facts.tells old.disk → IsCounted facts old new
   pub number : n ≡ number_of (error_in old.phase)
   pub next : new ≡ has_failed old new.disk
   pub does : facts.tells old.disk → Does {T = Phase} facts (Err (error_in old.phase)) old.phase old new.disk
@@ -101,12 +100,7 @@ StoreSteps facts a old new = new ≡ old
 abbrev pub StoreGoes : {D : Type 0} → Ghosts D → Event → Answer → Parts D → StoreHeld D → Type 0
 StoreGoes facts begin a old new = StoreBegins facts a old new
 StoreGoes facts device_step a old new = StoreSteps facts a old.store new
-StoreGoes facts (edit session e) a old new = new ≡ old.store
-StoreGoes facts (merge peer op) a old new = new ≡ old.store
-StoreGoes facts settle a old new = new ≡ old.store
-StoreGoes facts (ack t) a old new = new ≡ old.store
-StoreGoes facts (tell c) a old new = new ≡ old.store
-StoreGoes facts have a old new = new ≡ old.store
+StoreGoes facts event a old new = new ≡ old.store
 
 -- The file is one that a crash leaves of this hub: the committed list, in the last phase of a commit that or the commit's, and what
 -- the machine's crash leaves.

@@ -1,31 +1,37 @@
 -- What a crash leaves of a hub.
-use Rattle.std.specs.Prelude.{◌⊎◌, ℕ, ◌≤◌, List, length, take}
-use Rattle.op_model.specs.Machine.{CrashLeaves, opened}
+use Rattle.std.specs.Prelude.{◌⊎◌, ℕ, ◌+◌, ◌≤◌, Bool, true, false, List, length, take, Option, Some, None}
+use Rattle.op_model.specs.Machine.{Commit, CrashLeaves, opened}
 use Rattle.replica_core.specs.Held.{Held}
-use Rattle.root_slots.specs.Root.{version_of, count_of}
 use Rattle.recovery.specs.Image.{IsImage}
-use Rattle.group_commit.specs.Saved.{Saved}
 use Rattle.group_commit.specs.declared.phase.Phase.{Phase}
-use Rattle.group_commit.specs.declared.phase.Phase.TheVariants.{Idle, Pages, Close, Sync1, Body, Sync2, Gate, Sync3}
-use Rattle.locked_replica.specs.Hub.{Parts, state_of}
+use Rattle.group_commit.specs.declared.phase.Phase.TheVariants.{Sync3}
+use Rattle.locked_replica.specs.Hub.{Parts, commit_of, version_at, state_of}
 
--- the file's image is the first operations of the list, as many as this root has
-abbrev pub HasRootOf : Held → Saved → List ℕ → Type 0
-HasRootOf h root file = IsImage file h.replica (version_of root.body) (take (count_of root.body) h.list)
+-- the file's image is the first so many operations of the list, in this version
+abbrev pub HasFront : Held → ℕ → ℕ → List ℕ → Type 0
+HasFront h version count file = IsImage file h.replica version (take count h.list)
 
--- The image of a file that a crash leaves is the committed list, in the last phase of a commit that or the commit's.
-abbrev pub RecoversIn : Phase → Held → Saved → Saved → List ℕ → Type 0
-RecoversIn Sync3 h current next file = HasRootOf h current file ⊎ HasRootOf h next file
-RecoversIn Idle h current next file = HasRootOf h current file
-RecoversIn (Pages k) h current next file = HasRootOf h current file
-RecoversIn Close h current next file = HasRootOf h current file
-RecoversIn Sync1 h current next file = HasRootOf h current file
-RecoversIn Body h current next file = HasRootOf h current file
-RecoversIn Sync2 h current next file = HasRootOf h current file
-RecoversIn Gate h current next file = HasRootOf h current file
+-- the gate of a commit under way is written, and may be on the disk or not
+abbrev pub is_gated : Phase → Bool
+is_gated Sync3 = true
+is_gated phase = false
 
+-- With a commit of so many operations, through or not, and gated or not: one that is through is what the image has; one that isn't
+-- leaves the settled list, or where its gate is written either one.
+abbrev pub RecoversWith : Bool → Bool → Held → ℕ → ℕ → List ℕ → Type 0
+RecoversWith true gated h version count file = HasFront h (version + 1) count file
+RecoversWith false true h version count file = HasFront h version h.settled file ⊎ HasFront h (version + 1) count file
+RecoversWith false false h version count file = HasFront h version h.settled file
+
+-- without a commit it is the settled list
+abbrev pub RecoversIn : Bool → Held → ℕ → Option Commit → List ℕ → Type 0
+RecoversIn gated h version None file = HasFront h version h.settled file
+RecoversIn gated h version (Some c) file = RecoversWith c.through gated h version c.count file
+
+-- The image of a file that a crash leaves of a hub: the settled list, or that of the commit.
 abbrev pub Recovers : {D : Type 0} → Parts D → List ℕ → Type 0
-Recovers hub file = RecoversIn hub.store.phase hub.replica hub.store.current hub.store.next file
+Recovers hub file =
+    RecoversIn (is_gated hub.store.phase) hub.replica (version_at hub.replica hub.store) (commit_of hub.replica hub.store) file
 
 -- what is opened from the file is what the machine's crash leaves
 pub record IsCrash {D : Type 0} (hub : Parts D) (file : List ℕ) : Type 0 where

@@ -1,11 +1,14 @@
 -- A list of calls of a hub, one after another.
-use Rattle.std.specs.Prelude.{◌≡◌, ◌↔◌, ◌⊎◌, ℕ, ◌+◌, ◌≤◌, false, List, [], ◌∷◌, length, take}
+use Rattle.std.specs.Prelude.{◌≡◌, ◌≢◌, ◌↔◌, ◌⊎◌, ℕ, ◌+◌, ◌≤◌, false, List, [], ◌∷◌, length, take}
 use Rattle.disk_trait.specs.declared.facts.DiskFacts.{Ghosts}
 use Rattle.group_commit.specs.Counts.{writes_left, syncs_left}
-use Rattle.op_model.specs.Machine.{Event, Answer, Run}
+use Rattle.op_model.specs.Machine.{Event, Answer, refused, Run}
 use Rattle.locked_replica.specs.Calls.{IsCall, IsLeftOf, calls_in, settled_by, writes_begun, syncs_begun}
 use Rattle.locked_replica.specs.Hub.{Parts, state_of}
 use Rattle.locked_replica.specs.Recovery.{HasAtLeast}
+use Rattle.locked_replica.specs.Steps.{events_of, AreRepliesTo, NamesPhase}
+use Rattle.locked_replica.specs.declared.hub_step.HubStep.{HubStep}
+use Rattle.locked_replica.specs.declared.hub_reply.HubReply.{HubReply}
 
 -- how many device calls these events made, by their answers
 abbrev pub calls_made : List (Event × Answer) → ℕ
@@ -45,6 +48,11 @@ abbrev pub syncs_planned : List (Event × Answer) → ℕ
 syncs_planned [] = 0
 syncs_planned (e ∷ es) = syncs_begun e.1 + syncs_planned es
 
+-- none of these answers is that a write failed
+abbrev pub NoneFailed : List (Event × Answer) → Type 0
+NoneFailed [] = Unit {0}
+NoneFailed (e ∷ es) = (e.1 ≢ refused 51) × NoneFailed es
+
 -- These events and answers were made one after another.
 pub record Ran {D : Type 0} (facts : Ghosts D) (old : Parts D) (events : List (Event × Answer)) (new : Parts D) : Type 0 where
   pub owner : new.replica.replica ≡ old.replica.replica
@@ -62,9 +70,21 @@ pub record Ran {D : Type 0} (facts : Ghosts D) (old : Parts D) (events : List (E
   -- and just what one leaves before some call or after all: no edit is there in part
   pub crashes : facts.tells old.store.disk → (file : List ℕ) → facts.left_since new.store.disk (facts.time old.store.disk) file
       → CrashesIn facts old events new calls file
-  -- The disk's own counts rose by the writes and syncs of the commits that began, where none has any left, and no device call failed.
-  pub writes : facts.tells old.store.disk → new.store.failed ≡ false
+  -- The disk's own counts rose by the writes and syncs of the commits that began, where none has any left: the writes where none
+  -- failed, the syncs where no device call did.
+  pub writes : facts.tells old.store.disk → (new.store.failed ≡ false) ⊎ NoneFailed events
       → facts.writes new.store.disk + writes_left new.store
       ≡ facts.writes old.store.disk + writes_left old.store + writes_planned facts old events new calls
   pub syncs : facts.tells old.store.disk → new.store.failed ≡ false
       → facts.syncs new.store.disk + syncs_left new.store ≡ facts.syncs old.store.disk + syncs_left old.store + syncs_planned events
+
+-- each reply to a device step names the phase that its call found
+abbrev pub NamePhases : {D : Type 0} (facts : Ghosts D) (old : Parts D) → List HubReply → (events : List (Event × Answer)) (new : Parts D) → Calls facts old events new → Type 0
+NamePhases facts old (r ∷ rs) (e ∷ es) new calls = NamesPhase r old.store × NamePhases facts calls.0 rs es new calls.2
+NamePhases facts old rs es new calls = Unit {0}
+
+-- Of some steps the first were made, one after another, each with a reply of its own kind.
+pub record Replied {D : Type 0} (facts : Ghosts D) (old : Parts D) (steps : List HubStep) (replies : List HubReply) (new : Parts D) : Type 0 where
+  pub kinds : AreRepliesTo steps replies
+  pub ran : Ran facts old (events_of steps replies) new
+  pub phases : NamePhases facts old replies (events_of steps replies) new ran.calls

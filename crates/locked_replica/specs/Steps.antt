@@ -1,5 +1,5 @@
 -- Calls of a hub and their answers, as the machine has them.
-use Rattle.std.specs.Prelude.{ℕ, List, [], ◌∷◌, Result, Ok, Err, Option, Some, None}
+use Rattle.std.specs.Prelude.{◌≡◌, ℕ, List, [], ◌∷◌, Result, Ok, Err, IfOk, Option, Some, None}
 use Rattle.std.specs.Global.{Vec}
 use Rattle.op_model.specs.declared.op.Op.{Op}
 use Rattle.op_model.specs.Machine.{Event, edit, merge, begin, device_step, settle, ack, tell, have, Ticket, Answer, ticket, begun, nothing_new, idle, goes_on, goes_through, settled_to, acknowledged, operations, clock, refused}
@@ -7,6 +7,7 @@ use Rattle.replica_core.specs.Merging.{answer_of as answer_of_merge}
 use Rattle.replica_core.specs.Refusal.{number_of as number_of_replica}
 use Rattle.replica_core.specs.declared.merged.Merged.{Merged}
 use Rattle.group_commit.specs.Errors.{number_of as number_of_store}
+use Rattle.group_commit.specs.Held.{Held as StoreHeld}
 use Rattle.group_commit.specs.declared.phase.Phase.{Phase}
 use Rattle.group_commit.specs.declared.phase.Phase.TheVariants as phase
 use Rattle.locked_replica.specs.declared.refusal.HubRefusal.{HubRefusal}
@@ -45,13 +46,8 @@ begin_answered (Err e) = refused (number_of e)
 -- to a device step: the commit is through after the call of its last phase
 abbrev pub stepped_in : Phase → Answer
 stepped_in phase.Idle = idle
-stepped_in (phase.Pages k) = goes_on
-stepped_in phase.Close = goes_on
-stepped_in phase.Sync1 = goes_on
-stepped_in phase.Body = goes_on
-stepped_in phase.Sync2 = goes_on
-stepped_in phase.Gate = goes_on
 stepped_in phase.Sync3 = goes_through
+stepped_in p = goes_on
 
 abbrev pub stepped : Result Phase HubRefusal → Answer
 stepped (Ok p) = stepped_in p
@@ -104,6 +100,11 @@ IsReplyTo (step.Ack t) (reply.Acknowledged r) = Unit {0}
 IsReplyTo (step.Tell c) (reply.Told r) = Unit {0}
 IsReplyTo step.Have (reply.Had r) = Unit {0}
 IsReplyTo s r = ⊥
+
+-- a reply to a device step names the phase of the store that the call found
+abbrev pub NamesPhase : {D : Type 0} → HubReply → StoreHeld D → Type 0
+NamesPhase (reply.Stepped r) store = IfOk r (λ p. p ≡ store.phase)
+NamesPhase r store = Unit {0}
 
 -- each reply is one to its call, as far as there are replies
 abbrev pub AreRepliesTo : List HubStep → List HubReply → Type 0

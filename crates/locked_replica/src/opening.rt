@@ -3,6 +3,7 @@ ghost use Rattle.std.specs.Prelude.{◌≡◌, ◌↔◌, List, ℕ, IfOk, IfErr
 ghost use Rattle.root_slots.specs.Root.{version_of};
 ghost use Rattle.disk_trait.specs.Looks.{OnlyLooks};
 ghost use Rattle.op_model.specs.Machine.{opened};
+ghost use Rattle.group_commit.specs.Commit.{IsLeft};
 ghost use Rattle.recovery.specs.Faults.{IsFault, failures_of};
 ghost use Rattle.recovery.specs.Image.{IsImage};
 ghost use Rattle.locked_replica.specs.Hub.{state_of};
@@ -41,8 +42,10 @@ impl<D: Disk> Hub<D> {
     }
 
     /// Tells what the type keeps: every file that a crash now may leave has the image of the
-    /// committed list, in the last phase of a commit that or the commit's; what is opened from it
-    /// is what the machine's crash leaves; and that has all that is settled. Costs nothing.
+    /// settled list; of a commit's where that is through, and of either one once its gate is
+    /// written. What is opened from it is what the machine's crash leaves, and has all that is
+    /// settled. And it has the live root or the commit's, on the pages that contracts see. Costs
+    /// nothing.
     pub fn survivors(&self)
         ensures image { D.tells self.now.store.disk → (file : List ℕ)
             → D.survives self.now.store.disk file → Recovers self.now file }
@@ -51,6 +54,9 @@ impl<D: Disk> Hub<D> {
         ensures settled { D.tells self.now.store.disk → (file : List ℕ)
             → D.survives self.now.store.disk file
             → HasAtLeast self.now.replica.settled self.now.replica file }
+        ensures root { D.tells self.now.store.disk → (file : List ℕ)
+            → D.survives self.now.store.disk file
+            → IsLeft self.now.store.phase self.now.store.current self.now.store.next file }
     {
         self.locked.kept();
         self.flusher.kept();

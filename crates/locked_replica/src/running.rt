@@ -1,9 +1,8 @@
 //! A list of calls.
 ghost use Rattle.std.specs.Prelude.{◌≡◌, List, length, IfOk, OnOk, OnErr};
 ghost use Rattle.locked_replica.specs.Calls.{IsCall};
-ghost use Rattle.locked_replica.specs.Run.{Ran};
-ghost use Rattle.locked_replica.specs.Steps.{event_of, answer_of, events_of, IsReplyTo};
-ghost use Rattle.locked_replica.specs.Steps.{AreRepliesTo};
+ghost use Rattle.locked_replica.specs.Run.{Replied};
+ghost use Rattle.locked_replica.specs.Steps.{event_of, answer_of, IsReplyTo, NamesPhase};
 ghost use Rattle.locked_replica.specs.declared.hub_reply.HubReply.{HubReply as Reply};
 
 use crate::hub::Hub;
@@ -13,19 +12,19 @@ use disk_trait::Disk;
 use std::alloc::{AllocError, Global};
 
 /// Makes these calls in order, and answers what each one answers, as a reply of the call's own kind:
-/// a refused call is its own reply, and the calls go on. An error is want of memory (1): then a
-/// beginning of the calls is made.
+/// a refused call is its own reply, and the calls go on. A reply to a device step names the phase
+/// whose call was made. An error is want of memory (1): then a beginning of the calls is made, with
+/// such replies.
 pub fn run<D: Disk>(
     alloc: Global,
     hub: &mut Hub<D>,
     steps: &[HubStep],
 ) -> Result<Vec<HubReply>, AllocError>
     ensures all { IfOk result (λ replies. length replies.items ≡ length steps.now) }
-    ensures kinds { IfOk result (λ replies. AreRepliesTo steps.now replies.items) }
     ensures ran { IfOk result (λ replies.
-        Ran D.DiskFacts hub.old (events_of steps.now replies.items) hub.new) }
+        Replied D.DiskFacts hub.old steps.now replies.items hub.new) }
     ensures beginning { OnErr result ((replies : List Reply)
-        × Ran D.DiskFacts hub.old (events_of steps.now replies) hub.new) }
+        × Replied D.DiskFacts hub.old steps.now replies hub.new) }
 {
     hub.survivors();
     let mut replies = Vec::with_capacity(alloc, steps.len())?;
@@ -41,6 +40,7 @@ fn make<D: Disk>(hub: &mut Hub<D>, step: &HubStep) -> Result<HubReply, AllocErro
     ensures call { IfOk result (λ reply.
         IsCall D.DiskFacts (event_of step.now) (answer_of reply) hub.old hub.new) }
     ensures kind { IfOk result (λ reply. IsReplyTo step.now reply) }
+    ensures phase { IfOk result (λ reply. NamesPhase reply hub.old.store) }
     ensures err { OnErr result (hub.new ≡ hub.old) }
 {
     Ok(match step {

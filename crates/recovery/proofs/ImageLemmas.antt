@@ -22,7 +22,7 @@ pub image_of : (root : Saved) (file : List ℕ) (replica : ℕ) (ops : List Op) 
 image_of root file replica ops is history closed =
     record {
       body = root.body;
-      holds = is ∙ ap (λ bytes. Ok (root.body, bytes)) (sym history.spelled);
+      holds = is.holds ∙ ap (λ bytes. Ok (root.body, bytes)) (sym history.spelled);
       fits = history.fits;
       count = history.count;
       owner = sym history.owner;
@@ -37,7 +37,7 @@ bad_of root file replica ops is history broken =
     record {
       body = root.body;
       ops = ops;
-      holds = is ∙ ap (λ bytes. Ok (root.body, bytes)) (sym history.spelled);
+      holds = is.holds ∙ ap (λ bytes. Ok (root.body, bytes)) (sym history.spelled);
       fits = history.fits;
       count = history.count;
       broken = broken;
@@ -81,7 +81,7 @@ pub empty_image : (root : Saved) (replica : ℕ) (file : List ℕ)
 empty_image root replica file says none is =
     record {
       body = root.body;
-      holds = is ∙ ap (λ bytes. Ok (root.body, bytes)) none;
+      holds = is.holds ∙ ap (λ bytes. Ok (root.body, bytes)) none;
       fits = tt;
       count = sym (ap (λ r. r.operations) says);
       owner = ap (λ r. r.replica) says;

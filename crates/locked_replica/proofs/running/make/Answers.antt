@@ -14,6 +14,18 @@ returns-clause-call g c = elim c.match-step.branch [
   | in-Have w ↦ rw (w.in-Have.is, w.result-is, w.hub-is) w.have.ensures.call
 ]
 
+pub returns-clause-phase : goal.returns-clause-phase
+returns-clause-phase g c = elim c.match-step.branch [
+  | in-Edit w ↦ rw (w.result-is) tt
+  | in-Merge+in_ok-op-in-Merge w ↦ rw (w.result-is) tt
+  | in-Begin w ↦ rw (w.result-is) tt
+  | in-DeviceStep w ↦ rw (w.result-is) w.device_step.ensures.made
+  | in-Settle w ↦ rw (w.result-is) tt
+  | in-Ack w ↦ rw (w.result-is) tt
+  | in-Tell w ↦ rw (w.result-is) tt
+  | in-Have w ↦ rw (w.result-is) tt
+]
+
 pub returns-clause-kind : goal.returns-clause-kind
 returns-clause-kind g c = elim c.match-step.branch [
   | in-Edit w ↦ rw (w.in-Edit.is, w.result-is) tt

@@ -129,6 +129,7 @@ returns-clause-began g c = λ ops are n is.
       lowest = plan.plan.lowest;
       follows = rw (are.spelled_so, are.counted) plan.follows;
       fits = are.fits;
+      pages = rw (are.spelled_so) plan.pages;
       live_slot = live_idle g.D.DiskFacts _ c.self.inside.roots.slot _ _ c.self.invariant.0 idle;
       left = left_of g.D.DiskFacts _ c.self.inside.roots.slot _ _ (sound_new g c);
     })

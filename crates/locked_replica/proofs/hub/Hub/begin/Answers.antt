@@ -1,4 +1,4 @@
-use Rattle.std.proofs.Common.{◌≡◌, true, false, not, ◌&&◌, refl, sym, ◌∙◌, ℕ, Result, Ok, Err}
+use Rattle.std.proofs.Common.{◌≡◌, false, not, ◌&&◌, refl, sym, ◌∙◌, Result, Ok, Err}
 use Rattle.group_commit.specs.declared.error.StoreError.{StoreError}
 use Rattle.hub_parts.specs.Meeting.{Meets}
 use Rattle.hub_parts.specs.declared.met.Met.{Met}

@@ -1,5 +1,4 @@
-use Rattle.std.proofs.Common.{sym, ap, subst}
-use Rattle.hub_parts.specs.Meet.{side_of, Meet}
+use Rattle.std.proofs.Common.{sym}
 use Rattle.locked_replica.proofs.DeviceSteps.{step_made, step_refused}
 use Rattle.locked_replica.proofs.PartsFit.{hub_fits}
 use Rattle.locked_replica.proofs.hub.Hub.device_step.Goals.{in-Ok, in-Err}

@@ -1,4 +1,3 @@
-use Rattle.std.proofs.Common.{◌≡◌}
 use Rattle.recovery.specs.declared.open_fault.OpenFault.{OpenFault}
 use Rattle.locked_replica.proofs.Reopened.{reopened, refused_well}
 use Rattle.locked_replica.proofs.hub.Hub.reopen.Goals as goal
