@@ -193,7 +193,8 @@ def faults(texts, tokens):
 def followed(row, followers):
     """What is wrong with what the peers were told that only listen."""
     count = row.applied()
-    found = [f"peer {n} was told {told} of {count} operations" for n, it in enumerate(followers) if (told := it.told(count)) != count]
+    told = [it.told(count) for it in followers]
+    found = [f"peer {n} was told {found} operations, {again} of them again, of {count}" for n, (found, again) in enumerate(told) if (found, again) != (count, 0)]
     for it in followers:
         it.end()
     return found

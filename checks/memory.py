@@ -7,6 +7,7 @@ an order by chance: nearly all for short runs, one in a hundred for a daemon.
 
 import os
 import random
+import subprocess
 import sys
 import tempfile
 import time
@@ -26,6 +27,8 @@ LONGEST = 7_200
 REFUSED = line(code=1, error="memory", ok=False)
 FAILED = {"code": 9, "error": "failed", "ok": False}
 MEGABYTE = 1_000_000
+# How often a begin is tried that finds no memory.
+BEGINS = 1_000
 
 
 def comment(last):
@@ -263,15 +266,20 @@ def check_no_commit(sweep):
     """No commit finds the megabyte that it asks for first: an edit is answered 9 after a thousand tries, and so is the end."""
     checks = sweep.checks
     new_file(sweep.program, "uncommitted")
-    daemon = RefusedDaemon(sweep.program, "uncommitted", sweep.refusal("uncommitted", size=MEGABYTE).around)
+    refusal = sweep.refusal("uncommitted", size=MEGABYTE)
+    daemon = RefusedDaemon(sweep.program, "uncommitted", refusal.around)
     try:
         talk = daemon.talk()
         for number in (1, 2):
             checks.same(f"edit {number} that can't be committed", talk.ask(insert(0, "u")), FAILED)
             checks.same("how far it is then", talk.ask(STATUS), {"applied": number, "ok": True, "settled": 0, "state": "open"})
+        before = refusal.count()
         checks.same("a stop where nothing can be committed", talk.ask(STOP), FAILED)
+        checks.holds("it was tried again at the stop", refusal.count() >= before + BEGINS)
         checks.same("the end where nothing can be committed", daemon.ended(), fault(9))
         checks.same("what is there then", run(sweep.program, "edit", "uncommitted", lines=STATUS)[1], line(applied=0, ok=True, settled=0, state="open"))
+    except (OSError, subprocess.TimeoutExpired, Wrong) as error:
+        checks.same("a daemon that can't commit comes to its end", repr(error), None)
     finally:
         if daemon.run.poll() is None:
             daemon.kill()

@@ -4,6 +4,7 @@ say what breaks the rules. Meanwhile the edits of a session that keeps the rules
 
 import socket
 import subprocess
+import threading
 import time
 
 from beside import STATUS, Beside, link, seat, together
@@ -15,8 +16,8 @@ from program import insert, line, run
 SOON = 2
 SECONDS = 2
 CONNECTIONS = 2_000
-# How many links there may be, and seconds after which a peer that takes nothing is let go.
-LINKS, TAKES_NOTHING = 8, 31
+# How many links there may be; seconds after which a peer that takes nothing is let go, and how many more it may be on a busy machine.
+LINKS, TAKES_NOTHING, SLACK = 8, 30, 10
 MEGABYTE = 1_000_000
 BESIDE, READ, TRICKLED, PEERS = 50, 51, 52, 53
 STOP = line(op="stop")
@@ -172,13 +173,42 @@ def check_malformed(checks, daemon):
     talk.close()
 
 
-def check_places(checks, daemon, deaf_since):
-    """A peer that takes nothing for half a minute is let go: then there is room for as many as there may be."""
-    time.sleep(max(0, deaf_since + TAKES_NOTHING - time.monotonic()))
-    peers = [link(daemon, replica(60 + number)) for number in range(LINKS)]
-    checks.same("links where deaf peers were let go", len(peers), LINKS)
-    for peer in peers:
+class LetGo(threading.Thread):
+    """A daemon of its own, one of whose peers takes nothing of what it is told: whether that one has a place, and when it is given back."""
+
+    def __init__(self, program):
+        super().__init__()
+        self.program, self.error, self.is_full, self.took = program, None, False, None
+
+    def run(self):
+        daemon = new_daemon(self.program, "deaf")
+        held = []
+        try:
+            told_before(daemon, replica(21))
+            deaf(daemon.peers, replica(61), have() * 100, held)
+            begun = time.monotonic()
+            held += [link(daemon, replica(62 + number)) for number in range(LINKS - 1)]
+            self.is_full = not self.is_greeted(daemon)
+            while not self.is_greeted(daemon) and time.monotonic() < begun + 2 * TAKES_NOTHING:
+                time.sleep(0.5)
+            self.took = time.monotonic() - begun
+        except (OSError, TimeoutError) as error:
+            self.error = repr(error)
+        finally:
+            for peer in held:
+                peer.close()
+            daemon.kill()
+
+    def is_greeted(self, daemon):
+        peer = Peer(daemon.peers, replica(80))
+        found, is_over = peer.frames(2)
         peer.close()
+        return bool(found) and not is_over
+
+    def told(self, checks):
+        self.join()
+        checks.same("a peer that takes nothing is tried to its end", (self.error, self.is_full), (None, True))
+        checks.holds(f"its place is given back behind {self.took or 0:.0f} s", self.took and self.took < TAKES_NOTHING + SLACK)
 
 
 def check_end(checks, program, daemon, docs):
@@ -195,14 +225,14 @@ def check_end(checks, program, daemon, docs):
 
 
 def check(checks, program, _until):
+    let_go = LetGo(program)
+    let_go.start()
     daemon = new_daemon(program, "rude")
     held = []
     try:
-        held += check_peers(checks, daemon)
-        deaf_since = time.monotonic()
         held += check_sessions(checks, daemon)
+        held += check_peers(checks, daemon)
         check_malformed(checks, daemon)
-        check_places(checks, daemon, deaf_since)
         check_end(checks, program, daemon, (BESIDE, BESIDE + 100, READ, TRICKLED, PEERS))
     except (OSError, TimeoutError, subprocess.TimeoutExpired) as error:
         checks.same("rude ones come to their end", repr(error), None)
@@ -211,3 +241,4 @@ def check(checks, program, _until):
             it.close()
         if daemon.run.poll() is None:
             daemon.kill()
+    let_go.told(checks)

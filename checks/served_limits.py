@@ -1,6 +1,7 @@
 """A daemon at the limits of its machine: few open files, a full disk; and stops while many sessions edit."""
 
 import json
+import os
 import resource
 import socket
 import subprocess
@@ -14,6 +15,7 @@ from program import PAGE, REPLICA, insert, line, new_file, run, text_of
 OTHER = REPLICA[:-1] + "2"
 STATUS, STOP = line(op="status"), line(op="stop")
 FILES, COMERS = 24, 60
+SOON = 3
 EDITORS, EDITS = 8, 400
 FAILED = {"code": 9, "error": "failed", "ok": False}
 
@@ -57,7 +59,8 @@ def check_end_without_files(checks, program):
     talks = []
     try:
         within("no more sessions are served", lambda: not is_served(daemon, talks))
-        checks.holds(f"{len(talks)} sessions over {FILES} files", 4 < len(talks) < FILES)
+        open_files = len(os.listdir(f"/proc/{daemon.run.pid}/fd"))
+        checks.holds(f"{len(talks)} sessions hold {open_files} of {FILES} files", len(talks) > 2 and open_files >= FILES - 1)
         checks.same("an edit where no file is left", talks[0].ask(insert(0, "n")), {"ok": True, "rev": 1})
         checks.same("a stop where no file is left", talks[0].ask(STOP), {"ok": True})
         checks.same("the end where no file is left", daemon.ended(), (0, b"", b""))
@@ -69,18 +72,19 @@ def check_end_without_files(checks, program):
 
 
 def is_served(daemon, talks):
-    """Whether one more session is answered in half a second; it is kept."""
+    """Whether one more session is served within seconds; it is kept."""
     talks.append(daemon.talk())
-    talks[-1].socket.settimeout(0.5)
+    talks[-1].socket.settimeout(SOON)
     try:
         talks[-1].send(STATUS)
         answer = talks[-1].answer()
     except (TimeoutError, OSError):
         answer = None
     talks[-1].socket.settimeout(PATIENCE)
-    if not answer:
+    is_one = bool(answer and answer["ok"])
+    if not is_one:
         talks.pop().close()
-    return bool(answer)
+    return is_one
 
 
 def check_full_disk(checks, program):

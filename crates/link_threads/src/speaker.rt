@@ -62,7 +62,7 @@ impl Speaker {
         self.speak_have(peer, line, is_have_due)?;
         let has_told = speak_ops(alloc, peer, line)?;
         match write_out(line, writer) {
-            Ok(()) => Ok(has_told),
+            Ok(_) => Ok(has_told),
             Err(error) => Err(SpeakError::Stream(error)),
         }
     }

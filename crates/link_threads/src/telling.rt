@@ -38,7 +38,7 @@ pub(crate) struct Telling<'a, R: Wait + Clock, J: Desks> {
 
 impl<'a, R: Wait + Clock, J: Desks> Telling<'a, R, J> {
     /// Says what is due, each time that there is something, until nothing more is heard or the
-    /// daemon ends; and then BYE.
+    /// daemon ends; and then BYE, unless the stream has failed.
     pub fn run<S: Write>(&mut self, alloc: Global, stream: &mut S) {
         let mut peer = SharedPeer {
             rt: self.rt,
@@ -68,7 +68,15 @@ impl<'a, R: Wait + Clock, J: Desks> Telling<'a, R, J> {
                         seen = self.shared.wait_for_news(self.rt, seen);
                     }
                 }
-                Err(SpeakError::Memory) => thread::sleep(self.rt, Duration::from_millis(PAUSE)),
+                Err(SpeakError::Memory) => match write_out(&mut line, stream) {
+                    // What waits is the HAVE: it was the operations that found no memory.
+                    Ok(is_have_said) => {
+                        is_have_due &= !is_have_said;
+                        thread::sleep(self.rt, Duration::from_millis(PAUSE));
+                    }
+                    Err(_) => return,
+                },
+                Err(SpeakError::Stream(_)) => return,
                 Err(_) => break,
             }
         }

@@ -8,9 +8,9 @@ use byte_streams::put;
 use std::io;
 use std::io::Write;
 
-/// Takes out what was said, writes it and hands it on, where there is any. After an error a
-/// beginning of it is written.
-pub fn write_out<L: Line, W: Write>(line: &mut L, writer: &mut W) -> io::Result<()>
+/// Takes out what was said, writes it and hands it on, where there is any, and answers whether there
+/// was. After an error a beginning of it is written.
+pub fn write_out<L: Line, W: Write>(line: &mut L, writer: &mut W) -> io::Result<bool>
     ensures ok { OnOk result ((text : List ℕ) × L.gives line.old text line.new
         × Appends (W.contents writer.old) (W.contents writer.new) text) }
     ensures err { OnErr result ((text : List ℕ) × L.gives line.old text line.new
@@ -18,7 +18,8 @@ pub fn write_out<L: Line, W: Write>(line: &mut L, writer: &mut W) -> io::Result<
 {
     let bytes = line.take_out();
     if bytes.is_empty() {
-        return Ok(());
+        return Ok(false);
     }
-    put(writer, &bytes)
+    put(writer, &bytes)?;
+    Ok(true)
 }

@@ -18,8 +18,9 @@ use std::time::Duration;
 /// The pause behind a connection that couldn't be accepted, in milliseconds.
 const PAUSE: u64 = 10;
 
-/// How long a peer may take nothing of what it is told, in seconds: then its link ends.
-const PATIENCE: u64 = 30;
+/// How long a write to a peer waits for the peer to take something, in seconds. A write that was
+/// taken in part is made again with the rest, so a link ends behind three waits at the most.
+const PATIENCE: u64 = 10;
 
 /// What a connection is for.
 #[derive(Clone, Copy, Debug, PartialEq, Eq)]

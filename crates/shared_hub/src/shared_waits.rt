@@ -12,7 +12,7 @@ use std::sync::Wait;
 use std::thread;
 
 /// How often the flusher looks at the most whether more operations wait, before it begins a commit.
-const LOOKS: u32 = 64;
+const LOOKS: u32 = 8;
 
 impl<J: Desks> Shared<J> {
     /// Waits until the operations of a ticket are settled, and acknowledges them; else the device

@@ -35,7 +35,7 @@ pub fn spans(sequence: &Sequence, anchors: &Anchors) -> Result<Vec<Span>, AllocE
 ///
 /// An answer lists at most 1,048,576 comment ids, one counted in each span that lists it: beyond it
 /// is 1, before that span is made. So it is beyond 134,217,728 steps, of which a character at which
-/// n operations are in force and e begin or end takes n times e + 1.
+/// n operations are in force and e begin or end takes n + e, and an eighth of that again e times.
 pub fn spans_in(
     sequence: &Sequence,
     anchors: &Anchors,

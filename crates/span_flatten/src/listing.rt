@@ -7,8 +7,9 @@ use std::alloc::AllocError;
 pub const LISTED_LIMIT: usize = 1_048_576;
 
 /// The marks of a document take at most so many steps: at each character at which mark operations
-/// begin or end, one for each that has begun and not ended, and that again for each of its edges.
-/// n operations over a text with m edges take m times n of them.
+/// begin or end, one for each of these and of those that have begun before and not ended, and an
+/// eighth of that again for each of these. n operations over a text with m edges take some m times
+/// n of them.
 pub const STEPS_LIMIT: usize = 134_217_728;
 
 /// Counts so many against those that are left. An error is that they are more.

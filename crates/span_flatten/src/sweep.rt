@@ -152,8 +152,9 @@ fn steps_at(edges: &[Edge], active: &Active) -> usize {
     if edges.is_empty() {
         return 0;
     }
-    let of_each = edges.len().saturating_add(1);
-    active.set.len().saturating_mul(of_each)
+    let most = active.set.len().saturating_add(edges.len());
+    let of_edges = most.saturating_mul(edges.len()) / 8;
+    most.saturating_add(of_edges)
 }
 
 /// Whether mark operations changed before, or do so at these edges.
