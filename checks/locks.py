@@ -123,7 +123,7 @@ def check_two_inits(checks, program):
 
 
 # How long a delayed program waits between opening its file and locking it, in seconds.
-DELAY = 0.5
+DELAY = 1.6
 
 
 def delayed(program, *words):

@@ -137,14 +137,15 @@ def check_links(checks, program):
     answered = {1: 0, 2: 0}
 
     def edit(daemon, doc):
-        talk = daemon.talk()
+        talk = None
         while not over.is_set():
             try:
+                talk = talk or daemon.talk()
                 answer = talk.ask(insert(0, "x", doc=doc + 1))
             except OSError:
                 answer = None
             if answer is None:
-                talk = daemon.talk()
+                talk = None
             elif answer.get("ok"):
                 answered[doc] += 1
 
