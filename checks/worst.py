@@ -15,8 +15,10 @@ from rude import MEGABYTE, SOON, check_end
 
 PATIENCE = 60
 HIGH, LOW, DEEP, MARKS = (replica(number) for number in (71, 70, 72, 73))
-PLACED, CHAINED, MARKED, BESIDE = 1, 2, 3, 50
+PLACED, CHAINED, MARKED, BOUNDED, BESIDE = 1, 2, 3, 4, 50
 RISING, FALLING, CHAIN, OVER = 6_000, 300, 6_000, 250
+# So many comments, each from another character to the end, are in the spans half the square of that many times: more than 1,048,576 times.
+BEYOND = 1_448
 DOCUMENTS, REPLICAS = 1_024, 16
 # Readers of each document, for so many seconds, each with so many requests under way.
 READERS, READING, AHEAD = 6, 2, 4
@@ -84,6 +86,20 @@ def check_marks(checks, daemon, talk):
     checks.holds("strong over everything", all(span["strong"] for span in spans))
 
 
+def check_bound(checks, daemon, talk):
+    """Comments that spans would list more than 1,048,576 times: the spans are refused, and all else goes on."""
+    first = 3 * OVER + 1
+    records = typed(MARKS, BEYOND, BOUNDED, first=first, known=first - 1)
+    for k in range(BEYOND):
+        known = first - 1 + len(records)
+        mark = bytes([COMMENT]) + (k + 1).to_bytes(16, "big") + anchor(1, first + k, MARKS) + END
+        records.append(record(ADD_MARK, MARKS, known + 1, mark, [(MARKS, known)], BOUNDED))
+    tell(daemon, talk, MARKS, records, BOUNDED, 2 * BEYOND)
+    checks.same("spans beyond their bound", talk.ask(line(op="spans", doc=BOUNDED)), {"code": 1, "error": "memory", "ok": False})
+    checks.same("the text of that document", text(talk, BOUNDED), letters(BEYOND))
+    checks.same("an edit of that document", talk.ask(insert(0, "x", BOUNDED)), {"ok": True, "rev": 2 * BEYOND + 1})
+
+
 def read_on(daemon, request):
     """Asks for something large again and again, four times ahead, and reads the answers."""
     talk, until = seat(daemon), time.monotonic() + READING
@@ -112,7 +128,7 @@ def check_replicas(checks, daemon, talk):
 
 def check_documents(checks, daemon, talk):
     """As many documents as there may be, and one more, by a peer and by a session."""
-    there = 4
+    there = 5
     known = RISING
     records = [
         record(INSERT, HIGH, 2_000_000 + k, inserted("d"), [(HIGH, known + k)], 1_000 + k) for k in range(DOCUMENTS - there)
@@ -134,10 +150,11 @@ def check(checks, program, _until):
             check_place(checks, daemon, talk)
             check_chain(checks, daemon, talk)
             check_marks(checks, daemon, talk)
+            check_bound(checks, daemon, talk)
             check_readers(daemon)
             check_replicas(checks, daemon, talk)
             check_documents(checks, daemon, talk)
-        beside.told(checks, "documents at their worst", SOON, 48 * MEGABYTE)
+        beside.told(checks, "documents at their worst", SOON, 64 * MEGABYTE)
         talk.close()
         check_end(checks, program, daemon, (PLACED, CHAINED, MARKED, BESIDE, 1_000))
     except (OSError, TimeoutError, subprocess.TimeoutExpired) as error:
