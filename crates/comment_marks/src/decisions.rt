@@ -1,9 +1,6 @@
-ghost use Rattle.std.specs.Prelude.{◌≡◌, map, IfOk, OnOk, option_map, is_some};
-ghost use Rattle.std.specs.BTreeMap.{keys};
-ghost use Rattle.op_model.specs.Spans.{comment_ids, comment_of};
-ghost use Rattle.op_model.specs.declared.mark.MarkKey.TheVariants as key;
+ghost use Rattle.std.specs.Prelude.{◌≡◌, map, IfOk, OnOk};
+ghost use Rattle.op_model.specs.Spans.{comment_of};
 ghost use Rattle.comment_marks.specs.Decisions.{decisions as decisions_of, about, greater, says, with_decision};
-ghost use Rattle.comment_marks.specs.Standing.{decided};
 
 use op_ids::OpId;
 use op_model::{CommentId, MarkKey, Marking};

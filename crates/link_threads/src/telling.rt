@@ -48,40 +48,51 @@ impl<'a, R: Wait + Clock, J: Desks> Telling<'a, R, J> {
             rt: self.rt,
             end: self.end,
         };
+        if self.say_all(alloc, &mut peer, &mut line, stream) {
+            let _ = line.say_bye();
+            let _ = write_out(&mut line, stream);
+        }
+    }
+
+    /// Says what is due, each time that there is something, until nothing more is heard or the
+    /// daemon ends. Answers whether the stream still works.
+    fn say_all<S: Write>(
+        &mut self,
+        alloc: Global,
+        peer: &mut SharedPeer<'_, R, J>,
+        line: &mut LockedLine<'_, R>,
+        stream: &mut S,
+    ) -> bool {
         let mut seen = News::none();
         let mut is_have_due = false;
         for _ in self.rt.forever() {
             if self.end.is_over(self.rt) || seen.is_closing {
-                break;
+                return true;
             }
             // A HAVE that found no memory stays due.
             if !is_have_due {
                 is_have_due = self.has_notes();
             }
-            match self
-                .speaker
-                .speak(alloc, &mut peer, &mut line, stream, is_have_due)
-            {
+            match self.speaker.speak(alloc, peer, line, stream, is_have_due) {
                 Ok(has_told) => {
                     is_have_due = false;
                     if !has_told {
                         seen = self.shared.wait_for_news(self.rt, seen);
                     }
                 }
-                Err(SpeakError::Memory) => match write_out(&mut line, stream) {
+                Err(SpeakError::Memory) => match write_out(line, stream) {
                     // What waits is the HAVE: it was the operations that found no memory.
                     Ok(is_have_said) => {
                         is_have_due &= !is_have_said;
                         thread::sleep(self.rt, Duration::from_millis(PAUSE));
                     }
-                    Err(_) => return,
+                    Err(_) => return false,
                 },
-                Err(SpeakError::Stream(_)) => return,
-                Err(_) => break,
+                Err(SpeakError::Stream(_)) => return false,
+                Err(_) => return true,
             }
         }
-        let _ = line.say_bye();
-        let _ = write_out(&mut line, stream);
+        unreachable!()
     }
 
     /// Whether there are notes, which are taken then; before that is answered, there is a pause.

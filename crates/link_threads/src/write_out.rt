@@ -8,8 +8,8 @@ use byte_streams::put;
 use std::io;
 use std::io::Write;
 
-/// Takes out what was said, writes it and hands it on, where there is any, and answers whether there
-/// was. After an error a beginning of it is written.
+/// Takes out what was said, writes it and hands it on, where there is any, and answers whether
+/// there was. After an error a beginning of it is written.
 pub fn write_out<L: Line, W: Write>(line: &mut L, writer: &mut W) -> io::Result<bool>
     ensures ok { OnOk result ((text : List ℕ) × L.gives line.old text line.new
         × Appends (W.contents writer.old) (W.contents writer.new) text) }

@@ -1,5 +1,6 @@
 //! The threads that let connections in.
 
+use crate::doors::Doors;
 use crate::hall::Hall;
 use crate::session_thread::serve_session;
 use link_threads::serve_link;
@@ -8,7 +9,7 @@ use session_lines::{Answer, Refusal, say};
 use shared_hub::Gate;
 use std::alloc::Global;
 use std::io::Write;
-use std::net::{TcpListener, TcpStream};
+use std::net::TcpStream;
 use std::rt::Clock;
 use std::sync::Wait;
 use std::thread;
@@ -37,9 +38,10 @@ pub(crate) fn accept<R: Wait + Clock + Threads + Sync, J: Desks + Send + Sync, G
     hall: &Hall<J>,
     gate: &G,
     kind: Kind,
-    listener: &TcpListener,
+    doors: &Doors,
 ) {
     let lobby = hall.lobby(kind);
+    let listener = doors.listener(kind);
     thread::scope(thread::scope_env(), rt, |scope| {
         for stream in listener.incoming() {
             if hall.ending.is_asked(rt) {

@@ -1,5 +1,6 @@
 //! Where the daemon listens.
 
+use crate::accepting::Kind;
 use std::io;
 use std::net::{Shutdown, TcpListener, TcpStream};
 use std::os::fd::OwnedFd;
@@ -8,8 +9,8 @@ use std::os::fd::OwnedFd;
 /// the start: at the end there may be no descriptor left.
 #[derive(Drop)]
 pub(crate) struct Doors {
-    pub sessions: TcpListener,
-    pub peers: TcpListener,
+    sessions: TcpListener,
+    peers: TcpListener,
     copies: (TcpStream, TcpStream),
 }
 
@@ -22,6 +23,14 @@ impl Doors {
             peers,
             copies,
         })
+    }
+
+    /// Where connections of one kind come.
+    pub fn listener(&self, kind: Kind) -> &TcpListener {
+        match kind {
+            Kind::Session => &self.sessions,
+            Kind::Link => &self.peers,
+        }
     }
 
     /// Ends the waits of those who accept connections.

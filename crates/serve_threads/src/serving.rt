@@ -138,33 +138,16 @@ fn run<
             ensures goes { Goes D.DiskFacts flusher result.1 }
         {
             let mut flusher = flusher;
-            let at_sessions = scope.spawn(move || accept(
-                rt,
-                alloc,
-                hall,
-                gate,
-                Kind::Session,
-                &doors.sessions,
-            ));
-            let at_peers = scope.spawn(move || accept(
-                rt,
-                alloc,
-                hall,
-                gate,
-                Kind::Link,
-                &doors.peers,
-            ));
+            let sessions = scope.spawn(move || accept(rt, alloc, hall, gate, Kind::Session, doors));
+            let peers = scope.spawn(move || accept(rt, alloc, hall, gate, Kind::Link, doors));
             let joining = match joined {
                 Some(joined) => scope
                     .spawn(move || keep_joined(rt, alloc, hall, gate, joined))
                     .is_ok(),
                 None => true,
             };
-            let ending = scope.spawn(move || {
-                hall.ending.wait(rt);
-                end_all(rt, hall, doors);
-            });
-            let has_begun = at_sessions.is_ok() && at_peers.is_ok() && joining && ending.is_ok();
+            let ending = scope.spawn(move || end_when_asked(rt, hall, doors));
+            let has_begun = sessions.is_ok() && peers.is_ok() && joining && ending.is_ok();
             if ending.is_err() {
                 end_all(rt, hall, doors);
             } else if !has_begun {
@@ -175,6 +158,12 @@ fn run<
             (has_begun, flusher)
         },
     )
+}
+
+/// Waits until the daemon is asked to end, and ends all threads.
+fn end_when_asked<J: Desks, R: Wait + Clock>(rt: &R, hall: &Hall<J>, doors: &Doors) {
+    hall.ending.wait(rt);
+    end_all(rt, hall, doors);
 }
 
 /// Ends all threads: nobody is let in any more, and those that are connected have a second.

@@ -24,9 +24,9 @@ enum Begun {
 }
 
 /// Commits what the threads of a shared hub make, one commit after the other, until they were asked
-/// to end or the device fails. It makes device calls with no lock held, and holds the lock twice for
-/// a commit, beside a few looks at how much waits. It sleeps where nothing waits. Behind it whoever
-/// waits for a settlement is told that none comes.
+/// to end or the device fails. It makes device calls with no lock held, and holds the lock twice
+/// for a commit, beside a few looks at how much waits. It sleeps where nothing waits. Behind it
+/// whoever waits for a settlement is told that none comes.
 pub fn flush<R: Wait, D: Disk, J: Desks, G: Gate>(
     rt: &R,
     shared: &Shared<J>,
