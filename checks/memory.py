@@ -1,7 +1,7 @@
 """Each request for memory of a run is refused in turn, and some in a row: what is answered 1 is sent again, a program that ends with 1 is
 started again, and in the end all is as without a refusal.
 
-python3 checks/memory.py PROGRAM: all of it, which takes an hour or two. As one of the checks (run.py) it tries as many as a time allows, in
+python3 checks/memory.py PROGRAM: all of it, which takes some ten minutes. As one of the checks (run.py) it tries as many as a time allows, in
 an order by chance: nearly all for short runs, one in a hundred for a daemon.
 """
 
