@@ -69,8 +69,8 @@ SHOWN = [line(op=op, doc=doc) for op in ("text", "spans") for doc in (1, 2)]
 
 
 def asked_again(ask, request, is_cut_off=False):
-    """The answer to a line that is sent until it isn't answered 1. `ask` gives None where nothing answered: a daemon that ends then may have
-    made the edit and cut its answer off, so that it is refused when it is sent again."""
+    """The answer to a line that is sent until it isn't answered 1. `ask` gives None where nothing answered: the edit may
+    have been made then, so that it is refused as stale when it is sent again."""
     has_ended = False
     for _ in range(TRIES):
         answer = ask(request)
