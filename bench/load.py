@@ -5,19 +5,29 @@ import os
 import shutil
 import subprocess
 
-SOURCE = os.path.join(os.path.dirname(os.path.abspath(__file__)), "load.c")
+HERE = os.path.dirname(os.path.abspath(__file__))
 # Seconds beyond its time that a load may take.
 GRACE = 30
 
 
-def compiled(folder):
-    """The program of load.c."""
+def made(folder, source, name, *words):
+    """What the C compiler makes of a source that stands here."""
     compiler = shutil.which("gcc") or shutil.which("cc")
     if not compiler:
         raise SystemExit("bench/serve.py needs gcc")
-    name = os.path.join(folder, "load")
-    subprocess.run([compiler, "-O2", "-o", name, SOURCE, "-lpthread"], check=True)
+    name = os.path.join(folder, name)
+    subprocess.run([compiler, "-O2", "-o", name, os.path.join(HERE, source), *words], check=True)
     return name
+
+
+def compiled(folder):
+    """The program of load.c."""
+    return made(folder, "load.c", "load", "-lpthread")
+
+
+def slow_syncs(folder):
+    """The library of slow_syncs.c."""
+    return made(folder, "slow_syncs.c", "slow_syncs.so", "-shared", "-fPIC", "-ldl")
 
 
 class Found:

@@ -1,5 +1,6 @@
 """The daemon: durable edits a second from 1, 8 and 32 sessions beside redis-server and beside the same device calls, in rounds that take
-turns; reads of a small document from 8 sessions while others edit; and how long two daemons take to bring each other up to date.
+turns; 1 and 32 sessions over slower syncs, with the edits of a commit; reads of a small document from 8 sessions while others edit; and how
+long two daemons take to bring each other up to date.
 
 python3 bench/serve.py PROGRAM [FOLDER]. The files are made in FOLDER (here, if none is given), so name one on the disk that is to be
 measured. The load is load.c, for which gcc is needed; without redis-server its rows are left out. It takes about two minutes.
@@ -10,7 +11,7 @@ import sys
 import tempfile
 import time
 
-from load import Found, compiled, floor, load, started, told
+from load import Found, compiled, floor, load, slow_syncs, started, told
 from servers import REPLICAS, Daemon, Redis, has_redis
 
 ROUNDS = 6
@@ -18,6 +19,9 @@ SECONDS = 0.7
 CLIENTS = (1, 8, 32)
 READERS = 8
 WRITERS = 2
+# By how many microseconds each sync is slower in the rounds that count commits.
+PAUSES = (0, 350)
+GROUP_ROUNDS = 3
 READ_ROUNDS = 3
 CATCH_UPS = 3
 PASTE = 250
@@ -34,14 +38,14 @@ class Room:
 
     def __init__(self, program, folder):
         self.program, self.folder, self.files = program, folder, 0
-        self.load = compiled(folder)
+        self.load, self.slow_syncs = compiled(folder), slow_syncs(folder)
 
     def path(self):
         self.files += 1
         return os.path.join(self.folder, f"file{self.files}")
 
-    def daemon(self, replica=REPLICAS[0]):
-        return Daemon(self.program, self.path(), replica)
+    def daemon(self, replica=REPLICAS[0], around=None):
+        return Daemon(self.program, self.path(), replica, around)
 
 
 def measured_edits(room, redis):
@@ -59,6 +63,24 @@ def measured_edits(room, redis):
                 daemon.kill()
             if redis:
                 found.setdefault(("pushes", clients), Found()).add(load(room.load, "pushes", redis.port, clients, SECONDS))
+    return found
+
+
+def measured_groups(room):
+    """One session's edits and those of 32, over syncs that are slower by so much, and how many commits these took."""
+    found = {}
+    for _ in range(GROUP_ROUNDS):
+        for pause in PAUSES:
+            for clients in (1, 32):
+                daemon = room.daemon(around={"LD_PRELOAD": room.slow_syncs, "SYNC_PAUSE": str(pause * 1000)}).start()
+                try:
+                    daemon.wait()
+                    told_by, commits = found.setdefault((pause, clients), (Found(), []))
+                    told_by.add(load(room.load, "edits", daemon.sessions, clients, SECONDS))
+                    daemon.stop()
+                finally:
+                    daemon.kill()
+                commits.append(daemon.commits())
     return found
 
 
@@ -166,6 +188,15 @@ def tell_edits(found, redis):
                 row(f"{what} {clients}", found[kind, clients], base, found[kind, 1])
 
 
+def tell_groups(found):
+    print("\n| Each sync slower by | 1 session, a second | 32 sessions | times one | edits a commit |")
+    print("|---|---|---|---|---|")
+    for pause in PAUSES:
+        one, most = found[pause, 1][0], found[pause, 32][0]
+        each = len(most.times) / sum(found[pause, 32][1])
+        print(f"| {pause} us | {one.rate():,.0f} | {most.rate():,.0f} | {most.rate() / one.rate():.1f} | {each:.1f} |")
+
+
 def tell_reads(found, redis, base):
     print("\n| Reads | a second | | p50 | p99 | p99 of the floor's | processors of the load |")
     print("|---|---|---|---|---|---|---|")
@@ -209,12 +240,14 @@ def main():
         redis = Redis(os.path.join(folder, "redis")) if has_redis() else None
         try:
             edits = measured_edits(room, redis)
+            groups = measured_groups(room)
             reads = measured_reads(room, redis)
         finally:
             if redis:
                 redis.kill()
         links = measured_links(room)
     tell_edits(edits, redis)
+    tell_groups(groups)
     tell_reads(reads, redis, edits["floor"])
     tell_links(links)
     tell_aims(edits, reads, links, redis)

@@ -64,15 +64,22 @@ class Talk:
 class Daemon:
     """The program as it serves a file."""
 
-    def __init__(self, program, name, replica=REPLICAS[0]):
-        self.program, self.name = program, name
+    def __init__(self, program, name, replica=REPLICAS[0], around=None):
+        self.program, self.name, self.around = program, name, around or {}
         subprocess.run([program, "init", name, "--replica", replica], check=True, stdout=subprocess.DEVNULL)
         self.sessions, self.peers, self.run = free_port(), free_port(), None
 
     def start(self, link=None):
         words = ["--sessions", str(self.sessions), "--peers", str(self.peers)] + (["--link", str(link)] if link else [])
-        self.run = subprocess.Popen([self.program, "serve", self.name, *words], stdin=subprocess.DEVNULL)
+        around = {**os.environ, **self.around}
+        self.run = subprocess.Popen([self.program, "serve", self.name, *words], stdin=subprocess.DEVNULL, env=around)
         return self
+
+    def commits(self):
+        """How many commits its file has had, once it has ended: the version of its live root is one more."""
+        with open(self.name, "rb") as file:
+            slots = [file.read(4096) for _ in range(2)]
+        return max(int.from_bytes(slot[16:24], "big") for slot in slots) - 1
 
     def wait(self):
         """Waits until it serves, without taking the place of a session: it greets whoever comes as a peer."""

@@ -5,7 +5,6 @@ python3 checks/memory.py PROGRAM: all of it, which takes some ten minutes. As on
 an order by chance: nearly all for short runs, one in a hundred for a daemon.
 """
 
-import json
 import os
 import random
 import subprocess
@@ -26,7 +25,6 @@ ROWS = (1, 3, 40)
 SECONDS, LEAST = 6, 5
 LONGEST = 7_200
 REFUSED = line(code=1, error="memory", ok=False)
-STALE = line(code=6, error="stale", ok=False)
 FAILED = {"code": 9, "error": "failed", "ok": False}
 MEGABYTE = 1_000_000
 # How often a begin is tried that finds no memory.
@@ -68,24 +66,13 @@ SERVED = LONG[:7] + READS
 SHOWN = [line(op=op, doc=doc) for op in ("text", "spans") for doc in (1, 2)]
 
 
-def asked_again(ask, request, is_cut_off=False):
-    """The answer to a line that is sent until it isn't answered 1. `ask` gives None where nothing answered: the edit may
-    have been made then, so that it is refused as stale when it is sent again."""
-    has_ended = False
+def asked_again(ask, request):
+    """The answer to a line that is sent until it isn't answered 1. `ask` gives None where nothing answered."""
     for _ in range(TRIES):
         answer = ask(request)
-        if is_cut_off and has_ended and answer == STALE:
-            return made(request)
-        has_ended = has_ended or answer is None
         if answer not in (None, REFUSED):
             return answer
     raise Wrong(f"{TRIES} times without memory: {request[:60]}")
-
-
-def made(request):
-    """The answer that an edit has when it is made."""
-    edit = json.loads(request)
-    return line(ok=True, rev=edit["rev"] + (len(edit["text"]) if edit["op"] == "insert" else edit.get("count", 1)))
 
 
 def edited(program, name, lines, around=None):
@@ -253,7 +240,7 @@ def served(program, name, around, joins):
     """The answers of a daemon, once it and its peer show the same, and how both ended."""
     pair = Pair(program, name, around, joins)
     try:
-        answers = [asked_again(pair.ask, request, is_cut_off=True) for request in SERVED]
+        answers = [asked_again(pair.ask, request) for request in SERVED]
         within("both show the same", pair.texts)
         answers += [asked_again(pair.ask, request) for request in SHOWN + [STOP]]
         return answers, ended(pair.own.run), pair.peer.stop()

@@ -6,7 +6,7 @@ ghost use Rattle.causal_sync.specs.Frames.{frame_bytes};
 ghost use Rattle.change_codec.specs.Spelling.{number_bytes};
 ghost use Rattle.op_model.specs.Records.{stream_length};
 
-use change_codec::{put_clock, put_ops, record_len};
+use change_codec::{put_clock, put_ops};
 use op_ids::{Clock, ReplicaId};
 use op_model::Op;
 use std::alloc::{AllocError, Global};
@@ -71,7 +71,7 @@ fn records_len(ops: &[Op]) -> usize
 {
     let mut total = 0;
     for op in ops {
-        total += record_len(op);
+        total += op.record_length() as usize;
     }
     total
 }

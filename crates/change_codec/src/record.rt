@@ -13,7 +13,6 @@ use crate::content::{LentBody, kind_byte, put_content, take_whole_content};
 use crate::deps::{collect_deps, put_deps, skip_deps};
 use crate::head::{Head, take_head};
 use crate::id::put_id;
-use crate::measure::record_len;
 use crate::number::{put_byte, put_u32, take_u32};
 use op_model::Op;
 use std::alloc::{AllocError, Global};
@@ -26,8 +25,8 @@ pub fn put_op(op: &Op, out: &mut Vec<u8>) -> Result<(), AllocError>
     ensures ok { OnOk result (out.new.items ≡ out.old.items ++ spelled op.now) }
     ensures err { OnErr result (out.new.items ≡ out.old.items) }
 {
-    let len = record_len(op);
-    out.reserve(len)?;
+    let len = op.record_length();
+    out.reserve(len as usize)?;
     put_u32((len - 4) as u32, out);
     put_body(op, out);
     Ok(())

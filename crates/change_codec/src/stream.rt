@@ -8,7 +8,6 @@ ghost use Rattle.change_codec.specs.Spelling.{spelled};
 ghost use Rattle.change_codec.specs.Stream.{spelled_all, AreOperations, IsNoStream};
 
 use crate::fits::every_op_has_a_spelling;
-use crate::measure::record_len;
 use crate::{CodecError, StreamError, put_op, take_op};
 use op_model::Op;
 use std::alloc::{AllocError, Global};
@@ -100,7 +99,7 @@ pub fn stream_length(ops: &[Op]) -> u64
 {
     let mut total: u64 = 0;
     for op in ops {
-        total = total.saturating_add(record_len(op) as u64);
+        total = total.saturating_add(op.record_length());
     }
     total
 }

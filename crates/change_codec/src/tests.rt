@@ -320,9 +320,9 @@ fn count_of(alloc: Global, bytes: &[u8]) -> Option<usize> {
 }
 
 /// Whether a stream of these operations has this length, and the first one's record this one.
-fn have_lengths(ops: &[Op], stream: u64, first: usize) -> bool {
+fn have_lengths(ops: &[Op], stream: u64, first: u64) -> bool {
     match ops.first() {
-        Some(op) => stream_length(ops) == stream && record_len(op) == first,
+        Some(op) => stream_length(ops) == stream && op.record_length() == first,
         None => false,
     }
 }

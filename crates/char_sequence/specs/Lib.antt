@@ -7,3 +7,5 @@ pub mod Reading
 pub mod Content
 pub mod Refusal
 pub mod Weave
+pub mod Woven
+pub mod Counting

@@ -6,9 +6,10 @@ ghost use Rattle.op_model.specs.declared.op.Body.TheVariants.{Insert, Remove};
 ghost use Rattle.char_sequence.specs.declared.cell.Cell.{Cell};
 ghost use Rattle.char_sequence.specs.Cells.{has_cell, is_known};
 ghost use Rattle.char_sequence.specs.Chunks.{cells_of};
-ghost use Rattle.char_sequence.specs.Content.{is_there, AreContent, TakesCell};
+ghost use Rattle.char_sequence.specs.Content.{is_there, TakesCell};
 ghost use Rattle.char_sequence.specs.Links.{cell_at_place};
 ghost use Rattle.char_sequence.specs.Weave.{Starts, Weaves};
+ghost use Rattle.char_sequence.specs.Woven.{IsWovenOf};
 
 use crate::cell::Cell;
 use crate::chunks::Chunks;
@@ -40,10 +41,9 @@ pub struct Weave {
 }
 
 impl Model for Weave {
-    ghost use Rattle.std.specs.Prelude.{List};
-    ghost use Rattle.char_sequence.specs.declared.cell.Cell.{Cell};
+    ghost use Rattle.char_sequence.specs.Woven.{Woven};
 
-    ghost Value = { List Cell };
+    ghost Value = { Woven };
 
     ghost use Rattle.char_sequence.specs.Weave.{woven, IsWoven};
 
@@ -79,7 +79,7 @@ impl Weave {
         value: char,
     ) -> Result<(), SequenceError>
         ensures taken { OnOk result (TakesCell id (Insert origin value) self.old self.new) }
-        ensures unknown { (ops : List Op) (doc : ℕ) → AreContent self.old ops doc
+        ensures unknown { (ops : List Op) (doc : ℕ) → IsWovenOf self.old ops doc
             → (IsErrOf result SequenceError.UnknownId ↔ (is_there ops doc origin ≡ false)) }
         ensures err { OnErr result (self.new ≡ self.old) }
     {
@@ -111,7 +111,7 @@ impl Weave {
     /// of all only where the hint is wrong.
     pub fn remove(&mut self, id: OpId) -> Result<(), SequenceError>
         ensures taken { OnOk result ((by : Id) → TakesCell by (Remove id) self.old self.new) }
-        ensures unknown { (ops : List Op) (doc : ℕ) → AreContent self.old ops doc
+        ensures unknown { (ops : List Op) (doc : ℕ) → IsWovenOf self.old ops doc
             → (IsErrOf result SequenceError.UnknownId ↔ (is_there ops doc (Some id) ≡ false)) }
         ensures memory { IsErrOf result SequenceError.Memory → ⊥ }
         ensures err { OnErr result (self.new ≡ self.old) }
@@ -128,7 +128,7 @@ impl Weave {
     /// Whether a character is there. Takes no memory. A binary search; a search of all only where
     /// the hint is wrong.
     pub fn has(&self, id: OpId) -> bool
-        ensures { (ops : List Op) (doc : ℕ) → AreContent self.now ops doc
+        ensures { (ops : List Op) (doc : ℕ) → IsWovenOf self.now ops doc
             → result ≡ is_there ops doc (Some id) }
     {
         match place_of(&self.trails, &self.cells, &id) {

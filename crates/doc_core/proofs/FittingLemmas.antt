@@ -1,5 +1,5 @@
 -- What follows a list fits its document, and other documents stay.
-use Rattle.std.proofs.Common.{◌≡◌, ℕ, ◌+◌, true, false, List, [], ◌∷◌, ◌++◌, refl, sym, ◌∙◌, ap, append-nil, arith}
+use Rattle.std.proofs.Common.{◌≡◌, ℕ, ◌+◌, true, false, List, [], ◌∷◌, ◌++◌, refl, sym, ◌∙◌, ap, arith}
 use Rattle.std.specs.Prelude.{◌==◌, ◌≢◌}
 use Rattle.std.proofs.lemmas.Bool.Decides.{nat_tests}
 use Rattle.op_ids.specs.Clock.{advanced}
@@ -8,14 +8,13 @@ use Rattle.op_model.specs.declared.op.Body.{Body}
 use Rattle.op_model.specs.declared.op.Op.{Op}
 use Rattle.op_model.specs.Causality.{FollowInTurn, clock_of, is_within_limits}
 use Rattle.op_model.specs.Made.{made, numbered, bodies_of, greatest_counter}
-use Rattle.op_model.specs.Marks.{markings}
 use Rattle.model_laws.proofs.Closed.{follows_fits}
-use Rattle.model_laws.proofs.Growth.{other_rev, markings-append}
+use Rattle.model_laws.proofs.Growth.{other_rev}
 use Rattle.model_laws.proofs.Makes.{made_follow}
 use Rattle.char_sequence.specs.Chunks.{cells_of}
 use Rattle.char_sequence.specs.Content.{FitAfter}
 use Rattle.char_sequence.proofs.HoldsLemmas.{holds_other}
-use Rattle.mark_anchors.proofs.KeepLemmas.{kept_with, other_marks_none}
+use Rattle.mark_anchors.proofs.KeepLemmas.{gathered_with, kept_with, other_marks_none}
 use Rattle.doc_core.specs.Drafting.{Drafted, IsDraftOf}
 use Rattle.doc_core.specs.Standing.{counted, Document, StandsFor}
 
@@ -50,6 +49,6 @@ draft_stays d ops op other draft =
     let apart = apart_from op.doc d.number other in
     record {
       characters = holds_other d.characters ops d.number op apart draft.characters;
-      markings = draft.markings ∙ (sym (append-nil (markings ops d.number)) ∙ (ap (λ ms. markings ops d.number ++ ms) (sym (other_marks_none op d.number other)) ∙ sym (markings-append ops (op ∷ []) d.number)));
+      marks = gathered_with d.marks ops (op ∷ []) d.number (other_marks_none op d.number other) draft.marks;
       rev = draft.rev ∙ ap counted (sym (other_rev ops d.number op apart));
     }

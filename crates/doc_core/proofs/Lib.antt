@@ -1,4 +1,3 @@
-pub mod DraftLemmas
 pub mod EndedLemmas
 pub mod FittingLemmas
 pub mod LimitLemmas

@@ -1,25 +1,23 @@
 -- What a draft of a document stands for.
 use Rattle.std.specs.Prelude.{◌≡◌, ℕ, List, [], ◌∷◌, ◌++◌}
-use Rattle.op_model.specs.declared.marking.Marking.{Marking}
 use Rattle.op_model.specs.declared.op.Op.{Op}
-use Rattle.op_model.specs.Marks.{markings}
 use Rattle.op_model.specs.Placing.{Fits}
 use Rattle.op_model.specs.Text.{rev}
-use Rattle.char_sequence.specs.declared.cell.Cell.{Cell}
-use Rattle.char_sequence.specs.Content.{AreContent}
+use Rattle.char_sequence.specs.Woven.{Woven, IsWovenOf}
+use Rattle.mark_anchors.specs.Gathered.{Gathered, AreGathered}
 use Rattle.doc_core.specs.Standing.{counted}
 
--- a draft as contracts see it: its number, its characters, its mark operations as they came, and how many operations it counts
+-- a draft as contracts see it: its number, its characters, its mark operations, and how many operations it counts
 pub record Drafted : Type 0 where
   pub number : ℕ
-  pub characters : List Cell
-  pub markings : List Marking
+  pub characters : Woven
+  pub marks : Gathered
   pub rev : ℕ
 
 -- the draft is what these operations make of its document
 pub record IsDraftOf (d : Drafted) (ops : List Op) : Type 0 where
-  pub characters : AreContent d.characters ops d.number
-  pub markings : d.markings ≡ markings ops d.number
+  pub characters : IsWovenOf d.characters ops d.number
+  pub marks : AreGathered d.marks ops d.number
   pub rev : d.rev ≡ counted (rev ops d.number)
 
 -- From the draft of any operations that this one fits, the call leads to the draft of them and it.

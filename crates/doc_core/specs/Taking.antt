@@ -1,12 +1,11 @@
 -- Used by private functions and proofs alone: what a call makes of the characters and the marks of a document.
-use Rattle.std.specs.Prelude.{◌≡◌, ℕ, List, [], ◌∷◌, ◌++◌}
+use Rattle.std.specs.Prelude.{ℕ, List, [], ◌∷◌, ◌++◌}
 use Rattle.op_model.specs.declared.op.Op.{Op}
-use Rattle.op_model.specs.declared.marking.Marking.{Marking}
-use Rattle.op_model.specs.Marks.{markings}
 use Rattle.op_model.specs.Placing.{Fits}
-use Rattle.char_sequence.specs.declared.cell.Cell.{Cell}
 use Rattle.char_sequence.specs.Chunks.{Held}
-use Rattle.char_sequence.specs.Content.{AreContent, Holds, FitAfter}
+use Rattle.char_sequence.specs.Content.{Holds, FitAfter}
+use Rattle.char_sequence.specs.Woven.{Woven, IsWovenOf}
+use Rattle.mark_anchors.specs.Gathered.{Gathered, AreGathered}
 use Rattle.mark_anchors.specs.Keeping.{Kept, AreMarksOf}
 
 -- characters and marks are those of any operations that this one fits, and then of these and it
@@ -20,6 +19,6 @@ TakesAllIn edit old new marks kept = (ops : List Op) (doc : ℕ) → Holds old o
     → FitAfter ops doc edit → Holds new (ops ++ edit) doc × AreMarksOf kept (ops ++ edit) doc
 
 -- a draft's characters and marks are those of any operations that this one fits, and then of these and it
-abbrev pub TakesWoven : Op → List Cell → List Cell → List Marking → List Marking → Type 0
-TakesWoven op old new marks kept = (ops : List Op) (doc : ℕ) → AreContent old ops doc → marks ≡ markings ops doc → Fits ops doc op
-    → AreContent new (ops ++ op ∷ []) doc × (kept ≡ markings (ops ++ op ∷ []) doc)
+abbrev pub TakesWoven : Op → Woven → Woven → Gathered → Gathered → Type 0
+TakesWoven op old new marks kept = (ops : List Op) (doc : ℕ) → IsWovenOf old ops doc → AreGathered marks ops doc → Fits ops doc op
+    → IsWovenOf new (ops ++ op ∷ []) doc × AreGathered kept (ops ++ op ∷ []) doc

@@ -1,17 +1,15 @@
-ghost use Rattle.std.specs.Prelude.{◌≡◌, ◌↔◌, ℕ, List, [], ◌∷◌, ◌++◌, false, IfOk, OnOk, OnErr, IsErrOf};
-ghost use Rattle.char_sequence.specs.Content.{is_there, AreContent};
+ghost use Rattle.std.specs.Prelude.{◌≡◌, ◌↔◌, ℕ, List, [], false, IfOk, OnOk, OnErr, IsErrOf};
+ghost use Rattle.char_sequence.specs.Woven.{IsWovenOf};
 ghost use Rattle.doc_core.specs.Drafting.{IsDraftOf, TakesDraft};
 ghost use Rattle.doc_core.specs.Standing.{are_there, StandsFor};
 ghost use Rattle.doc_core.specs.Taking.{TakesWoven};
 ghost use Rattle.op_model.specs.declared.op.Op.{Op};
-ghost use Rattle.op_model.specs.Causality.{named_by, named_by_start, named_by_end};
-ghost use Rattle.op_model.specs.Marks.{markings as markings_of};
+ghost use Rattle.op_model.specs.Causality.{named_by};
 
 use crate::doc::Doc;
 use char_sequence::{SequenceError, Weave};
-use mark_anchors::Anchors;
-use op_ids::OpId;
-use op_model::{Body, End, Marking, Op, Start};
+use mark_anchors::Gathering;
+use op_model::{Body, Op};
 use std::alloc::{AllocError, Global};
 use std::marker::Model;
 
@@ -22,8 +20,7 @@ pub struct Draft {
     /// Its number.
     doc: u32,
     weave: Weave,
-    /// Its mark operations, in the order in which they came.
-    markings: Vec<Marking>,
+    gathering: Gathering,
     /// How many operations it has; 2^64 - 1 stands for more too.
     rev: u64,
 }
@@ -36,7 +33,7 @@ impl Model for Draft {
     ghost view = { λ d. record {
       number = d.doc;
       characters = d.weave;
-      markings = d.markings.items;
+      marks = d.gathering;
       rev = d.rev;
     } };
 }
@@ -50,7 +47,7 @@ impl Draft {
         Ok(Draft {
             doc,
             weave: Weave::new(alloc)?,
-            markings: Vec::new(alloc),
+            gathering: Gathering::new(alloc),
             rev: 0,
         })
     }
@@ -74,7 +71,7 @@ impl Draft {
         ensures number { self.new.number ≡ self.old.number }
         ensures err { OnErr result (self.new ≡ self.old) }
     {
-        take(&mut self.weave, &mut self.markings, op)?;
+        take(&mut self.weave, &mut self.gathering, op)?;
         self.rev = self.rev.saturating_add(1);
         Ok(())
     }
@@ -89,7 +86,7 @@ impl Draft {
         let mut sequence = self.weave.sequence(alloc)?;
         drop(self.weave);
         sequence.note_all();
-        let anchors = Anchors::from_markings(self.markings, &sequence)?;
+        let anchors = self.gathering.anchors(&sequence)?;
         Ok(Doc {
             doc: self.doc,
             sequence,
@@ -100,55 +97,19 @@ impl Draft {
 }
 
 /// Takes what an operation does to the characters and to the marks.
-fn take(weave: &mut Weave, markings: &mut Vec<Marking>, op: &Op) -> Result<(), SequenceError>
+fn take(weave: &mut Weave, gathering: &mut Gathering, op: &Op) -> Result<(), SequenceError>
     ensures taken { OnOk result
-        (TakesWoven op.now weave.old weave.new markings.old.items markings.new.items) }
-    ensures unknown { (ops : List Op) (doc : ℕ) → AreContent weave.old ops doc
+        (TakesWoven op.now weave.old weave.new gathering.old gathering.new) }
+    ensures unknown { (ops : List Op) (doc : ℕ) → IsWovenOf weave.old ops doc
         → (IsErrOf result SequenceError.UnknownId
         ↔ (are_there ops doc (named_by op.now.body) ≡ false)) }
     ensures characters { OnErr result (weave.new ≡ weave.old) }
-    ensures marks { OnErr result (markings.new.items ≡ markings.old.items) }
+    ensures marks { OnErr result (gathering.new ≡ gathering.old) }
 {
     match &op.body {
         Body::Insert { origin, value } => weave.insert(op.id, *origin, *value),
         Body::Remove { target } => weave.remove(*target),
-        Body::AddMark { start, end, .. } => keep(weave, markings, op, start, end),
-        Body::RemoveMark { start, end, .. } => keep(weave, markings, op, start, end),
-    }
-}
-
-/// Keeps a mark operation between these ends, if the characters that they name are there.
-fn keep(
-    weave: &Weave,
-    markings: &mut Vec<Marking>,
-    op: &Op,
-    start: &Start,
-    end: &End,
-) -> Result<(), SequenceError>
-    ensures taken { OnOk result
-        (markings.new.items ≡ markings.old.items ++ markings_of (op.now ∷ []) op.now.doc) }
-    ensures unknown { (ops : List Op) (doc : ℕ) → AreContent weave.now ops doc
-        → (IsErrOf result SequenceError.UnknownId
-        ↔ (are_there ops doc (named_by_start start.now ++ named_by_end end.now) ≡ false)) }
-    ensures err { OnErr result (markings.new.items ≡ markings.old.items) }
-{
-    if !has(weave, start.character()) || !has(weave, end.character()) {
-        return Err(SequenceError::UnknownId);
-    }
-    match op.marking()? {
-        Some(marking) => markings.push(marking).map_err(AllocError::from)?,
-        None => {}
-    }
-    Ok(())
-}
-
-/// Whether a character is there, if one is named.
-fn has(weave: &Weave, id: Option<OpId>) -> bool
-    ensures { (ops : List Op) (doc : ℕ) → AreContent weave.now ops doc
-        → result ≡ is_there ops doc id }
-{
-    match id {
-        None => true,
-        Some(id) => weave.has(id),
+        Body::AddMark { .. } => gathering.apply_mark(op, weave),
+        Body::RemoveMark { .. } => gathering.apply_mark(op, weave),
     }
 }

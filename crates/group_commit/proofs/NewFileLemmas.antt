@@ -1,8 +1,10 @@
 -- The file of a new store has an empty root.
-use Rattle.std.proofs.Common.{◌≡◌, ◌≢◌, ℕ, zero, suc, ◌+◌, true, false, List, [], ◌∷◌, ◌++◌, length, take, drop, refl, sym, ap, ◌∙◌, arith, length-append, Ok}
-use Rattle.std.specs.Prelude.{replicate}
+use Rattle.std.proofs.Common.{◌≡◌, ◌≢◌, ℕ, zero, suc, ◌+◌, true, false, List, [], ◌∷◌, ◌++◌, length, take, drop, refl, sym, ap, ◌∙◌}
+use Rattle.std.proofs.Common.{arith, length-append, Result, Ok, Err}
+use Rattle.std.specs.Prelude.{replicate, OnOk}
 use Rattle.std.proofs.lemmas.List.{take_all, drop_all, take_at, drop_at, append-nil, take-replicate}
 use Rattle.disk_trait.specs.File.{overwritten}
+use Rattle.disk_trait.specs.declared.facts.DiskFacts.{Ghosts}
 use Rattle.page_file.specs.Pages.{pages, are_pages, is_zero, joined}
 use Rattle.root_slots.specs.Body.{root_of}
 use Rattle.root_slots.specs.Root.{is_root, tables_of, data_count, stream_length_of}
@@ -10,7 +12,7 @@ use Rattle.root_slots.specs.Slots.{first_byte, gate, body}
 use Rattle.group_commit.specs.Saved.{Saved}
 use Rattle.group_commit.specs.Image.{stream_in, tables_in, data_pages_in, entries}
 use Rattle.group_commit.specs.Commit.{Stands}
-use Rattle.group_commit.specs.NewFile.{slot_page, new_file}
+use Rattle.group_commit.specs.NewFile.{slot_page, new_file, Counts, IsMade}
 use Rattle.group_commit.specs.declared.phase.Phase.TheVariants.{Idle}
 use Rattle.group_commit.proofs.Roots.{stream_there}
 
@@ -70,3 +72,9 @@ stands_new root next version replica valid size no_stream no_pages says =
         let zero_there : gate 1 (new_file bytes) ≡ 0 =
         ap (λ f. first_byte (take 1 f)) (drop_at (slot_page 1 bytes) (replicate 4096 0) 4096 slot) ∙ ap first_byte (take-replicate {X = ℕ} 1 4096 0 (omega arith)) in
         omega (arith, is, zero_there)
+
+-- the file is made where the calls that make it went well
+pub made_by : {D T E : Type 0} (facts : Ghosts D) (result : Result T E) (file : List ℕ) (writes syncs : ℕ) (old new : D) → OnOk result (facts.content new ≡ file)
+    → OnOk result (Counts facts 0 writes syncs old new) → OnOk result (IsMade facts file writes syncs old new)
+made_by facts (Ok x) file writes syncs old new made counts = record { made = made; counts = counts }
+made_by facts (Err e) file writes syncs old new made counts = tt

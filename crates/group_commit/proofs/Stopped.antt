@@ -1,10 +1,10 @@
 -- Where the making of a file stopped, and what is left.
 use Rattle.std.proofs.Common.{◌≡◌, ◌⊎◌, ℕ, ◌+◌, true, false, List, [], ◌∷◌, ◌++◌, length, take, drop, refl, sym, ap, ◌∙◌, inl, inr, arith, Result, Ok, Err}
-use Rattle.std.specs.Prelude.{replicate, OnErr}
+use Rattle.std.specs.Prelude.{replicate, OnOk, OnErr}
 use Rattle.std.proofs.lemmas.List.{take_all}
 use Rattle.disk_trait.specs.Calls.{IsOneCall, Keeps}
 use Rattle.disk_trait.specs.File.{overwritten}
-use Rattle.disk_trait.specs.Writing.{Writes}
+use Rattle.disk_trait.specs.Writing.{Writes, failures_in}
 use Rattle.disk_trait.specs.declared.facts.DiskFacts.{Ghosts}
 use Rattle.root_slots.specs.Body.{root_of}
 use Rattle.root_slots.specs.Slots.{gate}
@@ -87,6 +87,12 @@ module _ {D : Type 0} (facts : Ghosts D) where
     put.torn.reads.before ∙ ap (take 4096) (is_one ∙ ap (λ f. overwritten f 0 first) empty ∙ put_at_end [] 0 first refl)
         ∙ take_all 4096 first (omega (arith, size)),
   )
+
+  -- two writes, if the second one went well too
+  pub second_counts : {E : Type 0} (result : Result Unit E) (old mid new : D) → IsOneCall facts 0 1 0 old mid → IsOneCall facts (failures_in result) 1 0 mid new
+      → OnOk result (Counts facts 0 2 0 old new)
+  second_counts (Ok x) old mid new one two = counts_then 0 1 0 0 1 0 old mid new (counts_of 0 1 0 old mid one) (counts_of 0 1 0 mid new two)
+  second_counts (Err e) old mid new one two = tt
 
   -- of a file without bytes, a refusal that the device gave in a write or a sync
   refuses_failed : (replica : ℕ) (cause : InitError) (old new : D) → facts.content old ≡ [] → (cause ≡ WriteFailed) ⊎ (cause ≡ SyncFailed)

@@ -7,6 +7,7 @@ pub mod Held
 pub mod Image
 pub mod Loading
 pub mod NewFile
+pub mod Opening
 pub mod Paging
 pub mod Plan
 pub mod Saved

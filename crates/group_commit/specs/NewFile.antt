@@ -1,9 +1,15 @@
 -- The file of a new store.
-use Rattle.std.specs.Prelude.{◌≡◌, ◌≢◌, ◌⊎◌, ◌≤◌, ℕ, ◌+◌, Bool, true, false, List, [], ◌∷◌, ◌++◌, take, drop, replicate}
+use Rattle.std.specs.Prelude.{◌≡◌, ◌≢◌, ◌⊎◌, ◌↔◌, ◌≤◌, ℕ, ◌+◌, Bool, true, false, List, [], ◌∷◌, ◌++◌, take, drop, replicate}
 use Rattle.disk_trait.specs.Calls.{Keeps}
 use Rattle.disk_trait.specs.declared.facts.DiskFacts.{Ghosts}
+use Rattle.page_file.specs.Index.{Index}
 use Rattle.root_slots.specs.Body.{Root, root_of}
+use Rattle.root_slots.specs.Root.{is_root, stream_length_of}
 use Rattle.root_slots.specs.Slots.{gate}
+use Rattle.group_commit.specs.Saved.{Paged}
+use Rattle.group_commit.specs.Commit.{IsLeft}
+use Rattle.group_commit.specs.Held.{Held}
+use Rattle.group_commit.specs.declared.phase.Phase.TheVariants.{Idle}
 use Rattle.group_commit.specs.declared.init_fault.InitError.{InitError}
 use Rattle.group_commit.specs.declared.init_fault.InitError.TheVariants.{Memory, NotEmpty, ReadFailed, WriteFailed, SyncFailed}
 
@@ -44,6 +50,49 @@ pub record Counts {D : Type 0} (facts : Ghosts D) (more_failures more_writes mor
   pub failures : facts.failures new ≡ facts.failures old + more_failures
   pub writes : facts.writes new ≡ facts.writes old + more_writes
   pub syncs : facts.syncs new ≡ facts.syncs old + more_syncs
+
+-- so many writes and syncs made this file, and no call failed
+pub record IsMade {D : Type 0} (facts : Ghosts D) (file : List ℕ) (writes syncs : ℕ) (old new : D) : Type 0 where
+  pub made : facts.content new ≡ file
+  pub counts : Counts facts 0 writes syncs old new
+
+-- the roots of a new store: its first one, an empty one in the place of a commit's, and an index of no pages
+pub record AreFirst (replica : ℕ) (current next : Paged) (index : Index) : Type 0 where
+  -- the first one says version 1, this replica and no operation
+  pub root : root_of current.body ≡ first_root replica
+  -- by the rules of a root body
+  pub valid : is_root current.body ≡ true
+  -- it reaches no page
+  pub no_pages : current.pages ≡ []
+  -- the other one has no stream
+  pub other : stream_length_of next.body ≡ 0
+  -- no page is live, and none is taken
+  pub no_tables : index.tables ≡ []
+  pub no_data_pages : index.data_pages ≡ []
+  pub none_taken : index.taken ≡ []
+
+-- What a new store is, over the disk whose file it made.
+pub record IsNew {D : Type 0} (facts : Ghosts D) (replica : ℕ) (disk : D) (store : Held D) : Type 0 where
+  -- its root says version 1, this replica and no operation
+  pub root : root_of store.current.body ≡ first_root replica
+  -- and has no stream
+  pub empty : store.current.stream ≡ []
+  -- no commit is under way
+  pub idle : store.phase ≡ Idle
+  -- no device call has failed
+  pub works : store.failed ≡ false
+  -- the second slot is closed
+  pub closed : store.stale_open ≡ false
+  -- the first one is live
+  pub slot : store.slot ≡ 0
+  -- it is made of a file without bytes alone
+  pub taken : facts.tells disk → facts.content disk ≡ []
+  -- by three writes and two syncs, byte for byte
+  pub made : facts.tells disk → IsMade facts (new_file store.current.body) 3 2 disk store.disk
+  -- a crash leaves a file that has that root
+  pub left : facts.tells disk → (c : List ℕ) → facts.survives store.disk c → IsLeft store.phase store.current store.next c
+  -- the disk tells as before
+  pub tells : facts.tells store.disk ↔ facts.tells disk
 
 -- A file is made by two writes of slots, a sync, the write of a gate, and a sync. So many writes and syncs there are up to the one
 -- that failed with this refusal.

@@ -1,6 +1,6 @@
 -- How the pages of a store's file go with its roots.
-use Rattle.std.specs.Prelude.{◌≡◌, ◌≢◌, ℕ, ◌+◌, ◌/◌, ◌≤◌, Bool, false, List, [], ◌++◌, length, take, drop}
-use Rattle.page_file.specs.Index.{Index}
+use Rattle.std.specs.Prelude.{◌≡◌, ◌≢◌, ℕ, ◌+◌, ◌/◌, ◌<◌, ◌≤◌, Bool, true, false, List, [], ◌++◌, length, take, drop, Result, OnOk}
+use Rattle.page_file.specs.Index.{Index, is_free, with_taken}
 use Rattle.root_slots.specs.Root.{tables_of}
 use Rattle.group_commit.specs.Saved.{Paged}
 use Rattle.group_commit.specs.declared.phase.Phase.{Phase}
@@ -34,3 +34,14 @@ pub record IsPaging (phase : Phase) (failed : Bool) (numbers : List ℕ) (kept n
   pub taken : failed ≡ false → index.taken ≡ taken_in phase numbers
   pub room : failed ≡ false → (k : ℕ) → phase ≡ Pages k → length numbers ≤ k + index.room
   pub renews : phase ≢ Idle → IsRenewed kept new_data numbers index next
+
+-- a page is free, and there is room to take it
+pub record CanTake (number : ℕ) (index : Index) : Type 0 where
+  pub free : is_free number index ≡ true
+  pub room : 0 < index.room
+
+-- a page was taken, unless it was refused, and the live pages stay
+pub record TakesPage {T E : Type 0} (result : Result T E) (number : ℕ) (old new : Index) : Type 0 where
+  pub taken : OnOk result (new ≡ with_taken number old)
+  pub tables : new.tables ≡ old.tables
+  pub data_pages : new.data_pages ≡ old.data_pages

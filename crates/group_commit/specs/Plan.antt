@@ -1,9 +1,12 @@
 -- What a commit is about to write.
-use Rattle.std.specs.Prelude.{◌≡◌, ℕ, ◌+◌, ◌-◌, ◌*◌, ◌/◌, if◌then◌else◌, List, ◌++◌, length, take, replicate}
-use Rattle.page_file.specs.Pages.{is_zero}
-use Rattle.root_slots.specs.Root.{version_of, replica_of, count_of, tables_of, pages_for}
+use Rattle.std.specs.Prelude.{◌≡◌, ℕ, ◌+◌, ◌-◌, ◌*◌, ◌/◌, ◌<◌, ◌≤◌, true, false, if◌then◌else◌}
+use Rattle.std.specs.Prelude.{List, [], ◌++◌, length, take, replicate}
+use Rattle.page_file.specs.Index.{Index}
+use Rattle.page_file.specs.Pages.{is_zero, are_pages}
+use Rattle.root_slots.specs.Root.{version_of, replica_of, count_of, stream_length_of, tables_of, pages_for}
 use Rattle.group_commit.specs.Changes.{data_of, changed_data, changed_tables, changed_pages}
-use Rattle.group_commit.specs.Saved.{Saved, HasDataPages}
+use Rattle.group_commit.specs.Paging.{IsIndexOf}
+use Rattle.group_commit.specs.Saved.{Saved, Paged, HasDataPages}
 use Rattle.group_commit.specs.Held.{IsPlan}
 use Rattle.group_commit.specs.declared.phase.Phase.TheVariants.{Pages}
 
@@ -48,3 +51,21 @@ pub record IsGrown (body : List ℕ) (more : ℕ) (data_pages tables : List ℕ)
 -- with zeros behind, up to a size
 abbrev pub filled : ℕ → List ℕ → List ℕ
 filled size bytes = bytes ++ replicate (size - length bytes) 0
+
+-- Records of so many operations may come behind the live root's stream: its pages are in memory and none is taken for a commit, and
+-- there is a further version, and room.
+pub record TakesRecords (current : Paged) (index : Index) (stream records : List ℕ) (more : ℕ) : Type 0 where
+  pub is_index : IsIndexOf current index
+  pub none_taken : index.taken ≡ []
+  pub long : length stream ≡ stream_length_of current.body
+  pub some : is_zero records ≡ false
+  pub room : length stream + length records ≤ 1073741824
+  pub version : version_of current.body < 18446744073709551615
+  pub count : count_of current.body + more ≤ 16777216
+
+-- a stream of so many bytes takes so many data pages and table pages, and none of them is there twice
+pub record HasPagesFor (long : ℕ) (tables data_pages : List ℕ) : Type 0 where
+  pub most : long ≤ 1073741824
+  pub data_count : length data_pages ≡ pages_for 4096 long
+  pub table_count : length tables ≡ pages_for 1024 (length data_pages)
+  pub apart : are_pages (tables ++ data_pages) ≡ true

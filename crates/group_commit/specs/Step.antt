@@ -1,13 +1,14 @@
 -- What a step of a commit does to the disk below the store.
-use Rattle.std.specs.Prelude.{◌≡◌, ◌⊎◌, ◌↔◌, ◌<◌, ℕ, ◌+◌, ◌-◌, ◌*◌, List, [], ◌∷◌, length, get_or, Result, IfErr, OnOk, OnErr}
+use Rattle.std.specs.Prelude.{◌≡◌, ◌≢◌, ◌⊎◌, ◌↔◌, ◌<◌, ℕ, ◌+◌, ◌-◌, ◌*◌, true, false, List, [], ◌∷◌, length, get_or}
+use Rattle.std.specs.Prelude.{Result, Ok, Err, IfOk, IfErr, OnOk, OnErr}
 use Rattle.disk_trait.specs.Calls.{IsOneCall, LeavesOnly, Settles, Keeps}
 pub use Rattle.disk_trait.specs.Writing.{failures_in, Writes}
 use Rattle.disk_trait.specs.declared.facts.DiskFacts.{Ghosts}
 use Rattle.root_slots.specs.Slots.{gate}
 use Rattle.group_commit.specs.Commit.{IsLeft}
-use Rattle.group_commit.specs.Held.{Held}
+use Rattle.group_commit.specs.Held.{Held, gone_on, has_failed}
 use Rattle.group_commit.specs.declared.error.StoreError.{StoreError}
-use Rattle.group_commit.specs.declared.error.StoreError.TheVariants.{WriteFailed, SyncFailed}
+use Rattle.group_commit.specs.declared.error.StoreError.TheVariants.{Failed, WriteFailed, SyncFailed}
 use Rattle.group_commit.specs.declared.phase.Phase.{Phase}
 use Rattle.group_commit.specs.declared.phase.Phase.TheVariants.{Idle, Pages, Close, Sync1, Body, Sync2, Gate, Sync3}
 
@@ -84,3 +85,34 @@ syncs_in phase = (call_in phase).syncs
 
 abbrev pub error_in : Phase → StoreError
 error_in phase = (call_in phase).error
+
+-- The device call of this phase was made, and the commit goes on behind it, or else the store has failed.
+pub record MakesCall {D : Type 0} (facts : Ghosts D) (phase : Phase) (result : Result Phase StoreError) (old new : Held D) : Type 0 where
+  -- the answer names the phase whose call it was
+  pub made : IfOk result (λ made. made ≡ old.phase)
+  -- the next phase is due
+  pub went_on : OnOk result (new ≡ gone_on old.phase old new.disk)
+  -- or none any more
+  pub failed : OnErr result (new ≡ has_failed old new.disk)
+  -- it is one device call, and a crash leaves what one before it or behind it does
+  pub call : IsDeviceCall {T = Phase} facts (writes_in phase) (syncs_in phase) (error_in phase) result old new
+  -- it writes in the range of this phase alone
+  pub does : facts.tells old.disk → Does {T = Phase} facts result phase old new.disk
+
+-- One step of a store: none behind a failure, none at rest, else the device call of its phase, behind which it goes on or has failed.
+pub record IsStoreStep {D : Type 0} (facts : Ghosts D) (old : Held D) (result : Result Phase StoreError) (new : Held D) : Type 0 where
+  -- behind a failure it is refused with 44
+  pub stopped : old.failed ≡ true → (result ≡ Err Failed) × (new ≡ old)
+  -- at rest there is nothing to do
+  pub idle : old.failed ≡ false → old.phase ≡ Idle → (result ≡ Ok Idle) × (new ≡ old)
+  -- the answer names the phase whose call it was
+  pub made : IfOk result (λ phase. phase ≡ old.phase)
+  -- else it is one device call, and a crash leaves what one before it or behind it does
+  pub call : old.failed ≡ false → old.phase ≢ Idle
+      → IsDeviceCall {T = Phase} facts (writes_in old.phase) (syncs_in old.phase) (error_in old.phase) result old new
+  -- it writes in the range of its phase alone, and 0 into the stale gate only where that reads 1
+  pub does : old.failed ≡ false → facts.tells old.disk → Does {T = Phase} facts result old.phase old new.disk
+  -- the next phase is due
+  pub went_on : old.failed ≡ false → OnOk result (new ≡ gone_on old.phase old new.disk)
+  -- or none any more
+  pub failed : old.failed ≡ false → OnErr result (new ≡ has_failed old new.disk)

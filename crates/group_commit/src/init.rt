@@ -1,17 +1,15 @@
 //! The making of a new file.
-ghost use Rattle.std.specs.Prelude.{◌≡◌, ◌≤◌, ◌++◌, [], ◌∷◌, ◌↔◌, ℕ, List, true, false};
-ghost use Rattle.std.specs.Prelude.{length, replicate, IfOk, IfErr, OnOk, OnErr};
+ghost use Rattle.std.specs.Prelude.{◌≡◌, ◌≤◌, ◌++◌, [], ◌∷◌, ◌↔◌, ℕ, List, length};
+ghost use Rattle.std.specs.Prelude.{IfOk, IfErr, OnOk, OnErr};
+ghost use Rattle.disk_trait.specs.Writing.{failures_in};
+ghost use Rattle.page_file.specs.DiskCalls.{IsWrite};
 ghost use Rattle.disk_trait.specs.Calls.{IsOneCall, Keeps, Settles};
 ghost use Rattle.disk_trait.specs.File.{overwritten};
-ghost use Rattle.disk_trait.specs.Writing.{Writes, failures_in};
 ghost use Rattle.root_slots.specs.Body.{root_of};
-ghost use Rattle.root_slots.specs.Root.{is_root, stream_length_of};
-ghost use Rattle.group_commit.specs.Commit.{IsLeft};
 ghost use Rattle.group_commit.specs.NewFile.{slot_page, new_file, first_root, Counts, Refuses};
-ghost use Rattle.group_commit.specs.NewFile.{PutsPartly, OpensPartly};
+ghost use Rattle.group_commit.specs.NewFile.{IsMade, AreFirst, IsNew, PutsPartly, OpensPartly};
 ghost use Rattle.group_commit.specs.declared.init_fault.InitError.TheVariants.{WriteFailed};
 ghost use Rattle.group_commit.specs.declared.init_fault.InitError.TheVariants.{SyncFailed};
-ghost use Rattle.group_commit.specs.declared.phase.Phase.TheVariants.{Idle};
 
 use crate::init_fault::{InitError, InitFault};
 use crate::phase::Phase;
@@ -60,9 +58,7 @@ fn check_empty<D: Disk>(disk: &mut D) -> Result<(), InitError>
 // (51).
 fn put<D: Disk>(disk: &mut D, at: u64, bytes: &[u8]) -> Result<(), InitError>
     requires inside { D.tells disk.old → at ≤ length (D.content disk.old) }
-    ensures writes { D.tells disk.old
-        → Writes D.DiskFacts result at bytes.now disk.old disk.new }
-    ensures tells { D.tells disk.new ↔ D.tells disk.old }
+    ensures writes { IsWrite D.DiskFacts result at bytes.now disk.old disk.new }
     ensures refused { IfErr result (λ e. e ≡ WriteFailed) }
 {
     match write_inside(disk, at, bytes) {
@@ -90,9 +86,8 @@ fn settle<D: Disk>(disk: &mut D) -> Result<(), InitError>
 fn put_slots<D: Disk>(disk: &mut D, first: &[u8], second: &[u8]) -> Result<(), InitError>
     requires empty { D.tells disk.old → D.content disk.old ≡ [] }
     requires size { length first.now ≡ 4096 }
-    ensures written { D.tells disk.old
-        → OnOk result (D.content disk.new ≡ first.now ++ second.now) }
-    ensures counts { D.tells disk.old → OnOk result (Counts D.DiskFacts 0 2 0 disk.old disk.new) }
+    ensures made { D.tells disk.old
+        → OnOk result (IsMade D.DiskFacts (first.now ++ second.now) 2 0 disk.old disk.new) }
     ensures partly { D.tells disk.old
         → OnErr result (PutsPartly D.DiskFacts first.now disk.old disk.new) }
     ensures refused { IfErr result (λ e. e ≡ WriteFailed) }
@@ -122,10 +117,10 @@ fn open_first<D: Disk>(disk: &mut D) -> Result<(), InitError>
 fn make_file<D: Disk>(alloc: Global, disk: &mut D, body: &[u8]) -> Result<(), InitError>
     requires empty { D.tells disk.old → D.content disk.old ≡ [] }
     requires size { length body.now ≡ 4088 }
-    ensures written { D.tells disk.old → OnOk result (D.content disk.new ≡ new_file body.now) }
+    ensures made { D.tells disk.old
+        → OnOk result (IsMade D.DiskFacts (new_file body.now) 3 2 disk.old disk.new) }
     ensures only { D.tells disk.old → OnOk result
         ((c : List ℕ) → D.survives disk.new c → c ≡ D.content disk.new) }
-    ensures counts { D.tells disk.old → OnOk result (Counts D.DiskFacts 0 3 2 disk.old disk.new) }
     ensures refused { D.tells disk.old → IfErr result
         (λ e. (replica : ℕ) → root_of body.now ≡ first_root replica
         → Refuses D.DiskFacts replica e disk.old disk.new) }
@@ -139,11 +134,7 @@ fn make_file<D: Disk>(alloc: Global, disk: &mut D, body: &[u8]) -> Result<(), In
 // The two roots of a new store: the live one, and one in the place of a commit's. An error is want
 // of memory (1).
 fn empty_roots(alloc: Global, replica: ReplicaId) -> Result<(Root, Root, Pages), AllocError>
-    ensures root { IfOk result (λ roots. root_of roots.0.body ≡ first_root replica) }
-    ensures empty { IfOk result (λ roots. (roots.0.pages ≡ [])
-        × (is_root roots.0.body ≡ true) × (stream_length_of roots.1.body ≡ 0)) }
-    ensures index { IfOk result (λ roots. (roots.2.tables ≡ []) × (roots.2.data_pages ≡ [])
-        × (roots.2.taken ≡ [])) }
+    ensures roots { IfOk result (λ roots. AreFirst replica roots.0 roots.1 roots.2) }
 {
     let current = Root::empty(alloc, replica)?;
     let next = Root::empty(alloc, replica)?;
@@ -158,16 +149,11 @@ fn format<D: Disk>(
     replica: ReplicaId,
 ) -> Result<(Root, Root, Pages), InitError>
     requires empty { D.tells disk.old → D.content disk.old ≡ [] }
-    ensures root { IfOk result (λ roots. root_of roots.0.body ≡ first_root replica) }
-    ensures empty { IfOk result (λ roots. (roots.0.pages ≡ [])
-        × (is_root roots.0.body ≡ true) × (stream_length_of roots.1.body ≡ 0)) }
-    ensures index { IfOk result (λ roots. (roots.2.tables ≡ []) × (roots.2.data_pages ≡ [])
-        × (roots.2.taken ≡ [])) }
+    ensures roots { IfOk result (λ roots. AreFirst replica roots.0 roots.1 roots.2) }
     ensures made { D.tells disk.old → IfOk result
-        (λ roots. D.content disk.new ≡ new_file roots.0.body) }
+        (λ roots. IsMade D.DiskFacts (new_file roots.0.body) 3 2 disk.old disk.new) }
     ensures left { D.tells disk.old → IfOk result
         (λ roots. (c : List ℕ) → D.survives disk.new c → c ≡ new_file roots.0.body) }
-    ensures counts { D.tells disk.old → OnOk result (Counts D.DiskFacts 0 3 2 disk.old disk.new) }
     ensures refused { D.tells disk.old → IfErr result
         (λ e. Refuses D.DiskFacts replica e disk.old disk.new) }
     ensures tells { D.tells disk.new ↔ D.tells disk.old }
@@ -185,19 +171,14 @@ fn begin_file<D: Disk>(
     disk: &mut D,
     replica: ReplicaId,
 ) -> Result<(Root, Root, Pages), InitError>
-    ensures root { IfOk result (λ roots. root_of roots.0.body ≡ first_root replica) }
-    ensures empty { IfOk result (λ roots. (roots.0.pages ≡ [])
-        × (is_root roots.0.body ≡ true) × (stream_length_of roots.1.body ≡ 0)) }
-    ensures index { IfOk result (λ roots. (roots.2.tables ≡ []) × (roots.2.data_pages ≡ [])
-        × (roots.2.taken ≡ [])) }
+    ensures roots { IfOk result (λ roots. AreFirst replica roots.0 roots.1 roots.2) }
     ensures taken { D.tells disk.old → OnOk result (D.content disk.old ≡ []) }
     ensures refused { D.tells disk.old → IfErr result
         (λ e. Refuses D.DiskFacts replica e disk.old disk.new) }
     ensures made { D.tells disk.old → IfOk result
-        (λ roots. D.content disk.new ≡ new_file roots.0.body) }
+        (λ roots. IsMade D.DiskFacts (new_file roots.0.body) 3 2 disk.old disk.new) }
     ensures left { D.tells disk.old → IfOk result
         (λ roots. (c : List ℕ) → D.survives disk.new c → c ≡ new_file roots.0.body) }
-    ensures counts { D.tells disk.old → OnOk result (Counts D.DiskFacts 0 3 2 disk.old disk.new) }
     ensures tells { D.tells disk.new ↔ D.tells disk.old }
 {
     check_empty(disk)?;
@@ -214,22 +195,10 @@ impl<D: Disk> Store<D> {
     /// to the first sync; the gate is written behind that, and then the slots are whole but for
     /// the gate.
     pub fn init(alloc: Global, disk: D, replica: ReplicaId) -> Result<Store<D>, InitFault<D>>
-        ensures root { IfOk result (λ store. root_of store.current.body ≡ first_root replica) }
-        ensures empty { IfOk result (λ store. store.current.stream ≡ []) }
-        ensures idle { IfOk result (λ store. (store.phase ≡ Idle) × (store.failed ≡ false)
-            × (store.stale_open ≡ false) × (store.slot ≡ 0)) }
         // It is made of a file without bytes alone; one that has some is left as it was.
-        ensures taken { D.tells disk → OnOk result (D.content disk ≡ []) }
+        ensures made { IfOk result (λ store. IsNew D.DiskFacts replica disk store) }
         ensures refused { D.tells disk → IfErr result
             (λ fault. Refuses D.DiskFacts replica fault.cause disk fault.disk) }
-        ensures made { D.tells disk → IfOk result
-            (λ store. D.content store.disk ≡ new_file store.current.body) }
-        // A crash leaves a file that has that root.
-        ensures left { D.tells disk → IfOk result (λ store. (c : List ℕ)
-            → D.survives store.disk c → IsLeft store.phase store.current store.next c) }
-        ensures counts { D.tells disk
-            → IfOk result (λ store. Counts D.DiskFacts 0 3 2 disk store.disk) }
-        ensures tells { IfOk result (λ store. D.tells store.disk ↔ D.tells disk) }
         ensures tells_refused { IfErr result (λ fault. D.tells fault.disk ↔ D.tells disk) }
     {
         let mut disk = disk;

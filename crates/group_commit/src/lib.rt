@@ -2,7 +2,7 @@
 #![tactic(auto)]
 
 mod begin;
-mod call;
+mod device_calls;
 mod error;
 mod init;
 mod init_fault;
@@ -12,10 +12,10 @@ mod load_ops;
 mod load_pages;
 mod load_stream;
 mod open_fault;
+mod opening_sync;
 mod phase;
 mod plan;
 mod root;
-mod settling;
 mod state;
 mod step;
 mod store;

@@ -1,10 +1,7 @@
 //! The opening of a file.
-ghost use Rattle.std.specs.Prelude.{◌≡◌, ◌↔◌, List, ℕ, false, Ok, IfOk, IfErr};
-ghost use Rattle.disk_trait.specs.Looks.{OnlyLooks};
-ghost use Rattle.root_slots.specs.Slots.{live};
-ghost use Rattle.group_commit.specs.Commit.{Is, IsLeft};
-ghost use Rattle.group_commit.specs.Loading.{IsHistory, IsFirstFault, failures_of};
-ghost use Rattle.group_commit.specs.declared.phase.Phase.TheVariants.{Idle};
+ghost use Rattle.std.specs.Prelude.{IfOk, IfErr};
+ghost use Rattle.group_commit.specs.Loading.{IsFirstFault, failures_of};
+ghost use Rattle.group_commit.specs.Opening.{IsLoaded, IsLookedAt};
 
 use crate::load_image::settle_and_read;
 use crate::open_fault::OpenFault;
@@ -39,26 +36,15 @@ impl<D: Disk> Store<D> {
     /// itself holds its bytes behind the full pages, fewer than 4,096, and the pages' numbers, four
     /// bytes each. These are sorted, to see that none is there twice.
     pub fn load(alloc: Global, mut disk: D) -> Result<Loaded<D>, OpenFault<D>>
-        // The live root of the file, and its operations.
-        ensures root { D.tells disk → IfOk result (λ it. Is it.store.current (D.content disk)) }
-        ensures history { IfOk result (λ it. IsHistory it.store.current it.replica it.ops) }
-        ensures idle { IfOk result (λ it. (it.store.phase ≡ Idle) × (it.store.failed ≡ false)) }
-        ensures slot { D.tells disk → IfOk result
-            (λ it. live (D.content disk) ≡ Ok it.store.slot) }
-        // A crash leaves what reads give, which has that root.
-        ensures settled { D.tells disk → IfOk result
-            (λ it. (c : List ℕ) → D.survives it.store.disk c → c ≡ D.content disk) }
-        ensures left { D.tells disk → IfOk result (λ it. (c : List ℕ) → D.survives it.store.disk c
-            → IsLeft it.store.phase it.store.current it.store.next c) }
+        // The store is of the file's live root, and a crash leaves that file.
+        ensures loaded { IfOk result
+            (λ it. IsLoaded D.DiskFacts disk it.store it.replica it.ops) }
         ensures fault { D.tells disk
             → IfErr result (λ fault. IsFirstFault fault.cause (D.content disk)) }
         // It writes nothing.
-        ensures looks { D.tells disk
-            → IfOk result (λ it. OnlyLooks D.DiskFacts 0 1 disk it.store.disk) }
-        ensures looks_refused { D.tells disk → IfErr result
-            (λ fault. OnlyLooks D.DiskFacts (failures_of fault.cause) 1 disk fault.disk) }
-        ensures tells { IfOk result (λ it. D.tells it.store.disk ↔ D.tells disk) }
-        ensures tells_refused { IfErr result (λ fault. D.tells fault.disk ↔ D.tells disk) }
+        ensures looks { IfOk result (λ it. IsLookedAt D.DiskFacts 0 1 disk it.store.disk) }
+        ensures looks_refused { IfErr result
+            (λ fault. IsLookedAt D.DiskFacts (failures_of fault.cause) 1 disk fault.disk) }
     {
         match settle_and_read(alloc, &mut disk) {
             Ok(image) => {

@@ -1,23 +1,18 @@
 //! What a file stands for, read from its disk.
-ghost use Rattle.std.specs.Prelude.{◌≡◌, ◌≢◌, ◌⊎◌, ◌*◌, ◌<◌, ◌≤◌, ◌↔◌, ◌++◌, [], length, get_or};
-ghost use Rattle.std.specs.Prelude.{List, ℕ, IfOk, IfErr, Ok};
-ghost use Rattle.disk_trait.specs.Looks.{OnlyLooks};
-ghost use Rattle.root_slots.specs.Root.{replica_of, stream_length_of};
-ghost use Rattle.root_slots.specs.Body.{IsRoot, Spells, root_of};
-ghost use Rattle.group_commit.specs.Saved.{IsInMemory, with_stream, in_front};
-ghost use Rattle.group_commit.specs.Image.{stored};
-ghost use Rattle.group_commit.specs.Paging.{IsIndexOf};
-ghost use Rattle.group_commit.specs.Commit.{Stands};
+ghost use Rattle.std.specs.Prelude.{◌≡◌, ◌<◌, ◌++◌, length, get_or, List, ℕ, IfOk, IfErr};
 ghost use Rattle.root_slots.specs.Live.{IsLive};
-ghost use Rattle.group_commit.specs.Loading.{Names, failed_in, IsHistory, IsFirstFault};
-ghost use Rattle.group_commit.specs.declared.phase.Phase.TheVariants.{Idle};
-ghost use Rattle.group_commit.specs.declared.open_fault.OpenError.TheVariants.{Memory};
+ghost use Rattle.root_slots.specs.Root.{stream_length_of};
+ghost use Rattle.root_slots.specs.Body.{IsRoot, Spells, root_of};
+ghost use Rattle.group_commit.specs.Saved.{IsInMemory};
+ghost use Rattle.group_commit.specs.Image.{stored};
+ghost use Rattle.group_commit.specs.Loading.{Names, failed_in, IsFirstFault};
+ghost use Rattle.group_commit.specs.Opening.{IsLookedAt, IsImageOf};
 
 use crate::load_ops::ops_of;
 use crate::load_stream::{Stream, read_stream};
 use crate::open_fault::OpenError;
+use crate::opening_sync::settle_file;
 use crate::root::Root;
-use crate::settling::settle_file;
 use crate::stream_tail::StreamTail;
 use disk_trait::Disk;
 use ghost_lists::Written;
@@ -49,9 +44,7 @@ fn load_roots<D: Disk>(alloc: Global, disk: &mut D) -> Result<LoadedRoots, OpenE
     ensures below { IfOk result (λ it. it.roots.slot < 2) }
     ensures valid { IfOk result (λ it. IsRoot it.root) }
     ensures fault { D.tells disk.old → IfErr result (λ e. Names e (stored (D.content disk.old))) }
-    ensures looks { D.tells disk.old
-        → OnlyLooks D.DiskFacts (failed_in result) 0 disk.old disk.new }
-    ensures tells { D.tells disk.new ↔ D.tells disk.old }
+    ensures looks { IsLookedAt D.DiskFacts (failed_in result) 0 disk.old disk.new }
 {
     match Roots::load(alloc, disk) {
         Ok(found) => Ok(found),
@@ -80,6 +73,7 @@ fn root_pair(
 {
     let replica = head.replica();
     let current = Root::new(alloc, head, data_pages)?;
+    // For the proof, as the comment there says.
     bytes_are_small(current.body());
     Ok((current, Root::empty(alloc, replica)?))
 }
@@ -99,21 +93,9 @@ fn roots_on(alloc: Global, head: RootBody, pages: &Pages) -> Result<(Root, Root)
 
 /// What a file stands for. It refuses as [`Store::load`](crate::Store::load) does.
 pub(crate) fn read_image<D: Disk>(alloc: Global, disk: &mut D) -> Result<Image, OpenError>
-    ensures slot { IfOk result (λ it. it.roots.slot < 2) }
-    ensures stands { D.tells disk.old → IfOk result
-        (λ it. Stands Idle it.roots.slot it.roots.stale_open (with_stream it.current it.stream)
-        (in_front it.next it.stream) (D.content disk.old)) }
-    ensures history { IfOk result (λ it. IsHistory (with_stream it.current it.stream)
-        (replica_of it.current.body) it.ops) }
-    ensures long { IfOk result
-        (λ it. length it.stream ≡ stream_length_of it.current.body) }
-    ensures other { IfOk result (λ it. stream_length_of it.next.body ≡ 0) }
-    ensures index { IfOk result
-        (λ it. (IsIndexOf it.current it.pages) × (it.pages.taken ≡ [])) }
+    ensures read { IfOk result (λ it. IsImageOf D.DiskFacts disk.old it) }
     ensures fault { D.tells disk.old → IfErr result (λ e. IsFirstFault e (D.content disk.old)) }
-    ensures looks { D.tells disk.old
-        → OnlyLooks D.DiskFacts (failed_in result) 0 disk.old disk.new }
-    ensures tells { D.tells disk.new ↔ D.tells disk.old }
+    ensures looks { IsLookedAt D.DiskFacts (failed_in result) 0 disk.old disk.new }
 {
     let LoadedRoots {
         roots,
@@ -137,23 +119,11 @@ pub(crate) fn read_image<D: Disk>(alloc: Global, disk: &mut D) -> Result<Image, 
 /// Settles the disk, and reads what its file stands for. It refuses as
 /// [`Store::load`](crate::Store::load) does.
 pub(crate) fn settle_and_read<D: Disk>(alloc: Global, disk: &mut D) -> Result<Image, OpenError>
-    ensures slot { IfOk result (λ it. it.roots.slot < 2) }
-    ensures stands { D.tells disk.old → IfOk result
-        (λ it. Stands Idle it.roots.slot it.roots.stale_open (with_stream it.current it.stream)
-        (in_front it.next it.stream) (D.content disk.old)) }
-    ensures history { IfOk result (λ it. IsHistory (with_stream it.current it.stream)
-        (replica_of it.current.body) it.ops) }
-    ensures long { IfOk result
-        (λ it. length it.stream ≡ stream_length_of it.current.body) }
-    ensures other { IfOk result (λ it. stream_length_of it.next.body ≡ 0) }
-    ensures index { IfOk result
-        (λ it. (IsIndexOf it.current it.pages) × (it.pages.taken ≡ [])) }
+    ensures read { IfOk result (λ it. IsImageOf D.DiskFacts disk.old it) }
     ensures settled { D.tells disk.old → IfOk result
         (λ it. (c : List ℕ) → D.survives disk.new c → c ≡ D.content disk.old) }
     ensures fault { D.tells disk.old → IfErr result (λ e. IsFirstFault e (D.content disk.old)) }
-    ensures looks { D.tells disk.old
-        → OnlyLooks D.DiskFacts (failed_in result) 1 disk.old disk.new }
-    ensures tells { D.tells disk.new ↔ D.tells disk.old }
+    ensures looks { IsLookedAt D.DiskFacts (failed_in result) 1 disk.old disk.new }
 {
     settle_file(disk)?;
     read_image(alloc, disk)

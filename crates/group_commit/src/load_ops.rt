@@ -1,6 +1,5 @@
 //! The operations of a stream.
-ghost use Rattle.std.specs.Prelude.{◌≡◌, ◌≢◌, ◌≤◌, ◌⊎◌, List, length, IfOk, IfErr};
-ghost use Rattle.op_model.specs.declared.op.Op.{Op as Operation};
+ghost use Rattle.std.specs.Prelude.{◌≡◌, ◌≢◌, ◌≤◌, ◌⊎◌, length, IfOk, IfErr};
 ghost use Rattle.change_codec.specs.Stream.{spelled_all, AreOperations};
 ghost use Rattle.group_commit.specs.Loading.{HasNone};
 ghost use Rattle.group_commit.specs.declared.open_fault.OpenError.TheVariants.{Memory, BadStream};

@@ -1,10 +1,7 @@
 //! What the bytes of table pages and of data pages say.
-ghost use Rattle.std.specs.Prelude.{◌≡◌, ◌⊎◌, ◌+◌, ◌*◌, ◌≤◌, ◌++◌, true, List, ℕ, length, IfOk};
-ghost use Rattle.std.specs.Prelude.{IfErr, Ok};
-ghost use Rattle.page_file.specs.Pages.{is_zero, are_pages};
+ghost use Rattle.std.specs.Prelude.{◌≡◌, ◌+◌, ◌*◌, ◌≤◌, true};
 ghost use Rattle.root_slots.specs.Root.{pages_for};
-ghost use Rattle.group_commit.specs.Loading.{Names, are_within, reached_by};
-ghost use Rattle.group_commit.specs.declared.open_fault.OpenError.TheVariants.{Memory, BadTable};
+ghost use Rattle.group_commit.specs.Loading.{are_within};
 
 /// Whether these pages lie whole in a file of so many bytes.
 pub(crate) fn are_within(numbers: &[u32], size: u64) -> bool

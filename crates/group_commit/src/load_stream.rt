@@ -1,19 +1,16 @@
 //! The stream that a root names, page by page.
-ghost use Rattle.std.specs.Prelude.{◌≡◌, ◌⊎◌, ◌+◌, ◌*◌, ◌≤◌, ◌↔◌, ◌++◌, true, [], length, IfOk};
-ghost use Rattle.std.specs.Prelude.{IfErr, Ok};
-ghost use Rattle.disk_trait.specs.Looks.{OnlyLooks};
-ghost use Rattle.page_file.specs.Pages.{pages, are_pages};
-ghost use Rattle.root_slots.specs.Root.{pages_for};
+ghost use Rattle.std.specs.Prelude.{◌≡◌, ◌+◌, ◌*◌, ◌≤◌, ◌++◌, length, IfOk, IfErr, Ok};
+ghost use Rattle.page_file.specs.Pages.{pages};
 ghost use Rattle.root_slots.specs.Body.{IsRoot};
-ghost use Rattle.group_commit.specs.Saved.{IsInMemory};
 ghost use Rattle.group_commit.specs.Loading.{Names, failed_in, reached_of, stream_of, stream_at};
+ghost use Rattle.group_commit.specs.Opening.{IsLookedAt, IsIndexed, IsStreamOf};
 
 use crate::load_pages::{are_within, data_pages};
 use crate::open_fault::OpenError;
 use disk_trait::Disk;
 use page_file::{Pages, is_zero, read_pages};
 use root_slots::RootBody;
-use std::alloc::{AllocError, Global};
+use std::alloc::Global;
 
 /// The pages of a root, and the stream that they hold.
 #[derive(Drop)]
@@ -35,15 +32,10 @@ fn read_tables<D: Disk>(
     ensures value { D.tells disk.old
         → IfOk result (λ it. reached_of head.now (D.content disk.old)
         ≡ Ok (head.now.tables ++ it.data_pages)) }
-    ensures apart { IfOk result (λ it. are_pages (head.now.tables ++ it.data_pages) ≡ true) }
-    ensures size { IfOk result
-        (λ it. length it.data_pages ≡ pages_for 4096 head.now.stream_length) }
-    ensures index { IfOk result (λ it. (it.tables ≡ head.now.tables) × (it.taken ≡ [])) }
+    ensures index { IfOk result (λ it. IsIndexed head.now it) }
     ensures fault { D.tells disk.old
         → IfErr result (λ e. Names e (reached_of head.now (D.content disk.old))) }
-    ensures looks { D.tells disk.old
-        → OnlyLooks D.DiskFacts (failed_in result) 0 disk.old disk.new }
-    ensures tells { D.tells disk.new ↔ D.tells disk.old }
+    ensures looks { IsLookedAt D.DiskFacts (failed_in result) 0 disk.old disk.new }
 {
     let tables = head.tables();
     if !are_within(tables, size) {
@@ -73,9 +65,7 @@ fn read_data<D: Disk>(
     ensures long { IfOk result (λ bytes. length bytes.items ≡ stream_length) }
     ensures fault { D.tells disk.old → IfErr result
         (λ e. Names e (stream_of stream_length (pages numbers.now (D.content disk.old)))) }
-    ensures looks { D.tells disk.old
-        → OnlyLooks D.DiskFacts (failed_in result) 0 disk.old disk.new }
-    ensures tells { D.tells disk.new ↔ D.tells disk.old }
+    ensures looks { IsLookedAt D.DiskFacts (failed_in result) 0 disk.old disk.new }
 {
     if !are_within(numbers, size) {
         return Err(OpenError::BadTable);
@@ -100,20 +90,10 @@ pub(crate) fn read_stream<D: Disk>(
 ) -> Result<Stream, OpenError>
     requires size { D.tells disk.old → size ≡ length (D.content disk.old) }
     requires valid { IsRoot head.now }
-    ensures pages { D.tells disk.old
-        → IfOk result (λ it. reached_of head.now (D.content disk.old)
-        ≡ Ok (head.now.tables ++ it.pages.data_pages)) }
-    ensures stream { D.tells disk.old
-        → IfOk result (λ it. stream_at head.now (D.content disk.old) ≡ Ok it.bytes.items) }
-    ensures parts { IfOk result (λ it. IsInMemory head.now it.pages.data_pages) }
-    ensures index { IfOk result
-        (λ it. (it.pages.tables ≡ head.now.tables) × (it.pages.taken ≡ [])) }
-    ensures long { IfOk result (λ it. length it.bytes.items ≡ head.now.stream_length) }
+    ensures read { IfOk result (λ it. IsStreamOf D.DiskFacts head.now disk.old it) }
     ensures fault { D.tells disk.old
         → IfErr result (λ e. Names e (stream_at head.now (D.content disk.old))) }
-    ensures looks { D.tells disk.old
-        → OnlyLooks D.DiskFacts (failed_in result) 0 disk.old disk.new }
-    ensures tells { D.tells disk.new ↔ D.tells disk.old }
+    ensures looks { IsLookedAt D.DiskFacts (failed_in result) 0 disk.old disk.new }
 {
     let pages = read_tables(alloc, disk, size, head)?;
     let (_, data_pages) = pages.live();

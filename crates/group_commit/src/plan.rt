@@ -1,13 +1,13 @@
 //! What a commit is about to write: the new root, and the new pages.
-ghost use Rattle.std.specs.Prelude.{◌≡◌, ℕ, ◌+◌, ◌*◌, ◌/◌, ◌^◌, ◌≤◌, ◌<◌, ◌++◌, true, false, []};
+ghost use Rattle.std.specs.Prelude.{◌≡◌, ℕ, ◌+◌, ◌*◌, ◌/◌, ◌^◌, ◌≤◌, ◌<◌, ◌++◌, true, []};
 ghost use Rattle.std.specs.Prelude.{List, length, get_or, take, drop, IfOk};
 ghost use Rattle.page_file.specs.Free.{AreLowest};
 ghost use Rattle.page_file.specs.Pages.{are_pages, is_zero, number_bytes};
-ghost use Rattle.root_slots.specs.Root.{version_of, count_of, stream_length_of, tables_of};
-ghost use Rattle.root_slots.specs.Root.{pages_for};
+ghost use Rattle.root_slots.specs.Root.{version_of, count_of, stream_length_of};
 ghost use Rattle.group_commit.specs.Paging.{IsIndexOf, IsRenewed};
 ghost use Rattle.group_commit.specs.Saved.{HasDataPages, with_stream};
-ghost use Rattle.group_commit.specs.Plan.{IsNext, Plans, IsGrown, kept_of, filled};
+ghost use Rattle.group_commit.specs.Plan.{Plans, IsGrown, TakesRecords, HasPagesFor};
+ghost use Rattle.group_commit.specs.Plan.{kept_of, filled};
 
 use crate::load_pages::data_pages;
 use crate::root::Root;
@@ -39,13 +39,7 @@ pub(crate) fn make_plan(
     records: &[u8],
     more: u64,
 ) -> Result<Plan, AllocError>
-    requires index { IsIndexOf current.now pages.now }
-    requires none { pages.now.taken ≡ [] }
-    requires long { length stream.now ≡ stream_length_of current.now.body }
-    requires some { is_zero records.now ≡ false }
-    requires room { length stream.now + length records.now ≤ 1073741824 }
-    requires version { version_of current.now.body < 18446744073709551615 }
-    requires count { count_of current.now.body + more ≤ 16777216 }
+    requires { TakesRecords current.now pages.now stream.now records.now more }
     ensures long { IfOk result
         (λ made. stream_length_of made.next.body ≡ length stream.now + length records.now) }
     ensures plan { IfOk result (λ made. Plans (with_stream current.now stream.now) records.now more
@@ -123,6 +117,7 @@ fn live_data_pages<'a>(current: &Root, pages: &'a Pages) -> &'a [u32]
     ensures { (stream : List ℕ) → length stream ≡ stream_length_of current.now.body
         → HasDataPages (with_stream current.now stream) result.now }
 {
+    // For the proof: its contract says which data pages the root has.
     let _named = current.data_pages();
     let (_, data_pages) = pages.live();
     data_pages
@@ -150,6 +145,7 @@ fn next_data_pages(
         ≡ drop (1024 * (kept / 1024)) (take kept olds.now ++ news.now)) }
     ensures small { (i : ℕ) → get_or (take kept olds.now ++ news.now) i 0 < 2 ^ 32 }
 {
+    // For the proof, as the comment there says.
     numbers_are_small(olds);
     numbers_are_small(news);
     let first = 1024 * (kept / 1024);
@@ -183,6 +179,7 @@ fn free_pages(current: &Root, pages: &Pages, count: usize) -> Result<Vec<u32>, A
     ensures apart { IfOk result (λ found. are_pages (found.items ++ current.now.pages) ≡ true) }
     ensures lowest { IfOk result (λ found. AreLowest current.now.pages found.items) }
 {
+    // For the proof: its contract says which pages the root reaches.
     let _reached = current.data_pages();
     pages.lowest_free_pages(count)
 }
@@ -222,12 +219,9 @@ fn root_on(
     data_pages: Written<u32>,
     tables: Vec<u32>,
 ) -> Result<Root, AllocError>
-    requires room { long ≤ 1073741824 }
     requires version { version_of current.now.body < 18446744073709551615 }
     requires count { count_of current.now.body + more ≤ 16777216 }
-    requires data_pages { length data_pages.items ≡ pages_for 4096 long }
-    requires tables { length tables.items ≡ pages_for 1024 (length data_pages.items) }
-    requires apart { are_pages (tables.items ++ data_pages.items) ≡ true }
+    requires pages { HasPagesFor long tables.items data_pages.items }
     ensures long { IfOk result (λ next. stream_length_of next.body ≡ long) }
     ensures grown { IfOk result (λ next. (stream : List ℕ) → length stream ≡ long
         → IsGrown current.now.body more data_pages.items tables.items (with_stream next stream)) }

@@ -1,15 +1,12 @@
 //! The device calls of a commit, one a step.
-ghost use Rattle.std.specs.Prelude.{◌≡◌, ◌≢◌, ◌+◌, ◌*◌, ◌-◌, ◌<◌, ◌≤◌, ◌↔◌, true, false, length};
-ghost use Rattle.std.specs.Prelude.{get_or, Ok, Err, IfOk, IfErr, OnOk, OnErr, IsOk};
+ghost use Rattle.std.specs.Prelude.{◌≡◌, ◌+◌, ◌*◌, ◌<◌, ◌≤◌, false, length, get_or};
 ghost use Rattle.disk_trait.specs.File.{part};
-ghost use Rattle.group_commit.specs.Held.{gone_on, has_failed, behind_pages};
-ghost use Rattle.group_commit.specs.Step.{IsDeviceCall, Does, writes_in, syncs_in, error_in};
-ghost use Rattle.group_commit.specs.declared.phase.Phase.TheVariants.{Idle, Pages, Close, Sync1};
+ghost use Rattle.group_commit.specs.Held.{behind_pages};
+ghost use Rattle.group_commit.specs.Step.{MakesCall, IsStoreStep};
+ghost use Rattle.group_commit.specs.declared.phase.Phase.TheVariants.{Pages, Close, Sync1};
 ghost use Rattle.group_commit.specs.declared.phase.Phase.TheVariants.{Body, Sync2, Gate, Sync3};
-ghost use Rattle.group_commit.specs.declared.error.StoreError.TheVariants.{Failed, WriteFailed};
-ghost use Rattle.group_commit.specs.declared.error.StoreError.TheVariants.{SyncFailed};
 
-use crate::call::{put_page, settle};
+use crate::device_calls::{put_page, settle};
 use crate::error::StoreError;
 use crate::phase::Phase;
 use crate::store::Store;
@@ -51,12 +48,7 @@ impl<D: Disk> Store<D> {
     fn put(&mut self, k: usize) -> Result<Phase, StoreError>
         requires phase { self.old.phase ≡ Pages k }
         requires works { self.old.failed ≡ false }
-        ensures made { IfOk result (λ phase. phase ≡ self.old.phase) }
-        ensures went_on { OnOk result (self.new ≡ gone_on self.old.phase self.old self.new.disk) }
-        ensures failed { OnErr result (self.new ≡ has_failed self.old self.new.disk) }
-        ensures call { IsDeviceCall D.DiskFacts 1 0 WriteFailed result self.old self.new }
-        ensures does { D.tells self.old.disk
-            → Does D.DiskFacts result (Pages k) self.old self.new.disk }
+        ensures call { MakesCall D.DiskFacts (Pages k) result self.old self.new }
     {
         if let Err(error) = put_page(
             &mut self.pages,
@@ -76,12 +68,7 @@ impl<D: Disk> Store<D> {
     fn close(&mut self) -> Result<Phase, StoreError>
         requires phase { self.old.phase ≡ Close }
         requires works { self.old.failed ≡ false }
-        ensures made { IfOk result (λ phase. phase ≡ self.old.phase) }
-        ensures went_on { OnOk result (self.new ≡ gone_on self.old.phase self.old self.new.disk) }
-        ensures failed { OnErr result (self.new ≡ has_failed self.old self.new.disk) }
-        ensures call { IsDeviceCall D.DiskFacts 1 0 WriteFailed result self.old self.new }
-        ensures does { D.tells self.old.disk
-            → Does D.DiskFacts result Close self.old self.new.disk }
+        ensures call { MakesCall D.DiskFacts Close result self.old self.new }
     {
         self.phase = Phase::Sync1;
         if let Err(_) = self.roots.close_stale(&mut self.disk) {
@@ -95,12 +82,7 @@ impl<D: Disk> Store<D> {
     fn settle_pages(&mut self) -> Result<Phase, StoreError>
         requires phase { self.old.phase ≡ Sync1 }
         requires works { self.old.failed ≡ false }
-        ensures made { IfOk result (λ phase. phase ≡ self.old.phase) }
-        ensures went_on { OnOk result (self.new ≡ gone_on self.old.phase self.old self.new.disk) }
-        ensures failed { OnErr result (self.new ≡ has_failed self.old self.new.disk) }
-        ensures call { IsDeviceCall D.DiskFacts 0 1 SyncFailed result self.old self.new }
-        ensures does { D.tells self.old.disk
-            → Does D.DiskFacts result Sync1 self.old self.new.disk }
+        ensures call { MakesCall D.DiskFacts Sync1 result self.old self.new }
     {
         if let Err(error) = settle(&mut self.disk) {
             self.failed = true;
@@ -114,12 +96,7 @@ impl<D: Disk> Store<D> {
     fn fill(&mut self) -> Result<Phase, StoreError>
         requires phase { self.old.phase ≡ Body }
         requires works { self.old.failed ≡ false }
-        ensures made { IfOk result (λ phase. phase ≡ self.old.phase) }
-        ensures went_on { OnOk result (self.new ≡ gone_on self.old.phase self.old self.new.disk) }
-        ensures failed { OnErr result (self.new ≡ has_failed self.old self.new.disk) }
-        ensures call { IsDeviceCall D.DiskFacts 1 0 WriteFailed result self.old self.new }
-        ensures does { D.tells self.old.disk
-            → Does D.DiskFacts result Body self.old self.new.disk }
+        ensures call { MakesCall D.DiskFacts Body result self.old self.new }
     {
         self.phase = Phase::Sync2;
         if let Err(_) = self.roots.put_body(&mut self.disk, self.next.body()) {
@@ -133,12 +110,7 @@ impl<D: Disk> Store<D> {
     fn settle_body(&mut self) -> Result<Phase, StoreError>
         requires phase { self.old.phase ≡ Sync2 }
         requires works { self.old.failed ≡ false }
-        ensures made { IfOk result (λ phase. phase ≡ self.old.phase) }
-        ensures went_on { OnOk result (self.new ≡ gone_on self.old.phase self.old self.new.disk) }
-        ensures failed { OnErr result (self.new ≡ has_failed self.old self.new.disk) }
-        ensures call { IsDeviceCall D.DiskFacts 0 1 SyncFailed result self.old self.new }
-        ensures does { D.tells self.old.disk
-            → Does D.DiskFacts result Sync2 self.old self.new.disk }
+        ensures call { MakesCall D.DiskFacts Sync2 result self.old self.new }
     {
         if let Err(error) = settle(&mut self.disk) {
             self.failed = true;
@@ -152,12 +124,7 @@ impl<D: Disk> Store<D> {
     fn raise(&mut self) -> Result<Phase, StoreError>
         requires phase { self.old.phase ≡ Gate }
         requires works { self.old.failed ≡ false }
-        ensures made { IfOk result (λ phase. phase ≡ self.old.phase) }
-        ensures went_on { OnOk result (self.new ≡ gone_on self.old.phase self.old self.new.disk) }
-        ensures failed { OnErr result (self.new ≡ has_failed self.old self.new.disk) }
-        ensures call { IsDeviceCall D.DiskFacts 1 0 WriteFailed result self.old self.new }
-        ensures does { D.tells self.old.disk
-            → Does D.DiskFacts result Gate self.old self.new.disk }
+        ensures call { MakesCall D.DiskFacts Gate result self.old self.new }
     {
         self.phase = Phase::Sync3;
         if let Err(_) = self.roots.open_gate(&mut self.disk) {
@@ -171,12 +138,7 @@ impl<D: Disk> Store<D> {
     fn settle_gate(&mut self) -> Result<Phase, StoreError>
         requires phase { self.old.phase ≡ Sync3 }
         requires works { self.old.failed ≡ false }
-        ensures made { IfOk result (λ phase. phase ≡ self.old.phase) }
-        ensures went_on { OnOk result (self.new ≡ gone_on self.old.phase self.old self.new.disk) }
-        ensures failed { OnErr result (self.new ≡ has_failed self.old self.new.disk) }
-        ensures call { IsDeviceCall D.DiskFacts 0 1 SyncFailed result self.old self.new }
-        ensures does { D.tells self.old.disk
-            → Does D.DiskFacts result Sync3 self.old self.new.disk }
+        ensures call { MakesCall D.DiskFacts Sync3 result self.old self.new }
     {
         if let Err(error) = settle(&mut self.disk) {
             self.failed = true;
@@ -197,22 +159,8 @@ impl<D: Disk> Store<D> {
     ///
     /// One write of at most 4,096 bytes or one sync.
     pub fn step(&mut self) -> Result<Phase, StoreError>
-        ensures stopped { self.old.failed ≡ true → (result ≡ Err Failed) × (self.new ≡ self.old) }
-        ensures idle { self.old.failed ≡ false → self.old.phase ≡ Idle
-            → (result ≡ Ok Idle) × (self.new ≡ self.old) }
-        ensures made { IfOk result (λ phase. phase ≡ self.old.phase) }
         // One device call, after which the commit goes on or the store has failed.
-        ensures call { self.old.failed ≡ false → self.old.phase ≢ Idle
-            → IsDeviceCall D.DiskFacts (writes_in self.old.phase) (syncs_in self.old.phase)
-            (error_in self.old.phase) result self.old self.new }
-        // It writes in the range of its phase alone, and 0 into the stale gate only where that
-        // reads 1.
-        ensures does { self.old.failed ≡ false → D.tells self.old.disk
-            → Does D.DiskFacts result self.old.phase self.old self.new.disk }
-        ensures went_on { self.old.failed ≡ false
-            → OnOk result (self.new ≡ gone_on self.old.phase self.old self.new.disk) }
-        ensures failed { self.old.failed ≡ false
-            → OnErr result (self.new ≡ has_failed self.old self.new.disk) }
+        ensures step { IsStoreStep D.DiskFacts self.old result self.new }
     {
         if self.failed {
             return Err(StoreError::Failed);

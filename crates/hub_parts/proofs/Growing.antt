@@ -7,8 +7,7 @@ use Rattle.op_model.specs.declared.op.Op.{Op}
 use Rattle.op_model.specs.declared.edit.Edit.{Edit}
 use Rattle.op_model.specs.Made.{made}
 use Rattle.op_model.specs.Replay.{reached}
-use Rattle.replica_core.specs.Held.{Held, with_edit, with_acked, with_told}
-use Rattle.replica_core.specs.Merging.{with_merge}
+use Rattle.op_model.specs.Held.{Held, with_edit, with_merge, with_acked, with_told}
 use Rattle.replica_core.specs.Steps.{places_left}
 use Rattle.replica_core.proofs.ReachedLemmas.{contains_tail}
 use Rattle.hub_parts.specs.Locked.{due_behind, CanSettle}

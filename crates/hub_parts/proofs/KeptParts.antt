@@ -11,8 +11,8 @@ use Rattle.op_model.specs.declared.edit.Edit.{Edit}
 use Rattle.op_model.specs.Machine.{taken_in, has_record_room}
 use Rattle.op_model.specs.Made.{made}
 use Rattle.op_model.specs.Records.{stream_length}
-use Rattle.replica_core.specs.Held.{IsSound, with_edit, Held as ReplicaHeld}
-use Rattle.replica_core.specs.Merging.{with_merge}
+use Rattle.op_model.specs.Held.{with_edit, with_merge, Held as ReplicaHeld}
+use Rattle.replica_core.specs.Held.{IsSound}
 use Rattle.replica_core.specs.Steps.{places_left}
 use Rattle.replica_core.proofs.ReachedLemmas.{length_is_reached}
 use Rattle.hub_parts.specs.Locked.{commit_of, state_of, Keeps, Held as LockedHeld}

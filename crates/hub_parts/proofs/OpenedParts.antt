@@ -9,7 +9,7 @@ use Rattle.op_model.specs.declared.op.Op.{Op}
 use Rattle.change_codec.specs.Stream.{spelled_all, AreOperations}
 use Rattle.op_list.specs.Records.{AreRecords}
 use Rattle.root_slots.specs.Root.{count_of}
-use Rattle.replica_core.specs.Held.{opened_with, Held as ReplicaHeld}
+use Rattle.op_model.specs.Held.{opened_with, Held as ReplicaHeld}
 use Rattle.group_commit.specs.Held.{Held as StoreHeld}
 use Rattle.group_commit.specs.Loading.{IsHistory}
 use Rattle.group_commit.specs.declared.phase.Phase.TheVariants.{Idle}

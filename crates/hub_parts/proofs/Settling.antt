@@ -3,7 +3,7 @@ use Rattle.std.proofs.Common.{◌≡◌, Bool, true, false, List, sym, ◌∙◌
 use Rattle.std.proofs.lemmas.Bool.{le-ltb}
 use Rattle.disk_trait.specs.declared.facts.DiskFacts.{Ghosts}
 use Rattle.op_model.specs.declared.op.Op.{Op}
-use Rattle.replica_core.specs.Held.{with_settled}
+use Rattle.op_model.specs.Held.{with_settled}
 use Rattle.group_commit.specs.Begin.{is_idle}
 use Rattle.group_commit.specs.Held.{Held as StoreHeld}
 use Rattle.hub_parts.specs.Flusher.{IsFlusher}

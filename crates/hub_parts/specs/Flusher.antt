@@ -1,18 +1,14 @@
 -- The part of a hub that commits.
-use Rattle.std.specs.Prelude.{◌≡◌, ◌≢◌, ℕ, ◌+◌, ◌<◌, ◌≤◌, Bool, true, false, List, length, take, Result, Ok, Err, IfOk, OnOk, OnErr}
+use Rattle.std.specs.Prelude.{◌≡◌, ℕ, ◌+◌, ◌<◌, ◌≤◌, Bool, true, false, List, length, take}
 use Rattle.disk_trait.specs.declared.facts.DiskFacts.{Ghosts}
 use Rattle.op_model.specs.declared.op.Op.{Op}
 use Rattle.change_codec.specs.Stream.{spelled_all, AreOperations}
 use Rattle.root_slots.specs.Root.{version_of, replica_of, count_of}
 use Rattle.group_commit.specs.Begin.{is_idle}
 use Rattle.group_commit.specs.Commit.{IsLeft}
-use Rattle.group_commit.specs.Held.{gone_on, has_failed, Held as StoreHeld}
+use Rattle.group_commit.specs.Held.{Held as StoreHeld}
 use Rattle.group_commit.specs.Saved.{Saved}
-use Rattle.group_commit.specs.Step.{IsDeviceCall, Does, writes_in, syncs_in, error_in}
-use Rattle.group_commit.specs.declared.error.StoreError.{StoreError}
-use Rattle.group_commit.specs.declared.error.StoreError.TheVariants.{Failed}
-use Rattle.group_commit.specs.declared.phase.Phase.{Phase}
-use Rattle.group_commit.specs.declared.phase.Phase.TheVariants.{Idle}
+pub use Rattle.group_commit.specs.Step.{IsStoreStep}
 
 -- the store, the list of the commit or else the committed one, and whether there is a commit that isn't settled
 pub record Held (D : Type 0) : Type 0 where
@@ -50,14 +46,3 @@ pub record IsFlusher {D : Type 0} (facts : Ghosts D) (f : Held D) : Type 0 where
   pub commit : Commits (is_idle f.store.phase) f
   pub left : facts.tells f.store.disk → (file : List ℕ) → facts.survives f.store.disk file
       → IsLeft f.store.phase f.store.current f.store.next file
-
--- One step of a store: none behind a failure, none at rest, else the device call of its phase, behind which it goes on or has failed.
-pub record IsStoreStep {D : Type 0} (facts : Ghosts D) (old : StoreHeld D) (result : Result Phase StoreError) (new : StoreHeld D) : Type 0 where
-  pub stopped : old.failed ≡ true → (result ≡ Err Failed) × (new ≡ old)
-  pub idle : old.failed ≡ false → old.phase ≡ Idle → (result ≡ Ok Idle) × (new ≡ old)
-  pub made : IfOk result (λ phase. phase ≡ old.phase)
-  pub call : old.failed ≡ false → old.phase ≢ Idle
-      → IsDeviceCall {T = Phase} facts (writes_in old.phase) (syncs_in old.phase) (error_in old.phase) result old new
-  pub does : old.failed ≡ false → facts.tells old.disk → Does {T = Phase} facts result old.phase old new.disk
-  pub went_on : old.failed ≡ false → OnOk result (new ≡ gone_on old.phase old new.disk)
-  pub failed : old.failed ≡ false → OnErr result (new ≡ has_failed old new.disk)

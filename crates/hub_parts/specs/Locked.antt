@@ -3,7 +3,8 @@ use Rattle.std.specs.Prelude.{◌≡◌, ℕ, ◌+◌, ◌≤◌, ◌<◌, Bool,
 use Rattle.op_model.specs.Machine.{Commit, State}
 use Rattle.op_model.specs.Records.{stream_length}
 use Rattle.op_model.specs.Replay.{reached}
-use Rattle.replica_core.specs.Held.{IsSound, stored, Held as ReplicaHeld}
+use Rattle.op_model.specs.Held.{Held as ReplicaHeld}
+use Rattle.replica_core.specs.Held.{IsSound}
 use Rattle.replica_core.specs.Steps.{places_left}
 
 -- the replica, how many operations are settled or in the commit, and whether a meeting has told a failure of the device
@@ -22,7 +23,13 @@ commit_of l = if has_commit l then Some (record { count = l.begun; through = fal
 
 -- the machine's state as this part sees it: it knows of a failure only what a meeting has told
 abbrev pub state_of : Held → State
-state_of l = record (stored l.replica false 0 (commit_of l)) { failure_told = l.failure_told }
+state_of l = record {
+  held = l.replica;
+  version = 0;
+  failed = false;
+  failure_told = l.failure_told;
+  commit = commit_of l;
+}
 
 -- how many settlements are due behind a commit or a settlement of the first n operations: one for all behind them
 abbrev pub due_behind : ReplicaHeld → ℕ → ℕ

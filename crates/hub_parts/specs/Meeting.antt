@@ -4,7 +4,7 @@ use Rattle.disk_trait.specs.declared.facts.DiskFacts.{Ghosts}
 use Rattle.op_model.specs.declared.op.Op.{Op}
 use Rattle.op_list.specs.Records.{AreRecords}
 use Rattle.root_slots.specs.Root.{count_of}
-use Rattle.replica_core.specs.Held.{with_settled}
+use Rattle.op_model.specs.Held.{with_settled}
 use Rattle.group_commit.specs.Begin.{has_room, has_room_for, is_idle, is_none, Begins}
 use Rattle.group_commit.specs.declared.error.StoreError.{StoreError}
 use Rattle.group_commit.specs.declared.error.StoreError.TheVariants.{Memory, Limit, Busy, Failed}

@@ -1,8 +1,6 @@
 -- What opens the two parts of a hub.
-use Rattle.std.specs.Prelude.{◌≡◌, ◌↔◌, ℕ, false, length}
-use Rattle.disk_trait.specs.Looks.{OnlyLooks}
-use Rattle.disk_trait.specs.declared.facts.DiskFacts.{Ghosts}
-use Rattle.replica_core.specs.Held.{opened_with}
+use Rattle.std.specs.Prelude.{◌≡◌, false, length}
+use Rattle.op_model.specs.Held.{opened_with}
 use Rattle.group_commit.specs.declared.phase.Phase.TheVariants.{Idle}
 use Rattle.hub_parts.specs.Flusher.{Held as FlusherHeld}
 use Rattle.hub_parts.specs.Locked.{Held as LockedHeld}
@@ -18,8 +16,3 @@ pub record IsOpened {D : Type 0} (l : LockedHeld) (f : FlusherHeld D) : Type 0 w
   pub idle : f.store.phase ≡ Idle
   pub works : f.store.failed ≡ false
   pub fits : Meet l (side_of f)
-
--- a disk was only looked at, with so many failures, and it tells as before
-pub record IsLookedAt {D : Type 0} (facts : Ghosts D) (failures : ℕ) (old new : D) : Type 0 where
-  pub looks : facts.tells old → OnlyLooks facts failures 1 old new
-  pub tells : facts.tells new ↔ facts.tells old

@@ -44,6 +44,7 @@ impl<D: Disk> Flusher<D> {
     pub fn kept(&self)
         ensures { IsFlusher D.DiskFacts self.now }
     {
+        // For the proof: with a field read, it knows what the type keeps.
         let _due = self.due;
     }
 

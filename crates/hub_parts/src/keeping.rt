@@ -1,6 +1,6 @@
 //! What a meeting does to the locked part.
 ghost use Rattle.std.specs.Prelude.{◌≡◌, true, length};
-ghost use Rattle.replica_core.specs.Held.{with_settled};
+ghost use Rattle.op_model.specs.Held.{with_settled};
 ghost use Rattle.hub_parts.specs.Locked.{has_commit};
 
 use crate::locked::Locked;

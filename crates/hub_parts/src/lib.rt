@@ -2,6 +2,7 @@
 //! calls without it. They meet twice a commit.
 #![tactic(auto)]
 
+mod edits_and_merges;
 mod fitting;
 mod flusher;
 mod keeping;
@@ -11,12 +12,11 @@ mod met;
 mod opening;
 mod reading;
 mod refusal;
-mod sharing;
 mod telling;
 
+pub use edits_and_merges::MAX_PENDING;
 pub use flusher::Flusher;
 pub use locked::Locked;
 pub use met::Met;
 pub use opening::{Parts, open};
 pub use refusal::LockedRefusal;
-pub use sharing::MAX_PENDING;

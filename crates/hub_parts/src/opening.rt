@@ -1,9 +1,10 @@
 //! The opening of a hub's two parts.
 ghost use Rattle.std.specs.Prelude.{IfOk, IfErr};
 ghost use Rattle.root_slots.specs.Root.{version_of};
+ghost use Rattle.group_commit.specs.Opening.{IsLookedAt};
 ghost use Rattle.recovery.specs.Faults.{IsFault, failures_of};
 ghost use Rattle.recovery.specs.Image.{IsImage};
-ghost use Rattle.hub_parts.specs.Opening.{IsLookedAt, IsOpened};
+ghost use Rattle.hub_parts.specs.Opening.{IsOpened};
 
 use crate::flusher::Flusher;
 use crate::locked::Locked;
@@ -31,10 +32,9 @@ pub fn open<D: Disk>(alloc: Global, disk: D) -> Result<Parts<D>, OpenFault<D>>
     ensures opened { IfOk result (λ it. IsOpened it.locked it.flusher) }
     ensures fault { D.tells disk → IfErr result (λ fault. IsFault fault.cause (D.content disk)) }
     // It writes nothing.
-    ensures looks { IfOk result
-        (λ it. IsLookedAt D.DiskFacts 0 disk it.flusher.store.disk) }
+    ensures looks { IfOk result (λ it. IsLookedAt D.DiskFacts 0 1 disk it.flusher.store.disk) }
     ensures looks_refused { IfErr result
-        (λ fault. IsLookedAt D.DiskFacts (failures_of fault.cause) disk fault.disk) }
+        (λ fault. IsLookedAt D.DiskFacts (failures_of fault.cause) 1 disk fault.disk) }
 {
     let Opened { replica, store } = recovery::open(alloc, disk)?;
     let ops = replica.list();

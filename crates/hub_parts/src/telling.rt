@@ -1,7 +1,8 @@
 //! Acknowledgements and tellings of the locked part.
-ghost use Rattle.std.specs.Prelude.{◌≡◌, if◌then◌else◌, take, OnOk, OnErr};
-ghost use Rattle.op_model.specs.Machine.{acknowledged, reach, AckStep, TellStep, HaveStep};
-ghost use Rattle.replica_core.specs.Held.{with_acked, with_told};
+ghost use Rattle.std.specs.Prelude.{◌≡◌, if◌then◌else◌, OnOk, OnErr};
+ghost use Rattle.op_model.specs.Telling.{reach};
+ghost use Rattle.op_model.specs.Machine.{acknowledged, AckStep, TellStep, HaveStep};
+ghost use Rattle.op_model.specs.Held.{settled_list, with_acked, with_told};
 ghost use Rattle.hub_parts.specs.Locked.{state_of};
 ghost use Rattle.hub_parts.specs.Meet.{Meet, Side};
 ghost use Rattle.hub_parts.specs.Refusal.{told, had};
@@ -34,8 +35,7 @@ impl Locked {
             (state_of self.new) }
         ensures made { OnOk result (self.new ≡ record self.old {
           replica
-              = with_told self.old.replica (reach 64 clock.now
-              (take self.old.replica.settled self.old.replica.list));
+              = with_told self.old.replica (reach clock.now (settled_list self.old.replica));
         }) }
         ensures same { OnErr result (self.new ≡ self.old) }
         ensures fits { (side : Side) → Meet self.old side → Meet self.new side }

@@ -5,7 +5,7 @@ use Rattle.disk_trait.specs.declared.facts.DiskFacts.{Ghosts}
 use Rattle.op_model.specs.declared.op.Op.{Op}
 use Rattle.op_model.specs.Machine.{begin, begin_answer}
 use Rattle.root_slots.specs.Root.{version_of, count_of}
-use Rattle.replica_core.specs.Held.{Held}
+use Rattle.op_model.specs.Held.{Held}
 use Rattle.group_commit.specs.Begin.{is_idle, is_none, has_room, begin_due, Begins, IsAnswer}
 use Rattle.group_commit.specs.Held.{Held as StoreHeld}
 use Rattle.group_commit.specs.Saved.{Saved}

@@ -4,7 +4,7 @@ use Rattle.std.specs.Prelude.{is_some}
 use Rattle.disk_trait.specs.Calls.{IsLawful}
 use Rattle.disk_trait.specs.declared.facts.DiskFacts.{Ghosts}
 use Rattle.op_model.specs.Machine.{begin, refused}
-use Rattle.replica_core.specs.Held.{Held}
+use Rattle.op_model.specs.Held.{Held}
 use Rattle.group_commit.specs.Held.{Held as StoreHeld}
 use Rattle.locked_replica.specs.Hub.{commit_of}
 use Rattle.locked_replica.specs.Calls.{IsCall}

@@ -4,7 +4,7 @@ use Rattle.disk_trait.specs.Calls.{LeavesOnly}
 use Rattle.disk_trait.specs.declared.facts.DiskFacts.{Ghosts}
 use Rattle.op_model.specs.Machine.{Answer, device_step, goes_on, goes_through, refused, Step}
 use Rattle.root_slots.specs.Root.{version_of, count_of}
-use Rattle.replica_core.specs.Held.{Held}
+use Rattle.op_model.specs.Held.{Held}
 use Rattle.group_commit.specs.Begin.{is_idle}
 use Rattle.group_commit.specs.Held.{Held as StoreHeld}
 use Rattle.group_commit.specs.Step.{IsDeviceCall, IsLeftAround, failures_in as failures_of}
@@ -33,7 +33,7 @@ moments_of facts old new P Q weaker leaves =
 -- one device call of a commit under way, with what it makes of the hub
 device_call : {D : Type 0} {failure_told : Bool} {T : Type 0} (facts : Ghosts D) (h : Held) (s new : StoreHeld D) (writes syncs : ℕ) (error : StoreError) (result : Result T StoreError)
     (answer : Answer) → Fits facts (parts h s failure_told) → is_idle s.phase ≡ false → IsDeviceCall facts writes syncs error result s new
-    → Step h.replica (state_of (parts h s failure_told)) device_step answer (state_of (parts h new failure_told))
+    → Step (state_of (parts h s failure_told)) device_step answer (state_of (parts h new failure_told))
     → calls_in device_step answer ≡ 1 → failures_of result ≡ failures_in device_step answer → h.settled ≡ settled_by h.settled answer
     → Fits facts (parts h new failure_told) → Counts facts answer s new → StoreSteps facts answer s new
     → IsCall facts device_step answer (parts h s failure_told) (parts h new failure_told)

@@ -4,7 +4,7 @@ use Rattle.disk_trait.specs.Calls.{IsLawful, IsOneCall}
 use Rattle.disk_trait.specs.declared.facts.DiskFacts.{Ghosts}
 use Rattle.op_model.specs.Machine.{Answer, device_step, idle as idle_answer, goes_on, goes_through, refused}
 use Rattle.root_slots.specs.Root.{count_of}
-use Rattle.replica_core.specs.Held.{Held}
+use Rattle.op_model.specs.Held.{Held}
 use Rattle.group_commit.specs.Begin.{is_idle}
 use Rattle.group_commit.specs.Errors.{number_of}
 use Rattle.group_commit.specs.Held.{gone_on, has_failed, left_at, Held as StoreHeld}

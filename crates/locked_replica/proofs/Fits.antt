@@ -2,7 +2,8 @@
 use Rattle.std.specs.Prelude.{◌≡◌, ℕ, ◌+◌, ◌<◌, ◌≤◌, Bool, true, false, List, length, take}
 use Rattle.disk_trait.specs.declared.facts.DiskFacts.{Ghosts}
 use Rattle.change_codec.specs.Stream.{spelled_all, AreOperations}
-use Rattle.replica_core.specs.Held.{Held, IsSound}
+use Rattle.op_model.specs.Held.{Held}
+use Rattle.replica_core.specs.Held.{IsSound}
 use Rattle.replica_core.specs.Steps.{places_left}
 use Rattle.root_slots.specs.Root.{version_of, replica_of, count_of}
 use Rattle.group_commit.specs.Begin.{is_idle}

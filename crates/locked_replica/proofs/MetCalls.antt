@@ -7,7 +7,7 @@ use Rattle.disk_trait.specs.Calls.{IsLawful}
 use Rattle.disk_trait.specs.declared.facts.DiskFacts.{Ghosts}
 use Rattle.op_model.specs.Machine.{Answer, begin, begun, nothing_new, settle, refused, settled_to, Commit}
 use Rattle.root_slots.specs.Root.{count_of}
-use Rattle.replica_core.specs.Held.{with_settled}
+use Rattle.op_model.specs.Held.{with_settled}
 use Rattle.group_commit.specs.Begin.{begin_due, has_room, is_idle, is_none, Begins, IsAnswer}
 use Rattle.group_commit.specs.Errors.{number_of}
 use Rattle.group_commit.specs.declared.error.StoreError.{StoreError}

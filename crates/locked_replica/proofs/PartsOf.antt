@@ -1,6 +1,6 @@
 -- A hub, by what it holds.
 use Rattle.std.specs.Prelude.{Bool}
-use Rattle.replica_core.specs.Held.{Held}
+use Rattle.op_model.specs.Held.{Held}
 use Rattle.group_commit.specs.Held.{Held as StoreHeld}
 use Rattle.locked_replica.specs.Hub.{Parts}
 

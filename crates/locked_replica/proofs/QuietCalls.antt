@@ -4,7 +4,7 @@ use Rattle.disk_trait.specs.Calls.{IsLawful, LeavesOnly}
 use Rattle.disk_trait.specs.declared.facts.DiskFacts.{Ghosts}
 use Rattle.op_model.specs.declared.op.Op.{Op}
 use Rattle.op_model.specs.Machine.{Event, edit, merge, begin, device_step, settle, ack, tell, have, Answer, goes_on, goes_through, refused, Step}
-use Rattle.replica_core.specs.Held.{Held}
+use Rattle.op_model.specs.Held.{Held}
 use Rattle.group_commit.specs.Held.{Held as StoreHeld}
 use Rattle.locked_replica.specs.Hub.{Parts, state_of}
 use Rattle.locked_replica.proofs.Fits.{Fits}
@@ -42,7 +42,7 @@ few_failures have answer = omega arith
 -- a call that leaves the disk as it was
 pub quiet_call : {D : Type 0} (facts : Ghosts D) (event : Event) (answer : Answer) (old new : Parts D) → new.store.disk ≡ old.store.disk
     → (facts.tells new.store.disk → IsLawful facts new.store.disk) → Fits facts new → new.replica.replica ≡ old.replica.replica
-    → Step old.replica.replica (state_of old) event answer (state_of new)
+    → Step (state_of old) event answer (state_of new)
     → (more : List Op) → new.replica.list ≡ old.replica.list ++ more
     → new.replica.settled ≡ settled_by old.replica.settled answer → old.replica.settled ≤ new.replica.settled → calls_in event answer ≡ 0
     → Counts facts answer old.store new.store → StoreGoes facts event answer old new.store → IsCall facts event answer old new
@@ -82,7 +82,7 @@ quiet_call {D} facts event answer old new same lawful fits owner step more list 
 -- a call that leaves the replica and the store, whatever is told of a failure
 pub quiet_same : {D : Type 0} {was is : Bool} (facts : Ghosts D) (event : Event) (answer : Answer) (h : Held) (s : StoreHeld D)
     → (facts.tells s.disk → IsLawful facts s.disk) → Fits facts (parts h s is)
-    → Step h.replica (state_of (parts h s was)) event answer (state_of (parts h s is))
+    → Step (state_of (parts h s was)) event answer (state_of (parts h s is))
     → h.settled ≡ settled_by h.settled answer → calls_in event answer ≡ 0 → writes_begun answer s ≡ 0 → syncs_begun answer ≡ 0
     → StoreGoes facts event answer (parts h s was) s → IsCall facts event answer (parts h s was) (parts h s is)
 quiet_same {was = was} {is = is} facts event answer h s lawful fits step settled none no_writes no_syncs goes =

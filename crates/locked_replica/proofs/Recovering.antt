@@ -10,7 +10,8 @@ use Rattle.op_model.specs.Causality.{IsCausallyClosed}
 use Rattle.op_model.specs.Machine.{Commit, State, CrashLeaves, CrashLeavesOf, opened}
 use Rattle.model_laws.proofs.Growth.{closed_front}
 use Rattle.root_slots.specs.Root.{version_of, count_of}
-use Rattle.replica_core.specs.Held.{Held, IsSound, stored}
+use Rattle.op_model.specs.Held.{Held}
+use Rattle.replica_core.specs.Held.{IsSound}
 use Rattle.group_commit.specs.Begin.{is_idle}
 use Rattle.group_commit.specs.Commit.{Is, IsLeft}
 use Rattle.group_commit.specs.Saved.{Saved}
@@ -142,18 +143,24 @@ survivor_has_settled facts hub file fits told survives = recovered_has facts hub
 
 -- the machine's state with this commit and version
 abbrev state_at : Held → Bool → Bool → ℕ → Option Commit → State
-state_at h failed failure_told version commit = record (stored h failed version commit) { failure_told = failure_told }
+state_at h failed failure_told version commit = record {
+  held = h;
+  version = version;
+  failed = failed;
+  failure_told = failure_told;
+  commit = commit;
+}
 
 -- what is opened from a file with such an image is what the machine's crash leaves
 opened_from : (gated : Bool) (h : Held) (failed failure_told : Bool) (version : ℕ) (commit : Option Commit) (file : List ℕ)
     → RecoversIn gated h version commit file
-    → (v n : ℕ) × HasFront h v n file × CrashLeaves (state_at h failed failure_told version commit) (opened (take n h.list) v)
+    → (v n : ℕ) × HasFront h v n file × CrashLeaves (state_at h failed failure_told version commit) (opened h.replica (take n h.list) v)
 opened_from gated h failed failure_told version None file image = (version, h.settled, image, refl)
 opened_from gated h failed failure_told version (Some c) file image = by_kind c.through gated image
   where
     by_kind : (through gated : Bool) → RecoversWith through gated h version c.count file
         → (v n : ℕ) × HasFront h v n file
-        × CrashLeavesOf (state_at h failed failure_told version (Some c)) (record { count = c.count; through = through }) (opened (take n h.list) v)
+        × CrashLeavesOf (state_at h failed failure_told version (Some c)) (record { count = c.count; through = through }) (opened h.replica (take n h.list) v)
     by_kind true gated image = (version + 1, c.count, image, refl)
     by_kind false true (inl image) = (version, h.settled, image, inl refl)
     by_kind false true (inr image) = (version + 1, c.count, image, inr refl)

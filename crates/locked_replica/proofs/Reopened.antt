@@ -16,17 +16,18 @@ use Rattle.locked_replica.specs.Reopening.{IsReopened}
 -- a file has one image, so what is opened from it is what the crash leaves with it
 reopened_hub : {D : Type 0} (facts : Ghosts D) (old new : Parts D) → IsCrash old (facts.content old.store.disk)
     → IsImage (facts.content old.store.disk) new.replica.replica (version_of new.store.current.body) new.replica.list
-    → state_of new ≡ opened new.replica.list (version_of new.store.current.body) → IsReopened facts old new
+    → state_of new ≡ opened new.replica.replica new.replica.list (version_of new.store.current.body) → IsReopened facts old new
 reopened_hub facts old new crash image is =
     let (same_owner, same_version, same_list) = one_image _ _ _ _ _ _ _ image crash.image in
-    let same : state_of new ≡ opened (take crash.count old.replica.list) crash.version =
-    is ∙ ap (λ l. opened l (version_of new.store.current.body)) same_list
-    ∙ ap (λ v. opened (take crash.count old.replica.list) v) same_version in
+    let same : state_of new ≡ opened old.replica.replica (take crash.count old.replica.list) crash.version =
+    is ∙ ap (λ r. opened r new.replica.list (version_of new.store.current.body)) same_owner
+    ∙ ap (λ l. opened old.replica.replica l (version_of new.store.current.body)) same_list
+    ∙ ap (λ v. opened old.replica.replica (take crash.count old.replica.list) v) same_version in
     record { owner = same_owner; image = image; crash = rw same crash.leaves }
 
 pub reopened : {D E : Type 0} (facts : Ghosts D) (old : Parts D) (result : Result (Parts D) E) → IsCrash old (facts.content old.store.disk)
     → IfOk result (λ (new : Parts D). IsImage (facts.content old.store.disk) new.replica.replica (version_of new.store.current.body) new.replica.list)
-    → IfOk result (λ (new : Parts D). state_of new ≡ opened new.replica.list (version_of new.store.current.body))
+    → IfOk result (λ (new : Parts D). state_of new ≡ opened new.replica.replica new.replica.list (version_of new.store.current.body))
     → IfOk result (λ new. IsReopened facts old new)
 reopened facts old (Ok new) crash image is = reopened_hub facts old new crash image is
 reopened facts old (Err fault) crash image is = tt

@@ -12,7 +12,7 @@ use Rattle.change_codec.proofs.StreamLaws.{length-spelled_all}
 use Rattle.root_slots.specs.Root.{version_of, count_of}
 use Rattle.group_commit.specs.Begin.{is_none, has_room}
 use Rattle.group_commit.specs.Saved.{Saved}
-use Rattle.replica_core.specs.Held.{Held}
+use Rattle.op_model.specs.Held.{Held}
 use Rattle.locked_replica.proofs.Fits.{IsFront}
 
 within_in_turn : (before ops : List Op) → is_within_limits before ≡ true → FollowInTurn before ops → is_within_limits (before ++ ops) ≡ true

@@ -6,7 +6,7 @@ use Rattle.disk_trait.specs.Calls.{IsLawful}
 use Rattle.disk_trait.specs.declared.facts.DiskFacts.{Ghosts}
 use Rattle.op_model.specs.declared.op.Op.{Op}
 use Rattle.op_model.specs.Machine.{State, Event, Answer, refused, Step, Run}
-use Rattle.replica_core.specs.Held.{Held}
+use Rattle.op_model.specs.Held.{Held}
 use Rattle.locked_replica.specs.Hub.{Parts, state_of}
 use Rattle.locked_replica.specs.Calls.{IsCall, IsLeftIn, IsLeftOf, calls_in, settled_by, writes_begun, syncs_begun, NoWriteFails}
 use Rattle.locked_replica.specs.Recovery.{HasAtLeast, IsCrash, Recovers}
@@ -21,10 +21,9 @@ take_none zero = refl
 take_none (suc k) = refl
 
 -- a run with one step more
-run_more : (replica : ℕ) (s mid next : State) (es : List (Event × Answer)) (e : Event × Answer) → Run replica s es mid → Step replica mid e.0 e.1 next
-    → Run replica s (es ++ e ∷ []) next
-run_more replica s mid next [] e run step = (next, rw run at step, refl)
-run_more replica s mid next (x ∷ es) e run step = (run.0, run.1, run_more replica run.0 mid next es e run.2 step)
+run_more : (s mid next : State) (es : List (Event × Answer)) (e : Event × Answer) → Run s es mid → Step mid e.0 e.1 next → Run s (es ++ e ∷ []) next
+run_more s mid next [] e run step = (next, rw run at step, refl)
+run_more s mid next (x ∷ es) e run step = (run.0, run.1, run_more run.0 mid next es e run.2 step)
 
 settled_more : (n : ℕ) (es : List (Event × Answer)) (e : Event × Answer) → settled_behind n (es ++ e ∷ []) ≡ settled_by (settled_behind n es) e.1
 settled_more n [] e = refl
@@ -136,7 +135,7 @@ unfoldable made_more : {D : Type 0} (facts : Ghosts D) (old mid new : Parts D) (
 made_more facts old mid new es event answer lawful ran call =
     record {
       owner = call.owner ∙ ran.owner;
-      machine = run_more old.replica.replica (state_of old) (state_of mid) (state_of new) es (event, answer) ran.machine (rw ran.owner at call.step);
+      machine = run_more (state_of old) (state_of mid) (state_of new) es (event, answer) ran.machine call.step;
       settled = its_settled;
       rising = its_rising;
       tells = ((λ told. ran.tells.0 (call.tells.0 told)), (λ told. call.tells.1 (ran.tells.1 told)));

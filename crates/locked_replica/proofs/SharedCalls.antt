@@ -7,12 +7,13 @@ use Rattle.disk_trait.specs.declared.facts.DiskFacts.{Ghosts}
 use Rattle.op_model.specs.declared.op.Op.{Op}
 use Rattle.op_model.specs.declared.edit.Edit.{Edit}
 use Rattle.op_model.specs.Machine.{Commit, State, edit, merge, ack, tell, have, Ticket, ticket, applied, known, early, acknowledged, operations, clock}
-use Rattle.op_model.specs.Machine.{refused, has_record_room, with_room, edit_answer, edit_alone, merge_answer, merge_alone, reach, taken_in, IsRefusal}
+use Rattle.op_model.specs.Telling.{reach}
+use Rattle.op_model.specs.Machine.{refused, has_record_room, with_room, edit_answer, edit_alone, merge_answer, merge_alone, taken_in, IsRefusal}
 use Rattle.op_model.specs.Machine.{EditStep, MergeStep, AckStep, TellStep, HaveStep}
 use Rattle.op_model.specs.Made.{made}
 use Rattle.op_model.specs.Records.{stream_length}
-use Rattle.replica_core.specs.Held.{alone, stored, with_acked, with_edit, with_told, Held}
-use Rattle.replica_core.specs.Merging.{after_merge, answer_of, with_merge}
+use Rattle.op_model.specs.Held.{settled_list, with_acked, with_edit, with_merge, with_told, Held}
+use Rattle.replica_core.specs.Merging.{after_merge, answer_of}
 use Rattle.replica_core.specs.declared.merged.Merged.{Merged}
 use Rattle.replica_core.specs.declared.merged.Merged.TheVariants as merged_as
 use Rattle.hub_parts.specs.Locked.{IsLocked, Held as LockedHeld}
@@ -26,7 +27,13 @@ use Rattle.locked_replica.proofs.QuietCalls.{quiet_call, counts_same}
 
 -- a state of this replica, whatever its device and its commit
 abbrev at : Held → Bool → Bool → ℕ → Option Commit → State
-at h told failed version commit = record (stored h failed version commit) { failure_told = told }
+at h told failed version commit = record {
+  held = h;
+  version = version;
+  failed = failed;
+  failure_told = told;
+  commit = commit;
+}
 
 -- whether there is room depends on the commit only by what was taken
 same_room : (h : Held) (told f f' : Bool) (v v' : ℕ) (c c' : Option Commit) (ops : List Op) → taken_in c h.settled ≡ taken_in c' h.settled
@@ -35,15 +42,15 @@ same_room h told f f' v v' c c' ops same = ap (λ n. nat_le (stream_length (drop
 
 -- and so do the answers to an edit and to a merge
 same_edit : (h : Held) (told f f' : Bool) (v v' : ℕ) (c c' : Option Commit) (e : Edit) → taken_in c h.settled ≡ taken_in c' h.settled
-    → edit_answer h.replica (at h told f v c) e ≡ edit_answer h.replica (at h told f' v' c') e
+    → edit_answer (at h told f v c) e ≡ edit_answer (at h told f' v' c') e
 same_edit h told f f' v v' c c' e same =
-    ap (λ room. if told then refused 9 else with_room room (edit_alone h.replica (alone h) e))
+    ap (λ room. if told then refused 9 else with_room room (edit_alone h e))
     (same_room h told f f' v v' c c' (made h.list h.replica e) same)
 
 same_merge : (h : Held) (told f f' : Bool) (v v' : ℕ) (c c' : Option Commit) (op : Op) → taken_in c h.settled ≡ taken_in c' h.settled
-    → merge_answer h.replica (at h told f v c) op ≡ merge_answer h.replica (at h told f' v' c') op
+    → merge_answer (at h told f v c) op ≡ merge_answer (at h told f' v' c') op
 same_merge h told f f' v v' c c' op same =
-    ap (λ room. if told then refused 9 else with_room room (merge_alone h.replica (alone h) op))
+    ap (λ room. if told then refused 9 else with_room room (merge_alone h op))
     (same_room h told f f' v v' c c' (op ∷ []) same)
 
 module _ {D : Type 0} (facts : Ghosts D) (l : LockedHeld) (f : FlusherHeld D) (lawful : facts.tells f.store.disk → IsLawful facts f.store.disk)
@@ -52,17 +59,17 @@ module _ {D : Type 0} (facts : Ghosts D) (l : LockedHeld) (f : FlusherHeld D) (l
   taken = taken_begun facts l f locked flusher meet ∙ sym (locked_taken l locked)
 
   -- so the answers to an edit and to a merge are the locked part's
-  edit_due : (e : Edit) → edit_answer l.replica.replica (state_of (hub_of l f)) e ≡ edit_answer l.replica.replica (locked_state l) e
+  edit_due : (e : Edit) → edit_answer (state_of (hub_of l f)) e ≡ edit_answer (locked_state l) e
   edit_due e =
       same_edit l.replica l.failure_told f.store.failed false (version_at l.replica f.store) 0 (commit_of l.replica f.store) (locked_commit l) e taken
 
-  merge_due : (op : Op) → merge_answer l.replica.replica (state_of (hub_of l f)) op ≡ merge_answer l.replica.replica (locked_state l) op
+  merge_due : (op : Op) → merge_answer (state_of (hub_of l f)) op ≡ merge_answer (locked_state l) op
   merge_due op =
       same_merge l.replica l.failure_told f.store.failed false (version_at l.replica f.store) 0 (commit_of l.replica f.store) (locked_commit l) op taken
 
   -- an edit that is answered with a ticket
   pub call_edit : (session : ℕ) (e : Edit) (t : Ticket) (next : LockedHeld) → IsLocked next → Meet next (side_of f)
-      → EditStep l.replica.replica (locked_state l) session e (ticket t) (locked_state next)
+      → EditStep (locked_state l) session e (ticket t) (locked_state next)
       → next ≡ record l { replica = with_edit l.replica session e } → IsCall facts (edit session e) (ticket t) (hub_of l f) (hub_of next f)
   call_edit session e t next locked' meet' (answer, left) is =
       let next' : LockedHeld = record l { replica = with_edit l.replica session e } in
@@ -72,16 +79,16 @@ module _ {D : Type 0} (facts : Ghosts D) (l : LockedHeld) (f : FlusherHeld D) (l
       (made l.replica.list l.replica.replica e) refl refl (omega arith) refl (counts_same facts _ f.store refl refl) refl)
 
   -- an edit that is refused
-  pub call_edit_refused : (session : ℕ) (e : Edit) (n : ℕ) (next : LockedHeld) → EditStep l.replica.replica (locked_state l) session e (refused n) (locked_state next)
+  pub call_edit_refused : (session : ℕ) (e : Edit) (n : ℕ) (next : LockedHeld) → EditStep (locked_state l) session e (refused n) (locked_state next)
       → next ≡ l → IsCall facts (edit session e) (refused n) (hub_of l f) (hub_of next f)
   call_edit_refused session e n next (answer, left) is =
-      let due : IsRefusal n (edit_answer l.replica.replica (state_of (hub_of l f)) e) = rw (edit_due e) answer in
+      let due : IsRefusal n (edit_answer (state_of (hub_of l f)) e) = rw (edit_due e) answer in
       rw is (quiet_call facts (edit session e) (refused n) (hub_of l f) (hub_of l f) refl lawful (hub_fits facts l f locked flusher meet) refl (due, refl)
       [] (sym (append-nil l.replica.list)) refl (omega arith) refl (counts_same facts _ f.store refl refl) refl)
 
   -- a merge that isn't refused
   pub call_merge : (peer : ℕ) (op : Op) (m : Merged) (next : LockedHeld) → IsLocked next → Meet next (side_of f)
-      → MergeStep l.replica.replica (locked_state l) peer op (answer_of m) (locked_state next)
+      → MergeStep (locked_state l) peer op (answer_of m) (locked_state next)
       → next ≡ record l { replica = after_merge m l.replica peer op } → IsCall facts (merge peer op) (answer_of m) (hub_of l f) (hub_of next f)
   call_merge peer op merged_as.Applied next locked' meet' (answer, left) is =
       let next' : LockedHeld = record l { replica = with_merge l.replica peer op } in
@@ -99,10 +106,10 @@ module _ {D : Type 0} (facts : Ghosts D) (l : LockedHeld) (f : FlusherHeld D) (l
       [] (sym (append-nil l.replica.list)) refl (omega arith) refl (counts_same facts _ f.store refl refl) refl)
 
   -- a merge that is refused
-  pub call_merge_refused : (peer : ℕ) (op : Op) (n : ℕ) (next : LockedHeld) → MergeStep l.replica.replica (locked_state l) peer op (refused n) (locked_state next)
+  pub call_merge_refused : (peer : ℕ) (op : Op) (n : ℕ) (next : LockedHeld) → MergeStep (locked_state l) peer op (refused n) (locked_state next)
       → next ≡ l → IsCall facts (merge peer op) (refused n) (hub_of l f) (hub_of next f)
   call_merge_refused peer op n next (answer, left) is =
-      let due : IsRefusal n (merge_answer l.replica.replica (state_of (hub_of l f)) op) = rw (merge_due op) answer in
+      let due : IsRefusal n (merge_answer (state_of (hub_of l f)) op) = rw (merge_due op) answer in
       rw is (quiet_call facts (merge peer op) (refused n) (hub_of l f) (hub_of l f) refl lawful (hub_fits facts l f locked flusher meet) refl (due, refl)
       [] (sym (append-nil l.replica.list)) refl (omega arith) refl (counts_same facts _ f.store refl refl) refl)
 
@@ -122,10 +129,10 @@ module _ {D : Type 0} (facts : Ghosts D) (l : LockedHeld) (f : FlusherHeld D) (l
   -- a telling of operations
   pub call_tell : (c : List (ℕ × ℕ)) (ops : List Op) (next : LockedHeld) → IsLocked next → Meet next (side_of f)
       → TellStep (locked_state l) c (operations ops) (locked_state next)
-      → next ≡ record l { replica = with_told l.replica (reach 64 c (take l.replica.settled l.replica.list)) }
+      → next ≡ record l { replica = with_told l.replica (reach c (settled_list l.replica)) }
       → IsCall facts (tell c) (operations ops) (hub_of l f) (hub_of next f)
   call_tell c ops next locked' meet' (are, left) is =
-      let next' : LockedHeld = record l { replica = with_told l.replica (reach 64 c (take l.replica.settled l.replica.list)) } in
+      let next' : LockedHeld = record l { replica = with_told l.replica (reach c (settled_list l.replica)) } in
       let fits = hub_fits facts next' f (rw is at locked') flusher (rw is at meet') in
       rw is (quiet_call facts (tell c) (operations ops) (hub_of l f) (hub_of next' f) refl lawful fits refl (are, refl)
       [] (sym (append-nil l.replica.list)) refl (omega arith) refl (counts_same facts _ f.store refl refl) refl)

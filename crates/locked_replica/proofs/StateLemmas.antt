@@ -3,7 +3,7 @@ use Rattle.std.proofs.Common.{◌≡◌, ◌≢◌, ℕ, Bool, true, false, not,
 use Rattle.std.specs.Prelude.{if◌then◌else◌, is_some}
 use Rattle.std.proofs.lemmas.Bool.Decides.{nat_tests}
 use Rattle.op_model.specs.Machine.{State, Answer, begun, nothing_new, refused, begin_answer, with_failure_told, through_of, is_under_way, BeginStep}
-use Rattle.replica_core.specs.Held.{Held, stored}
+use Rattle.op_model.specs.Held.{Held}
 use Rattle.group_commit.specs.Begin.{is_none, has_room, IsAnswer}
 use Rattle.group_commit.specs.Errors.{number_of}
 use Rattle.group_commit.specs.declared.error.StoreError.{StoreError}
@@ -13,8 +13,13 @@ use Rattle.locked_replica.specs.Steps.{begun_of}
 
 -- the state with these tests and numbers
 abbrev pub state_with : Held → Bool → Bool → Bool → ℕ → ℕ → ℕ → State
-state_with h failed failure_told idle live next version =
-    record (stored h failed (version_in idle h.settled live version) (commit_in idle h.settled live next)) { failure_told = failure_told }
+state_with h failed failure_told idle live next version = record {
+  held = h;
+  version = version_in idle h.settled live version;
+  failed = failed;
+  failure_told = failure_told;
+  commit = commit_in idle h.settled live next;
+}
 
 -- a refusal tells nothing where the device works
 pub tells_none : (s : State) → s.failed ≡ false → with_failure_told s ≡ s

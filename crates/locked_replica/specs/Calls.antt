@@ -118,7 +118,7 @@ pub record IsLeftIn {D : Type 0} (old new : Parts D) (file : List ℕ) : Type 0 
 -- what is acknowledged and told is settled. The disk's time goes on by the device calls that the answer shows.
 pub record IsCall {D : Type 0} (facts : Ghosts D) (event : Event) (answer : Answer) (old new : Parts D) : Type 0 where
   pub owner : new.replica.replica ≡ old.replica.replica
-  pub step : Step old.replica.replica (state_of old) event answer (state_of new)
+  pub step : Step (state_of old) event answer (state_of new)
   pub grows : (more : List Op) × (new.replica.list ≡ old.replica.list ++ more)
   pub settled : new.replica.settled ≡ settled_by old.replica.settled answer
   pub rises : old.replica.settled ≤ new.replica.settled

@@ -2,7 +2,7 @@
 use Rattle.std.specs.Prelude.{ℕ, ◌-◌, Bool, true, false, ◌&&◌, nat_lt, if◌then◌else◌, Option, Some, None}
 use Rattle.root_slots.specs.Root.{version_of, count_of}
 use Rattle.op_model.specs.Machine.{Commit, State}
-use Rattle.replica_core.specs.Held.{stored, Held as ReplicaHeld}
+use Rattle.op_model.specs.Held.{Held as ReplicaHeld}
 use Rattle.group_commit.specs.Begin.{is_idle}
 use Rattle.group_commit.specs.Held.{Held as StoreHeld}
 
@@ -40,5 +40,10 @@ version_at replica store = version_in (is_idle store.phase) replica.settled (com
 
 -- the machine's state
 abbrev pub state_of : {D : Type 0} → Parts D → State
-state_of hub =
-    record (stored hub.replica hub.store.failed (version_at hub.replica hub.store) (commit_of hub.replica hub.store)) { failure_told = hub.failure_told }
+state_of hub = record {
+  held = hub.replica;
+  version = version_at hub.replica hub.store;
+  failed = hub.store.failed;
+  failure_told = hub.failure_told;
+  commit = commit_of hub.replica hub.store;
+}

@@ -1,7 +1,7 @@
 -- What a crash leaves of a hub.
 use Rattle.std.specs.Prelude.{◌⊎◌, ℕ, ◌+◌, ◌≤◌, Bool, true, false, List, length, take, Option, Some, None}
 use Rattle.op_model.specs.Machine.{Commit, CrashLeaves, opened}
-use Rattle.replica_core.specs.Held.{Held}
+use Rattle.op_model.specs.Held.{Held}
 use Rattle.recovery.specs.Image.{IsImage}
 use Rattle.group_commit.specs.declared.phase.Phase.{Phase}
 use Rattle.group_commit.specs.declared.phase.Phase.TheVariants.{Sync3}
@@ -38,7 +38,7 @@ pub record IsCrash {D : Type 0} (hub : Parts D) (file : List ℕ) : Type 0 where
   pub version : ℕ
   pub count : ℕ
   pub image : IsImage file hub.replica.replica version (take count hub.replica.list)
-  pub leaves : CrashLeaves (state_of hub) (opened (take count hub.replica.list) version)
+  pub leaves : CrashLeaves (state_of hub) (opened hub.replica.replica (take count hub.replica.list) version)
 
 -- the image of the file is a beginning of the list, of at least so many operations
 pub record HasAtLeast (n : ℕ) (h : Held) (file : List ℕ) : Type 0 where

@@ -57,7 +57,7 @@ NoneFailed (e ∷ es) = (e.1 ≢ refused 51) × NoneFailed es
 pub record Ran {D : Type 0} (facts : Ghosts D) (old : Parts D) (events : List (Event × Answer)) (new : Parts D) : Type 0 where
   pub owner : new.replica.replica ≡ old.replica.replica
   -- they are a run of the machine
-  pub machine : Run old.replica.replica (state_of old) events (state_of new)
+  pub machine : Run (state_of old) events (state_of new)
   -- the settled number is that of the answers, and never fell
   pub settled : new.replica.settled ≡ settled_behind old.replica.settled events
   pub rising : (k : ℕ) → k ≤ length events → settled_behind old.replica.settled (take k events) ≤ new.replica.settled

@@ -16,8 +16,8 @@ mod pending_tests;
 mod reading;
 mod refusal;
 mod reopening;
+mod replica_calls;
 mod running;
-mod sharing;
 #[cfg(test)]
 mod test_hubs;
 #[cfg(test)]

@@ -1,9 +1,9 @@
 //! The opening of a hub, and what a crash leaves of it.
-ghost use Rattle.std.specs.Prelude.{◌≡◌, ◌↔◌, List, ℕ, IfOk, IfErr};
+ghost use Rattle.std.specs.Prelude.{◌≡◌, List, ℕ, IfOk, IfErr};
 ghost use Rattle.root_slots.specs.Root.{version_of};
-ghost use Rattle.disk_trait.specs.Looks.{OnlyLooks};
 ghost use Rattle.op_model.specs.Machine.{opened};
 ghost use Rattle.group_commit.specs.Commit.{IsLeft};
+ghost use Rattle.group_commit.specs.Opening.{IsLookedAt};
 ghost use Rattle.recovery.specs.Faults.{IsFault, failures_of};
 ghost use Rattle.recovery.specs.Image.{IsImage};
 ghost use Rattle.locked_replica.specs.Hub.{state_of};
@@ -24,17 +24,14 @@ impl<D: Disk> Hub<D> {
         // The hub is in the state right after opening the file's image.
         ensures image { D.tells disk → IfOk result (λ hub. IsImage (D.content disk)
             hub.replica.replica (version_of hub.store.current.body) hub.replica.list) }
-        ensures opened { IfOk result (λ hub.
-            state_of hub ≡ opened hub.replica.list (version_of hub.store.current.body)) }
+        ensures opened { IfOk result (λ hub. state_of hub ≡ opened hub.replica.replica
+            hub.replica.list (version_of hub.store.current.body)) }
         ensures fault { D.tells disk
             → IfErr result (λ fault. IsFault fault.cause (D.content disk)) }
         // It writes nothing.
-        ensures looks { D.tells disk
-            → IfOk result (λ hub. OnlyLooks D.DiskFacts 0 1 disk hub.store.disk) }
-        ensures looks_refused { D.tells disk → IfErr result
-            (λ fault. OnlyLooks D.DiskFacts (failures_of fault.cause) 1 disk fault.disk) }
-        ensures tells { IfOk result (λ hub. D.tells hub.store.disk ↔ D.tells disk) }
-        ensures tells_refused { IfErr result (λ fault. D.tells fault.disk ↔ D.tells disk) }
+        ensures looks { IfOk result (λ hub. IsLookedAt D.DiskFacts 0 1 disk hub.store.disk) }
+        ensures looks_refused { IfErr result
+            (λ fault. IsLookedAt D.DiskFacts (failures_of fault.cause) 1 disk fault.disk) }
     {
         let Parts { locked, flusher } = hub_parts::open(alloc, disk)?;
         flusher.kept();

@@ -1,6 +1,6 @@
 //! The opening of a hub's file anew.
-ghost use Rattle.std.specs.Prelude.{◌≡◌, ◌⊎◌, ◌↔◌, IfOk, IfErr};
-ghost use Rattle.disk_trait.specs.Looks.{OnlyLooks};
+ghost use Rattle.std.specs.Prelude.{◌≡◌, ◌⊎◌, IfOk, IfErr};
+ghost use Rattle.group_commit.specs.Opening.{IsLookedAt};
 ghost use Rattle.recovery.specs.Faults.{number_of, failures_of};
 ghost use Rattle.locked_replica.specs.Reopening.{IsReopened};
 
@@ -21,13 +21,10 @@ impl<D: Disk> Hub<D> {
         ensures fault { D.tells self.store.disk → IfErr result
             (λ fault. (number_of fault.cause ≡ 1) ⊎ (failures_of fault.cause ≡ 1)) }
         // It writes nothing.
-        ensures looks { D.tells self.store.disk
-            → IfOk result (λ hub. OnlyLooks D.DiskFacts 0 1 self.store.disk hub.store.disk) }
-        ensures looks_refused { D.tells self.store.disk → IfErr result (λ fault.
-            OnlyLooks D.DiskFacts (failures_of fault.cause) 1 self.store.disk fault.disk) }
-        ensures tells { IfOk result (λ hub. D.tells hub.store.disk ↔ D.tells self.store.disk) }
-        ensures tells_refused { IfErr result
-            (λ fault. D.tells fault.disk ↔ D.tells self.store.disk) }
+        ensures looks { IfOk result
+            (λ hub. IsLookedAt D.DiskFacts 0 1 self.store.disk hub.store.disk) }
+        ensures looks_refused { IfErr result (λ fault. IsLookedAt D.DiskFacts
+            (failures_of fault.cause) 1 self.store.disk fault.disk) }
     {
         self.survivors();
         Hub::open(alloc, self.into_disk())

@@ -10,6 +10,7 @@ use Rattle.op_model.specs.Marks.{markings, marking_of}
 use Rattle.op_model.specs.Placing.{Fits}
 use Rattle.model_laws.proofs.Growth.{markings-append}
 use Rattle.char_sequence.specs.Content.{AreRemoves, IsRun}
+use Rattle.mark_anchors.specs.Gathered.{AreGathered, Gathered}
 use Rattle.mark_anchors.specs.Keeping.{AreMarksOf, Kept}
 
 -- an operation of the document comes behind the others
@@ -20,12 +21,19 @@ kept_more old new ops doc op more are fits =
     ∙ (ap (λ kept. kept ++ markings (op ∷ []) op.doc) are
     ∙ (ap (λ n. markings ops doc ++ markings (op ∷ []) n) fits.same ∙ sym (markings-append ops (op ∷ []) doc)))
 
--- operations that make no mark operation of the document leave those that are kept as they are
+-- operations that make no mark operation of the document leave its others as they are
+markings_with : (ms : List Marking) (ops more : List Op) (doc : ℕ) → markings more doc ≡ [] → ms ≡ markings ops doc → ms ≡ markings (ops ++ more) doc
+markings_with ms ops more doc none are =
+    are ∙ (sym (append-nil (markings ops doc)) ∙ (ap (λ ms. markings ops doc ++ ms) (sym none) ∙ sym (markings-append ops more doc)))
+
+-- so they leave those that are kept
 pub kept_with : (kept : Kept) (ops more : List Op) (doc : ℕ) → markings more doc ≡ [] → AreMarksOf kept ops doc → AreMarksOf kept (ops ++ more) doc
-kept_with kept ops more doc none are = record {
-  all = are.all
-      ∙ (sym (append-nil (markings ops doc)) ∙ (ap (λ ms. markings ops doc ++ ms) (sym none) ∙ sym (markings-append ops more doc)));
-}
+kept_with kept ops more doc none are = record { all = markings_with kept.markings ops more doc none are.all }
+
+-- and those that are gathered
+pub gathered_with : (gathered : Gathered) (ops more : List Op) (doc : ℕ) → markings more doc ≡ [] → AreGathered gathered ops doc
+    → AreGathered gathered (ops ++ more) doc
+gathered_with gathered ops more doc none are = record { all = markings_with gathered ops more doc none are.all }
 
 -- a body makes no mark operation, and so neither does an operation with it, in front of others that make none
 marks_none : (op : Op) (ops : List Op) (doc : ℕ) → marking_of op.id op.body ≡ None → markings ops doc ≡ [] → markings (op ∷ ops) doc ≡ []

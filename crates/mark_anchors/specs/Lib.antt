@@ -1,5 +1,6 @@
 pub mod Edges
 pub mod Force
+pub mod Gathered
 pub mod Intervals
 pub mod Keeping
 pub mod Naming

@@ -1,7 +1,7 @@
 //! The mark operations that are in force at a place.
-ghost use Rattle.std.specs.Prelude.{◌≡◌, ◌++◌, ◌∷◌, [], ℕ, List, length, map, IfOk, OnOk};
-ghost use Rattle.char_sequence.specs.Chunks.{cells_of};
+ghost use Rattle.std.specs.Prelude.{◌≡◌, ◌++◌, ◌∷◌, [], ℕ, List, map, IfOk, OnOk};
 ghost use Rattle.char_sequence.specs.Content.{Holds};
+ghost use Rattle.char_sequence.specs.Counting.{count_of};
 ghost use Rattle.mark_anchors.specs.Force.{in_force as in_force_of, number};
 ghost use Rattle.mark_anchors.specs.Intervals.{interval_of, place_of};
 ghost use Rattle.mark_anchors.specs.Intervals.{place_of_end, place_of_start};
@@ -44,7 +44,7 @@ fn push<'a>(
     place: &Place,
     found: &mut Vec<&'a Marking>,
 ) -> Result<(), AllocError>
-    requires { count ≡ length (cells_of sequence.now) }
+    requires { count ≡ count_of sequence.now }
     ensures { OnOk result ((ops : List Op) (doc : ℕ) → Holds sequence.now ops doc
         → map (λ m. m.now) found.new.items ≡ map (λ m. m.now) found.old.items
         ++ in_force_of (walk ops doc) (number place.now) (marking.now ∷ [])) }
@@ -58,7 +58,7 @@ fn push<'a>(
 
 /// The places at which a mark operation is in force.
 fn interval(sequence: &Sequence, count: usize, marking: &Marking) -> Interval
-    requires { count ≡ length (cells_of sequence.now) }
+    requires { count ≡ count_of sequence.now }
     ensures { (ops : List Op) (doc : ℕ) → Holds sequence.now ops doc
         → result ≡ interval_of (walk ops doc) marking.now }
 {
@@ -70,7 +70,7 @@ fn interval(sequence: &Sequence, count: usize, marking: &Marking) -> Interval
 
 /// Where a mark operation with this start begins.
 fn start_place(sequence: &Sequence, count: usize, start: &Start) -> Place
-    requires { count ≡ length (cells_of sequence.now) }
+    requires { count ≡ count_of sequence.now }
     ensures { (ops : List Op) (doc : ℕ) → Holds sequence.now ops doc
         → result ≡ place_of_start (walk ops doc) start.now }
 {
@@ -82,7 +82,7 @@ fn start_place(sequence: &Sequence, count: usize, start: &Start) -> Place
 
 /// Where a mark operation with this end ends.
 fn end_place(sequence: &Sequence, count: usize, end: &End) -> Place
-    requires { count ≡ length (cells_of sequence.now) }
+    requires { count ≡ count_of sequence.now }
     ensures { (ops : List Op) (doc : ℕ) → Holds sequence.now ops doc
         → result ≡ place_of_end (walk ops doc) end.now }
 {
@@ -94,7 +94,7 @@ fn end_place(sequence: &Sequence, count: usize, end: &End) -> Place
 
 /// The place of an anchor.
 fn place(sequence: &Sequence, count: usize, anchor: &Anchor) -> Place
-    requires { count ≡ length (cells_of sequence.now) }
+    requires { count ≡ count_of sequence.now }
     ensures { (ops : List Op) (doc : ℕ) → Holds sequence.now ops doc
         → result ≡ place_of (walk ops doc) anchor.now }
 {
@@ -106,7 +106,7 @@ fn place(sequence: &Sequence, count: usize, anchor: &Anchor) -> Place
 
 /// How many characters stand before this one; all of them where it isn't there.
 fn index(sequence: &Sequence, count: usize, id: OpId) -> usize
-    requires { count ≡ length (cells_of sequence.now) }
+    requires { count ≡ count_of sequence.now }
     ensures { (ops : List Op) (doc : ℕ) → Holds sequence.now ops doc
         → result ≡ index_of id (walk ops doc) }
 {
@@ -118,7 +118,7 @@ fn index(sequence: &Sequence, count: usize, id: OpId) -> usize
 
 /// How many characters a sequence has, tombstones counted. A step for each chunk.
 fn count(sequence: &Sequence) -> usize
-    ensures { result ≡ length (cells_of sequence.now) }
+    ensures { result ≡ count_of sequence.now }
 {
     sequence.are_sized();
     let mut ticks = Ticks::new();

@@ -5,12 +5,14 @@ mod anchors;
 mod edge;
 mod edges;
 mod force;
+mod gathering;
 mod laws;
 mod naming;
 mod place;
 
 pub use anchors::Anchors;
 pub use edge::Edge;
+pub use gathering::Gathering;
 pub use laws::{
     inserts_and_removes_leave_the_marks, kept_marks_say_their_ends,
     other_documents_leave_the_marks, runs_and_removes_leave_the_marks,

@@ -49,13 +49,6 @@ impl ReplicaId {
         ReplicaId::read(id.into_bytes())
     }
 
-    /// The UUID with the same bytes.
-    pub fn to_uuid(self) -> Uuid
-        ensures { result ≡ to_be_bytes w128 self }
-    {
-        Uuid::from_u128(self.number)
-    }
-
     /// The sixteen bytes as a number, the highest first.
     pub fn number(self) -> u128
         ensures { result ≡ self }
@@ -76,7 +69,7 @@ mod tests {
         let bytes = [0, 0, 0, 0, 0, 0, 0x40, 0, 0x80, 0, 0, 0, 0, 0, 0, 1];
         assert_eq!(rt; replica.bytes().as_slice(), bytes.as_slice());
         assert!(rt; ReplicaId::read(bytes) == Some(replica));
-        assert!(rt; replica.to_uuid() == id);
+        assert!(rt; Uuid::from_bytes(replica.bytes()) == id);
         Ok(())
     }
 

@@ -6,7 +6,7 @@ ghost use Rattle.op_list.specs.Held.{ends_of, Holds};
 ghost use Rattle.op_model.specs.Records.{stream_length};
 ghost use Rattle.op_model.specs.declared.op.Op.{Op as Operation};
 
-use change_codec::{StreamError, record_len, skip_op};
+use change_codec::{StreamError, skip_op};
 use op_model::Op;
 use std::alloc::{AllocError, Global};
 
@@ -39,7 +39,7 @@ pub fn push_ends(start: usize, ops: &[Op], ends: &mut Vec<u32>)
 {
     let mut end = start;
     for op in ops {
-        end += record_len(op);
+        end += op.record_length() as usize;
         ends.push_reserved(end as u32);
     }
 }

@@ -9,4 +9,6 @@ pub mod Causality
 pub mod Made
 pub mod Placing
 pub mod Replay
+pub mod Held
+pub mod Telling
 pub mod Machine

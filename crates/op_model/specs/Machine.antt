@@ -1,5 +1,5 @@
 -- What a replica with its store does, one event after another.
-use Rattle.std.specs.Prelude.{◌≡◌, ◌⊎◌, ℕ, zero, suc, ◌+◌, ◌≤◌, ◌<◌, Bool, true, false, not, ◌||◌, ◌==◌, nat_le, if◌then◌else◌, List, [], ◌∷◌, ◌++◌, length, take, drop, filter, max, Option, Some, None, is_some}
+use Rattle.std.specs.Prelude.{◌≡◌, ◌⊎◌, ℕ, ◌+◌, ◌≤◌, ◌<◌, Bool, true, false, not, ◌||◌, ◌==◌, nat_le, if◌then◌else◌, List, [], ◌∷◌, ◌++◌, length, take, drop, Option, Some, None, is_some}
 use Rattle.op_model.specs.declared.op.Op.{Op}
 use Rattle.op_model.specs.declared.edit.Edit.{Edit}
 use Rattle.op_ids.specs.Clock.{is_ready}
@@ -7,21 +7,18 @@ use Rattle.op_model.specs.Text.{rev}
 use Rattle.op_model.specs.Causality.{clock_of, is_known, first_failed}
 use Rattle.op_model.specs.Made.{made, edit_refusal}
 use Rattle.op_model.specs.Records.{stream_length}
-use Rattle.op_model.specs.Replay.{Kept, edited, merged, settlement}
+use Rattle.op_model.specs.Held.{Held, opened_with, settled_list, with_edit, with_merge, with_settled, with_acked, with_told}
+use Rattle.op_model.specs.Telling.{untold, reach}
 
 -- a commit: of so many operations of the list, and whether it is through
 pub record Commit : Type 0 where
   pub count : ℕ
   pub through : Bool
 
--- a replica's list, its three numbers, the kept steps with the newest first, the version of the live root, whether the device has
--- failed and a refused begin or settle has told it, and the commit, if there is one
+-- what the replica holds, the version of the live root, whether the device has failed and a refused begin or settle has told it, and
+-- the commit, if there is one
 pub record State : Type 0 where
-  pub list : List Op
-  pub settled : ℕ
-  pub acked : ℕ
-  pub told : ℕ
-  pub steps : List Kept
+  pub held : Held
   pub version : ℕ
   pub failed : Bool
   pub failure_told : Bool
@@ -66,25 +63,6 @@ pub data Answer : Type 0 where
   -- of any: a refusal by its number
   refused : ℕ → Answer
 
--- the state with all operations of an edit
-abbrev pub with_edit : ℕ → State → ℕ → Edit → State
-with_edit replica s session e = record s {
-  list = s.list ++ made s.list replica e;
-  steps = edited session e (length s.list) (length (made s.list replica e)) ∷ s.steps;
-}
-
--- the state with one operation of a peer
-abbrev pub with_merge : State → ℕ → Op → State
-with_merge s peer op = record s { list = s.list ++ op ∷ []; steps = merged peer (length s.list) ∷ s.steps }
-
--- the state with so many operations acknowledged
-abbrev pub with_acked : State → ℕ → State
-with_acked s n = record s { acked = max s.acked n }
-
--- the state with so many operations told
-abbrev pub with_told : State → ℕ → State
-with_told s n = record s { told = max s.told n }
-
 -- the state behind a refused begin or settle: it has told the failure, if there is one
 abbrev pub with_failure_told : State → State
 with_failure_told s = record s { failure_told = s.failed || s.failure_told }
@@ -93,8 +71,8 @@ abbrev pub ticket_of : List Op → ℕ → Ticket
 ticket_of list doc = record { end = length list; rev = rev list doc }
 
 -- a step leaves two places behind it: for the settlements of the commit under way and of the one after it
-abbrev pub has_places : State → Bool
-has_places s = nat_le (length s.steps + 3) 1048576
+abbrev pub has_places : Held → Bool
+has_places h = nat_le (length h.steps + 3) 1048576
 
 -- how many operations are settled or in the commit
 abbrev pub taken_in : Option Commit → ℕ → ℕ
@@ -103,7 +81,7 @@ taken_in (Some c) settled = c.count
 
 -- the operations that wait for the next commit
 abbrev pub pending : State → List Op
-pending s = drop (taken_in s.commit s.settled) s.list
+pending s = drop (taken_in s.commit s.held.settled) s.held.list
 
 -- the records of those that wait, with those of these behind them, have at most 1,048,576 bytes
 abbrev pub has_record_room : State → List Op → Bool
@@ -117,46 +95,47 @@ with_room false applied = refused 8
 with_room false a = a
 
 -- the answer to an edit that nothing but the kept steps may refuse: steps 10
-abbrev pub edit_answer_unless : ℕ → State → Edit → Option ℕ → Answer
-edit_answer_unless replica s e (Some n) = refused n
-edit_answer_unless replica s e None =
-    if has_places s then ticket (ticket_of (s.list ++ made s.list replica e) e.doc) else refused 10
+abbrev pub edit_answer_unless : Held → Edit → Option ℕ → Answer
+edit_answer_unless h e (Some n) = refused n
+edit_answer_unless h e None =
+    if has_places h then ticket (ticket_of (h.list ++ made h.list h.replica e) e.doc) else refused 10
 
 -- the answer to an edit of a replica without a store: its own refusals, steps 10
-abbrev pub edit_alone : ℕ → State → Edit → Answer
-edit_alone replica s e = edit_answer_unless replica s e (edit_refusal s.list replica e)
+abbrev pub edit_alone : Held → Edit → Answer
+edit_alone h e = edit_answer_unless h e (edit_refusal h.list h.replica e)
 
 -- the answers to an edit, in the order of test: a failure that is told 9, those of the replica alone, no room for the records 8
-abbrev pub edit_answer : ℕ → State → Edit → Answer
-edit_answer replica s e =
-    if s.failure_told then refused 9 else with_room (has_record_room s (made s.list replica e)) (edit_alone replica s e)
+abbrev pub edit_answer : State → Edit → Answer
+edit_answer s e =
+    if s.failure_told then refused 9
+    else with_room (has_record_room s (made s.held.list s.held.replica e)) (edit_alone s.held e)
 
 -- the answer to a merge that a check may refuse: steps 10
-abbrev pub merge_answer_unless : State → Option ℕ → Answer
-merge_answer_unless s (Some n) = refused n
-merge_answer_unless s None = if has_places s then applied else refused 10
+abbrev pub merge_answer_unless : Held → Option ℕ → Answer
+merge_answer_unless h (Some n) = refused n
+merge_answer_unless h None = if has_places h then applied else refused 10
 
 -- the answers of a merge without a store, in the order of test: known, own but unknown 20, early, then the checks, steps 10
-abbrev pub merge_alone : ℕ → State → Op → Answer
-merge_alone replica s op =
-    if is_known (clock_of s.list) op then known
-    else if op.id.replica == replica then refused 20
-    else if not (is_ready (clock_of s.list) op.id.replica op.deps) then early
-    else merge_answer_unless s (first_failed s.list op)
+abbrev pub merge_alone : Held → Op → Answer
+merge_alone h op =
+    if is_known (clock_of h.list) op then known
+    else if op.id.replica == h.replica then refused 20
+    else if not (is_ready (clock_of h.list) op.id.replica op.deps) then early
+    else merge_answer_unless h (first_failed h.list op)
 
 -- the answers of a merge, in the order of test: a failure that is told 9, those of the replica alone, no room for the record 8
-abbrev pub merge_answer : ℕ → State → Op → Answer
-merge_answer replica s op =
-    if s.failure_told then refused 9 else with_room (has_record_room s (op ∷ [])) (merge_alone replica s op)
+abbrev pub merge_answer : State → Op → Answer
+merge_answer s op =
+    if s.failure_told then refused 9 else with_room (has_record_room s (op ∷ [])) (merge_alone s.held op)
 
 -- the answers of a begin, in the order of test: failed 44, busy 8, nothing new, no further version 7
 abbrev pub begin_answer : State → Answer
 begin_answer s =
     if s.failed then refused 44
     else if is_some s.commit then refused 8
-    else if nat_le (length s.list) s.settled then nothing_new
+    else if nat_le (length s.held.list) s.held.settled then nothing_new
     else if nat_le 18446744073709551615 s.version then refused 7
-    else begun (length s.list)
+    else begun (length s.held.list)
 
 -- how many operations a commit that is through has
 abbrev pub through_of : Option Commit → Option ℕ
@@ -172,22 +151,6 @@ abbrev pub through : Option Commit → Option Commit
 through None = None
 through (Some c) = Some (record c { through = true })
 
--- of the settled operations the first, at most 64, that a clock doesn't count
-abbrev pub untold : List (ℕ × ℕ) → State → List Op
-untold c s = take 64 (filter (λ op. not (is_known c op)) (take s.settled s.list))
-
--- one more, but none stays none
-abbrev pub one_more_if_any : ℕ → ℕ
-one_more_if_any zero = 0
-one_more_if_any (suc n) = suc (suc n)
-
--- how long the front of a list is that ends with the last of the first n operations which a clock doesn't count; 0 where there
--- is none
-abbrev pub reach : ℕ → List (ℕ × ℕ) → List Op → ℕ
-reach zero c ops = 0
-reach (suc n) c [] = 0
-reach (suc n) c (op ∷ ops) = elim (is_known c op) [ true ↦ one_more_if_any (reach (suc n) c ops) | false ↦ reach n c ops + 1 ]
-
 -- this number may be answered where that answer is due: the refusal's own, or 1, want of memory, in place of a success that grows
 -- something
 abbrev pub IsRefusal : ℕ → Answer → Type 0
@@ -197,18 +160,21 @@ IsRefusal n applied = n ≡ 1
 IsRefusal n (begun m) = n ≡ 1
 IsRefusal n _ = ⊥
 
-abbrev pub EditStep : ℕ → State → ℕ → Edit → Answer → State → Type 0
-EditStep replica s session e (ticket t) next =
-    (edit_answer replica s e ≡ ticket t) × (next ≡ with_edit replica s session e)
-EditStep replica s session e (refused n) next = IsRefusal n (edit_answer replica s e) × (next ≡ s)
-EditStep replica s session e _ next = ⊥
+-- the state with what the replica holds then
+abbrev pub holding : State → Held → State
+holding s h = record s { held = h }
 
-abbrev pub MergeStep : ℕ → State → ℕ → Op → Answer → State → Type 0
-MergeStep replica s peer op applied next = (merge_answer replica s op ≡ applied) × (next ≡ with_merge s peer op)
-MergeStep replica s peer op known next = (merge_answer replica s op ≡ known) × (next ≡ s)
-MergeStep replica s peer op early next = (merge_answer replica s op ≡ early) × (next ≡ s)
-MergeStep replica s peer op (refused n) next = IsRefusal n (merge_answer replica s op) × (next ≡ s)
-MergeStep replica s peer op _ next = ⊥
+abbrev pub EditStep : State → ℕ → Edit → Answer → State → Type 0
+EditStep s session e (ticket t) next = (edit_answer s e ≡ ticket t) × (next ≡ holding s (with_edit s.held session e))
+EditStep s session e (refused n) next = IsRefusal n (edit_answer s e) × (next ≡ s)
+EditStep s session e _ next = ⊥
+
+abbrev pub MergeStep : State → ℕ → Op → Answer → State → Type 0
+MergeStep s peer op applied next = (merge_answer s op ≡ applied) × (next ≡ holding s (with_merge s.held peer op))
+MergeStep s peer op known next = (merge_answer s op ≡ known) × (next ≡ s)
+MergeStep s peer op early next = (merge_answer s op ≡ early) × (next ≡ s)
+MergeStep s peer op (refused n) next = IsRefusal n (merge_answer s op) × (next ≡ s)
+MergeStep s peer op _ next = ⊥
 
 abbrev pub BeginStep : State → Answer → State → Type 0
 BeginStep s (begun n) next =
@@ -229,71 +195,71 @@ DeviceStep s (refused n) next =
 DeviceStep s _ next = ⊥
 
 -- the state after the settlement of a commit that is through
-abbrev pub with_settled : ℕ → State → State
-with_settled n s = record s { settled = n; steps = settlement n ∷ s.steps; version = s.version + 1; commit = None }
+abbrev pub with_settlement : State → ℕ → State
+with_settlement s n = record s { held = with_settled s.held n; version = s.version + 1; commit = None }
 
 abbrev pub settle_answer : State → Answer
 settle_answer s =
     if s.failed then refused 44 else elim (through_of s.commit) [ None ↦ refused 8 | Some n ↦ settled_to n ]
 
 abbrev pub SettleStep : State → Answer → State → Type 0
-SettleStep s (settled_to n) next = (settle_answer s ≡ settled_to n) × (next ≡ with_settled n s)
+SettleStep s (settled_to n) next = (settle_answer s ≡ settled_to n) × (next ≡ with_settlement s n)
 SettleStep s (refused n) next = (settle_answer s ≡ refused n) × (next ≡ with_failure_told s)
 SettleStep s _ next = ⊥
 
 abbrev pub AckStep : State → Ticket → Answer → State → Type 0
-AckStep s t (acknowledged true) next = (t.end ≤ s.settled) × (next ≡ with_acked s t.end)
-AckStep s t (acknowledged false) next = (s.settled < t.end) × (next ≡ s)
+AckStep s t (acknowledged true) next = (t.end ≤ s.held.settled) × (next ≡ holding s (with_acked s.held t.end))
+AckStep s t (acknowledged false) next = (s.held.settled < t.end) × (next ≡ s)
 AckStep s t _ next = ⊥
 
 abbrev pub TellStep : State → List (ℕ × ℕ) → Answer → State → Type 0
 TellStep s c (operations ops) next =
-    (ops ≡ untold c s) × (next ≡ with_told s (reach 64 c (take s.settled s.list)))
+    (ops ≡ untold c (settled_list s.held)) × (next ≡ holding s (with_told s.held (reach c (settled_list s.held))))
 TellStep s c (refused n) next = (n ≡ 1) × (next ≡ s)
 TellStep s c _ next = ⊥
 
 abbrev pub HaveStep : State → Answer → State → Type 0
-HaveStep s (clock c) next = (c ≡ clock_of (take s.settled s.list)) × (next ≡ with_told s s.settled)
+HaveStep s (clock c) next = (c ≡ clock_of (settled_list s.held)) × (next ≡ holding s (with_told s.held s.held.settled))
 HaveStep s (refused n) next = (n ≡ 1) × (next ≡ s)
 HaveStep s _ next = ⊥
 
 -- one event of a replica, with its answer: a pair that never comes is impossible
-abbrev pub Step : ℕ → State → Event → Answer → State → Type 0
-Step replica s (edit session e) a next = EditStep replica s session e a next
-Step replica s (merge peer op) a next = MergeStep replica s peer op a next
-Step replica s begin a next = BeginStep s a next
-Step replica s device_step a next = DeviceStep s a next
-Step replica s settle a next = SettleStep s a next
-Step replica s (ack t) a next = AckStep s t a next
-Step replica s (tell c) a next = TellStep s c a next
-Step replica s have a next = HaveStep s a next
+abbrev pub Step : State → Event → Answer → State → Type 0
+Step s (edit session e) a next = EditStep s session e a next
+Step s (merge peer op) a next = MergeStep s peer op a next
+Step s begin a next = BeginStep s a next
+Step s device_step a next = DeviceStep s a next
+Step s settle a next = SettleStep s a next
+Step s (ack t) a next = AckStep s t a next
+Step s (tell c) a next = TellStep s c a next
+Step s have a next = HaveStep s a next
 
 -- Events one after another, each with its answer. There is no crash among them: what one leaves is said below.
-abbrev pub Run : ℕ → State → List (Event × Answer) → State → Type 0
-Run replica s [] next = next ≡ s
-Run replica s (e ∷ es) next = (mid : State) × Step replica s e.0 e.1 mid × Run replica mid es next
+abbrev pub Run : State → List (Event × Answer) → State → Type 0
+Run s [] next = next ≡ s
+Run s (e ∷ es) next = (mid : State) × Step s e.0 e.1 mid × Run mid es next
 
--- the state after opening a file with this list
-abbrev pub opened : List Op → ℕ → State
-opened list version = record {
-  list = list;
-  settled = length list;
-  acked = length list;
-  told = length list;
-  steps = [];
+-- the state after a replica opened a file with this list
+abbrev pub opened : ℕ → List Op → ℕ → State
+opened replica list version = record {
+  held = opened_with replica list;
   version = version;
   failed = false;
   failure_told = false;
   commit = None;
 }
 
+-- the state after opening a file that has the first so many operations
+abbrev pub reopened : State → ℕ → ℕ → State
+reopened s count version = opened s.held.replica (take count s.held.list) version
+
 -- A crash leaves the settled list, or the list of the commit; once that is through, its list alone.
 abbrev pub CrashLeavesOf : State → Commit → State → Type 0
 CrashLeavesOf s c next = elim c.through [
-  | true ↦ next ≡ opened (take c.count s.list) (s.version + 1)
-  | false ↦ (next ≡ opened (take s.settled s.list) s.version) ⊎ (next ≡ opened (take c.count s.list) (s.version + 1))
+  | true ↦ next ≡ reopened s c.count (s.version + 1)
+  | false ↦ (next ≡ reopened s s.held.settled s.version) ⊎ (next ≡ reopened s c.count (s.version + 1))
 ]
 
 -- what is opened after a crash
 abbrev pub CrashLeaves : State → State → Type 0
-CrashLeaves s next = elim s.commit [ None ↦ next ≡ opened (take s.settled s.list) s.version | Some c ↦ CrashLeavesOf s c next ]
+CrashLeaves s next = elim s.commit [ None ↦ next ≡ reopened s s.held.settled s.version | Some c ↦ CrashLeavesOf s c next ]

@@ -49,9 +49,13 @@ body_length (Remove target) = 24
 body_length (AddMark mark start end) = mark_length mark + start_length start + end_length end
 body_length (RemoveMark key start end) = key_length key + start_length start + end_length end
 
--- length 4, kind 1, document 4, id 24, number of deps 1, each of them 24, content
+-- length 4, kind 1, document 4, id 24, number of deps 1, each of them 24
+abbrev pub head_length : ℕ → ℕ
+head_length deps = 34 + 24 * deps
+
+-- the head, for so many deps, and the content
 abbrev pub record_length : Op → ℕ
-record_length op = 34 + 24 * length op.deps + body_length op.body
+record_length op = head_length (length op.deps) + body_length op.body
 
 -- the records of all operations, one after another
 abbrev pub stream_length : List Op → ℕ

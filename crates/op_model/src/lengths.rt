@@ -1,19 +1,47 @@
-//! How many bytes the record of an operation takes.
-ghost use Rattle.std.specs.Prelude.{◌≡◌, ◌<◌};
-ghost use Rattle.op_model.specs.Records.{record_length as length_of, body_length as body_length_of};
-ghost use Rattle.op_model.specs.Records.{mark_length as mark_length_of, key_length as key_length_of};
+//! How many bytes the record of an operation takes: all that works it out without the record stands here.
+ghost use Rattle.std.specs.Prelude.{◌≡◌, ◌≤◌, if◌then◌else◌};
+ghost use Rattle.op_model.specs.Records.{head_length as head_length_of, record_length as length_of};
+ghost use Rattle.op_model.specs.Records.{body_length as body_length_of, mark_length as mark_length_of};
+ghost use Rattle.op_model.specs.Records.{key_length as key_length_of};
 ghost use Rattle.op_model.specs.Records.{start_length as start_length_of, end_length as end_length_of};
 
 use crate::anchor::{End, Start};
 use crate::mark::{Mark, MarkKey};
 use crate::op::{Body, Op};
 
+/// The bytes of an id, which is all that a remove has beside its head.
+pub const ID_LENGTH: u64 = 24;
+
+/// How many bytes the head of a record takes, where its operation has so many deps: all but the content. Constant.
+pub fn head_length(deps: usize) -> u64
+    requires { deps ≤ 17 }
+    ensures value { result ≡ head_length_of deps }
+    ensures within { result ≤ 442 }
+{
+    34 + ID_LENGTH * deps as u64
+}
+
+/// How many bytes an origin, a start or an end takes: a tag, and an id where it names a character. Constant.
+pub fn place_length(has_id: bool) -> u64
+    ensures { result ≡ (if has_id then 25 else 1) }
+{
+    if has_id { 1 + ID_LENGTH } else { 1 }
+}
+
+/// How many bytes the content of an insert takes: its origin, and four for its character. Constant.
+pub fn insert_length(has_origin: bool) -> u64
+    ensures { result ≡ (if has_origin then 29 else 5) }
+{
+    place_length(has_origin) + 4
+}
+
 impl Op {
-    /// How many bytes the operation's record takes. Constant.
+    /// How many bytes the operation's record takes: at most 1,495. Constant.
     pub fn record_length(&self) -> u64
-        ensures { result ≡ length_of self.now }
+        ensures value { result ≡ length_of self.now }
+        ensures within { result ≤ 1495 }
     {
-        34 + 24 * self.deps.len() as u64 + self.body.record_length()
+        head_length(self.deps.len()) + self.body.record_length()
     }
 }
 
@@ -21,15 +49,11 @@ impl Body {
     /// How many bytes the body takes in a record.
     fn record_length(&self) -> u64
         ensures value { result ≡ body_length_of self.now }
-        ensures small { result < 2000 }
+        ensures within { result ≤ 1077 }
     {
         match self {
-            Body::Insert { origin: None, .. } => 5,
-            Body::Insert {
-                origin: Some(_),
-                ..
-            } => 29,
-            Body::Remove { .. } => 24,
+            Body::Insert { origin, .. } => insert_length(origin.is_some()),
+            Body::Remove { .. } => ID_LENGTH,
             Body::AddMark { mark, start, end } => mark.record_length()
                 + start.record_length()
                 + end.record_length(),
@@ -44,7 +68,7 @@ impl Mark {
     /// How many bytes the mark takes in a record. Constant.
     pub fn record_length(&self) -> u64
         ensures value { result ≡ mark_length_of self.now }
-        ensures small { result < 1100 }
+        ensures within { result ≤ 1027 }
     {
         match self {
             Mark::Strong | Mark::Em => 1,
@@ -58,7 +82,7 @@ impl MarkKey {
     /// How many bytes the key takes in a record. Constant.
     pub fn record_length(&self) -> u64
         ensures value { result ≡ key_length_of self.now }
-        ensures small { result < 100 }
+        ensures within { result ≤ 17 }
     {
         match self {
             MarkKey::Strong | MarkKey::Em | MarkKey::Link => 1,
@@ -71,11 +95,11 @@ impl Start {
     /// How many bytes the start takes in a record.
     fn record_length(&self) -> u64
         ensures value { result ≡ start_length_of self.now }
-        ensures small { result < 100 }
+        ensures within { result ≤ 25 }
     {
         match self {
-            Start::OfText => 1,
-            Start::From(_) => 25,
+            Start::OfText => place_length(false),
+            Start::From(_) => place_length(true),
         }
     }
 }
@@ -84,11 +108,11 @@ impl End {
     /// How many bytes the end takes in a record.
     fn record_length(&self) -> u64
         ensures value { result ≡ end_length_of self.now }
-        ensures small { result < 100 }
+        ensures within { result ≤ 25 }
     {
         match self {
-            End::To(_) => 25,
-            End::OfText => 1,
+            End::To(_) => place_length(true),
+            End::OfText => place_length(false),
         }
     }
 }

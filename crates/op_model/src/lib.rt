@@ -23,6 +23,7 @@ pub use anchor::{Anchor, End, Start};
 pub use character::Character;
 pub use comment_id::{CommentId, CommentIds};
 pub use edit::{Change, Edit, EditText};
+pub use lengths::{ID_LENGTH, head_length, insert_length, place_length};
 pub use limits::{MAX_DOCUMENTS, MAX_EDIT, MAX_OPERATIONS, MAX_STREAM_LENGTH};
 pub use mark::{Mark, MarkKey, Marks};
 pub use marking::Marking;

@@ -4,6 +4,7 @@ pub mod Crowded
 pub mod GapLemmas
 pub mod IndexLemmas
 pub mod Joining
+pub mod Looked
 pub mod NumberLemmas
 pub mod PageReads
 pub mod Parts

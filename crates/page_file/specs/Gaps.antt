@@ -1,5 +1,7 @@
 -- Ranges of pages.
-use Rattle.std.specs.Prelude.{ℕ, Bool, true, false, ◌&&◌, ◌||◌, nat_le, nat_lt, if◌then◌else◌, List, [], ◌∷◌}
+use Rattle.std.specs.Prelude.{◌≡◌, ◌≤◌, ◌==◌, ℕ, ◌+◌, Bool, true, false, not, ◌&&◌, ◌||◌, nat_le, nat_lt, if◌then◌else◌}
+use Rattle.std.specs.Prelude.{List, [], ◌∷◌, Vec, vec_len, vec_capacity}
+use Rattle.std.specs.declared.alloc.Global.{Global}
 use Rattle.page_file.specs.declared.gaps.Gap.{Gap}
 
 -- is one of the pages of a range
@@ -29,3 +31,18 @@ begins_by n (gap ∷ gaps) = nat_le gap.start n
 -- the pages from a start up to an end, as one range or none
 abbrev pub between : ℕ → ℕ → List Gap
 between start end = if nat_lt start end then record { start = start; end = end } ∷ [] else []
+
+-- the ranges fall, and have the pages that they had but for this one
+pub record Loses (page : ℕ) (old new : List Gap) : Type 0 where
+  pub falling : are_falling 4294967296 new ≡ true
+  pub left : (m : ℕ) → in_gaps m new ≡ (in_gaps m old && not (m == page))
+
+-- the ranges fall, and have the pages that they had and those of which this is so
+pub record Gains (is_given : ℕ → Bool) (old new : List Gap) : Type 0 where
+  pub falling : are_falling 4294967296 new ≡ true
+  pub more : (m : ℕ) → in_gaps m new ≡ (in_gaps m old || is_given m)
+
+-- the list has at most so many more ranges, and no less memory
+pub record Grows (more : ℕ) (old new : Vec Gap Global) : Type 0 where
+  pub size : vec_len new ≤ vec_len old + more
+  pub capacity : vec_capacity old ≤ vec_capacity new

@@ -1,5 +1,5 @@
 -- Which pages of a file are live, and which are taken for the next root.
-use Rattle.std.specs.Prelude.{◌≡◌, ℕ, ◌+◌, ◌-◌, ◌*◌, ◌<◌, ◌≤◌, Bool, true, not, ◌&&◌, nat_le, List, [], ◌∷◌, ◌++◌, take, drop}
+use Rattle.std.specs.Prelude.{◌≡◌, ℕ, ◌+◌, ◌-◌, ◌*◌, ◌<◌, ◌≤◌, Bool, true, not, ◌&&◌, nat_le, List, [], ◌∷◌, ◌++◌, length, take, drop}
 use Rattle.page_file.specs.Pages.{has, are_pages}
 use Rattle.page_file.specs.Gaps.{in_gaps, are_falling}
 use Rattle.page_file.specs.declared.gaps.Gap.{Gap}
@@ -49,6 +49,14 @@ pub record AreOthers (pages : List ℕ) (gaps : List Gap) : Type 0 where
   pub apart : are_pages pages ≡ true
   pub falling : are_falling 4294967296 gaps ≡ true
   pub free : (m : ℕ) → m < 4294967296 → in_gaps m gaps ≡ (nat_le 2 m && not (has m pages))
+
+-- the live pages are these tables and so many data pages, none of them twice, and none is taken
+pub record IsAtRest (tables : List ℕ) (count : ℕ) (index : Index) : Type 0 where
+  pub has_tables : index.tables ≡ tables
+  pub has_count : length index.data_pages ≡ count
+  pub apart : are_pages (live_pages index) ≡ true
+  pub none_taken : index.taken ≡ []
+  pub no_room : index.room ≡ 0
 
 -- Lists of so many tables, data pages, taken pages and ranges fit their memory, and so will those of the next root with so many
 -- more pages.

@@ -1,3 +1,4 @@
+pub mod DiskCalls
 pub mod Free
 pub mod Gaps
 pub mod Index

@@ -29,3 +29,8 @@ pub record PutsPage {D : Type 0} {T : Type 0} (facts : Ghosts D) (result : Resul
   -- it is no page of the file exactly where it would begin past the end, and then nothing changes
   pub past_end : IsErrOf result NoPage ↔ (length (facts.content old) < 4096 * n)
   pub unchanged : IsErrOf result NoPage → Keeps facts old new
+
+-- one such write on a disk that tells as before
+pub record IsPagePut {D T : Type 0} (facts : Ghosts D) (result : Result T PageError) (n : ℕ) (bytes : List ℕ) (old new : D) : Type 0 where
+  pub puts : facts.tells old → PutsPage facts result n bytes old new
+  pub tells : facts.tells new ↔ facts.tells old

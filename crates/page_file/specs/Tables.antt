@@ -1,5 +1,7 @@
 -- The pages that table pages name.
-use Rattle.std.specs.Prelude.{ℕ, not, ◌&&◌, if◌then◌else◌, List, [], ◌∷◌, ◌++◌, drop, take, Result, Ok, Err}
+use Rattle.std.specs.Prelude.{◌≡◌, ℕ, not, ◌&&◌, if◌then◌else◌, List, [], ◌∷◌, ◌++◌, drop, take, Result, Ok, Err}
+use Rattle.disk_trait.specs.declared.facts.DiskFacts.{Ghosts}
+use Rattle.page_file.specs.Index.{Index, IsAtRest, live_pages}
 use Rattle.page_file.specs.Pages.{pages, are_whole, is_zero, are_pages, numbers}
 
 -- the numbers that table pages hold, 1,024 each
@@ -15,3 +17,8 @@ reached_by tables count found =
 -- the pages that a root with these table pages and so many data pages reaches in a file; bad root 43, bad table 45
 abbrev pub reached_in : List ℕ → ℕ → List ℕ → Result (List ℕ) ℕ
 reached_in tables count file = if not (are_whole (pages tables file)) then Err 43 else reached_by tables count (entries (pages tables file))
+
+-- the live pages are those that these table pages name in the file of a disk
+pub record AreNamed {D : Type 0} (facts : Ghosts D) (disk : D) (tables : List ℕ) (count : ℕ) (index : Index) : Type 0 where
+  pub value : facts.tells disk → reached_in tables count (facts.content disk) ≡ Ok (live_pages index)
+  pub at_rest : IsAtRest tables count index

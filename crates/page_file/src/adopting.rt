@@ -1,7 +1,7 @@
 //! The pages of the next root become the live ones.
-ghost use Rattle.std.specs.Prelude.{◌≡◌, ℕ, ◌+◌, ◌≤◌, ◌++◌, ◌||◌, true, false, length, take, drop};
+ghost use Rattle.std.specs.Prelude.{◌≡◌, ℕ, ◌+◌, ◌≤◌, ◌++◌, true, false, length, take, drop};
 ghost use Rattle.std.specs.Prelude.{vec_len, vec_capacity};
-ghost use Rattle.page_file.specs.Gaps.{in_gaps, are_falling};
+ghost use Rattle.page_file.specs.Gaps.{in_gaps, are_falling, Gains, Grows};
 ghost use Rattle.page_file.specs.Index.{adopted};
 ghost use Rattle.page_file.specs.Pages.{has, are_pages};
 
@@ -14,11 +14,8 @@ fn give_pages(gaps: &mut Vec<Gap>, pages: &[u32])
     requires apart { are_pages pages.now ≡ true }
     requires lacks { (m : ℕ) → has m pages.now ≡ true → in_gaps m gaps.old.items ≡ false }
     requires room { vec_len gaps.old + length pages.now ≤ vec_capacity gaps.old }
-    ensures falling { are_falling 4294967296 gaps.new.items ≡ true }
-    ensures more { (m : ℕ) → in_gaps m gaps.new.items
-        ≡ (in_gaps m gaps.old.items || has m pages.now) }
-    ensures size { vec_len gaps.new ≤ vec_len gaps.old + length pages.now }
-    ensures capacity { vec_capacity gaps.old ≤ vec_capacity gaps.new }
+    ensures gains { Gains (λ m. has m pages.now) gaps.old.items gaps.new.items }
+    ensures grows { Grows (length pages.now) gaps.old gaps.new }
 {
     for page in pages {
         give_page(gaps, u64::from(*page));

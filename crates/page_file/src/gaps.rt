@@ -1,8 +1,8 @@
 //! Ranges of pages, the highest first.
-ghost use Rattle.std.specs.Prelude.{◌≡◌, ℕ, ◌+◌, ◌<◌, ◌≤◌, ◌==◌, ◌++◌, true, false, not, ◌&&◌};
-ghost use Rattle.std.specs.Prelude.{◌||◌, length, take, drop, vec_len, vec_capacity, [], IfOk};
-ghost use Rattle.std.specs.Prelude.{MatchOption};
+ghost use Rattle.std.specs.Prelude.{◌≡◌, ◌+◌, ◌<◌, ◌≤◌, ◌==◌, ◌++◌, true, false, [], length, take};
+ghost use Rattle.std.specs.Prelude.{drop, vec_len, vec_capacity, IfOk, MatchOption};
 ghost use Rattle.page_file.specs.Gaps.{in_gaps, are_falling, bottom, begins_by, between};
+ghost use Rattle.page_file.specs.Gaps.{Loses, Gains, Grows};
 ghost use Rattle.page_file.specs.Index.{AreOthers};
 
 use std::alloc::{AllocError, Global};
@@ -86,8 +86,7 @@ fn put_gap(gaps: &mut Vec<Gap>, at: usize, start: u64, end: u64)
     requires room { vec_len gaps.old < vec_capacity gaps.old }
     ensures items { gaps.new.items
         ≡ take at gaps.old.items ++ (between start end ++ drop at gaps.old.items) }
-    ensures size { vec_len gaps.new ≤ vec_len gaps.old + 1 }
-    ensures capacity { vec_capacity gaps.old ≤ vec_capacity gaps.new }
+    ensures grows { Grows 1 gaps.old gaps.new }
 {
     if start < end {
         match gaps.insert(at, Gap { start, end }) {
@@ -103,11 +102,8 @@ pub(crate) fn take_page(gaps: &mut Vec<Gap>, page: u64) -> bool
     requires falling { are_falling 4294967296 gaps.old.items ≡ true }
     requires room { vec_len gaps.old < vec_capacity gaps.old }
     ensures found { result ≡ in_gaps page gaps.old.items }
-    ensures falling { are_falling 4294967296 gaps.new.items ≡ true }
-    ensures left { (m : ℕ) → in_gaps m gaps.new.items
-        ≡ (in_gaps m gaps.old.items && not (m == page)) }
-    ensures size { vec_len gaps.new ≤ vec_len gaps.old + 1 }
-    ensures capacity { vec_capacity gaps.old ≤ vec_capacity gaps.new }
+    ensures loses { Loses page gaps.old.items gaps.new.items }
+    ensures grows { Grows 1 gaps.old gaps.new }
 {
     match find(gaps, page) {
         Some(at) => {
@@ -124,11 +120,8 @@ fn split(gaps: &mut Vec<Gap>, at: usize, page: u64)
     requires has { in_gaps page (take 1 (drop at gaps.old.items)) ≡ true }
     requires room { vec_len gaps.old < vec_capacity gaps.old }
     ensures found { in_gaps page gaps.old.items ≡ true }
-    ensures falling { are_falling 4294967296 gaps.new.items ≡ true }
-    ensures left { (m : ℕ) → in_gaps m gaps.new.items
-        ≡ (in_gaps m gaps.old.items && not (m == page)) }
-    ensures size { vec_len gaps.new ≤ vec_len gaps.old + 1 }
-    ensures capacity { vec_capacity gaps.old ≤ vec_capacity gaps.new }
+    ensures loses { Loses page gaps.old.items gaps.new.items }
+    ensures grows { Grows 1 gaps.old gaps.new }
 {
     let gap = gaps.remove(at);
     put_gap(gaps, at, gap.start, page);
@@ -142,11 +135,8 @@ pub(crate) fn give_page(gaps: &mut Vec<Gap>, page: u64)
     requires page { page < 4294967296 }
     requires lacks { in_gaps page gaps.old.items ≡ false }
     requires room { vec_len gaps.old < vec_capacity gaps.old }
-    ensures falling { are_falling 4294967296 gaps.new.items ≡ true }
-    ensures more { (m : ℕ) → in_gaps m gaps.new.items
-        ≡ (in_gaps m gaps.old.items || m == page) }
-    ensures size { vec_len gaps.new ≤ vec_len gaps.old + 1 }
-    ensures capacity { vec_capacity gaps.old ≤ vec_capacity gaps.new }
+    ensures gains { Gains (λ m. m == page) gaps.old.items gaps.new.items }
+    ensures grows { Grows 1 gaps.old gaps.new }
 {
     let at = place_of(gaps, page);
     put_gap(gaps, at, page, page + 1);
@@ -165,9 +155,7 @@ pub(crate) fn take_lowest(gaps: &mut Vec<Gap>) -> u64
     requires falling { are_falling 4294967296 gaps.old.items ≡ true }
     requires some { 0 < length gaps.old.items }
     ensures lowest { result ≡ bottom 4294967296 gaps.old.items }
-    ensures falling { are_falling 4294967296 gaps.new.items ≡ true }
-    ensures left { (m : ℕ) → in_gaps m gaps.new.items
-        ≡ (in_gaps m gaps.old.items && not (m == result)) }
+    ensures loses { Loses result gaps.old.items gaps.new.items }
 {
     let at = gaps.len() - 1;
     let gap = gaps.remove(at);

@@ -7,14 +7,14 @@ mod error;
 mod gaps;
 pub mod laws;
 mod loading;
-mod numbers;
+mod page_numbers;
 mod pages;
 mod putting;
 mod reading;
 
 pub use checks::{are_pages, is_zero};
 pub use error::PageError;
-pub use numbers::{put_numbers, take_numbers};
+pub use page_numbers::{put_numbers, take_numbers};
 pub use pages::Pages;
 pub use reading::read_pages;
 

@@ -1,18 +1,19 @@
 //! The live pages of a file, read from its table pages.
-ghost use Rattle.std.specs.Prelude.{◌≡◌, ◌⊎◌, ◌+◌, ◌*◌, ◌<◌, ◌≤◌, ◌↔◌, ◌++◌, true, false, []};
+ghost use Rattle.std.specs.Prelude.{◌≡◌, ◌⊎◌, ◌+◌, ◌*◌, ◌<◌, ◌≤◌, ◌++◌, true, false, []};
 ghost use Rattle.std.specs.Prelude.{length, Ok, Err, IfOk, IfErr, vec_len, vec_capacity};
 ghost use Rattle.std.specs.List.Sorted.{IsPermutation};
-ghost use Rattle.disk_trait.specs.Looks.{OnlyLooks};
-ghost use Rattle.page_file.specs.Index.{live_pages, AreOthers};
+ghost use Rattle.page_file.specs.DiskCalls.{IsLookedAt};
+ghost use Rattle.page_file.specs.Gaps.{Grows};
+ghost use Rattle.page_file.specs.Index.{live_pages, AreOthers, IsAtRest};
 ghost use Rattle.page_file.specs.Pages.{pages, are_whole, is_zero, are_pages};
 ghost use Rattle.page_file.specs.Putting.{failed_in};
-ghost use Rattle.page_file.specs.Tables.{reached_by, reached_in};
+ghost use Rattle.page_file.specs.Tables.{reached_by, reached_in, AreNamed};
 ghost use Rattle.page_file.specs.declared.error.PageError.TheVariants.{Memory, BadTable};
 ghost use Rattle.page_file.specs.declared.error.PageError.TheVariants.{ReadFailed};
 
 use crate::error::PageError;
 use crate::gaps::{Gap, all_pages, take_page};
-use crate::numbers::take_numbers;
+use crate::page_numbers::take_numbers;
 use crate::pages::Pages;
 use crate::reading::read_pages;
 use disk_trait::Disk;
@@ -38,8 +39,7 @@ fn take_pages(gaps: &mut Vec<Gap>, pages: &[u32]) -> bool
     requires room { vec_len gaps.old + length pages.now ≤ vec_capacity gaps.old }
     ensures value { result ≡ are_pages pages.now }
     ensures others { result ≡ true → AreOthers pages.now gaps.new.items }
-    ensures size { vec_len gaps.new ≤ vec_len gaps.old + length pages.now }
-    ensures capacity { vec_capacity gaps.old ≤ vec_capacity gaps.new }
+    ensures grows { Grows (length pages.now) gaps.old gaps.new }
 {
     for passed in 0..pages.len() {
         let page = pages[pages.len() - passed - 1];
@@ -99,9 +99,7 @@ fn index_of(alloc: Global, tables: &[u32], named: &[u32]) -> Result<Pages, PageE
 fn pages_of(alloc: Global, tables: &[u32], count: u64, found: &[u32]) -> Result<Pages, PageError>
     requires few { length tables.now + length found.now ≤ 1073741824 }
     ensures value { IfOk result (λ it. reached_by tables.now count found.now ≡ Ok (live_pages it)) }
-    ensures apart { IfOk result (λ it. are_pages (live_pages it) ≡ true) }
-    ensures parts { IfOk result (λ it. (it.tables ≡ tables.now) × (length it.data_pages ≡ count)
-        × (it.taken ≡ []) × (it.room ≡ 0)) }
+    ensures parts { IfOk result (λ it. IsAtRest tables.now count it) }
     ensures fault { IfErr result (λ e. e ≡ BadTable → (length found.now < count)
         ⊎ (reached_by tables.now count found.now ≡ Err 45)) }
     ensures refused { IfErr result (λ e. (e ≡ Memory) ⊎ (e ≡ BadTable)) }
@@ -133,19 +131,14 @@ impl Pages {
         requires whole { D.tells disk.old
             → are_whole (pages tables.now (D.content disk.old)) ≡ true }
         requires few { length tables.now ≤ 256 }
-        ensures value { D.tells disk.old → IfOk result
-            (λ it. reached_in tables.now data_pages (D.content disk.old) ≡ Ok (live_pages it)) }
-        ensures apart { IfOk result (λ it. are_pages (live_pages it) ≡ true) }
-        ensures parts { IfOk result (λ it. (it.tables ≡ tables.now)
-            × (length it.data_pages ≡ data_pages) × (it.taken ≡ []) × (it.room ≡ 0)) }
+        ensures read { IfOk result
+            (λ it. AreNamed D.DiskFacts disk.old tables.now data_pages it) }
         ensures fault { D.tells disk.old → IfErr result (λ e. e ≡ BadTable
             → (1024 * length tables.now < data_pages)
             ⊎ (reached_in tables.now data_pages (D.content disk.old) ≡ Err 45)) }
         ensures refused { IfErr result
             (λ e. (e ≡ Memory) ⊎ ((e ≡ BadTable) ⊎ (e ≡ ReadFailed))) }
-        ensures looks { D.tells disk.old
-            → OnlyLooks D.DiskFacts (failed_in result) 0 disk.old disk.new }
-        ensures tells { D.tells disk.new ↔ D.tells disk.old }
+        ensures looks { IsLookedAt D.DiskFacts (failed_in result) 0 disk.old disk.new }
     {
         let bytes = read_pages(alloc, disk, tables)?;
         let found = take_numbers(alloc, &bytes, 1024 * tables.len())?;

@@ -2,10 +2,10 @@
 ghost use Rattle.std.specs.Prelude.{◌≡◌, ◌≢◌, ◌⊎◌, ◌↔◌, ◌+◌, ◌*◌, ◌-◌, ◌<◌, ◌≤◌, true, false};
 ghost use Rattle.std.specs.Prelude.{length, Ok, Err, IfOk, IfErr, OnOk, IsErrOf};
 ghost use Rattle.disk_trait.specs.File.{part};
-ghost use Rattle.disk_trait.specs.Looks.{OnlyLooks};
+ghost use Rattle.page_file.specs.DiskCalls.{IsLookedAt};
 ghost use Rattle.page_file.specs.Index.{is_free, with_taken};
 ghost use Rattle.page_file.specs.Pages.{page};
-ghost use Rattle.page_file.specs.Putting.{PutsPage, failed_in};
+ghost use Rattle.page_file.specs.Putting.{IsPagePut, failed_in};
 ghost use Rattle.page_file.specs.declared.error.PageError.TheVariants.{Memory, PageNumber, NoPage};
 ghost use Rattle.page_file.specs.declared.error.PageError.TheVariants.{ReadFailed, WriteFailed};
 
@@ -25,9 +25,7 @@ fn read_page<D: Disk>(disk: &mut D, number: u32, bytes: &mut [u8]) -> Result<(),
         → OnOk result (bytes.new ≡ part (D.content disk.old) (4096 * number) (length bytes.old)) }
     ensures no_page { D.tells disk.old → (IsErrOf result NoPage
         ↔ (length (D.content disk.old) < 4096 * number + 4096)) }
-    ensures looks { D.tells disk.old
-        → OnlyLooks D.DiskFacts (failed_in result) 0 disk.old disk.new }
-    ensures tells { D.tells disk.new ↔ D.tells disk.old }
+    ensures looks { IsLookedAt D.DiskFacts (failed_in result) 0 disk.old disk.new }
     ensures refused { IfErr result (λ e. (e ≡ NoPage) ⊎ (e ≡ ReadFailed)) }
 {
     match disk.read_at(PAGE * u64::from(number), bytes) {
@@ -40,9 +38,7 @@ fn read_page<D: Disk>(disk: &mut D, number: u32, bytes: &mut [u8]) -> Result<(),
 // Writes the bytes of a page. Refused with 41 where it would begin past the end of the file, and 51
 // where the device failed.
 fn write_page<D: Disk>(disk: &mut D, page: u32, bytes: &[u8; 4096]) -> Result<(), PageError>
-    ensures puts { D.tells disk.old
-        → PutsPage D.DiskFacts result page bytes.now disk.old disk.new }
-    ensures tells { D.tells disk.new ↔ D.tells disk.old }
+    ensures puts { IsPagePut D.DiskFacts result page bytes.now disk.old disk.new }
     ensures refused { IfErr result (λ e. (e ≡ NoPage) ⊎ (e ≡ WriteFailed)) }
 {
     match disk.write_at(PAGE * u64::from(page), bytes) {
@@ -59,6 +55,7 @@ impl Pages {
         requires room { 0 < self.old.room }
         ensures { self.new ≡ with_taken page self.old }
     {
+        // Whether it was free is known: the contract requires it.
         let _was_free = take_page(&mut self.gaps, u64::from(page));
         self.taken.push_reserved(page);
         self.room -= 1;
@@ -84,9 +81,7 @@ impl Pages {
             ↔ (length (D.content disk.old) < 4096 * number + 4096)) }
         ensures refused { 2 ≤ number
             → IfErr result (λ e. (e ≡ Memory) ⊎ ((e ≡ NoPage) ⊎ (e ≡ ReadFailed))) }
-        ensures looks { 2 ≤ number → D.tells disk.old
-            → OnlyLooks D.DiskFacts (failed_in result) 0 disk.old disk.new }
-        ensures tells { D.tells disk.new ↔ D.tells disk.old }
+        ensures looks { IsLookedAt D.DiskFacts (failed_in result) 0 disk.old disk.new }
     {
         if number < 2 {
             return Err(PageError::PageNumber);
@@ -112,14 +107,13 @@ impl Pages {
         requires room { 0 < self.old.room }
         ensures not_free { is_free page self.old ≡ false
             → (result ≡ Err PageNumber) × (self.new ≡ self.old) × (disk.new ≡ disk.old) }
-        ensures puts { is_free page self.old ≡ true → D.tells disk.old
-            → PutsPage D.DiskFacts result page bytes.now disk.old disk.new }
+        ensures puts { is_free page self.old ≡ true
+            → IsPagePut D.DiskFacts result page bytes.now disk.old disk.new }
         ensures taken { is_free page self.old ≡ true → result ≢ Err NoPage
             → self.new ≡ with_taken page self.old }
         ensures same { result ≡ Err NoPage → self.new ≡ self.old }
         ensures refused { is_free page self.old ≡ true
             → IfErr result (λ e. (e ≡ NoPage) ⊎ (e ≡ WriteFailed)) }
-        ensures tells { D.tells disk.new ↔ D.tells disk.old }
     {
         if !self.is_free(page) {
             return Err(PageError::PageNumber);

@@ -1,7 +1,7 @@
 //! Reading pages that lie whole in the file.
-ghost use Rattle.std.specs.Prelude.{◌≡◌, ◌⊎◌, ◌+◌, ◌*◌, ◌≤◌, ◌↔◌, ◌++◌, true, length};
+ghost use Rattle.std.specs.Prelude.{◌≡◌, ◌⊎◌, ◌+◌, ◌*◌, ◌≤◌, ◌++◌, true, length};
 ghost use Rattle.std.specs.Prelude.{IfOk, IfErr, OnOk};
-ghost use Rattle.disk_trait.specs.Looks.{OnlyLooks};
+ghost use Rattle.page_file.specs.DiskCalls.{IsLookedAt};
 ghost use Rattle.page_file.specs.Pages.{page, pages, are_whole, joined};
 ghost use Rattle.page_file.specs.Putting.{failed_in};
 ghost use Rattle.page_file.specs.declared.error.PageError.TheVariants.{Memory, ReadFailed};
@@ -20,9 +20,7 @@ fn append_page<D: Disk>(disk: &mut D, number: u32, out: &mut Vec<u8>) -> Result<
     ensures read { D.tells disk.old
         → OnOk result (out.new.items ≡ out.old.items ++ page number (D.content disk.old)) }
     ensures size { OnOk result (length out.new.items ≡ length out.old.items + 4096) }
-    ensures looks { D.tells disk.old
-        → OnlyLooks D.DiskFacts (failed_in result) 0 disk.old disk.new }
-    ensures tells { D.tells disk.new ↔ D.tells disk.old }
+    ensures looks { IsLookedAt D.DiskFacts (failed_in result) 0 disk.old disk.new }
     ensures refused { IfErr result (λ e. (e ≡ Memory) ⊎ (e ≡ ReadFailed)) }
 {
     let mut bytes = [0; 4096];
@@ -45,9 +43,7 @@ pub fn read_pages<D: Disk>(
     ensures read { D.tells disk.old
         → IfOk result (λ bytes. bytes.items ≡ joined (pages numbers.now (D.content disk.old))) }
     ensures size { IfOk result (λ bytes. length bytes.items ≡ 4096 * length numbers.now) }
-    ensures looks { D.tells disk.old
-        → OnlyLooks D.DiskFacts (failed_in result) 0 disk.old disk.new }
-    ensures tells { D.tells disk.new ↔ D.tells disk.old }
+    ensures looks { IsLookedAt D.DiskFacts (failed_in result) 0 disk.old disk.new }
     ensures refused { IfErr result (λ e. (e ≡ Memory) ⊎ (e ≡ ReadFailed)) }
 {
     let mut bytes = Vec::new(alloc);

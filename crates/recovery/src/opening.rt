@@ -1,12 +1,9 @@
 //! The opening of a file.
-ghost use Rattle.std.specs.Prelude.{◌≡◌, ◌≢◌, ◌↔◌, List, ℕ, false, IfOk, IfErr};
+ghost use Rattle.std.specs.Prelude.{◌≡◌, ◌≢◌, IfOk, IfErr};
 ghost use Rattle.root_slots.specs.Root.{version_of};
-ghost use Rattle.group_commit.specs.Commit.{Is, IsLeft};
-ghost use Rattle.disk_trait.specs.Looks.{OnlyLooks};
-ghost use Rattle.group_commit.specs.Loading.{IsHistory};
+ghost use Rattle.group_commit.specs.Opening.{IsLoaded, IsLookedAt};
 ghost use Rattle.group_commit.specs.declared.open_fault.OpenError.TheVariants.{Memory as LoadMemory};
-ghost use Rattle.group_commit.specs.declared.phase.Phase.TheVariants.{Idle};
-ghost use Rattle.replica_core.specs.Held.{opened_with};
+ghost use Rattle.op_model.specs.Held.{opened_with};
 ghost use Rattle.recovery.specs.Faults.{IsFault, failures_of};
 ghost use Rattle.recovery.specs.Image.{IsImage};
 
@@ -38,22 +35,14 @@ pub fn open<D: Disk>(alloc: Global, disk: D) -> Result<Opened<D>, OpenFault<D>>
         (version_of it.store.current.body) it.replica.list) }
     ensures replica { IfOk result
         (λ it. it.replica ≡ opened_with it.replica.replica it.replica.list) }
-    ensures history { IfOk result
-        (λ it. IsHistory it.store.current it.replica.replica it.replica.list) }
-    ensures idle { IfOk result (λ it. (it.store.phase ≡ Idle) × (it.store.failed ≡ false)) }
-    // A crash leaves what reads give.
-    ensures settled { D.tells disk → IfOk result
-        (λ it. (c : List ℕ) → D.survives it.store.disk c → c ≡ D.content disk) }
-    ensures left { D.tells disk → IfOk result (λ it. (c : List ℕ) → D.survives it.store.disk c
-        → IsLeft it.store.phase it.store.current it.store.next c) }
+    // The store is of the file's live root, and a crash leaves that file.
+    ensures loaded { IfOk result (λ it. IsLoaded D.DiskFacts disk it.store
+        it.replica.replica it.replica.list) }
     ensures fault { D.tells disk → IfErr result (λ fault. IsFault fault.cause (D.content disk)) }
     // It writes nothing.
-    ensures looks { D.tells disk
-        → IfOk result (λ it. OnlyLooks D.DiskFacts 0 1 disk it.store.disk) }
-    ensures looks_refused { D.tells disk → IfErr result
-        (λ fault. OnlyLooks D.DiskFacts (failures_of fault.cause) 1 disk fault.disk) }
-    ensures tells { IfOk result (λ it. D.tells it.store.disk ↔ D.tells disk) }
-    ensures tells_refused { IfErr result (λ fault. D.tells fault.disk ↔ D.tells disk) }
+    ensures looks { IfOk result (λ it. IsLookedAt D.DiskFacts 0 1 disk it.store.disk) }
+    ensures looks_refused { IfErr result
+        (λ fault. IsLookedAt D.DiskFacts (failures_of fault.cause) 1 disk fault.disk) }
 {
     match Store::load(alloc, disk) {
         Ok(

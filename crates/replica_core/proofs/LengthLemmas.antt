@@ -1,5 +1,5 @@
 -- How long the records are that an edit makes.
-use Rattle.std.proofs.Common.{◌≡◌, ℕ, zero, suc, ◌+◌, ◌-◌, ◌*◌, ◌<◌, ◌≤◌, true, List, [], ◌∷◌, length, map, filter, take, drop, refl, sym, ◌∙◌, ap}
+use Rattle.std.proofs.Common.{◌≡◌, ℕ, zero, suc, ◌+◌, ◌-◌, ◌*◌, ◌<◌, ◌≤◌, Bool, true, false, List, [], ◌∷◌, length, map, filter, take, drop, refl, sym, ◌∙◌, ap}
 use Rattle.std.proofs.Common.{Option, Some, None, arith}
 use Rattle.std.specs.Prelude.{◌==◌, ◌&&◌, nat_lt, nat_le, if◌then◌else◌}
 use Rattle.std.proofs.lemmas.List.{length-map}
@@ -20,7 +20,7 @@ use Rattle.op_model.specs.declared.character.Character.{Character}
 use Rattle.op_model.specs.Causality.{clock_of}
 use Rattle.op_model.specs.Made.{tombstones_at, is_inside, end_of, ends_after, last_or, id_at, id_before, origin_of, start_before, end_before}
 use Rattle.op_model.specs.Made.{end_after, greatest_counter, numbered, insert_bodies, bodies_of, made, size_of}
-use Rattle.op_model.specs.Records.{origin_length, start_length, end_length, mark_length, key_length, stream_length}
+use Rattle.op_model.specs.Records.{origin_length, head_length, start_length, end_length, mark_length, key_length, stream_length}
 use Rattle.op_model.specs.Text.{visible}
 use Rattle.slow_programs.specs.Asking.{IsAskedRight}
 use Rattle.slow_programs.proofs.EditLemmas.{length-bodies_of}
@@ -128,14 +128,14 @@ length-advanced_old es r is_it some = let more = length-advanced es r is_it in g
 
 -- the records of operations of a replica that their clock counts
 stream_length-later : (replica doc counter : ℕ) (clock : List (ℕ × ℕ)) (bs : List Body) → length (advanced clock replica) ≡ length clock
-    → stream_length (numbered replica doc counter clock bs) ≡ 34 * length bs + 24 * (length clock * length bs) + lengths bs
+    → stream_length (numbered replica doc counter clock bs) ≡ head_length (length clock) * length bs + lengths bs
 stream_length-later replica doc counter clock [] same = omega arith
 stream_length-later replica doc counter clock (b ∷ bs) same =
     let rest = stream_length-later replica doc (counter + 1) (advanced clock replica) bs (length-advanced_twice clock replica) in
     rw (rest, same) (omega arith)
 
 stream_length-numbered : (replica doc counter : ℕ) (clock : List (ℕ × ℕ)) (bs : List Body) (later : ℕ) → 0 < length bs → later ≡ length (advanced clock replica)
-    → stream_length (numbered replica doc counter clock bs) ≡ (34 * length bs + 24 * (length clock + later * (length bs - 1))) + lengths bs
+    → stream_length (numbered replica doc counter clock bs) ≡ (head_length (length clock) + head_length later * (length bs - 1)) + lengths bs
 stream_length-numbered replica doc counter clock [] later some is_it = absurd (omega arith)
 stream_length-numbered replica doc counter clock (b ∷ bs) later some is_it =
     let rest = stream_length-later replica doc (counter + 1) (advanced clock replica) bs (length-advanced_twice clock replica) in
@@ -146,7 +146,7 @@ stream_length-numbered replica doc counter clock (b ∷ bs) later some is_it =
 pub stream_length-made : (ops : List Op) (replica : ℕ) (e : Edit) (later : ℕ) → IsAskedRight ops e → 0 < size_of e.change
     → later ≡ length (advanced (clock_of ops) replica)
     → stream_length (made ops replica e)
-    ≡ (34 * size_of e.change + 24 * (length (clock_of ops) + later * (size_of e.change - 1))) + lengths (bodies_of ops replica e.doc e.change)
+    ≡ (head_length (length (clock_of ops)) + head_length later * (size_of e.change - 1)) + lengths (bodies_of ops replica e.doc e.change)
 stream_length-made ops replica e later right some is_it =
     let many = length-bodies_of ops replica e.doc e.change right.inside in
     let all = stream_length-numbered replica e.doc (greatest_counter ops + 1) (clock_of ops) (bodies_of ops replica e.doc e.change) later (omega arith) is_it in
@@ -157,6 +157,11 @@ pub lengths-insert : (ops : List Op) (replica doc at : ℕ) (text : List ℕ) (i
     → lengths (bodies_of ops replica doc it) ≡ origin_length (origin_of ops doc at) + 4 + 29 * (length text - 1)
 lengths-insert ops replica doc at text it is_it some =
     rw is_it (lengths-insert_bodies replica (greatest_counter ops + 1) (origin_of ops doc at) text some)
+
+-- an origin, and four bytes for the character
+pub insert_content : (named : Bool) → (if named then 29 else 5) ≡ (if named then 25 else 1) + 4
+insert_content true = refl
+insert_content false = refl
 
 -- removes so many characters
 abbrev pub IsDelete : Change → ℕ → Type 0

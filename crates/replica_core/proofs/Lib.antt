@@ -1,5 +1,4 @@
 pub mod ReachedLemmas
-pub mod StepLemmas
 pub mod KeptLemmas
 pub mod TellLemmas
 pub mod FollowLemmas

@@ -1,6 +1,5 @@
 -- Numbers in rising order, and where one goes among them; and documents with such numbers.
 use Rattle.std.proofs.Common.{◌≡◌, ℕ, zero, suc, ◌≤◌, ◌<◌, List, [], ◌∷◌, ◌++◌, length, take, drop, get_or, Result, Ok, Err, refl, sym, ◌∙◌, ap, arith}
-use Rattle.std.specs.Prelude.{MatchResult}
 use Rattle.std.specs.List.Sorted.{IsBinarySearchResult, IsSearchInRange}
 use Rattle.std.specs.Ordering.{nat_cmp}
 use Rattle.std.proofs.lemmas.Bool.{eq-eqb, ne_eqb, lt-ltb, le-ltb}
@@ -10,6 +9,7 @@ use Rattle.doc_core.specs.declared.doc.Doc.{Doc}
 use Rattle.replica_core.specs.Docs.{number_of}
 use Rattle.op_model.specs.Spans.{with_number}
 use Rattle.model_laws.specs.Rising.{AllOver, IsUp}
+use Rattle.replica_core.specs.Decided.{IsPlace}
 use Rattle.replica_core.specs.Docs.{numbers}
 
 over_get : (n : ℕ) (ns : List ℕ) (j : ℕ) → AllOver n ns → j < length ns → n < get_or ns j 0
@@ -49,8 +49,7 @@ with_between (n ∷ ns) (suc i) m here below above =
 
 -- what a search by halves finds
 pub placed : (ns : List ℕ) (m : ℕ) (r : Result ℕ ℕ) → IsUp ns → IsBinarySearchResult (λ y. nat_cmp y m) ns r
-    → MatchResult r (λ at. (at < length ns) × (m ≡ get_or ns at m) × (with_number m ns ≡ ns))
-    (λ at. (at ≤ length ns) × (with_number m ns ≡ take at ns ++ m ∷ drop at ns))
+    → IsPlace ns m r
 placed ns m (Ok at) up search_says =
     let found = searched ns m (Ok at) search_says (λ i j later there. up_get ns i j up later there) in
     (found.0, sym found.1 ∙ get_or_default ns at 0 m found.0, with_here ns at m up found.0 found.1)
@@ -75,10 +74,14 @@ by_number (x ∷ ds) m (Err at) bound says = λ up.
 
 -- so the place of a document is that of its number
 pub placed_doc : (ds : List Doc) (m : ℕ) (r : Result ℕ ℕ) → IsUp (numbers ds) → IsSearchInRange r (length ds)
-    → IsBinarySearchResult (λ d. nat_cmp (number_of d) m) ds r
-    → MatchResult r (λ at. (at < length ds) × ((d : Doc) → d ≡ get_or ds at d → number_of d ≡ m) × (with_number m (numbers ds) ≡ numbers ds))
-    (λ at. (at ≤ length ds) × (with_number m (numbers ds) ≡ take at (numbers ds) ++ m ∷ drop at (numbers ds)))
-placed_doc ds m (Ok at) up bound says =
-    let found = placed (numbers ds) m (Ok at) up (by_number ds m (Ok at) bound says) in
-    (bound, λ d is_it. ap number_of is_it ∙ sym (found.1 ∙ get_or-map number_of ds at d m bound), found.2)
-placed_doc ds m (Err at) up bound says = (bound, (placed (numbers ds) m (Err at) up (by_number ds m (Err at) bound says)).1)
+    → IsBinarySearchResult (λ d. nat_cmp (number_of d) m) ds r → IsPlace (numbers ds) m r
+placed_doc ds m r up bound says = placed (numbers ds) m r up (by_number ds m r bound says)
+
+-- the document at the place of a number
+pub doc_at : (ds : List Doc) (m at : ℕ) → IsPlace (numbers ds) m (Ok at)
+    → (at < length ds) × ((d : Doc) → d ≡ get_or ds at d → number_of d ≡ m) × (with_number m (numbers ds) ≡ numbers ds)
+doc_at ds m at place =
+    let long : length (numbers ds) ≡ length ds = length-map ds number_of in
+    let first = place.0 in
+    let here : at < length ds = omega arith in
+    (here, λ d is_it. ap number_of is_it ∙ sym (place.1 ∙ get_or-map number_of ds at d m here), place.2)

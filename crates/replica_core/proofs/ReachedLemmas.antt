@@ -4,7 +4,8 @@ use Rattle.std.specs.Prelude.{Contains}
 use Rattle.std.proofs.lemmas.List.{length-take-le}
 use Rattle.op_model.specs.declared.op.Op.{Op}
 use Rattle.op_model.specs.Replay.{Kept, edited, merged, settlement, reached, Replays}
-use Rattle.replica_core.specs.Held.{Held, IsSound}
+use Rattle.op_model.specs.Held.{Held}
+use Rattle.replica_core.specs.Held.{IsSound}
 
 contains_head : (y x : ℕ) (xs : List ℕ) → y ≡ x → Contains (y ∷ xs) x
 contains_head y x xs same = (0, omega arith, same)

@@ -34,8 +34,9 @@ use Rattle.replica_core.specs.declared.log.Log.{Log}
 use Rattle.replica_core.specs.Indexes.{IsIndexOf}
 use Rattle.replica_core.specs.Log.{IsAppended}
 use Rattle.replica_core.specs.Fields.{AreFields, held_of}
-use Rattle.replica_core.specs.Held.{alone, Held, CanEdit, IsSound, with_edit}
-use Rattle.replica_core.specs.Merging.{with_merge, CanMerge}
+use Rattle.op_model.specs.Held.{Held, with_edit, with_merge}
+use Rattle.replica_core.specs.Held.{CanEdit, IsSound}
+use Rattle.replica_core.specs.Merging.{CanMerge}
 use Rattle.replica_core.proofs.LimitLemmas.{documents-made, documents-push, length-made}
 
 -- the causes of an edit, where none holds
@@ -114,7 +115,7 @@ due_counts ops replica e due =
 -- what is answered to an edit that nothing refuses
 pub edit_alone-due : (h : Held) (e : Edit) (t : Ticket) → CanEdit h e
     → t.end ≡ length h.list + size_of e.change → t.rev ≡ rev h.list e.doc + size_of e.change
-    → edit_alone h.replica (alone h) e ≡ ticket t
+    → edit_alone h e ≡ ticket t
 edit_alone-due h e t can end revs =
     let fits : nat_le (length h.steps + 3) 1048576 ≡ true = le-leb (length h.steps + 3) 1048576 can.places in
     let right = due_asks_right h.list h.replica e can.due in
@@ -268,7 +269,7 @@ may_merge h op ready other passed places = record {
 -- there it answers so
 pub merge_alone-applied : (h : Held) (op : Op) → is_known (clock_of h.list) op ≡ false → is_ready (clock_of h.list) op.id.replica op.deps ≡ true
     → (op.id.replica == h.replica) ≡ false → first_failed h.list op ≡ None → length h.steps + 3 ≤ 1048576
-    → merge_alone h.replica (alone h) op ≡ applied
+    → merge_alone h op ≡ applied
 merge_alone-applied h op new ready other passed places =
     let fits : nat_le (length h.steps + 3) 1048576 ≡ true = le-leb (length h.steps + 3) 1048576 places in
     rw (new, other, ready, passed, fits) refl

@@ -1,14 +1,13 @@
 -- Used by private functions and proofs alone.
 --
 -- The documents of a list.
-use Rattle.std.specs.Prelude.{◌≡◌, ◌≤◌, ◌<◌, ℕ, List, [], ◌∷◌, ◌++◌, length, map, take, drop, slice_index_or, Result, MatchResult}
+use Rattle.std.specs.Prelude.{◌≡◌, ℕ, List, [], ◌∷◌, map}
 use Rattle.doc_core.specs.declared.doc.Doc.{Doc}
 use Rattle.doc_core.specs.declared.draft.Draft.{Draft}
 use Rattle.doc_core.specs.Drafting.{IsDraftOf}
 use Rattle.doc_core.specs.Standing.{StandsFor}
 use Rattle.op_model.specs.declared.op.Op.{Op}
 use Rattle.op_model.specs.Causality.{documents}
-use Rattle.op_model.specs.Spans.{with_number}
 
 -- the number of a document
 abbrev pub number_of : Doc → ℕ
@@ -27,13 +26,6 @@ AllStand (d ∷ ds) ops = StandsFor d ops × AllStand ds ops
 pub record AreDocs (docs : List Doc) (ops : List Op) : Type 0 where
   pub numbers : numbers docs ≡ documents ops
   pub stand : AllStand docs ops
-
--- the index of the document of a number among these, or where it goes among them
-abbrev pub IsPlace : List Doc → ℕ → Result ℕ ℕ → Type 0
-IsPlace docs doc place = MatchResult place
-    (λ at. (at < length docs) × ((d : Doc) → d ≡ slice_index_or docs at d → number_of d ≡ doc)
-    × (with_number doc (numbers docs) ≡ numbers docs))
-    (λ at. (at ≤ length docs) × (with_number doc (numbers docs) ≡ take at (numbers docs) ++ doc ∷ drop at (numbers docs)))
 
 -- the number of a draft
 abbrev pub draft_number : Draft → ℕ

@@ -9,7 +9,8 @@ use Rattle.doc_core.specs.declared.doc.Doc.{Doc}
 use Rattle.replica_core.specs.declared.index.Index.{Index}
 use Rattle.replica_core.specs.Docs.{AreDocs}
 use Rattle.replica_core.specs.Indexes.{IsIndexOf}
-use Rattle.replica_core.specs.Held.{Held, IsSound}
+use Rattle.op_model.specs.Held.{Held}
+use Rattle.replica_core.specs.Held.{IsSound}
 
 -- what a replica with these fields holds
 abbrev pub held_of : ℕ → List Op → ℕ → ℕ → ℕ → ℕ → List Kept → Held

@@ -1,4 +1,5 @@
 pub mod Merging
+pub mod Decided
 pub mod Deciding
 pub mod Log
 pub mod Held

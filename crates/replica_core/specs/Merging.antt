@@ -1,21 +1,17 @@
 -- What a merge answers and leaves.
 use Rattle.std.specs.Prelude.{ℕ, ◌+◌, ◌≤◌, length}
 use Rattle.op_model.specs.declared.op.Op.{Op}
-use Rattle.op_model.specs.Machine.{Answer, applied, known, early, with_merge as machine_merge}
+use Rattle.op_model.specs.Machine.{Answer, applied, known, early}
 use Rattle.op_model.specs.Replay.{Joins}
 use Rattle.replica_core.specs.declared.merged.Merged.{Merged}
 use Rattle.replica_core.specs.declared.merged.Merged.TheVariants as merged_as
-use Rattle.replica_core.specs.Held.{Held, alone, renewed}
+use Rattle.op_model.specs.Held.{Held, with_merge}
 
 -- the machine's answer
 abbrev pub answer_of : Merged → Answer
 answer_of merged_as.Applied = applied
 answer_of merged_as.Known = known
 answer_of merged_as.Early = early
-
--- with a peer's operation
-abbrev pub with_merge : Held → ℕ → Op → Held
-with_merge h peer op = renewed h (machine_merge (alone h) peer op)
 
 -- what a replica holds behind a merge: all as before, but with the operation where it is applied
 abbrev pub after_merge : Merged → Held → ℕ → Op → Held

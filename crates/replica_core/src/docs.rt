@@ -7,7 +7,8 @@ ghost use Rattle.op_model.specs.declared.op.Op.{Op};
 ghost use Rattle.op_model.specs.Causality.{IsCausallyClosed};
 ghost use Rattle.op_model.specs.Spans.{with_number};
 ghost use Rattle.op_model.specs.Text.{rev};
-ghost use Rattle.replica_core.specs.Docs.{numbers, AllStand, AreDocs, IsPlace};
+ghost use Rattle.replica_core.specs.Decided.{IsPlace};
+ghost use Rattle.replica_core.specs.Docs.{numbers, AllStand, AreDocs};
 
 use doc_core::{Doc, Made, SequenceError};
 use op_list::OpSlice;
@@ -29,14 +30,14 @@ pub fn find<'a>(docs: &'a [Doc], empty: &'a Doc) -> &'a Doc
 /// search by halves.
 pub fn place(docs: &[Doc], doc: u32) -> Result<usize, usize>
     requires { IsUp (numbers docs.now) }
-    ensures { IsPlace docs.now doc result }
+    ensures { IsPlace (numbers docs.now) doc result }
 {
     docs.binary_search_by_key(&doc, |it| it.number())
 }
 
 /// The document at this place, or else this empty one. Constant.
 pub fn at<'a>(docs: &'a [Doc], place: Result<usize, usize>, empty: &'a Doc) -> &'a Doc
-    requires place { IsPlace docs.now (number_of empty.now) place }
+    requires place { IsPlace (numbers docs.now) (number_of empty.now) place }
     requires empty { StandsFor empty.now [] }
     ensures number { number_of result.now ≡ number_of empty.now }
     ensures stands { (ops : List Op) → AreDocs docs.now ops → StandsFor result.now ops }
@@ -49,7 +50,7 @@ pub fn at<'a>(docs: &'a [Doc], place: Result<usize, usize>, empty: &'a Doc) -> &
 
 /// Whether there are at most 1,024 documents with the one of this place. Constant.
 pub fn has_room(docs: &[Doc], place: Result<usize, usize>) -> bool
-    ensures { (doc : ℕ) → IsPlace docs.now doc place
+    ensures { (doc : ℕ) → IsPlace (numbers docs.now) doc place
         → result ≡ nat_le (length (with_number doc (numbers docs.now))) 1024 }
 {
     match place {
@@ -79,7 +80,7 @@ pub fn apply(
     place: Result<usize, usize>,
     made: &Made,
 ) -> Result<(), SequenceError>
-    requires { IsPlace docs.old.items doc place }
+    requires { IsPlace (numbers docs.old.items) doc place }
     ensures numbers { OnOk result
         (numbers docs.new.items ≡ with_number doc (numbers docs.old.items)) }
     ensures stand { OnOk result ((list : List Op) → AreDocs docs.old.items list

@@ -7,7 +7,7 @@ ghost use Rattle.op_model.specs.Spans.{with_number};
 ghost use Rattle.replica_core.specs.Docs.{draft_numbers, numbers as doc_numbers};
 ghost use Rattle.replica_core.specs.Docs.{AllDrafts, AllStand, AreDocs};
 
-use crate::numbers::place;
+use crate::document_numbers::place;
 use crate::refusal::Refusal;
 use doc_core::{Doc, Draft, SequenceError};
 use op_list::OpSlice;

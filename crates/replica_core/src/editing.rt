@@ -1,11 +1,11 @@
 ghost use Rattle.std.specs.Prelude.{◌≡◌, IfOk, IfErr, OnOk, OnErr};
 ghost use Rattle.op_model.specs.Machine.{edit_alone, IsRefusal, ticket, refused};
-ghost use Rattle.op_model.specs.Made.{made as made_of};
-ghost use Rattle.op_model.specs.Records.{stream_length};
-ghost use Rattle.replica_core.specs.Held.{alone, with_edit, CanEdit};
+ghost use Rattle.op_model.specs.Held.{with_edit};
+ghost use Rattle.replica_core.specs.Decided.{IsDecided};
 ghost use Rattle.replica_core.specs.Refusal.{number_of};
 
 use crate::counting::count_all;
+use crate::decided::Decided;
 use crate::deciding::edit_length;
 use crate::docs;
 use crate::making::made;
@@ -21,29 +21,27 @@ impl Replica {
     /// Makes the operations of a session's edit and puts them behind the list. It is refused by the
     /// first cause, in this order: `Stale` (6), `Range` (5), `Limit` (7), `Steps` (10); `Memory`
     /// (1) stands only in place of success. A refused edit changes nothing. Costs what
-    /// `edit_length` and `put_edit` do.
+    /// `decide_edit` and `put_edit` do.
     pub fn edit(&mut self, session: u64, edit: &Edit) -> Result<Ticket, Refusal>
         ensures made { OnOk result (self.new ≡ with_edit self.old session edit.now) }
         ensures ticket { IfOk result (λ t.
-            edit_alone self.old.replica (alone self.old) edit.now ≡ ticket t) }
+            edit_alone self.old edit.now ≡ ticket t) }
         ensures refused { IfErr result (λ e.
-            IsRefusal (number_of e) (edit_alone self.old.replica (alone self.old) edit.now)) }
+            IsRefusal (number_of e) (edit_alone self.old edit.now)) }
         ensures err { OnErr result (self.new ≡ self.old) }
     {
-        self.edit_length(edit)?;
-        self.put_edit(session, edit)
+        let decided = self.decide_edit(edit)?;
+        self.put_edit(session, edit, decided)
     }
 
-    /// How many bytes the records take of the operations that an edit would put behind the list, or
-    /// why it is refused, by the first cause: `Stale` (6), `Range` (5), `Limit` (7), `Steps` (10).
-    /// Takes no memory. A few steps for clocks, a search by halves for the document, and linear in
-    /// it.
-    pub fn edit_length(&self, edit: &Edit) -> Result<u64, Refusal>
-        ensures can { OnOk result (CanEdit self.now edit.now) }
-        ensures length { IfOk result (λ bytes.
-            bytes ≡ stream_length (made_of self.now.list self.now.replica edit.now)) }
+    /// How many bytes the records take of the operations that an edit would put behind the list,
+    /// and the place of its document, or why it is refused, by the first cause: `Stale` (6),
+    /// `Range` (5), `Limit` (7), `Steps` (10). Takes no memory. A few steps for clocks, a search by
+    /// halves for the document, and linear in it.
+    pub fn decide_edit(&self, edit: &Edit) -> Result<Decided, Refusal>
+        ensures decided { IfOk result (IsDecided self.now edit.now) }
         ensures refused { IfErr result (λ e.
-            edit_alone self.now.replica (alone self.now) edit.now ≡ refused (number_of e)) }
+            edit_alone self.now edit.now ≡ refused (number_of e)) }
     {
         let log = &self.log;
         let ops = log.list.as_slice();
@@ -55,17 +53,22 @@ impl Replica {
         if !self.steps.has_places() {
             return Err(Refusal::Steps);
         }
-        Ok(bytes)
+        Ok(Decided { bytes, place })
     }
 
-    /// Makes the operations of a session's edit that nothing refuses, as `edit_length` tells, and
+    /// Makes the operations of a session's edit that nothing refuses, as `decide_edit` tells, and
     /// puts them behind the list. An error is want of memory (1), and changes nothing. A few steps
-    /// for clocks, a search by halves for the document, and what that takes for it.
-    pub fn put_edit(&mut self, session: u64, edit: &Edit) -> Result<Ticket, Refusal>
-        requires { CanEdit self.old edit.now }
+    /// for clocks, and what the document takes for it, which isn't searched again.
+    pub fn put_edit(
+        &mut self,
+        session: u64,
+        edit: &Edit,
+        decided: Decided,
+    ) -> Result<Ticket, Refusal>
+        requires { IsDecided self.old edit.now decided }
         ensures made { OnOk result (self.new ≡ with_edit self.old session edit.now) }
         ensures ticket { IfOk result (λ t.
-            edit_alone self.old.replica (alone self.old) edit.now ≡ ticket t) }
+            edit_alone self.old edit.now ≡ ticket t) }
         ensures memory { IfErr result (λ e. e ≡ Refusal.Memory) }
         ensures err { OnErr result (self.new ≡ self.old) }
     {
@@ -73,14 +76,13 @@ impl Replica {
         let alloc = log.list.allocator();
         let ops = log.list.as_slice();
         let empty = Doc::new(alloc, edit.doc);
-        let place = docs::place(&log.docs, edit.doc);
-        let doc = docs::at(&log.docs, place, &empty);
+        let doc = docs::at(&log.docs, decided.place, &empty);
         let rev = docs::count(doc, &ops);
         let made = made(alloc, &ops, &self.clock, &log.index, doc, self.id, edit)?;
         let mut clock = self.clock.copy()?;
         count_all(&mut clock, made.as_slice())?;
         let first = self.log.list.len();
-        match self.log.append(&made, self.id, edit.doc, place) {
+        match self.log.append(&made, self.id, edit.doc, decided.place) {
             Ok(()) => {}
             Err(SequenceError::Memory) => return Err(Refusal::Memory),
             Err(SequenceError::UnknownId) => unreachable!(),

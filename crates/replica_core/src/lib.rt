@@ -2,8 +2,10 @@
 #![tactic(auto)]
 
 mod counting;
+mod decided;
 mod deciding;
 mod docs;
+mod document_numbers;
 mod drafts;
 mod editing;
 mod following;
@@ -15,7 +17,6 @@ mod making;
 mod merged;
 mod merging;
 mod named;
-mod numbers;
 mod opening;
 mod refusal;
 mod replica;
@@ -24,6 +25,7 @@ mod steps;
 mod telling;
 mod ticket;
 
+pub use decided::Decided;
 pub use merged::Merged;
 pub use refusal::Refusal;
 pub use replica::Replica;

@@ -2,7 +2,8 @@ ghost use Rattle.std.specs.Prelude.{◌≡◌, ◌+◌, ◌≤◌, ◌<◌, ◌^
 ghost use Rattle.char_sequence.specs.Content.{FitAfter};
 ghost use Rattle.op_model.specs.Causality.{made_by};
 ghost use Rattle.op_model.specs.Records.{stream_length};
-ghost use Rattle.replica_core.specs.Docs.{AreDocs, IsPlace};
+ghost use Rattle.replica_core.specs.Decided.{IsPlace};
+ghost use Rattle.replica_core.specs.Docs.{numbers, AreDocs};
 ghost use Rattle.replica_core.specs.Log.{IsSame, IsAppended};
 
 use crate::docs;
@@ -33,7 +34,7 @@ impl Log {
         doc: u32,
         place: Result<usize, usize>,
     ) -> Result<(), SequenceError>
-        requires place { IsPlace self.old.docs.items doc place }
+        requires place { IsPlace (numbers self.old.docs.items) doc place }
         requires few { length self.old.list + length made.now ≤ 16777216 }
         requires own { made_by replica made.now ≡ made.now }
         requires stream { self.old.index.stream ≡ stream_length self.old.list }

@@ -2,8 +2,8 @@ ghost use Rattle.std.specs.Prelude.{◌≡◌, ◌≤◌, ◌+◌, length, None,
 ghost use Rattle.std.specs.Prelude.{IfOk, IfErr, OnOk, OnErr, MatchOption};
 ghost use Rattle.op_model.specs.Machine.{merge_alone, merge_answer_unless, IsRefusal, refused};
 ghost use Rattle.op_model.specs.Causality.{first_failed as first_failed_of};
-ghost use Rattle.replica_core.specs.Held.{alone};
-ghost use Rattle.replica_core.specs.Merging.{after_merge, answer_of, with_merge, CanMerge};
+ghost use Rattle.op_model.specs.Held.{with_merge};
+ghost use Rattle.replica_core.specs.Merging.{after_merge, answer_of, CanMerge};
 ghost use Rattle.replica_core.specs.Refusal.{number_of};
 ghost use Rattle.replica_core.specs.declared.merged.Merged.TheVariants.{Applied};
 
@@ -26,9 +26,9 @@ impl Replica {
     pub fn merge(&mut self, peer: u64, op: Op) -> Result<Merged, Refusal>
         ensures merged { IfOk result (λ m. self.new ≡ after_merge m self.old peer op) }
         ensures answer { IfOk result (λ m.
-            merge_alone self.old.replica (alone self.old) op ≡ answer_of m) }
+            merge_alone self.old op ≡ answer_of m) }
         ensures refused { IfErr result (λ e.
-            IsRefusal (number_of e) (merge_alone self.old.replica (alone self.old) op)) }
+            IsRefusal (number_of e) (merge_alone self.old op)) }
         ensures err { OnErr result (self.new ≡ self.old) }
     {
         match self.decide_merge(&op)? {
@@ -45,9 +45,9 @@ impl Replica {
     /// and for each character that the operation names.
     pub fn decide_merge(&self, op: &Op) -> Result<Merged, Refusal>
         ensures answer { IfOk result (λ m.
-            merge_alone self.now.replica (alone self.now) op.now ≡ answer_of m) }
+            merge_alone self.now op.now ≡ answer_of m) }
         ensures refused { IfErr result (λ e.
-            merge_alone self.now.replica (alone self.now) op.now ≡ refused (number_of e)) }
+            merge_alone self.now op.now ≡ refused (number_of e)) }
         ensures can { result ≡ Ok Applied → CanMerge self.now op.now }
     {
         if is_known(&self.clock, op) {
@@ -69,7 +69,7 @@ impl Replica {
     fn merge_refusal(&self, op: &Op) -> Option<Refusal>
         ensures { MatchOption result
             ((first_failed_of self.now.list op.now ≡ None) × (length self.now.steps + 3 ≤ 1048576))
-            (λ e. merge_answer_unless (alone self.now) (first_failed_of self.now.list op.now)
+            (λ e. merge_answer_unless self.now (first_failed_of self.now.list op.now)
             ≡ refused (number_of e)) }
     {
         let log = &self.log;

@@ -7,10 +7,10 @@ ghost use Rattle.replica_core.specs.Deciding.{AreCounted, AreKnown};
 ghost use Rattle.replica_core.specs.Indexes.{IsIndexOf};
 
 use crate::counting::advance;
+use crate::document_numbers::add;
 use crate::drafts::documents_of;
 use crate::following::may_follow;
 use crate::index::Index;
-use crate::numbers::add;
 use crate::refusal::Refusal;
 use doc_core::Doc;
 use op_ids::Clock;

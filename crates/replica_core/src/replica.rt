@@ -1,13 +1,14 @@
 ghost use Rattle.std.specs.Prelude.{◌≡◌, ◌≢◌, ◌↔◌, ◌≤◌, ◌<◌, if◌then◌else◌};
-ghost use Rattle.std.specs.Prelude.{[], length, take, Contains};
+ghost use Rattle.std.specs.Prelude.{[], length, Contains};
 ghost use Rattle.std.specs.Prelude.{IsTrue, IfOk, IfErr, OnOk, OnErr};
-ghost use Rattle.op_model.specs.Machine.{reach, untold as untold_of};
+ghost use Rattle.op_model.specs.Held.{opened_with, settled_list};
+ghost use Rattle.op_model.specs.Held.{with_acked, with_settled, with_told};
 ghost use Rattle.op_model.specs.Causality.{clock_of, IsCausallyClosed};
 ghost use Rattle.op_model.specs.Replay.{reached};
 ghost use Rattle.op_model.specs.Spans.{spans as spans_of};
+ghost use Rattle.op_model.specs.Telling.{reach, untold as untold_of};
 ghost use Rattle.op_model.specs.Text.{text as text_of, rev as rev_of};
-ghost use Rattle.replica_core.specs.Held.{alone, opened_with, IsSound};
-ghost use Rattle.replica_core.specs.Held.{with_acked, with_settled, with_told};
+ghost use Rattle.replica_core.specs.Held.{IsSound};
 ghost use Rattle.replica_core.specs.Steps.{places_left};
 ghost use Rattle.span_flatten.specs.Listing.{listed};
 
@@ -46,7 +47,7 @@ pub struct Replica {
 }
 
 impl Model for Replica {
-    ghost use Rattle.replica_core.specs.Held.{Held};
+    ghost use Rattle.op_model.specs.Held.{Held};
     ghost use Rattle.replica_core.specs.Fields.{held_of, AreFields};
 
     ghost Value = { Held };
@@ -211,9 +212,10 @@ impl Replica {
     /// that is told a search by halves among the operations of each replica, and linear in its
     /// record.
     pub fn tell(&mut self, clock: &Clock) -> Result<Vec<Op>, Refusal>
-        ensures told { IfOk result (λ ops. ops.items ≡ untold_of clock.now (alone self.old)) }
+        ensures told { IfOk result (λ ops.
+            ops.items ≡ untold_of clock.now (settled_list self.old)) }
         ensures raised { OnOk result (self.new
-            ≡ with_told self.old (reach 64 clock.now (take self.old.settled self.old.list))) }
+            ≡ with_told self.old (reach clock.now (settled_list self.old))) }
         ensures memory { IfErr result (λ e. e ≡ Refusal.Memory) }
         ensures err { OnErr result (self.new ≡ self.old) }
     {
@@ -228,7 +230,7 @@ impl Replica {
     /// How many operations of each replica are settled. All settled ones count as told. An error is
     /// want of memory (1), and changes nothing. A search by halves for each replica.
     pub fn have(&mut self) -> Result<Clock, Refusal>
-        ensures clock { IfOk result (λ c. c ≡ clock_of (take self.old.settled self.old.list)) }
+        ensures clock { IfOk result (λ c. c ≡ clock_of (settled_list self.old)) }
         ensures raised { OnOk result (self.new ≡ with_told self.old self.old.settled) }
         ensures memory { IfErr result (λ e. e ≡ Refusal.Memory) }
         ensures err { OnErr result (self.new ≡ self.old) }

@@ -1,6 +1,6 @@
-ghost use Rattle.std.specs.Prelude.{◌≡◌, ◌≤◌, ◌==◌, length, not, take, true, filter, IfOk};
-ghost use Rattle.op_model.specs.Causality.{is_known as is_known_in, IsCausallyClosed};
-ghost use Rattle.op_model.specs.Machine.{reach};
+ghost use Rattle.std.specs.Prelude.{◌≡◌, ◌≤◌, ◌==◌, length, take, true, IfOk};
+ghost use Rattle.op_model.specs.Causality.{IsCausallyClosed};
+ghost use Rattle.op_model.specs.Telling.{reach, untold as untold_of};
 ghost use Rattle.replica_core.specs.Deciding.{AreCounted};
 ghost use Rattle.replica_core.specs.Indexes.{IsIndexOf};
 ghost use Rattle.replica_core.specs.Telling.{IsNext};
@@ -29,9 +29,10 @@ pub fn untold(
 ) -> Result<(Vec<Op>, usize), AllocError>
     requires counted { AreCounted ops.now clock.now index.now }
     requires within { settled ≤ length ops.now }
-    ensures told { IfOk result (λ told. told.0.items
-        ≡ take 64 (filter (λ op. not (is_known_in peer.now op)) (take settled ops.now))) }
-    ensures reached { IfOk result (λ told. told.1 ≡ reach 64 peer.now (take settled ops.now)) }
+    ensures told { IfOk result (λ told.
+        told.0.items ≡ untold_of peer.now (take settled ops.now)) }
+    ensures reached { IfOk result (λ told. told.1 ≡ reach peer.now (take settled ops.now)) }
+    ensures within { IfOk result (λ told. told.1 ≤ settled) }
 {
     let mut found = Vec::new(alloc);
     let mut from = 0;

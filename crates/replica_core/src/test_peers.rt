@@ -71,9 +71,9 @@ pub fn put_length(replica: &mut Replica, change: Option<Change>) -> usize {
 }
 
 fn put(replica: &mut Replica, edit: &Edit) -> usize {
-    match replica.edit_length(edit) {
-        Ok(bytes) => match replica.put_edit(1, edit) {
-            Ok(_) => bytes as usize,
+    match replica.decide_edit(edit) {
+        Ok(decided) => match replica.put_edit(1, edit, decided) {
+            Ok(_) => decided.bytes as usize,
             Err(_) => 0,
         },
         Err(_) => 0,

@@ -1,7 +1,8 @@
 -- Which root slot of a file is live, and what it says.
 use Rattle.std.specs.Prelude.{◌≡◌, ℕ, ◌-◌, ◌<◌, ◌≤◌, ◌==◌, get_or, Bool, if◌then◌else◌, List, length, Result, Ok, Err}
+use Rattle.disk_trait.specs.declared.facts.DiskFacts.{Ghosts}
 use Rattle.root_slots.specs.Root.{is_root}
-use Rattle.root_slots.specs.Body.{Root, Spells}
+use Rattle.root_slots.specs.Body.{Root, IsRoot, Spells}
 use Rattle.root_slots.specs.Slots.{gate, body, live}
 
 -- which slot is live, 0 or 1, and whether the other one's gate reads 1
@@ -17,6 +18,13 @@ pub record IsLive (file : List ℕ) (slot : ℕ) (stale_open : Bool) (head : Roo
   pub other : stale_open ≡ (gate (1 - slot) file == 1)
   pub spells : Spells (body slot file) head
   pub bytes : (i : ℕ) → get_or (body slot file) i 0 < 256
+
+-- what was read of a disk's slots: which one is live, its root, and the size of the file
+pub record AreRead {D : Type 0} (facts : Ghosts D) (disk : D) (slots : SlotPair) (head : Root) (file_size : ℕ) : Type 0 where
+  pub live_one : facts.tells disk → IsLive (facts.content disk) slots.slot slots.stale_open head
+  pub size : facts.tells disk → file_size ≡ length (facts.content disk)
+  pub below : slots.slot < 2
+  pub valid : IsRoot head
 
 -- this body, or bad root 43
 abbrev pub rooted : List ℕ → Result (List ℕ) ℕ

@@ -1,9 +1,9 @@
 //! The two root slots of a page file.
 #![tactic(auto)]
 
-mod call;
 mod error;
 mod fields;
+mod file_size;
 mod root_body;
 mod roots;
 mod slots;

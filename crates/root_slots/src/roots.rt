@@ -1,19 +1,17 @@
 //! The two root slots of a file.
-ghost use Rattle.std.specs.Prelude.{◌≡◌, ◌-◌, ◌<◌, ◌≤◌, ◌↔◌, [], ◌∷◌, true, false, length, IfOk};
+ghost use Rattle.std.specs.Prelude.{◌≡◌, ◌-◌, ◌<◌, ◌≤◌, [], ◌∷◌, true, false, length, IfOk};
 ghost use Rattle.std.specs.Prelude.{IfErr, IsOk, OnOk};
 ghost use Rattle.disk_trait.specs.declared.error.DiskError.TheVariants.{WriteFailed};
-ghost use Rattle.disk_trait.specs.Looks.{OnlyLooks};
-ghost use Rattle.disk_trait.specs.Writing.{Writes};
-ghost use Rattle.root_slots.specs.Body.{IsRoot};
+ghost use Rattle.page_file.specs.DiskCalls.{IsLookedAt, IsWrite};
 ghost use Rattle.root_slots.specs.Slots.{gate, gate_place, body_place, live};
-ghost use Rattle.root_slots.specs.Live.{IsLive, live_root};
+ghost use Rattle.root_slots.specs.Live.{AreRead, live_root};
 ghost use Rattle.root_slots.specs.Faults.{Names, failed_in};
 ghost use Rattle.root_slots.specs.Survivors.{Leaves, IsNewer, Lives, LivesAlone, LivesOrOther};
 ghost use Rattle.root_slots.specs.Survivors.{LivesOverOpen, LivesBeforeNewer};
 ghost use Rattle.root_slots.specs.declared.error.RootsError.TheVariants.{Memory};
 
-use crate::call::size_of;
 use crate::error::RootsError;
+use crate::file_size::size_of;
 use crate::root_body::RootBody;
 use crate::slots::{Live, live_root};
 use disk_trait::{Disk, DiskError, read_inside, write_inside};
@@ -83,19 +81,13 @@ impl Roots {
     ///
     /// One `size` and one read of 8,192 bytes. It allocates the numbers of the root's table pages.
     pub fn load<D: Disk>(alloc: Global, disk: &mut D) -> Result<LoadedRoots, RootsError>
-        ensures live { D.tells disk.old → IfOk result (λ it. IsLive (D.content disk.old)
-            it.roots.slot it.roots.stale_open it.root) }
-        ensures size { D.tells disk.old
-            → IfOk result (λ it. it.file_size ≡ length (D.content disk.old)) }
-        ensures below { IfOk result (λ it. it.roots.slot < 2) }
-        ensures valid { IfOk result (λ it. IsRoot it.root) }
+        ensures read { IfOk result
+            (λ it. AreRead D.DiskFacts disk.old it.roots it.root it.file_size) }
         ensures fault { D.tells disk.old
             → IfErr result (λ e. Names e (live_root (D.content disk.old))) }
         ensures memory { D.tells disk.old
             → IfErr result (λ e. e ≡ Memory → IsOk (live (D.content disk.old))) }
-        ensures looks { D.tells disk.old
-            → OnlyLooks D.DiskFacts (failed_in result) 0 disk.old disk.new }
-        ensures tells { D.tells disk.new ↔ D.tells disk.old }
+        ensures looks { IsLookedAt D.DiskFacts (failed_in result) 0 disk.old disk.new }
     {
         let file_size = size_of(disk)?;
         if file_size < 8192 {
@@ -140,15 +132,14 @@ impl Roots {
         requires whole { D.tells disk.old → 8192 ≤ length (D.content disk.old) }
         requires reads_one { D.tells disk.old
             → gate (1 - self.now.slot) (D.content disk.old) ≡ 1 }
-        ensures writes { D.tells disk.old → Writes D.DiskFacts result
-            (gate_place (1 - self.now.slot)) (0 ∷ []) disk.old disk.new }
+        ensures writes { IsWrite D.DiskFacts result (gate_place (1 - self.now.slot)) (0 ∷ [])
+            disk.old disk.new }
         ensures live { D.tells disk.old
             → Leaves D.DiskFacts disk.old (LivesOverOpen self.now.slot)
             → Leaves D.DiskFacts disk.new (Lives self.now.slot) }
         ensures closed { D.tells disk.old
             → Leaves D.DiskFacts disk.old (LivesOverOpen self.now.slot)
             → OnOk result (LivesAlone self.now.slot (D.content disk.new)) }
-        ensures tells { D.tells disk.new ↔ D.tells disk.old }
         ensures refused { IfErr result (λ e. e ≡ WriteFailed) }
     {
         write_inside(disk, PAGE * (1 - self.slot), &[0])
@@ -160,8 +151,8 @@ impl Roots {
     pub fn put_body<D: Disk>(&self, disk: &mut D, body: &[u8]) -> Result<(), DiskError>
         requires whole { D.tells disk.old → 8192 ≤ length (D.content disk.old) }
         requires long { length body.now ≡ 4088 }
-        ensures writes { D.tells disk.old → Writes D.DiskFacts result
-            (body_place (1 - self.now.slot)) body.now disk.old disk.new }
+        ensures writes { IsWrite D.DiskFacts result (body_place (1 - self.now.slot)) body.now
+            disk.old disk.new }
         ensures live { D.tells disk.old
             → Leaves D.DiskFacts disk.old (LivesAlone self.now.slot)
             → Leaves D.DiskFacts disk.new (LivesAlone self.now.slot) }
@@ -169,7 +160,6 @@ impl Roots {
             → Leaves D.DiskFacts disk.old (LivesAlone self.now.slot)
             → IsNewer self.now.slot (D.content disk.old) body.now
             → OnOk result (LivesBeforeNewer self.now.slot (D.content disk.new)) }
-        ensures tells { D.tells disk.new ↔ D.tells disk.old }
         ensures refused { IfErr result (λ e. e ≡ WriteFailed) }
     {
         write_inside(disk, PAGE * (1 - self.slot) + 8, body)
@@ -179,15 +169,14 @@ impl Roots {
     /// device failed: then the gate holds any byte. Takes no memory.
     pub fn open_gate<D: Disk>(&self, disk: &mut D) -> Result<(), DiskError>
         requires whole { D.tells disk.old → 8192 ≤ length (D.content disk.old) }
-        ensures writes { D.tells disk.old → Writes D.DiskFacts result
-            (gate_place (1 - self.now.slot)) (1 ∷ []) disk.old disk.new }
+        ensures writes { IsWrite D.DiskFacts result (gate_place (1 - self.now.slot)) (1 ∷ [])
+            disk.old disk.new }
         ensures live { D.tells disk.old
             → Leaves D.DiskFacts disk.old (LivesBeforeNewer self.now.slot)
             → Leaves D.DiskFacts disk.new (LivesOrOther self.now.slot) }
         ensures opened { D.tells disk.old
             → Leaves D.DiskFacts disk.old (LivesBeforeNewer self.now.slot)
             → OnOk result (Lives (1 - self.now.slot) (D.content disk.new)) }
-        ensures tells { D.tells disk.new ↔ D.tells disk.old }
         ensures refused { IfErr result (λ e. e ≡ WriteFailed) }
     {
         write_inside(disk, PAGE * (1 - self.slot), &[1])

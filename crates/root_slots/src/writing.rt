@@ -39,6 +39,7 @@ pub fn spelled(
       tables = tables.now;
     })) }
 {
+    // Two laws for the proof, which do nothing.
     replica_is_not_nil(replica);
     read_undoes_bytes(replica);
     let mut body = Vec::with_capacity(alloc, BODY_LENGTH)?;

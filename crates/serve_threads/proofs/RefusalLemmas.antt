@@ -21,5 +21,5 @@ pub edit_refused : (r : SharedRefusal) (old new : PassHeld) (e : Edit)
 edit_refused refusal.Stopping old new e happens = refl
 edit_refused (refusal.Locked l) old new e happens =
     let it = happens (λ same. absurd (cc)) in
-    or_more _ _ (edit_refusals it.before.replica.replica (state_of it.before) (state_of it.after) old.number e
+    or_more _ _ (edit_refusals (state_of it.before) (state_of it.after) old.number e
     (number_of (refusal.Locked l)) it.makes.makes.step)

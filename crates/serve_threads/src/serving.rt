@@ -138,6 +138,11 @@ fn run<
             ensures goes { Goes D.DiskFacts flusher result.1 }
         {
             let mut flusher = flusher;
+            // First the one that ends the others: without it nobody is let in.
+            let ending = scope.spawn(move || end_when_asked(rt, hall, doors));
+            if ending.is_err() {
+                end_all(rt, hall, doors);
+            }
             let sessions = scope.spawn(move || accept(rt, alloc, hall, gate, Kind::Session, doors));
             let peers = scope.spawn(move || accept(rt, alloc, hall, gate, Kind::Link, doors));
             let joining = match joined {
@@ -146,11 +151,8 @@ fn run<
                     .is_ok(),
                 None => true,
             };
-            let ending = scope.spawn(move || end_when_asked(rt, hall, doors));
-            let has_begun = sessions.is_ok() && peers.is_ok() && joining && ending.is_ok();
-            if ending.is_err() {
-                end_all(rt, hall, doors);
-            } else if !has_begun {
+            let has_begun = ending.is_ok() && sessions.is_ok() && peers.is_ok() && joining;
+            if !has_begun {
                 hall.ending.ask(rt);
             }
             // This thread is the flusher's.

@@ -57,7 +57,7 @@ module _ {D : Type 0} (facts : Ghosts D) where
     calls = more_calls facts old between new begin nothing_new (tries_made old between n tries times calls) tt made;
     ends = (
       made.step.1 ∙ same,
-      subst (λ s. length s.list ≤ s.settled) same (nothing_new_settled (state_of between) (state_of new) made.step),
+      subst (λ s. length s.held.list ≤ s.held.settled) same (nothing_new_settled (state_of between) (state_of new) made.step),
     );
   }
 

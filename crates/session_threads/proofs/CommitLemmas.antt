@@ -3,7 +3,7 @@ use Rattle.std.proofs.Common.{◌≡◌, ◌⊎◌, ℕ, ◌≤◌, ◌||◌, Bo
 use Rattle.std.proofs.lemmas.Bool.Decides.{nat_tests}
 use Rattle.std.specs.Prelude.{is_some, nat_le, if◌then◌else◌}
 use Rattle.op_model.specs.Machine.{State, Commit, Answer, begun, nothing_new, refused, settled_to, idle, goes_on, goes_through, begin_answer}
-use Rattle.op_model.specs.Machine.{BeginStep, DeviceStep, SettleStep, settle_answer, IsRefusal, is_under_way, with_settled, with_failure_told}
+use Rattle.op_model.specs.Machine.{BeginStep, DeviceStep, SettleStep, settle_answer, IsRefusal, is_under_way, with_failure_told, with_settlement}
 use Rattle.group_commit.specs.declared.phase.Phase.{Phase}
 use Rattle.group_commit.specs.declared.phase.Phase.TheVariants.{Idle, Pages, Close, Sync1, Body, Sync2, Gate, Sync3}
 use Rattle.locked_replica.specs.Steps.{stepped_in}
@@ -54,19 +54,19 @@ refused_by false false false false m n quiet due other = absurd (other due)
 
 pub state_begun : (s next : State) (n : ℕ) → BeginStep s (begun n) next → (s.failed ≡ false) × (next ≡ with_begun s)
 state_begun s next n (answer, is) =
-    let (works, count) = begun_by s.failed (is_some s.commit) (nat_le (length s.list) s.settled) _ (length s.list) n answer in
+    let (works, count) = begun_by s.failed (is_some s.commit) (nat_le (length s.held.list) s.held.settled) _ (length s.held.list) n answer in
     (works, is ∙ ap (λ k. record s { commit = Some (record { count = k; through = false }) }) count)
 
 within : (n m : ℕ) → nat_le n m ≡ true → n ≤ m
 within n m test = grind (arith, nat_tests)
 
-pub nothing_new_settled : (s next : State) → BeginStep s nothing_new next → length s.list ≤ s.settled
+pub nothing_new_settled : (s next : State) → BeginStep s nothing_new next → length s.held.list ≤ s.held.settled
 nothing_new_settled s next (answer, is) =
-    within (length s.list) s.settled (none_by s.failed (is_some s.commit) (nat_le (length s.list) s.settled) _ (length s.list) answer)
+    within (length s.held.list) s.held.settled (none_by s.failed (is_some s.commit) (nat_le (length s.held.list) s.held.settled) _ (length s.held.list) answer)
 
 pub begin_refused : (s next : State) (n : ℕ) → IsQuiet s → BeginStep s (refused n) next → (n ≡ 1 → ⊥) → (s.failed ≡ true) ⊎ (n ≡ 7)
 begin_refused s next n quiet (due, is) other =
-    refused_by s.failed (is_some s.commit) _ _ (length s.list) n (λ works. ap is_some (quiet_has_none s quiet works)) due other
+    refused_by s.failed (is_some s.commit) _ _ (length s.held.list) n (λ works. ap is_some (quiet_has_none s quiet works)) due other
 
 -- ---- device calls
 
@@ -91,9 +91,9 @@ state_fails s next n works (inr (still, goes, number, is)) = is
 
 -- the state with all settled that was begun
 abbrev all_settled : State → State
-all_settled s = with_settled (length s.list) (with_through (with_begun s))
+all_settled s = with_settlement (with_through (with_begun s)) (length s.held.list)
 
-due : (s : State) → s.failed ≡ false → settle_answer (with_through (with_begun s)) ≡ settled_to (length s.list)
+due : (s : State) → s.failed ≡ false → settle_answer (with_through (with_begun s)) ≡ settled_to (length s.held.list)
 due s works = rw works refl
 
 number_of_settled : (n m : ℕ) → settled_to n ≡ settled_to m → n ≡ m
@@ -101,11 +101,11 @@ number_of_settled n m e = cc
 
 pub state_settled : (s next : State) (n : ℕ) → s.failed ≡ false → SettleStep (with_through (with_begun s)) (settled_to n) next → next ≡ all_settled s
 state_settled s next n works (answer, is) =
-    let count : n ≡ length s.list = number_of_settled n (length s.list) (sym answer ∙ due s works) in
-    is ∙ ap (λ k. with_settled k (with_through (with_begun s))) count
+    let count : n ≡ length s.held.list = number_of_settled n (length s.held.list) (sym answer ∙ due s works) in
+    is ∙ ap (with_settlement (with_through (with_begun s))) count
 
 pub never_refused : (s next : State) (n : ℕ) → s.failed ≡ false → SettleStep (with_through (with_begun s)) (refused n) next → ⊥
-never_refused s next n works (answer, is) = let same : settled_to (length s.list) ≡ refused n = sym (due s works) ∙ answer in cc
+never_refused s next n works (answer, is) = let same : settled_to (length s.held.list) ≡ refused n = sym (due s works) ∙ answer in cc
 
 pub settled_is_quiet : (s next : State) → s.failed ≡ false → next ≡ all_settled s → IsQuiet next
 settled_is_quiet s next works is = subst IsQuiet (sym is) (rw works refl)

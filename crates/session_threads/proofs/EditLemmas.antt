@@ -3,7 +3,8 @@ use Rattle.std.proofs.Common.{◌≡◌, ℕ, ◌≤◌, ◌<◌, ◌++◌, Bool
 use Rattle.std.specs.Prelude.{if◌then◌else◌}
 use Rattle.op_model.specs.declared.edit.Edit.{Edit}
 use Rattle.op_model.specs.Made.{made, edit_refusal, is_at_rev, is_inside, is_small}
-use Rattle.op_model.specs.Machine.{State, Answer, Ticket, ticket, ticket_of, applied, refused, acknowledged, EditStep, AckStep, IsRefusal, edit_alone, edit_answer_unless, has_record_room, with_room, has_places, with_edit}
+use Rattle.op_model.specs.Held.{Held}
+use Rattle.op_model.specs.Machine.{State, Answer, Ticket, ticket, ticket_of, applied, refused, acknowledged, EditStep, AckStep, IsRefusal, edit_alone, edit_answer_unless, has_record_room, with_room, has_places}
 use Rattle.session_threads.specs.HubCalls.{IsQuiet, is_edit_refusal}
 
 -- ---- a refusal
@@ -19,10 +20,10 @@ by_places : (places : Bool) (t : Ticket) (n : ℕ) → IsRefusal n (if places th
 by_places true t n is = rw is refl
 by_places false t n is = rw is refl
 
-by_cause : (replica : ℕ) (s : State) (e : Edit) (cause : Option ℕ) (n : ℕ) → IfSome cause (λ m. IsTrue (is_edit_refusal m))
-    → IsRefusal n (edit_answer_unless replica s e cause) → IsTrue (is_edit_refusal n)
-by_cause replica s e (Some m) n known is = rw is known
-by_cause replica s e None n known is = by_places (has_places s) _ n is
+by_cause : (h : Held) (e : Edit) (cause : Option ℕ) (n : ℕ) → IfSome cause (λ m. IsTrue (is_edit_refusal m))
+    → IsRefusal n (edit_answer_unless h e cause) → IsTrue (is_edit_refusal n)
+by_cause h e (Some m) n known is = rw is known
+by_cause h e None n known is = by_places (has_places h) _ n is
 
 by_room : (room : Bool) (answer : Answer) (n : ℕ) → (IsRefusal n answer → IsTrue (is_edit_refusal n))
     → IsRefusal n (with_room room answer) → IsTrue (is_edit_refusal n)
@@ -37,36 +38,36 @@ by_telling true room answer n other is = rw is refl
 by_telling false room answer n other is = by_room room answer n other is
 
 -- the machine refuses an edit with one of these numbers
-pub edit_refusals : (replica : ℕ) (s next : State) (session : ℕ) (e : Edit) (n : ℕ)
-    → EditStep replica s session e (refused n) next → IsTrue (is_edit_refusal n)
-edit_refusals replica s next session e n (is, same) =
-    by_telling s.failure_told (has_record_room s (made s.list replica e)) (edit_alone replica s e) n
-    (by_cause replica s e (edit_refusal s.list replica e) n (of_tests _ _ _)) is
+pub edit_refusals : (s next : State) (session : ℕ) (e : Edit) (n : ℕ)
+    → EditStep s session e (refused n) next → IsTrue (is_edit_refusal n)
+edit_refusals s next session e n (is, same) =
+    by_telling s.failure_told (has_record_room s (made s.held.list s.held.replica e)) (edit_alone s.held e) n
+    (by_cause s.held e (edit_refusal s.held.list s.held.replica e) n (of_tests _ _ _)) is
 
 -- ---- what stays quiet
 
 -- an edit begins no commit
-pub edit_is_quiet : (replica : ℕ) (s next : State) (session : ℕ) (e : Edit) (t : Ticket) → IsQuiet s
-    → EditStep replica s session e (ticket t) next → IsQuiet next
-edit_is_quiet replica s next session e t quiet (answer, is) = subst IsQuiet (sym is) quiet
+pub edit_is_quiet : (s next : State) (session : ℕ) (e : Edit) (t : Ticket) → IsQuiet s
+    → EditStep s session e (ticket t) next → IsQuiet next
+edit_is_quiet s next session e t quiet (answer, is) = subst IsQuiet (sym is) quiet
 
-pub refused_is_quiet : (replica : ℕ) (s next : State) (session : ℕ) (e : Edit) (n : ℕ) → IsQuiet s
-    → EditStep replica s session e (refused n) next → IsQuiet next
-refused_is_quiet replica s next session e n quiet (due, is) = subst IsQuiet (sym is) quiet
+pub refused_is_quiet : (s next : State) (session : ℕ) (e : Edit) (n : ℕ) → IsQuiet s
+    → EditStep s session e (refused n) next → IsQuiet next
+refused_is_quiet s next session e n quiet (due, is) = subst IsQuiet (sym is) quiet
 
 -- a quiet state whose device failed answers each edit so, and stays
-pub edit_fails : (replica : ℕ) (s next : State) (session : ℕ) (e : Edit) (answer : Answer) → IsQuiet s → s.failed ≡ true
-    → EditStep replica s session e answer next → (answer ≡ refused 9) × (next ≡ s)
-edit_fails replica s next session e (ticket t) quiet failed (answer, is) =
+pub edit_fails : (s next : State) (session : ℕ) (e : Edit) (answer : Answer) → IsQuiet s → s.failed ≡ true
+    → EditStep s session e answer next → (answer ≡ refused 9) × (next ≡ s)
+edit_fails s next session e (ticket t) quiet failed (answer, is) =
     let told : s.failure_told ≡ true = rw failed at quiet in let same : refused 9 ≡ ticket t = rw told at answer in absurd (cc)
-edit_fails replica s next session e (refused n) quiet failed (due, is) =
+edit_fails s next session e (refused n) quiet failed (due, is) =
     let told : s.failure_told ≡ true = rw failed at quiet in let same : n ≡ 9 = rw told at due in (ap refused same, is)
-edit_fails replica s next session e _ quiet failed step = absurd step
+edit_fails s next session e _ quiet failed step = absurd step
 
 -- ---- an acknowledgement
 
 -- what is settled is acknowledged
-pub acknowledges : (s next : State) (t : Ticket) (b : Bool) → t.end ≤ s.settled → AckStep s t (acknowledged b) next → b ≡ true
+pub acknowledges : (s next : State) (t : Ticket) (b : Bool) → t.end ≤ s.held.settled → AckStep s t (acknowledged b) next → b ≡ true
 acknowledges s next t true settled step = refl
 acknowledges s next t false settled (open_end, is) = let never : ⊥ = omega arith in absurd never
 

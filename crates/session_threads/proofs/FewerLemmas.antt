@@ -7,7 +7,7 @@ use Rattle.group_commit.specs.Held.{Held, gone_on, behind_pages}
 use Rattle.group_commit.specs.declared.phase.Phase.{Phase}
 use Rattle.group_commit.specs.declared.phase.Phase.TheVariants.{Idle, Pages, Close, Sync1, Body, Sync2, Gate, Sync3}
 use Rattle.op_model.specs.Machine.{Commit, is_under_way}
-use Rattle.replica_core.specs.Held.{Held as ReplicaHeld}
+use Rattle.op_model.specs.Held.{Held as ReplicaHeld}
 use Rattle.locked_replica.specs.Hub.{commit_in, commit_of}
 use Rattle.session_threads.proofs.CallsLeft.{calls_from, calls_left}
 

@@ -39,19 +39,19 @@ module _ {D : Type 0} (facts : Ghosts D) where
       (subst (λ k. IsCall facts (edit session e) (refused k) old new) (sym same) call))
 
   pub can_be_refused : (old new : Parts D) (e : Edit) (n : ℕ) → IsCall facts (edit session e) (refused n) old new → IsTrue (is_edit_refusal n)
-  can_be_refused old new e n call = edit_refusals old.replica.replica (state_of old) (state_of new) session e n call.step
+  can_be_refused old new e n call = edit_refusals (state_of old) (state_of new) session e n call.step
 
   pub ends_within : (old new : Parts D) (e : Edit) (t : Ticket) → IsCall facts (edit session e) (ticket t) old new → t.end ≤ length new.replica.list
   ends_within old new e t call =
-      let same = ticket_ends old.replica.replica (state_of old) (state_of new) session e t call.step in omega (arith, same)
+      let same = ticket_ends (state_of old) (state_of new) session e t call.step in omega (arith, same)
 
   pub quiet_after : (old new : Parts D) (e : Edit) (t : Ticket) → IsQuiet (state_of old) → IsCall facts (edit session e) (ticket t) old new
       → IsQuiet (state_of new)
-  quiet_after old new e t quiet call = edit_is_quiet old.replica.replica (state_of old) (state_of new) session e t quiet call.step
+  quiet_after old new e t quiet call = edit_is_quiet (state_of old) (state_of new) session e t quiet call.step
 
   pub quiet_refused : (old new : Parts D) (e : Edit) (n : ℕ) → IsQuiet (state_of old) → IsCall facts (edit session e) (refused n) old new
       → IsQuiet (state_of new)
-  quiet_refused old new e n quiet call = refused_is_quiet old.replica.replica (state_of old) (state_of new) session e n quiet call.step
+  quiet_refused old new e n quiet call = refused_is_quiet (state_of old) (state_of new) session e n quiet call.step
 
   -- what all is settled behind is acknowledged
   pub is_acknowledged : (old between new : Parts D) (t : Ticket) (b : Bool) → t.end ≤ length old.replica.list

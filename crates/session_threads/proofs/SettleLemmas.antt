@@ -23,9 +23,9 @@ module _ {D : Type 0} (facts : Ghosts D) where
   ended_settled old new quiet begins =
       let (same, all) = begins.ends in
       record {
-        commits = record { calls = begins.calls; ends = subst (λ s. length s.list ≤ s.settled) (sym same) all };
+        commits = record { calls = begins.calls; ends = subst (λ s. length s.held.list ≤ s.held.settled) (sym same) all };
         quiet = subst IsQuiet (sym same) quiet;
-        list = ap (λ s. s.list) same;
+        list = ap (λ s. s.held.list) same;
       }
 
   pub ended_refused : (old new : Parts D) → IsQuiet (state_of old) → Begins facts old Refused new → Ended facts old false new
@@ -34,7 +34,7 @@ module _ {D : Type 0} (facts : Ghosts D) where
       record {
         commits = record { calls = begins.calls; ends = cause };
         quiet = subst IsQuiet (sym same) quiet;
-        list = ap (λ s. s.list) same;
+        list = ap (λ s. s.held.list) same;
       }
 
   -- the device failed in the commit
@@ -51,7 +51,7 @@ module _ {D : Type 0} (facts : Ghosts D) where
           ends = inl failed;
         };
         quiet = told;
-        list = ap (λ s. s.list) made.step.1 ∙ ap (λ s. s.list) goes.ends ∙ ap (λ s. s.list) begun;
+        list = ap (λ s. s.held.list) made.step.1 ∙ ap (λ s. s.held.list) goes.ends ∙ ap (λ s. s.held.list) begun;
       }
 
   pub ended_through : (old between through new : Parts D) (answer : Result ℕ HubRefusal) → Begins facts old UnderWay between
@@ -65,10 +65,10 @@ module _ {D : Type 0} (facts : Ghosts D) where
       record {
         commits = record {
           calls = more_calls facts old through new settle (settled_to n) (both_calls facts old between through begins.calls goes.calls) tt made;
-          ends = subst (λ s. length s.list ≤ s.settled) (sym after) (omega arith);
+          ends = subst (λ s. length s.held.list ≤ s.held.settled) (sym after) (omega arith);
         };
         quiet = settled_is_quiet (state_of old) (state_of new) works after;
-        list = ap (λ s. s.list) after;
+        list = ap (λ s. s.held.list) after;
       }
   ended_through old between through new (Err e) begins goes made =
       let (works, begun) = begins.ends in

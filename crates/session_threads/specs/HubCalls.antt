@@ -55,7 +55,7 @@ is_edit_refusal n = n == 1 || n == 5 || n == 6 || n == 7 || n == 8 || n == 9 || 
 
 -- the state with a commit of all its operations, of which no device call is made
 abbrev pub with_begun : State → State
-with_begun s = record s { commit = Some (record { count = length s.list; through = false }) }
+with_begun s = record s { commit = Some (record { count = length s.held.list; through = false }) }
 
 -- the state with its commit through
 abbrev pub with_through : State → State
@@ -71,7 +71,7 @@ module _ {D : Type 0} (facts : Ghosts D) where
   -- how a begin ends: a commit is begun, all was settled, or there is none
   abbrev pub BegunAs : State → State → List (Event × Answer) → Begun → Type 0
   BegunAs old new events UnderWay = (old.failed ≡ false) × (new ≡ with_begun old)
-  BegunAs old new events Settled = (new ≡ old) × (length old.list ≤ old.settled)
+  BegunAs old new events Settled = (new ≡ old) × (length old.held.list ≤ old.held.settled)
   BegunAs old new events Refused = (new ≡ old) × CannotSettle new events
 
   pub record Begins (old : Parts D) (begun : Begun) (new : Parts D) : Type 0 where

@@ -40,7 +40,7 @@ pub fn a_session_is_a_run<D: Disk>(desk: &HubDesk<D>)
 /// Once the device of a quiet hub failed, each edit is answered with 9 and changes nothing. Costs
 /// nothing.
 pub fn edits_fail_behind_a_failure()
-    ensures { (replica session : ℕ) (s next : State) (e : Edit) (answer : Answer) → IsQuiet s
-        → s.failed ≡ true → EditStep replica s session e answer next
+    ensures { (session : ℕ) (s next : State) (e : Edit) (answer : Answer) → IsQuiet s
+        → s.failed ≡ true → EditStep s session e answer next
         → (answer ≡ refused 9) × (next ≡ s) }
 {}

@@ -31,10 +31,11 @@ impl<R: Read, W: Write> Session<R, W> {
         Session { reader, writer }
     }
 
-    /// Serves each line until the end of the input: a rest without line feed is no line. The desk serves those that are
-    /// commands; each answer is written and handed on before the next line is looked at. `Memory` (1) where the 65,664
-    /// bytes that a session holds are refused; nothing is read then. `Stream` (71) where a read or a write fails; what
-    /// was read behind the last line that was answered is lost. The time beside the desk's is that of the input's length.
+    /// Serves each line until the end of the input: a rest without line feed is no line. The desk
+    /// serves those that are commands; each answer is written and handed on before the next line is
+    /// looked at. `Memory` (1) where the 65,664 bytes that a session holds are refused; nothing is
+    /// read then. `Stream` (71) where a read or a write fails; what was read behind the last line
+    /// that was answered is lost. The time beside the desk's is that of the input's length.
     pub fn serve<D: Desk>(&mut self, alloc: Global, desk: &mut D) -> Result<(), SessionFault>
         ensures ok { OnOk result (Served D.serves desk.old desk.new
             (R.remaining self.old.reader) (R.remaining self.new.reader)

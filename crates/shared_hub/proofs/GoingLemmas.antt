@@ -1,5 +1,5 @@
 -- What meetings and device calls make of a flusher.
-use Rattle.std.proofs.Common.{◌≡◌, ◌≢◌, ◌⊎◌, ℕ, Bool, true, false, refl, sym, ap, ◌∙◌, arith, inl, inr, Ok, Err, append_assoc}
+use Rattle.std.proofs.Common.{◌≡◌, ◌≢◌, ◌⊎◌, Bool, true, false, refl, sym, ap, ◌∙◌, arith, inl, inr, Ok, Err, append_assoc}
 use Rattle.std.proofs.lemmas.List.{append-nil}
 use Rattle.std.specs.Prelude.{◌↔◌, ◌≤◌, [], ◌++◌, Result}
 use Rattle.disk_trait.specs.declared.facts.DiskFacts.{Ghosts}
@@ -17,7 +17,6 @@ use Rattle.hub_parts.specs.Meeting.{Leaves, pending}
 use Rattle.hub_parts.specs.declared.met.Met.{Met}
 use Rattle.hub_parts.specs.declared.met.Met.TheVariants.{Begun, Settled, Nothing}
 use Rattle.shared_hub.specs.Going.{Goes}
-use Rattle.shared_hub.specs.Shared.{MeetsOnce}
 
 -- a flusher that is as it was
 pub goes_nowhere : {D : Type 0} (facts : Ghosts D) (f new : FlusherHeld D) → new ≡ f → Goes facts f new
@@ -82,7 +81,7 @@ device_goes facts f new result kept step same =
     }
 
 -- what a meeting makes of it
-meeting_goes : {D : Type 0} (facts : Ghosts D) (l : LockedHeld) (f : FlusherHeld D) (result : Result Met StoreError) (l' : LockedHeld)
+pub meeting_goes : {D : Type 0} (facts : Ghosts D) (l : LockedHeld) (f : FlusherHeld D) (result : Result Met StoreError) (l' : LockedHeld)
     (f' : FlusherHeld D) → Leaves facts l f result l' f' → Goes facts f f'
 meeting_goes facts l f (Ok (Begun n)) l' f' leaves =
     record {
@@ -98,8 +97,3 @@ meeting_goes facts l f (Ok (Settled n)) l' f' leaves =
     })
 meeting_goes facts l f (Ok Nothing) l' f' leaves = goes_nowhere facts f f' leaves.1
 meeting_goes facts l f (Err e) l' f' leaves = goes_nowhere facts f f' leaves.flusher
-
--- what a meeting under the lock makes of it
-pub met_goes : {D : Type 0} (facts : Ghosts D) (f : FlusherHeld D) (result : Result Met StoreError) (f' : FlusherHeld D)
-    → MeetsOnce facts f result f' → Goes facts f f'
-met_goes facts f result f' once = meeting_goes facts once.before f result once.after f' once.meets.meets.leaves

@@ -1,10 +1,11 @@
 -- What stands under the lock of a shared hub.
 use Rattle.std.specs.Prelude.{◌≡◌, ℕ, Bool, List, ◌∷◌, Result, Ok, Err}
 use Rattle.op_model.specs.Machine.{Ticket}
-use Rattle.hub_parts.specs.Locked.{Held as LockedHeld}
+use Rattle.hub_parts.specs.Locked.{IsLocked, Held as LockedHeld}
 use Rattle.pass_books.specs.Accounts.{PassHeld}
 use Rattle.replica_core.specs.declared.merged.Merged.{Merged}
 use Rattle.replica_core.specs.declared.merged.Merged.TheVariants as merged_as
+use Rattle.shared_hub.specs.Books.{ends_of}
 use Rattle.shared_hub.specs.declared.refusal.SharedRefusal.{SharedRefusal}
 
 -- the locked part, the entries of each book, and whether it was asked to stop
@@ -12,6 +13,11 @@ pub record Held : Type 0 where
   pub locked : LockedHeld
   pub books : List (List ℕ)
   pub stopping : Bool
+
+-- the locked part is sound, and the pass has an entry for each kept step of its number
+pub record IsMine (l : LockedHeld) (p : PassHeld) : Type 0 where
+  pub sound : IsLocked l
+  pub mine : p.entries ≡ ends_of p.number l.replica.steps
 
 -- the pass with one entry more
 abbrev pub with_end : PassHeld → ℕ → PassHeld

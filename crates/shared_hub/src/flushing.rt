@@ -24,8 +24,8 @@ enum Begun {
 }
 
 /// Commits what the threads of a shared hub make, one commit after the other, until they were asked
-/// to end or the device fails. It makes device calls with no lock held, and holds the lock twice
-/// for a commit, beside a few looks at how much waits. It sleeps where nothing waits. Behind it
+/// to end or the device fails. It makes device calls with no lock held, and holds the lock once
+/// between two commits: a settlement begins the next one. It sleeps where nothing waits. Behind it
 /// whoever waits for a settlement is told that none comes.
 pub fn flush<R: Wait, D: Disk, J: Desks, G: Gate>(
     rt: &R,
@@ -54,15 +54,15 @@ fn commit_each<R: Wait, D: Disk, J: Desks, G: Gate>(
         if !shared.wait_for_work(rt) {
             return;
         }
-        shared.gather(rt);
-        if !commit(rt, shared, flusher, gate) {
+        if !commit_on(rt, shared, flusher, gate) {
             return;
         }
     }
 }
 
-/// Makes one commit, and answers whether the device still works.
-fn commit<R: Wait, D: Disk, J: Desks, G: Gate>(
+/// Makes one commit after the other until nothing waits, and answers whether the device still
+/// works.
+fn commit_on<R: Wait, D: Disk, J: Desks, G: Gate>(
     rt: &R,
     shared: &Shared<J>,
     flusher: &mut Flusher<D>,
@@ -75,14 +75,47 @@ fn commit<R: Wait, D: Disk, J: Desks, G: Gate>(
         Begun::Without => return true,
         Begun::Failed => return false,
     }
+    go_on(rt, shared, flusher, gate)
+}
+
+/// Makes the commit under way and those that begin with a settlement, and answers whether the
+/// device still works.
+fn go_on<R: Wait, D: Disk, J: Desks, G: Gate>(
+    rt: &R,
+    shared: &Shared<J>,
+    flusher: &mut Flusher<D>,
+    gate: &G,
+) -> bool
+    ensures { Goes D.DiskFacts flusher.old flusher.new }
+{
+    for _ in rt.forever() {
+        match commit(rt, shared, flusher, gate) {
+            Ok(true) => {}
+            Ok(false) => return true,
+            Err(_) => return false,
+        }
+    }
+    unreachable!()
+}
+
+/// Makes the device calls of the commit under way, settles it, and begins the next one. Answers
+/// whether that began; an error tells that the device has failed.
+fn commit<R: Wait, D: Disk, J: Desks, G: Gate>(
+    rt: &R,
+    shared: &Shared<J>,
+    flusher: &mut Flusher<D>,
+    gate: &G,
+) -> Result<bool, StoreError>
+    ensures { Goes D.DiskFacts flusher.old flusher.new }
+{
     gate.pass(Point::Begun);
     go_through(rt, flusher, gate);
-    // Where a device call failed, this meeting tells it.
-    if shared.meet(rt, flusher).is_err() {
-        return false;
-    }
+    // Room for what the next commit takes; where there is none, that meeting makes its own or is
+    // refused, and `begin` tries it anew.
+    let _ = flusher.reserve();
+    let goes_on = shared.settle(rt, flusher)?;
     gate.pass(Point::Settled);
-    true
+    Ok(goes_on)
 }
 
 /// Begins a commit. A begin that finds no memory is made again, at most 1,000 times in a row; after
@@ -119,7 +152,7 @@ fn try_once<R: Wait, D: Disk, J: Desks>(
     if flusher.reserve().is_err() {
         return Err(StoreError::Memory);
     }
-    shared.meet(rt, flusher)
+    shared.begin(rt, flusher)
 }
 
 /// Makes the device calls of the commit under way, until it is through or one of them fails.

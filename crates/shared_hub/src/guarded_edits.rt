@@ -1,11 +1,10 @@
 //! Edits and merges under the lock of a shared hub.
 ghost use Rattle.std.specs.Prelude.{◌≡◌, true, false, Err, length, OnOk, OnErr, IfOk};
 ghost use Rattle.op_model.specs.Machine.{edit as edit_event, merge as merge_event, EditStep, MergeStep};
-ghost use Rattle.hub_parts.specs.Locked.{state_of, IsLocked};
-ghost use Rattle.replica_core.specs.Held.{with_edit};
+ghost use Rattle.hub_parts.specs.Locked.{state_of};
+ghost use Rattle.op_model.specs.Held.{with_edit};
 ghost use Rattle.replica_core.specs.Merging.{after_merge as replica_after_merge};
-ghost use Rattle.shared_hub.specs.Books.{ends_of};
-ghost use Rattle.shared_hub.specs.Guarded.{after_edit, after_merge};
+ghost use Rattle.shared_hub.specs.Guarded.{IsMine, after_edit, after_merge};
 ghost use Rattle.shared_hub.specs.Refusal.{edited, merged};
 ghost use Rattle.shared_hub.specs.Shared.{MakesFor};
 ghost use Rattle.shared_hub.specs.declared.refusal.SharedRefusal.TheVariants.{Stopping};
@@ -42,11 +41,9 @@ impl<J: Desks> Guarded<J> {
 
     /// Makes an edit, and enters it.
     fn enter_edit(&mut self, pass: &mut Pass<J>, edit: &Edit) -> Result<Ticket, SharedRefusal>
-        requires sound { IsLocked self.old.locked }
-        requires mine { pass.old.entries
-            ≡ ends_of pass.old.number self.old.locked.replica.steps }
-        ensures call { EditStep self.old.locked.replica.replica (state_of self.old.locked)
-            pass.old.number edit.now (edited result) (state_of self.new.locked) }
+        requires { IsMine self.old.locked pass.old }
+        ensures call { EditStep (state_of self.old.locked) pass.old.number edit.now
+            (edited result) (state_of self.new.locked) }
         ensures made { OnOk result (self.new.locked ≡ record self.old.locked {
           replica = with_edit self.old.locked.replica pass.old.number edit.now;
         }) }
@@ -89,11 +86,9 @@ impl<J: Desks> Guarded<J> {
 
     /// Merges a peer's operation, and enters it where it is applied.
     fn enter_merge(&mut self, pass: &mut Pass<J>, op: Op) -> Result<Merged, SharedRefusal>
-        requires sound { IsLocked self.old.locked }
-        requires mine { pass.old.entries
-            ≡ ends_of pass.old.number self.old.locked.replica.steps }
-        ensures call { MergeStep self.old.locked.replica.replica (state_of self.old.locked)
-            pass.old.number op (merged result) (state_of self.new.locked) }
+        requires { IsMine self.old.locked pass.old }
+        ensures call { MergeStep (state_of self.old.locked) pass.old.number op (merged result)
+            (state_of self.new.locked) }
         ensures made { IfOk result (λ m. self.new.locked ≡ record self.old.locked {
           replica = replica_after_merge m self.old.locked.replica pass.old.number op;
         }) }

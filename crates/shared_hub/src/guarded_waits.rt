@@ -4,7 +4,7 @@ ghost use Rattle.op_model.specs.Machine.{ack as ack_event, acknowledged};
 ghost use Rattle.shared_hub.specs.Shared.{MakesFor, Moment};
 ghost use Rattle.shared_hub.specs.declared.awaited.Awaited.TheVariants.{Settled};
 
-use crate::awaited::Awaited;
+use crate::awaited::{Awaited, Parity};
 use crate::guarded::Guarded;
 use crate::news::News;
 use pass_books::{Desks, Pass};
@@ -46,7 +46,26 @@ impl<J: Desks> Guarded<J> {
         if self.locked.is_failure_told() || self.turns.has_ended || self.is_given_up(end) {
             Awaited::Lost
         } else {
-            Awaited::Pending
+            Awaited::Pending(self.parity_for(end))
+        }
+    }
+
+    /// The parity of the commit that settles the list up to this length: the last one that began
+    /// has it, or the next one will.
+    fn parity_for(&self, end: usize) -> Parity {
+        if end <= self.locked.begun() {
+            self.parity(0)
+        } else {
+            self.parity(1)
+        }
+    }
+
+    /// The parity of the commit that begins so many behind the last one.
+    pub(crate) fn parity(&self, later: u64) -> Parity {
+        if self.turns.commits.wrapping_add(later) % 2 == 0 {
+            Parity::Even
+        } else {
+            Parity::Odd
         }
     }
 
@@ -72,11 +91,6 @@ impl<J: Desks> Guarded<J> {
             && self.turns.given_up < length
     }
 
-    /// How many operations wait for a commit.
-    pub(crate) fn waiting(&self) -> usize {
-        self.locked.list().len().saturating_sub(self.locked.begun())
-    }
-
     /// Whether the flusher sleeps and has work: whoever asks is to wake it.
     pub(crate) fn wakes_flusher(&mut self) -> bool
         ensures { self.new ≡ self.old }
@@ -100,6 +114,13 @@ impl<J: Desks> Guarded<J> {
         ensures { self.new ≡ self.old }
     {
         self.turns.tried = self.locked.list().len();
+    }
+
+    /// Counts a commit that has begun.
+    pub(crate) fn count_commit(&mut self)
+        ensures { self.new ≡ self.old }
+    {
+        self.turns.commits = self.turns.commits.wrapping_add(1);
     }
 
     /// Gives up the commit that was tried last, until another operation comes: one that came behind

@@ -6,6 +6,7 @@ ghost use Rattle.shared_hub.specs.Refusal.{edited, merged};
 ghost use Rattle.shared_hub.specs.Shared.{HappensTo};
 ghost use Rattle.shared_hub.specs.declared.refusal.SharedRefusal.TheVariants.{Stopping};
 
+use crate::awaited::Parity;
 use crate::guarded::Guarded;
 use crate::refusal::SharedRefusal;
 use op_model::{Edit, Op};
@@ -19,8 +20,9 @@ use std::sync::{Condvar, Mutex, Wait};
 #[derive(Drop)]
 pub struct Shared<J: Desks> {
     pub(crate) guarded: Mutex<Guarded<J>>,
-    /// Those who wait for a settlement.
-    pub(crate) settled: Condvar,
+    /// Those who wait for the settlement of a commit with an even number, and with an odd one.
+    even: Condvar,
+    odd: Condvar,
     /// The flusher, where it sleeps.
     pub(crate) work: Condvar,
     /// The threads that tell.
@@ -31,7 +33,8 @@ impl<J: Desks> Shared<J> {
     pub(crate) fn new(guarded: Guarded<J>) -> Shared<J> {
         Shared {
             guarded: Mutex::new(guarded),
-            settled: Condvar::new(),
+            even: Condvar::new(),
+            odd: Condvar::new(),
             work: Condvar::new(),
             news: Condvar::new(),
         }
@@ -85,6 +88,20 @@ impl<J: Desks> Shared<J> {
         drop(guard);
         self.wake_flusher(is_due);
         result
+    }
+
+    /// Where those wait who wait for a commit of this parity.
+    pub(crate) fn room(&self, parity: Parity) -> &Condvar {
+        match parity {
+            Parity::Even => &self.even,
+            Parity::Odd => &self.odd,
+        }
+    }
+
+    /// Wakes all who wait for a settlement.
+    pub(crate) fn wake_waiting(&self) {
+        self.even.notify_all();
+        self.odd.notify_all();
     }
 
     /// Wakes the flusher, where that is due.

@@ -1,7 +1,8 @@
 //! What a shared hub tells its peers, and how the flusher meets it.
 ghost use Rattle.op_model.specs.Machine.{tell as tell_event, have as have_event};
+ghost use Rattle.shared_hub.specs.Going.{Goes};
 ghost use Rattle.shared_hub.specs.Refusal.{told, had};
-ghost use Rattle.shared_hub.specs.Shared.{Happens, MeetsOnce};
+ghost use Rattle.shared_hub.specs.Shared.{Happens, MeetsOnce, Settles};
 
 use crate::refusal::SharedRefusal;
 use crate::shared::Shared;
@@ -30,23 +31,46 @@ impl<J: Desks> Shared<J> {
         self.guarded.lock(rt).have()
     }
 
-    /// The flusher meets what stands under the lock, once, and wakes all who wait where that
-    /// settles something or tells a failure. Refuses as `Flusher::meet` does (44, 8, 7, 1).
-    pub(crate) fn meet<R: Wait, D: Disk>(
+    /// The flusher meets what stands under the lock, once, where no commit is under way: one of all
+    /// that waits is tried. Refuses as `Flusher::meet` does (44, 8, 7, 1).
+    pub(crate) fn begin<R: Wait, D: Disk>(
         &self,
         rt: &R,
         flusher: &mut Flusher<D>,
     ) -> Result<Met, StoreError>
-        ensures { MeetsOnce D.DiskFacts flusher.old result flusher.new }
+        ensures met { MeetsOnce D.DiskFacts flusher.old result flusher.new }
+        ensures goes { Goes D.DiskFacts flusher.old flusher.new }
     {
-        let mut guard = self.guarded.lock(rt);
-        guard.note_try();
-        let result = guard.meet(flusher);
-        drop(guard);
-        if matches!(result, Ok(Met::Settled(_)) | Err(StoreError::Failed)) {
-            self.settled.notify_all();
+        let result = self.guarded.lock(rt).begin(flusher);
+        // A flusher whose commit was through has settled it.
+        if matches!(result, Ok(Met::Settled(_))) {
+            self.wake_waiting();
             self.news.notify_all();
         }
+        result
+    }
+
+    /// With the lock held once, the commit whose device calls are all made is settled, and one of
+    /// all that waits then begins. Wakes those who wait for the settled one, and the threads that
+    /// tell. Answers whether the next one began. An error tells that the device has failed (44).
+    pub(crate) fn settle<R: Wait, D: Disk>(
+        &self,
+        rt: &R,
+        flusher: &mut Flusher<D>,
+    ) -> Result<bool, StoreError>
+        ensures met { Settles D.DiskFacts flusher.old result flusher.new }
+        ensures goes { Goes D.DiskFacts flusher.old flusher.new }
+    {
+        let mut guard = self.guarded.lock(rt);
+        let settled = guard.parity(0);
+        let result = guard.settle(flusher);
+        drop(guard);
+        if result.is_ok() {
+            self.room(settled).notify_all();
+        } else {
+            self.wake_waiting();
+        }
+        self.news.notify_all();
         result
     }
 }

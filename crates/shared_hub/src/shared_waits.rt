@@ -9,14 +9,11 @@ use crate::shared::Shared;
 use pass_books::{Desks, Pass};
 use replica_core::Ticket;
 use std::sync::Wait;
-use std::thread;
-
-/// How often the flusher looks at the most whether more operations wait, before it begins a commit.
-const LOOKS: u32 = 8;
 
 impl<J: Desks> Shared<J> {
     /// Waits until the operations of a ticket are settled, and acknowledges them; else the device
-    /// failed, no commit could begin, or the flusher has ended (9). Wakes for each settlement.
+    /// failed, no commit could begin, or the flusher has ended (9). Wakes for the settlement of its
+    /// commit alone.
     pub fn acknowledge<R: Wait>(&self, rt: &R, pass: &mut Pass<J>, ticket: Ticket) -> bool
         ensures same { pass.new ≡ pass.old }
         ensures call { IsTrue result
@@ -27,7 +24,7 @@ impl<J: Desks> Shared<J> {
             match guard.try_ack(pass, ticket) {
                 Awaited::Settled => return true,
                 Awaited::Lost => return false,
-                Awaited::Pending => guard = self.settled.wait(rt, guard),
+                Awaited::Pending(parity) => guard = self.room(parity).wait(rt, guard),
             }
         }
         unreachable!()
@@ -46,7 +43,7 @@ impl<J: Desks> Shared<J> {
             match guard.all_settled() {
                 Awaited::Settled => return true,
                 Awaited::Lost => return false,
-                Awaited::Pending => guard = self.settled.wait(rt, guard),
+                Awaited::Pending(parity) => guard = self.room(parity).wait(rt, guard),
             }
         }
         unreachable!()
@@ -74,7 +71,7 @@ impl<J: Desks> Shared<J> {
     /// Asks the flusher and the threads that tell to end. The flusher first commits what waits.
     pub fn close<R: Wait>(&self, rt: &R) {
         self.guarded.lock(rt).close();
-        self.settled.notify_all();
+        self.wake_waiting();
         self.work.notify_all();
         self.news.notify_all();
     }
@@ -97,29 +94,15 @@ impl<J: Desks> Shared<J> {
         unreachable!()
     }
 
-    /// Lets other threads run as long as each look finds that more operations wait: they share the
-    /// commit that begins next.
-    pub(crate) fn gather<R: Wait>(&self, rt: &R) {
-        let mut seen = 0;
-        for _ in 0..LOOKS {
-            let waiting = self.guarded.lock(rt).waiting();
-            if waiting <= seen {
-                return;
-            }
-            seen = waiting;
-            thread::yield_now();
-        }
-    }
-
     /// Gives up the commit that was tried last, and tells those who wait for it.
     pub(crate) fn give_up<R: Wait>(&self, rt: &R) {
         self.guarded.lock(rt).give_up();
-        self.settled.notify_all();
+        self.wake_waiting();
     }
 
     /// Tells those who wait for a settlement that none comes any more.
     pub(crate) fn end_flushing<R: Wait>(&self, rt: &R) {
         self.guarded.lock(rt).end_flushing();
-        self.settled.notify_all();
+        self.wake_waiting();
     }
 }

@@ -9,6 +9,8 @@ pub(crate) struct Turns {
     pub given_up: usize,
     /// Whether the flusher sleeps.
     pub flusher_sleeps: bool,
+    /// How many commits have begun.
+    pub commits: u64,
     /// How often a thread that hears woke those that tell.
     pub calls: u64,
     /// Whether the threads were asked to end.
@@ -24,6 +26,7 @@ impl Turns {
             tried: 0,
             given_up: 0,
             flusher_sleeps: false,
+            commits: 0,
             calls: 0,
             is_closing: false,
             has_ended: false,

@@ -1,22 +1,10 @@
 -- The limits of a store, of one list behind another.
-use Rattle.std.proofs.Common.{◌≡◌, ◌+◌, ◌&&◌, nat_le, List, [], ◌∷◌, ◌++◌, length, map, refl, ap, length-append, arith}
+use Rattle.std.proofs.Common.{◌≡◌, ◌+◌, ◌&&◌, nat_le, List, [], ◌∷◌, ◌++◌, length, refl, length-append, arith}
 use Rattle.std.proofs.lemmas.List.Folds.{list_all-append}
 use Rattle.std.specs.List.{list_all}
 use Rattle.op_model.specs.declared.op.Op.{Op}
 use Rattle.op_model.specs.Records.{stream_length}
-use Rattle.op_model.specs.Spans.{with_number}
 use Rattle.op_model.specs.Causality.{clock_of, documents, is_in_range, is_within_limits}
-use Rattle.slow_programs.specs.Joining.{risen}
-
--- the documents of two lists
-pub documents-append : (xs ys : List Op) → documents (xs ++ ys) ≡ risen (documents ys) (map (λ op. op.doc) xs)
-documents-append [] ys = refl
-documents-append (x ∷ xs) ys = ap (with_number x.doc) (documents-append xs ys)
-
--- from none
-pub risen-none : (xs : List Op) → risen [] (map (λ op. op.doc) xs) ≡ documents xs
-risen-none [] = refl
-risen-none (x ∷ xs) = ap (with_number x.doc) (risen-none xs)
 
 -- the records of two lists
 pub stream_length-append : (xs ys : List Op) → stream_length (xs ++ ys) ≡ stream_length xs + stream_length ys
@@ -35,5 +23,3 @@ pub within-append : (xs ys : List Op) → is_within_limits (xs ++ ys)
 within-append xs ys = rw (in_range-append, length-append, stream_length-append) refl
 
 pub ruleset parts = within-append
-
-pub ruleset both = (documents-append, risen-none)

@@ -1,9 +1,9 @@
-ghost use Rattle.std.specs.Prelude.{◌≡◌, ◌+◌, ◌≤◌, ◌<◌, ◌++◌, ◌∷◌, length, take, drop, map, nat_le, IfOk, OnOk, MatchOption};
+ghost use Rattle.std.specs.Prelude.{◌≡◌, ◌+◌, ◌≤◌, ◌<◌, List, ◌++◌, ◌∷◌, length, take, drop, nat_le, IfOk, OnOk, MatchOption};
+ghost use Rattle.op_model.specs.declared.op.Op.{Op as Operation};
 ghost use Rattle.std.specs.List.{list_all};
 ghost use Rattle.op_model.specs.Spans.{with_number};
 ghost use Rattle.op_model.specs.Records.{stream_length};
 ghost use Rattle.op_model.specs.Causality.{clock_of, documents as documents_of, is_in_range as is_in_its_range, is_within_limits as is_within_limits_of};
-ghost use Rattle.slow_programs.specs.Joining.{risen};
 
 use op_ids::Clock;
 use op_model::{MAX_DOCUMENTS, MAX_OPERATIONS, MAX_STREAM_LENGTH, Op};
@@ -77,7 +77,6 @@ fn room_behind(ops: &[Op], room: u64) -> Option<u64>
 }
 
 /// The documents that have operations, in rising order. An error is want of memory (1).
-#[tactic(auto, using(crate::proofs::LimitLemmas::both))]
 fn documents(alloc: Global, ops: &[Op], made: &[Op]) -> Result<Vec<u32>, AllocError>
     ensures { IfOk result (λ found. found.items ≡ documents_of (ops.now ++ made.now)) }
 {
@@ -87,8 +86,11 @@ fn documents(alloc: Global, ops: &[Op], made: &[Op]) -> Result<Vec<u32>, AllocEr
     Ok(found)
 }
 
+/// Puts the documents of operations among those of others that come behind them. An error is want
+/// of memory (1).
 fn insert_documents(found: &mut Vec<u32>, ops: &[Op]) -> Result<(), AllocError>
-    ensures { OnOk result (found.new.items ≡ risen found.old.items (map (λ op. op.doc) ops.now)) }
+    ensures { OnOk result ((behind : List Operation) → found.old.items ≡ documents_of behind
+        → found.new.items ≡ documents_of (ops.now ++ behind)) }
 {
     let mut i = ops.len();
     while i > 0 {

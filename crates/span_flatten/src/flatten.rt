@@ -1,7 +1,8 @@
 ghost use Rattle.std.specs.Prelude.{◌≡◌, ◌+◌, ◌*◌, ◌≤◌, ℕ, List};
-ghost use Rattle.std.specs.Prelude.{Some, take, length, IfOk, OnOk};
+ghost use Rattle.std.specs.Prelude.{Some, take, IfOk, OnOk};
 ghost use Rattle.char_sequence.specs.Chunks.{cells_of, size_at};
 ghost use Rattle.char_sequence.specs.Content.{Holds};
+ghost use Rattle.char_sequence.specs.Counting.{count_of};
 ghost use Rattle.mark_anchors.specs.Keeping.{AreMarksOf};
 ghost use Rattle.op_model.specs.declared.op.Op.{Op};
 ghost use Rattle.op_model.specs.Spans.{spans as spans_of_ops};
@@ -44,7 +45,7 @@ pub fn spans_in(
     ensures spans { IfOk result (λ found. (ops : List Op) (doc : ℕ) → Holds sequence.now ops doc
         → AreMarksOf anchors.now ops doc → found.items ≡ spans_of_ops ops doc) }
     ensures few { IfOk result (λ found. listed found.items ≤ 1048576) }
-    ensures ticks { ticks.new ≤ ticks.old + (2 * length (cells_of sequence.now) + 1) }
+    ensures ticks { ticks.new ≤ ticks.old + (2 * count_of sequence.now + 1) }
 {
     let alloc = sequence.allocator();
     let mut sweep = Sweep::new(alloc, anchors.in_order())?;

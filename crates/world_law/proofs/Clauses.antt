@@ -11,7 +11,8 @@ use Rattle.model_laws.proofs.Above.{numbered_above}
 use Rattle.model_laws.proofs.Marked.{same_text, same_spans, same_rev}
 use Rattle.model_laws.proofs.Ids.{below_differs, equal_same}
 use Rattle.world_law.specs.Counts.{own_count}
-use Rattle.world_law.specs.World.{Machine, World, HasMachine, IsInBag, IsBeginning}
+use Rattle.op_model.specs.Machine.{State}
+use Rattle.world_law.specs.World.{World, HasMachine, IsInBag, IsBeginning}
 use Rattle.world_law.specs.Histories.{Happening, History}
 use Rattle.world_law.specs.Laws.{HoldsOneOperation, TellsOneOperation, MakesNoOther, ShowsTheSame, KeepsWhatWasTold, Always, NeverMadeAgain}
 use Rattle.world_law.proofs.ClosedLists.{closed_one, closed_same, closed_counted, closed_at}
@@ -22,17 +23,17 @@ use Rattle.world_law.proofs.Worlds.{IsSoundWorld, beginning_sound, history_sound
 module _ (w : World) (sound : IsSoundWorld w) where
   -- the maker of an operation holds it
   abbrev IsHome : Op → Type 0
-  IsHome op = (m : Machine) × HasMachine w.machines m × (m.replica ≡ op.id.replica) × HasOp m.state.list op
+  IsHome op = (m : State) × HasMachine w.machines m × (m.held.replica ≡ op.id.replica) × HasOp m.held.list op
 
   told_home : (op : Op) → IsInBag w.bag op → IsHome op
-  told_home op h = let (m, l, e, k) = sound.home op h in (m, l, e, HasOp-take m.state.settled m.state.list op k)
+  told_home op h = let (m, l, e, k) = sound.home op h in (m, l, e, HasOp-take m.held.settled m.held.list op k)
 
-  held_home : (m : Machine) (op : Op) → HasMachine w.machines m → HasOp m.state.list op → IsHome op
+  held_home : (m : State) (op : Op) → HasMachine w.machines m → HasOp m.held.list op → IsHome op
   held_home m op h k = elim ((sound.each m h).foreign op k) [ inl e ↦ (m, h, sym e, k) | inr t ↦ told_home op t ]
 
   -- two operations of one replica are both in its list
   both_home : (x y : Op) → IsHome x → IsHome y → x.id.replica ≡ y.id.replica
-      → (m : Machine) × HasMachine w.machines m × HasOp m.state.list x × HasOp m.state.list y
+      → (m : State) × HasMachine w.machines m × HasOp m.held.list x × HasOp m.held.list y
   both_home x y (m, h, e, k) (n, i, f, l) r =
       let one = one_machine w.machines n m sound.apart i h (f ∙ sym r ∙ sym e) in
       (m, h, k, rw one at l)
@@ -40,12 +41,12 @@ module _ (w : World) (sound : IsSoundWorld w) where
   home_one : (x y : Op) → IsHome x → IsHome y → x.id ≡ y.id → x ≡ y
   home_one x y h k e =
       let (m, i, l, p) = both_home x y h k (ap (λ id. id.replica) e) in
-      closed_one m.state.list x y (sound.each m i).closed l p e
+      closed_one m.held.list x y (sound.each m i).closed l p e
 
   home_same : (x y : Op) → IsHome x → IsHome y → x.id.replica ≡ y.id.replica → own_count x ≡ own_count y → x ≡ y
   home_same x y h k r e =
       let (m, i, l, p) = both_home x y h k r in
-      closed_same m.state.list x y (sound.each m i).closed l p r e
+      closed_same m.held.list x y (sound.each m i).closed l p r e
 
   pub world_one : HoldsOneOperation w
   world_one a b x y h k i l e = home_one x y (held_home a x h i) (held_home b y k l) e
@@ -57,17 +58,17 @@ module _ (w : World) (sound : IsSoundWorld w) where
   }
 
   -- with a clock that counts as many, the other list has the operation too
-  has_too : (a b : Machine) (op : Op) → HasMachine w.machines a → HasMachine w.machines b → clock_of a.state.list ≡ clock_of b.state.list
-      → HasOp a.state.list op → HasOp b.state.list op
+  has_too : (a b : State) (op : Op) → HasMachine w.machines a → HasMachine w.machines b → clock_of a.held.list ≡ clock_of b.held.list
+      → HasOp a.held.list op → HasOp b.held.list op
   has_too a b op h k e i =
-      let counted : own_count op < count_of (clock_of b.state.list) op.id.replica =
-      rw e at (closed_counted a.state.list op (sound.each a h).closed i) in
-      let (other, l, r, same) = closed_at b.state.list op.id.replica (own_count op) (sound.each b k).closed counted in
+      let counted : own_count op < count_of (clock_of b.held.list) op.id.replica =
+      rw e at (closed_counted a.held.list op (sound.each a h).closed i) in
+      let (other, l, r, same) = closed_at b.held.list op.id.replica (own_count op) (sound.each b k).closed counted in
       let is : other ≡ op = home_same other op (held_home b other k l) (held_home a op h i) r same in
       rw is at l
 
-  same_ops : (a b : Machine) → HasMachine w.machines a → HasMachine w.machines b → clock_of a.state.list ≡ clock_of b.state.list
-      → HaveSameOps a.state.list b.state.list
+  same_ops : (a b : State) → HasMachine w.machines a → HasMachine w.machines b → clock_of a.held.list ≡ clock_of b.held.list
+      → HaveSameOps a.held.list b.held.list
   same_ops a b h k e = record { no_more = λ op i. has_too a b op h k e i; no_fewer = λ op i. has_too b a op k h (sym e) i }
 
   pub world_same : ShowsTheSame w
@@ -75,22 +76,22 @@ module _ (w : World) (sound : IsSoundWorld w) where
       let same = same_ops a b h k e in
       let first = (sound.each a h).closed in
       let second = (sound.each b k).closed in (
-        same_text a.state.list b.state.list first second same doc,
-        same_spans a.state.list b.state.list first second same doc,
-        same_rev a.state.list b.state.list first second same doc,
+        same_text a.held.list b.held.list first second same doc,
+        same_spans a.held.list b.held.list first second same doc,
+        same_rev a.held.list b.held.list first second same doc,
       )
 
   -- an edit's operations have greater ids than all in the list, and its own replica's are there
   pub world_never : (told : Op) → IsInBag w.bag told → MakesNoOther w told
   world_never told t m edit op h k e =
-      let own = made_own m.state.list m.replica edit op k in
+      let own = made_own m.held.list m.held.replica edit op k in
       let (n, i, r, l) = told_home told t in
       let one = one_machine w.machines n m sound.apart i h (r ∙ ap (λ id. id.replica) (sym e) ∙ own) in
-      let there : HasOp m.state.list told = rw one at l in
-      let greater = numbered_above m.state.list m.replica edit.doc (greatest_counter m.state.list + 1) (clock_of m.state.list)
-      (bodies_of m.state.list m.replica edit.doc edit.change) (omega arith) in
-      let above = all_at (λ o. list_all (λ earlier. is_below earlier.id o.id) m.state.list) (made m.state.list m.replica edit) op greater k in
-      let below = all_at (λ earlier. is_below earlier.id op.id) m.state.list told above there in
+      let there : HasOp m.held.list told = rw one at l in
+      let greater = numbered_above m.held.list m.held.replica edit.doc (greatest_counter m.held.list + 1) (clock_of m.held.list)
+      (bodies_of m.held.list m.held.replica edit.doc edit.change) (omega arith) in
+      let above = all_at (λ o. list_all (λ earlier. is_below earlier.id o.id) m.held.list) (made m.held.list m.held.replica edit) op greater k in
+      let below = all_at (λ earlier. is_below earlier.id op.id) m.held.list told above there in
       both_ways (is_same told.id op.id) (below_differs told.id op.id below) (equal_same told.id op.id (sym e))
 
 -- the same behind every history from a beginning

@@ -5,7 +5,7 @@ use Rattle.std.proofs.lemmas.Bool.{cases_Bool, and_parts}
 use Rattle.op_model.specs.declared.op.Op.{Op}
 use Rattle.op_model.specs.Causality.{HasOp}
 use Rattle.op_model.specs.Machine.{State}
-use Rattle.world_law.specs.World.{Machine, Message, operations_told, clock_told, HasMachine, IsInBag, IsNoneOf, AreApart, numbers_of}
+use Rattle.world_law.specs.World.{Message, operations_told, clock_told, HasMachine, IsInBag, IsNoneOf, AreApart, numbers_of}
 
 pub HasOp-cases : (a b : List Op) (op : Op) → HasOp (a ++ b) op → HasOp a op ⊎ HasOp b op
 HasOp-cases [] b op h = inr h
@@ -59,34 +59,34 @@ IsInBag-more (operations_told ops ∷ new) bag op h = inr (IsInBag-more new bag 
 IsInBag-more (clock_told c ∷ new) bag op h = IsInBag-more new bag op h
 
 -- among machines one of which changed
-pub HasMachine-cases : (front rest : List Machine) (m x : Machine) → HasMachine (front ++ m ∷ rest) x
-    → (m ≡ x) ⊎ ((n : Machine) → HasMachine (front ++ n ∷ rest) x)
+pub HasMachine-cases : (front rest : List State) (m x : State) → HasMachine (front ++ m ∷ rest) x
+    → (m ≡ x) ⊎ ((n : State) → HasMachine (front ++ n ∷ rest) x)
 HasMachine-cases [] rest m x (inl e) = inl e
 HasMachine-cases [] rest m x (inr h) = inr (λ n. inr h)
 HasMachine-cases (y ∷ front) rest m x (inl e) = inr (λ n. inl e)
 HasMachine-cases (y ∷ front) rest m x (inr h) = elim (HasMachine-cases front rest m x h) [ inl e ↦ inl e | inr k ↦ inr (λ n. inr (k n)) ]
 
-pub HasMachine-at : (front rest : List Machine) (m : Machine) → HasMachine (front ++ m ∷ rest) m
+pub HasMachine-at : (front rest : List State) (m : State) → HasMachine (front ++ m ∷ rest) m
 HasMachine-at [] rest m = inl refl
 HasMachine-at (y ∷ front) rest m = inr (HasMachine-at front rest m)
 
--- a change of state changes no number
-pub numbers_stay : (front rest : List Machine) (replica : ℕ) (old next : State)
-    → numbers_of (front ++ record { replica = replica; state = next } ∷ rest) ≡ numbers_of (front ++ record { replica = replica; state = old } ∷ rest)
-numbers_stay [] rest replica old next = refl
-numbers_stay (y ∷ front) rest replica old next = ap (λ ns. y.replica ∷ ns) (numbers_stay front rest replica old next)
+-- a change of state that keeps the number changes no number
+pub numbers_stay : (front rest : List State) (old next : State) → next.held.replica ≡ old.held.replica
+    → numbers_of (front ++ next ∷ rest) ≡ numbers_of (front ++ old ∷ rest)
+numbers_stay [] rest old next same = ap (λ n. n ∷ numbers_of rest) same
+numbers_stay (y ∷ front) rest old next same = ap (λ ns. y.held.replica ∷ ns) (numbers_stay front rest old next same)
 
-none_of : (machines : List Machine) (m : Machine) (number : ℕ) → IsNoneOf (numbers_of machines) number → HasMachine machines m
-    → m.replica ≡ number → ⊥
+none_of : (machines : List State) (m : State) (number : ℕ) → IsNoneOf (numbers_of machines) number → HasMachine machines m
+    → m.held.replica ≡ number → ⊥
 none_of [] m number none h e = absurd h
-none_of (x ∷ xs) m number none (inl f) e = none.0 (ap (λ y. y.replica) f ∙ e)
+none_of (x ∷ xs) m number none (inl f) e = none.0 (ap (λ y. y.held.replica) f ∙ e)
 none_of (x ∷ xs) m number none (inr h) e = none_of xs m number none.1 h e
 
 -- a number has one machine
-pub one_machine : (machines : List Machine) (a b : Machine) → AreApart (numbers_of machines) → HasMachine machines a → HasMachine machines b
-    → a.replica ≡ b.replica → a ≡ b
+pub one_machine : (machines : List State) (a b : State) → AreApart (numbers_of machines) → HasMachine machines a → HasMachine machines b
+    → a.held.replica ≡ b.held.replica → a ≡ b
 one_machine [] a b apart h k e = absurd h
 one_machine (x ∷ xs) a b apart (inl f) (inl g) e = sym f ∙ g
-one_machine (x ∷ xs) a b apart (inl f) (inr k) e = absurd (none_of xs b x.replica apart.0 k (sym e ∙ ap (λ y. y.replica) (sym f)))
-one_machine (x ∷ xs) a b apart (inr h) (inl g) e = absurd (none_of xs a x.replica apart.0 h (e ∙ ap (λ y. y.replica) (sym g)))
+one_machine (x ∷ xs) a b apart (inl f) (inr k) e = absurd (none_of xs b x.held.replica apart.0 k (sym e ∙ ap (λ y. y.held.replica) (sym f)))
+one_machine (x ∷ xs) a b apart (inr h) (inl g) e = absurd (none_of xs a x.held.replica apart.0 h (e ∙ ap (λ y. y.held.replica) (sym g)))
 one_machine (x ∷ xs) a b apart (inr h) (inr k) e = one_machine xs a b apart.1 h k e

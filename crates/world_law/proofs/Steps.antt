@@ -1,7 +1,9 @@
 -- Each event of a replica, and each crash, keeps what the replica keeps; and what it tells is settled.
-use Rattle.std.proofs.Common.{◌≡◌, ℕ, ◌+◌, ◌≤◌, Bool, true, false, not, ◌&&◌, ◌⊎◌, inl, inr, List, [], ◌∷◌, ◌++◌, length, take, Option, Some, None, arith, ap, refl, sym, take_all, length-append}
+use Rattle.std.proofs.Common.{◌≡◌, ℕ, ◌+◌, ◌≤◌, Bool, true, false, not, ◌&&◌, ◌⊎◌, inl, inr, List, [], ◌∷◌, ◌++◌, length, take, Option, Some, None, arith, ap, refl, sym, ◌∙◌, map, filter, take_all, length-append}
 use Rattle.std.specs.Prelude.{◌==◌, nat_le, if◌then◌else◌, is_some}
-use Rattle.std.proofs.lemmas.List.{take-append-le}
+use Rattle.std.specs.List.{enumerate_from}
+use Rattle.std.proofs.lemmas.Bool.{cases_Bool}
+use Rattle.std.proofs.lemmas.List.{take-append-le, take-map}
 use Rattle.op_ids.specs.Clock.{advanced, is_ready}
 use Rattle.op_model.specs.declared.op.Op.{Op}
 use Rattle.op_model.specs.declared.op.Body.{Body}
@@ -9,7 +11,9 @@ use Rattle.op_model.specs.declared.edit.Edit.{Edit}
 use Rattle.op_model.specs.Text.{rev, visible}
 use Rattle.op_model.specs.Causality.{clock_of, is_known, first_failed, is_within_limits, HasOp}
 use Rattle.op_model.specs.Made.{numbered, made, greatest_counter, bodies_of, edit_refusal, is_at_rev, is_inside, is_small}
-use Rattle.op_model.specs.Machine.{Commit, State, Ticket, Event, edit, merge, begin, device_step, settle, ack, tell, have, Answer, ticket, applied, known, early, begun, nothing_new, idle, goes_on, goes_through, settled_to, acknowledged, operations, clock, refused, with_edit, with_merge, with_failure_told, has_record_room, with_room, edit_answer, edit_answer_unless, merge_answer, merge_alone, merge_answer_unless, through_of, through, EditStep, MergeStep, BeginStep, DeviceStep, SettleStep, AckStep, TellStep, HaveStep, Step, opened, CrashLeavesOf, CrashLeaves}
+use Rattle.op_model.specs.Held.{Held, with_edit, with_merge}
+use Rattle.op_model.specs.Telling.{due, untold}
+use Rattle.op_model.specs.Machine.{Commit, State, Ticket, Event, edit, merge, begin, device_step, settle, ack, tell, have, Answer, ticket, applied, known, early, begun, nothing_new, idle, goes_on, goes_through, settled_to, acknowledged, operations, clock, refused, holding, with_failure_told, has_record_room, with_room, edit_alone, edit_answer, edit_answer_unless, merge_answer, merge_alone, merge_answer_unless, through_of, through, EditStep, MergeStep, BeginStep, DeviceStep, SettleStep, AckStep, TellStep, HaveStep, Step, opened, reopened, CrashLeavesOf, CrashLeaves}
 use Rattle.model_laws.proofs.Growth.{closed_push}
 use Rattle.model_laws.proofs.Makes.{closed_made}
 use Rattle.world_law.specs.World.{Message, IsInBag, told_by}
@@ -34,9 +38,9 @@ within_more low high more None l h = tt
 within_more low high more (Some c) l h = (h.0, omega arith)
 
 -- where an edit is answered a ticket, nothing refuses it
-ticket_unless : (replica : ℕ) (s : State) (e : Edit) (t : Ticket) (r : Option ℕ) → edit_answer_unless replica s e r ≡ ticket t → r ≡ None
-ticket_unless replica s e t None is = refl
-ticket_unless replica s e t (Some n) is = absurd (cc)
+ticket_unless : (h : Held) (e : Edit) (t : Ticket) (r : Option ℕ) → edit_answer_unless h e r ≡ ticket t → r ≡ None
+ticket_unless h e t None is = refl
+ticket_unless h e t (Some n) is = absurd (cc)
 
 ticket_alone : (failure_told room : Bool) (t : Ticket) (answer : Answer) → (if failure_told then refused 9 else with_room room answer) ≡ ticket t
     → answer ≡ ticket t
@@ -57,43 +61,43 @@ limits_of true true false l e = absurd (cc)
 limits_of true false s l e = absurd (cc)
 limits_of false i s l e = absurd (cc)
 
-edit_within : (replica : ℕ) (s : State) (e : Edit) (t : Ticket) → edit_answer replica s e ≡ ticket t
-    → is_within_limits (s.list ++ made s.list replica e) ≡ true
-edit_within replica s e t is =
-    let unless = edit_answer_unless replica s e (edit_refusal s.list replica e) in
-    let none = ticket_unless replica s e t (edit_refusal s.list replica e) (ticket_alone s.failure_told (has_record_room s (made s.list replica e)) t unless is) in
-    limits_of (is_at_rev (rev s.list e.doc) e.rev) (is_inside (length (visible s.list e.doc)) e.change) (is_small e.change)
-    (is_within_limits (s.list ++ made s.list replica e)) none
+edit_within : (s : State) (e : Edit) (t : Ticket) → edit_answer s e ≡ ticket t
+    → is_within_limits (s.held.list ++ made s.held.list s.held.replica e) ≡ true
+edit_within s e t is =
+    let none = ticket_unless s.held e t (edit_refusal s.held.list s.held.replica e) (ticket_alone s.failure_told (has_record_room s (made s.held.list s.held.replica e)) t (edit_alone s.held e) is) in
+    limits_of (is_at_rev (rev s.held.list e.doc) e.rev) (is_inside (length (visible s.held.list e.doc)) e.change) (is_small e.change)
+    (is_within_limits (s.held.list ++ made s.held.list s.held.replica e)) none
 
-edit_made : (replica : ℕ) (bag : List Message) (s : State) (session : ℕ) (e : Edit) (t : Ticket) → IsSound replica bag s
-    → edit_answer replica s e ≡ ticket t → Goes replica bag s (with_edit replica s session e)
-edit_made replica bag s session e t h is =
-    let long = length-append s.list (made s.list replica e) in
-    let front = take-append-le s.settled s.list (made s.list replica e) h.settled in
+edit_made : (bag : List Message) (s : State) (session : ℕ) (e : Edit) (t : Ticket) → IsSound bag s
+    → edit_answer s e ≡ ticket t → Goes bag s (holding s (with_edit s.held session e))
+edit_made bag s session e t h is =
+    let long = length-append s.held.list (made s.held.list s.held.replica e) in
+    let front = take-append-le s.held.settled s.held.list (made s.held.list s.held.replica e) h.settled in
     let settled = h.settled in
     record {
       sound = record {
-        closed = closed_made s.list replica e h.closed (edit_within replica s e t is);
-        foreign = λ op k. elim (HasOp-cases s.list (made s.list replica e) op k) [
+        closed = closed_made s.held.list s.held.replica e h.closed (edit_within s e t is);
+        foreign = λ op k. elim (HasOp-cases s.held.list (made s.held.list s.held.replica e) op k) [
           | inl l ↦ h.foreign op l
-          | inr l ↦ inl (made_own s.list replica e op l)
+          | inr l ↦ inl (made_own s.held.list s.held.replica e op l)
         ];
         settled = omega arith;
-        commit = within_more s.settled (length s.list) (length (s.list ++ made s.list replica e)) s.commit (omega arith) h.commit;
+        commit = within_more s.held.settled (length s.held.list) (length (s.held.list ++ made s.held.list s.held.replica e)) s.commit (omega arith) h.commit;
       };
+      number = refl;
       kept = λ op k. rw front k;
     }
 
-edit_goes : (replica : ℕ) (bag : List Message) (s : State) (session : ℕ) (e : Edit) (a : Answer) (next : State) → IsSound replica bag s
-    → EditStep replica s session e a next → Goes replica bag s next
-edit_goes replica bag s session e (ticket t) next h (is, at) = rw at (edit_made replica bag s session e t h is)
-edit_goes replica bag s session e (refused n) next h (is, at) = goes_same replica bag s next h at
-edit_goes replica bag s session e _ next h k = absurd k
+edit_goes : (bag : List Message) (s : State) (session : ℕ) (e : Edit) (a : Answer) (next : State) → IsSound bag s
+    → EditStep s session e a next → Goes bag s next
+edit_goes bag s session e (ticket t) next h (is, at) = rw at (edit_made bag s session e t h is)
+edit_goes bag s session e (refused n) next h (is, at) = goes_same bag s next h at
+edit_goes bag s session e _ next h k = absurd k
 
 -- where a merge is applied, the operation is ready, and no check fails
-applied_unless : (s : State) (r : Option ℕ) → merge_answer_unless s r ≡ applied → r ≡ None
-applied_unless s None is = refl
-applied_unless s (Some n) is = absurd (cc)
+applied_unless : (h : Held) (r : Option ℕ) → merge_answer_unless h r ≡ applied → r ≡ None
+applied_unless h None is = refl
+applied_unless h (Some n) is = absurd (cc)
 
 merge_passes : (known_op own ready : Bool) (answer : Answer)
     → (if known_op then known else if own then refused 20 else if not ready then early else answer) ≡ applied
@@ -110,51 +114,54 @@ applied_alone false false (ticket t) is = absurd (cc)
 applied_alone false false applied is = refl
 applied_alone false false answer is = is
 
-merge_made : (replica : ℕ) (bag : List Message) (s : State) (peer : ℕ) (op : Op) → IsSound replica bag s → IsInBag bag op
-    → merge_answer replica s op ≡ applied → Goes replica bag s (with_merge s peer op)
-merge_made replica bag s peer op h told is =
-    let alone = applied_alone s.failure_told (has_record_room s (op ∷ [])) (merge_alone replica s op) is in
-    let passes = merge_passes (is_known (clock_of s.list) op) (op.id.replica == replica)
-    (is_ready (clock_of s.list) op.id.replica op.deps) (merge_answer_unless s (first_failed s.list op)) alone in
-    let follows = passed_follows s.list op passes.0 (applied_unless s (first_failed s.list op) passes.1) in
-    let long = length-append s.list (op ∷ []) in
-    let front = take-append-le s.settled s.list (op ∷ []) h.settled in
+merge_made : (bag : List Message) (s : State) (peer : ℕ) (op : Op) → IsSound bag s → IsInBag bag op
+    → merge_answer s op ≡ applied → Goes bag s (holding s (with_merge s.held peer op))
+merge_made bag s peer op h told is =
+    let alone = applied_alone s.failure_told (has_record_room s (op ∷ [])) (merge_alone s.held op) is in
+    let passes = merge_passes (is_known (clock_of s.held.list) op) (op.id.replica == s.held.replica)
+    (is_ready (clock_of s.held.list) op.id.replica op.deps) (merge_answer_unless s.held (first_failed s.held.list op)) alone in
+    let follows = passed_follows s.held.list op passes.0 (applied_unless s.held (first_failed s.held.list op) passes.1) in
+    let long = length-append s.held.list (op ∷ []) in
+    let front = take-append-le s.held.settled s.held.list (op ∷ []) h.settled in
     let settled = h.settled in
     record {
       sound = record {
-        closed = closed_push s.list op h.closed follows;
-        foreign = λ x k. elim (HasOp-cases s.list (op ∷ []) x k) [
+        closed = closed_push s.held.list op h.closed follows;
+        foreign = λ x k. elim (HasOp-cases s.held.list (op ∷ []) x k) [
           | inl l ↦ h.foreign x l
           | inr l ↦ elim l [ inl e ↦ inr (rw (← e) told) | inr n ↦ absurd n ]
         ];
         settled = omega arith;
-        commit = within_more s.settled (length s.list) (length (s.list ++ op ∷ [])) s.commit (omega arith) h.commit;
+        commit = within_more s.held.settled (length s.held.list) (length (s.held.list ++ op ∷ [])) s.commit (omega arith) h.commit;
       };
+      number = refl;
       kept = λ x k. rw front k;
     }
 
-merge_goes : (replica : ℕ) (bag : List Message) (s : State) (peer : ℕ) (op : Op) (a : Answer) (next : State) → IsSound replica bag s → IsInBag bag op
-    → MergeStep replica s peer op a next → Goes replica bag s next
-merge_goes replica bag s peer op applied next h told (is, at) = rw at (merge_made replica bag s peer op h told is)
-merge_goes replica bag s peer op known next h told (is, at) = goes_same replica bag s next h at
-merge_goes replica bag s peer op early next h told (is, at) = goes_same replica bag s next h at
-merge_goes replica bag s peer op (refused n) next h told (is, at) = goes_same replica bag s next h at
-merge_goes replica bag s peer op _ next h told k = absurd k
+merge_goes : (bag : List Message) (s : State) (peer : ℕ) (op : Op) (a : Answer) (next : State) → IsSound bag s → IsInBag bag op
+    → MergeStep s peer op a next → Goes bag s next
+merge_goes bag s peer op applied next h told (is, at) = rw at (merge_made bag s peer op h told is)
+merge_goes bag s peer op known next h told (is, at) = goes_same bag s next h at
+merge_goes bag s peer op early next h told (is, at) = goes_same bag s next h at
+merge_goes bag s peer op (refused n) next h told (is, at) = goes_same bag s next h at
+merge_goes bag s peer op _ next h told k = absurd k
 
 -- the same list and settled number, and a commit that lies within
-goes_with_commit : (replica : ℕ) (bag : List Message) (s : State) (c : Option Commit) → IsSound replica bag s
-    → IsWithin s.settled (length s.list) c → Goes replica bag s (record s { commit = c })
-goes_with_commit replica bag s c h within = record {
+goes_with_commit : (bag : List Message) (s : State) (c : Option Commit) → IsSound bag s
+    → IsWithin s.held.settled (length s.held.list) c → Goes bag s (record s { commit = c })
+goes_with_commit bag s c h within = record {
   sound = record { closed = h.closed; foreign = h.foreign; settled = h.settled; commit = within };
+  number = refl;
   kept = λ op k. k;
 }
 
 -- the same but for what is told of a failure
-goes_failure_told : (replica : ℕ) (bag : List Message) (s next : State) → IsSound replica bag s → next ≡ with_failure_told s
-    → Goes replica bag s next
-goes_failure_told replica bag s next h at =
+goes_failure_told : (bag : List Message) (s next : State) → IsSound bag s → next ≡ with_failure_told s
+    → Goes bag s next
+goes_failure_told bag s next h at =
     rw at (record {
       sound = record { closed = h.closed; foreign = h.foreign; settled = h.settled; commit = h.commit };
+      number = refl;
       kept = λ op k. k;
     })
 
@@ -167,34 +174,35 @@ begun_length false false true f long n e = absurd (cc)
 begun_length false false false true long n e = absurd (cc)
 begun_length false false false false long n e = cc
 
-begin_goes : (replica : ℕ) (bag : List Message) (s : State) (a : Answer) (next : State) → IsSound replica bag s → BeginStep s a next
-    → Goes replica bag s next
-begin_goes replica bag s (begun n) next h (is, at) =
-    let nothing = nat_le (length s.list) s.settled in
-    let long = begun_length s.failed (is_some s.commit) nothing (nat_le 18446744073709551615 s.version) (length s.list) n is in
+begin_goes : (bag : List Message) (s : State) (a : Answer) (next : State) → IsSound bag s → BeginStep s a next
+    → Goes bag s next
+begin_goes bag s (begun n) next h (is, at) =
+    let nothing = nat_le (length s.held.list) s.held.settled in
+    let long = begun_length s.failed (is_some s.commit) nothing (nat_le 18446744073709551615 s.version) (length s.held.list) n is in
     let settled = h.settled in
-    rw at (goes_with_commit replica bag s (Some (record { count = n; through = false })) h (omega arith, omega arith))
-begin_goes replica bag s nothing_new next h (is, at) = goes_same replica bag s next h at
-begin_goes replica bag s (refused n) next h (is, at) = goes_failure_told replica bag s next h at
-begin_goes replica bag s _ next h k = absurd k
+    rw at (goes_with_commit bag s (Some (record { count = n; through = false })) h (omega arith, omega arith))
+begin_goes bag s nothing_new next h (is, at) = goes_same bag s next h at
+begin_goes bag s (refused n) next h (is, at) = goes_failure_told bag s next h at
+begin_goes bag s _ next h k = absurd k
 
 within_through : (low high : ℕ) (c : Option Commit) → IsWithin low high c → IsWithin low high (through c)
 within_through low high None h = tt
 within_through low high (Some c) h = h
 
-device_goes : (replica : ℕ) (bag : List Message) (s : State) (a : Answer) (next : State) → IsSound replica bag s → DeviceStep s a next
-    → Goes replica bag s next
-device_goes replica bag s idle next h k = goes_same replica bag s next h k.2
-device_goes replica bag s goes_on next h k = goes_same replica bag s next h k.2
-device_goes replica bag s goes_through next h k =
-    let at = k.2 in rw at (goes_with_commit replica bag s (through s.commit) h (within_through s.settled (length s.list) s.commit h.commit))
-device_goes replica bag s (refused n) next h (inl k) = goes_same replica bag s next h k.2
-device_goes replica bag s (refused n) next h (inr k) =
+device_goes : (bag : List Message) (s : State) (a : Answer) (next : State) → IsSound bag s → DeviceStep s a next
+    → Goes bag s next
+device_goes bag s idle next h k = goes_same bag s next h k.2
+device_goes bag s goes_on next h k = goes_same bag s next h k.2
+device_goes bag s goes_through next h k =
+    let at = k.2 in rw at (goes_with_commit bag s (through s.commit) h (within_through s.held.settled (length s.held.list) s.commit h.commit))
+device_goes bag s (refused n) next h (inl k) = goes_same bag s next h k.2
+device_goes bag s (refused n) next h (inr k) =
     let at = k.3 in rw at (record {
       sound = record { closed = h.closed; foreign = h.foreign; settled = h.settled; commit = h.commit };
+      number = refl;
       kept = λ op l. l;
     })
-device_goes replica bag s _ next h k = absurd k
+device_goes bag s _ next h k = absurd k
 
 settled_by_commit : (failed : Bool) (c : Option Commit) (low high n : ℕ) → IsWithin low high c
     → (if failed then refused 44 else elim (through_of c) [ None ↦ refused 8 | Some m ↦ settled_to m ]) ≡ settled_to n
@@ -208,104 +216,123 @@ settled_by_commit false (Some c) low high n h e = through_cases c.through c.coun
     through_cases true count w f = let same : count ≡ n = cc in rw (← same) w
     through_cases false count w f = absurd (cc)
 
-settle_goes : (replica : ℕ) (bag : List Message) (s : State) (a : Answer) (next : State) → IsSound replica bag s → SettleStep s a next
-    → Goes replica bag s next
-settle_goes replica bag s (settled_to n) next h (is, at) =
-    let lies = settled_by_commit s.failed s.commit s.settled (length s.list) n h.commit is in
+settle_goes : (bag : List Message) (s : State) (a : Answer) (next : State) → IsSound bag s → SettleStep s a next
+    → Goes bag s next
+settle_goes bag s (settled_to n) next h (is, at) =
+    let lies = settled_by_commit s.failed s.commit s.held.settled (length s.held.list) n h.commit is in
     rw at (record {
       sound = record { closed = h.closed; foreign = h.foreign; settled = lies.1; commit = tt };
-      kept = λ op k. HasOp-take_more s.settled n s.list op lies.0 k;
+      number = refl;
+      kept = λ op k. HasOp-take_more s.held.settled n s.held.list op lies.0 k;
     })
-settle_goes replica bag s (refused n) next h (is, at) = goes_failure_told replica bag s next h at
-settle_goes replica bag s _ next h k = absurd k
+settle_goes bag s (refused n) next h (is, at) = goes_failure_told bag s next h at
+settle_goes bag s _ next h k = absurd k
 
-ack_goes : (replica : ℕ) (bag : List Message) (s : State) (t : Ticket) (a : Answer) (next : State) → IsSound replica bag s → AckStep s t a next
-    → Goes replica bag s next
-ack_goes replica bag s t (acknowledged true) next h (is, at) =
+ack_goes : (bag : List Message) (s : State) (t : Ticket) (a : Answer) (next : State) → IsSound bag s → AckStep s t a next
+    → Goes bag s next
+ack_goes bag s t (acknowledged true) next h (is, at) =
     rw at (record {
       sound = record { closed = h.closed; foreign = h.foreign; settled = h.settled; commit = h.commit };
+      number = refl;
       kept = λ op k. k;
     })
-ack_goes replica bag s t (acknowledged false) next h (is, at) = goes_same replica bag s next h at
-ack_goes replica bag s t _ next h k = absurd k
+ack_goes bag s t (acknowledged false) next h (is, at) = goes_same bag s next h at
+ack_goes bag s t _ next h k = absurd k
 
-goes_with_told : (replica : ℕ) (bag : List Message) (s : State) (n : ℕ) → IsSound replica bag s
-    → Goes replica bag s (record s { told = n })
-goes_with_told replica bag s n h = record {
+goes_with_told : (bag : List Message) (s : State) (n : ℕ) → IsSound bag s
+    → Goes bag s (holding s (record s.held { told = n }))
+goes_with_told bag s n h = record {
   sound = record { closed = h.closed; foreign = h.foreign; settled = h.settled; commit = h.commit };
+  number = refl;
   kept = λ op k. k;
 }
 
-tell_goes : (replica : ℕ) (bag : List Message) (s : State) (c : List (ℕ × ℕ)) (a : Answer) (next : State) → IsSound replica bag s
-    → TellStep s c a next → Goes replica bag s next
-tell_goes replica bag s c (operations ops) next h (is, at) = rw at (goes_with_told replica bag s _ h)
-tell_goes replica bag s c (refused n) next h (is, at) = goes_same replica bag s next h at
-tell_goes replica bag s c _ next h k = absurd k
+tell_goes : (bag : List Message) (s : State) (c : List (ℕ × ℕ)) (a : Answer) (next : State) → IsSound bag s
+    → TellStep s c a next → Goes bag s next
+tell_goes bag s c (operations ops) next h (is, at) = rw at (goes_with_told bag s _ h)
+tell_goes bag s c (refused n) next h (is, at) = goes_same bag s next h at
+tell_goes bag s c _ next h k = absurd k
 
-have_goes : (replica : ℕ) (bag : List Message) (s : State) (a : Answer) (next : State) → IsSound replica bag s
-    → HaveStep s a next → Goes replica bag s next
-have_goes replica bag s (clock c) next h (is, at) = rw at (goes_with_told replica bag s _ h)
-have_goes replica bag s (refused n) next h (is, at) = goes_same replica bag s next h at
-have_goes replica bag s _ next h k = absurd k
+have_goes : (bag : List Message) (s : State) (a : Answer) (next : State) → IsSound bag s
+    → HaveStep s a next → Goes bag s next
+have_goes bag s (clock c) next h (is, at) = rw at (goes_with_told bag s _ h)
+have_goes bag s (refused n) next h (is, at) = goes_same bag s next h at
+have_goes bag s _ next h k = absurd k
 
 -- each event keeps what the replica keeps, and all that was settled
-pub step_goes : (replica : ℕ) (bag : List Message) (s : State) (e : Event) (a : Answer) (next : State) → IsSound replica bag s → ComesFrom bag e
-    → Step replica s e a next → Goes replica bag s next
-step_goes replica bag s (edit session e) a next h from k = edit_goes replica bag s session e a next h k
-step_goes replica bag s (merge peer op) a next h from k = merge_goes replica bag s peer op a next h from k
-step_goes replica bag s begin a next h from k = begin_goes replica bag s a next h k
-step_goes replica bag s device_step a next h from k = device_goes replica bag s a next h k
-step_goes replica bag s settle a next h from k = settle_goes replica bag s a next h k
-step_goes replica bag s (ack t) a next h from k = ack_goes replica bag s t a next h k
-step_goes replica bag s (tell c) a next h from k = tell_goes replica bag s c a next h k
-step_goes replica bag s have a next h from k = have_goes replica bag s a next h k
+pub step_goes : (bag : List Message) (s : State) (e : Event) (a : Answer) (next : State) → IsSound bag s → ComesFrom bag e
+    → Step s e a next → Goes bag s next
+step_goes bag s (edit session e) a next h from k = edit_goes bag s session e a next h k
+step_goes bag s (merge peer op) a next h from k = merge_goes bag s peer op a next h from k
+step_goes bag s begin a next h from k = begin_goes bag s a next h k
+step_goes bag s device_step a next h from k = device_goes bag s a next h k
+step_goes bag s settle a next h from k = settle_goes bag s a next h k
+step_goes bag s (ack t) a next h from k = ack_goes bag s t a next h k
+step_goes bag s (tell c) a next h from k = tell_goes bag s c a next h k
+step_goes bag s have a next h from k = have_goes bag s a next h k
 
 -- what is opened from a front that has all that is settled
-opened_goes : (replica : ℕ) (bag : List Message) (s : State) (n version : ℕ) → IsSound replica bag s → s.settled ≤ n → n ≤ length s.list
-    → Goes replica bag s (opened (take n s.list) version)
-opened_goes replica bag s n version h low high = record {
+opened_goes : (bag : List Message) (s : State) (n version : ℕ) → IsSound bag s → s.held.settled ≤ n → n ≤ length s.held.list
+    → Goes bag s (reopened s n version)
+opened_goes bag s n version h low high = record {
   sound = record {
-    closed = closed_take s.list n h.closed;
-    foreign = λ op k. h.foreign op (HasOp-take n s.list op k);
+    closed = closed_take s.held.list n h.closed;
+    foreign = λ op k. h.foreign op (HasOp-take n s.held.list op k);
     settled = omega arith;
     commit = tt;
   };
-  kept = λ op k. rw (take_all (length (take n s.list)) (take n s.list) (omega arith)) (HasOp-take_more s.settled n s.list op low k);
+  number = refl;
+  kept = λ op k. rw (take_all (length (take n s.held.list)) (take n s.held.list) (omega arith)) (HasOp-take_more s.held.settled n s.held.list op low k);
 }
 
-crash_of-through : (replica : ℕ) (bag : List Message) (s next : State) (count : ℕ) (t : Bool) → IsSound replica bag s
-    → (s.settled ≤ count) × (count ≤ length s.list)
+crash_of-through : (bag : List Message) (s next : State) (count : ℕ) (t : Bool) → IsSound bag s
+    → (s.held.settled ≤ count) × (count ≤ length s.held.list)
     → (elim t as (λ _. Type 0) [
-      | true ↦ next ≡ opened (take count s.list) (s.version + 1)
-      | false ↦ (next ≡ opened (take s.settled s.list) s.version) ⊎ (next ≡ opened (take count s.list) (s.version + 1))
+      | true ↦ next ≡ reopened s count (s.version + 1)
+      | false ↦ (next ≡ reopened s s.held.settled s.version) ⊎ (next ≡ reopened s count (s.version + 1))
     ])
-    → Goes replica bag s next
-crash_of-through replica bag s next count true h lies is = rw is (opened_goes replica bag s count (s.version + 1) h lies.0 lies.1)
-crash_of-through replica bag s next count false h lies (inl is) = rw is (opened_goes replica bag s s.settled s.version h (omega arith) h.settled)
-crash_of-through replica bag s next count false h lies (inr is) = rw is (opened_goes replica bag s count (s.version + 1) h lies.0 lies.1)
+    → Goes bag s next
+crash_of-through bag s next count true h lies is = rw is (opened_goes bag s count (s.version + 1) h lies.0 lies.1)
+crash_of-through bag s next count false h lies (inl is) = rw is (opened_goes bag s s.held.settled s.version h (omega arith) h.settled)
+crash_of-through bag s next count false h lies (inr is) = rw is (opened_goes bag s count (s.version + 1) h lies.0 lies.1)
 
-crash_of : (replica : ℕ) (bag : List Message) (s next : State) (c : Option Commit) → IsSound replica bag s → IsWithin s.settled (length s.list) c
-    → (elim c as (λ _. Type 0) [ None ↦ next ≡ opened (take s.settled s.list) s.version | Some d ↦ CrashLeavesOf s d next ])
-    → Goes replica bag s next
-crash_of replica bag s next None h lies is = rw is (opened_goes replica bag s s.settled s.version h (omega arith) h.settled)
-crash_of replica bag s next (Some c) h lies is = crash_of-through replica bag s next c.count c.through h lies is
+crash_of : (bag : List Message) (s next : State) (c : Option Commit) → IsSound bag s → IsWithin s.held.settled (length s.held.list) c
+    → (elim c as (λ _. Type 0) [ None ↦ next ≡ reopened s s.held.settled s.version | Some d ↦ CrashLeavesOf s d next ])
+    → Goes bag s next
+crash_of bag s next None h lies is = rw is (opened_goes bag s s.held.settled s.version h (omega arith) h.settled)
+crash_of bag s next (Some c) h lies is = crash_of-through bag s next c.count c.through h lies is
 
 -- and so does each crash
-pub crash_goes : (replica : ℕ) (bag : List Message) (s next : State) → IsSound replica bag s → CrashLeaves s next → Goes replica bag s next
-crash_goes replica bag s next h is = crash_of replica bag s next s.commit h h.commit is
+pub crash_goes : (bag : List Message) (s next : State) → IsSound bag s → CrashLeaves s next → Goes bag s next
+crash_goes bag s next h is = crash_of bag s next s.commit h h.commit is
+
+-- numbers aside, what is told is the first 64 operations that the clock doesn't count
+numbered_known : (c : List (ℕ × ℕ)) (n : ℕ) (ops : List Op)
+    → map (λ (p : ℕ × Op). p.1) (filter (λ p. not (is_known c p.1)) (enumerate_from n ops)) ≡ filter (λ op. not (is_known c op)) ops
+numbered_known c n [] = refl
+numbered_known c n (op ∷ ops) =
+    let rest = numbered_known c (n + 1) ops in
+    elim (cases_Bool (is_known c op)) [ inl counted ↦ rw counted rest | inr new ↦ rw new (ap (λ xs. op ∷ xs) rest) ]
+
+untold_plain : (c : List (ℕ × ℕ)) (ops : List Op) → untold c ops ≡ take 64 (filter (λ op. not (is_known c op)) ops)
+untold_plain c ops = sym (take-map (λ p. p.1) 64 _) ∙ ap (take 64) (numbered_known c 1 ops)
+
+-- what is told is among the settled operations
+untold_settled : (c : List (ℕ × ℕ)) (settled : List Op) (op : Op) → HasOp (untold c settled) op → HasOp settled op
+untold_settled c settled op h =
+    HasOp-filter (λ x. not (is_known c x)) settled op (HasOp-take 64 _ op (rw (untold_plain c settled) at h))
 
 tell_settled : (s : State) (c : List (ℕ × ℕ)) (a : Answer) (next : State) (op : Op) → TellStep s c a next → IsInBag (told_by a) op
-    → HasOp (take s.settled s.list) op
-tell_settled s c (operations ops) next op (is, at) (inl h) =
-    HasOp-filter (λ x. not (is_known c x)) (take s.settled s.list) op (HasOp-take 64 _ op (rw is at h))
+    → HasOp (take s.held.settled s.held.list) op
+tell_settled s c (operations ops) next op (is, at) (inl h) = untold_settled c (take s.held.settled s.held.list) op (rw is at h)
 tell_settled s c (operations ops) next op k (inr h) = absurd h
 tell_settled s c (refused n) next op k h = absurd h
 tell_settled s c _ next op k h = absurd k
 
 -- what is told is settled
-pub told_settled : (replica : ℕ) (s : State) (e : Event) (a : Answer) (next : State) (op : Op) → Step replica s e a next → IsInBag (told_by a) op
-    → HasOp (take s.settled s.list) op
-told_settled replica s (tell c) a next op k h = tell_settled s c a next op k h
-told_settled replica s e (operations ops) next op k h = absurd k
-told_settled replica s e (clock c) next op k h = absurd h
-told_settled replica s e _ next op k h = absurd h
+pub told_settled : (s : State) (e : Event) (a : Answer) (next : State) (op : Op) → Step s e a next → IsInBag (told_by a) op
+    → HasOp (take s.held.settled s.held.list) op
+told_settled s (tell c) a next op k h = tell_settled s c a next op k h
+told_settled s e (operations ops) next op k h = absurd k
+told_settled s e (clock c) next op k h = absurd h
+told_settled s e _ next op k h = absurd h

@@ -1,7 +1,7 @@
 -- What may happen in a world, one thing after another.
 use Rattle.std.specs.Prelude.{◌≡◌, ℕ, List, [], ◌∷◌, ◌++◌}
 use Rattle.op_model.specs.Machine.{State, Event, merge, Answer, Step, CrashLeaves}
-use Rattle.world_law.specs.World.{Machine, Message, World, IsInBag, told_by}
+use Rattle.world_law.specs.World.{Message, World, IsInBag, told_by}
 
 -- an event of the replica with this number, with its answer; or a crash of that replica, and its opening behind it
 pub data Happening : Type 0 where
@@ -9,13 +9,14 @@ pub data Happening : Type 0 where
   crash : ℕ → Happening
 
 -- one machine, of this number, is in another state, and all others stay as they are
-pub record IsChanged (replica : ℕ) (before after : List Machine) : Type 0 where
-  pub front : List Machine
-  pub rest : List Machine
+pub record IsChanged (replica : ℕ) (before after : List State) : Type 0 where
+  pub front : List State
+  pub rest : List State
   pub old : State
   pub next : State
-  pub was : before ≡ front ++ record { replica = replica; state = old } ∷ rest
-  pub is : after ≡ front ++ record { replica = replica; state = next } ∷ rest
+  pub number : old.held.replica ≡ replica
+  pub was : before ≡ front ++ old ∷ rest
+  pub is : after ≡ front ++ next ∷ rest
 
 -- the operation of a merge lies in the bag: none is forged
 abbrev pub ComesFrom : List Message → Event → Type 0
@@ -26,7 +27,7 @@ ComesFrom bag _ = Unit {0}
 -- crash leaves.
 abbrev pub Happens : World → Happening → World → Type 0
 Happens w (step replica event answer) after =
-    (c : IsChanged replica w.machines after.machines) × ComesFrom w.bag event × Step replica c.old event answer c.next
+    (c : IsChanged replica w.machines after.machines) × ComesFrom w.bag event × Step c.old event answer c.next
     × (after.bag ≡ told_by answer ++ w.bag)
 Happens w (crash replica) after =
     (c : IsChanged replica w.machines after.machines) × CrashLeaves c.old c.next × (after.bag ≡ w.bag)

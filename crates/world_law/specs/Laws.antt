@@ -6,13 +6,14 @@ use Rattle.op_model.specs.Causality.{clock_of, HasOp}
 use Rattle.op_model.specs.Text.{text, rev}
 use Rattle.op_model.specs.Spans.{spans}
 use Rattle.op_model.specs.Made.{made}
-use Rattle.world_law.specs.World.{Machine, World, HasMachine, IsInBag, IsBeginning}
+use Rattle.op_model.specs.Machine.{State}
+use Rattle.world_law.specs.World.{World, HasMachine, IsInBag, IsBeginning}
 use Rattle.world_law.specs.Histories.{Happening, History}
 
 -- no two replicas hold different operations under one id, nor does one
 abbrev pub HoldsOneOperation : World → Type 0
 HoldsOneOperation w =
-    (a b : Machine) (x y : Op) → HasMachine w.machines a → HasMachine w.machines b → HasOp a.state.list x → HasOp b.state.list y
+    (a b : State) (x y : Op) → HasMachine w.machines a → HasMachine w.machines b → HasOp a.held.list x → HasOp b.held.list y
     → x.id ≡ y.id → x ≡ y
 
 -- nor does a message tell another one
@@ -20,25 +21,25 @@ pub record TellsOneOperation (w : World) : Type 0 where
   -- than any message
   pub once : (x y : Op) → IsInBag w.bag x → IsInBag w.bag y → x.id ≡ y.id → x ≡ y
   -- than any replica holds
-  pub as_held : (m : Machine) (x y : Op) → HasMachine w.machines m → HasOp m.state.list x → IsInBag w.bag y → x.id ≡ y.id → x ≡ y
+  pub as_held : (m : State) (x y : Op) → HasMachine w.machines m → HasOp m.held.list x → IsInBag w.bag y → x.id ≡ y.id → x ≡ y
 
 -- no edit of any replica makes an operation with this one's id, whether it would be refused or not
 abbrev pub MakesNoOther : World → Op → Type 0
 MakesNoOther w told =
-    (m : Machine) (edit : Edit) (op : Op) → HasMachine w.machines m → HasOp (made m.state.list m.replica edit) op → op.id ≢ told.id
+    (m : State) (edit : Edit) (op : Op) → HasMachine w.machines m → HasOp (made m.held.list m.held.replica edit) op → op.id ≢ told.id
 
 -- replicas with equal clocks show equal text and spans in every document, and count as many operations of it
 abbrev pub ShowsTheSame : World → Type 0
 ShowsTheSame w =
-    (a b : Machine) (doc : ℕ) → HasMachine w.machines a → HasMachine w.machines b → clock_of a.state.list ≡ clock_of b.state.list
-    → (text a.state.list doc ≡ text b.state.list doc) × (spans a.state.list doc ≡ spans b.state.list doc)
-    × (rev a.state.list doc ≡ rev b.state.list doc)
+    (a b : State) (doc : ℕ) → HasMachine w.machines a → HasMachine w.machines b → clock_of a.held.list ≡ clock_of b.held.list
+    → (text a.held.list doc ≡ text b.held.list doc) × (spans a.held.list doc ≡ spans b.held.list doc)
+    × (rev a.held.list doc ≡ rev b.held.list doc)
 
 -- each operation in the bag is among the settled ones of its maker
 abbrev pub KeepsWhatWasTold : World → Type 0
 KeepsWhatWasTold w =
     (op : Op) → IsInBag w.bag op
-    → (m : Machine) × HasMachine w.machines m × (m.replica ≡ op.id.replica) × HasOp (take m.state.settled m.state.list) op
+    → (m : State) × HasMachine w.machines m × (m.held.replica ≡ op.id.replica) × HasOp (take m.held.settled m.held.list) op
 
 -- so it is at every moment of every history, whatever is lost, repeated, late or in another order, and whichever replicas crash
 abbrev pub Always : (World → Type 0) → Type 0

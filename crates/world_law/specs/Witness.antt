@@ -4,21 +4,22 @@ use Rattle.op_model.specs.declared.op.Op.{Op}
 use Rattle.op_model.specs.declared.op.Body.TheVariants as body
 use Rattle.op_model.specs.declared.edit.Edit.{Edit}
 use Rattle.op_model.specs.declared.edit.Change.TheVariants as change
-use Rattle.op_model.specs.Machine.{State, edit, merge, begin, device_step, settle, tell, ticket, applied, begun, goes_on, goes_through, settled_to, operations, opened, with_merge}
-use Rattle.world_law.specs.World.{Machine, operations_told, World}
+use Rattle.op_model.specs.Machine.{State, edit, merge, begin, device_step, settle, tell, ticket, applied, begun, goes_on, goes_through, settled_to, operations, opened, holding}
+use Rattle.op_model.specs.Held.{opened_with, with_merge}
+use Rattle.world_law.specs.World.{operations_told, World}
 use Rattle.world_law.specs.Histories.{Happening, step, crash}
 
 -- the edit that inserts one character into document 1
 abbrev pub insert_of : ℕ → ℕ → Edit
 insert_of at value = record { doc = 1; rev = None; change = change.Insert at (value ∷ []) }
 
--- the two replicas, 1 and 2, each in a state
-abbrev pub machines_in : State → State → List Machine
-machines_in a b = record { replica = 1; state = a } ∷ record { replica = 2; state = b } ∷ []
+-- a replica that is new
+abbrev pub new_one : ℕ → State
+new_one replica = opened replica [] 1
 
--- both are new
+-- the replicas 1 and 2, both new
 abbrev pub both_new : World
-both_new = record { machines = machines_in (opened [] 1) (opened [] 1); bag = [] }
+both_new = record { machines = new_one 1 ∷ new_one 2 ∷ []; bag = [] }
 
 -- the first operation of replica 1: it inserts "a"
 abbrev pub first_op : Op
@@ -50,6 +51,6 @@ one_tells_and_crashes =
 -- both have the "a"
 abbrev pub both_have_it : World
 both_have_it = record {
-  machines = machines_in (opened (first_op ∷ []) 2) (with_merge (opened [] 1) 1 first_op);
+  machines = opened 1 (first_op ∷ []) 2 ∷ holding (new_one 2) (with_merge (opened_with 2 []) 1 first_op) ∷ [];
   bag = operations_told (first_op ∷ []) ∷ [];
 }

@@ -4,24 +4,19 @@ use Rattle.op_model.specs.declared.op.Op.{Op}
 use Rattle.op_model.specs.Causality.{HasOp}
 use Rattle.op_model.specs.Machine.{State, Answer, operations, clock, opened}
 
--- one replica: its number, and the state that it is in
-pub record Machine : Type 0 where
-  pub replica : ℕ
-  pub state : State
-
 -- what a replica tells: operations, or a clock
 pub data Message : Type 0 where
   operations_told : List Op → Message
   clock_told : List (ℕ × ℕ) → Message
 
--- All replicas, and the bag of all that was ever told. A message stays in the bag: it may come to anyone, late, again and again, or
+-- The states of all replicas, and the bag of all that was ever told. A message stays in the bag: it may come to anyone, late, again and again, or
 -- never.
 pub record World : Type 0 where
-  pub machines : List Machine
+  pub machines : List State
   pub bag : List Message
 
 -- is one of the machines
-abbrev pub HasMachine : List Machine → Machine → Type 0
+abbrev pub HasMachine : List State → State → Type 0
 HasMachine [] m = ⊥
 HasMachine (x ∷ xs) m = (x ≡ m) ⊎ HasMachine xs m
 
@@ -48,11 +43,11 @@ AreApart [] = Unit {0}
 AreApart (n ∷ ns) = IsNoneOf ns n × AreApart ns
 
 -- the replicas' numbers
-abbrev pub numbers_of : List Machine → List ℕ
-numbers_of machines = map (λ m. m.replica) machines
+abbrev pub numbers_of : List State → List ℕ
+numbers_of machines = map (λ m. m.held.replica) machines
 
 -- The replicas' numbers differ, each was opened with an empty list, and nothing was told yet.
 pub record IsBeginning (w : World) : Type 0 where
   pub apart : AreApart (numbers_of w.machines)
-  pub new : (m : Machine) → HasMachine w.machines m → (version : ℕ) × (m.state ≡ opened [] version)
+  pub new : (m : State) → HasMachine w.machines m → (version : ℕ) × (m ≡ opened m.held.replica [] version)
   pub untold : w.bag ≡ []

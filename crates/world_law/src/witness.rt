@@ -3,7 +3,8 @@ ghost use Rattle.std.specs.Prelude.{◌≡◌, [], ◌∷◌};
 ghost use Rattle.op_model.specs.Causality.{clock_of};
 ghost use Rattle.op_model.specs.Made.{made};
 ghost use Rattle.op_model.specs.Text.{text};
-ghost use Rattle.world_law.specs.World.{Machine, HasMachine, IsBeginning};
+ghost use Rattle.op_model.specs.Machine.{State};
+ghost use Rattle.world_law.specs.World.{HasMachine, IsBeginning};
 ghost use Rattle.world_law.specs.Histories.{History};
 ghost use Rattle.world_law.specs.Witness.{both_have_it, both_new, first_op, insert_of};
 ghost use Rattle.world_law.specs.Witness.{one_tells_and_crashes, second_op};
@@ -14,8 +15,8 @@ ghost use Rattle.world_law.specs.Witness.{one_tells_and_crashes, second_op};
 pub fn an_operation_goes_from_one_replica_to_another()
     ensures beginning { IsBeginning both_new }
     ensures happens { History both_new one_tells_and_crashes both_have_it }
-    ensures shown { (m : Machine) → HasMachine both_have_it.machines m
-        → (clock_of m.state.list ≡ (1, 1) ∷ []) × (text m.state.list 1 ≡ 97 ∷ []) }
+    ensures shown { (m : State) → HasMachine both_have_it.machines m
+        → (clock_of m.held.list ≡ (1, 1) ∷ []) × (text m.held.list 1 ≡ 97 ∷ []) }
     ensures lost { made (first_op ∷ []) 1 (insert_of 1 98) ≡ second_op 98 ∷ [] }
     ensures again { made (first_op ∷ []) 1 (insert_of 1 99) ≡ second_op 99 ∷ [] }
 {}

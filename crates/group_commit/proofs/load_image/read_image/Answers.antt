@@ -6,7 +6,7 @@ use Rattle.group_commit.specs.Saved.{with_stream, in_front}
 use Rattle.group_commit.specs.Image.{stored}
 use Rattle.group_commit.specs.Loading.{stream_at}
 use Rattle.group_commit.proofs.Faults.{names_on, quiet_ops, fault_of_ops}
-use Rattle.disk_trait.proofs.Looking.{looks_then, looks_on}
+use Rattle.page_file.proofs.Looked.{looked_on}
 use Rattle.group_commit.proofs.ImageReads.{stream_fault, stored_stream, stands_read}
 use Rattle.group_commit.proofs.load_image.read_image.Goals as goal
 
@@ -15,15 +15,15 @@ returns-in_err-pages-clause-fault g c = λ told.
     let p = err_from_is_err_and c.from_residual-in_err-pages.result c.from_residual-in_err-pages.ensures.1 in
     let file = g.D.DiskFacts.content c.args.disk.now in
     let live = c.in_ok-roots.ensures.found told in
-    let named = c.in_err-pages.ensures.fault (c.load_roots.ensures.tells.1 told) in
+    let named = c.in_err-pages.ensures.fault (c.load_roots.ensures.looks.tells.1 told) in
     rw (p.1, p.2) (inl (names_on _ (stream_at c.in_ok-roots.field-0.root (g.D.DiskFacts.content c.load_roots.new.disk)) (stored file)
-    (λ n is. stream_fault file _ _ c.in_ok-roots.field-0.root n live (ap (stream_at c.in_ok-roots.field-0.root) (sym (c.in_ok-roots.ensures.looks told).same) ∙ is)) named))
+    (λ n is. stream_fault file _ _ c.in_ok-roots.field-0.root n live (ap (stream_at c.in_ok-roots.field-0.root) (sym (c.in_ok-roots.ensures.looks.looks told).same) ∙ is)) named))
 
 pub returns-in_err-pages-clause-looks : goal.returns-in_err-pages-clause-looks
-returns-in_err-pages-clause-looks g c = λ told.
+returns-in_err-pages-clause-looks g c =
     let p = err_from_is_err_and c.from_residual-in_err-pages.result c.from_residual-in_err-pages.ensures.1 in
-    rw (p.1, p.2) (looks_on g.D.DiskFacts _ 0 c.args.disk.now c.load_roots.new.disk c.read_stream.new.disk (c.in_ok-roots.ensures.looks told)
-    (c.in_err-pages.ensures.looks (c.load_roots.ensures.tells.1 told)))
+    rw (p.1, p.2)
+    (looked_on g.D.DiskFacts _ 0 c.args.disk.now c.load_roots.new.disk c.read_stream.new.disk c.in_ok-roots.ensures.looks c.in_err-pages.ensures.looks)
 
 pub returns-in_err-stream-clause-fault : goal.returns-in_err-stream-clause-fault
 returns-in_err-stream-clause-fault g c = λ told.
@@ -31,11 +31,10 @@ returns-in_err-stream-clause-fault g c = λ told.
     rw (p.1, p.2) (inl tt)
 
 pub returns-in_err-stream-clause-looks : goal.returns-in_err-stream-clause-looks
-returns-in_err-stream-clause-looks g c = λ told.
+returns-in_err-stream-clause-looks g c =
     let p = err_from_is_err_and c.from_residual-in_err-stream.result c.from_residual-in_err-stream.ensures.1 in
     rw (p.1, p.2)
-    (looks_then g.D.DiskFacts 0 0 0 0 c.args.disk.now c.load_roots.new.disk c.read_stream.new.disk (c.in_ok-roots.ensures.looks told)
-    (c.in_ok-pages.ensures.looks (c.load_roots.ensures.tells.1 told)))
+    (looked_on g.D.DiskFacts 0 0 c.args.disk.now c.load_roots.new.disk c.read_stream.new.disk c.in_ok-roots.ensures.looks c.in_ok-pages.ensures.looks)
 
 pub returns-in_err-ops-clause-fault : goal.returns-in_err-ops-clause-fault
 returns-in_err-ops-clause-fault g c = λ told.
@@ -43,18 +42,17 @@ returns-in_err-ops-clause-fault g c = λ told.
     let file = g.D.DiskFacts.content c.args.disk.now in
     let live = c.in_ok-roots.ensures.found told in
     let head = c.in_ok-roots.field-0.root in
-    let read : stream_at head file ≡ _ = ap (stream_at head) (sym (c.in_ok-roots.ensures.looks told).same) ∙ c.in_ok-pages.ensures.stream (c.load_roots.ensures.tells.1 told) in
+    let read : stream_at head file ≡ _ = ap (stream_at head) (sym (c.in_ok-roots.ensures.looks.looks told).same) ∙ c.in_ok-pages.ensures.read.stream (c.load_roots.ensures.looks.tells.1 told) in
     let holds = stored_stream file _ _ head c.in_ok-pages.field-0.bytes.items live read in
     let count : c.operations.result ≡ count_of (body c.in_ok-roots.field-0.roots.slot file) = c.operations.ensures ∙ ap (λ r. r.operations) (sym live.spells.says) in
     rw (p.1, p.2) (fault_of_ops file (body c.in_ok-roots.field-0.roots.slot file) c.in_ok-pages.field-0.bytes.items _ c.in_err-ops.ensures.refused holds
     (λ other. rw (sym count) (c.in_err-ops.ensures.none other)))
 
 pub returns-in_err-ops-clause-looks : goal.returns-in_err-ops-clause-looks
-returns-in_err-ops-clause-looks g c = λ told.
+returns-in_err-ops-clause-looks g c =
     let p = err_from_is_err_and c.from_residual-in_err-ops.result c.from_residual-in_err-ops.ensures.1 in
     rw (p.1, p.2, quiet_ops _ c.in_err-ops.ensures.refused)
-    (looks_then g.D.DiskFacts 0 0 0 0 c.args.disk.now c.load_roots.new.disk c.read_stream.new.disk (c.in_ok-roots.ensures.looks told)
-    (c.in_ok-pages.ensures.looks (c.load_roots.ensures.tells.1 told)))
+    (looked_on g.D.DiskFacts 0 0 c.args.disk.now c.load_roots.new.disk c.read_stream.new.disk c.in_ok-roots.ensures.looks c.in_ok-pages.ensures.looks)
 
 pub returns-in_err-current-clause-fault : goal.returns-in_err-current-clause-fault
 returns-in_err-current-clause-fault g c = λ told.
@@ -62,51 +60,41 @@ returns-in_err-current-clause-fault g c = λ told.
     rw (p.1, p.2) (inl tt)
 
 pub returns-in_err-current-clause-looks : goal.returns-in_err-current-clause-looks
-returns-in_err-current-clause-looks g c = λ told.
+returns-in_err-current-clause-looks g c =
     let p = err_from_is_err_and c.from_residual-in_err-current.result c.from_residual-in_err-current.ensures.1 in
     rw (p.1, p.2)
-    (looks_then g.D.DiskFacts 0 0 0 0 c.args.disk.now c.load_roots.new.disk c.read_stream.new.disk (c.in_ok-roots.ensures.looks told)
-    (c.in_ok-pages.ensures.looks (c.load_roots.ensures.tells.1 told)))
+    (looked_on g.D.DiskFacts 0 0 c.args.disk.now c.load_roots.new.disk c.read_stream.new.disk c.in_ok-roots.ensures.looks c.in_ok-pages.ensures.looks)
 
-pub returns-clause-stands : goal.returns-clause-stands
-returns-clause-stands g c = λ told.
-    let file = g.D.DiskFacts.content c.args.disk.now in
-    let live = c.in_ok-roots.ensures.found told in
-    let head = c.in_ok-roots.field-0.root in
-    let same = (c.in_ok-roots.ensures.looks told).same in
-    let told' = c.load_roots.ensures.tells.1 told in
-    rw (c.in_ok-stream.ensures ∙ ap (λ s. s ++ c.deref.result.now) c.new.ensures ∙ c.deref.ensures.value)
-    (stands_read file c.in_ok-roots.field-0.roots.slot c.in_ok-roots.field-0.roots.stale_open head (with_stream c.in_ok-current.current c.in_ok-pages.field-0.bytes.items)
-    (in_front c.in_ok-current.next c.in_ok-pages.field-0.bytes.items) live
-    (c.in_ok-current.ensures.body (body c.in_ok-roots.field-0.roots.slot file) live.bytes live.spells)
-    (rw (sym same) (c.in_ok-pages.ensures.stream told'))
-    (rw (c.in_ok-current.ensures.pages, sym same) (c.in_ok-pages.ensures.pages told')))
-
-pub returns-clause-history : goal.returns-clause-history
-returns-clause-history g c = record {
-  spelled = c.in_ok-ops.ensures.spelled ∙ sym (c.in_ok-stream.ensures ∙ ap (λ s. s ++ c.deref.result.now) c.new.ensures ∙ c.deref.ensures.value);
-  fits = c.in_ok-ops.ensures.fits;
-  count = c.in_ok-ops.ensures.count ∙ c.operations.ensures ∙ ap (λ r. r.operations) (sym c.in_ok-current.ensures.says);
-  owner = refl;
+pub returns-clause-read : goal.returns-clause-read
+returns-clause-read g c = record {
+  slot = c.in_ok-roots.ensures.below;
+  stands = λ told.
+      let file = g.D.DiskFacts.content c.args.disk.now in
+      let live = c.in_ok-roots.ensures.found told in
+      let head = c.in_ok-roots.field-0.root in
+      let same = (c.in_ok-roots.ensures.looks.looks told).same in
+      let told' = c.load_roots.ensures.looks.tells.1 told in
+      rw (c.in_ok-stream.ensures ∙ ap (λ s. s ++ c.deref.result.now) c.new.ensures ∙ c.deref.ensures.value)
+      (stands_read file c.in_ok-roots.field-0.roots.slot c.in_ok-roots.field-0.roots.stale_open head (with_stream c.in_ok-current.current c.in_ok-pages.field-0.bytes.items)
+      (in_front c.in_ok-current.next c.in_ok-pages.field-0.bytes.items) live
+      (c.in_ok-current.ensures.body (body c.in_ok-roots.field-0.roots.slot file) live.bytes live.spells)
+      (rw (sym same) (c.in_ok-pages.ensures.read.stream told'))
+      (rw (c.in_ok-current.ensures.pages, sym same) (c.in_ok-pages.ensures.read.pages told')));
+  long = ap length (c.in_ok-stream.ensures ∙ ap (λ s. s ++ c.deref.result.now) c.new.ensures ∙ c.deref.ensures.value) ∙ c.in_ok-pages.ensures.read.long ∙ ap (λ r. r.stream_length) (sym c.in_ok-current.ensures.says);
+  other = c.in_ok-current.ensures.other;
+  history = record {
+    spelled = c.in_ok-ops.ensures.spelled ∙ sym (c.in_ok-stream.ensures ∙ ap (λ s. s ++ c.deref.result.now) c.new.ensures ∙ c.deref.ensures.value);
+    fits = c.in_ok-ops.ensures.fits;
+    count = c.in_ok-ops.ensures.count ∙ c.operations.ensures ∙ ap (λ r. r.operations) (sym c.in_ok-current.ensures.says);
+    owner = refl;
+  };
+  index = record {
+    tables = c.in_ok-pages.ensures.read.index.tables ∙ ap (λ r. r.tables) (sym c.in_ok-current.ensures.says);
+    live = ap (λ t. t ++ c.in_ok-pages.field-0.pages.data_pages) c.in_ok-pages.ensures.read.index.tables ∙ sym c.in_ok-current.ensures.pages;
+  };
+  none_taken = c.in_ok-pages.ensures.read.index.none_taken;
 }
 
-pub returns-clause-long : goal.returns-clause-long
-returns-clause-long g c = ap length (c.in_ok-stream.ensures ∙ ap (λ s. s ++ c.deref.result.now) c.new.ensures ∙ c.deref.ensures.value) ∙ c.in_ok-pages.ensures.long ∙ ap (λ r. r.stream_length) (sym c.in_ok-current.ensures.says)
-
 pub returns-clause-looks : goal.returns-clause-looks
-returns-clause-looks g c = λ told.
-    looks_then g.D.DiskFacts 0 0 0 0 c.args.disk.now c.load_roots.new.disk c.read_stream.new.disk (c.in_ok-roots.ensures.looks told)
-    (c.in_ok-pages.ensures.looks (c.load_roots.ensures.tells.1 told))
-
-pub returns-clause-tells : goal.returns-clause-tells
-returns-clause-tells g c =
-    (λ told. c.load_roots.ensures.tells.0 (c.read_stream.ensures.tells.0 told), λ told. c.read_stream.ensures.tells.1 (c.load_roots.ensures.tells.1 told))
-
-pub returns-clause-index : goal.returns-clause-index
-returns-clause-index g c = (
-  record {
-    tables = c.in_ok-pages.ensures.index.0 ∙ ap (λ r. r.tables) (sym c.in_ok-current.ensures.says);
-    live = ap (λ t. t ++ c.in_ok-pages.field-0.pages.data_pages) c.in_ok-pages.ensures.index.0 ∙ sym c.in_ok-current.ensures.pages;
-  },
-  c.in_ok-pages.ensures.index.1,
-)
+returns-clause-looks g c =
+    looked_on g.D.DiskFacts 0 0 c.args.disk.now c.load_roots.new.disk c.read_stream.new.disk c.in_ok-roots.ensures.looks c.in_ok-pages.ensures.looks

@@ -1,4 +1,5 @@
-use Rattle.std.proofs.Common.{refl, ◌≡◌, ◌+◌, ◌*◌, ◌/◌, ◌-◌, ◌≤◌, ◌<◌, ◌^◌, ◌++◌, ℕ, List, ap, sym, ◌∙◌, arith, get_or, take, drop, length, length-append, length-take, length-drop}
+use Rattle.std.proofs.Common.{rules, refl, ◌≡◌, ◌+◌, ◌*◌, ◌/◌, ◌-◌, ◌≤◌, ◌<◌, ◌^◌, ◌++◌, ℕ, List, ap, sym, ◌∙◌}
+use Rattle.std.proofs.Common.{arith, get_or, take, drop, length, length-append, length-take, length-drop}
 use Rattle.std.proofs.lemmas.List.{take-append-drop}
 use Rattle.page_file.specs.Pages.{number_bytes}
 use Rattle.root_slots.specs.Root.{pages_for, tables_of}
@@ -90,20 +91,8 @@ rest_behind-old_bytes-requires c = record {
 pub returns-clause-long : goal.returns-clause-long
 returns-clause-long c = c.in_ok-next.ensures.long ∙ ap (λ n. n + length c.args.records.now) (c.stream_length-old_long.ensures.long ∙ sym c.requires.long)
 
-pub root_on-requires-clause-data_pages : goal.root_on-requires-clause-data_pages
-root_on-requires-clause-data_pages c =
-    let grows : Grows (length c.args.stream.now) (length c.args.stream.now + length c.args.records.now) c.kept_pages-kept.result =
-    grown (length c.args.stream.now) (length c.args.stream.now + length c.args.records.now) c.args.records.now c.kept_pages-kept.result (c.kept_pages-kept.ensures ∙ ap (λ n. kept_of n c.args.records.now) (c.stream_length-old_long.ensures.long ∙ sym c.requires.long)) c.requires.some refl c.requires.room in
-    let olds : length c.live_data_pages-olds.result.now ≡ pages_for 4096 (length c.args.stream.now) =
-    (c.live_data_pages-olds.ensures c.args.stream.now c.requires.long).count ∙ ap (pages_for 4096) (sym (c.live_data_pages-olds.ensures c.args.stream.now c.requires.long).long) in
-    let more : c.kept_pages-kept.result ≤ c.data_pages.result = omega (arith, grows.grows, (c.data_pages.ensures.value ∙ ap (λ n. pages_for 4096 (n + length c.args.records.now)) (c.stream_length-old_long.ensures.long ∙ sym c.requires.long))) in
-    let counted : length c.in_ok-all.field-0.all.items ≡ c.data_pages.result =
-    ap length c.in_ok-all.ensures.all
-    ∙ put_count c.kept_pages-kept.result c.live_data_pages-olds.result.now c.split_at.result.0.now c.data_pages.result (omega (arith, olds, grows.within)) more c.split_at.ensures.front_len in
-    counted ∙ c.data_pages.ensures.value
-
-pub root_on-requires-clause-tables : goal.root_on-requires-clause-tables
-root_on-requires-clause-tables c =
+pub root_on-requires-clause-pages : goal.root_on-requires-clause-pages
+root_on-requires-clause-pages c =
     let grows : Grows (length c.args.stream.now) (length c.args.stream.now + length c.args.records.now) c.kept_pages-kept.result =
     grown (length c.args.stream.now) (length c.args.stream.now + length c.args.records.now) c.args.records.now c.kept_pages-kept.result (c.kept_pages-kept.ensures ∙ ap (λ n. kept_of n c.args.records.now) (c.stream_length-old_long.ensures.long ∙ sym c.requires.long)) c.requires.some refl c.requires.room in
     let olds : length c.live_data_pages-olds.result.now ≡ pages_for 4096 (length c.args.stream.now) =
@@ -117,21 +106,22 @@ root_on-requires-clause-tables c =
     let tables : c.tables_for.result ≡ pages_for 1024 c.data_pages.result = c.tables_for.ensures.value ∙ ap (pages_for 1024) (sym c.data_pages.ensures.value) in
     let rest : length c.split_at.result.1.now ≡ c.tables_for.result - c.kept_pages-kept.result / 1024 =
     omega (arith, c.split_at.ensures.back_len, ap length c.deref.ensures.value, c.in_ok-numbers.ensures.count) in
-    ap length c.in_ok-tables.ensures
-    ∙ put_count (c.kept_pages-kept.result / 1024) c.tables.result.now c.split_at.result.1.now c.tables_for.result
-    (kept_tables c.kept_pages-kept.result (length c.live_data_pages-olds.result.now) (length c.tables.result.now) (omega (arith, grows.within, olds)) old_tables)
-    (kept_tables c.kept_pages-kept.result c.data_pages.result c.tables_for.result more tables) rest
-    ∙ tables ∙ ap (pages_for 1024) (sym counted)
-
-pub root_on-requires-clause-apart : goal.root_on-requires-clause-apart
-root_on-requires-clause-apart c =
     let numbers : c.in_ok-numbers.numbers.items ≡ c.split_at.result.0.now ++ c.split_at.result.1.now =
     sym (ap (λ f. f ++ c.split_at.result.1.now) (c.split_at.ensures.front ∙ ap (take (c.data_pages.result - c.kept_pages-kept.result)) c.deref.ensures.value)
     ∙ ap (λ b. take (c.data_pages.result - c.kept_pages-kept.result) c.in_ok-numbers.numbers.items ++ b) (c.split_at.ensures.back ∙ ap (drop (c.data_pages.result - c.kept_pages-kept.result)) c.deref.ensures.value)
     ∙ take-append-drop (c.data_pages.result - c.kept_pages-kept.result) c.in_ok-numbers.numbers.items) in
-    rw (c.in_ok-tables.ensures, c.in_ok-all.ensures.all, c.tables.ensures)
-    (next_apart (with_stream c.args.current.now c.args.stream.now) c.live_data_pages-olds.result.now c.split_at.result.0.now c.split_at.result.1.now c.kept_pages-kept.result (c.live_data_pages-olds.ensures c.args.stream.now c.requires.long)
-    (rw numbers at c.in_ok-numbers.ensures.apart))
+    record {
+      most = search rules;
+      data_count = counted ∙ c.data_pages.ensures.value;
+      table_count = ap length c.in_ok-tables.ensures
+          ∙ put_count (c.kept_pages-kept.result / 1024) c.tables.result.now c.split_at.result.1.now c.tables_for.result
+          (kept_tables c.kept_pages-kept.result (length c.live_data_pages-olds.result.now) (length c.tables.result.now) (omega (arith, grows.within, olds)) old_tables)
+          (kept_tables c.kept_pages-kept.result c.data_pages.result c.tables_for.result more tables) rest
+          ∙ tables ∙ ap (pages_for 1024) (sym counted);
+      apart = rw (c.in_ok-tables.ensures, c.in_ok-all.ensures.all, c.tables.ensures)
+          (next_apart (with_stream c.args.current.now c.args.stream.now) c.live_data_pages-olds.result.now c.split_at.result.0.now c.split_at.result.1.now c.kept_pages-kept.result (c.live_data_pages-olds.ensures c.args.stream.now c.requires.long)
+          (rw numbers at c.in_ok-numbers.ensures.apart));
+    }
 
 pub returns-clause-plan : goal.returns-clause-plan
 returns-clause-plan c =
@@ -180,7 +170,7 @@ returns-clause-renews c =
     ap length c.tables.ensures ∙ root_tables c.args.current.now.body (c.live_data_pages-olds.ensures c.args.stream.now c.requires.long).valid ∙ ap (pages_for 1024) (sym (c.live_data_pages-olds.ensures c.args.stream.now c.requires.long).count) in
     let on = c.in_ok-next.ensures.grown (c.args.stream.now ++ c.args.records.now) (length-append c.args.stream.now c.args.records.now ∙ ap (λ n. n + length c.args.records.now) (sym (c.stream_length-old_long.ensures.long ∙ sym c.requires.long))) in
     renews_by c.kept_pages-kept.result (c.data_pages.result - c.kept_pages-kept.result) c.in_ok-numbers.numbers.items c.split_at.result.0.now c.split_at.result.1.now
-    c.in_ok-tables.tables.items c.in_ok-all.field-0.all.items c.live_data_pages-olds.result.now c.args.pages.now c.args.current.now c.in_ok-next.next c.requires.index
+    c.in_ok-tables.tables.items c.in_ok-all.field-0.all.items c.live_data_pages-olds.result.now c.args.pages.now c.args.current.now c.in_ok-next.next c.requires.is_index
     (c.live_data_pages-olds.ensures c.args.stream.now c.requires.long).reaches
     (c.split_at.ensures.front ∙ ap (take (c.data_pages.result - c.kept_pages-kept.result)) c.deref.ensures.value)
     (c.split_at.ensures.back ∙ ap (drop (c.data_pages.result - c.kept_pages-kept.result)) c.deref.ensures.value)

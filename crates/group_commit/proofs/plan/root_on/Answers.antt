@@ -10,10 +10,10 @@ pub unreachable-requires : goal.unreachable-requires
 unreachable-requires c =
     not_so (c.in-None.ensures.valid.1 (record {
       version = omega arith;
-      stream = c.requires.room;
+      stream = c.requires.pages.most;
       operations = omega (arith, c.count.ensures.value, c.requires.count);
-      tables = c.requires.tables ∙ ap (pages_for 1024) c.requires.data_pages;
-      pages = apart_first c.args.tables.items c.args.data_pages.items c.requires.apart;
+      tables = c.requires.pages.table_count ∙ ap (pages_for 1024) c.requires.pages.data_count;
+      pages = apart_first c.args.tables.items c.args.data_pages.items c.requires.pages.apart;
     }))
 
 pub returns-clause-grown : goal.returns-clause-grown

@@ -13,8 +13,8 @@ invariant_of-result-2 g c =
     opened_records c.in_ok-replica.field-0.replica.list c.list-ops.result c.len-begun.result c.records_from.result.now c.list-ops.ensures.list c.len-begun.ensures c.records_from.ensures.spelled_so c.records_from.ensures.fits in
     let same : c.append.new.self ≡ c.in_ok-replica.field-0.replica.list =
     when_ok _ c.append.result c.is_err.result c.is_err.ensures.value c.if-is_err.false c.append.ensures.ok c.in_ok-replica.field-0.replica.list are ∙ ap (λ xs. xs ++ c.in_ok-replica.field-0.replica.list) c.new-list.ensures in
-    flusher_opened g.D.DiskFacts c.in_ok-replica.field-0.store c.in_ok-replica.field-0.replica.replica c.in_ok-replica.field-0.replica.list c.append.new.self c.in_ok-replica.ensures.history c.in_ok-replica.ensures.idle.0
-    (λ told. c.in_ok-replica.ensures.left (c.in_ok-replica.ensures.tells.0 told)) same
+    flusher_opened g.D.DiskFacts c.in_ok-replica.field-0.store c.in_ok-replica.field-0.replica.replica c.in_ok-replica.field-0.replica.list c.append.new.self c.in_ok-replica.ensures.loaded.history c.in_ok-replica.ensures.loaded.idle
+    (λ told. c.in_ok-replica.ensures.loaded.left (c.in_ok-replica.ensures.looks.tells.0 told)) same
 
 pub returns-clause-opened : goal.returns-clause-opened
 returns-clause-opened g c =
@@ -24,7 +24,7 @@ returns-clause-opened g c =
     when_ok _ c.append.result c.is_err.result c.is_err.ensures.value c.if-is_err.false c.append.ensures.ok c.in_ok-replica.field-0.replica.list are ∙ ap (λ xs. xs ++ c.in_ok-replica.field-0.replica.list) c.new-list.ensures in
     record {
       locked = opened_so c.in_ok-replica.field-0.replica c.len-begun.result c.in_ok-replica.ensures.replica (c.len-begun.ensures ∙ ap length c.list-ops.ensures.list);
-      idle = c.in_ok-replica.ensures.idle.0;
-      works = c.in_ok-replica.ensures.idle.1;
-      fits = meet_opened c.in_ok-replica.field-0.replica c.len-begun.result c.in_ok-replica.field-0.store c.append.new.self c.in_ok-replica.ensures.replica (c.len-begun.ensures ∙ ap length c.list-ops.ensures.list) c.in_ok-replica.ensures.history same;
+      idle = c.in_ok-replica.ensures.loaded.idle;
+      works = c.in_ok-replica.ensures.loaded.works;
+      fits = meet_opened c.in_ok-replica.field-0.replica c.len-begun.result c.in_ok-replica.field-0.store c.append.new.self c.in_ok-replica.ensures.replica (c.len-begun.ensures ∙ ap length c.list-ops.ensures.list) c.in_ok-replica.ensures.loaded.history same;
     }

@@ -27,8 +27,8 @@ give_page-requires-clause-lacks c =
 
 pub loop-page-preserved : goal.loop-page-preserved
 loop-page-preserved c = record {
-  falling = c.give_page.ensures.falling;
-  more = one_more c.args.pages.now c.loop-page.page-index c.from.result c.args.gaps.now.items c.loop-page.gaps.items c.give_page.new.gaps.items c.loop-page-test.true c.from.ensures c.loop-page.invariant.more c.give_page.ensures.more;
-  size = omega (arith, c.give_page.ensures.size, c.loop-page.invariant.size);
-  capacity = omega (arith, c.give_page.ensures.capacity, c.loop-page.invariant.capacity);
+  falling = c.give_page.ensures.gains.falling;
+  more = one_more c.args.pages.now c.loop-page.page-index c.from.result c.args.gaps.now.items c.loop-page.gaps.items c.give_page.new.gaps.items c.loop-page-test.true c.from.ensures c.loop-page.invariant.more c.give_page.ensures.gains.more;
+  size = omega (arith, c.give_page.ensures.grows.size, c.loop-page.invariant.size);
+  capacity = omega (arith, c.give_page.ensures.grows.capacity, c.loop-page.invariant.capacity);
 }

@@ -20,14 +20,13 @@ given_in n at seen gs new same falls lacks above below made =
     ∙ given_falls 4294967296 n (take at gs) (drop at gs) (ap (are_falling 4294967296) (take-append-drop at gs) ∙ falls)
     (rw (same) at above) (ap (λ xs. begins_by n (drop at xs)) (sym same) ∙ below) (back_lacks n at gs lacks)
 
-pub returns-clause-falling : goal.returns-clause-falling
-returns-clause-falling c =
-    given_in c.args.page c.place_of-at.result c.deref.result.now c.args.gaps.now.items c.put_gap.new.gaps.items c.deref.ensures.value
-    c.requires.falling c.requires.lacks c.place_of-at.ensures.above c.place_of-at.ensures.below c.put_gap.ensures.items
-
 more_in : (n at : ℕ) (gs new : List Gap) → new ≡ take at gs ++ (between n (n + 1) ++ drop at gs) → (m : ℕ) → in_gaps m new ≡ (in_gaps m gs || m == n)
 more_in n at gs new made m =
     ap (in_gaps m) made ∙ given_more n (take at gs) (drop at gs) m ∙ ap (λ xs. in_gaps m xs || m == n) (take-append-drop at gs)
 
-pub returns-clause-more : goal.returns-clause-more
-returns-clause-more c = more_in c.args.page c.place_of-at.result c.args.gaps.now.items c.put_gap.new.gaps.items c.put_gap.ensures.items
+pub returns-clause-gains : goal.returns-clause-gains
+returns-clause-gains c = record {
+  falling = given_in c.args.page c.place_of-at.result c.deref.result.now c.args.gaps.now.items c.put_gap.new.gaps.items c.deref.ensures.value
+      c.requires.falling c.requires.lacks c.place_of-at.ensures.above c.place_of-at.ensures.below c.put_gap.ensures.items;
+  more = more_in c.args.page c.place_of-at.result c.args.gaps.now.items c.put_gap.new.gaps.items c.put_gap.ensures.items;
+}

@@ -49,8 +49,5 @@ of c =
 pub returns-clause-found : goal.returns-clause-found
 returns-clause-found c = (of c).found
 
-pub returns-clause-falling : goal.returns-clause-falling
-returns-clause-falling c = (of c).falling
-
-pub returns-clause-left : goal.returns-clause-left
-returns-clause-left c = (of c).left
+pub returns-clause-loses : goal.returns-clause-loses
+returns-clause-loses c = record { falling = (of c).falling; left = (of c).left }

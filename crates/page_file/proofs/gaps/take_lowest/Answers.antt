@@ -17,8 +17,5 @@ of c =
 pub returns-clause-lowest : goal.returns-clause-lowest
 returns-clause-lowest c = (of c).lowest
 
-pub returns-clause-falling : goal.returns-clause-falling
-returns-clause-falling c = (of c).falling
-
-pub returns-clause-left : goal.returns-clause-left
-returns-clause-left c = (of c).left
+pub returns-clause-loses : goal.returns-clause-loses
+returns-clause-loses c = record { falling = (of c).falling; left = (of c).left }

@@ -44,8 +44,8 @@ invariant_of-result c =
         for_taken = omega (arith, c.new.ensures.len);
         for_gaps = omega (
           arith,
-          c.take_pages.ensures.size,
-          c.take_pages.ensures.capacity,
+          c.take_pages.ensures.grows.size,
+          c.take_pages.ensures.grows.capacity,
           c.in_ok-gaps.ensures.one,
           c.in_ok-gaps.ensures.room,
           c.in_ok-sorted.ensures.size,

@@ -17,10 +17,10 @@ loop-number-preserved g c =
     let i = c.loop-number.number-index in
     let file = g.D.DiskFacts.content c.args.disk.now in
     record {
-      tells = (λ told. c.loop-number.invariant.tells.0 (c.append_page.ensures.tells.0 told), λ told. c.append_page.ensures.tells.1 (c.loop-number.invariant.tells.1 told));
+      tells = (λ told. c.loop-number.invariant.tells.0 (c.append_page.ensures.looks.tells.0 told), λ told. c.append_page.ensures.looks.tells.1 (c.loop-number.invariant.tells.1 told));
       looks = λ told.
           looks_then g.D.DiskFacts 0 0 0 0 c.args.disk.now c.loop-number.disk c.append_page.new.disk (c.loop-number.invariant.looks told)
-          (c.in_ok-append_page.ensures.looks (c.loop-number.invariant.tells.1 told));
+          (c.in_ok-append_page.ensures.looks.looks (c.loop-number.invariant.tells.1 told));
       read = λ told.
           rw (c.in_ok-append_page.ensures.read (c.loop-number.invariant.tells.1 told), (c.loop-number.invariant.looks told).same)
           (next_read ns file c.loop-number.bytes.items _ i c.loop-number-test.true (c.loop-number.invariant.read told));

@@ -4,14 +4,14 @@ use Rattle.recovery.proofs.opening.open.Goals as goal
 pub returns-in-Ok-from_list-clause-image : goal.returns-in-Ok-from_list-clause-image
 returns-in-Ok-from_list-clause-image g c = λ told.
     rw c.in-Ok-from_list.ensures.opened (image_of c.in-Ok.field-0.store.current (g.D.DiskFacts.content c.args.disk) c.in-Ok.field-0.replica c.in-Ok.field-0.ops
-    (c.in-Ok.ensures.root told) c.in-Ok.ensures.history c.in-Ok-from_list.ensures.closed)
+    (c.in-Ok.ensures.loaded.root told) c.in-Ok.ensures.loaded.history c.in-Ok-from_list.ensures.closed)
 
 pub returns-in-Err-from_list-clause-fault : goal.returns-in-Err-from_list-clause-fault
 returns-in-Err-from_list-clause-fault g c = λ told.
     fault_of c.in-Err-from_list.refusal c.cause_of.result (g.D.DiskFacts.content c.args.disk) c.cause_of.ensures.memory c.cause_of.ensures.other
-    (λ no. bad_of c.in-Ok.field-0.store.current (g.D.DiskFacts.content c.args.disk) c.in-Ok.field-0.replica c.in-Ok.field-0.ops (c.in-Ok.ensures.root told) c.in-Ok.ensures.history
+    (λ no. bad_of c.in-Ok.field-0.store.current (g.D.DiskFacts.content c.args.disk) c.in-Ok.field-0.replica c.in-Ok.field-0.ops (c.in-Ok.ensures.loaded.root told) c.in-Ok.ensures.loaded.history
     (c.in-Err-from_list.ensures.bad no).1)
 
 pub returns-in-Err-from_list-clause-looks_refused : goal.returns-in-Err-from_list-clause-looks_refused
-returns-in-Err-from_list-clause-looks_refused g c = λ told.
-    rw (no_failure c.in-Err-from_list.refusal c.cause_of.result c.cause_of.ensures.memory c.cause_of.ensures.other, c.into_disk.ensures) (c.in-Ok.ensures.looks told)
+returns-in-Err-from_list-clause-looks_refused g c =
+    rw (no_failure c.in-Err-from_list.refusal c.cause_of.result c.cause_of.ensures.memory c.cause_of.ensures.other, c.into_disk.ensures) c.in-Ok.ensures.looks

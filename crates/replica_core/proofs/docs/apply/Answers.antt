@@ -6,6 +6,7 @@ use Rattle.doc_core.proofs.NamingLemmas.{edit_there}
 use Rattle.replica_core.specs.Docs.{numbers}
 use Rattle.replica_core.proofs.DocLemmas.{fresh_stands, numbers_insert, numbers_set, stand_more, stand_new, stands_at}
 use Rattle.std.specs.Prelude.{Result, Ok, Err, OnOk}
+use Rattle.replica_core.proofs.NumberLemmas.{doc_at}
 use Rattle.replica_core.proofs.docs.apply.Goals as goal
 
 -- what always holds, holds at an Ok
@@ -15,13 +16,13 @@ on_ok_always (Err e) q = tt
 
 pub returns-in-Ok-clause-numbers : goal.returns-in-Ok-clause-numbers
 returns-in-Ok-clause-numbers c =
-    let found = rw c.in-Ok.is at c.requires in
+    let found = doc_at c.args.docs.now.items c.args.doc c.in-Ok.at (rw c.in-Ok.is at c.requires) in
     on_ok_always c.apply_edit.result
     (numbers_set c.args.docs.now.items c.in-Ok.at c.index_mut-it.result.now c.apply_edit.new.self c.index_mut-it.ensures.value c.apply_edit.ensures.number ∙ sym found.2)
 
 pub returns-in-Ok-clause-stand : goal.returns-in-Ok-clause-stand
 returns-in-Ok-clause-stand c =
-    let found = rw c.in-Ok.is at c.requires in
+    let found = doc_at c.args.docs.now.items c.args.doc c.in-Ok.at (rw c.in-Ok.is at c.requires) in
     let same : number_of c.index_mut-it.result.now ≡ c.args.doc = found.1 c.index_mut-it.result.now c.index_mut-it.ensures.value in
     on_ok_weaker c.apply_edit.result (λ taken. λ list are come.
     stand_more c.args.docs.now.items c.in-Ok.at c.index_mut-it.result.now c.apply_edit.new.self list c.args.made.now are found.0 c.index_mut-it.ensures.value
@@ -46,7 +47,7 @@ returns-in-Ok-insert-clause-stand c = λ list are come.
 
 pub returns-in-Ok-clause-known : goal.returns-in-Ok-clause-known
 returns-in-Ok-clause-known c = λ unknown list are come.
-    let found = rw c.in-Ok.is at c.requires in
+    let found = doc_at c.args.docs.now.items c.args.doc c.in-Ok.at (rw c.in-Ok.is at c.requires) in
     let same : number_of c.index_mut-it.result.now ≡ c.args.doc = found.1 c.index_mut-it.result.now c.index_mut-it.ensures.value in
     let stands = stands_at c.args.docs.now.items c.in-Ok.at c.index_mut-it.result.now list are.stand found.0 c.index_mut-it.ensures.value in
     let missing = (c.apply_edit.ensures.unknown list stands).0 unknown in

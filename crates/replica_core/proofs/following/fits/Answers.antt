@@ -16,5 +16,5 @@ returns c =
     rw (← c.requires.known.clock, ← c.replica.ensures) (sym c.if-not-can_advance.ensures.fits) in
     let in_range : is_in_range c.args.op.now ≡ true =
     is_in_range-parts c.args.op.now 281474976710656 4294967296 (omega arith) (omega arith) refl c.requires.document (omega arith) refl in
-    c.has_room.ensures ∙ (rw (c.requires.place, c.requires.known.index.stream, c.record_length.ensures)
+    c.has_room.ensures ∙ (rw (c.requires.place, c.requires.known.index.stream, c.record_length.ensures.value)
     (sym (is_within_limits-push c.args.ops.now c.args.op.now c.requires.known.closed in_range fits)))

@@ -1,6 +1,6 @@
 use Rattle.std.proofs.Common.{◌∙◌, ◌<◌, length, take, sym, arith}
 use Rattle.std.proofs.lemmas.List.{get_or-take, length-take-le}
-use Rattle.replica_core.proofs.TellLemmas.{told_none, told_more, told_all, known_in_front}
+use Rattle.replica_core.proofs.TellLemmas.{told_none, told_more, told_all, told_full, known_in_front}
 use Rattle.replica_core.proofs.telling.untold.Goals as goal
 
 pub loop-alloc-init : goal.loop-alloc-init
@@ -27,12 +27,12 @@ pub returns-then-next-settled-clause-told : goal.returns-then-next-settled-claus
 returns-then-next-settled-clause-told c =
     let front = length-take-le c.args.settled c.args.ops.now c.requires.within in
     let within = c.loop-alloc.invariant.within in
-    (told_all c.args.peer.now (take c.args.settled c.args.ops.now) c.loop-alloc.found.items c.loop-alloc.from c.loop-alloc.invariant.told (omega arith) (omega arith)
+    (told_all c.args.peer.now (take c.args.settled c.args.ops.now) c.loop-alloc.found.items c.loop-alloc.from c.loop-alloc.invariant.told (omega arith)
     (known_in_front c.args.peer.now c.args.ops.now c.loop-alloc.from c.next_untold-next.result (length (take c.args.settled c.args.ops.now)) c.args.settled c.next_untold-next.ensures (omega arith) (omega arith))).0
 
 pub returns-then-next-settled-clause-reached : goal.returns-then-next-settled-clause-reached
 returns-then-next-settled-clause-reached c =
     let front = length-take-le c.args.settled c.args.ops.now c.requires.within in
     let within = c.loop-alloc.invariant.within in
-    (told_all c.args.peer.now (take c.args.settled c.args.ops.now) c.loop-alloc.found.items c.loop-alloc.from c.loop-alloc.invariant.told (omega arith) (omega arith)
+    (told_all c.args.peer.now (take c.args.settled c.args.ops.now) c.loop-alloc.found.items c.loop-alloc.from c.loop-alloc.invariant.told (omega arith)
     (known_in_front c.args.peer.now c.args.ops.now c.loop-alloc.from c.next_untold-next.result (length (take c.args.settled c.args.ops.now)) c.args.settled c.next_untold-next.ensures (omega arith) (omega arith))).1

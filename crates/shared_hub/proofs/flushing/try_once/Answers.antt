@@ -1,6 +1,8 @@
-use Rattle.shared_hub.proofs.GoingLemmas.{goes_nowhere, goes_behind, met_goes}
+use Rattle.shared_hub.proofs.GoingLemmas.{goes_nowhere, goes_behind}
 use Rattle.shared_hub.proofs.flushing.try_once.Goals as goal
 
 -- room is made, and then it meets
 pub returns : goal.returns
-returns g c = goes_behind g.D.DiskFacts c.args.flusher.now c.reserve.new.self c.meet.new.flusher (goes_nowhere g.D.DiskFacts c.args.flusher.now c.reserve.new.self c.reserve.ensures) (met_goes g.D.DiskFacts c.reserve.new.self c.meet.result c.meet.new.flusher c.meet.ensures)
+returns g c =
+    goes_behind g.D.DiskFacts c.args.flusher.now c.reserve.new.self c.begin.new.flusher
+    (goes_nowhere g.D.DiskFacts c.args.flusher.now c.reserve.new.self c.reserve.ensures) c.begin.ensures.goes

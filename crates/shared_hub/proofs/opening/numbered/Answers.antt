@@ -1,7 +1,7 @@
-use Rattle.std.proofs.Common.{◌≡◌, ◌+◌, ◌<◌, ◌≤◌, [], ◌∷◌, All, vec_len, length, ap, refl, sym, ◌∙◌, arith}
+use Rattle.std.proofs.Common.{◌≡◌, ◌<◌, [], ◌∷◌, All, vec_len, length, ap, refl, sym, ◌∙◌, arith}
 use Rattle.std.proofs.lemmas.Option.{slice_get_within}
 use Rattle.pass_books.specs.Accounts.{Account, names_of}
-use Rattle.shared_hub.proofs.OpeningLemmas.{next_of, all_behind, one_more, none_left}
+use Rattle.shared_hub.proofs.OpeningLemmas.{next_of, all_behind, one_more}
 use Rattle.shared_hub.proofs.opening.numbered.Goals as goal
 
 -- the next share has the name behind those of the passes

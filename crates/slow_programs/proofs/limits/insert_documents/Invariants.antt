@@ -1,11 +1,12 @@
-use Rattle.std.proofs.Common.{◌≡◌, ◌≤◌, length, drop, map}
-use Rattle.slow_programs.specs.Joining.{risen}
+use Rattle.std.proofs.Common.{◌≡◌, ◌≤◌, ◌++◌, List, length, drop}
+use Rattle.op_model.specs.declared.op.Op.{Op}
+use Rattle.op_model.specs.Causality.{documents}
 use Rattle.slow_programs.proofs.limits.insert_documents.Given as goal
 
 abbrev pub invariant-loop-i : goal.invariant-loop-i
 invariant-loop-i l = record {
   within : l.i ≤ length l.ops;
-  found : l.found.items ≡ risen l.fn.found.items (map (λ op. op.doc) (drop l.i l.ops));
+  found : (behind : List Op) → l.fn.found.items ≡ documents behind → l.found.items ≡ documents (drop l.i l.ops ++ behind);
 }
 
 abbrev pub decreases-loop-i : goal.decreases-loop-i

@@ -27,8 +27,8 @@ make_plan-requires g c =
     let all : c.args.self.now.current ≡ with_stream c.self.inside.current c.self.inside.stream =
     sym (ap (λ h. h.current) c.self.view_is) ∙ ap (with_stream c.self.inside.current) (front_all (stream_length_of c.self.inside.current.body) c.self.inside.stream long) in
     record {
-      index = c.self.invariant.2.is_index;
-      none = c.self.invariant.2.taken works ∙ ap (λ q. taken_in q c.self.inside.numbers.items) idle;
+      is_index = c.self.invariant.2.is_index;
+      none_taken = c.self.invariant.2.taken works ∙ ap (λ q. taken_in q c.self.inside.numbers.items) idle;
       long = long;
       some = due.some;
       room = rw all at due.stream;

@@ -20,20 +20,28 @@ invariant_of-result g c = (
     room = ap length c.new-in-Ok-2.ensures.items ∙ ap (λ ns. 4096 * length ns) (sym c.new-in-Ok.ensures.items);
     plan = λ not_idle. absurd (not_idle refl);
     stands = λ told file left. rw (c.of_new_file.ensures.live, c.of_new_file.ensures.closed, c.in-Ok.ensures.left ((c.in-Ok.ensures.tells).0 told) file left)
-        (stands_new (in_front c.in-Ok.current c.new.result) (in_front c.in-Ok.next c.new.result) 1 c.args.replica c.in-Ok.ensures.empty.1
-        (root_size c.in-Ok.current.body c.in-Ok.ensures.empty.1) (none (stream_length_of c.in-Ok.current.body) c.new.result c.new.ensures)
-        c.in-Ok.ensures.empty.0 c.in-Ok.ensures.root);
+        (stands_new (in_front c.in-Ok.current c.new.result) (in_front c.in-Ok.next c.new.result) 1 c.args.replica c.in-Ok.ensures.roots.valid
+        (root_size c.in-Ok.current.body c.in-Ok.ensures.roots.valid) (none (stream_length_of c.in-Ok.current.body) c.new.result c.new.ensures)
+        c.in-Ok.ensures.roots.no_pages c.in-Ok.ensures.roots.root);
     reads = λ told works. tt;
   },
-  streams_alone c.in-Ok.current c.in-Ok.next c.new.result (ap length c.new.ensures ∙ sym (ap (λ r. r.stream_length) c.in-Ok.ensures.root)) c.in-Ok.ensures.empty.2,
+  streams_alone c.in-Ok.current c.in-Ok.next c.new.result (ap length c.new.ensures ∙ sym (ap (λ r. r.stream_length) c.in-Ok.ensures.roots.root)) c.in-Ok.ensures.roots.other,
   paging_alone _ _ _ _ _ _ _ (record {
-    tables = c.in-Ok.ensures.index.0 ∙ sym (ap (λ r. r.tables) c.in-Ok.ensures.root);
-    live = rw (c.in-Ok.ensures.index.0, c.in-Ok.ensures.index.1) (sym c.in-Ok.ensures.empty.0);
-  }) c.in-Ok.ensures.index.2,
+    tables = c.in-Ok.ensures.roots.no_tables ∙ sym (ap (λ r. r.tables) c.in-Ok.ensures.roots.root);
+    live = rw (c.in-Ok.ensures.roots.no_tables, c.in-Ok.ensures.roots.no_data_pages) (sym c.in-Ok.ensures.roots.no_pages);
+  }) c.in-Ok.ensures.roots.none_taken,
 )
 
-pub returns-in-Ok-clause-empty : goal.returns-in-Ok-clause-empty
-returns-in-Ok-clause-empty g c = none (stream_length_of c.in-Ok.current.body) c.new.result c.new.ensures
-
-pub returns-in-Ok-clause-left : goal.returns-in-Ok-clause-left
-returns-in-Ok-clause-left g c = λ told. left_of g.D.DiskFacts _ c.of_new_file.result.slot _ _ (invariant_of-result g c).0 ((c.in-Ok.ensures.tells).1 told)
+pub returns-in-Ok-clause-made : goal.returns-in-Ok-clause-made
+returns-in-Ok-clause-made g c = record {
+  root = c.in-Ok.ensures.roots.root;
+  empty = none (stream_length_of c.in-Ok.current.body) c.new.result c.new.ensures;
+  idle = refl;
+  works = refl;
+  closed = c.of_new_file.ensures.closed;
+  slot = c.of_new_file.ensures.live;
+  taken = c.in-Ok.ensures.taken;
+  made = c.in-Ok.ensures.made;
+  left = λ told. left_of g.D.DiskFacts _ c.of_new_file.result.slot _ _ (invariant_of-result g c).0 (c.in-Ok.ensures.tells.1 told);
+  tells = c.in-Ok.ensures.tells;
+}

@@ -38,8 +38,10 @@ bytes_at-requires g c = record {
 
 pub put_page-requires : goal.put_page-requires
 put_page-requires g c = record {
-  free = next_free _ c.args.k _ _ _ _ c.number_at.result _ _ _ c.self.invariant.2 (ap (λ h. h.phase) c.self.view_is ∙ c.requires.phase) (ap (λ h. h.failed) c.self.view_is ∙ c.requires.works) ((c.self.invariant.0.plan (not_idle _ (ap (λ h. h.phase) c.self.view_is ∙ c.requires.phase))).under_way c.args.k (ap (λ h. h.phase) c.self.view_is ∙ c.requires.phase)) (c.number_at.ensures ∙ ap (λ v. get_or v c.args.k 0) c.deref.ensures.value) (c.self.invariant.0.plan (not_idle _ (ap (λ h. h.phase) c.self.view_is ∙ c.requires.phase))).free;
-  room = next_room _ c.args.k _ _ _ _ _ _ _ c.self.invariant.2 (ap (λ h. h.phase) c.self.view_is ∙ c.requires.phase) (ap (λ h. h.failed) c.self.view_is ∙ c.requires.works) ((c.self.invariant.0.plan (not_idle _ (ap (λ h. h.phase) c.self.view_is ∙ c.requires.phase))).under_way c.args.k (ap (λ h. h.phase) c.self.view_is ∙ c.requires.phase));
+  can_take = record {
+    free = next_free _ c.args.k _ _ _ _ c.number_at.result _ _ _ c.self.invariant.2 (ap (λ h. h.phase) c.self.view_is ∙ c.requires.phase) (ap (λ h. h.failed) c.self.view_is ∙ c.requires.works) ((c.self.invariant.0.plan (not_idle _ (ap (λ h. h.phase) c.self.view_is ∙ c.requires.phase))).under_way c.args.k (ap (λ h. h.phase) c.self.view_is ∙ c.requires.phase)) (c.number_at.ensures ∙ ap (λ v. get_or v c.args.k 0) c.deref.ensures.value) (c.self.invariant.0.plan (not_idle _ (ap (λ h. h.phase) c.self.view_is ∙ c.requires.phase))).free;
+    room = next_room _ c.args.k _ _ _ _ _ _ _ c.self.invariant.2 (ap (λ h. h.phase) c.self.view_is ∙ c.requires.phase) (ap (λ h. h.failed) c.self.view_is ∙ c.requires.works) ((c.self.invariant.0.plan (not_idle _ (ap (λ h. h.phase) c.self.view_is ∙ c.requires.phase))).under_way c.args.k (ap (λ h. h.phase) c.self.view_is ∙ c.requires.phase));
+  };
   size = c.bytes_at.ensures.whole;
   inside = λ told. rw (c.number_at.ensures ∙ ap (λ v. get_or v c.args.k 0) c.deref.ensures.value) (inside_page g.D.DiskFacts _ c.self.inside.roots.slot _ _ c.args.k c.self.invariant.0 (ap (λ h. h.phase) c.self.view_is ∙ c.requires.phase) told (λ told. g.met.D.Disk.lawful c.self.inside.disk told) (ap (λ h. h.failed) c.self.view_is ∙ c.requires.works));
 }
@@ -47,60 +49,66 @@ put_page-requires g c = record {
 pub invariant_of-self : goal.invariant_of-self
 invariant_of-self g c = (
   sound_page_failed g.D.DiskFacts _ c.self.inside.roots.slot _ _ c.args.k c.put_page.new.disk c.self.invariant.0 (ap (λ h. h.phase) c.self.view_is ∙ c.requires.phase)
-      c.in-Err.ensures.tells.0 (λ told. torn_at _ _ _ _ (ap (λ n. 4096 * n) (c.number_at.ensures ∙ ap (λ v. get_or v c.args.k 0) c.deref.ensures.value)) c.bytes_at.ensures.whole (c.in-Err.ensures.torn told)),
+      c.in-Err.ensures.writes.tells.0 (λ told. torn_at _ _ _ _ (ap (λ n. 4096 * n) (c.number_at.ensures ∙ ap (λ v. get_or v c.args.k 0) c.deref.ensures.value)) c.bytes_at.ensures.whole ((c.in-Err.ensures.writes.writes told).torn)),
   c.self.invariant.1,
-  paging_failed _ (Pages c.args.k) _ _ _ _ _ _ _ _ _ c.self.invariant.2 (ap (λ h. h.phase) c.self.view_is ∙ c.requires.phase) (λ is. absurd cc) c.in-Err.ensures.live.0 c.in-Err.ensures.live.1,
+  paging_failed _ (Pages c.args.k) _ _ _ _ _ _ _ _ _ c.self.invariant.2 (ap (λ h. h.phase) c.self.view_is ∙ c.requires.phase) (λ is. absurd cc) c.in-Err.ensures.takes.tables c.in-Err.ensures.takes.data_pages,
 )
-
-pub returns-in-Err-clause-call : goal.returns-in-Err-clause-call
-returns-in-Err-clause-call g c =
-    device_call g.D.DiskFacts _ 1 1 0 WriteFailed _ _ _ _ c.self.inside.roots.slot c.self.inside.roots.slot _ _ c.self.view_is c.self.invariant.0
-    (invariant_of-self g c).0 c.in-Err.ensures.tells c.in-Err.ensures.call (λ told. g.met.D.Disk.lawful c.self.inside.disk told) c.in-Err.ensures.refused
 
 pub invariant_of-self-2 : goal.invariant_of-self-2
 invariant_of-self-2 g c = (
   rw (c.behind-self-inside.ensures ∙ ap (behind_pages (c.args.k + 1) c.len.result) c.is_stale_open.ensures ∙ ap (λ n. behind_pages (c.args.k + 1) n c.self.inside.roots.stale_open) (c.len.ensures ∙ counted c.self.inside.numbers))
       (sound_page g.D.DiskFacts _ c.self.inside.roots.slot _ _ c.args.k c.put_page.new.disk c.self.invariant.0 (ap (λ h. h.phase) c.self.view_is ∙ c.requires.phase) (λ told. g.met.D.Disk.lawful c.self.inside.disk told)
-      c.in_default.ensures.tells.0 (λ told. torn_at _ _ _ _ (ap (λ n. 4096 * n) (c.number_at.ensures ∙ ap (λ v. get_or v c.args.k 0) c.deref.ensures.value)) c.bytes_at.ensures.whole (c.in_default.ensures.torn told))
-      (λ told. c.in_default.ensures.written told
+      c.in_default.ensures.writes.tells.0 (λ told. torn_at _ _ _ _ (ap (λ n. 4096 * n) (c.number_at.ensures ∙ ap (λ v. get_or v c.args.k 0) c.deref.ensures.value)) c.bytes_at.ensures.whole ((c.in_default.ensures.writes.writes told).torn))
+      (λ told. (c.in_default.ensures.writes.writes told).written
       ∙ ap (λ n. overwritten (g.D.DiskFacts.content c.self.inside.disk) (4096 * n) c.bytes_at.result.now) (c.number_at.ensures ∙ ap (λ v. get_or v c.args.k 0) c.deref.ensures.value)
       ∙ ap (overwritten (g.D.DiskFacts.content c.self.inside.disk) _) (c.bytes_at.ensures.bytes ∙ ap (λ v. part v (4096 * c.args.k) 4096) c.deref-2.ensures.value))
       (λ told. inside_page g.D.DiskFacts _ c.self.inside.roots.slot _ _ c.args.k c.self.invariant.0 (ap (λ h. h.phase) c.self.view_is ∙ c.requires.phase) told (λ told. g.met.D.Disk.lawful c.self.inside.disk told) (ap (λ h. h.failed) c.self.view_is ∙ c.requires.works))
       refl (ap (λ h. h.failed) c.self.view_is ∙ c.requires.works)),
   streams_on c.self.inside.phase _ c.self.inside.current c.self.inside.next c.self.inside.stream c.self.invariant.1 (busy_at c.self.inside.phase (Pages c.args.k) (ap (λ h. h.phase) c.self.view_is ∙ c.requires.phase) (λ is. absurd cc)) (rw (c.behind-self-inside.ensures) (busy_behind _ _ _)),
   rw (c.behind-self-inside.ensures ∙ ap (behind_pages (c.args.k + 1) c.len.result) c.is_stale_open.ensures ∙ ap (λ n. behind_pages (c.args.k + 1) n c.self.inside.roots.stale_open) (c.len.ensures ∙ counted c.self.inside.numbers))
-      (paging_put _ c.args.k c.self.inside.roots.stale_open _ _ _ _ c.number_at.result _ _ _ _ c.self.invariant.2 (ap (λ h. h.phase) c.self.view_is ∙ c.requires.phase) (ap (λ h. h.failed) c.self.view_is ∙ c.requires.works) ((c.self.invariant.0.plan (not_idle _ (ap (λ h. h.phase) c.self.view_is ∙ c.requires.phase))).under_way c.args.k (ap (λ h. h.phase) c.self.view_is ∙ c.requires.phase)) (c.number_at.ensures ∙ ap (λ v. get_or v c.args.k 0) c.deref.ensures.value) c.in_default.ensures.taken),
+      (paging_put _ c.args.k c.self.inside.roots.stale_open _ _ _ _ c.number_at.result _ _ _ _ c.self.invariant.2 (ap (λ h. h.phase) c.self.view_is ∙ c.requires.phase) (ap (λ h. h.failed) c.self.view_is ∙ c.requires.works) ((c.self.invariant.0.plan (not_idle _ (ap (λ h. h.phase) c.self.view_is ∙ c.requires.phase))).under_way c.args.k (ap (λ h. h.phase) c.self.view_is ∙ c.requires.phase)) (c.number_at.ensures ∙ ap (λ v. get_or v c.args.k 0) c.deref.ensures.value) c.in_default.ensures.takes.taken),
 )
 
-pub returns-clause-call : goal.returns-clause-call
-returns-clause-call g c =
-    device_call g.D.DiskFacts _ 0 1 0 WriteFailed _ _ _ _ c.self.inside.roots.slot c.self.inside.roots.slot _ _ c.self.view_is c.self.invariant.0
-    (invariant_of-self-2 g c).0 c.in_default.ensures.tells c.in_default.ensures.call (λ told. g.met.D.Disk.lawful c.self.inside.disk told) tt
-
-pub returns-in-Err-clause-does : goal.returns-in-Err-clause-does
-returns-in-Err-clause-does g c =
-    rw (sym c.self.view_is) (λ told. record {
+pub returns-in-Err : goal.returns-in-Err
+returns-in-Err g c = record {
+  call = record {
+    made = tt;
+    went_on = tt;
+    failed = search rules;
+    call = device_call g.D.DiskFacts _ 1 1 0 WriteFailed _ _ _ _ c.self.inside.roots.slot c.self.inside.roots.slot _ _ c.self.view_is c.self.invariant.0
+        (invariant_of-self g c).0 c.in-Err.ensures.writes.tells (λ told. (c.in-Err.ensures.writes.writes told).call) (λ told. g.met.D.Disk.lawful c.self.inside.disk told) c.in-Err.ensures.refused;
+    does = rw (sym c.self.view_is) (λ told. record {
       page = part c.self.inside.fresh.items (4096 * c.args.k) 4096;
       within = (c.self.invariant.0.plan (not_idle _ (ap (λ h. h.phase) c.self.view_is ∙ c.requires.phase))).under_way c.args.k (ap (λ h. h.phase) c.self.view_is ∙ c.requires.phase);
       size = ap length (sym (c.bytes_at.ensures.bytes ∙ ap (λ v. part v (4096 * c.args.k) 4096) c.deref-2.ensures.value)) ∙ c.bytes_at.ensures.whole;
       writes = record {
-        torn = torn_at _ _ _ _ (ap (λ n. 4096 * n) (c.number_at.ensures ∙ ap (λ v. get_or v c.args.k 0) c.deref.ensures.value)) (ap length (c.bytes_at.ensures.bytes ∙ ap (λ v. part v (4096 * c.args.k) 4096) c.deref-2.ensures.value)) (c.in-Err.ensures.torn told);
-        call = c.in-Err.ensures.call told;
+        torn = torn_at _ _ _ _ (ap (λ n. 4096 * n) (c.number_at.ensures ∙ ap (λ v. get_or v c.args.k 0) c.deref.ensures.value)) (ap length (c.bytes_at.ensures.bytes ∙ ap (λ v. part v (4096 * c.args.k) 4096) c.deref-2.ensures.value)) ((c.in-Err.ensures.writes.writes told).torn);
+        call = (c.in-Err.ensures.writes.writes told).call;
         written = tt;
       };
-    })
+    });
+  };
+}
 
-pub returns-clause-does : goal.returns-clause-does
-returns-clause-does g c =
-    rw (sym c.self.view_is) (λ told. record {
+pub returns : goal.returns
+returns g c = record {
+  call = record {
+    made = search rules;
+    went_on = search rules;
+    failed = tt;
+    call = device_call g.D.DiskFacts _ 0 1 0 WriteFailed _ _ _ _ c.self.inside.roots.slot c.self.inside.roots.slot _ _ c.self.view_is c.self.invariant.0
+        (invariant_of-self-2 g c).0 c.in_default.ensures.writes.tells (λ told. (c.in_default.ensures.writes.writes told).call) (λ told. g.met.D.Disk.lawful c.self.inside.disk told) tt;
+    does = rw (sym c.self.view_is) (λ told. record {
       page = part c.self.inside.fresh.items (4096 * c.args.k) 4096;
       within = (c.self.invariant.0.plan (not_idle _ (ap (λ h. h.phase) c.self.view_is ∙ c.requires.phase))).under_way c.args.k (ap (λ h. h.phase) c.self.view_is ∙ c.requires.phase);
       size = ap length (sym (c.bytes_at.ensures.bytes ∙ ap (λ v. part v (4096 * c.args.k) 4096) c.deref-2.ensures.value)) ∙ c.bytes_at.ensures.whole;
       writes = record {
-        torn = torn_at _ _ _ _ (ap (λ n. 4096 * n) (c.number_at.ensures ∙ ap (λ v. get_or v c.args.k 0) c.deref.ensures.value)) (ap length (c.bytes_at.ensures.bytes ∙ ap (λ v. part v (4096 * c.args.k) 4096) c.deref-2.ensures.value)) (c.in_default.ensures.torn told);
-        call = c.in_default.ensures.call told;
-        written = c.in_default.ensures.written told
+        torn = torn_at _ _ _ _ (ap (λ n. 4096 * n) (c.number_at.ensures ∙ ap (λ v. get_or v c.args.k 0) c.deref.ensures.value)) (ap length (c.bytes_at.ensures.bytes ∙ ap (λ v. part v (4096 * c.args.k) 4096) c.deref-2.ensures.value)) ((c.in_default.ensures.writes.writes told).torn);
+        call = (c.in_default.ensures.writes.writes told).call;
+        written = (c.in_default.ensures.writes.writes told).written
             ∙ ap (λ n. overwritten (g.D.DiskFacts.content c.self.inside.disk) (4096 * n) c.bytes_at.result.now) (c.number_at.ensures ∙ ap (λ v. get_or v c.args.k 0) c.deref.ensures.value)
             ∙ ap (overwritten (g.D.DiskFacts.content c.self.inside.disk) (4096 * get_or c.self.inside.numbers.items c.args.k 0)) (c.bytes_at.ensures.bytes ∙ ap (λ v. part v (4096 * c.args.k) 4096) c.deref-2.ensures.value);
       };
-    })
+    });
+  };
+}

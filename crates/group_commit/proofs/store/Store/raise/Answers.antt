@@ -1,4 +1,4 @@
-use Rattle.std.proofs.Common.{ap, ◌∙◌, true, sym, refl}
+use Rattle.std.proofs.Common.{rules, ap, ◌∙◌, true, sym, refl}
 use Rattle.group_commit.specs.declared.error.StoreError.TheVariants.{WriteFailed}
 use Rattle.group_commit.proofs.store.Store.raise.Goals as goal
 use Rattle.group_commit.specs.declared.phase.Phase.TheVariants.{Gate, Sync3}
@@ -17,34 +17,42 @@ pub invariant_of-self : goal.invariant_of-self
 invariant_of-self g c = (
   sound_gate g.D.DiskFacts _ c.self.inside.roots.slot _ _ true c.open_gate.new.disk c.self.invariant.0
       (ap (λ h. h.phase) c.self.view_is ∙ c.requires.phase)
-      (c.in-Err.ensures).tells.0 (λ told. (c.in-Err.ensures.writes told).torn) (λ told ok. absurd cc)
+      c.in-Err.ensures.writes.tells.0 (λ told. (c.in-Err.ensures.writes.writes told).torn) (λ told ok. absurd cc)
       (λ told. g.met.D.Disk.lawful c.self.inside.disk told),
   streams_on c.self.inside.phase _ c.self.inside.current c.self.inside.next c.self.inside.stream c.self.invariant.1 (busy_at c.self.inside.phase Gate (ap (λ h. h.phase) c.self.view_is ∙ c.requires.phase) (λ is. absurd cc)) (λ is. absurd cc),
   paging_failed _ Gate _ _ _ _ _ _ _ _ _ c.self.invariant.2 (ap (λ h. h.phase) c.self.view_is ∙ c.requires.phase) (λ is. absurd cc) refl refl,
 )
 
-pub returns-in-Err-clause-call : goal.returns-in-Err-clause-call
-returns-in-Err-clause-call g c =
-    device_call g.D.DiskFacts _ 1 1 0 WriteFailed _ _ _ _ c.self.inside.roots.slot c.self.inside.roots.slot _ _ c.self.view_is c.self.invariant.0
-    (invariant_of-self g c).0 (c.in-Err.ensures).tells (λ told. (c.in-Err.ensures.writes told).call) (λ told. g.met.D.Disk.lawful c.self.inside.disk told) refl
-
 pub invariant_of-self-in_default : goal.invariant_of-self-in_default
 invariant_of-self-in_default g c = (
   sound_gate g.D.DiskFacts _ c.self.inside.roots.slot _ _ c.self.inside.failed c.open_gate.new.disk c.self.invariant.0
       (ap (λ h. h.phase) c.self.view_is ∙ c.requires.phase)
-      (c.in_default.ensures).tells.0 (λ told. (c.in_default.ensures.writes told).torn) (λ told ok. (c.in_default.ensures.writes told).written)
+      c.in_default.ensures.writes.tells.0 (λ told. (c.in_default.ensures.writes.writes told).torn) (λ told ok. (c.in_default.ensures.writes.writes told).written)
       (λ told. g.met.D.Disk.lawful c.self.inside.disk told),
   streams_on c.self.inside.phase _ c.self.inside.current c.self.inside.next c.self.inside.stream c.self.invariant.1 (busy_at c.self.inside.phase Gate (ap (λ h. h.phase) c.self.view_is ∙ c.requires.phase) (λ is. absurd cc)) (λ is. absurd cc),
   paging_on _ Gate Sync3 _ _ _ _ _ _ _ c.self.invariant.2 (ap (λ h. h.phase) c.self.view_is ∙ c.requires.phase) (λ is. absurd cc) refl (λ k is. absurd cc),
 )
 
-pub returns-clause-call : goal.returns-clause-call
-returns-clause-call g c =
-    device_call g.D.DiskFacts _ 0 1 0 WriteFailed _ _ _ _ c.self.inside.roots.slot c.self.inside.roots.slot _ _ c.self.view_is c.self.invariant.0
-    (invariant_of-self-in_default g c).0 (c.in_default.ensures).tells (λ told. (c.in_default.ensures.writes told).call) (λ told. g.met.D.Disk.lawful c.self.inside.disk told) tt
+pub returns-in-Err : goal.returns-in-Err
+returns-in-Err g c = record {
+  call = record {
+    made = tt;
+    went_on = tt;
+    failed = search rules;
+    call = device_call g.D.DiskFacts _ 1 1 0 WriteFailed _ _ _ _ c.self.inside.roots.slot c.self.inside.roots.slot _ _ c.self.view_is c.self.invariant.0
+        (invariant_of-self g c).0 c.in-Err.ensures.writes.tells (λ told. (c.in-Err.ensures.writes.writes told).call) (λ told. g.met.D.Disk.lawful c.self.inside.disk told) refl;
+    does = rw (sym c.self.view_is) (λ told. record { torn = (c.in-Err.ensures.writes.writes told).torn; written = tt; call = (c.in-Err.ensures.writes.writes told).call });
+  };
+}
 
-pub returns-in-Err-clause-does : goal.returns-in-Err-clause-does
-returns-in-Err-clause-does g c = rw (sym c.self.view_is) (λ told. record { torn = (c.in-Err.ensures.writes told).torn; written = tt; call = (c.in-Err.ensures.writes told).call })
-
-pub returns-clause-does : goal.returns-clause-does
-returns-clause-does g c = rw (sym c.self.view_is) (λ told. record { torn = (c.in_default.ensures.writes told).torn; written = (c.in_default.ensures.writes told).written; call = (c.in_default.ensures.writes told).call })
+pub returns : goal.returns
+returns g c = record {
+  call = record {
+    made = search rules;
+    went_on = search rules;
+    failed = tt;
+    call = device_call g.D.DiskFacts _ 0 1 0 WriteFailed _ _ _ _ c.self.inside.roots.slot c.self.inside.roots.slot _ _ c.self.view_is c.self.invariant.0
+        (invariant_of-self-in_default g c).0 c.in_default.ensures.writes.tells (λ told. (c.in_default.ensures.writes.writes told).call) (λ told. g.met.D.Disk.lawful c.self.inside.disk told) tt;
+    does = rw (sym c.self.view_is) (λ told. record { torn = (c.in_default.ensures.writes.writes told).torn; written = (c.in_default.ensures.writes.writes told).written; call = (c.in_default.ensures.writes.writes told).call });
+  };
+}

@@ -1,4 +1,4 @@
-use Rattle.std.proofs.Common.{refl, ap, ◌∙◌, sym}
+use Rattle.std.proofs.Common.{rules, refl, ap, ◌∙◌, sym}
 use Rattle.group_commit.specs.declared.error.StoreError.TheVariants.{SyncFailed}
 use Rattle.group_commit.proofs.store.Store.settle_body.Goals as goal
 use Rattle.group_commit.specs.declared.phase.Phase.TheVariants.{Sync2, Gate}
@@ -14,11 +14,6 @@ invariant_of-self g c = (
   paging_failed _ Sync2 _ _ _ _ _ _ _ _ _ c.self.invariant.2 (ap (λ h. h.phase) c.self.view_is ∙ c.requires.phase) (λ is. absurd cc) refl refl,
 )
 
-pub returns-in-Err-clause-call : goal.returns-in-Err-clause-call
-returns-in-Err-clause-call g c =
-    device_call g.D.DiskFacts _ 1 0 1 SyncFailed _ _ _ _ c.self.inside.roots.slot c.self.inside.roots.slot _ _ c.self.view_is c.self.invariant.0
-    (invariant_of-self g c).0 (c.in-Err.ensures).tells (c.in-Err.ensures).call (λ told. g.met.D.Disk.lawful c.self.inside.disk told) (c.in-Err.ensures).refused
-
 pub invariant_of-self-2 : goal.invariant_of-self-2
 invariant_of-self-2 g c = (
   sound_sync2 g.D.DiskFacts _ c.self.inside.roots.slot _ _ c.settle.new.disk c.self.invariant.0
@@ -29,13 +24,26 @@ invariant_of-self-2 g c = (
   paging_on _ Sync2 Gate _ _ _ _ _ _ _ c.self.invariant.2 (ap (λ h. h.phase) c.self.view_is ∙ c.requires.phase) (λ is. absurd cc) refl (λ k is. absurd cc),
 )
 
-pub returns-clause-call : goal.returns-clause-call
-returns-clause-call g c =
-    device_call g.D.DiskFacts _ 0 0 1 SyncFailed _ _ _ _ c.self.inside.roots.slot c.self.inside.roots.slot _ _ c.self.view_is c.self.invariant.0
-    (invariant_of-self-2 g c).0 (c.in_default.ensures).tells (c.in_default.ensures).call (λ told. g.met.D.Disk.lawful c.self.inside.disk told) tt
+pub returns-in-Err : goal.returns-in-Err
+returns-in-Err g c = record {
+  call = record {
+    made = tt;
+    went_on = tt;
+    failed = search rules;
+    call = device_call g.D.DiskFacts _ 1 0 1 SyncFailed _ _ _ _ c.self.inside.roots.slot c.self.inside.roots.slot _ _ c.self.view_is c.self.invariant.0
+        (invariant_of-self g c).0 (c.in-Err.ensures).tells (c.in-Err.ensures).call (λ told. g.met.D.Disk.lawful c.self.inside.disk told) (c.in-Err.ensures).refused;
+    does = rw (sym c.self.view_is) (λ told. record { settled = tt; unsettled = c.in-Err.ensures.unsettled told });
+  };
+}
 
-pub returns-in-Err-clause-does : goal.returns-in-Err-clause-does
-returns-in-Err-clause-does g c = rw (sym c.self.view_is) (λ told. record { settled = tt; unsettled = c.in-Err.ensures.unsettled told })
-
-pub returns-clause-does : goal.returns-clause-does
-returns-clause-does g c = rw (sym c.self.view_is) (λ told. record { settled = c.in_default.ensures.settled told; unsettled = tt })
+pub returns : goal.returns
+returns g c = record {
+  call = record {
+    made = search rules;
+    went_on = search rules;
+    failed = tt;
+    call = device_call g.D.DiskFacts _ 0 0 1 SyncFailed _ _ _ _ c.self.inside.roots.slot c.self.inside.roots.slot _ _ c.self.view_is c.self.invariant.0
+        (invariant_of-self-2 g c).0 (c.in_default.ensures).tells (c.in_default.ensures).call (λ told. g.met.D.Disk.lawful c.self.inside.disk told) tt;
+    does = rw (sym c.self.view_is) (λ told. record { settled = c.in_default.ensures.settled told; unsettled = tt });
+  };
+}

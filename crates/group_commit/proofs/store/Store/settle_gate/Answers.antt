@@ -1,4 +1,4 @@
-use Rattle.std.proofs.Common.{refl, ◌≡◌, ap, ◌∙◌, sym}
+use Rattle.std.proofs.Common.{rules, refl, ◌≡◌, ap, ◌∙◌, sym}
 use Rattle.group_commit.specs.declared.error.StoreError.TheVariants.{SyncFailed}
 use Rattle.group_commit.proofs.store.Store.settle_gate.Goals as goal
 use Rattle.group_commit.specs.declared.phase.Phase.TheVariants.{Idle, Sync3}
@@ -17,11 +17,6 @@ invariant_of-self g c = (
   c.self.invariant.1,
   paging_failed _ Sync3 _ _ _ _ _ _ _ _ _ c.self.invariant.2 (ap (λ h. h.phase) c.self.view_is ∙ c.requires.phase) (λ is. absurd cc) refl refl,
 )
-
-pub returns-in-Err-clause-call : goal.returns-in-Err-clause-call
-returns-in-Err-clause-call g c =
-    device_call g.D.DiskFacts _ 1 0 1 SyncFailed _ _ _ _ c.self.inside.roots.slot c.self.inside.roots.slot _ _ c.self.view_is c.self.invariant.0
-    (invariant_of-self g c).0 (c.in-Err.ensures).tells (c.in-Err.ensures).call (λ told. g.met.D.Disk.lawful c.self.inside.disk told) (c.in-Err.ensures).refused
 
 pub adopt-requires : goal.adopt-requires
 adopt-requires g c =
@@ -42,13 +37,26 @@ invariant_of-self-2 g c = (
   rw (c.swap.ensures.x_after, c.swap.ensures.y_after) (paging_through _ _ _ _ _ _ _ _ _ c.self.invariant.2 (ap (λ h. h.phase) c.self.view_is ∙ c.requires.phase) (ap (λ h. h.failed) c.self.view_is ∙ c.requires.works) c.adopt.ensures),
 )
 
-pub returns-clause-call : goal.returns-clause-call
-returns-clause-call g c =
-    device_call g.D.DiskFacts _ 0 0 1 SyncFailed _ _ _ _ c.self.inside.roots.slot c.change_places.new.self.slot _ _ c.self.view_is c.self.invariant.0
-    (invariant_of-self-2 g c).0 (c.in_default.ensures).tells (c.in_default.ensures).call (λ told. g.met.D.Disk.lawful c.self.inside.disk told) tt
+pub returns-in-Err : goal.returns-in-Err
+returns-in-Err g c = record {
+  call = record {
+    made = tt;
+    went_on = tt;
+    failed = search rules;
+    call = device_call g.D.DiskFacts _ 1 0 1 SyncFailed _ _ _ _ c.self.inside.roots.slot c.self.inside.roots.slot _ _ c.self.view_is c.self.invariant.0
+        (invariant_of-self g c).0 (c.in-Err.ensures).tells (c.in-Err.ensures).call (λ told. g.met.D.Disk.lawful c.self.inside.disk told) (c.in-Err.ensures).refused;
+    does = rw (sym c.self.view_is) (λ told. record { settled = tt; unsettled = c.in-Err.ensures.unsettled told });
+  };
+}
 
-pub returns-in-Err-clause-does : goal.returns-in-Err-clause-does
-returns-in-Err-clause-does g c = rw (sym c.self.view_is) (λ told. record { settled = tt; unsettled = c.in-Err.ensures.unsettled told })
-
-pub returns-clause-does : goal.returns-clause-does
-returns-clause-does g c = rw (sym c.self.view_is) (λ told. record { settled = c.in_default.ensures.settled told; unsettled = tt })
+pub returns : goal.returns
+returns g c = record {
+  call = record {
+    made = search rules;
+    went_on = search rules;
+    failed = tt;
+    call = device_call g.D.DiskFacts _ 0 0 1 SyncFailed _ _ _ _ c.self.inside.roots.slot c.change_places.new.self.slot _ _ c.self.view_is c.self.invariant.0
+        (invariant_of-self-2 g c).0 (c.in_default.ensures).tells (c.in_default.ensures).call (λ told. g.met.D.Disk.lawful c.self.inside.disk told) tt;
+    does = rw (sym c.self.view_is) (λ told. record { settled = c.in_default.ensures.settled told; unsettled = tt });
+  };
+}

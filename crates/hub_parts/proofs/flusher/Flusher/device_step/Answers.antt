@@ -6,9 +6,9 @@ use Rattle.hub_parts.proofs.flusher.Flusher.device_step.Goals as goal
 pub invariant_of-self : goal.invariant_of-self
 invariant_of-self g c =
     flusher_stepped g.D.DiskFacts c.self.inside.store c.step.new.self c.self.inside.list c.self.inside.due c.self.invariant
-    (outcome_of g.D.DiskFacts c.self.inside.store c.step.new.self c.step.result (record { stopped = c.step.ensures.stopped; idle = c.step.ensures.idle; made = c.step.ensures.made; call = c.step.ensures.call; does = c.step.ensures.does; went_on = c.step.ensures.went_on; failed = c.step.ensures.failed }))
+    (outcome_of g.D.DiskFacts c.self.inside.store c.step.new.self c.step.result c.step.ensures.step)
 
 pub returns-clause-fits : goal.returns-clause-fits
 returns-clause-fits g c =
     rw (sym c.self.view_is) (meet_stepped g.D.DiskFacts c.self.inside.store c.step.new.self c.self.inside.list c.self.inside.due c.self.invariant
-    (outcome_of g.D.DiskFacts c.self.inside.store c.step.new.self c.step.result (record { stopped = c.step.ensures.stopped; idle = c.step.ensures.idle; made = c.step.ensures.made; call = c.step.ensures.call; does = c.step.ensures.does; went_on = c.step.ensures.went_on; failed = c.step.ensures.failed })))
+    (outcome_of g.D.DiskFacts c.self.inside.store c.step.new.self c.step.result c.step.ensures.step))

@@ -14,7 +14,7 @@ returns-in-Err-clause-call c =
 pub invariant_of-self : goal.invariant_of-self
 invariant_of-self c =
     let l : LockedHeld = record { replica = c.self.inside.replica; begun = c.self.inside.begun; failure_told = c.self.inside.failure_told } in
-    let room = c.has_record_room.ensures (made l.replica.list l.replica.replica c.args.edit.now) (sym c.in-Ok.ensures.length) in
+    let room = c.has_record_room.ensures (made l.replica.list l.replica.replica c.args.edit.now) (sym c.in-Ok.ensures.decided.length) in
     elim c.match-put_edit.branch [
       | in-Ok-put_edit w ↦ keeps_edit l c.put_edit.new.self c.args.session c.args.edit.now c.self.invariant (rw (sym c.self.view_is) at (sym room) ∙ c.if-not-has_record_room.false) w.in-Ok-put_edit.ensures.made
       | in-Err-put_edit w ↦ rw w.in-Err-put_edit.ensures.err c.self.invariant

@@ -25,7 +25,7 @@ returns-in-Err-clause-call c =
 pub returns-then-not-has_record_room-clause-call : goal.returns-then-not-has_record_room-clause-call
 returns-then-not-has_record_room-clause-call c =
     let l : LockedHeld = record { replica = c.self.inside.replica; begun = c.self.inside.begun; failure_told = c.self.inside.failure_told } in
-    let one : stream_length (c.args.op ∷ []) ≡ c.record_length.result = let long = c.record_length.ensures in omega arith in
+    let one : stream_length (c.args.op ∷ []) ≡ c.record_length.result = let long = c.record_length.ensures.value in omega arith in
     let room = rw (sym c.self.view_is) at (sym (c.has_record_room.ensures (c.args.op ∷ []) one)) in
     let applies = rw c.in-Ok-Applied.field-0-is at c.in-Ok-Applied.ensures.answer in
     rw (sym c.self.view_is) (merge_full l c.args.peer c.args.op c.if-self.false applies (room ∙ c.if-not-has_record_room.true))
@@ -33,7 +33,7 @@ returns-then-not-has_record_room-clause-call c =
 pub invariant_of-self : goal.invariant_of-self
 invariant_of-self c =
     let l : LockedHeld = record { replica = c.self.inside.replica; begun = c.self.inside.begun; failure_told = c.self.inside.failure_told } in
-    let one : stream_length (c.args.op ∷ []) ≡ c.record_length.result = let long = c.record_length.ensures in omega arith in
+    let one : stream_length (c.args.op ∷ []) ≡ c.record_length.result = let long = c.record_length.ensures.value in omega arith in
     let room = rw (sym c.self.view_is) at (sym (c.has_record_room.ensures (c.args.op ∷ []) one)) in
     elim c.match-put_merge.branch [
       | in-Ok w ↦ keeps_merge l c.put_merge.new.self c.args.peer c.args.op c.self.invariant (room ∙ c.if-not-has_record_room.false) w.in-Ok.ensures.merged
@@ -43,7 +43,7 @@ invariant_of-self c =
 pub returns-clause-call : goal.returns-clause-call
 returns-clause-call c =
     let l : LockedHeld = record { replica = c.self.inside.replica; begun = c.self.inside.begun; failure_told = c.self.inside.failure_told } in
-    let one : stream_length (c.args.op ∷ []) ≡ c.record_length.result = let long = c.record_length.ensures in omega arith in
+    let one : stream_length (c.args.op ∷ []) ≡ c.record_length.result = let long = c.record_length.ensures.value in omega arith in
     let room = rw (sym c.self.view_is) at (sym (c.has_record_room.ensures (c.args.op ∷ []) one)) in
     let applies = rw c.in-Ok-Applied.field-0-is at c.in-Ok-Applied.ensures.answer in
     elim c.match-put_merge.branch [

@@ -17,5 +17,8 @@ returns-clause-fault g c = λ told.
     let fault = rw c.into_disk.ensures at c.open.ensures.fault in
     refused_well (λ (f : OpenFault g.row.D.Denot). f.cause) file _ _ _ c.open.result crash.image (fault told)
 
-pub returns-clause-tells : goal.returns-clause-tells
-returns-clause-tells g c = rw c.into_disk.ensures at c.open.ensures.tells
+pub returns-clause-looks : goal.returns-clause-looks
+returns-clause-looks g c = rw c.into_disk.ensures at c.open.ensures.looks
+
+pub returns-clause-looks_refused : goal.returns-clause-looks_refused
+returns-clause-looks_refused g c = rw c.into_disk.ensures at c.open.ensures.looks_refused

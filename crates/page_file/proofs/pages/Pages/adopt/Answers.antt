@@ -24,7 +24,7 @@ give_pages-requires-2-clause-apart c =
 
 pub give_pages-requires-2-clause-lacks : goal.give_pages-requires-2-clause-lacks
 give_pages-requires-2-clause-lacks c = λ m there.
-    c.give_pages.ensures.more m ∙ ap (λ ns. in_gaps m c.self.inside.gaps.items || has m ns) (c.behind.ensures ∙ ap (drop c.args.kept_tables) c.deref.ensures.value)
+    c.give_pages.ensures.gains.more m ∙ ap (λ ns. in_gaps m c.self.inside.gaps.items || has m ns) (c.behind.ensures ∙ ap (drop c.args.kept_tables) c.deref.ensures.value)
     ∙ data_out m c.args.kept_tables c.args.kept_data c.self.inside.taken.items c.self.inside.tables.items c.self.inside.data_pages.items c.self.inside.gaps.items c.self.invariant.0
     (ap (λ ns. has m (drop c.args.kept_data ns)) (sym c.deref-2.ensures.value) ∙ ap (has m) (sym c.behind-2.ensures) ∙ there)
 
@@ -58,7 +58,7 @@ invariant_of-self c =
     let rooms = c.self.invariant.1 in (
       others_renewed c.args.kept_tables c.args.kept_data c.args.new_data c.self.inside.taken.items c.self.inside.tables.items c.self.inside.data_pages.items c.split_at.result.0.now c.split_at.result.1.now
           c.renew.new.pages.items c.renew-2.new.pages.items c.clear.new.self.items c.behind.result.now c.behind-2.result.now c.self.inside.gaps.items c.give_pages.new.gaps.items c.give_pages-2.new.gaps.items
-          c.self.invariant.0 c.give_pages-2.ensures.falling c.give_pages.ensures.more c.give_pages-2.ensures.more
+          c.self.invariant.0 c.give_pages-2.ensures.gains.falling c.give_pages.ensures.gains.more c.give_pages-2.ensures.gains.more
           (c.behind.ensures ∙ ap (drop c.args.kept_tables) c.deref.ensures.value) (c.behind-2.ensures ∙ ap (drop c.args.kept_data) c.deref-2.ensures.value)
           (c.split_at.ensures.front ∙ ap (take c.args.new_data) c.deref-3.ensures.value) (c.split_at.ensures.back ∙ ap (drop c.args.new_data) c.deref-3.ensures.value)
           c.renew.ensures.items c.renew-2.ensures.items c.clear.ensures.items,
@@ -69,10 +69,10 @@ invariant_of-self c =
         for_gaps = omega (
           arith,
           rooms.for_gaps,
-          c.give_pages.ensures.size,
-          c.give_pages.ensures.capacity,
-          c.give_pages-2.ensures.size,
-          c.give_pages-2.ensures.capacity,
+          c.give_pages.ensures.grows.size,
+          c.give_pages.ensures.grows.capacity,
+          c.give_pages-2.ensures.grows.size,
+          c.give_pages-2.ensures.grows.capacity,
           c.renew.ensures.size,
           c.renew-2.ensures.size,
           c.clear.ensures.len,

@@ -44,7 +44,7 @@ pub loop-preserved : goal.loop-preserved
 loop-preserved c =
     let some = some_left (used c.args.self.now) c.loop.found.items c.loop.gaps.items c.args.count c.loop.counter c.loop.invariant.others c.loop.invariant.count c.loop-test.true c.requires.few in
     let next = step (used c.args.self.now) c.loop.found.items c.push_reserved.new.self.items c.loop.gaps.items c.take_lowest-page.new.gaps.items c.take_lowest-page.result
-    c.loop.invariant.others c.loop.invariant.lowest some c.take_lowest-page.ensures.lowest c.take_lowest-page.ensures.falling c.take_lowest-page.ensures.left c.push_reserved.ensures.items in
+    c.loop.invariant.others c.loop.invariant.lowest some c.take_lowest-page.ensures.lowest c.take_lowest-page.ensures.loses.falling c.take_lowest-page.ensures.loses.left c.push_reserved.ensures.items in
     record {
       others = next.others;
       lowest = next.lowest;

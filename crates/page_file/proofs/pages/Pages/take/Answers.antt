@@ -17,12 +17,12 @@ invariant_of-self c =
     let some : 0 < c.self.inside.room = rw (ap (λ v. v.room) c.self.view_is) c.requires.room in
     let rooms = c.self.invariant.1 in (
       taken_one c.self.inside.taken.items (c.self.inside.tables.items ++ c.self.inside.data_pages.items) c.push_reserved.new.self.items c.self.inside.gaps.items
-          c.take_page-was_free.new.gaps.items c.args.page c.self.invariant.0 there c.ranges.page.fits c.take_page-was_free.ensures.falling
-          (λ m. c.take_page-was_free.ensures.left m ∙ ap (λ n. in_gaps m c.self.inside.gaps.items && not (m == n)) page) c.push_reserved.ensures.items,
+          c.take_page-was_free.new.gaps.items c.args.page c.self.invariant.0 there c.ranges.page.fits c.take_page-was_free.ensures.loses.falling
+          (λ m. c.take_page-was_free.ensures.loses.left m ∙ ap (λ n. in_gaps m c.self.inside.gaps.items && not (m == n)) page) c.push_reserved.ensures.items,
       record {
         for_tables = omega (arith, rooms.for_tables, c.push_reserved.ensures.len, some);
         for_data = omega (arith, rooms.for_data, c.push_reserved.ensures.len, some);
         for_taken = omega (arith, rooms.for_taken, c.push_reserved.ensures.len, c.push_reserved.ensures.capacity, some);
-        for_gaps = omega (arith, rooms.for_gaps, c.push_reserved.ensures.len, c.take_page-was_free.ensures.size, c.take_page-was_free.ensures.capacity, some);
+        for_gaps = omega (arith, rooms.for_gaps, c.push_reserved.ensures.len, c.take_page-was_free.ensures.grows.size, c.take_page-was_free.ensures.grows.capacity, some);
       },
     )

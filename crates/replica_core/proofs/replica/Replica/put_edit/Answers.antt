@@ -3,29 +3,25 @@ use Rattle.doc_core.proofs.FittingLemmas.{made_fit}
 use Rattle.op_model.specs.Causality.{clock_of}
 use Rattle.op_model.specs.Made.{made, size_of}
 use Rattle.op_model.specs.Text.{rev}
-use Rattle.replica_core.proofs.DocLemmas.{docs_up}
 use Rattle.replica_core.proofs.FollowLemmas.{stream_fits}
 use Rattle.replica_core.specs.Fields.{held_of}
-use Rattle.replica_core.specs.Held.{Held}
+use Rattle.op_model.specs.Held.{Held}
 use Rattle.replica_core.proofs.SoundLemmas.{due_counts, edit_alone-due, due_fits, due_within, due_asks_right, made_own, held_of-edit, AreFields-edit}
 use Rattle.replica_core.proofs.replica.Replica.put_edit.Goals as goal
 
 pub count_all-requires : goal.count_all-requires
 count_all-requires c =
     let items : c.in_ok-made.made ≡ made c.self.inside.log.list c.self.inside.id c.args.edit.now = rw c.as_slice-ops.ensures at c.in_ok-made.ensures.made in
-    let can = rw (← c.self.view_is) at c.requires in (
+    let can = (rw (← c.self.view_is) at c.requires).can in (
       c.self.inside.log.list,
       c.in_ok-clock.ensures ∙ c.self.invariant.clock,
       rw (c.as_slice.ensures, items) (due_within c.self.inside.log.list c.self.inside.id c.args.edit.now can.due),
     )
 
-pub place-place-requires : goal.place-place-requires
-place-place-requires c = rw c.deref.ensures.value (docs_up c.self.inside.log.docs.items c.self.inside.log.list c.self.invariant.docs)
-
 pub append-requires-clause-few : goal.append-requires-clause-few
 append-requires-clause-few c =
     let items : c.in_ok-made.made ≡ made c.self.inside.log.list c.self.inside.id c.args.edit.now = rw c.as_slice-ops.ensures at c.in_ok-made.ensures.made in
-    let can = rw (← c.self.view_is) at c.requires in
+    let can = (rw (← c.self.view_is) at c.requires).can in
     rw items (due_fits c.self.inside.log.list c.self.inside.id c.args.edit.now can.due)
 
 pub append-requires-clause-own : goal.append-requires-clause-own
@@ -36,20 +32,20 @@ append-requires-clause-own c =
 pub append-requires-clause-small : goal.append-requires-clause-small
 append-requires-clause-small c =
     let items : c.in_ok-made.made ≡ made c.self.inside.log.list c.self.inside.id c.args.edit.now = rw c.as_slice-ops.ensures at c.in_ok-made.ensures.made in
-    let can = rw (← c.self.view_is) at c.requires in
+    let can = (rw (← c.self.view_is) at c.requires).can in
     rw items (stream_fits c.self.inside.log.list (made c.self.inside.log.list c.self.inside.id c.args.edit.now)
     (due_within c.self.inside.log.list c.self.inside.id c.args.edit.now can.due))
 
 pub push-requires : goal.push-requires
 push-requires c =
-    let can = rw (← c.self.view_is) at c.requires in
+    let can = (rw (← c.self.view_is) at c.requires).can in
     let places = can.places in
     omega arith
 
 pub invariant_of-self-2 : goal.invariant_of-self-2
 invariant_of-self-2 c =
     let items : c.in_ok-made.made ≡ made c.self.inside.log.list c.self.inside.id c.args.edit.now = rw c.as_slice-ops.ensures at c.in_ok-made.ensures.made in
-    let can = rw (← c.self.view_is) at c.requires in
+    let can = (rw (← c.self.view_is) at c.requires).can in
     let some : 0 < size_of c.args.edit.now.change = rw c.size-count.ensures.value at c.size-count.ensures.some in
     let first : c.len-first.result ≡ length c.self.inside.log.list = search rules in
     let counts : c.count_all.new.clock ≡ clock_of (c.self.inside.log.list ++ made c.self.inside.log.list c.self.inside.id c.args.edit.now) =
@@ -63,7 +59,7 @@ invariant_of-self-2 c =
 pub returns-clause-made : goal.returns-clause-made
 returns-clause-made c =
     let items : c.in_ok-made.made ≡ made c.self.inside.log.list c.self.inside.id c.args.edit.now = rw c.as_slice-ops.ensures at c.in_ok-made.ensures.made in
-    let can = rw (← c.self.view_is) at c.requires in
+    let can = (rw (← c.self.view_is) at c.requires).can in
     let right = due_asks_right c.self.inside.log.list c.self.inside.id c.args.edit.now can.due in
     let first : c.len-first.result ≡ length c.self.inside.log.list = search rules in
     rw (← c.self.view_is, c.push.ensures, c.of.ensures)
@@ -73,7 +69,7 @@ returns-clause-made c =
 
 pub overflow_add-result : goal.overflow_add-result
 overflow_add-result c =
-    let can = rw (← c.self.view_is) at c.requires in
+    let can = (rw (← c.self.view_is) at c.requires).can in
     let first : c.len-first.result ≡ length c.self.inside.log.list = search rules in
     let few = due_counts c.self.inside.log.list c.self.inside.id c.args.edit.now can.due in
     let size = c.size-count.ensures.value in
@@ -82,7 +78,7 @@ overflow_add-result c =
 
 pub overflow_add-result-2 : goal.overflow_add-result-2
 overflow_add-result-2 c =
-    let can = rw (← c.self.view_is) at c.requires in
+    let can = (rw (← c.self.view_is) at c.requires).can in
     let revs : c.count-rev.result ≡ rev c.self.inside.log.list c.args.edit.now.doc =
     c.count-rev.ensures ∙ (ap (rev c.as_slice-ops.result) (c.at-doc.ensures.number ∙ c.new-empty.ensures.number)
     ∙ ap (λ ops. rev ops c.args.edit.now.doc) c.as_slice-ops.ensures) in
@@ -93,7 +89,7 @@ overflow_add-result-2 c =
 
 pub returns-clause-ticket : goal.returns-clause-ticket
 returns-clause-ticket c =
-    let can = rw (← c.self.view_is) at c.requires in
+    let can = (rw (← c.self.view_is) at c.requires).can in
     let first : c.len-first.result ≡ length c.self.inside.log.list = search rules in
     let revs : c.count-rev.result ≡ rev c.self.inside.log.list c.args.edit.now.doc =
     c.count-rev.ensures ∙ (ap (rev c.as_slice-ops.result) (c.at-doc.ensures.number ∙ c.new-empty.ensures.number)
@@ -105,6 +101,6 @@ returns-clause-ticket c =
 pub unreachable-requires : goal.unreachable-requires
 unreachable-requires c =
     let items : c.in_ok-made.made ≡ made c.self.inside.log.list c.self.inside.id c.args.edit.now = rw c.as_slice-ops.ensures at c.in_ok-made.ensures.made in
-    let can = rw (← c.self.view_is) at c.requires in
+    let can = (rw (← c.self.view_is) at c.requires).can in
     let come = made_fit c.self.inside.log.list c.self.inside.id c.args.edit.now (due_within c.self.inside.log.list c.self.inside.id c.args.edit.now can.due) in
     c.append.ensures.known (c.in-Err-UnknownId.is ∙ ap Err c.in-Err-UnknownId.field-0-is) c.self.invariant.docs (rw items come)

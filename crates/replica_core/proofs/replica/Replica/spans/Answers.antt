@@ -2,7 +2,7 @@ use Rattle.std.proofs.Common.{◌≡◌, ◌∙◌, ap}
 use Rattle.std.proofs.lemmas.Result.{IfOk-weaker}
 use Rattle.op_model.specs.Spans.{spans}
 use Rattle.replica_core.specs.Docs.{AreDocs}
-use Rattle.replica_core.specs.Held.{Held}
+use Rattle.op_model.specs.Held.{Held}
 use Rattle.replica_core.proofs.DocLemmas.{docs_up}
 use Rattle.replica_core.proofs.replica.Replica.spans.Goals as goal
 

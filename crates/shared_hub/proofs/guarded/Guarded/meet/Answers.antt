@@ -1,4 +1,5 @@
 use Rattle.std.proofs.Common.{sym, ◌∙◌}
+use Rattle.shared_hub.proofs.GoingLemmas.{meeting_goes}
 use Rattle.shared_hub.proofs.MeetLemmas.{meeting_ends}
 use Rattle.shared_hub.proofs.guarded.Guarded.meet.Goals as goal
 
@@ -8,3 +9,9 @@ invariant_of-self g c n entries found =
     c.self.invariant n entries found
     ∙ sym (meeting_ends g.D.DiskFacts c.self.inside.locked c.args.flusher.now c.meet-result.result c.meet-result.new.locked c.meet-result.new.self
     c.meet-result.ensures.met.leaves n)
+
+-- what the flusher's own meeting makes of it
+pub returns-clause-goes : goal.returns-clause-goes
+returns-clause-goes g c =
+    meeting_goes g.D.DiskFacts c.self.inside.locked c.args.flusher.now c.meet-result.result c.meet-result.new.locked c.meet-result.new.self
+    c.meet-result.ensures.met.leaves

@@ -1,7 +1,7 @@
-use Rattle.std.proofs.Common.{◌≡◌, ℕ, ◌≤◌, [], drop, length, vec_len, refl, sym, ap, ◌∙◌, arith}
+use Rattle.std.proofs.Common.{◌≡◌, length, vec_len, refl, sym, ap, ◌∙◌, arith}
 use Rattle.std.proofs.lemmas.List.{length-map}
 use Rattle.std.specs.Global.{Vec}
-use Rattle.pass_books.specs.Accounts.{Account, PassHeld, names_of}
+use Rattle.pass_books.specs.Accounts.{Account, names_of}
 use Rattle.shared_hub.proofs.OpeningLemmas.{fresh_fit, length_new}
 use Rattle.shared_hub.specs.Books.{new_passes}
 use Rattle.shared_hub.proofs.opening.Opened.share.Goals as goal

@@ -1,0 +1,72 @@
+-- What the opening of a file gives.
+use Rattle.std.specs.Prelude.{◌≡◌, ◌<◌, ℕ, false, List, [], ◌++◌, length, Ok}
+use Rattle.disk_trait.specs.declared.facts.DiskFacts.{Ghosts}
+use Rattle.op_model.specs.declared.op.Op.{Op}
+pub use Rattle.page_file.specs.DiskCalls.{IsLookedAt}
+use Rattle.page_file.specs.Index.{Index}
+use Rattle.root_slots.specs.Body.{Root}
+use Rattle.root_slots.specs.Root.{replica_of, stream_length_of}
+use Rattle.root_slots.specs.Slots.{live}
+use Rattle.group_commit.specs.Commit.{Is, IsLeft, Stands}
+use Rattle.group_commit.specs.Held.{Held}
+use Rattle.group_commit.specs.Loading.{IsHistory, reached_of, stream_at}
+use Rattle.group_commit.specs.Paging.{IsIndexOf}
+use Rattle.group_commit.specs.Saved.{IsInMemory, with_stream, in_front}
+use Rattle.group_commit.specs.declared.load_image.Image.{Image}
+use Rattle.group_commit.specs.declared.load_stream.Stream.{Stream}
+use Rattle.group_commit.specs.declared.phase.Phase.TheVariants.{Idle}
+
+-- What an opened file is: its store between two commits, the replica that it belongs to, and its operations.
+pub record IsLoaded {D : Type 0} (facts : Ghosts D) (disk : D) (store : Held D) (replica : ℕ) (ops : List Op) : Type 0 where
+  -- the store's root is the live one of the file
+  pub root : facts.tells disk → Is store.current (facts.content disk)
+  -- and stands in its live slot
+  pub slot : facts.tells disk → live (facts.content disk) ≡ Ok store.slot
+  -- its stream is the records of the operations
+  pub history : IsHistory store.current replica ops
+  -- no commit is under way
+  pub idle : store.phase ≡ Idle
+  -- no device call has failed
+  pub works : store.failed ≡ false
+  -- a crash leaves what reads give
+  pub settled : facts.tells disk → (c : List ℕ) → facts.survives store.disk c → c ≡ facts.content disk
+  -- which has that root
+  pub left : facts.tells disk → (c : List ℕ) → facts.survives store.disk c → IsLeft store.phase store.current store.next c
+
+-- the pages of a root are in memory
+pub record IsIndexed (head : Root) (index : Index) : Type 0 where
+  -- the tables are those that it names
+  pub tables : index.tables ≡ head.tables
+  -- there are as many data pages as its stream takes, and no page twice
+  pub parts : IsInMemory head index.data_pages
+  -- none is taken for a commit
+  pub none_taken : index.taken ≡ []
+
+-- what a root names was read from the file of a disk: its pages, and its stream
+pub record IsStreamOf {D : Type 0} (facts : Ghosts D) (head : Root) (disk : D) (it : Stream) : Type 0 where
+  -- its pages are in memory
+  pub index : IsIndexed head it.pages
+  -- there are as many bytes as it says
+  pub long : length it.bytes.items ≡ head.stream_length
+  -- the pages are those that its table pages name
+  pub pages : facts.tells disk → reached_of head (facts.content disk) ≡ Ok (head.tables ++ it.pages.data_pages)
+  -- the bytes are those of its data pages
+  pub stream : facts.tells disk → stream_at head (facts.content disk) ≡ Ok it.bytes.items
+
+-- what the file of a disk stands for was read, with an empty root in the place of a commit's
+pub record IsImageOf {D : Type 0} (facts : Ghosts D) (disk : D) (it : Image) : Type 0 where
+  -- one of the two slots is live
+  pub slot : it.roots.slot < 2
+  -- the file is one between two commits, with this root and stream
+  pub stands : facts.tells disk → Stands Idle it.roots.slot it.roots.stale_open (with_stream it.current it.stream)
+      (in_front it.next it.stream) (facts.content disk)
+  -- the stream is as long as the root says
+  pub long : length it.stream ≡ stream_length_of it.current.body
+  -- the other root has no stream
+  pub other : stream_length_of it.next.body ≡ 0
+  -- the stream is the records of the operations
+  pub history : IsHistory (with_stream it.current it.stream) (replica_of it.current.body) it.ops
+  -- the pages are those of the root
+  pub index : IsIndexOf it.current it.pages
+  -- none is taken for a commit
+  pub none_taken : it.pages.taken ≡ []

@@ -1,0 +1,56 @@
+//! Two device calls of a commit: the write of a page, and a sync.
+ghost use Rattle.std.specs.Prelude.{◌≡◌, ◌*◌, ◌≤◌, ◌↔◌, length, IfErr, OnOk, OnErr};
+ghost use Rattle.disk_trait.specs.Writing.{failures_in};
+ghost use Rattle.page_file.specs.DiskCalls.{IsWrite};
+ghost use Rattle.disk_trait.specs.Calls.{IsOneCall, Settles, Keeps};
+ghost use Rattle.group_commit.specs.Paging.{CanTake, TakesPage};
+ghost use Rattle.group_commit.specs.declared.error.StoreError.TheVariants.{WriteFailed, SyncFailed};
+
+use crate::error::StoreError;
+use disk_trait::Disk;
+use page_file::Pages;
+
+// The bytes of a page, as an array.
+fn whole_page(bytes: &[u8]) -> &[u8; 4096]
+    requires size { length bytes.now ≡ 4096 }
+    ensures { result.now ≡ bytes.now }
+{
+    let (page, _) = bytes.split_first_chunk::<4096>().unwrap();
+    page
+}
+
+/// Writes a free page that begins in the file or at its end, and takes it. It is refused only where
+/// the device failed (51).
+pub(crate) fn put_page<D: Disk>(
+    pages: &mut Pages,
+    disk: &mut D,
+    number: u32,
+    bytes: &[u8],
+) -> Result<(), StoreError>
+    requires can_take { CanTake number pages.old }
+    requires size { length bytes.now ≡ 4096 }
+    requires inside { D.tells disk.old → 4096 * number ≤ length (D.content disk.old) }
+    ensures writes { IsWrite D.DiskFacts result (4096 * number) bytes.now disk.old disk.new }
+    ensures takes { TakesPage result number pages.old pages.new }
+    ensures refused { IfErr result (λ e. e ≡ WriteFailed) }
+{
+    match pages.put_free(disk, number, whole_page(bytes)) {
+        Ok(()) => Ok(()),
+        Err(_) => Err(StoreError::WriteFailed),
+    }
+}
+
+/// Settles all that was written. It is refused only where the device failed (52).
+pub(crate) fn settle<D: Disk>(disk: &mut D) -> Result<(), StoreError>
+    ensures settled { D.tells disk.old → OnOk result (Settles D.DiskFacts disk.old disk.new) }
+    ensures unsettled { D.tells disk.old → OnErr result (Keeps D.DiskFacts disk.old disk.new) }
+    ensures call { D.tells disk.old
+        → IsOneCall D.DiskFacts (failures_in result) 0 1 disk.old disk.new }
+    ensures tells { D.tells disk.new ↔ D.tells disk.old }
+    ensures refused { IfErr result (λ e. e ≡ SyncFailed) }
+{
+    match disk.sync() {
+        Ok(()) => Ok(()),
+        Err(_) => Err(StoreError::SyncFailed),
+    }
+}

@@ -1,0 +1,88 @@
+ghost use Rattle.std.specs.Prelude.{◌≡◌, ◌↔◌, ℕ, List, [], ◌∷◌, ◌++◌, false, IfOk, OnOk, OnErr, IsErrOf};
+ghost use Rattle.std.specs.List.{list_all};
+ghost use Rattle.char_sequence.specs.Content.{Holds};
+ghost use Rattle.char_sequence.specs.Woven.{IsWovenOf};
+ghost use Rattle.mark_anchors.specs.Gathered.{AreGathered};
+ghost use Rattle.mark_anchors.specs.Keeping.{AreMarksOf};
+ghost use Rattle.mark_anchors.specs.Naming.{named_by_marking};
+ghost use Rattle.op_model.specs.declared.op.Op.{Op};
+ghost use Rattle.op_model.specs.Characters.{characters};
+ghost use Rattle.op_model.specs.Marks.{markings as markings_of};
+ghost use Rattle.op_model.specs.Placing.{has_id, Fits};
+
+use crate::anchors::Anchors;
+use crate::naming::check_names;
+use char_sequence::{Sequence, SequenceError, Weave};
+use op_model::{Marking, Op};
+use std::alloc::{AllocError, Global};
+use std::marker::Model;
+
+/// The mark operations of one document while many operations are taken, one after another: where
+/// `Anchors` sorts the edges of each, this keeps it alone. At the end it gives the anchors.
+/// Contracts see what is gathered by `AreGathered` alone.
+#[derive(Debug, Drop)]
+pub struct Gathering {
+    /// In the order in which they came.
+    markings: Vec<Marking>,
+}
+
+impl Model for Gathering {
+    ghost use Rattle.mark_anchors.specs.Gathered.{Gathered};
+
+    ghost Value = { Gathered };
+
+    ghost view = { λ g. g.markings.items };
+}
+
+impl Gathering {
+    /// That of a document without mark operations. Takes no memory.
+    pub fn new(alloc: Global) -> Gathering
+        ensures { (doc : ℕ) → AreGathered result [] doc }
+    {
+        Gathering {
+            markings: Vec::new(alloc),
+        }
+    }
+
+    /// Takes an operation of the document, whose characters are given: a mark operation is kept,
+    /// another one adds nothing. `UnknownId` (60) exactly where a mark operation names a character
+    /// that isn't there, `Memory` (1) where a growth was refused; both leave what is gathered as it
+    /// was. It costs the search of both characters, as `Weave::has` does it.
+    pub fn apply_mark(&mut self, op: &Op, weave: &Weave) -> Result<(), SequenceError>
+        ensures taken { OnOk result ((ops : List Op) (doc : ℕ) → AreGathered self.old ops doc
+            → Fits ops doc op.now → AreGathered self.new (ops ++ op.now ∷ []) doc) }
+        ensures unknown { (ops : List Op) (doc : ℕ) → IsWovenOf weave.now ops doc
+            → (IsErrOf result SequenceError.UnknownId
+            ↔ (list_all (λ id. has_id (characters ops doc) id) (named_by_marking op.now.body)
+            ≡ false)) }
+        ensures err { OnErr result (self.new ≡ self.old) }
+    {
+        check_names(weave, &op.body)?;
+        keep(&mut self.markings, op)?;
+        Ok(())
+    }
+
+    /// The anchors of a document whose mark operations these are, and whose characters are given.
+    /// An error is want of memory (1). Their edges are sorted: so many steps as there are mark
+    /// operations, times their logarithm.
+    pub fn anchors(self, sequence: &Sequence) -> Result<Anchors, AllocError>
+        ensures { IfOk result (λ a. (ops : List Op) (doc : ℕ) → Holds sequence.now ops doc
+            → AreGathered self ops doc → AreMarksOf a ops doc) }
+    {
+        Anchors::from_markings(self.markings, sequence)
+    }
+}
+
+/// Keeps a mark operation behind the others; another operation adds nothing. An error is want of
+/// memory (1), and leaves those that are kept as they were.
+fn keep(markings: &mut Vec<Marking>, op: &Op) -> Result<(), AllocError>
+    ensures taken { OnOk result (markings.new.items
+        ≡ markings.old.items ++ markings_of (op.now ∷ []) op.now.doc) }
+    ensures err { OnErr result (markings.new.items ≡ markings.old.items) }
+{
+    match op.marking()? {
+        Some(marking) => markings.push(marking).map_err(AllocError::from)?,
+        None => {}
+    }
+    Ok(())
+}

@@ -1,0 +1,28 @@
+ghost use Rattle.std.specs.Prelude.{◌≡◌, OnOk, OnErr};
+ghost use Rattle.model_laws.specs.Rising.{IsUp};
+ghost use Rattle.op_model.specs.Spans.{with_number};
+ghost use Rattle.replica_core.specs.Decided.{IsPlace};
+
+use std::alloc::AllocError;
+
+/// The index of a number among these, which rise, or where it goes. A search by halves.
+pub fn place(numbers: &[u32], number: u32) -> Result<usize, usize>
+    requires { IsUp numbers.now }
+    ensures { IsPlace numbers.now number result }
+{
+    numbers.binary_search(&number)
+}
+
+/// Puts a number among these, which rise, if it isn't there. An error is want of memory (1). A
+/// search by halves, and a step for each greater number where it is new.
+pub fn add(numbers: &mut Vec<u32>, number: u32) -> Result<(), AllocError>
+    requires { IsUp numbers.old.items }
+    ensures added { OnOk result (numbers.new.items ≡ with_number number numbers.old.items) }
+    ensures err { OnErr result (numbers.new.items ≡ numbers.old.items) }
+{
+    match place(numbers, number) {
+        Ok(_) => {}
+        Err(at) => numbers.insert(at, number).map_err(AllocError::from)?,
+    }
+    Ok(())
+}

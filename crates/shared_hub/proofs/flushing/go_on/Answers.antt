@@ -1,0 +1,15 @@
+use Rattle.std.proofs.Common.{refl}
+use Rattle.shared_hub.proofs.GoingLemmas.{goes_nowhere, goes_behind}
+use Rattle.shared_hub.proofs.flushing.go_on.Goals as goal
+
+-- nothing was done yet
+pub loop-init : goal.loop-init
+loop-init g c = goes_nowhere g.D.DiskFacts c.args.flusher.now c.args.flusher.now refl
+
+-- one more
+pub loop-preserved : goal.loop-preserved
+loop-preserved g c = goes_behind g.D.DiskFacts c.args.flusher.now c.loop.flusher c.commit.new.flusher c.loop.invariant c.commit.ensures
+
+-- one more
+pub returns-in-Err : goal.returns-in-Err
+returns-in-Err g c = goes_behind g.D.DiskFacts c.args.flusher.now c.loop.flusher c.commit.new.flusher c.loop.invariant c.commit.ensures
