@@ -14,7 +14,8 @@ pub fn endless() -> io::Error {
 /// interrupted is made again.
 pub fn read_some<R: Read>(reader: &mut R, piece: &mut [u8]) -> io::Result<usize>
     ensures bound { ReadsAtMost result piece.new }
-    ensures bytes { ReadConsumes (R.remaining reader.old) (R.remaining reader.new) result piece.new }
+    ensures bytes { ReadConsumes (R.remaining reader.old) (R.remaining reader.new)
+        result piece.new }
 {
     for _ in 0..u64::MAX {
         match reader.read(piece) {

@@ -41,9 +41,11 @@ impl Doc {
         ensures made { IfOk result
             (AreMade self.now replica counter clock.now (change.Mark from to mark.now)) }
         ensures range { (ops : List Op) → StandsFor self.now ops → (IsErrOf result MakeError.Range
-            ↔ (is_inside (length (visible ops self.now.number)) (change.Mark from to mark.now) ≡ false)) }
+            ↔ (is_inside (length (visible ops self.now.number))
+            (change.Mark from to mark.now) ≡ false)) }
         ensures limit { (ops : List Op) → StandsFor self.now ops → (IsErrOf result MakeError.Limit
-            ↔ ((is_inside (length (visible ops self.now.number)) (change.Mark from to mark.now) ≡ true)
+            ↔ ((is_inside (length (visible ops self.now.number))
+            (change.Mark from to mark.now) ≡ true)
             × (keep_limits_of replica counter clock.now 1 ≡ false))) }
     {
         if from >= to || !self.shows(to as usize) {
@@ -70,9 +72,11 @@ impl Doc {
         ensures made { IfOk result
             (AreMade self.now replica counter clock.now (change.Unmark from to key.now)) }
         ensures range { (ops : List Op) → StandsFor self.now ops → (IsErrOf result MakeError.Range
-            ↔ (is_inside (length (visible ops self.now.number)) (change.Unmark from to key.now) ≡ false)) }
+            ↔ (is_inside (length (visible ops self.now.number))
+            (change.Unmark from to key.now) ≡ false)) }
         ensures limit { (ops : List Op) → StandsFor self.now ops → (IsErrOf result MakeError.Limit
-            ↔ ((is_inside (length (visible ops self.now.number)) (change.Unmark from to key.now) ≡ true)
+            ↔ ((is_inside (length (visible ops self.now.number))
+            (change.Unmark from to key.now) ≡ true)
             × (keep_limits_of replica counter clock.now 1 ≡ false))) }
     {
         if from >= to || !self.shows(to as usize) {

@@ -1,5 +1,8 @@
 -- What the readers of values say of the definitions.
-use Rattle.std.proofs.Common.{◌≡◌, ◌↔◌, ℕ, ◌<◌, ◌^◌, List, [], ◌∷◌, length, Bool, true, false, true≢false, ◌&&◌, ◌==◌, nat_lt, if◌then◌else◌, Option, Some, None, IsNone, IfSome, Result, Ok, Err, refl, sym, ap, arith, lt-ltb, ltb-true}
+use Rattle.std.proofs.Common.{◌≡◌, ◌↔◌, ℕ, ◌<◌, ◌^◌, List, [], ◌∷◌, length, Bool, true, false}
+use Rattle.std.proofs.Common.{true≢false, ◌&&◌, ◌==◌, nat_lt, if◌then◌else◌, Option, Some, None}
+use Rattle.std.proofs.Common.{IsNone, IfSome, Result, Ok, Err, refl, sym, ap, arith, lt-ltb}
+use Rattle.std.proofs.Common.{ltb-true}
 use Rattle.std.proofs.lemmas.Bool.Decides.{nat_tests}
 use Rattle.std.specs.Result.{result_ok, OkIff}
 use Rattle.std.specs.List.{list_all}

@@ -4,7 +4,9 @@ use Rattle.std.specs.Prelude.{if◌then◌else◌}
 use Rattle.op_model.specs.declared.edit.Edit.{Edit}
 use Rattle.op_model.specs.Made.{made, edit_refusal}
 use Rattle.op_model.specs.Held.{Held}
-use Rattle.op_model.specs.Machine.{State, Answer, Ticket, ticket, ticket_of, applied, refused, EditStep, edit_alone, edit_answer_unless, has_record_room, with_room, has_places}
+use Rattle.op_model.specs.Machine.{State, Answer, Ticket, ticket, ticket_of, applied, refused}
+use Rattle.op_model.specs.Machine.{EditStep, edit_alone, edit_answer_unless, has_record_room}
+use Rattle.op_model.specs.Machine.{with_room, has_places}
 
 ticket_by_places : (places : Bool) (t due : Ticket) → (if places then ticket due else refused 10) ≡ ticket t → t ≡ due
 ticket_by_places true t due e = cc

@@ -1,5 +1,7 @@
 -- A begin that the store answers.
-use Rattle.std.proofs.Common.{◌≡◌, ◌≢◌, ℕ, ◌+◌, Bool, true, false, ◌&&◌, nat_lt, List, [], length, drop, refl, sym, ap, ◌∙◌, arith, append-nil, Option, Some, None, Result, Ok, Err}
+use Rattle.std.proofs.Common.{◌≡◌, ◌≢◌, ℕ, ◌+◌, Bool, true, false, ◌&&◌, nat_lt, List, [], length}
+use Rattle.std.proofs.Common.{drop, refl, sym, ap, ◌∙◌, arith, append-nil, Option, Some, None}
+use Rattle.std.proofs.Common.{Result, Ok, Err}
 use Rattle.disk_trait.specs.Calls.{IsLawful}
 use Rattle.disk_trait.specs.declared.facts.DiskFacts.{Ghosts}
 use Rattle.op_model.specs.declared.op.Op.{Op}

@@ -2,7 +2,10 @@
 use Rattle.std.specs.Prelude.{◌≡◌, ℕ, List, [], ◌∷◌, Result, Ok, Err, IfOk, Option, Some, None}
 use Rattle.std.specs.Global.{Vec}
 use Rattle.op_model.specs.declared.op.Op.{Op}
-use Rattle.op_model.specs.Machine.{Event, edit, merge, begin, device_step, settle, ack, tell, have, Ticket, Answer, ticket, begun, nothing_new, idle, goes_on, goes_through, settled_to, acknowledged, operations, clock, refused}
+use Rattle.op_model.specs.Machine.{Event, edit, merge, begin, device_step, settle, ack, tell, have}
+use Rattle.op_model.specs.Machine.{Ticket, Answer, ticket, begun, nothing_new, idle, goes_on}
+use Rattle.op_model.specs.Machine.{goes_through, settled_to, acknowledged, operations, clock}
+use Rattle.op_model.specs.Machine.{refused}
 use Rattle.replica_core.specs.Merging.{answer_of as answer_of_merge}
 use Rattle.replica_core.specs.Refusal.{number_of as number_of_replica}
 use Rattle.replica_core.specs.declared.merged.Merged.{Merged}

@@ -27,9 +27,10 @@ impl<D: Disk> Hub<D> {
     /// Begins a commit of all operations that aren't settled, and answers the length of the list
     /// that it commits; `None` where all are settled. It makes no device call.
     ///
-    /// Refuses, in this order, with 44 where the device failed, which is told then, 8 where there is
-    /// a commit, 7 where there is no further version, and 1 where a growth was refused. A refused
-    /// call changes nothing else. It is a meeting of the two parts, and costs what that does.
+    /// Refuses, in this order, with 44 where the device failed, which is told then, 8 where there
+    /// is a commit, 7 where there is no further version, and 1 where a growth was refused. A
+    /// refused call changes nothing else. It is a meeting of the two parts, and costs what that
+    /// does.
     pub fn begin(&mut self) -> Result<Option<u64>, HubRefusal>
         ensures call { IsCall D.DiskFacts begin_event (begin_answered result) self.old self.new }
     {

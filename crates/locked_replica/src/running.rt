@@ -11,10 +11,10 @@ use crate::hub_step::HubStep;
 use disk_trait::Disk;
 use std::alloc::{AllocError, Global};
 
-/// Makes these calls in order, and answers what each one answers, as a reply of the call's own kind:
-/// a refused call is its own reply, and the calls go on. A reply to a device step names the phase
-/// whose call was made. An error is want of memory (1): then a beginning of the calls is made, with
-/// such replies.
+/// Makes these calls in order, and answers what each one answers, as a reply of the call's own
+/// kind: a refused call is its own reply, and the calls go on. A reply to a device step names the
+/// phase whose call was made. An error is want of memory (1): then a beginning of the calls is
+/// made, with such replies.
 pub fn run<D: Disk>(
     alloc: Global,
     hub: &mut Hub<D>,

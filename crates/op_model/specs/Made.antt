@@ -1,5 +1,7 @@
 -- The operations that an edit makes.
-use Rattle.std.specs.Prelude.{not, if◌then◌else◌, ℕ, zero, suc, ◌+◌, ◌-◌, Bool, true, false, List, [], ◌∷◌, length, take, drop, map, filter, max, nat_lt, nat_le, ◌&&◌, ◌==◌, ◌++◌, slice_get, Option, Some, None}
+use Rattle.std.specs.Prelude.{not, if◌then◌else◌, ℕ, zero, suc, ◌+◌, ◌-◌, Bool, true, false, List}
+use Rattle.std.specs.Prelude.{[], ◌∷◌, length, take, drop, map, filter, max, nat_lt, nat_le, ◌&&◌}
+use Rattle.std.specs.Prelude.{◌==◌, ◌++◌, slice_get, Option, Some, None}
 use Rattle.std.specs.Option.{option_map}
 use Rattle.std.specs.List.{list_any}
 use Rattle.op_ids.specs.Id.{Id, is_same}

@@ -1,5 +1,7 @@
 -- Which marks a character has, and the spans of a document.
-use Rattle.std.specs.Prelude.{ℕ, ◌+◌, ◌==◌, Bool, true, false, not, ◌&&◌, nat_lt, if◌then◌else◌, List, [], ◌∷◌, filter, filter_map, is_some, Option, Some, None, option_and_then}
+use Rattle.std.specs.Prelude.{ℕ, ◌+◌, ◌==◌, Bool, true, false, not, ◌&&◌, nat_lt, if◌then◌else◌}
+use Rattle.std.specs.Prelude.{List, [], ◌∷◌, filter, filter_map, is_some, Option, Some, None}
+use Rattle.std.specs.Prelude.{option_and_then}
 use Rattle.op_model.specs.declared.op.Op.{Op}
 use Rattle.op_model.specs.declared.mark.Mark.{Mark}
 use Rattle.op_model.specs.declared.mark.Mark.TheVariants as added

@@ -3,8 +3,8 @@ ghost use Rattle.op_model.specs.Causality.{named_by_anchor, named_by_end, named_
 
 use op_ids::OpId;
 
-/// A place beside a character, which is named by the id of the operation that inserted it. It keeps its place
-/// when text is inserted around it, and when the character is removed.
+/// A place beside a character, which is named by the id of the operation that inserted it. It keeps
+/// its place when text is inserted around it, and when the character is removed.
 #[derive(Clone, Copy, Debug, PartialEq, Eq, Hash)]
 pub enum Anchor {
     /// Just before the character.

@@ -1,7 +1,7 @@
 use op_ids::OpId;
 
-/// A character of a document, with the ids of its insert and of the character behind which it was inserted: no
-/// origin at the beginning.
+/// A character of a document, with the ids of its insert and of the character behind which it was
+/// inserted: no origin at the beginning.
 #[derive(Clone, Copy, Debug, PartialEq, Eq, Hash)]
 pub struct Character {
     pub id: OpId,

@@ -8,8 +8,8 @@ ghost use lib.Pointwise.{pointwise};
 use std::alloc::AllocError;
 use std::marker::Model;
 
-/// The name of a comment: any sixteen bytes, the nil UUID among them. Contracts see it as its number, the bytes
-/// read with the highest first; that is also its order.
+/// The name of a comment: any sixteen bytes, the nil UUID among them. Contracts see it as its
+/// number, the bytes read with the highest first; that is also its order.
 #[derive(Clone, Copy, Debug, PartialEq, Eq, PartialOrd, Ord, Hash)]
 pub struct CommentId {
     number: u128,
@@ -48,7 +48,8 @@ impl CommentId {
     }
 }
 
-/// A list of comments, as the marks of a character name them. Contracts see the list of their numbers.
+/// A list of comments, as the marks of a character name them. Contracts see the list of their
+/// numbers.
 #[derive(Debug, Drop)]
 pub struct CommentIds {
     ids: Vec<CommentId>,

@@ -73,7 +73,8 @@ impl EditText {
 pub struct Edit {
     /// The number of the document, from 1 on; 0 is refused as a limit.
     pub doc: u32,
-    /// Where it is there, the edit is refused unless the document has just this number of operations.
+    /// Where it is there, the edit is refused unless the document has just this number of
+    /// operations.
     pub rev: Option<u32>,
     pub change: Change,
 }

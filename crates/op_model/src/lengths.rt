@@ -1,4 +1,5 @@
-//! How many bytes the record of an operation takes: all that works it out without the record stands here.
+//! How many bytes the record of an operation takes: all that works it out without the record stands
+//! here.
 ghost use Rattle.std.specs.Prelude.{◌≡◌, ◌≤◌, if◌then◌else◌};
 ghost use Rattle.op_model.specs.Records.{head_length as head_length_of, record_length as length_of};
 ghost use Rattle.op_model.specs.Records.{body_length as body_length_of, mark_length as mark_length_of};
@@ -12,7 +13,8 @@ use crate::op::{Body, Op};
 /// The bytes of an id, which is all that a remove has beside its head.
 pub const ID_LENGTH: u64 = 24;
 
-/// How many bytes the head of a record takes, where its operation has so many deps: all but the content. Constant.
+/// How many bytes the head of a record takes, where its operation has so many deps: all but the
+/// content. Constant.
 pub fn head_length(deps: usize) -> u64
     requires { deps ≤ 17 }
     ensures value { result ≡ head_length_of deps }
@@ -21,7 +23,8 @@ pub fn head_length(deps: usize) -> u64
     34 + ID_LENGTH * deps as u64
 }
 
-/// How many bytes an origin, a start or an end takes: a tag, and an id where it names a character. Constant.
+/// How many bytes an origin, a start or an end takes: a tag, and an id where it names a character.
+/// Constant.
 pub fn place_length(has_id: bool) -> u64
     ensures { result ≡ (if has_id then 25 else 1) }
 {

@@ -1,4 +1,5 @@
-//! Operations of replicated rich text: what they are made of, and the definitions of what they mean.
+//! Operations of replicated rich text: what they are made of, and the definitions of what they
+//! mean.
 #![tactic(auto)]
 
 mod anchor;

@@ -14,8 +14,8 @@ pub enum Mark {
     Comment(CommentId),
 }
 
-/// What is decided by itself: for each key the covering mark operation with the greatest id says whether there
-/// is a mark.
+/// What is decided by itself: for each key the covering mark operation with the greatest id says
+/// whether there is a mark.
 #[derive(Clone, Copy, Debug, PartialEq, Eq, Hash)]
 pub enum MarkKey {
     Strong,

@@ -7,8 +7,9 @@ use crate::op::{Body, Op};
 use op_ids::{Clock, ClockError, OpId, ReplicaId};
 use std::alloc::{AllocError, Global};
 
-/// Inserts of characters, the first behind this origin, or at the beginning where there is none, each later one behind
-/// the one before; their operations have the ids of a replica from a counter on. An error is want of memory (1).
+/// Inserts of characters, the first behind this origin, or at the beginning where there is none,
+/// each later one behind the one before; their operations have the ids of a replica from a counter
+/// on. An error is want of memory (1).
 pub fn insert_bodies(
     alloc: Global,
     replica: ReplicaId,
@@ -18,7 +19,8 @@ pub fn insert_bodies(
 ) -> Result<Vec<Body>, AllocError>
     requires above_zero { 0 < counter }
     requires in_range { counter + length text.now ≤ 2 ^ 48 }
-    ensures { IfOk result (λ bodies. bodies.items ≡ insert_bodies_of replica counter origin text.now) }
+    ensures { IfOk result (λ bodies. bodies.items
+        ≡ insert_bodies_of replica counter origin text.now) }
 {
     let mut bodies = Vec::with_capacity(alloc, text.len())?;
     let mut behind = origin;
@@ -34,8 +36,9 @@ pub fn insert_bodies(
     Ok(bodies)
 }
 
-/// An operation of a document for each body, their counters rising by one from this one on. The first depends on this
-/// clock, each later one also on those before it. An error is want of memory (1).
+/// An operation of a document for each body, their counters rising by one from this one on. The
+/// first depends on this clock, each later one also on those before it. An error is want of memory
+/// (1).
 pub fn numbered(
     alloc: Global,
     replica: ReplicaId,
@@ -48,7 +51,8 @@ pub fn numbered(
     requires in_range { counter + length bodies.now ≤ 2 ^ 48 }
     requires valid { is_clock clock.now ≡ true }
     requires room { is_clock (advanced_by clock.now replica (length bodies.now)) ≡ true }
-    ensures { IfOk result (λ made. made.items ≡ numbered_from replica doc counter clock.now bodies.now) }
+    ensures { IfOk result (λ made. made.items
+        ≡ numbered_from replica doc counter clock.now bodies.now) }
 {
     let mut ops = Vec::with_capacity(alloc, bodies.len())?;
     let mut clock = clock.copy()?;

@@ -13,7 +13,8 @@ use std::alloc::AllocError;
 #[derive(Debug, Drop, PartialEq, Eq)]
 pub struct Op {
     pub id: OpId,
-    /// The number of its document, from 1 on. A document of number 0 is refused when the operation is merged.
+    /// The number of its document, from 1 on. A document of number 0 is refused when the operation
+    /// is merged.
     pub doc: u32,
     /// The clock of its replica just before it was made, over all documents.
     pub deps: Clock,
@@ -23,8 +24,8 @@ pub struct Op {
 /// What an operation does.
 #[derive(Debug, Drop, PartialEq, Eq)]
 pub enum Body {
-    /// Inserts a character behind another, or at the beginning where there is no origin. The operation's id becomes
-    /// the character's.
+    /// Inserts a character behind another, or at the beginning where there is no origin. The
+    /// operation's id becomes the character's.
     Insert {
         origin: Option<OpId>,
         value: char,

@@ -6,7 +6,8 @@ ghost use lib.Pointwise.{pointwise};
 use std::alloc::AllocError;
 use std::marker::Model;
 
-/// A text: a list of characters (Unicode scalar values), which may be empty. Contracts see the list of their codes.
+/// A text: a list of characters (Unicode scalar values), which may be empty. Contracts see the list
+/// of their codes.
 #[derive(Debug, Drop)]
 pub struct Text {
     characters: Vec<char>,
@@ -48,8 +49,8 @@ impl Text {
         &self.characters
     }
 
-    /// Puts a character before the one at a place, or at the end. An error is want of memory (1), and leaves the text
-    /// as it was.
+    /// Puts a character before the one at a place, or at the end. An error is want of memory (1),
+    /// and leaves the text as it was.
     pub fn insert(&mut self, at: usize, character: char) -> Result<(), AllocError>
         requires { at ≤ length self.old }
         ensures ok { OnOk result (self.new ≡ take at self.old ++ character ∷ drop at self.old) }

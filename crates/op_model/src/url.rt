@@ -39,7 +39,8 @@ impl Eq for Url {
 }
 
 impl Url {
-    /// The URL with this text, or `None` where that has no bytes or more than 1,024. Takes no memory.
+    /// The URL with this text, or `None` where that has no bytes or more than 1,024. Takes no
+    /// memory.
     pub fn new(text: String) -> Option<Url>
         ensures some { IsSome result ↔ ((0 < string_len text) × (string_len text ≤ 1024)) }
         ensures same { IfSome result (λ url. url ≡ string_bytes text) }

@@ -5,8 +5,8 @@ use std::io;
 use std::net::{Shutdown, TcpListener, TcpStream};
 use std::os::fd::OwnedFd;
 
-/// Where the daemon listens, and copies of both sockets, which end the waits there. They are made at
-/// the start: at the end there may be no descriptor left.
+/// Where the daemon listens, and copies of both sockets, which end the waits there. They are made
+/// at the start: at the end there may be no descriptor left.
 #[derive(Drop)]
 pub(crate) struct Doors {
     sessions: TcpListener,

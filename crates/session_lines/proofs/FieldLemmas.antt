@@ -1,5 +1,7 @@
 -- What the tests of fields say of the definitions.
-use Rattle.std.proofs.Common.{◌≡◌, ℕ, zero, suc, ◌<◌, List, [], ◌∷◌, map, Bool, true, false, true≢false, ◌||◌, if◌then◌else◌, Option, Some, None, MatchOption, Err, refl, sym, ap, subst, arith, String, string_bytes, Bor}
+use Rattle.std.proofs.Common.{◌≡◌, ℕ, zero, suc, ◌<◌, List, [], ◌∷◌, map, Bool, true, false}
+use Rattle.std.proofs.Common.{true≢false, ◌||◌, if◌then◌else◌, Option, Some, None, MatchOption, Err}
+use Rattle.std.proofs.Common.{refl, sym, ap, subst, arith, String, string_bytes, Bor}
 use Rattle.std.proofs.Math.Bridge.{le_prop}
 use Rattle.std.specs.Option.{ok_or}
 use Rattle.std.specs.List.{list_any, list_all}

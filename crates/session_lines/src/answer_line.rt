@@ -9,13 +9,15 @@ use crate::spans::{quoted_text, spans_text};
 use op_model::Text;
 use std::alloc::{AllocError, Global};
 
-/// Puts an answer as text behind what is there: compact JSON with its keys in the order of their bytes, and a line
-/// feed. An error is want of memory (1), and leaves what is there as it was; where there is room for 128 bytes, it comes
-/// for a text or spans alone. The time is that of the text's length.
+/// Puts an answer as text behind what is there: compact JSON with its keys in the order of their
+/// bytes, and a line feed. An error is want of memory (1), and leaves what is there as it was;
+/// where there is room for 128 bytes, it comes for a text or spans alone. The time is that of the
+/// text's length.
 pub fn say(alloc: Global, answer: &Answer, out: &mut Vec<u8>) -> Result<(), AllocError>
     ensures ok { OnOk result (out.new.items ≡ out.old.items ++ said answer.now) }
     ensures err { OnErr result (out.new.items ≡ out.old.items) }
-    ensures room { OnErr result (vec_len out.old + SHORT ≤ vec_capacity out.old → IsTrue (is_long answer.now)) }
+    ensures room { OnErr result (vec_len out.old + SHORT ≤ vec_capacity out.old
+        → IsTrue (is_long answer.now)) }
     ensures capacity { vec_capacity out.old ≤ vec_capacity out.new }
 {
     match answer {

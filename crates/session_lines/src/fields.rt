@@ -83,7 +83,8 @@ pub fn count(value: &Value) -> Result<NonZeroU32, Refusal>
     NonZeroU32::new(count).ok_or(Refusal::Field)
 }
 
-/// The characters that are inserted. An error is want of memory, or no text of at least one character.
+/// The characters that are inserted. An error is want of memory, or no text of at least one
+/// character.
 #[tactic(auto, using(std::proofs::lemmas::Str::chars_from_encodes))]
 pub fn characters(alloc: Global, value: &Value) -> Result<EditText, Refusal>
     ensures { Reads result (characters_of (view value.now)) }

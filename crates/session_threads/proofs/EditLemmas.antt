@@ -1,10 +1,14 @@
 -- What the machine answers to an edit.
-use Rattle.std.proofs.Common.{◌≡◌, ℕ, ◌≤◌, ◌<◌, ◌++◌, Bool, true, false, not, ◌&&◌, List, length, Option, Some, None, IfSome, IsTrue, refl, sym, ap, ◌∙◌, subst, arith, cond}
+use Rattle.std.proofs.Common.{◌≡◌, ℕ, ◌≤◌, ◌<◌, ◌++◌, Bool, true, false, not, ◌&&◌, List, length}
+use Rattle.std.proofs.Common.{Option, Some, None, IfSome, IsTrue, refl, sym, ap, ◌∙◌, subst, arith}
+use Rattle.std.proofs.Common.{cond}
 use Rattle.std.specs.Prelude.{if◌then◌else◌}
 use Rattle.op_model.specs.declared.edit.Edit.{Edit}
 use Rattle.op_model.specs.Made.{made, edit_refusal, is_at_rev, is_inside, is_small}
 use Rattle.op_model.specs.Held.{Held}
-use Rattle.op_model.specs.Machine.{State, Answer, Ticket, ticket, ticket_of, applied, refused, acknowledged, EditStep, AckStep, IsRefusal, edit_alone, edit_answer_unless, has_record_room, with_room, has_places}
+use Rattle.op_model.specs.Machine.{State, Answer, Ticket, ticket, ticket_of, applied, refused}
+use Rattle.op_model.specs.Machine.{acknowledged, EditStep, AckStep, IsRefusal, edit_alone}
+use Rattle.op_model.specs.Machine.{edit_answer_unless, has_record_room, with_room, has_places}
 use Rattle.session_threads.specs.HubCalls.{IsQuiet, is_edit_refusal}
 
 -- ---- a refusal

@@ -9,7 +9,8 @@ pub trait Desk {
     ghost use Rattle.session_lines.specs.declared.command.Command.{Command};
     ghost use Rattle.session_lines.specs.declared.answer.Answer.{Answer};
 
-    /// A command may be given this answer: the desk before, the command, the answer, the desk after.
+    /// A command may be given this answer: the desk before, the command, the answer, the desk
+    /// after.
     ghost serves: { Self → Command → Answer → Self → Type 0 };
 
     /// Is told that a line has been read, before that is looked at.

@@ -44,9 +44,11 @@ pub fn exchange<W: Write, D: Desk>(
     desk: &mut D,
 ) -> io::Result<()>
     ensures line { room.new.line ≡ room.old.line }
-    ensures ok { OnOk result ((text : List ℕ) × Exchange D.serves desk.old room.old.line text desk.new
+    ensures ok { OnOk result ((text : List ℕ)
+        × Exchange D.serves desk.old room.old.line text desk.new
         × Appends (W.contents writer.old) (W.contents writer.new) text) }
-    ensures err { OnErr result ((text : List ℕ) × Exchange D.serves desk.old room.old.line text desk.new
+    ensures err { OnErr result ((text : List ℕ)
+        × Exchange D.serves desk.old room.old.line text desk.new
         × AppendsFront (W.contents writer.old) (W.contents writer.new) text) }
 {
     desk.line_read();

@@ -9,7 +9,8 @@ use std::marker::Model;
 /// The longest line that is read, in bytes, without its line feed.
 pub const LONGEST: usize = 65_536;
 
-/// What is there of a line, or that it is too long. Its memory is taken when it is made, so a line grows without.
+/// What is there of a line, or that it is too long. Its memory is taken when it is made, so a line
+/// grows without.
 #[derive(Drop)]
 pub struct HeldLine {
     bytes: Vec<u8>,

@@ -1,5 +1,7 @@
 -- Causally closed lists: their fronts, and the one place that each operation has.
-use Rattle.std.proofs.Common.{◌≡◌, ℕ, ◌+◌, ◌≤◌, ◌<◌, eqb, Bool, true, false, not, inl, inr, List, [], ◌∷◌, ◌++◌, length, take, drop, Option, Some, None, arith, ap, refl, ◌∙◌, sym, length-append}
+use Rattle.std.proofs.Common.{◌≡◌, ℕ, ◌+◌, ◌≤◌, ◌<◌, eqb, Bool, true, false, not, inl, inr, List}
+use Rattle.std.proofs.Common.{[], ◌∷◌, ◌++◌, length, take, drop, Option, Some, None, arith, ap}
+use Rattle.std.proofs.Common.{refl, ◌∙◌, sym, length-append}
 use Rattle.std.specs.Prelude.{◌==◌, nat_lt, if◌then◌else◌}
 use Rattle.std.proofs.lemmas.Bool.{cases_Bool, cases_order, eq-eqb, eqb-true, and_parts, both_ways}
 use Rattle.std.proofs.lemmas.List.{take-append-drop}
@@ -7,7 +9,9 @@ use Rattle.std.proofs.lemmas.List.Elements.{filter-append}
 use Rattle.op_ids.specs.Id.{is_same}
 use Rattle.op_ids.specs.Clock.{count_of, is_within, is_ready}
 use Rattle.op_model.specs.declared.op.Op.{Op}
-use Rattle.op_model.specs.Causality.{clock_of, made_by, first_failed, is_counted_up, names_inserts, is_within_limits, HasOp, MayFollow, FollowInTurn, IsCausallyClosed}
+use Rattle.op_model.specs.Causality.{clock_of, made_by, first_failed, is_counted_up, names_inserts}
+use Rattle.op_model.specs.Causality.{is_within_limits, HasOp, MayFollow, FollowInTurn}
+use Rattle.op_model.specs.Causality.{IsCausallyClosed}
 use Rattle.model_laws.proofs.Growth.{closed_front}
 use Rattle.model_laws.proofs.Ids.{equal_same}
 use Rattle.model_laws.proofs.Ready.{count_made}

@@ -1,5 +1,7 @@
 -- Each event of a replica, and each crash, keeps what the replica keeps; and what it tells is settled.
-use Rattle.std.proofs.Common.{◌≡◌, ℕ, ◌+◌, ◌≤◌, Bool, true, false, not, ◌&&◌, ◌⊎◌, inl, inr, List, [], ◌∷◌, ◌++◌, length, take, Option, Some, None, arith, ap, refl, sym, ◌∙◌, map, filter, take_all, length-append}
+use Rattle.std.proofs.Common.{◌≡◌, ℕ, ◌+◌, ◌≤◌, Bool, true, false, not, ◌&&◌, ◌⊎◌, inl, inr, List}
+use Rattle.std.proofs.Common.{[], ◌∷◌, ◌++◌, length, take, Option, Some, None, arith, ap, refl, sym}
+use Rattle.std.proofs.Common.{◌∙◌, map, filter, take_all, length-append}
 use Rattle.std.specs.Prelude.{◌==◌, nat_le, if◌then◌else◌, is_some}
 use Rattle.std.specs.List.{enumerate_from}
 use Rattle.std.proofs.lemmas.Bool.{cases_Bool}
@@ -13,7 +15,15 @@ use Rattle.op_model.specs.Causality.{clock_of, is_known, first_failed, is_within
 use Rattle.op_model.specs.Made.{numbered, made, greatest_counter, bodies_of, edit_refusal, is_at_rev, is_inside, is_small}
 use Rattle.op_model.specs.Held.{Held, with_edit, with_merge}
 use Rattle.op_model.specs.Telling.{due, untold}
-use Rattle.op_model.specs.Machine.{Commit, State, Ticket, Event, edit, merge, begin, device_step, settle, ack, tell, have, Answer, ticket, applied, known, early, begun, nothing_new, idle, goes_on, goes_through, settled_to, acknowledged, operations, clock, refused, holding, with_failure_told, has_record_room, with_room, edit_alone, edit_answer, edit_answer_unless, merge_answer, merge_alone, merge_answer_unless, through_of, through, EditStep, MergeStep, BeginStep, DeviceStep, SettleStep, AckStep, TellStep, HaveStep, Step, opened, reopened, CrashLeavesOf, CrashLeaves}
+use Rattle.op_model.specs.Machine.{Commit, State, Ticket, Event, edit, merge, begin, device_step}
+use Rattle.op_model.specs.Machine.{settle, ack, tell, have, Answer, ticket, applied, known, early}
+use Rattle.op_model.specs.Machine.{begun, nothing_new, idle, goes_on, goes_through, settled_to}
+use Rattle.op_model.specs.Machine.{acknowledged, operations, clock, refused, holding}
+use Rattle.op_model.specs.Machine.{with_failure_told, has_record_room, with_room, edit_alone}
+use Rattle.op_model.specs.Machine.{edit_answer, edit_answer_unless, merge_answer, merge_alone}
+use Rattle.op_model.specs.Machine.{merge_answer_unless, through_of, through, EditStep, MergeStep}
+use Rattle.op_model.specs.Machine.{BeginStep, DeviceStep, SettleStep, AckStep, TellStep, HaveStep}
+use Rattle.op_model.specs.Machine.{Step, opened, reopened, CrashLeavesOf, CrashLeaves}
 use Rattle.model_laws.proofs.Growth.{closed_push}
 use Rattle.model_laws.proofs.Makes.{closed_made}
 use Rattle.world_law.specs.World.{Message, IsInBag, told_by}

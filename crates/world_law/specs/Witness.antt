@@ -4,7 +4,9 @@ use Rattle.op_model.specs.declared.op.Op.{Op}
 use Rattle.op_model.specs.declared.op.Body.TheVariants as body
 use Rattle.op_model.specs.declared.edit.Edit.{Edit}
 use Rattle.op_model.specs.declared.edit.Change.TheVariants as change
-use Rattle.op_model.specs.Machine.{State, edit, merge, begin, device_step, settle, tell, ticket, applied, begun, goes_on, goes_through, settled_to, operations, opened, holding}
+use Rattle.op_model.specs.Machine.{State, edit, merge, begin, device_step, settle, tell, ticket}
+use Rattle.op_model.specs.Machine.{applied, begun, goes_on, goes_through, settled_to, operations}
+use Rattle.op_model.specs.Machine.{opened, holding}
 use Rattle.op_model.specs.Held.{opened_with, with_merge}
 use Rattle.world_law.specs.World.{operations_told, World}
 use Rattle.world_law.specs.Histories.{Happening, step, crash}
