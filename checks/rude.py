@@ -15,6 +15,8 @@ from program import insert, line, run
 
 SOON = 2
 SECONDS = 2
+# Between two bytes of a line that trickles: all of it takes longer than what is soon.
+TRICKLE = 0.1
 CONNECTIONS = 2_000
 # How many links there may be; seconds after which a peer that takes nothing is let go, and how many more it may be on a busy machine.
 LINKS, TAKES_NOTHING, SLACK = 8, 30, 10
@@ -29,7 +31,7 @@ def trickle(daemon, number):
     talk = daemon.talk()
     for byte in insert(0, "t", TRICKLED + number):
         talk.send(bytes([byte]))
-        time.sleep(0.05)
+        time.sleep(TRICKLE)
     if talk.answer() != {"ok": True, "rev": 1}:
         raise OSError("a request that came by the byte isn't answered")
     talk.close()
