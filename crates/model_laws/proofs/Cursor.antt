@@ -1,5 +1,7 @@
 -- Where an insert at a visible index stands in the walk: behind its origin, between two fronts of the text.
-use Rattle.std.proofs.Common.{◌≡◌, ℕ, zero, suc, ◌-◌, ◌≤◌, ◌<◌, Bool, true, false, not, inl, inr, List, [], ◌∷◌, ◌++◌, length, take, drop, filter, Option, Some, None, arith, ap, refl, ◌∙◌, sym}
+use Rattle.std.proofs.Common.{◌≡◌, ℕ, zero, suc, ◌-◌, ◌≤◌, ◌<◌, Bool, true, false, not, inl, inr}
+use Rattle.std.proofs.Common.{List, [], ◌∷◌, ◌++◌, length, take, drop, filter, Option, Some, None}
+use Rattle.std.proofs.Common.{arith, ap, refl, ◌∙◌, sym}
 use Rattle.std.specs.Prelude.{◌==◌}
 use Rattle.std.proofs.lemmas.Bool.{cases_Bool, ne_eqb, or_left, or_right, or_cases}
 use Rattle.op_ids.specs.Id.{Id, is_same, is_below}

@@ -27,3 +27,6 @@ pub mod Decided
 pub mod MarkEdits
 pub mod Above
 pub mod Up
+pub mod Overfull
+pub mod Limits
+pub mod EditLimits

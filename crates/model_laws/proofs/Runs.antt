@@ -1,5 +1,6 @@
 -- Spans: their texts make up the text, neighbours differ in their marks, and none is empty.
-use Rattle.std.proofs.Common.{◌≡◌, ◌↔◌, ℕ, ◌+◌, eqb, Bool, true, false, not, ◌&&◌, inl, inr, List, [], ◌∷◌, map, filter, Option, Some, None, arith, ap, refl, ◌∙◌}
+use Rattle.std.proofs.Common.{◌≡◌, ◌↔◌, ℕ, ◌+◌, eqb, Bool, true, false, not, ◌&&◌, inl, inr, List}
+use Rattle.std.proofs.Common.{[], ◌∷◌, map, filter, Option, Some, None, arith, ap, refl, ◌∙◌}
 use Rattle.std.specs.List.{concat}
 use Rattle.std.proofs.lemmas.Bool.{cases_Bool, and_parts, and_from, eqb-true, eq-eqb, false≢true}
 use Rattle.op_model.specs.declared.character.Character.{Character}

@@ -1,5 +1,7 @@
 -- There is one walk of the inserts of a document.
-use Rattle.std.proofs.Common.{◌≡◌, ◌≤◌, true, false, cond, ◌⊎◌, inl, inr, List, [], ◌∷◌, ◌++◌, Option, Some, None, arith, ap, refl, ◌∙◌, sym, append_assoc, append-nil}
+use Rattle.std.proofs.Common.{◌≡◌, ◌≤◌, true, false, cond, ◌⊎◌, inl, inr, List, [], ◌∷◌, ◌++◌}
+use Rattle.std.proofs.Common.{Option, Some, None, arith, ap, refl, ◌∙◌, sym, append_assoc}
+use Rattle.std.proofs.Common.{append-nil}
 use Rattle.std.proofs.lemmas.Bool.{cases_Bool, or_cases, false≢true, both_ways}
 use Rattle.op_ids.specs.Id.{Id, is_same, is_below}
 use Rattle.op_model.specs.declared.character.Character.{Character}

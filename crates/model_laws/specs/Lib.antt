@@ -3,3 +3,4 @@ pub mod IsWalk
 pub mod Changed
 pub mod Histories
 pub mod Rising
+pub mod Asking

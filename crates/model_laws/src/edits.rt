@@ -17,17 +17,19 @@ ghost use Rattle.op_model.specs.Placing.{has_id, FitInTurn, IsOrderly};
 ghost use Rattle.op_model.specs.Walk.{walk};
 ghost use Rattle.model_laws.specs.Changed.{changed, EndedMarksStay, IsJustBefore};
 
-/// The operations that an edit makes may follow the list one after another, wherever they keep the limits of a store: so
-/// a causally closed list stays so.
+/// The operations that an edit makes may follow the list one after another, wherever they keep the
+/// limits of a store: so a causally closed list stays so.
 pub fn edits_keep_lists_closed()
     ensures follow { (ops : List Op) (replica : ℕ) (edit : Edit)
-        → is_within_limits (ops ++ made ops replica edit) ≡ true → FollowInTurn ops (made ops replica edit) }
+        → is_within_limits (ops ++ made ops replica edit) ≡ true
+        → FollowInTurn ops (made ops replica edit) }
     ensures closed { (ops : List Op) (replica : ℕ) (edit : Edit) → IsCausallyClosed ops
-        → is_within_limits (ops ++ made ops replica edit) ≡ true → IsCausallyClosed (ops ++ made ops replica edit) }
+        → is_within_limits (ops ++ made ops replica edit) ≡ true
+        → IsCausallyClosed (ops ++ made ops replica edit) }
 {}
 
-/// The text after an edit is the text before it with the edit's change: a text inserted at its index, so many characters
-/// left out from an index on, or, for a mark, the same text.
+/// The text after an edit is the text before it with the edit's change: a text inserted at its
+/// index, so many characters left out from an index on, or, for a mark, the same text.
 pub fn edits_change_the_text()
     ensures { (ops : List Op) (replica : ℕ) (edit : Edit) → IsCausallyClosed ops
         → is_inside (length (visible ops edit.doc)) edit.change ≡ true
@@ -49,8 +51,10 @@ pub fn ended_marks_dont_grow()
         → IsCausallyClosed ops → edit.change ≡ change.Insert at added
         → is_inside (length (visible ops edit.doc)) edit.change ≡ true
         → is_within_limits (ops ++ made ops replica edit) ≡ true
-        → Contains (markings ops edit.doc) m → m.end ≡ end.To (After id) → IsJustBefore ops edit.doc at id
-        → walk (ops ++ made ops replica edit) edit.doc ≡ front ++ c ∷ rest → has_id (walk ops edit.doc) c.id ≡ false
+        → Contains (markings ops edit.doc) m → m.end ≡ end.To (After id)
+        → IsJustBefore ops edit.doc at id
+        → walk (ops ++ made ops replica edit) edit.doc ≡ front ++ c ∷ rest
+        → has_id (walk ops edit.doc) c.id ≡ false
         → covers (walk (ops ++ made ops replica edit) edit.doc) (length front) m ≡ false }
 {}
 
@@ -63,5 +67,6 @@ pub fn made_operations_fit()
 /// The ids that an edit makes are greater than all in the list.
 pub fn made_ids_are_greater()
     ensures { (ops : List Op) (replica : ℕ) (edit : Edit)
-        → list_all (λ op. list_all (λ earlier. is_below earlier.id op.id) ops) (made ops replica edit) ≡ true }
+        → list_all (λ op. list_all (λ earlier. is_below earlier.id op.id) ops)
+        (made ops replica edit) ≡ true }
 {}

@@ -1,4 +1,5 @@
-//! Laws of the order and the text: what follows from the definitions of the model, for every list of operations.
+//! Laws of the order and the text: what follows from the definitions of the model, for every list
+//! of operations.
 #![tactic(auto)]
 
 mod edits;

@@ -13,25 +13,30 @@ ghost use Rattle.op_model.specs.Text.{is_removed, visible};
 ghost use Rattle.op_model.specs.Walk.{walk};
 ghost use Rattle.model_laws.specs.Changed.{is_between, shown_before};
 
-/// After a mark edit the visible characters from its first index to its end have that mark, or for an unmark no mark of
-/// that key. Every other decision, of another key or another character, is as before.
+/// After a mark edit the visible characters from its first index to its end have that mark, or for
+/// an unmark no mark of that key. Every other decision, of another key or another character, is as
+/// before.
 pub fn edits_mark_what_they_say()
-    ensures mark { (ops : List Op) (replica : ℕ) (edit : Edit) (from to : ℕ) (mark : Mark) (key : MarkKey)
-        (front rest : List Character) (c : Character) → IsCausallyClosed ops → edit.change ≡ change.Mark from to mark
+    ensures mark { (ops : List Op) (replica : ℕ) (edit : Edit) (from to : ℕ)
+        (mark : Mark) (key : MarkKey) (front rest : List Character) (c : Character)
+        → IsCausallyClosed ops → edit.change ≡ change.Mark from to mark
         → is_inside (length (visible ops edit.doc)) edit.change ≡ true
         → is_within_limits (ops ++ made ops replica edit) ≡ true
         → walk ops edit.doc ≡ front ++ c ∷ rest → is_removed ops edit.doc c ≡ false
-        → decided (walk (ops ++ made ops replica edit) edit.doc) (markings (ops ++ made ops replica edit) edit.doc)
-        (length front) key
-        ≡ (if is_key (key_of mark) key && is_between from to (shown_before ops edit.doc front) then Some mark
+        → decided (walk (ops ++ made ops replica edit) edit.doc)
+        (markings (ops ++ made ops replica edit) edit.doc) (length front) key
+        ≡ (if is_key (key_of mark) key && is_between from to (shown_before ops edit.doc front)
+        then Some mark
         else decided (walk ops edit.doc) (markings ops edit.doc) (length front) key) }
-    ensures unmark { (ops : List Op) (replica : ℕ) (edit : Edit) (from to : ℕ) (unmarked key : MarkKey)
-        (front rest : List Character) (c : Character) → IsCausallyClosed ops → edit.change ≡ change.Unmark from to unmarked
+    ensures unmark { (ops : List Op) (replica : ℕ) (edit : Edit) (from to : ℕ)
+        (unmarked key : MarkKey) (front rest : List Character) (c : Character)
+        → IsCausallyClosed ops → edit.change ≡ change.Unmark from to unmarked
         → is_inside (length (visible ops edit.doc)) edit.change ≡ true
         → is_within_limits (ops ++ made ops replica edit) ≡ true
         → walk ops edit.doc ≡ front ++ c ∷ rest → is_removed ops edit.doc c ≡ false
-        → decided (walk (ops ++ made ops replica edit) edit.doc) (markings (ops ++ made ops replica edit) edit.doc)
-        (length front) key
-        ≡ (if is_key unmarked key && is_between from to (shown_before ops edit.doc front) then None
+        → decided (walk (ops ++ made ops replica edit) edit.doc)
+        (markings (ops ++ made ops replica edit) edit.doc) (length front) key
+        ≡ (if is_key unmarked key && is_between from to (shown_before ops edit.doc front)
+        then None
         else decided (walk ops edit.doc) (markings ops edit.doc) (length front) key) }
 {}

@@ -14,10 +14,12 @@ ghost use Rattle.model_laws.specs.Apart.{AreApart, AreFull};
 
 /// The texts of the spans, joined, are the text of the document.
 pub fn spans_make_up_the_text()
-    ensures { (ops : List Op) (doc : ℕ) → concat (map (λ s. s.text) (spans ops doc)) ≡ text ops doc }
+    ensures { (ops : List Op) (doc : ℕ)
+        → concat (map (λ s. s.text) (spans ops doc)) ≡ text ops doc }
 {}
 
-/// The spans are the greatest runs with equal marks: neighbours have different marks, and none is empty.
+/// The spans are the greatest runs with equal marks: neighbours have different marks, and none is
+/// empty.
 pub fn spans_are_greatest_runs()
     ensures apart { (ops : List Op) (doc : ℕ) → AreApart (spans ops doc) }
     ensures full { (ops : List Op) (doc : ℕ) → AreFull (spans ops doc) }
@@ -33,12 +35,14 @@ pub fn is_key_decides()
     ensures { (a b : MarkKey) → (is_key a b ≡ true) ↔ (a ≡ b) }
 {}
 
-/// What decides a key of a character is one of the mark operations of that key that cover it. Where there is any, one
-/// decides, and none of them has a greater id.
+/// What decides a key of a character is one of the mark operations of that key that cover it. Where
+/// there is any, one decides, and none of them has a greater id.
 pub fn the_greatest_id_decides()
-    ensures covering { (cs : List Character) (ms : List Marking) (k : ℕ) (key : MarkKey) (m : Marking)
-        → deciding cs ms k key ≡ Some m → Contains ms m × (is_key m.key key ≡ true) × (covers cs k m ≡ true) }
-    ensures greatest { (cs : List Character) (ms : List Marking) (k : ℕ) (key : MarkKey) (other : Marking)
+    ensures covering { (cs : List Character) (ms : List Marking) (k : ℕ)
+        (key : MarkKey) (m : Marking) → deciding cs ms k key ≡ Some m
+        → Contains ms m × (is_key m.key key ≡ true) × (covers cs k m ≡ true) }
+    ensures greatest { (cs : List Character) (ms : List Marking) (k : ℕ)
+        (key : MarkKey) (other : Marking)
         → Contains ms other → is_key other.key key ≡ true → covers cs k other ≡ true
         → (m : Marking) × (deciding cs ms k key ≡ Some m) × (is_below m.id other.id ≡ false) }
 {}

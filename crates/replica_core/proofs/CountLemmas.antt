@@ -7,7 +7,7 @@ use Rattle.op_ids.proofs.FullLemmas.{IsOverfull-advanced}
 use Rattle.op_model.specs.declared.op.Op.{Op}
 use Rattle.op_model.specs.Causality.{clock_of, is_within_limits}
 use Rattle.model_laws.proofs.Ready.{clock-push}
-use Rattle.slow_programs.proofs.EditLemmas.{is_within_limits-full}
+use Rattle.model_laws.proofs.EditLimits.{is_within_limits-full}
 use Rattle.replica_core.proofs.FollowLemmas.{count_more}
 
 -- a clock can count a list within the limits

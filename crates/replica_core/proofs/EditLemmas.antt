@@ -13,7 +13,7 @@ use Rattle.op_model.specs.Causality.{clock_of, has_room, is_in_range, IsCausally
 use Rattle.op_model.specs.Made.{bodies_of, edit_refusal, greatest_counter, is_small, size_of}
 use Rattle.op_ids.proofs.RoomLemmas.{overfull_from}
 use Rattle.doc_core.specs.Limits.{keep_limits}
-use Rattle.slow_programs.proofs.EditLemmas.{is_within_limits-over, is_within_limits-uncounted, length-bodies_of}
+use Rattle.model_laws.proofs.EditLimits.{is_within_limits-over, is_within_limits-uncounted, length-bodies_of}
 use Rattle.replica_core.proofs.FollowLemmas.{at_most, greatest_within}
 use Rattle.replica_core.proofs.LimitLemmas.{closed_within}
 use Rattle.replica_core.proofs.SoundLemmas.{due_asks_right, due_within}

@@ -12,7 +12,7 @@ use Rattle.op_ids.specs.Clock.{advanced}
 use Rattle.std.proofs.lemmas.List.{drop_more, take_more, take-append-drop}
 use Rattle.model_laws.proofs.Growth.{closed_push, closed_front, closed_rest}
 use Rattle.model_laws.proofs.Ready.{clock-push}
-use Rattle.slow_programs.proofs.LimitLemmas.{stream_length-append}
+use Rattle.model_laws.proofs.Limits.{stream_length-append}
 use Rattle.replica_core.specs.declared.index.Index.{Index}
 use Rattle.replica_core.specs.Deciding.{AreCounted}
 use Rattle.replica_core.specs.Indexes.{IsIndexOf}

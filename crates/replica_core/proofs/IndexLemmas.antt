@@ -8,7 +8,7 @@ use Rattle.op_model.specs.declared.op.Op.{Op}
 use Rattle.op_model.specs.Causality.{made_by}
 use Rattle.op_model.specs.Records.{record_length, stream_length}
 use Rattle.model_laws.proofs.Ready.{greatest-push}
-use Rattle.slow_programs.proofs.LimitLemmas.{stream_length-append}
+use Rattle.model_laws.proofs.Limits.{stream_length-append}
 use Rattle.replica_core.specs.declared.index.Index.{Index}
 use Rattle.replica_core.specs.Indexes.{IsIndexOf}
 use Rattle.replica_core.specs.Makers.{places_of, at_places, AreBelow}

@@ -22,8 +22,8 @@ use Rattle.op_model.specs.Made.{tombstones_at, is_inside, end_of, ends_after, la
 use Rattle.op_model.specs.Made.{end_after, greatest_counter, numbered, insert_bodies, bodies_of, made, size_of}
 use Rattle.op_model.specs.Records.{origin_length, head_length, start_length, end_length, mark_length, key_length, stream_length}
 use Rattle.op_model.specs.Text.{visible}
-use Rattle.slow_programs.specs.Asking.{IsAskedRight}
-use Rattle.slow_programs.proofs.EditLemmas.{length-bodies_of}
+use Rattle.model_laws.specs.Asking.{IsAskedRight}
+use Rattle.model_laws.proofs.EditLimits.{length-bodies_of}
 use Rattle.replica_core.specs.Deciding.{lengths}
 
 id_at_there : (cs : List Character) (i : ℕ) → i < length cs → (id : Id) × (id_at cs i ≡ Some id)

@@ -16,10 +16,10 @@ use Rattle.op_model.specs.Records.{stream_length, record_length}
 use Rattle.model_laws.proofs.Ready.{clock-push}
 use Rattle.op_model.specs.Spans.{with_number}
 use Rattle.model_laws.proofs.Deciding.{number_swapped}
-use Rattle.slow_programs.specs.Asking.{IsAskedRight}
-use Rattle.slow_programs.proofs.EditLemmas.{clock_of-numbered, length-bodies_of, length-numbered, is_within_limits-uncounted, is_within_limits-full}
-use Rattle.slow_programs.proofs.Full.{IsOverfull-advanced_by}
-use Rattle.slow_programs.proofs.LimitLemmas.{within-append}
+use Rattle.model_laws.specs.Asking.{IsAskedRight}
+use Rattle.model_laws.proofs.EditLimits.{clock_of-numbered, length-bodies_of, length-numbered, is_within_limits-uncounted, is_within_limits-full}
+use Rattle.model_laws.proofs.Overfull.{IsOverfull-advanced_by}
+use Rattle.model_laws.proofs.Limits.{within-append}
 use Rattle.replica_core.proofs.LengthLemmas.{length-advanced_twice}
 
 within_in_turn : (before ops : List Op) → is_within_limits before ≡ true → FollowInTurn before ops → is_within_limits (before ++ ops) ≡ true

@@ -23,7 +23,7 @@ use Rattle.op_model.specs.Text.{rev, visible}
 use Rattle.model_laws.proofs.Growth.{closed_push}
 use Rattle.model_laws.proofs.Makes.{closed_made}
 use Rattle.model_laws.proofs.Ready.{clock-push}
-use Rattle.slow_programs.specs.Asking.{IsAskedRight}
+use Rattle.model_laws.specs.Asking.{IsAskedRight}
 use Rattle.doc_core.specs.declared.doc.Doc.{Doc}
 use Rattle.char_sequence.specs.Content.{FitAfter}
 use Rattle.model_laws.proofs.Closed.{follows_fits}
@@ -67,12 +67,16 @@ room_of_operations a b c d e all = grind (arith, nat_tests)
 at_most_from : (n last : ℕ) → nat_le n last ≡ true → n ≤ last
 at_most_from n last small = grind (arith, nat_tests)
 
--- so the list has room for its operations
-pub due_fits : (ops : List Op) (replica : ℕ) (e : Edit) → edit_refusal ops replica e ≡ None → length ops + length (made ops replica e) ≤ 16777216
-due_fits ops replica e due =
-    let all = ops ++ made ops replica e in
-    let small = room_of_operations (list_all is_in_range all) (nat_le (length (clock_of all)) 16) (nat_le (length (documents all)) 1024) (nat_le (length all) 16777216) (nat_le (stream_length all) 1073741824) (due_within ops replica e due) in
+-- a list has room for what comes behind it within the limits
+pub list_fits : (ops more : List Op) → is_within_limits (ops ++ more) ≡ true → length ops + length more ≤ 16777216
+list_fits ops more limits =
+    let all = ops ++ more in
+    let small = room_of_operations (list_all is_in_range all) (nat_le (length (clock_of all)) 16) (nat_le (length (documents all)) 1024) (nat_le (length all) 16777216) (nat_le (stream_length all) 1073741824) limits in
     rw length-append at (at_most_from (length all) 16777216 small)
+
+-- so it has room for an edit's operations
+pub due_fits : (ops : List Op) (replica : ℕ) (e : Edit) → edit_refusal ops replica e ≡ None → length ops + length (made ops replica e) ≤ 16777216
+due_fits ops replica e due = list_fits ops (made ops replica e) (due_within ops replica e due)
 
 numbered_own : (replica doc counter : ℕ) (clock : List (ℕ × ℕ)) (bs : List Body)
     → made_by replica (numbered replica doc counter clock bs) ≡ numbered replica doc counter clock bs

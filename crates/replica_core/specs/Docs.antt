@@ -39,3 +39,8 @@ draft_numbers ds = map draft_number ds
 abbrev pub AllDrafts : List Draft → List Op → Type 0
 AllDrafts [] ops = Unit {0}
 AllDrafts (d ∷ ds) ops = IsDraftOf d ops × AllDrafts ds ops
+
+-- these are drafts of a list, one for each of these numbers
+pub record AreDrafts (ds : List Draft) (ns : List ℕ) (ops : List Op) : Type 0 where
+  pub numbers : draft_numbers ds ≡ ns
+  pub drafts : AllDrafts ds ops

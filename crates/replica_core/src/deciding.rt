@@ -7,7 +7,7 @@ ghost use Rattle.op_model.specs.Records.{stream_length};
 ghost use Rattle.op_model.specs.Spans.{with_number};
 ghost use Rattle.replica_core.specs.Deciding.{AreCounted};
 ghost use Rattle.replica_core.specs.Refusal.{number_of};
-ghost use Rattle.slow_programs.specs.Asking.{IsAskedRight};
+ghost use Rattle.model_laws.specs.Asking.{IsAskedRight};
 
 use crate::docs::count;
 use crate::index::Index;

@@ -5,7 +5,7 @@ ghost use Rattle.op_model.specs.declared.op.Op.{Op};
 ghost use Rattle.op_model.specs.Causality.{documents, IsCausallyClosed};
 ghost use Rattle.op_model.specs.Spans.{with_number};
 ghost use Rattle.replica_core.specs.Docs.{draft_numbers, numbers as doc_numbers};
-ghost use Rattle.replica_core.specs.Docs.{AllDrafts, AllStand, AreDocs};
+ghost use Rattle.replica_core.specs.Docs.{AllDrafts, AllStand, AreDocs, AreDrafts};
 
 use crate::document_numbers::place;
 use crate::refusal::Refusal;
@@ -30,8 +30,7 @@ pub fn documents_of(alloc: Global, list: &OpSlice<'_>, numbers: &[u32]) -> Resul
 
 /// The drafts of documents without operations. An error is want of memory (1).
 fn empty(alloc: Global, numbers: &[u32]) -> Result<Vec<Draft>, AllocError>
-    ensures numbers { IfOk result (λ drafts. draft_numbers drafts.items ≡ numbers.now) }
-    ensures drafts { IfOk result (λ drafts. AllDrafts drafts.items []) }
+    ensures { IfOk result (λ drafts. AreDrafts drafts.items numbers.now []) }
 {
     let mut drafts = Vec::with_capacity(alloc, numbers.len())?;
     for number in numbers {
@@ -51,10 +50,8 @@ fn apply_all(
 ) -> Result<(), Refusal>
     requires closed { IsCausallyClosed list.now }
     requires numbers { numbers.now ≡ documents list.now }
-    requires drafts { draft_numbers drafts.old.items ≡ numbers.now }
-    requires empty { AllDrafts drafts.old.items [] }
-    ensures numbers { OnOk result (draft_numbers drafts.new.items ≡ numbers.now) }
-    ensures drafts { OnOk result (AllDrafts drafts.new.items list.now) }
+    requires empty { AreDrafts drafts.old.items numbers.now [] }
+    ensures drafts { OnOk result (AreDrafts drafts.new.items numbers.now list.now) }
     ensures memory { IfErr result (λ e. e ≡ Refusal.Memory) }
 {
     for i in 0..list.len() {
@@ -67,14 +64,13 @@ fn apply_all(
 /// Gives an operation that may come to its document's draft. An error is want of memory (1). A
 /// search by halves for the document, and what its draft takes for it.
 fn apply(drafts: &mut Vec<Draft>, numbers: &[u32], op: &Op) -> Result<(), Refusal>
-    requires numbers { draft_numbers drafts.old.items ≡ numbers.now }
     requires rising { IsUp numbers.now }
     requires there { with_number op.now.doc numbers.now ≡ numbers.now }
-    requires may_come { (ops : List Op) × AllDrafts drafts.old.items ops
+    requires may_come { (ops : List Op) × AreDrafts drafts.old.items numbers.now ops
         × Fits ops op.now.doc op.now }
-    ensures numbers { OnOk result (draft_numbers drafts.new.items ≡ numbers.now) }
-    ensures drafts { OnOk result ((ops : List Op) → AllDrafts drafts.old.items ops
-        → Fits ops op.now.doc op.now → AllDrafts drafts.new.items (ops ++ op.now ∷ [])) }
+    ensures drafts { OnOk result ((ops : List Op) → AreDrafts drafts.old.items numbers.now ops
+        → Fits ops op.now.doc op.now
+        → AreDrafts drafts.new.items numbers.now (ops ++ op.now ∷ [])) }
     ensures memory { IfErr result (λ e. e ≡ Refusal.Memory) }
 {
     match place(numbers, op.doc) {

@@ -8,7 +8,7 @@ ghost use Rattle.op_model.specs.Made.{bodies_of, end_of, is_inside, is_small, ma
 ghost use Rattle.op_model.specs.Records.{end_length, head_length as head_length_of, origin_length, stream_length};
 ghost use Rattle.op_model.specs.Text.{visible};
 ghost use Rattle.replica_core.specs.Deciding.{lengths};
-ghost use Rattle.slow_programs.specs.Asking.{IsAskedRight};
+ghost use Rattle.model_laws.specs.Asking.{IsAskedRight};
 
 use doc_core::Doc;
 use op_ids::{Clock, ReplicaId};

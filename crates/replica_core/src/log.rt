@@ -1,10 +1,9 @@
-ghost use Rattle.std.specs.Prelude.{◌≡◌, ◌+◌, ◌≤◌, ◌<◌, ◌^◌, length, OnOk, OnErr, IsErrOf};
+ghost use Rattle.std.specs.Prelude.{◌≡◌, OnOk, OnErr, IsErrOf};
 ghost use Rattle.char_sequence.specs.Content.{FitAfter};
 ghost use Rattle.op_model.specs.Causality.{made_by};
-ghost use Rattle.op_model.specs.Records.{stream_length};
 ghost use Rattle.replica_core.specs.Decided.{IsPlace};
 ghost use Rattle.replica_core.specs.Docs.{numbers, AreDocs};
-ghost use Rattle.replica_core.specs.Log.{IsSame, IsAppended};
+ghost use Rattle.replica_core.specs.Log.{HasRoom, IsAppended, IsSame};
 
 use crate::docs;
 use crate::index::Index;
@@ -35,10 +34,8 @@ impl Log {
         place: Result<usize, usize>,
     ) -> Result<(), SequenceError>
         requires place { IsPlace (numbers self.old.docs.items) doc place }
-        requires few { length self.old.list + length made.now ≤ 16777216 }
+        requires room { HasRoom self.old made.now }
         requires own { made_by replica made.now ≡ made.now }
-        requires stream { self.old.index.stream ≡ stream_length self.old.list }
-        requires small { stream_length self.old.list + stream_length made.now < 2 ^ 32 }
         ensures ok { OnOk result (IsAppended self.old self.new made.now doc) }
         ensures known { IsErrOf result SequenceError.UnknownId
             → AreDocs self.old.docs.items self.old.list

@@ -41,7 +41,8 @@ fn first(places: &[u32], count: usize) -> &[u32]
 fn has_insert(ops: &OpSlice<'_>, places: &[u32], doc: u32, id: &OpId) -> bool
     requires below { AreBelow (length ops.now) places.now }
     requires climb { Climb (at_places ops.now places.now) }
-    ensures { result ≡ list_any (λ op. is_same op.id id.now && op.doc == doc && is_insert_of op.body)
+    ensures { result
+        ≡ list_any (λ op. is_same op.id id.now && op.doc == doc && is_insert_of op.body)
         (at_places ops.now places.now) }
 {
     let guess = guessed(ops, places, id.counter());
@@ -71,7 +72,8 @@ fn guessed(ops: &OpSlice<'_>, places: &[u32], counter: u64) -> usize
 fn has_insert_by_halves(ops: &OpSlice<'_>, places: &[u32], doc: u32, id: &OpId) -> bool
     requires below { AreBelow (length ops.now) places.now }
     requires climb { Climb (at_places ops.now places.now) }
-    ensures { result ≡ list_any (λ op. is_same op.id id.now && op.doc == doc && is_insert_of op.body)
+    ensures { result
+        ≡ list_any (λ op. is_same op.id id.now && op.doc == doc && is_insert_of op.body)
         (at_places ops.now places.now) }
 {
     let wanted = id.counter();

@@ -1,3 +1,2 @@
 pub mod Full
-pub mod LimitLemmas
 pub mod EditLemmas

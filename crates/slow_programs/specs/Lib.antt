@@ -1,3 +1,2 @@
-pub mod Asking
 pub mod EditError
 pub mod Joining

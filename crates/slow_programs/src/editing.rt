@@ -8,7 +8,7 @@ ghost use Rattle.op_model.specs.Made.{start_before as start_before_of, end_befor
 ghost use Rattle.op_model.specs.Made.{end_after as end_after_of, end_of, size_of};
 ghost use Rattle.op_model.specs.Made.{greatest_counter as greatest_in};
 ghost use Rattle.slow_programs.specs.EditError.{number_of};
-ghost use Rattle.slow_programs.specs.Asking.{IsAskedRight};
+ghost use Rattle.model_laws.specs.Asking.{IsAskedRight};
 
 use crate::edit_error::EditError;
 use crate::limits::is_within_limits;
@@ -77,8 +77,8 @@ fn end_after(id: Option<OpId>) -> End
     }
 }
 
-/// Strong and em end just before the next visible character, or at the end of the text: they grow there. A link
-/// and a comment end just after their last character: they don't.
+/// Strong and em end just before the next visible character, or at the end of the text: they grow
+/// there. A link and a comment end just after their last character: they don't.
 fn end(seen: &[Character], key: &MarkKey, to: usize) -> End
     ensures { result ≡ end_of seen.now key.now to }
 {
@@ -101,7 +101,8 @@ fn bodies(
     requires inside { is_inside_of (length seen.now) edit.now.change ≡ true }
     requires counter { counter ≡ greatest_in ops.now + 1 }
     requires in_range { counter + size_of edit.now.change ≤ 2 ^ 48 }
-    ensures { IfOk result (λ bodies. bodies.items ≡ bodies_in ops.now replica edit.now.doc edit.now.change) }
+    ensures { IfOk result (λ bodies. bodies.items
+        ≡ bodies_in ops.now replica edit.now.doc edit.now.change) }
 {
     let mut bodies = Vec::new(alloc);
     match &edit.change {
@@ -142,7 +143,8 @@ fn remove_bodies(alloc: Global, removed: &[Character]) -> Result<Vec<Body>, Allo
         .collect(alloc)
 }
 
-/// The characters that a reader sees of the edit's document, where nothing but a limit of the store may refuse the edit.
+/// The characters that a reader sees of the edit's document, where nothing but a limit of the store
+/// may refuse the edit.
 fn readable(alloc: Global, ops: &[Op], edit: &Edit) -> Result<Vec<Character>, EditError>
     ensures seen { IfOk result (λ seen. seen.items ≡ visible_of ops.now edit.now.doc) }
     ensures ok { IfOk result (λ _. IsAskedRight ops.now edit.now) }
@@ -196,9 +198,9 @@ fn made_within(
     Ok(made)
 }
 
-/// The operations that an edit adds to a replica's list. It is refused by the first cause, in this order: `Stale` (6),
-/// `Range` (5), `Limit` (7). `Memory` (1), where a growth was refused, may stand in place of the last two, since the
-/// document is read before they are tested.
+/// The operations that an edit adds to a replica's list. It is refused by the first cause, in this
+/// order: `Stale` (6), `Range` (5), `Limit` (7). `Memory` (1), where a growth was refused, may
+/// stand in place of the last two, since the document is read before they are tested.
 pub fn made(
     alloc: Global,
     ops: &[Op],

@@ -1,7 +1,9 @@
 ghost use Rattle.std.specs.Prelude.{◌≡◌, ◌+◌, ◌≤◌, ◌<◌, length, IfOk, Option, Some, None, filter};
 ghost use Rattle.std.specs.Option.{option_copied};
 ghost use Rattle.op_model.specs.Marks.{markings as markings_of};
-ghost use Rattle.op_model.specs.Places.{index_of as index_in, place as place_of, start_place as start_place_of, end_place as end_place_of, covers as is_covered};
+ghost use Rattle.op_model.specs.Places.{index_of as index_in, place as place_of};
+ghost use Rattle.op_model.specs.Places.{start_place as start_place_of, end_place as end_place_of};
+ghost use Rattle.op_model.specs.Places.{covers as is_covered};
 ghost use Rattle.op_model.specs.Spans.{deciding as deciding_of, decided as decided_of, comment_ids as comment_ids_of, marks_of as marks_at};
 
 use op_ids::OpId;

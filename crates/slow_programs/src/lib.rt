@@ -1,4 +1,5 @@
-//! The definitions of the model as plain programs over a list of operations: slow, but exactly what they say.
+//! The definitions of the model as plain programs over a list of operations: slow, but exactly what
+//! they say.
 #![tactic(auto)]
 
 mod edit_error;

@@ -9,9 +9,9 @@ use op_ids::Clock;
 use op_model::{MAX_DOCUMENTS, MAX_OPERATIONS, MAX_STREAM_LENGTH, Op};
 use std::alloc::{AllocError, Global};
 
-/// Whether the operations, and then those made, keep the limits of a store. The clock counts all of them. An error is
-/// want of memory (1).
-#[tactic(auto, using(crate::proofs::LimitLemmas::parts))]
+/// Whether the operations, and then those made, keep the limits of a store. The clock counts all of
+/// them. An error is want of memory (1).
+#[tactic(auto, using(model_laws::proofs::Limits::parts))]
 pub fn is_within_limits(
     alloc: Global,
     ops: &[Op],
@@ -61,9 +61,11 @@ fn has_stream(ops: &[Op], made: &[Op]) -> bool
     }
 }
 
-/// What is left of so many bytes behind the records of the operations, or `None` where they don't fit.
+/// What is left of so many bytes behind the records of the operations, or `None` where they don't
+/// fit.
 fn room_behind(ops: &[Op], room: u64) -> Option<u64>
-    ensures { MatchOption result (room < stream_length ops.now) (λ left. left + stream_length ops.now ≡ room) }
+    ensures { MatchOption result (room < stream_length ops.now)
+        (λ left. left + stream_length ops.now ≡ room) }
 {
     let mut left = room;
     for op in ops {
@@ -111,7 +113,8 @@ fn insert_rising(documents: &mut Vec<u32>, doc: u32) -> Result<(), AllocError>
 
 /// Where a document goes in a rising list, or `None` where it is there.
 fn place_rising(documents: &[u32], doc: u32) -> Option<usize>
-    ensures { MatchOption result (with_number doc documents.now ≡ documents.now) (λ at. (at ≤ length documents.now)
+    ensures { MatchOption result (with_number doc documents.now ≡ documents.now)
+        (λ at. (at ≤ length documents.now)
         × (with_number doc documents.now ≡ take at documents.now ++ doc ∷ drop at documents.now)) }
 {
     for (i, other) in documents.iter().enumerate() {

@@ -6,7 +6,8 @@ use op_ids::OpId;
 use op_model::{Character, Op};
 use std::alloc::{AllocError, Global};
 
-/// The characters that were ever inserted into a document, in rising order of id. An error is want of memory (1).
+/// The characters that were ever inserted into a document, in rising order of id. An error is want
+/// of memory (1).
 pub fn characters(alloc: Global, ops: &[Op], doc: u32) -> Result<Vec<Character>, AllocError>
     ensures { IfOk result (λ found. found.items ≡ characters_of ops.now doc) }
 {
@@ -21,8 +22,8 @@ pub fn characters(alloc: Global, ops: &[Op], doc: u32) -> Result<Vec<Character>,
     Ok(found)
 }
 
-/// All characters of a document in the order of its text, tombstones too. An error is want of memory (1).
-/// Recurses as deep as inserts hang below one another.
+/// All characters of a document in the order of its text, tombstones too. An error is want of
+/// memory (1). Recurses as deep as inserts hang below one another.
 pub fn walk(alloc: Global, ops: &[Op], doc: u32) -> Result<Vec<Character>, AllocError>
     ensures { IfOk result (λ walked. walked.items ≡ walk_of ops.now doc) }
 {

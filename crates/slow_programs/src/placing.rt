@@ -1,6 +1,8 @@
 ghost use Rattle.std.specs.Prelude.{◌≡◌, ◌≤◌, ◌<◌, length, drop, Option, filter};
 ghost use Rattle.op_model.specs.Text.{is_removed as is_removed_in};
-ghost use Rattle.op_model.specs.Made.{first_hidden, behind_visible, is_end_after, is_marking_up_to, ends_after as ends_after_in, id_at as id_at_in, id_before as id_before_in, last_or};
+ghost use Rattle.op_model.specs.Made.{first_hidden, behind_visible, is_end_after, is_marking_up_to};
+ghost use Rattle.op_model.specs.Made.{ends_after as ends_after_in, id_at as id_at_in};
+ghost use Rattle.op_model.specs.Made.{id_before as id_before_in, last_or};
 
 use crate::reading::is_removed;
 use op_ids::OpId;
@@ -53,7 +55,8 @@ pub fn id_before(characters: &[Character], count: usize) -> Option<OpId>
     id_at(characters, count - 1)
 }
 
-/// How many characters are up to and with so many visible ones: what stands behind them begins there.
+/// How many characters are up to and with so many visible ones: what stands behind them begins
+/// there.
 pub fn behind(ops: &[Op], doc: u32, walked: &[Character], count: usize) -> usize
     ensures within { result ≤ length walked.now }
     ensures rest { drop result walked.now
@@ -71,10 +74,12 @@ pub fn behind(ops: &[Op], doc: u32, walked: &[Character], count: usize) -> usize
     walked.len()
 }
 
-/// Of the tombstones that these characters begin with the last one that some mark ends after, or else this character.
+/// Of the tombstones that these characters begin with the last one that some mark ends after, or
+/// else this character.
 pub fn last_end(ops: &[Op], doc: u32, before: Option<OpId>, rest: &[Character]) -> Option<OpId>
     ensures { result ≡ last_or before
-        (filter (λ c. ends_after_in ops.now doc c.id) (first_hidden (is_removed_in ops.now doc) rest.now)) }
+        (filter (λ c. ends_after_in ops.now doc c.id)
+        (first_hidden (is_removed_in ops.now doc) rest.now)) }
 {
     let mut last = before;
     for character in rest {

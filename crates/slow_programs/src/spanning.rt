@@ -8,7 +8,8 @@ use crate::reading::is_removed;
 use op_model::{Marks, Op, Span, Text};
 use std::alloc::{AllocError, Global};
 
-/// The greatest runs of visible characters of a document with equal marks. An error is want of memory (1).
+/// The greatest runs of visible characters of a document with equal marks. An error is want of
+/// memory (1).
 pub fn spans(alloc: Global, ops: &[Op], doc: u32) -> Result<Vec<Span>, AllocError>
     ensures { IfOk result (λ found. found.items ≡ spans_of ops.now doc) }
 {

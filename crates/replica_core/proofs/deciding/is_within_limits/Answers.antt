@@ -3,7 +3,7 @@ use Rattle.std.proofs.lemmas.Bool.Decides.{nat_tests}
 use Rattle.std.proofs.lemmas.Bool.{lt-ltb}
 use Rattle.op_ids.specs.Clock.{advanced, is_clock, IsOverfull}
 use Rattle.op_model.specs.Causality.{clock_of}
-use Rattle.slow_programs.proofs.EditLemmas.{is_within_limits-over}
+use Rattle.model_laws.proofs.EditLimits.{is_within_limits-over}
 use Rattle.replica_core.proofs.LimitLemmas.{is_within_limits-no_document, is_within_limits-overfull, is_within_limits-made}
 use Rattle.replica_core.proofs.deciding.is_within_limits.Goals as goal
 

@@ -16,16 +16,13 @@ pub apply-requires-clause-may_come : goal.apply-requires-clause-may_come
 apply-requires-clause-may_come c =
     let front = follows_front c.args.list.now c.loop-i.i c.in_ok-op.op c.requires.closed (omega arith) c.in_ok-op.ensures in (
       take c.loop-i.i c.args.list.now,
-      c.loop-i.invariant.drafts,
+      c.loop-i.invariant,
       follows_fits (take c.loop-i.i c.args.list.now) c.in_ok-op.op.doc c.in_ok-op.op front.1 refl,
     )
 
 pub loop-i-preserved : goal.loop-i-preserved
 loop-i-preserved c =
     let front = follows_front c.args.list.now c.loop-i.i c.in_ok-op.op c.requires.closed (omega arith) c.in_ok-op.ensures in
-    record {
-      numbers = c.in_ok-apply.ensures.numbers;
-      drafts = rw (take_push c.args.list.now c.loop-i.i c.in_ok-op.op (omega arith) c.in_ok-op.ensures)
-          (c.in_ok-apply.ensures.drafts (take c.loop-i.i c.args.list.now) c.loop-i.invariant.drafts
-          (follows_fits (take c.loop-i.i c.args.list.now) c.in_ok-op.op.doc c.in_ok-op.op front.1 refl));
-    }
+    rw (take_push c.args.list.now c.loop-i.i c.in_ok-op.op (omega arith) c.in_ok-op.ensures)
+    (c.in_ok-apply.ensures.drafts (take c.loop-i.i c.args.list.now) c.loop-i.invariant
+    (follows_fits (take c.loop-i.i c.args.list.now) c.in_ok-op.op.doc c.in_ok-op.op front.1 refl))

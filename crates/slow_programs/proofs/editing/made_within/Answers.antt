@@ -3,7 +3,9 @@ use Rattle.std.proofs.lemmas.Bool.{cases_Bool}
 use Rattle.std.proofs.lemmas.Result.{err_from_is_err_and}
 use Rattle.op_ids.specs.Clock.{advanced_by, is_clock}
 use Rattle.op_model.specs.Made.{size_of}
-use Rattle.slow_programs.proofs.EditLemmas.{is_within_limits-uncounted, is_within_limits-uncounted_before, is_within_limits-over, limit_alone, length-bodies_of, clock_of-numbered}
+use Rattle.model_laws.proofs.EditLimits.{clock_of-numbered, length-bodies_of, is_within_limits-over}
+use Rattle.model_laws.proofs.EditLimits.{is_within_limits-uncounted, is_within_limits-uncounted_before}
+use Rattle.slow_programs.proofs.EditLemmas.{limit_alone}
 use Rattle.slow_programs.proofs.editing.made_within.Goals as goal
 
 pub returns-then-next-count-clause-limit : goal.returns-then-next-count-clause-limit

@@ -18,23 +18,21 @@ count_all-requires c =
       rw (c.as_slice.ensures, items) (due_within c.self.inside.log.list c.self.inside.id c.args.edit.now can.due),
     )
 
-pub append-requires-clause-few : goal.append-requires-clause-few
-append-requires-clause-few c =
+pub append-requires-clause-room : goal.append-requires-clause-room
+append-requires-clause-room c =
     let items : c.in_ok-made.made ≡ made c.self.inside.log.list c.self.inside.id c.args.edit.now = rw c.as_slice-ops.ensures at c.in_ok-made.ensures.made in
     let can = (rw (← c.self.view_is) at c.requires).can in
-    rw items (due_fits c.self.inside.log.list c.self.inside.id c.args.edit.now can.due)
+    record {
+      few = rw items (due_fits c.self.inside.log.list c.self.inside.id c.args.edit.now can.due);
+      stream = c.self.invariant.index.stream;
+      small = rw items (stream_fits c.self.inside.log.list (made c.self.inside.log.list c.self.inside.id c.args.edit.now)
+          (due_within c.self.inside.log.list c.self.inside.id c.args.edit.now can.due));
+    }
 
 pub append-requires-clause-own : goal.append-requires-clause-own
 append-requires-clause-own c =
     let items : c.in_ok-made.made ≡ made c.self.inside.log.list c.self.inside.id c.args.edit.now = rw c.as_slice-ops.ensures at c.in_ok-made.ensures.made in
     rw items (made_own c.self.inside.log.list c.self.inside.id c.args.edit.now)
-
-pub append-requires-clause-small : goal.append-requires-clause-small
-append-requires-clause-small c =
-    let items : c.in_ok-made.made ≡ made c.self.inside.log.list c.self.inside.id c.args.edit.now = rw c.as_slice-ops.ensures at c.in_ok-made.ensures.made in
-    let can = (rw (← c.self.view_is) at c.requires).can in
-    rw items (stream_fits c.self.inside.log.list (made c.self.inside.log.list c.self.inside.id c.args.edit.now)
-    (due_within c.self.inside.log.list c.self.inside.id c.args.edit.now can.due))
 
 pub push-requires : goal.push-requires
 push-requires c =

@@ -5,7 +5,7 @@ use Rattle.op_ids.specs.Clock.{advanced}
 use Rattle.replica_core.proofs.DocLemmas.{docs_up}
 use Rattle.replica_core.proofs.FollowLemmas.{stream_fits}
 use Rattle.replica_core.proofs.LimitLemmas.{never_overfull}
-use Rattle.replica_core.proofs.SoundLemmas.{AreFields-merge}
+use Rattle.replica_core.proofs.SoundLemmas.{AreFields-merge, list_fits}
 use Rattle.replica_core.proofs.replica.Replica.put_merge.Goals as goal
 
 pub advance-requires : goal.advance-requires
@@ -20,10 +20,14 @@ place-place-requires c = rw c.deref.ensures.value (docs_up c.self.inside.log.doc
 pub append-requires-clause-own : goal.append-requires-clause-own
 append-requires-clause-own c = rw (c.in_ok-made.ensures, c.replica-replica.ensures, eq-eqb c.args.op.id.replica c.args.op.id.replica refl) refl
 
-pub append-requires-clause-small : goal.append-requires-clause-small
-append-requires-clause-small c =
+pub append-requires-clause-room : goal.append-requires-clause-room
+append-requires-clause-room c =
     let can = rw (← c.self.view_is) at c.requires in
-    rw c.in_ok-made.ensures (stream_fits c.self.inside.log.list (c.args.op ∷ []) can.joins.follows.limits)
+    record {
+      few = rw c.in_ok-made.ensures (list_fits c.self.inside.log.list (c.args.op ∷ []) can.joins.follows.limits);
+      stream = c.self.invariant.index.stream;
+      small = rw c.in_ok-made.ensures (stream_fits c.self.inside.log.list (c.args.op ∷ []) can.joins.follows.limits);
+    }
 
 pub invariant_of-self-2 : goal.invariant_of-self-2
 invariant_of-self-2 c =
