@@ -60,7 +60,6 @@ fn take_other_name(own: ReplicaId, bytes: &[u8]) -> Result<ReplicaId, LinkError>
 }
 
 // The bytes behind a HELLO's type and format.
-#[tactic(auto, unfolding(crate::specs::Reading::greeting_at, crate::specs::Reading::tag_at, change_codec::specs::Reading::number_at))]
 fn take_greeting(content: &[u8]) -> Result<&[u8], LinkError>
     ensures { Reads (λ rest. rest.now) result (greeting_at content.now) }
 {
@@ -77,7 +76,6 @@ fn take_greeting(content: &[u8]) -> Result<&[u8], LinkError>
 }
 
 // A replica, and nothing behind it.
-#[tactic(auto, unfolding(crate::specs::Reading::name_at, change_codec::specs::Reading::replica_at, change_codec::specs::Reading::number_at))]
 fn take_name(bytes: &[u8]) -> Result<ReplicaId, LinkError>
     ensures { Reads (λ replica. replica) result (name_at bytes.now) }
 {

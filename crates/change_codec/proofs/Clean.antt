@@ -7,7 +7,11 @@ use Rattle.change_codec.specs.declared.codec_error.CodecError.{CodecError}
 use Rattle.change_codec.specs.declared.codec_error.CodecError.TheVariants as fault
 use Rattle.change_codec.specs.declared.content.Kind.{Kind}
 use Rattle.change_codec.specs.declared.content.Kind.TheVariants as kind
-use Rattle.change_codec.specs.Reading.{◌>>=◌, within, byte_at, number_at, bytes_at, counter_at, replica_at, id_at, entry_at, entries_at, count_at, deps_at, origin_at, scalar_at, url_at, mark_at, key_at, start_at, end_at, span_at, kind_at, content_at, body_at, head_at, op_at}
+use Rattle.change_codec.specs.Reading.{◌>>=◌, within, byte_at, number_at, bytes_at, counter_at}
+use Rattle.change_codec.specs.Reading.{replica_at, id_at, entry_at, entries_at, count_at, deps_at}
+use Rattle.change_codec.specs.Reading.{origin_at, scalar_at, url_at, mark_at, key_at, start_at}
+use Rattle.change_codec.specs.Reading.{end_at, span_at, kind_at, content_at, body_at, head_at}
+use Rattle.change_codec.specs.Reading.{op_at}
 use Rattle.change_codec.specs.Record.{length_at, record_at, taken}
 
 -- a value, or a fault of the bytes
@@ -179,7 +183,7 @@ unfolding op_at
 operation bytes = bind (head_at bytes) _ (head bytes) (λ h. bind (deps_at h.1) _ (deps h.1) (λ d. bind (body_at h.0.kind d.1) _ (body h.0.kind d.1) (λ b. tt)))
 
 pub taken_clean : (bytes : List ℕ) → IsClean (taken bytes)
-unfolding taken record_at
+unfolding taken
 taken_clean bytes =
     let len = length_at bytes in
     let rest = drop 4 bytes in

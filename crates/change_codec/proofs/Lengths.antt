@@ -17,7 +17,10 @@ use Rattle.op_model.specs.declared.mark.Mark.{Mark}
 use Rattle.op_model.specs.declared.mark.Mark.TheVariants as added
 use Rattle.op_model.specs.declared.mark.MarkKey.{MarkKey}
 use Rattle.op_model.specs.declared.mark.MarkKey.TheVariants as key
-use Rattle.change_codec.specs.Spelling.{number_bytes, id_bytes, entry_bytes, entries_bytes, deps_bytes, origin_bytes, url_bytes, mark_bytes, key_bytes, anchor_bytes, start_bytes, end_bytes, content_bytes, body_bytes, spelled}
+use Rattle.change_codec.specs.Spelling.{number_bytes, id_bytes, entry_bytes, entries_bytes}
+use Rattle.change_codec.specs.Spelling.{deps_bytes, origin_bytes, url_bytes, mark_bytes, key_bytes}
+use Rattle.change_codec.specs.Spelling.{anchor_bytes, start_bytes, end_bytes, content_bytes}
+use Rattle.change_codec.specs.Spelling.{body_bytes, spelled}
 
 pub length-bytes16 : (n : ℕ) → length (number_bytes w16 n) ≡ 2
 unfolding number_bytes

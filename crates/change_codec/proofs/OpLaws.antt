@@ -12,13 +12,19 @@ use Rattle.change_codec.specs.declared.head.Head.{Head}
 use Rattle.change_codec.specs.declared.content.Kind.{Kind}
 use Rattle.change_codec.specs.declared.content.Kind.TheVariants as kind
 use Rattle.change_codec.specs.Heads.{kind_of, head_of}
-use Rattle.change_codec.specs.Spelling.{number_bytes, id_bytes, deps_bytes, origin_bytes, mark_bytes, key_bytes, start_bytes, end_bytes, kind_byte, content_bytes, body_bytes}
-use Rattle.change_codec.specs.Reading.{◌>>=◌, number_at, id_at, deps_at, origin_at, scalar_at, mark_at, key_at, span_at, kind_at, content_at, body_at, head_at, op_at}
+use Rattle.change_codec.specs.Spelling.{number_bytes, id_bytes, deps_bytes, origin_bytes}
+use Rattle.change_codec.specs.Spelling.{mark_bytes, key_bytes, start_bytes, end_bytes, kind_byte}
+use Rattle.change_codec.specs.Spelling.{content_bytes, body_bytes}
+use Rattle.change_codec.specs.Reading.{◌>>=◌, number_at, id_at, deps_at, origin_at, scalar_at}
+use Rattle.change_codec.specs.Reading.{mark_at, key_at, span_at, kind_at, content_at, body_at}
+use Rattle.change_codec.specs.Reading.{head_at, op_at}
 use Rattle.change_codec.specs.Fits.{IsId, IsContent, IsOperation}
 use Rattle.change_codec.proofs.Steps.{IsBytes, bind_ok, passed, ok_is, Takes, Takes-then}
 use Rattle.change_codec.proofs.Numbers.{wide32, number_takes, number_again}
 use Rattle.change_codec.proofs.IdLaws.{id_takes, id_again, deps_take, deps_again}
-use Rattle.change_codec.proofs.ContentLaws.{origin_takes, origin_again, scalar_takes, scalar_again, mark_takes, mark_again, key_takes, key_again, span_takes, span_again}
+use Rattle.change_codec.proofs.ContentLaws.{origin_takes, origin_again, scalar_takes, scalar_again}
+use Rattle.change_codec.proofs.ContentLaws.{mark_takes, mark_again, key_takes, key_again}
+use Rattle.change_codec.proofs.ContentLaws.{span_takes, span_again}
 
 -- the first byte of a record of this kind
 abbrev tag_of : Kind → ℕ

@@ -1,5 +1,7 @@
 -- Whole records at the front of bytes.
-use Rattle.std.proofs.Common.{◌≡◌, ◌≢◌, ◌⊎◌, ℕ, ◌+◌, ◌≤◌, Bool, true, false, cond, ltb, List, ◌++◌, length, take, drop, Option, Some, None, Result, Ok, Err, refl, sym, ap, subst, ◌∙◌, append_assoc, arith, inl, inr}
+use Rattle.std.proofs.Common.{◌≡◌, ◌≢◌, ◌⊎◌, ℕ, ◌+◌, ◌≤◌, Bool, true, false, cond, ltb, List, ◌++◌}
+use Rattle.std.proofs.Common.{length, take, drop, Option, Some, None, Result, Ok, Err, refl, sym}
+use Rattle.std.proofs.Common.{ap, subst, ◌∙◌, append_assoc, arith, inl, inr}
 use Rattle.std.specs.Prelude.{IfOk, IfSome, IsOk}
 use Rattle.std.specs.Int.{w32, is_in_range, from_be_bytes, to_be_bytes}
 use Rattle.std.proofs.lemmas.Bool.{ltb-false, ltb-true, le-ltb}
@@ -96,7 +98,7 @@ take_both n m xs le =
     ap (take (n + m)) (sym split) ∙ ap (λ (k : ℕ). take (k + m) (take n xs ++ drop n xs)) (sym len) ∙ take-append-add (take n xs) (drop n xs) m
 
 pub taken_begins : (bytes : List ℕ) (op : Op) (n : ℕ) → IsBytes bytes → taken bytes ≡ Ok (Some (op, n)) → Begins bytes op n
-unfolding taken record_at spelled number_bytes
+unfolding taken spelled number_bytes
 taken_begins bytes op n fits e =
     let len = length_at bytes in
     let rest = drop 4 bytes in
@@ -122,7 +124,7 @@ taken_begins bytes op n fits e =
 
 -- four bytes that give the length of the body, and the body
 front_taken : (op : Op) (front rest : List ℕ) → length front ≡ 4 → from_be_bytes w32 front ≡ length (body_bytes op) → IsOperation op → taken (front ++ (body_bytes op ++ rest)) ≡ Ok (Some (op, 4 + length (body_bytes op)))
-unfolding taken record_at
+unfolding taken
 front_taken op front rest four number fits =
     let body = body_bytes op in
     let len = length body in
@@ -171,7 +173,7 @@ begins_none a b x y fits_a fits_b e =
 -- ---- no whole record
 
 pub partial_taken : (bytes : List ℕ) → IsPartial bytes → taken bytes ≡ Ok None
-unfolding taken record_at
+unfolding taken
 partial_taken bytes (inl short) =
     let test : ltb (length bytes) 4 ≡ true = grind (arith, nat_tests) in
     rw test refl
@@ -188,7 +190,7 @@ no_op (Ok x) f e = cc
 no_op (Err d) f e = cc
 
 pub taken_partial : (bytes : List ℕ) → taken bytes ≡ Ok None → IsPartial bytes
-unfolding taken record_at
+unfolding taken
 taken_partial bytes e =
     let len = length_at bytes in
     let rest = drop 4 bytes in
@@ -214,7 +216,7 @@ taken_partial bytes e =
 -- the end of a body that is all there
 pub body_answers : (bytes : List ℕ) (e : CodecError) → 4 ≤ length bytes → 33 ≤ length_at bytes → length_at bytes ≤ 1491 → length_at bytes ≤ length (drop 4 bytes) → (op_at (take (length_at bytes) (drop 4 bytes)) ≡ Err e) ⊎ ((e ≡ Memory) × IsOk (op_at (take (length_at bytes) (drop 4 bytes))))
     → Answers (Err e) (taken bytes)
-unfolding taken record_at
+unfolding taken
 body_answers bytes e four low high long gives =
     let len = length_at bytes in
     let there : ltb (length bytes) 4 ≡ false = le-ltb _ _ four in

@@ -1,3 +1,4 @@
+pub mod CodecError
 pub mod Spelling
 pub mod Writing
 pub mod Fits

@@ -9,7 +9,7 @@ use Rattle.change_codec.specs.Fits.{IsOperation}
 use Rattle.change_codec.specs.Reading.{◌>>=◌, op_at}
 
 -- with the length of the body, and the bytes after it: the operation and how many bytes it takes, or none yet
-unfoldable pub record_at : ℕ → List ℕ → Result (Option (Op × ℕ)) CodecError
+abbrev pub record_at : ℕ → List ℕ → Result (Option (Op × ℕ)) CodecError
 record_at len rest =
     if is_in_range 33 1491 len then (if nat_lt (length rest) len then Ok None else (op_at (take len rest) >>= λ op. Ok (Some (op, 4 + len))))
     else Err Length

@@ -1,5 +1,5 @@
 ghost use Rattle.std.specs.Prelude.{◌≡◌};
-ghost use Rattle.change_codec.specs.declared.codec_error.CodecError.TheVariants.{Memory, Length, Kind, Number, Scalar, Utf8, Order, Anchor};
+ghost use Rattle.change_codec.specs.declared.codec_error.CodecError.TheVariants.{Memory};
 
 use std::alloc::AllocError;
 use thiserror::Error;
@@ -10,14 +10,15 @@ pub enum CodecError {
     /// 1: a growth was refused.
     #[error("memory")]
     Memory,
-    /// 30: the length isn't from 33 to 1,491, a field reaches past the end of the body, or bytes are left behind the
-    /// last one.
+    /// 30: the length isn't from 33 to 1,491, a field reaches past the end of the body, or bytes
+    /// are left behind the last one.
     #[error("length")]
     Length,
     /// 31: no such kind of record, of origin or of mark.
     #[error("kind")]
     Kind,
-    /// 32: a counter, a replica, a count, the number of deps or the length of a URL is out of its range.
+    /// 32: a counter, a replica, a count, the number of deps or the length of a URL is out of its
+    /// range.
     #[error("number")]
     Number,
     /// 33: a number that is no Unicode scalar value.
@@ -29,7 +30,8 @@ pub enum CodecError {
     /// 35: the replicas of the deps aren't in strictly rising order.
     #[error("order")]
     Order,
-    /// 36: no such anchor, a mark that starts at the end of the text, or one that ends at its start.
+    /// 36: no such anchor, a mark that starts at the end of the text, or one that ends at its
+    /// start.
     #[error("anchor")]
     Anchor,
 }
@@ -43,16 +45,11 @@ impl From<AllocError> for CodecError {
 }
 
 impl CodecError {
+    ghost use Rattle.change_codec.specs.CodecError.{number_of};
+
     /// The number of the refusal: 1, or 30 to 36.
     pub fn number(self) -> u8
-        ensures memory { self ≡ Memory → result ≡ 1 }
-        ensures length { self ≡ Length → result ≡ 30 }
-        ensures kind { self ≡ Kind → result ≡ 31 }
-        ensures number { self ≡ Number → result ≡ 32 }
-        ensures scalar { self ≡ Scalar → result ≡ 33 }
-        ensures utf8 { self ≡ Utf8 → result ≡ 34 }
-        ensures order { self ≡ Order → result ≡ 35 }
-        ensures anchor { self ≡ Anchor → result ≡ 36 }
+        ensures { result ≡ number_of self }
     {
         match self {
             CodecError::Memory => 1,

@@ -25,7 +25,8 @@ pub enum Kind {
     RemoveMark,
 }
 
-/// What an operation does, read without memory: the URL of a link lies in the bytes that it was read from.
+/// What an operation does, read without memory: the URL of a link lies in the bytes that it was
+/// read from.
 #[derive(Debug, Drop)]
 pub enum LentBody<'a> {
     Whole(Body),

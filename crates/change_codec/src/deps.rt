@@ -33,8 +33,9 @@ fn put_entry(entry: (ReplicaId, u64), out: &mut Vec<u8>)
     put_u64(entry.1, out);
 }
 
-/// Tests the deps at the front, and gives the bytes after them. `Number` (32) for more than 16 entries, a nil replica
-/// or a count that isn't from 1 to 2^24, `Order` (35) where the replicas don't rise.
+/// Tests the deps at the front, and gives the bytes after them. `Number` (32) for more than 16
+/// entries, a nil replica or a count that isn't from 1 to 2^24, `Order` (35) where the replicas
+/// don't rise.
 pub fn skip_deps(bytes: &[u8]) -> Result<&[u8], CodecError>
     ensures { Reads (λ rest. (deps_of bytes.now, rest.now)) result (deps_at bytes.now) }
 {
@@ -75,7 +76,8 @@ fn collect_entries(
     count: u8,
     bytes: &[u8],
 ) -> Result<Vec<(ReplicaId, u64)>, CodecError>
-    ensures { Collects (λ entries. entries.items) result (only_value (entries_at count 0 bytes.now)) }
+    ensures { Collects (λ entries. entries.items) result
+        (only_value (entries_at count 0 bytes.now)) }
 {
     let mut entries = Vec::with_capacity(alloc, count as usize)?;
     let mut rest = bytes;

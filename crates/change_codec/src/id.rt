@@ -40,8 +40,8 @@ pub fn take_replica(bytes: &[u8]) -> Result<(ReplicaId, &[u8]), CodecError>
     }
 }
 
-/// Takes an id from the front: its counter, and then its replica. `Number` (32) where the counter isn't from 1 to
-/// 2^48 - 1, or for the nil replica.
+/// Takes an id from the front: its counter, and then its replica. `Number` (32) where the counter
+/// isn't from 1 to 2^48 - 1, or for the nil replica.
 #[tactic(auto, unfolding(crate::specs::Reading::id_at))]
 pub fn take_id(bytes: &[u8]) -> Result<(OpId, &[u8]), CodecError>
     ensures { Reads (λ x. (x.0, x.1.now)) result (id_at bytes.now) }

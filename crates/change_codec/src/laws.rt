@@ -42,7 +42,8 @@ pub fn a_stream_determines_its_operations()
         → spelled_all a ≡ spelled_all b → a ≡ b }
 {}
 
-/// Behind the records of one list stand those of another, where both lists are one behind the other.
+/// Behind the records of one list stand those of another, where both lists are one behind the
+/// other.
 pub fn streams_join()
     ensures { (a b : List Operation) → spelled_all (a ++ b) ≡ spelled_all a ++ spelled_all b }
 {}

@@ -94,8 +94,8 @@ fn put_comment(id: CommentId, out: &mut Vec<u8>)
     put_bytes(&id.bytes(), out);
 }
 
-/// Takes a mark as it is added from the front. `Kind` (31) for no kind of mark; for a link `Number` (32) where the URL
-/// isn't of 1 to 1,024 bytes, and `Utf8` (34) where they aren't UTF-8.
+/// Takes a mark as it is added from the front. `Kind` (31) for no kind of mark; for a link `Number`
+/// (32) where the URL isn't of 1 to 1,024 bytes, and `Utf8` (34) where they aren't UTF-8.
 #[tactic(auto, unfolding(crate::specs::Reading::mark_at))]
 pub fn take_mark(bytes: &[u8]) -> Result<(LentMark<'_>, &[u8]), CodecError>
     ensures { Reads (λ x. (mark_of x.0, x.1.now)) result (mark_at bytes.now) }

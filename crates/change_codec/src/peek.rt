@@ -19,7 +19,7 @@ pub fn skip_op(bytes: &[u8]) -> Option<usize>
     skip_record(bytes)
 }
 
-#[tactic(auto, unfolding(crate::specs::Record::taken, crate::specs::Record::record_at, crate::specs::Reading::number_at))]
+#[tactic(auto, unfolding(crate::specs::Record::taken, crate::specs::Reading::number_at))]
 fn skip_record(bytes: &[u8]) -> Option<usize>
     ensures { result ≡ found_length (taken bytes.now) }
 {

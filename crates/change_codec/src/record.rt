@@ -17,10 +17,9 @@ use crate::number::{put_byte, put_u32, take_u32};
 use op_model::Op;
 use std::alloc::{AllocError, Global};
 
-/// Appends the record of an operation: four bytes for the length of its body, and the body. Memory is reserved once,
-/// before anything is written; each byte is written once. An error is want of memory (1), and leaves the bytes as
-/// they were.
-
+/// Appends the record of an operation: four bytes for the length of its body, and the body. Memory
+/// is reserved once, before anything is written; each byte is written once. An error is want of
+/// memory (1), and leaves the bytes as they were.
 pub fn put_op(op: &Op, out: &mut Vec<u8>) -> Result<(), AllocError>
     ensures ok { OnOk result (out.new.items ≡ out.old.items ++ spelled op.now) }
     ensures err { OnErr result (out.new.items ≡ out.old.items) }
@@ -44,19 +43,21 @@ fn put_body(op: &Op, out: &mut Vec<u8>)
     put_content(&op.body, out);
 }
 
-/// Takes the operation whose record the bytes begin with, and the number of bytes that it takes: at least 37. `None`
-/// where fewer than four bytes are there, or fewer than the record has.
+/// Takes the operation whose record the bytes begin with, and the number of bytes that it takes: at
+/// least 37. `None` where fewer than four bytes are there, or fewer than the record has.
 ///
-/// A length that isn't from 33 to 1,491 is `Length` (30). In a whole record the first field that breaks its rule decides,
-/// in their order: `Length` where it reaches past the end of the body, and also where bytes are left behind the last
-/// one; `Kind` (31) for no kind of record, of origin or of mark; `Number` (32) for a counter that isn't from 1 to
-/// 2^48 - 1, a nil replica, more than 16 deps, a count that isn't from 1 to 2^24, or a URL that isn't of 1 to 1,024
-/// bytes; `Scalar` (33) for no Unicode scalar value; `Utf8` (34) for a URL that isn't UTF-8; `Order` (35) where the
-/// replicas of the deps don't rise; `Anchor` (36) for no anchor, a start at the end of the text, or an end at its start.
-/// `Memory` (1) may only stand in place of an operation. Nothing is consumed by a refusal.
+/// A length that isn't from 33 to 1,491 is `Length` (30). In a whole record the first field that
+/// breaks its rule decides, in their order: `Length` where it reaches past the end of the body, and
+/// also where bytes are left behind the last one; `Kind` (31) for no kind of record, of origin or
+/// of mark; `Number` (32) for a counter that isn't from 1 to 2^48 - 1, a nil replica, more than 16
+/// deps, a count that isn't from 1 to 2^24, or a URL that isn't of 1 to 1,024 bytes; `Scalar` (33)
+/// for no Unicode scalar value; `Utf8` (34) for a URL that isn't UTF-8; `Order` (35) where the
+/// replicas of the deps don't rise; `Anchor` (36) for no anchor, a start at the end of the text, or
+/// an end at its start. `Memory` (1) may only stand in place of an operation. Nothing is consumed
+/// by a refusal.
 ///
-/// One pass over the record; the entries of its deps, and a URL, are then read again as they are copied, into one
-/// allocation each.
+/// One pass over the record; the entries of its deps, and a URL, are then read again as they are
+/// copied, into one allocation each.
 pub fn take_op(alloc: Global, bytes: &[u8]) -> Result<Option<(Op, usize)>, CodecError>
     // An operation is found exactly where the first bytes spell it.
     ensures found { IfOk result (λ found. IfSome found (λ f. Begins bytes.now f.0 f.1)) }
@@ -75,7 +76,7 @@ pub fn take_op(alloc: Global, bytes: &[u8]) -> Result<Option<(Op, usize)>, Codec
 }
 
 /// Takes the record at the front.
-#[tactic(auto, unfolding(crate::specs::Record::taken, crate::specs::Record::record_at, crate::specs::Reading::number_at))]
+#[tactic(auto, unfolding(crate::specs::Record::taken, crate::specs::Reading::number_at))]
 fn take_record(alloc: Global, bytes: &[u8]) -> Result<Option<(Op, usize)>, CodecError>
     ensures { Answers result (taken bytes.now) }
 {
@@ -114,7 +115,12 @@ fn take_body(alloc: Global, bytes: &[u8]) -> Result<Op, CodecError>
 fn make_op(alloc: Global, head: Head, deps: &[u8], body: LentBody<'_>) -> Result<Op, CodecError>
     requires tested { IsOk (deps_at deps.now) }
     requires url { HasUrl (body_of body) }
-    ensures ok { IfOk result (λ op. op ≡ record { id = head.id; doc = head.doc; deps = deps_of deps.now; body = body_of body.entry }) }
+    ensures ok { IfOk result (λ op. op ≡ record {
+      id = head.id;
+      doc = head.doc;
+      deps = deps_of deps.now;
+      body = body_of body.entry;
+    }) }
     ensures err { IfErr result (λ error. error ≡ Memory) }
 {
     let deps = collect_deps(alloc, deps)?;

@@ -1,5 +1,7 @@
 -- What a crash leaves is one of the files that it may leave.
-use Rattle.std.proofs.Common.{◌≡◌, ℕ, ◌+◌, ◌-◌, ◌<◌, ◌≤◌, Bool, true, false, List, [], ◌∷◌, length, take, replicate, get_or, refl, sym, subst, ◌∙◌, arith, length-append, length-take}
+use Rattle.std.proofs.Common.{◌≡◌, ℕ, ◌+◌, ◌-◌, ◌<◌, ◌≤◌, Bool, true, false, List, [], ◌∷◌, length}
+use Rattle.std.proofs.Common.{take, replicate, get_or, refl, sym, subst, ◌∙◌, arith, length-append}
+use Rattle.std.proofs.Common.{length-take}
 use Rattle.std.specs.List.{All}
 use Rattle.std.proofs.lemmas.List.{get_or-take, get_or_append_left, length-replicate}
 use Rattle.std.proofs.lemmas.List.Elements.{All-tail}

@@ -1,7 +1,11 @@
 -- A file that is read with zeros past its end and written again.
-use Rattle.std.proofs.Common.{◌≡◌, ℕ, ◌+◌, ◌-◌, ◌<◌, ◌≤◌, min, max, List, ◌++◌, length, take, drop, replicate, get_or, refl, sym, ap, ◌∙◌, inl, inr, arith, length-append, length-take, length-drop}
+use Rattle.std.proofs.Common.{◌≡◌, ℕ, ◌+◌, ◌-◌, ◌<◌, ◌≤◌, min, max, List, ◌++◌, length, take, drop}
+use Rattle.std.proofs.Common.{replicate, get_or, refl, sym, ap, ◌∙◌, inl, inr, arith, length-append}
+use Rattle.std.proofs.Common.{length-take, length-drop}
 use Rattle.std.proofs.lemmas.Bool.{cases_lt}
-use Rattle.std.proofs.lemmas.List.{get_or-take, get_or-drop, get_or_append_left, get_or-append_right, get_or-replicate, get_or_past, length-replicate, drop-replicate, take_min, ext_get_or}
+use Rattle.std.proofs.lemmas.List.{get_or-take, get_or-drop, get_or_append_left}
+use Rattle.std.proofs.lemmas.List.{get_or-append_right, get_or-replicate, get_or_past}
+use Rattle.std.proofs.lemmas.List.{length-replicate, drop-replicate, take_min, ext_get_or}
 use Rattle.disk_trait.specs.File.{overwritten}
 use Rattle.disk_trait.specs.Fault.{extended, padded}
 use Rattle.disk_trait.proofs.FileLemmas.{length-overwritten, overwritten_before, overwritten_in, overwritten_after}

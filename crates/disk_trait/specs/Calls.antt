@@ -1,6 +1,7 @@
 -- What a call does to a disk, in terms of what is known of it.
-use Rattle.std.specs.Prelude.{◌≡◌, ◌⊎◌, ◌≤◌, ℕ, ◌+◌, List, Result, Ok, Err}
-use Rattle.disk_trait.specs.File.{Torn}
+use Rattle.std.specs.Prelude.{◌≡◌, ◌⊎◌, ◌↔◌, ◌<◌, ◌≤◌, ℕ, ◌+◌, List, length, Result, Ok, Err}
+use Rattle.std.specs.Prelude.{OnOk, IsErrOf}
+use Rattle.disk_trait.specs.File.{Torn, overwritten, part}
 use Rattle.disk_trait.specs.declared.error.DiskError.{DiskError}
 use Rattle.disk_trait.specs.declared.error.DiskError.TheVariants.{PastEnd}
 use Rattle.disk_trait.specs.declared.facts.DiskFacts.{Ghosts}
@@ -43,6 +44,23 @@ pub record Tears {D : Type 0} (facts : Ghosts D) (at n : ℕ) (old new : D) : Ty
   pub no_more : (c : List ℕ) → facts.survives new c
       → (d : List ℕ) × facts.survives old d × Torn at n d c
   pub no_fewer : (c : List ℕ) → facts.survives old c → facts.survives new c
+
+-- A read of n bytes at an offset, which answers so and leaves these bytes: where it is done they are
+-- the file's, and it is refused as past the end exactly where the range reaches past it.
+pub record ReadsPart {D T : Type 0} (facts : Ghosts D) (answer : Result T DiskError) (at n : ℕ)
+    (bytes : List ℕ) (disk : D) : Type 0 where
+  pub read : OnOk answer (bytes ≡ part (facts.content disk) at n)
+  pub past_end : IsErrOf answer PastEnd ↔ (length (facts.content disk) < at + n)
+
+-- A write of these bytes at an offset, which answers so: outside of their range nothing changes, and
+-- where it is done they are there.
+pub record WritesOrRefuses {D T : Type 0} (facts : Ghosts D) (answer : Result T DiskError) (at : ℕ)
+    (bytes : List ℕ) (old new : D) : Type 0 where
+  pub torn : Tears facts at (length bytes) old new
+  pub written : OnOk answer (facts.content new ≡ overwritten (facts.content old) at bytes)
+  -- it is refused as past the end exactly where it begins past it, and then nothing changes at all
+  pub past_end : IsErrOf answer PastEnd ↔ (length (facts.content old) < at)
+  pub unchanged : IsErrOf answer PastEnd → Keeps facts old new
 
 -- reads give the same, and a crash leaves that and nothing else
 pub record Settles {D : Type 0} (facts : Ghosts D) (old new : D) : Type 0 where

@@ -1,8 +1,9 @@
 -- What is known of a disk in memory.
-use Rattle.std.specs.Prelude.{ℕ, Bool, List, length}
+use Rattle.std.specs.Prelude.{◌≡◌, ◌↔◌, ℕ, ◌-◌, Bool, List, length, Result, IsOk}
 use Rattle.disk_trait.specs.Medium.{Leaves}
 use Rattle.disk_trait.specs.Past.{LeftSince}
 use Rattle.disk_trait.specs.Crash.{left}
+use Rattle.disk_trait.specs.declared.error.DiskError.{DiskError}
 use Rattle.disk_trait.specs.declared.medium.Fate.{Fate}
 use Rattle.disk_trait.specs.declared.memory.MemDisk.{MemDisk}
 
@@ -38,3 +39,9 @@ left_of disk = LeftSince Leaves disk.medium disk.log
 abbrev pub left_by : Fate → Bool → MemDisk → List ℕ
 left_by fate grown disk =
     left fate grown disk.medium.bytes.items disk.medium.settled.items disk.medium.unsettled.items
+
+-- a call that answers so is done exactly on this condition, and uses up one of the disk's calls
+pub record UsesCall {T : Type 0} (answer : Result T DiskError) (condition : Type 0)
+    (old new : MemDisk) : Type 0 where
+  pub done : IsOk answer ↔ condition
+  pub used : calls_of new ≡ calls_of old - 1

@@ -1,10 +1,9 @@
 //! The four calls of a disk.
-ghost use Rattle.std.specs.Prelude.{◌≡◌, ◌⊎◌, ◌+◌, ◌<◌, ◌↔◌, length, IfOk, IfErr, OnOk, OnErr};
-ghost use Rattle.std.specs.Prelude.{IsErrOf};
-ghost use Rattle.disk_trait.specs.File.{overwritten, part};
+ghost use Rattle.std.specs.Prelude.{◌≡◌, ◌⊎◌, ◌↔◌, length, IfOk, IfErr, OnOk, OnErr};
 ghost use Rattle.disk_trait.specs.declared.error.DiskError.TheVariants.{ReadFailed, WriteFailed};
 ghost use Rattle.disk_trait.specs.declared.error.DiskError.TheVariants.{SyncFailed, PastEnd};
-ghost use Rattle.disk_trait.specs.Calls.{failed, begun, IsOneCall, Keeps, Tears, Settles, IsLawful};
+ghost use Rattle.disk_trait.specs.Calls.{failed, begun, IsOneCall, Keeps, ReadsPart, Settles};
+ghost use Rattle.disk_trait.specs.Calls.{WritesOrRefuses, IsLawful};
 
 use crate::{DiskError, DiskFacts};
 
@@ -14,7 +13,8 @@ use crate::{DiskError, DiskFacts};
 /// - Read back: a read gives the last bytes written (`read`, `written`).
 /// - Torn write: after a crash, each byte of a range that was written since the last successful
 ///   sync may be anything, and so may each byte past the file's end at that sync. The size is
-///   anything between the size at that sync and the greatest end written since (`torn`).
+///   anything between the size at that sync and the greatest end written since (`torn`, a part of
+///   `written`).
 /// - Untouched rest: all other bytes are what they were (`torn`).
 /// - Settled by sync: after a successful sync a crash leaves exactly what a read gives (`settled`).
 /// - Failed call: a write that fails counts as a write of its range, and reads give some bytes
@@ -37,9 +37,7 @@ pub trait Disk: DiskFacts {
     /// anything.
     fn read_at(&mut self, pos: u64, bytes: &mut [u8]) -> Result<(), DiskError>
         ensures read { Self.tells self.old
-            → OnOk result (bytes.new ≡ part (Self.content self.old) pos (length bytes.old)) }
-        ensures past_end { Self.tells self.old
-            → (IsErrOf result PastEnd ↔ (length (Self.content self.old) < pos + length bytes.old)) }
+            → ReadsPart Self.DiskFacts result pos (length bytes.old) bytes.new self.old }
         ensures keeps { Self.tells self.old → Keeps Self.DiskFacts self.old self.new }
         ensures call { Self.tells self.old
             → IsOneCall Self.DiskFacts (failed result) 0 0 self.old self.new }
@@ -49,14 +47,8 @@ pub trait Disk: DiskFacts {
     /// Writes `bytes` at offset `pos`, over what is there and past the end. Refuses with 53 exactly
     /// where it begins past the end, which changes nothing, and with 51 where the device failed.
     fn write_at(&mut self, pos: u64, bytes: &[u8]) -> Result<(), DiskError>
-        ensures written { Self.tells self.old → OnOk result
-            (Self.content self.new ≡ overwritten (Self.content self.old) pos bytes.now) }
-        ensures torn { Self.tells self.old
-            → Tears Self.DiskFacts pos (length bytes.now) self.old self.new }
-        ensures past_end { Self.tells self.old
-            → (IsErrOf result PastEnd ↔ (length (Self.content self.old) < pos)) }
-        ensures unchanged { Self.tells self.old
-            → IsErrOf result PastEnd → Keeps Self.DiskFacts self.old self.new }
+        ensures written { Self.tells self.old
+            → WritesOrRefuses Self.DiskFacts result pos bytes.now self.old self.new }
         ensures call { Self.tells self.old
             → IsOneCall Self.DiskFacts (failed result) (begun result) 0 self.old self.new }
         ensures tells { Self.tells self.new ↔ Self.tells self.old }

@@ -1,8 +1,8 @@
 //! A disk whose n-th call fails, over another.
 ghost use Rattle.std.specs.Prelude.{◌≡◌, ◌⊎◌, ◌+◌, ◌-◌, ◌^◌, ◌<◌, ◌≤◌, ◌↔◌, length, IsTrue, IsErr};
-ghost use Rattle.std.specs.Prelude.{IfOk, IfErr, IsErrOf, OnOk, OnErr};
+ghost use Rattle.std.specs.Prelude.{IfOk, IfErr, OnOk, OnErr};
 ghost use Rattle.disk_trait.specs.declared.error.DiskError.TheVariants.{WriteFailed, PastEnd};
-ghost use Rattle.disk_trait.specs.Calls.{Keeps, Tears};
+ghost use Rattle.disk_trait.specs.Calls.{Keeps, Tears, WritesOrRefuses};
 ghost use Rattle.disk_trait.specs.Fault.{extended, padded, HalfWrites};
 
 use crate::log::{Added, Log};
@@ -91,16 +91,16 @@ impl<D: Disk> DiskFacts for FaultDisk<D> {
 
 impl<D: Disk> Disk for FaultDisk<D> {
     ghost use Rattle.std.proofs.Common.{inl};
-    ghost use Rattle.disk_trait.specs.File.{overwritten, part};
     ghost use Rattle.disk_trait.specs.FaultDisk.{disk_of, calls_to_fault, TakesTurn};
     ghost use Rattle.disk_trait.specs.Past.{left_only_now, left_since_earlier};
-    ghost use Rattle.disk_trait.specs.Calls.{failed, begun, IsOneCall, Keeps, Tears, Settles};
+    ghost use Rattle.disk_trait.specs.Calls.{failed, begun, IsOneCall, Keeps, Settles};
+    ghost use Rattle.disk_trait.specs.Calls.{ReadsPart, WritesOrRefuses};
     ghost use Rattle.disk_trait.specs.declared.error.DiskError.TheVariants.{ReadFailed};
     ghost use Rattle.disk_trait.specs.declared.error.DiskError.TheVariants.{WriteFailed};
     ghost use Rattle.disk_trait.specs.declared.error.DiskError.TheVariants.{SyncFailed, PastEnd};
 
-    // Each call has the trait's clauses, and one that says when it fails and when it passes to the
-    // disk below.
+    // Each call says what the trait's clauses say, and besides when it fails and when it passes to
+    // the disk below.
 
     fn size(&mut self) -> Result<u64, DiskError>
         ensures turn { TakesTurn D.DiskFacts (IsErr result) (failed result) 0 0 self.old self.new }
@@ -126,10 +126,8 @@ impl<D: Disk> Disk for FaultDisk<D> {
     fn read_at(&mut self, pos: u64, bytes: &mut [u8]) -> Result<(), DiskError>
         ensures turn { TakesTurn D.DiskFacts (IsErr result) (failed result) 0 0 self.old self.new }
         ensures read { D.tells (disk_of self.old)
-            → OnOk result (bytes.new ≡ part (D.content (disk_of self.old)) pos (length bytes.old)) }
-        ensures past_end { D.tells (disk_of self.old)
-            → (IsErrOf result PastEnd
-            ↔ (length (D.content (disk_of self.old)) < pos + length bytes.old)) }
+            → ReadsPart ⟦<FaultDisk<D> as DiskFacts>⟧
+            result pos (length bytes.old) bytes.new self.old }
         ensures keeps { D.tells (disk_of self.old)
             → Keeps ⟦<FaultDisk<D> as DiskFacts>⟧ self.old self.new }
         ensures call { D.tells (disk_of self.old)
@@ -153,14 +151,8 @@ impl<D: Disk> Disk for FaultDisk<D> {
         ensures half { D.tells (disk_of self.old) → calls_to_fault self.old ≡ 1
             → HalfWrites D.DiskFacts pos bytes.now result (disk_of self.old) (disk_of self.new) }
         ensures written { D.tells (disk_of self.old)
-            → OnOk result (D.content (disk_of self.new)
-            ≡ overwritten (D.content (disk_of self.old)) pos bytes.now) }
-        ensures torn { D.tells (disk_of self.old)
-            → Tears ⟦<FaultDisk<D> as DiskFacts>⟧ pos (length bytes.now) self.old self.new }
-        ensures past_end { D.tells (disk_of self.old)
-            → (IsErrOf result PastEnd ↔ (length (D.content (disk_of self.old)) < pos)) }
-        ensures unchanged { D.tells (disk_of self.old) → IsErrOf result PastEnd
-            → Keeps ⟦<FaultDisk<D> as DiskFacts>⟧ self.old self.new }
+            → WritesOrRefuses ⟦<FaultDisk<D> as DiskFacts>⟧
+            result pos bytes.now self.old self.new }
         ensures call { D.tells (disk_of self.old)
             → IsOneCall ⟦<FaultDisk<D> as DiskFacts>⟧
             (failed result) (begun result) 0 self.old self.new }
@@ -212,11 +204,8 @@ fn tear<D: Disk>(disk: &mut D, pos: u64, bytes: &[u8]) -> Result<(), DiskError>
     ensures fails { IsErr result }
     ensures half { D.tells disk.old
         → HalfWrites D.DiskFacts pos bytes.now result disk.old disk.new }
-    ensures torn { D.tells disk.old → Tears D.DiskFacts pos (length bytes.now) disk.old disk.new }
-    ensures past_end { D.tells disk.old
-        → (IsErrOf result PastEnd ↔ (length (D.content disk.old) < pos)) }
-    ensures unchanged { D.tells disk.old → IsErrOf result PastEnd
-        → Keeps D.DiskFacts disk.old disk.new }
+    ensures torn { D.tells disk.old
+        → WritesOrRefuses D.DiskFacts result pos bytes.now disk.old disk.new }
     ensures tells { D.tells disk.new ↔ D.tells disk.old }
     ensures error { IfErr result (λ e. (e ≡ WriteFailed) ⊎ (e ≡ PastEnd)) }
 {

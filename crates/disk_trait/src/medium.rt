@@ -1,7 +1,6 @@
 //! The file of a disk in memory: as reads give it, as the last sync settled it, and what was
 //! written since.
-ghost use Rattle.std.specs.Prelude.{◌≡◌, ◌+◌, ◌<◌, ◌≤◌, [], ◌∷◌, ◌++◌, All, IfOk, length, vec_len};
-ghost use Rattle.std.specs.Prelude.{vec_capacity};
+ghost use Rattle.std.specs.Prelude.{◌≡◌, ◌+◌, ◌<◌, ◌≤◌, [], All, IfOk, length, vec_len, vec_capacity};
 ghost use Rattle.disk_trait.specs.File.{overwritten, part};
 ghost use Rattle.disk_trait.specs.Survivors.{MayLeave};
 ghost use Rattle.disk_trait.specs.Crash.{filled, left, left_whole};
@@ -27,7 +26,8 @@ pub(crate) struct Medium {
     unsettled: Vec<(usize, usize)>,
     /// The most bytes that the file may have.
     room: usize,
-    ghost reads_survive: { MayLeave (length bytes.items) settled.items unsettled.items bytes.items },
+    ghost reads_survive: { MayLeave (length bytes.items) settled.items unsettled.items
+        bytes.items },
     ghost ranges_within: { All (λ range. range.0 + range.1 ≤ length bytes.items) unsettled.items },
     ghost within_room: { length bytes.items ≤ room },
     ghost room_to_write: { room ≤ vec_capacity bytes },
@@ -35,6 +35,8 @@ pub(crate) struct Medium {
 }
 
 impl Medium {
+    ghost use Rattle.disk_trait.specs.Medium.{HasWritten};
+
     /// An empty file, with all the memory for `room` bytes and for `ranges` writes between two
     /// syncs.
     pub(crate) fn new(alloc: Global, room: usize, ranges: usize) -> Result<Medium, AllocError>
@@ -78,10 +80,7 @@ impl Medium {
         requires within { at ≤ length self.old.bytes.items }
         requires room { at + length bytes.now ≤ self.old.room }
         requires range { vec_len self.old.unsettled < vec_capacity self.old.unsettled }
-        ensures bytes { self.new.bytes.items ≡ overwritten self.old.bytes.items at bytes.now }
-        ensures settled { self.new.settled.items ≡ self.old.settled.items }
-        ensures unsettled { self.new.unsettled.items
-            ≡ self.old.unsettled.items ++ (at, length bytes.now) ∷ [] }
+        ensures written { HasWritten at bytes.now self.old self.new }
         ensures room_stays { self.new.room ≡ self.old.room }
         ensures ranges { vec_capacity self.old.unsettled ≤ vec_capacity self.new.unsettled }
     {

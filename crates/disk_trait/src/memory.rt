@@ -151,21 +151,21 @@ impl DiskFacts for MemDisk {
 
 impl Disk for MemDisk {
     ghost use Rattle.std.proofs.Common.{inl};
-    ghost use Rattle.disk_trait.specs.File.{overwritten, part, Torn};
+    ghost use Rattle.disk_trait.specs.File.{Torn};
     ghost use Rattle.disk_trait.specs.Medium.{Leaves};
-    ghost use Rattle.disk_trait.specs.MemDisk.{calls_of, content_of, room_of, Survives};
+    ghost use Rattle.disk_trait.specs.MemDisk.{calls_of, content_of, room_of, Survives, UsesCall};
     ghost use Rattle.disk_trait.specs.Past.{left_only_now, left_since_earlier};
-    ghost use Rattle.disk_trait.specs.Calls.{failed, begun, IsOneCall, Keeps, Tears, Settles};
+    ghost use Rattle.disk_trait.specs.Calls.{failed, begun, IsOneCall, Keeps, ReadsPart, Settles};
+    ghost use Rattle.disk_trait.specs.Calls.{WritesOrRefuses};
     ghost use Rattle.disk_trait.specs.declared.error.DiskError.TheVariants.{ReadFailed};
     ghost use Rattle.disk_trait.specs.declared.error.DiskError.TheVariants.{WriteFailed};
     ghost use Rattle.disk_trait.specs.declared.error.DiskError.TheVariants.{SyncFailed, PastEnd};
 
-    // Each call has the trait's clauses, and says besides when it is done and that it uses up a
-    // call. A write says that it tears in all ways.
+    // Each call says what the trait's clauses say, and besides when it is done and that it uses up
+    // a call. A write says that it tears in all ways.
 
     fn size(&mut self) -> Result<u64, DiskError>
-        ensures done { IsOk result ↔ (0 < calls_of self.old) }
-        ensures used { calls_of self.new ≡ calls_of self.old - 1 }
+        ensures uses { UsesCall result (0 < calls_of self.old) self.old self.new }
         ensures size { IfOk result (λ n. n ≡ length (content_of self.old)) }
         ensures keeps { Keeps ⟦<MemDisk as DiskFacts>⟧ self.old self.new }
         ensures call { IsOneCall ⟦<MemDisk as DiskFacts>⟧ (failed result) 0 0 self.old self.new }
@@ -181,12 +181,11 @@ impl Disk for MemDisk {
     }
 
     fn read_at(&mut self, pos: u64, bytes: &mut [u8]) -> Result<(), DiskError>
-        ensures done { IsOk result ↔ (pos + length bytes.old ≤ length (content_of self.old))
-            × (0 < calls_of self.old) }
-        ensures used { calls_of self.new ≡ calls_of self.old - 1 }
-        ensures read { OnOk result (bytes.new ≡ part (content_of self.old) pos (length bytes.old)) }
-        ensures past_end { IsErrOf result PastEnd
-            ↔ (length (content_of self.old) < pos + length bytes.old) }
+        ensures uses { UsesCall result
+            ((pos + length bytes.old ≤ length (content_of self.old)) × (0 < calls_of self.old))
+            self.old self.new }
+        ensures read { ReadsPart ⟦<MemDisk as DiskFacts>⟧
+            result pos (length bytes.old) bytes.new self.old }
         ensures keeps { Keeps ⟦<MemDisk as DiskFacts>⟧ self.old self.new }
         ensures call { IsOneCall ⟦<MemDisk as DiskFacts>⟧ (failed result) 0 0 self.old self.new }
         ensures error { IfErr result (λ e. (e ≡ ReadFailed) ⊎ (e ≡ PastEnd)) }
@@ -199,17 +198,16 @@ impl Disk for MemDisk {
     }
 
     fn write_at(&mut self, pos: u64, bytes: &[u8]) -> Result<(), DiskError>
-        ensures done { IsOk result ↔ (pos ≤ length (content_of self.old)) × (0 < calls_of self.old)
-            × (length bytes.now ≤ MOST_WRITTEN) × (pos + length bytes.now ≤ room_of self.old) }
-        ensures used { calls_of self.new ≡ calls_of self.old - 1 }
+        ensures uses { UsesCall result
+            ((pos ≤ length (content_of self.old)) × (0 < calls_of self.old)
+            × (length bytes.now ≤ MOST_WRITTEN) × (pos + length bytes.now ≤ room_of self.old))
+            self.old self.new }
         ensures refused { OnErr result (Keeps ⟦<MemDisk as DiskFacts>⟧ self.old self.new) }
-        ensures written { OnOk result
-            (content_of self.new ≡ overwritten (content_of self.old) pos bytes.now) }
-        ensures torn { Tears ⟦<MemDisk as DiskFacts>⟧ pos (length bytes.now) self.old self.new }
+        ensures written { WritesOrRefuses ⟦<MemDisk as DiskFacts>⟧
+            result pos bytes.now self.old self.new }
         ensures all_torn { OnOk result
             ((d c : List ℕ) → Survives self.old d → Torn pos (length bytes.now) d c
             → Survives self.new c) }
-        ensures past_end { IsErrOf result PastEnd ↔ (length (content_of self.old) < pos) }
         ensures call { IsOneCall ⟦<MemDisk as DiskFacts>⟧
             (failed result) (begun result) 0 self.old self.new }
         ensures error { IfErr result (λ e. (e ≡ WriteFailed) ⊎ (e ≡ PastEnd)) }
@@ -222,8 +220,7 @@ impl Disk for MemDisk {
     }
 
     fn sync(&mut self) -> Result<(), DiskError>
-        ensures done { IsOk result ↔ (0 < calls_of self.old) }
-        ensures used { calls_of self.new ≡ calls_of self.old - 1 }
+        ensures uses { UsesCall result (0 < calls_of self.old) self.old self.new }
         ensures settled { OnOk result (Settles ⟦<MemDisk as DiskFacts>⟧ self.old self.new) }
         ensures unsettled { OnErr result (Keeps ⟦<MemDisk as DiskFacts>⟧ self.old self.new) }
         ensures call { IsOneCall ⟦<MemDisk as DiskFacts>⟧ (failed result) 0 1 self.old self.new }

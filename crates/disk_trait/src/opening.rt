@@ -31,8 +31,8 @@ pub(crate) fn open_shared<R: Files<File = File>>(rt: &R, path: &str) -> io::Resu
 }
 
 /// Makes an empty file where there is none, else opens the one that is there, and syncs the folder,
-/// which holds its name. With the file comes whether it is this one's: made, and still empty when it
-/// was locked. One that is, and then can't be kept, is removed.
+/// which holds its name. With the file comes whether it is this one's: made, and still empty when
+/// it was locked. One that is, and then can't be kept, is removed.
 pub(crate) fn make_alone<R: Files<File = File>>(rt: &R, path: &str) -> io::Result<(File, bool)> {
     match File::create_new(rt, path) {
         Ok(file) => {

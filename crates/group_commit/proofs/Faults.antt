@@ -9,7 +9,10 @@ use Rattle.root_slots.specs.Root.{count_of}
 use Rattle.root_slots.specs.Live.{live_root}
 use Rattle.root_slots.specs.Faults.{Names as NamesRoot, failures_of as failures_of_roots}
 use Rattle.root_slots.specs.declared.error.RootsError.{RootsError}
-use Rattle.root_slots.specs.declared.error.RootsError.TheVariants.{Memory as RootsMemory, NoRoot as RootsNone, BadRoot as RootsBad, ReadFailed as RootsReadFailed}
+use Rattle.root_slots.specs.declared.error.RootsError.TheVariants.{Memory as RootsMemory}
+use Rattle.root_slots.specs.declared.error.RootsError.TheVariants.{NoRoot as RootsNone}
+use Rattle.root_slots.specs.declared.error.RootsError.TheVariants.{BadRoot as RootsBad}
+use Rattle.root_slots.specs.declared.error.RootsError.TheVariants.{ReadFailed as RootsReadFailed}
 use Rattle.group_commit.proofs.SlotReads.{no_root_stored}
 use Rattle.group_commit.specs.declared.open_fault.OpenError.{OpenError}
 use Rattle.group_commit.specs.declared.open_fault.OpenError.TheVariants.{Memory, NoRoot, BadRoot, BadTable, BadStream, ReadFailed, SyncFailed}

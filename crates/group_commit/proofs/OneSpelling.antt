@@ -1,5 +1,7 @@
 -- Two root bodies that say the same are the same bytes.
-use Rattle.std.proofs.Common.{◌≡◌, ℕ, zero, suc, ◌+◌, ◌*◌, ◌<◌, ◌≤◌, Bool, true, false, ◌&&◌, ◌==◌, nat_le, List, [], ◌∷◌, ◌++◌, length, get_or, take, drop, refl, sym, ap, ◌∙◌, arith, length-drop}
+use Rattle.std.proofs.Common.{◌≡◌, ℕ, zero, suc, ◌+◌, ◌*◌, ◌<◌, ◌≤◌, Bool, true, false, ◌&&◌, ◌==◌}
+use Rattle.std.proofs.Common.{nat_le, List, [], ◌∷◌, ◌++◌, length, get_or, take, drop, refl, sym}
+use Rattle.std.proofs.Common.{ap, ◌∙◌, arith, length-drop}
 use Rattle.std.specs.Int.{w32, w64, w128, from_be_bytes, to_be_bytes}
 use Rattle.std.proofs.lemmas.Bool.Decides.{nat_tests}
 use Rattle.std.proofs.lemmas.List.{drop-drop, get_or-drop, length-take-le, take-append-drop}
@@ -7,7 +9,9 @@ use Rattle.std.proofs.lemmas.Nat.{be_bytes_4, be_bytes_8}
 use Rattle.op_ids.proofs.ByteLemmas.{to_be_bytes-from_be_bytes_16}
 use Rattle.disk_trait.specs.File.{part}
 use Rattle.page_file.specs.Pages.{is_zero, are_pages, numbers}
-use Rattle.root_slots.specs.Root.{is_root, magic_of, magic, version_of, replica_of, stream_length_of, count_of, table_count, gap_of, tables_of, data_count, pages_for}
+use Rattle.root_slots.specs.Root.{is_root, magic_of, magic, version_of, replica_of}
+use Rattle.root_slots.specs.Root.{stream_length_of, count_of, table_count, gap_of, tables_of}
+use Rattle.root_slots.specs.Root.{data_count, pages_for}
 use Rattle.root_slots.specs.Body.{root_of}
 use Rattle.root_slots.proofs.HeadLemmas.{length-tables, most_tables}
 use Rattle.root_slots.proofs.SlotReads.{small_part, small_take}

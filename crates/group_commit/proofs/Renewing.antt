@@ -1,5 +1,7 @@
 -- A root whose last pages are new is stored, where its first pages are those of the root before.
-use Rattle.std.proofs.Common.{◌≡◌, ℕ, zero, suc, ◌+◌, ◌*◌, ◌<◌, ◌≤◌, ◌^◌, true, All, List, [], ◌∷◌, ◌++◌, length, take, drop, refl, sym, ap, ◌∙◌, arith, length-append, length-take, append_assoc}
+use Rattle.std.proofs.Common.{◌≡◌, ℕ, zero, suc, ◌+◌, ◌*◌, ◌<◌, ◌≤◌, ◌^◌, true, All, List, [], ◌∷◌}
+use Rattle.std.proofs.Common.{◌++◌, length, take, drop, refl, sym, ap, ◌∙◌, arith, length-append}
+use Rattle.std.proofs.Common.{length-take, append_assoc}
 use Rattle.std.specs.Prelude.{replicate}
 use Rattle.std.proofs.lemmas.List.{take-take, take_at, drop_at, take-append-drop, take-append-le}
 use Rattle.page_file.specs.Pages.{page, pages, are_whole, joined, numbers, number_bytes}
@@ -7,7 +9,9 @@ use Rattle.root_slots.proofs.HeadLemmas.{length-numbers}
 use Rattle.group_commit.specs.Image.{entries}
 use Rattle.group_commit.specs.Commit.{ReadAs}
 use Rattle.group_commit.proofs.Inside.{whole-append}
-use Rattle.group_commit.proofs.ManyPages.{joined-append, pages-append, length-pages, length-joined, joined-take, whole-take, reads_joined, entries_joined, numbers_written, first_whole, rest_whole, both_whole}
+use Rattle.group_commit.proofs.ManyPages.{joined-append, pages-append, length-pages, length-joined}
+use Rattle.group_commit.proofs.ManyPages.{joined-take, whole-take, reads_joined, entries_joined}
+use Rattle.group_commit.proofs.ManyPages.{numbers_written, first_whole, rest_whole, both_whole}
 use Rattle.group_commit.proofs.Roots.{HasBoth}
 
 entries-append : (a b : List (List ℕ)) → entries (a ++ b) ≡ entries a ++ entries b

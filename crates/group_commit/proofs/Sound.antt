@@ -1,5 +1,7 @@
 -- Each device call of a commit keeps what a store keeps.
-use Rattle.std.proofs.Common.{◌≡◌, ◌≢◌, ℕ, ◌+◌, ◌-◌, ◌*◌, ◌<◌, ◌≤◌, Bool, true, false, nat_lt, List, [], ◌∷◌, length, get_or, drop, refl, sym, ap, ◌∙◌, arith, length-take, length-drop, if◌then◌else◌}
+use Rattle.std.proofs.Common.{◌≡◌, ◌≢◌, ℕ, ◌+◌, ◌-◌, ◌*◌, ◌<◌, ◌≤◌, Bool, true, false, nat_lt, List}
+use Rattle.std.proofs.Common.{[], ◌∷◌, length, get_or, drop, refl, sym, ap, ◌∙◌, arith, length-take}
+use Rattle.std.proofs.Common.{length-drop, if◌then◌else◌}
 use Rattle.std.proofs.lemmas.Bool.{ltb-true, ltb-false}
 use Rattle.disk_trait.specs.File.{part, Torn, overwritten}
 use Rattle.disk_trait.specs.Calls.{Tears, Settles, Keeps, IsLawful}
@@ -14,7 +16,9 @@ use Rattle.group_commit.specs.Held.{Held, behind_pages, gone_on, IsPlan, IsSound
 use Rattle.group_commit.specs.declared.phase.Phase.{Phase}
 use Rattle.group_commit.specs.declared.phase.Phase.TheVariants.{Idle, Pages, Close, Sync1, Body, Sync2, Gate, Sync3}
 use Rattle.root_slots.proofs.SlotWrites.{gate_written}
-use Rattle.group_commit.proofs.Steps.{stands_page, stands_to_close, stands_to_sync, stands_close, stands_sync1, stands_body, stands_sync2, stands_gate, stands_sync3, reads_page, reads_behind}
+use Rattle.group_commit.proofs.Steps.{stands_page, stands_to_close, stands_to_sync, stands_close}
+use Rattle.group_commit.proofs.Steps.{stands_sync1, stands_body, stands_sync2, stands_gate}
+use Rattle.group_commit.proofs.Steps.{stands_sync3, reads_page, reads_behind}
 
 module _ {D : Type 0} (facts : Ghosts D) where
   -- what survives a write is an earlier survivor, torn

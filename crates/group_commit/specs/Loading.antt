@@ -7,9 +7,17 @@ use Rattle.root_slots.specs.Root.{replica_of, count_of, pages_for}
 use Rattle.root_slots.specs.Body.{Root}
 pub use Rattle.page_file.specs.Tables.{reached_by, reached_in}
 use Rattle.page_file.specs.declared.error.PageError.{PageError}
-use Rattle.page_file.specs.declared.error.PageError.TheVariants.{Memory as PagesMemory, PageNumber as PagesNumber, NoPage as PagesNone, BadTable as PagesBad, ReadFailed as PagesReadFailed, WriteFailed as PagesWriteFailed}
+use Rattle.page_file.specs.declared.error.PageError.TheVariants.{Memory as PagesMemory}
+use Rattle.page_file.specs.declared.error.PageError.TheVariants.{PageNumber as PagesNumber}
+use Rattle.page_file.specs.declared.error.PageError.TheVariants.{NoPage as PagesNone}
+use Rattle.page_file.specs.declared.error.PageError.TheVariants.{BadTable as PagesBad}
+use Rattle.page_file.specs.declared.error.PageError.TheVariants.{ReadFailed as PagesReadFailed}
+use Rattle.page_file.specs.declared.error.PageError.TheVariants.{WriteFailed as PagesWriteFailed}
 use Rattle.root_slots.specs.declared.error.RootsError.{RootsError}
-use Rattle.root_slots.specs.declared.error.RootsError.TheVariants.{Memory as RootsMemory, NoRoot as RootsNone, BadRoot as RootsBad, ReadFailed as RootsReadFailed}
+use Rattle.root_slots.specs.declared.error.RootsError.TheVariants.{Memory as RootsMemory}
+use Rattle.root_slots.specs.declared.error.RootsError.TheVariants.{NoRoot as RootsNone}
+use Rattle.root_slots.specs.declared.error.RootsError.TheVariants.{BadRoot as RootsBad}
+use Rattle.root_slots.specs.declared.error.RootsError.TheVariants.{ReadFailed as RootsReadFailed}
 use Rattle.group_commit.specs.Saved.{Saved}
 use Rattle.group_commit.specs.Image.{stored}
 use Rattle.group_commit.specs.declared.open_fault.OpenError.{OpenError}

@@ -2,7 +2,10 @@
 use Rattle.std.proofs.Common.{◌≡◌, ◌≢◌, ℕ, ◌+◌, ◌≤◌, ◌<◌, true, nat_le, max, List, [], ◌∷◌, length, refl, ◌∙◌, arith}
 use Rattle.std.proofs.lemmas.Bool.Decides.{nat_tests}
 use Rattle.op_ids.specs.Clock.{count_of, with_count, joined, missing_from, is_rising_above, is_clock}
-use Rattle.op_ids.proofs.ClockLemmas.{rising_parts, count_of-low, count_of_at_most, count_of-with_count, count_of-with_count_other, rising-with_count, length-with_count, is_clock_parts, is_clock_made, is_clock-too_long}
+use Rattle.op_ids.proofs.ClockLemmas.{rising_parts, count_of-low, count_of_at_most}
+use Rattle.op_ids.proofs.ClockLemmas.{count_of-with_count, count_of-with_count_other}
+use Rattle.op_ids.proofs.ClockLemmas.{rising-with_count, length-with_count, is_clock_parts}
+use Rattle.op_ids.proofs.ClockLemmas.{is_clock_made, is_clock-too_long}
 
 -- the greater of both counts of an entry's replica
 abbrev pub greater : List (ℕ × ℕ) → ℕ × ℕ → ℕ

@@ -4,7 +4,9 @@ use Rattle.std.specs.Prelude.{nat_le, ◌||◌}
 use Rattle.std.proofs.lemmas.Bool.{cases_Bool, both_ways}
 use Rattle.std.proofs.lemmas.Bool.Decides.{nat_tests}
 use Rattle.op_ids.specs.Clock.{count_of, with_count, advanced, advanced_by, is_clock, is_rising_above, IsOverfull}
-use Rattle.op_ids.proofs.ClockLemmas.{is_clock-advanced, is_clock_parts, is_clock-too_long, is_clock-too_many, rising_parts, count_of-advanced, advanced_as_set, advanced-set, length-with_count}
+use Rattle.op_ids.proofs.ClockLemmas.{is_clock-advanced, is_clock_parts, is_clock-too_long}
+use Rattle.op_ids.proofs.ClockLemmas.{is_clock-too_many, rising_parts, count_of-advanced}
+use Rattle.op_ids.proofs.ClockLemmas.{advanced_as_set, advanced-set, length-with_count}
 use Rattle.op_ids.proofs.FullLemmas.{length-le-advanced, count_of-le-total}
 
 -- the replicas rise from above a number, whatever the counts

@@ -14,8 +14,9 @@ pub const MAX_REPLICAS: usize = 16;
 /// The most operations of one replica that a clock counts: 2^24.
 pub const MAX_COUNT: u64 = 16_777_216;
 
-/// A vector clock: how many operations of each replica. Contracts see it as the list of its entries, a replica and
-/// a count each, in strictly rising order of replica: at most 16, each count from 1 to 2^24.
+/// A vector clock: how many operations of each replica. Contracts see it as the list of its
+/// entries, a replica and a count each, in strictly rising order of replica: at most 16, each count
+/// from 1 to 2^24.
 #[derive(Debug, Drop)]
 pub struct Clock {
     entries: Vec<(ReplicaId, u64)>,
@@ -39,8 +40,8 @@ impl Clock {
         }
     }
 
-    /// The clock with these entries, or `None` where they aren't those of a clock: at most 16, in strictly rising
-    /// order of replica, each count from 1 to 2^24. Takes no memory.
+    /// The clock with these entries, or `None` where they aren't those of a clock: at most 16, in
+    /// strictly rising order of replica, each count from 1 to 2^24. Takes no memory.
     pub fn from_entries(entries: Vec<(ReplicaId, u64)>) -> Option<Clock>
         ensures valid { IsSome result ↔ (is_clock entries.items ≡ true) }
         ensures same { IfSome result (λ c. c ≡ entries.items) }
@@ -115,16 +116,16 @@ impl Clock {
         true
     }
 
-    /// Whether an operation of this replica with these deps is the replica's next one, and all that it depends on
-    /// is counted. At most 16 steps an entry.
+    /// Whether an operation of this replica with these deps is the replica's next one, and all that
+    /// it depends on is counted. At most 16 steps an entry.
     pub fn ready(&self, replica: ReplicaId, deps: &Clock) -> bool
         ensures { result ≡ is_ready self.now replica deps.now }
     {
         self.get(replica) == deps.get(replica) && deps.is_within(self)
     }
 
-    /// Whether one more operation of a replica can be counted: there would be no seventeenth replica, and no count
-    /// above 2^24. At most 16 steps.
+    /// Whether one more operation of a replica can be counted: there would be no seventeenth
+    /// replica, and no count above 2^24. At most 16 steps.
     pub fn can_advance(&self, replica: ReplicaId) -> bool
         ensures fits { result ≡ is_clock (advanced self.now replica) }
         ensures full { result ≡ false → IsOverfull (advanced self.now replica) }
@@ -136,8 +137,8 @@ impl Clock {
         count < MAX_COUNT
     }
 
-    /// Counts one more operation of a replica. `Limit` (7) where that would be a seventeenth replica or a count above
-    /// 2^24, `Memory` (1) where a growth was refused.
+    /// Counts one more operation of a replica. `Limit` (7) where that would be a seventeenth
+    /// replica or a count above 2^24, `Memory` (1) where a growth was refused.
     pub fn advance(&mut self, replica: ReplicaId) -> Result<(), ClockError>
         ensures ok { OnOk result (self.new ≡ advanced self.old replica) }
         ensures limit { IsErrOf result ClockError.Limit
@@ -153,15 +154,16 @@ impl Clock {
         Ok(())
     }
 
-    /// Whether both clocks together count at most 16 replicas. At most 16 steps an entry of the other.
+    /// Whether both clocks together count at most 16 replicas. At most 16 steps an entry of the
+    /// other.
     pub fn can_join(&self, other: &Clock) -> bool
         ensures { result ≡ is_clock (joined self.now other.now) }
     {
         self.entries.len() + self.missing_from(other) <= MAX_REPLICAS
     }
 
-    /// Takes the greater of both counts of each replica. `Limit` (7) where there would be a seventeenth replica,
-    /// `Memory` (1) where a growth was refused.
+    /// Takes the greater of both counts of each replica. `Limit` (7) where there would be a
+    /// seventeenth replica, `Memory` (1) where a growth was refused.
     pub fn join(&mut self, other: &Clock) -> Result<(), ClockError>
         ensures ok { OnOk result (self.new ≡ joined self.old other.now) }
         ensures limit { IsErrOf result ClockError.Limit
@@ -230,7 +232,9 @@ impl PartialEq for Clock {
 
     ghost eq = { is_same_clock };
 
-    ghost laws = { partial_equiv_from_equiv (lists_equiv (and_equiv (on_equiv (λ e. e.0) nat_eq_equiv) (on_equiv (λ e. e.1) nat_eq_equiv))) };
+    ghost laws = { partial_equiv_from_equiv
+        (lists_equiv
+        (and_equiv (on_equiv (λ e. e.0) nat_eq_equiv) (on_equiv (λ e. e.1) nat_eq_equiv))) };
 
     /// Whether both count the same operations. At most 16 steps.
     fn eq(&self, other: &Clock) -> bool
@@ -244,7 +248,8 @@ impl PartialEq for Clock {
 impl Eq for Clock {
     ghost use Rattle.std.proofs.lemmas.Cmp.{on_equiv, and_equiv, nat_eq_equiv, lists_equiv};
 
-    ghost laws = { lists_equiv (and_equiv (on_equiv (λ e. e.0) nat_eq_equiv) (on_equiv (λ e. e.1) nat_eq_equiv)) };
+    ghost laws = { lists_equiv
+        (and_equiv (on_equiv (λ e. e.0) nat_eq_equiv) (on_equiv (λ e. e.1) nat_eq_equiv)) };
 }
 
 /// Whether these are the entries of a clock.

@@ -7,8 +7,8 @@ use std::marker::Model;
 /// The greatest counter of an operation: 2^48 - 1.
 pub const MAX_COUNTER: u64 = 281_474_976_710_655;
 
-/// The id of an operation: a counter from 1 to 2^48 - 1, and the replica that made it. The order is by counter,
-/// and then by replica.
+/// The id of an operation: a counter from 1 to 2^48 - 1, and the replica that made it. The order is
+/// by counter, and then by replica.
 #[derive(Clone, Copy, Debug, PartialEq, Eq, PartialOrd, Ord, Hash)]
 pub struct OpId {
     counter: u64,

@@ -4,8 +4,8 @@ ghost use Rattle.std.specs.Int.{w128, from_be_bytes, to_be_bytes};
 use std::marker::Model;
 use uuid::Uuid;
 
-/// The name of a replica: a UUID that isn't nil. Contracts see it as its number, the sixteen bytes read
-/// with the highest first; that is also its order.
+/// The name of a replica: a UUID that isn't nil. Contracts see it as its number, the sixteen bytes
+/// read with the highest first; that is also its order.
 #[derive(Clone, Copy, Debug, PartialEq, Eq, PartialOrd, Ord, Hash)]
 pub struct ReplicaId {
     number: u128,

@@ -13,6 +13,6 @@ returns-clause-read g c told =
     let fill : c.fill.new.self ≡ replicate n 0 = search rules in
     let count : length (take c.min-there.result c.fill.new.self) ≡ c.min-there.result = omega (arith, length-take c.min-there.result c.fill.new.self, c.fill.ensures.len) in
     let read : c.read_at.new.bytes ≡ take c.min-there.result (drop c.args.pos file) =
-    c.in_ok-read_at.ensures.read still ∙ ap (λ (k : ℕ). take k (drop c.args.pos (g.D.DiskFacts.content c.size.new.self))) count
+    (c.in_ok-read_at.ensures.read still).read ∙ ap (λ (k : ℕ). take k (drop c.args.pos (g.D.DiskFacts.content c.size.new.self))) count
     ∙ ap (λ (xs : List ℕ). take c.min-there.result (drop c.args.pos xs)) same in
     rw (read, fill) (padded_by_read _ _ n _ there)

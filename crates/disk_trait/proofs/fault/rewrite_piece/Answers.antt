@@ -12,7 +12,7 @@ returns-clause-torn g c told =
     let still : facts.tells c.read_padded.new.disk = search rules in
     let count : length c.read_padded.new.bytes ≡ c.args.len = search rules in
     tears_again facts c.args.pos c.args.len _ _ _ (keeps_tears facts c.args.pos c.args.len _ _ (c.in_ok-read_padded.ensures.keeps told))
-    (subst (λ (n : ℕ). Tears facts c.args.pos n c.read_padded.new.disk c.write_at.new.self) count (c.in_ok-write_at.ensures.torn still))
+    (subst (λ (n : ℕ). Tears facts c.args.pos n c.read_padded.new.disk c.write_at.new.self) count (c.in_ok-write_at.ensures.written still).torn)
 
 pub returns-clause-same : goal.returns-clause-same
 returns-clause-same g c told within =
@@ -21,5 +21,5 @@ returns-clause-same g c told within =
     let same : content c.read_padded.new.disk ≡ content c.args.disk.now = search rules in
     let count : length c.read_padded.new.bytes ≡ c.args.len = search rules in
     let read : c.read_padded.new.bytes ≡ padded (content c.args.disk.now) c.args.pos c.args.len = search (rules, count) in
-    c.in_ok-write_at.ensures.written still ∙ ap (λ (file : List ℕ). overwritten file c.args.pos c.read_padded.new.bytes) same
+    (c.in_ok-write_at.ensures.written still).written ∙ ap (λ (file : List ℕ). overwritten file c.args.pos c.read_padded.new.bytes) same
     ∙ ap (λ (bytes : List ℕ). overwritten (content c.args.disk.now) c.args.pos bytes) read ∙ overwritten_padded (content c.args.disk.now) c.args.pos c.args.len within

@@ -8,17 +8,26 @@ use Rattle.disk_trait.proofs.FileLemmas.{length-overwritten}
 use Rattle.disk_trait.proofs.fault.tear.Goals as goal
 
 pub returns-in_err-write_at-clause-torn : goal.returns-in_err-write_at-clause-torn
-returns-in_err-write_at-clause-torn g c told =
-    tears_wider g.D.DiskFacts c.args.pos (length c.args.bytes.now) _ _ _ _ (omega arith) (grind (arith, common_steps)) (c.write_at.ensures.torn told)
+returns-in_err-write_at-clause-torn g c told = record {
+  torn = tears_wider g.D.DiskFacts c.args.pos (length c.args.bytes.now) _ _ _ _ (omega arith) (grind (arith, common_steps)) (c.write_at.ensures.written told).torn;
+  written = search rules;
+  past_end = search rules;
+  unchanged = search rules;
+}
 
 pub returns-then-is_some-clause-torn : goal.returns-then-is_some-clause-torn
 returns-then-is_some-clause-torn g c told =
     let facts = g.D.DiskFacts in
     let n = length c.args.bytes.now in
     let still : facts.tells c.write_at.new.self = search rules in
-    tears_again facts c.args.pos n _ _ _
-    (tears_wider facts c.args.pos n _ _ _ _ (omega arith) (grind (arith, common_steps)) (c.write_at.ensures.torn told))
-    (tears_wider facts c.args.pos n _ _ _ _ (omega arith) (grind (arith, common_steps)) (c.rewrite.ensures.torn still))
+    record {
+      torn = tears_again facts c.args.pos n _ _ _
+          (tears_wider facts c.args.pos n _ _ _ _ (omega arith) (grind (arith, common_steps)) (c.write_at.ensures.written told).torn)
+          (tears_wider facts c.args.pos n _ _ _ _ (omega arith) (grind (arith, common_steps)) (c.rewrite.ensures.torn still));
+      written = search rules;
+      past_end = search rules;
+      unchanged = search rules;
+    }
 
 -- a call that could only fail by a failure of the disk, and didn't
 ok_if_alone : {T E P : Type 0} (answer : Result T E) → OnOk answer P → (IsErr answer → ⊥) → P
@@ -42,5 +51,9 @@ returns-then-is_some-clause-half g c told failed alone fits =
     ∙ ap (extended (overwritten file c.args.pos (take (n / 2) c.args.bytes.now))) sum
 
 pub returns-else-is_some-clause-torn : goal.returns-else-is_some-clause-torn
-returns-else-is_some-clause-torn g c told =
-    tears_wider g.D.DiskFacts c.args.pos (length c.args.bytes.now) _ _ _ _ (omega arith) (grind (arith, common_steps)) (c.write_at.ensures.torn told)
+returns-else-is_some-clause-torn g c told = record {
+  torn = tears_wider g.D.DiskFacts c.args.pos (length c.args.bytes.now) _ _ _ _ (omega arith) (grind (arith, common_steps)) (c.write_at.ensures.written told).torn;
+  written = search rules;
+  past_end = search rules;
+  unchanged = search rules;
+}

@@ -13,7 +13,7 @@ returns-clause-moments g c told =
     let new = c.sync.new.self in
     let P : List ℕ → Type 0 = λ left. (d : List ℕ) × disk.survives old d × Torn c.args.pos (length c.args.bytes.now) d left in
     let still : disk.tells mid = search rules in
-    let torn = (c.in_ok-write_at.ensures.torn told).no_more in
+    let torn = (c.in_ok-write_at.ensures.written told).torn.no_more in
     let settled = settles_no_more disk mid new (lawful mid still) (c.in_ok-sync.ensures.settled still) in
     moments_then disk P old mid new
     (moments_of_call disk P old mid (lawful old told) (c.in_ok-write_at.ensures.call told) (λ left now. (left, now, torn_same _ _ left)) torn)
