@@ -105,16 +105,14 @@ class Yardstick:
         for thread in self.threads:
             thread.join()
         self.near.close()
-        self.far.close()
 
     def serve(self):
-        file = os.open("yardstick", os.O_RDWR | os.O_CREAT)
-        while received := self.far.recv(PAGE):
-            for _ in range(SYNCS):
-                os.pwrite(file, bytes(PAGE), 0)
-                os.fsync(file)
-            self.far.sendall(received)
-        os.close(file)
+        with self.far, open("yardstick", "wb", buffering=0) as file:
+            while received := self.far.recv(PAGE):
+                for _ in range(SYNCS):
+                    os.pwrite(file.fileno(), bytes(PAGE), 0)
+                    os.fsync(file.fileno())
+                self.far.sendall(received)
 
     def ask(self):
         while not self.over.is_set():
