@@ -1,4 +1,4 @@
-pub mod Numbers
+pub mod LinkError
 pub mod Frames
 pub mod Reading
 pub mod Hearing

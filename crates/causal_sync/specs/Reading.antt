@@ -2,6 +2,7 @@
 use Rattle.std.specs.Prelude.{ℕ, zero, suc, ◌+◌, Bool, true, false, List, [], ◌∷◌, length, take, drop, Option, Some, None, Result}
 use Rattle.std.specs.Prelude.{Ok, Err, nat_lt, ◌==◌, if◌then◌else◌}
 use Rattle.std.specs.Int.{w16, is_in_range}
+use Rattle.fixed_numbers.specs.declared.sizes.TheConstants.{MAX_CONTENT}
 use Rattle.op_model.specs.declared.op.Op.{Op}
 use Rattle.change_codec.specs.declared.codec_error.CodecError.{CodecError}
 use Rattle.change_codec.specs.Reading.{number_at, replica_at, deps_at}
@@ -110,7 +111,7 @@ content_at own false content = later_at content
 -- with the length of the content, and the bytes after it: the frame and how many bytes it takes, or none yet
 unfoldable pub framed : ℕ → Bool → ℕ → List ℕ → Result (Option (Heard × ℕ)) LinkError
 framed own first len rest =
-    if is_in_range 1 131068 len then (if nat_lt (length rest) len then Ok None else (content_at own first (take len rest) >>= λ frame. Ok (Some (frame, 4 + len))))
+    if is_in_range 1 MAX_CONTENT len then (if nat_lt (length rest) len then Ok None else (content_at own first (take len rest) >>= λ frame. Ok (Some (frame, 4 + len))))
     else Err BadFrame
 
 -- what stands at the front: nothing before its length is there

@@ -1,5 +1,6 @@
 -- The clock of what a peer has or was sent.
 use Rattle.std.specs.Prelude.{ℕ, ◌+◌, ◌&&◌, nat_le, List, [], ◌∷◌, Option, Some, None, if◌then◌else◌}
+use Rattle.fixed_numbers.specs.declared.limits.TheConstants.{MAX_COUNT}
 use Rattle.op_ids.specs.Clock.{count_of, joined, is_clock}
 use Rattle.op_model.specs.declared.op.Op.{Op}
 
@@ -10,7 +11,7 @@ number_of_op op = count_of op.deps op.id.replica + 1
 -- the clock joined with an operation, where it has a place in a clock
 abbrev pub counted : List (ℕ × ℕ) → Op → Option (List (ℕ × ℕ))
 counted clock op =
-    if nat_le (number_of_op op) 16777216 && is_clock (joined clock ((op.id.replica, number_of_op op) ∷ []))
+    if nat_le (number_of_op op) MAX_COUNT && is_clock (joined clock ((op.id.replica, number_of_op op) ∷ []))
     then Some (joined clock ((op.id.replica, number_of_op op) ∷ [])) else None
 
 -- what follows from a clock, if there is one

@@ -1,8 +1,9 @@
 ghost use Rattle.std.specs.Prelude.{◌≡◌};
 ghost use Rattle.causal_sync.specs.declared.link_error.LinkError.TheVariants.{Memory};
-ghost use Rattle.causal_sync.specs.Numbers.{number_of};
+ghost use Rattle.causal_sync.specs.LinkError.{number_of};
 
 use change_codec::CodecError;
+use fixed_numbers::refusals::{BAD_FRAME, BAD_HELLO, CLOSED, LIMIT, MEMORY};
 use std::alloc::AllocError;
 use thiserror::Error;
 
@@ -45,11 +46,11 @@ impl LinkError {
         ensures { result ≡ number_of self }
     {
         match self {
-            LinkError::Memory => 1,
-            LinkError::Limit => 7,
-            LinkError::BadFrame => 25,
-            LinkError::BadHello => 26,
-            LinkError::Closed => 27,
+            LinkError::Memory => MEMORY,
+            LinkError::Limit => LIMIT,
+            LinkError::BadFrame => BAD_FRAME,
+            LinkError::BadHello => BAD_HELLO,
+            LinkError::Closed => CLOSED,
             LinkError::Record(fault) => fault.number(),
         }
     }

@@ -3,7 +3,8 @@ ghost use Rattle.std.specs.Prelude.{◌≡◌, IfOk, OnOk, IsErrOf, Some, None};
 ghost use Rattle.op_ids.specs.declared.clock_error.ClockError.TheVariants.{Limit};
 ghost use Rattle.causal_sync.specs.Sent.{counted, sent};
 
-use op_ids::{Clock, ClockError, MAX_COUNT};
+use fixed_numbers::limits::MAX_COUNT;
+use op_ids::{Clock, ClockError};
 use op_model::Op;
 use std::alloc::Global;
 

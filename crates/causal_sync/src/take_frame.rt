@@ -11,12 +11,10 @@ use crate::heard::Heard;
 use crate::link_error::LinkError;
 use crate::take_content::take_content;
 use crate::waiting::Waiting;
+use fixed_numbers::sizes::MAX_CONTENT;
 use op_ids::ReplicaId;
 use std::alloc::{AllocError, Global};
 use std::collections::VecDeque;
-
-/// The most bytes behind the length of a frame.
-const MAX_CONTENT: usize = 131_068;
 
 /// The frames at the front of bytes, and why no further one was taken.
 #[derive(Drop)]

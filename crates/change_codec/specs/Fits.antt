@@ -2,6 +2,7 @@
 use Rattle.std.specs.Prelude.{◌≡◌, ℕ, ◌<◌, ◌≤◌, ◌^◌, true, List, [], ◌∷◌, length, Option, Some, None}
 use Rattle.std.specs.Char.{IsScalar}
 use Rattle.std.specs.Str.{IsUtf8}
+use Rattle.fixed_numbers.specs.declared.limits.TheConstants.{MAX_URL_LENGTH}
 use Rattle.op_ids.specs.Id.{Id}
 use Rattle.op_ids.specs.Clock.{is_clock}
 use Rattle.op_model.specs.declared.op.Op.{Op}
@@ -33,7 +34,7 @@ IsOrigin (Some id) = IsId id
 -- 1 to 1,024 bytes of UTF-8
 pub record IsUrl (text : List ℕ) : Type 0 where
   pub some : 0 < length text
-  pub most : length text ≤ 1024
+  pub most : length text ≤ MAX_URL_LENGTH
   pub utf8 : IsUtf8 text
 
 -- a link has a URL, and a comment a name of sixteen bytes

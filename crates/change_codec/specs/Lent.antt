@@ -1,5 +1,6 @@
 -- What is read before any memory is taken.
 use Rattle.std.specs.Prelude.{◌≡◌, ◌⊎◌, ℕ, ◌<◌, ◌≤◌, List, length, [], Result, Ok, Err, IsOk}
+use Rattle.fixed_numbers.specs.declared.limits.TheConstants.{MAX_URL_LENGTH}
 use Rattle.op_model.specs.declared.op.Body.{Body}
 use Rattle.op_model.specs.declared.op.Body.TheVariants.{Insert, Remove, AddMark, RemoveMark}
 use Rattle.op_model.specs.declared.mark.Mark.{Mark}
@@ -26,7 +27,7 @@ body_of (body.AddMark mark start end) = AddMark (mark_of mark) start end
 
 -- the URL of a link has 1 to 1,024 bytes
 abbrev pub HasUrlOf : Mark → Type 0
-HasUrlOf (added.Link url) = (0 < length url) × (length url ≤ 1024)
+HasUrlOf (added.Link url) = (0 < length url) × (length url ≤ MAX_URL_LENGTH)
 HasUrlOf added.Strong = Unit {0}
 HasUrlOf added.Em = Unit {0}
 HasUrlOf (added.Comment id) = Unit {0}

@@ -7,3 +7,4 @@ pub mod Reading
 pub mod Lent
 pub mod Record
 pub mod Stream
+pub mod StreamError

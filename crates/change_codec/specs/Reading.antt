@@ -4,6 +4,7 @@ use Rattle.std.specs.Prelude.{◌≡◌, ℕ, zero, suc, List, [], ◌∷◌, le
 use Rattle.std.specs.Int.{Width, w16, w32, w64, w128, byte_len, from_be_bytes, is_in_range}
 use lib.Utf8.{scalar}
 use Rattle.std.specs.Str.{is_utf8}
+use Rattle.fixed_numbers.specs.declared.limits.TheConstants.{MAX_COUNT, MAX_COUNTER, MAX_URL_LENGTH}
 use Rattle.op_ids.specs.Id.{Id}
 use Rattle.op_model.specs.declared.op.Op.{Op}
 use Rattle.op_model.specs.declared.op.Body.{Body}
@@ -63,7 +64,7 @@ within low high n = if is_in_range low high n.0 then Ok n else Err fault.Number
 
 -- a counter, from 1 to 2^48 - 1
 unfoldable pub counter_at : List ℕ → Result (ℕ × List ℕ) CodecError
-counter_at bytes = number_at w64 bytes >>= within 1 281474976710655
+counter_at bytes = number_at w64 bytes >>= within 1 MAX_COUNTER
 
 -- a replica, which isn't nil
 unfoldable pub replica_at : List ℕ → Result (ℕ × List ℕ) CodecError
@@ -81,7 +82,7 @@ unfoldable pub entry_at : ℕ → List ℕ → Result ((ℕ × ℕ) × List ℕ)
 entry_at low bytes = do
   replica ← replica_at bytes
   above ← (if nat_lt low replica.0 then Ok replica else Err fault.Order)
-  count ← (number_at w64 above.1 >>= within 1 16777216)
+  count ← (number_at w64 above.1 >>= within 1 MAX_COUNT)
   Ok ((above.0, count.0), count.1)
 
 -- this many entries, in strictly rising order of replica
@@ -118,7 +119,7 @@ scalar_at bytes = number_at w32 bytes >>= λ n. if scalar n.0 then Ok n else Err
 -- the length of a URL, from 1 to 1,024, and that many bytes of UTF-8
 unfoldable pub url_at : List ℕ → Result (List ℕ × List ℕ) CodecError
 url_at bytes = do
-  len ← (number_at w16 bytes >>= within 1 1024)
+  len ← (number_at w16 bytes >>= within 1 MAX_URL_LENGTH)
   text ← bytes_at len.0 len.1
   if is_utf8 text.0 then Ok text else Err fault.Utf8
 

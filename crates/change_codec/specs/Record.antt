@@ -1,6 +1,7 @@
 -- A whole record at the front of a stream.
 use Rattle.std.specs.Prelude.{◌≡◌, ◌⊎◌, ℕ, ◌+◌, ◌<◌, ◌≤◌, List, length, take, drop, Option, Some, None, Result, Ok, Err, nat_lt, if◌then◌else◌}
 use Rattle.std.specs.Int.{w32, from_be_bytes, is_in_range}
+use Rattle.fixed_numbers.specs.declared.sizes.TheConstants.{MAX_RECORD, MIN_RECORD}
 use Rattle.op_model.specs.declared.op.Op.{Op}
 use Rattle.change_codec.specs.declared.codec_error.CodecError.{CodecError}
 use Rattle.change_codec.specs.declared.codec_error.CodecError.TheVariants.{Memory, Length}
@@ -11,7 +12,7 @@ use Rattle.change_codec.specs.Reading.{◌>>=◌, op_at}
 -- with the length of the body, and the bytes after it: the operation and how many bytes it takes, or none yet
 abbrev pub record_at : ℕ → List ℕ → Result (Option (Op × ℕ)) CodecError
 record_at len rest =
-    if is_in_range 33 1491 len then (if nat_lt (length rest) len then Ok None else (op_at (take len rest) >>= λ op. Ok (Some (op, 4 + len))))
+    if is_in_range MIN_RECORD MAX_RECORD len then (if nat_lt (length rest) len then Ok None else (op_at (take len rest) >>= λ op. Ok (Some (op, 4 + len))))
     else Err Length
 
 -- the length of the body, as the first four bytes give it
@@ -33,7 +34,7 @@ first_fault bytes = fault_of (taken bytes)
 
 -- no whole record yet: its length isn't there, or is in its range and reaches past the end
 abbrev pub IsPartial : List ℕ → Type 0
-IsPartial bytes = (length bytes < 4) ⊎ ((33 ≤ length_at bytes) × (length_at bytes ≤ 1491) × (length bytes < 4 + length_at bytes))
+IsPartial bytes = (length bytes < 4) ⊎ ((MIN_RECORD ≤ length_at bytes) × (length_at bytes ≤ MAX_RECORD) × (length bytes < 4 + length_at bytes))
 
 -- the first n bytes spell the operation
 pub record Begins (bytes : List ℕ) (op : Op) (n : ℕ) : Type 0 where

@@ -1,6 +1,7 @@
 ghost use Rattle.std.specs.Prelude.{◌≡◌};
 ghost use Rattle.change_codec.specs.declared.codec_error.CodecError.TheVariants.{Memory};
 
+use fixed_numbers::refusals::{ANCHOR, KIND, LENGTH, MEMORY, NUMBER, ORDER, SCALAR, UTF8};
 use std::alloc::AllocError;
 use thiserror::Error;
 
@@ -52,14 +53,14 @@ impl CodecError {
         ensures { result ≡ number_of self }
     {
         match self {
-            CodecError::Memory => 1,
-            CodecError::Length => 30,
-            CodecError::Kind => 31,
-            CodecError::Number => 32,
-            CodecError::Scalar => 33,
-            CodecError::Utf8 => 34,
-            CodecError::Order => 35,
-            CodecError::Anchor => 36,
+            CodecError::Memory => MEMORY,
+            CodecError::Length => LENGTH,
+            CodecError::Kind => KIND,
+            CodecError::Number => NUMBER,
+            CodecError::Scalar => SCALAR,
+            CodecError::Utf8 => UTF8,
+            CodecError::Order => ORDER,
+            CodecError::Anchor => ANCHOR,
         }
     }
 }

@@ -9,7 +9,8 @@ ghost use Rattle.change_codec.specs.Writing.{Appends, HasRoom};
 use crate::CodecError;
 use crate::id::{put_replica, take_replica};
 use crate::number::{put_byte, put_u64, take_byte, take_u64};
-use op_ids::{Clock, MAX_COUNT, ReplicaId};
+use fixed_numbers::limits::MAX_COUNT;
+use op_ids::{Clock, ReplicaId};
 use std::alloc::Global;
 
 /// Puts the number of entries, and each of them: its replica, and then its count.

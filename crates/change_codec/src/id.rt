@@ -7,7 +7,8 @@ ghost use Rattle.change_codec.specs.Writing.{Appends, HasRoom};
 
 use crate::CodecError;
 use crate::number::{put_bytes, put_u64, take_sixteen, take_u64};
-use op_ids::{MAX_COUNTER, OpId, ReplicaId};
+use fixed_numbers::limits::MAX_COUNTER;
+use op_ids::{OpId, ReplicaId};
 
 /// Puts the sixteen bytes of a replica.
 #[tactic(auto, unfolding(crate::specs::Spelling::number_bytes))]

@@ -8,6 +8,7 @@ ghost use Rattle.change_codec.specs.Writing.{Appends, HasRoom};
 
 use crate::CodecError;
 use crate::number::{put_byte, put_bytes, put_u16, take_bytes, take_sixteen, take_u16};
+use fixed_numbers::limits::MAX_URL_LENGTH;
 use op_model::{CommentId, Mark, MarkKey, Url};
 use std::alloc::{AllocError, Global};
 use std::str::from_utf8;
@@ -139,7 +140,7 @@ fn take_url(bytes: &[u8]) -> Result<(&str, &[u8]), CodecError>
     ensures { Reads (λ x. (x.0.now, x.1.now)) result (url_at bytes.now) }
 {
     let (len, rest) = take_u16(bytes)?;
-    if len == 0 || len > 1024 {
+    if len == 0 || len as usize > MAX_URL_LENGTH {
         return Err(CodecError::Number);
     }
     let (text, rest) = take_bytes(len as usize, rest)?;

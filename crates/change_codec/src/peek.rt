@@ -9,6 +9,7 @@ use crate::content::take_whole_content;
 use crate::deps::skip_deps;
 use crate::head::{Head, take_head};
 use crate::number::take_u32;
+use fixed_numbers::sizes::{MAX_RECORD, MIN_RECORD};
 
 /// How many bytes the record takes that the bytes begin with, from 37 to 1,495. `None` where they
 /// begin with no whole record of an operation. One pass over the record; takes no memory.
@@ -27,7 +28,7 @@ fn skip_record(bytes: &[u8]) -> Option<usize>
         return None;
     };
     let len = len as usize;
-    if len < 33 || len > 1491 {
+    if len < MIN_RECORD || len > MAX_RECORD {
         return None;
     }
     if rest.len() < len {

@@ -14,6 +14,7 @@ use crate::deps::{collect_deps, put_deps, skip_deps};
 use crate::head::{Head, take_head};
 use crate::id::put_id;
 use crate::number::{put_byte, put_u32, take_u32};
+use fixed_numbers::sizes::{MAX_RECORD, MIN_RECORD};
 use op_model::Op;
 use std::alloc::{AllocError, Global};
 
@@ -84,7 +85,7 @@ fn take_record(alloc: Global, bytes: &[u8]) -> Result<Option<(Op, usize)>, Codec
         return Ok(None);
     };
     let len = len as usize;
-    if len < 33 || len > 1491 {
+    if len < MIN_RECORD || len > MAX_RECORD {
         return Err(CodecError::Length);
     }
     if rest.len() < len {

@@ -1,6 +1,7 @@
 ghost use Rattle.std.specs.Prelude.{◌≡◌};
-ghost use Rattle.change_codec.specs.declared.stream_error.StreamError.TheVariants.{Memory, Stream};
+ghost use Rattle.change_codec.specs.declared.stream_error.StreamError.TheVariants.{Memory};
 
+use fixed_numbers::refusals::{BAD_STREAM, MEMORY};
 use std::alloc::AllocError;
 use thiserror::Error;
 
@@ -24,14 +25,15 @@ impl From<AllocError> for StreamError {
 }
 
 impl StreamError {
+    ghost use Rattle.change_codec.specs.StreamError.{number_of};
+
     /// The number of the refusal: 1 or 46.
     pub fn number(self) -> u8
-        ensures memory { self ≡ Memory → result ≡ 1 }
-        ensures stream { self ≡ Stream → result ≡ 46 }
+        ensures { result ≡ number_of self }
     {
         match self {
-            StreamError::Memory => 1,
-            StreamError::Stream => 46,
+            StreamError::Memory => MEMORY,
+            StreamError::Stream => BAD_STREAM,
         }
     }
 }

@@ -5,6 +5,7 @@ use Rattle.char_sequence.specs.declared.cell.Cell.{Cell}
 use Rattle.char_sequence.specs.declared.chunk_size.ChunkSize.{ChunkSize}
 use Rattle.char_sequence.specs.Cells.{shown}
 use Rattle.op_ids.specs.Id.{Id, is_same}
+use Rattle.char_sequence.specs.declared.chunk.TheConstants.{MAX_CHUNK, MIN_CHUNK}
 
 -- the chunks of a sequence, in the order of the text
 abbrev pub Held : Type 0
@@ -30,12 +31,12 @@ cell_at held i j = option_and_then (λ k. slice_get k j) (slice_get held i)
 -- each of these chunks has at least so many cells, and at most 512
 abbrev pub AreSized : ℕ → Held → Type 0
 AreSized least [] = Unit {0}
-AreSized least (k ∷ ks) = (least ≤ length k) × (length k ≤ 512) × AreSized least ks
+AreSized least (k ∷ ks) = (least ≤ length k) × (length k ≤ MAX_CHUNK) × AreSized least ks
 
 -- no chunk is empty, and where there are several, each has at least 256 cells
 pub record AreChunks (held : Held) : Type 0 where
   pub sized : AreSized 1 held
-  pub halved : 1 < length held → AreSized 256 held
+  pub halved : 1 < length held → AreSized MIN_CHUNK held
 
 -- what stands before a place: before the j-th cell of the i-th chunk
 abbrev pub before : Held → ℕ → ℕ → List Cell
@@ -53,7 +54,7 @@ IsPlace (k ∷ ks) i j = (i < length (k ∷ ks)) × (j ≤ length (get_or (k ∷
 -- from 1 to 512 cells, and so many of them a reader sees
 pub record IsChunk (cells : List Cell) (visible : ℕ) : Type 0 where
   pub some : 0 < length cells
-  pub few : length cells ≤ 512
+  pub few : length cells ≤ MAX_CHUNK
   pub counted : visible ≡ length (shown cells)
 
 -- a place of the text: so many chunks before it, and so many cells of its own

@@ -10,7 +10,10 @@ use std::alloc::{AllocError, Global};
 use std::marker::Model;
 
 /// The most cells of a chunk.
-const MOST: usize = 512;
+pub(crate) const MAX_CHUNK: usize = 512;
+
+/// The fewest cells of a chunk where there are several.
+pub(crate) const MIN_CHUNK: usize = 256;
 
 /// From 1 to 512 cells in the order of the text, and how many of them a reader sees.
 #[derive(Debug, Drop)]
@@ -36,7 +39,7 @@ impl Chunk {
     /// A chunk of these cells, from 1 to 512 of them. An error is want of memory (1).
     pub fn of(alloc: Global, cells: &[Cell]) -> Result<Chunk, AllocError>
         requires some { 0 < length cells.now }
-        requires few { length cells.now ≤ 512 }
+        requires few { length cells.now ≤ MAX_CHUNK }
         ensures { IfOk result (λ chunk. chunk ≡ cells.now) }
     {
         Ok(Chunk {
@@ -48,7 +51,7 @@ impl Chunk {
     /// All its cells. Constant.
     pub fn cells(&self) -> &[Cell]
         ensures cells { result.now ≡ self.now }
-        ensures few { length result.now ≤ 512 }
+        ensures few { length result.now ≤ MAX_CHUNK }
     {
         let _ = self.shown;
         self.cells.as_slice()
@@ -77,16 +80,16 @@ impl Chunk {
 
     /// Whether it can take one cell more. Constant.
     pub fn has_room(&self) -> bool
-        ensures { result ≡ true → length self.now < 512 }
+        ensures { result ≡ true → length self.now < MAX_CHUNK }
     {
-        self.cells.len() < MOST
+        self.cells.len() < MAX_CHUNK
     }
 
     /// Puts a cell before its j-th cell, or behind its last one. An error is want of memory (1),
     /// and leaves it as it was. The cells behind move.
     pub fn insert(&mut self, j: usize, cell: Cell) -> Result<(), AllocError>
         requires place { j ≤ length self.old }
-        requires room { length self.old < 512 }
+        requires room { length self.old < MAX_CHUNK }
         ensures put { OnOk result (self.new ≡ take j self.old ++ cell ∷ drop j self.old) }
         ensures err { OnErr result (self.new ≡ self.old) }
     {

@@ -4,6 +4,7 @@ ghost use Rattle.std.proofs.Common.{get_or};
 ghost use Rattle.char_sequence.specs.Chunks.{size_at, cell_at, cells_of, before, from, AreChunks};
 ghost use Rattle.char_sequence.specs.Chunks.{IsPlace};
 ghost use Rattle.char_sequence.specs.declared.cell.Cell as cell;
+ghost use Rattle.char_sequence.specs.declared.chunk.TheConstants.{MAX_CHUNK};
 
 use crate::cell::Cell;
 use crate::chunk::Chunk;
@@ -106,7 +107,8 @@ impl Chunks {
 
     /// Whether there is an i-th chunk that can take one cell more. Constant.
     fn has_room(&self, i: usize) -> bool
-        ensures { result ≡ true → (i < length self.now) × (length (get_or self.now i []) < 512) }
+        ensures { result ≡ true
+            → (i < length self.now) × (length (get_or self.now i []) < MAX_CHUNK) }
     {
         match self.chunks.get(i) {
             Some(chunk) => chunk.has_room(),

@@ -5,7 +5,7 @@ ghost use Rattle.std.proofs.Common.{get_or};
 ghost use Rattle.char_sequence.specs.Chunks.{cells_of, AreChunks, AreSized};
 
 use crate::cell::Cell;
-use crate::chunk::Chunk;
+use crate::chunk::{Chunk, MAX_CHUNK, MIN_CHUNK};
 use std::alloc::{AllocError, Global};
 
 /// The cells of a chunk, with a run of cells before the j-th one. An error is want of memory (1).
@@ -25,13 +25,14 @@ pub fn joined(alloc: Global, old: &[Cell], j: usize, run: &[Cell]) -> Result<Vec
 pub fn cut(alloc: Global, cells: &[Cell]) -> Result<Vec<Chunk>, AllocError>
     ensures cells { IfOk result (λ chunks. cells_of chunks.items ≡ cells.now) }
     ensures chunks { IfOk result (λ chunks. AreChunks chunks.items) }
-    ensures halved { IfOk result (λ chunks. 256 ≤ length cells.now → AreSized 256 chunks.items) }
+    ensures halved { IfOk result (λ chunks. MIN_CHUNK ≤ length cells.now
+        → AreSized MIN_CHUNK chunks.items) }
 {
     let mut chunks = Vec::new(alloc);
     let mut from = 0;
-    while cells.len() - from > 512 {
-        chunks.push(Chunk::of(alloc, &cells[from..from + 256])?)?;
-        from += 256;
+    while cells.len() - from > MAX_CHUNK {
+        chunks.push(Chunk::of(alloc, &cells[from..from + MIN_CHUNK])?)?;
+        from += MIN_CHUNK;
     }
     if from == cells.len() {
         return Ok(chunks);

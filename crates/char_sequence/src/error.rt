@@ -1,3 +1,4 @@
+use fixed_numbers::refusals::{MEMORY, UNKNOWN_ID};
 use std::alloc::AllocError;
 use thiserror::Error;
 
@@ -21,8 +22,8 @@ impl SequenceError {
         ensures { result ≡ number_of self }
     {
         match self {
-            SequenceError::Memory => 1,
-            SequenceError::UnknownId => 60,
+            SequenceError::Memory => MEMORY,
+            SequenceError::UnknownId => UNKNOWN_ID,
         }
     }
 }

@@ -8,6 +8,7 @@ ghost use Rattle.op_model.specs.Walk.{walk};
 ghost use Rattle.op_model.specs.declared.op.Op.{Op};
 ghost use Rattle.op_model.specs.Text.{visible as seen, text as text_of};
 ghost use Rattle.op_model.specs.Made.{id_at, tombstones_at};
+ghost use Rattle.char_sequence.specs.declared.chunk.TheConstants.{MAX_CHUNK, MIN_CHUNK};
 
 use crate::cell::Cell;
 use crate::chunk_size::ChunkSize;
@@ -116,7 +117,8 @@ impl Sequence {
     pub fn visible_in(&self, k: usize, ticks: &mut Ticks) -> Option<OpId>
         ensures found { (ops : List Op) (doc : ℕ) → Holds self.now ops doc
             → result ≡ id_at (seen ops doc) k }
-        ensures ticks { ticks.new ≤ ticks.old + (1 + length (cells_of self.now) / 256 + 512) }
+        ensures ticks { ticks.new
+            ≤ ticks.old + (1 + length (cells_of self.now) / MIN_CHUNK + MAX_CHUNK) }
     {
         shown(&self.chunks, k, ticks)
     }

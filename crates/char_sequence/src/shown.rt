@@ -3,6 +3,7 @@ ghost use Rattle.std.specs.Prelude.{◌≡◌, ◌+◌, ◌≤◌, ◌/◌, ◌+
 ghost use Rattle.std.proofs.Common.{get_or};
 ghost use Rattle.char_sequence.specs.Cells.{behind_shown, shown as shown_of, shown_at};
 ghost use Rattle.char_sequence.specs.Chunks.{cells_of, from as from_of, IsPlace};
+ghost use Rattle.char_sequence.specs.declared.chunk.TheConstants.{MAX_CHUNK, MIN_CHUNK};
 
 use crate::cell::Cell;
 use crate::chunks::Chunks;
@@ -16,7 +17,8 @@ use std::alloc::AllocError;
 /// and for each cell of that one.
 pub fn shown(chunks: &Chunks, k: usize, ticks: &mut Ticks) -> Option<OpId>
     ensures found { result ≡ shown_at (cells_of chunks.now) k }
-    ensures ticks { ticks.new ≤ ticks.old + (1 + length (cells_of chunks.now) / 256 + 512) }
+    ensures ticks { ticks.new
+        ≤ ticks.old + (1 + length (cells_of chunks.now) / MIN_CHUNK + MAX_CHUNK) }
 {
     chunks.are_sized();
     let mut left = k;

@@ -1,6 +1,7 @@
 //! What a disk refuses.
 ghost use Rattle.std.specs.Prelude.{◌≡◌};
 
+use fixed_numbers::refusals::{OPEN_FAILED, PAST_END, READ_FAILED, SYNC_FAILED, WRITE_FAILED};
 use thiserror::Error;
 
 /// A refusal of a disk, with its number and its words.
@@ -31,11 +32,11 @@ impl DiskError {
         ensures { result ≡ number_of self }
     {
         match self {
-            DiskError::ReadFailed => 50,
-            DiskError::WriteFailed => 51,
-            DiskError::SyncFailed => 52,
-            DiskError::PastEnd => 53,
-            DiskError::OpenFailed => 54,
+            DiskError::ReadFailed => READ_FAILED,
+            DiskError::WriteFailed => WRITE_FAILED,
+            DiskError::SyncFailed => SYNC_FAILED,
+            DiskError::PastEnd => PAST_END,
+            DiskError::OpenFailed => OPEN_FAILED,
         }
     }
 }

@@ -99,12 +99,6 @@ origin_there kept ops doc at before origin are is_before is_last =
     ∙ (last_ended-tombstones (kept_end_after kept) ops doc before (tombstones_at ops doc at) says
     ∙ ap (λ first. last_or first (filter (λ c. ends_after ops doc c.id) (tombstones_at ops doc at))) is_before)
 
-pub length-insert_bodies : (replica counter : ℕ) (origin : Option Id) (text : List ℕ)
-    → length (insert_bodies replica counter origin text) ≡ length text
-length-insert_bodies replica counter origin [] = refl
-length-insert_bodies replica counter origin (c ∷ cs) =
-    ap suc (length-insert_bodies replica (counter + 1) (Some (record { counter = counter; replica = replica })) cs)
-
 map_removes : (cs : List Character) → map Remove (map (λ c. c.id) cs) ≡ map (λ c. Remove c.id) cs
 map_removes [] = refl
 map_removes (c ∷ cs) = ap (λ bodies. Remove c.id ∷ bodies) (map_removes cs)
@@ -129,10 +123,6 @@ pub run_numbered : (replica doc counter : ℕ) (clock : List (ℕ × ℕ)) (orig
 run_numbered replica doc counter clock origin [] = tt
 run_numbered replica doc counter clock origin (c ∷ cs) =
     (refl, refl, run_numbered replica doc (counter + 1) (advanced clock replica) (Some (record { counter = counter; replica = replica })) cs)
-
-pub length-numbered : (replica doc counter : ℕ) (clock : List (ℕ × ℕ)) (bodies : List Body) → length (numbered replica doc counter clock bodies) ≡ length bodies
-length-numbered replica doc counter clock [] = refl
-length-numbered replica doc counter clock (b ∷ bs) = ap suc (length-numbered replica doc (counter + 1) (advanced clock replica) bs)
 
 -- one more target was found
 pub found_more : (cs : List Character) (at i : ℕ) (before after : List Id) (found : Option Id) → after ≡ before ++ optional found

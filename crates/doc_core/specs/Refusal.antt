@@ -1,5 +1,6 @@
 -- Why no operations were made.
 use Rattle.std.specs.Prelude.{ℕ}
+use Rattle.fixed_numbers.specs.declared.refusals.TheConstants.{LIMIT, MEMORY, RANGE}
 use Rattle.op_ids.specs.declared.clock_error.ClockError.{ClockError}
 use Rattle.op_ids.specs.declared.clock_error.ClockError.TheVariants as clock
 use Rattle.doc_core.specs.declared.make_error.MakeError.{MakeError}
@@ -7,9 +8,9 @@ use Rattle.doc_core.specs.declared.make_error.MakeError.TheVariants.{Memory, Ran
 
 -- the number of each refusal
 abbrev pub number_of : MakeError → ℕ
-number_of Memory = 1
-number_of Range = 5
-number_of Limit = 7
+number_of Memory = MEMORY
+number_of Range = RANGE
+number_of Limit = LIMIT
 
 -- a clock's refusal, as that of an edit
 abbrev pub of_clock : ClockError → MakeError

@@ -1,4 +1,5 @@
 ghost use Rattle.std.specs.Prelude.{◌≡◌, ◌≤◌, ◌<◌, ◌^◌, List, [], IfOk, length, nat_le};
+ghost use Rattle.fixed_numbers.specs.declared.limits.TheConstants.{MAX_LISTED};
 ghost use Rattle.op_model.specs.declared.op.Op.{Op};
 ghost use Rattle.op_model.specs.Made.{id_before, is_inside as is_inside_of, origin_of};
 ghost use Rattle.op_model.specs.Spans.{spans as spans_of};
@@ -74,7 +75,7 @@ impl Doc {
     pub fn spans(&self) -> Result<Vec<Span>, AllocError>
         ensures spans { IfOk result (λ found. (ops : List Op) → StandsFor self.now ops
             → found.items ≡ spans_of ops self.now.number) }
-        ensures few { IfOk result (λ found. listed found.items ≤ 1048576) }
+        ensures few { IfOk result (λ found. listed found.items ≤ MAX_LISTED) }
     {
         span_flatten::spans(&self.sequence, &self.anchors)
     }

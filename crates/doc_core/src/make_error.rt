@@ -1,3 +1,4 @@
+use fixed_numbers::refusals::{LIMIT, MEMORY, RANGE};
 use op_ids::ClockError;
 use std::alloc::AllocError;
 use thiserror::Error;
@@ -25,9 +26,9 @@ impl MakeError {
         ensures { result ≡ number_of self }
     {
         match self {
-            MakeError::Memory => 1,
-            MakeError::Range => 5,
-            MakeError::Limit => 7,
+            MakeError::Memory => MEMORY,
+            MakeError::Range => RANGE,
+            MakeError::Limit => LIMIT,
         }
     }
 }

@@ -5,8 +5,9 @@ ghost use Rattle.op_model.specs.declared.op.Body.TheVariants.{Remove};
 ghost use Rattle.doc_core.specs.Limits.{keep_limits as keep_limits_of};
 ghost use Rattle.doc_core.specs.Typing.{run_from};
 
-use op_ids::{Clock, MAX_COUNTER, OpId, ReplicaId};
-use op_model::{Body, MAX_EDIT};
+use fixed_numbers::limits::{MAX_COUNTER, MAX_EDIT};
+use op_ids::{Clock, OpId, ReplicaId};
+use op_model::Body;
 use std::alloc::{AllocError, Global};
 
 /// Whether so many operations of a replica, the first with this counter and depending on this

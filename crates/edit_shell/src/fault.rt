@@ -6,6 +6,10 @@ ghost use Rattle.group_commit.specs.Loading.{number_of as number_of_load};
 ghost use Rattle.session_threads.specs.Faults.{number_of as number_of_session};
 ghost use Rattle.edit_shell.specs.Ends.{number_of};
 
+use fixed_numbers::refusals::{
+    BAD_OPERATION, BAD_ROOT, BAD_STREAM, BAD_TABLE, FAILED, FIELD, MEMORY, NO_ROOT, NOT_EMPTY,
+    OPEN_FAILED, READ_FAILED, SOCKET, STREAM, SYNC_FAILED, WRITE_FAILED,
+};
 use group_commit::InitError;
 use session_threads::SessionFault;
 use thiserror::Error;
@@ -66,21 +70,21 @@ impl Fault {
         ensures { result ≡ number_of self }
     {
         match self {
-            Fault::Memory => 1,
-            Fault::Field => 4,
-            Fault::Failed => 9,
-            Fault::NoRoot => 42,
-            Fault::BadRoot => 43,
-            Fault::BadTable => 45,
-            Fault::BadStream => 46,
-            Fault::BadOperation => 47,
-            Fault::NotEmpty => 48,
-            Fault::ReadFailed => 50,
-            Fault::WriteFailed => 51,
-            Fault::SyncFailed => 52,
-            Fault::OpenFailed => 54,
-            Fault::Socket => 70,
-            Fault::Stream => 71,
+            Fault::Memory => MEMORY,
+            Fault::Field => FIELD,
+            Fault::Failed => FAILED,
+            Fault::NoRoot => NO_ROOT,
+            Fault::BadRoot => BAD_ROOT,
+            Fault::BadTable => BAD_TABLE,
+            Fault::BadStream => BAD_STREAM,
+            Fault::BadOperation => BAD_OPERATION,
+            Fault::NotEmpty => NOT_EMPTY,
+            Fault::ReadFailed => READ_FAILED,
+            Fault::WriteFailed => WRITE_FAILED,
+            Fault::SyncFailed => SYNC_FAILED,
+            Fault::OpenFailed => OPEN_FAILED,
+            Fault::Socket => SOCKET,
+            Fault::Stream => STREAM,
         }
     }
 }

@@ -2,6 +2,7 @@
 use Rattle.std.specs.Prelude.{◌≡◌, ◌⊎◌, ℕ, ◌+◌, Bool, true, false, not, ◌&&◌, nat_lt, nat_le}
 use Rattle.std.specs.Prelude.{if◌then◌else◌, List, [], ◌∷◌, ◌++◌, length, Result, Ok, Err, Option}
 use Rattle.std.specs.Prelude.{Some, None}
+use Rattle.fixed_numbers.specs.declared.limits.TheConstants.{MAX_OPERATIONS, MAX_STREAM_LENGTH}
 use Rattle.disk_trait.specs.declared.facts.DiskFacts.{Ghosts}
 use Rattle.op_model.specs.declared.op.Op.{Op}
 use Rattle.op_model.specs.Records.{stream_length}
@@ -33,8 +34,8 @@ is_none (op ∷ ops) = false
 -- and 2^30 bytes of records
 abbrev pub has_room_for : Saved → ℕ → ℕ → Bool
 has_room_for current count bytes =
-    nat_lt (version_of current.body) 18446744073709551615 && nat_le (count_of current.body + count) 16777216
-    && nat_le (length current.stream + bytes) 1073741824
+    nat_lt (version_of current.body) 18446744073709551615 && nat_le (count_of current.body + count) MAX_OPERATIONS
+    && nat_le (length current.stream + bytes) MAX_STREAM_LENGTH
 
 -- there is a further version, and room for these operations
 abbrev pub has_room : Saved → List Op → Bool

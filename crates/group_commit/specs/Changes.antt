@@ -1,5 +1,6 @@
 -- Which pages a commit writes: those that change, and those that are new.
 use Rattle.std.specs.Prelude.{ℕ, zero, suc, ◌==◌, Bool, true, false, ◌&&◌, if◌then◌else◌, List, [], ◌∷◌, ◌++◌, length, take, drop, replicate}
+use Rattle.fixed_numbers.specs.declared.sizes.TheConstants.{PAGE_SIZE, TABLE_ENTRIES}
 use Rattle.root_slots.specs.Root.{table_count, tables_of, pages_for}
 use Rattle.group_commit.specs.Saved.{Saved}
 
@@ -33,11 +34,11 @@ data_of root = drop (table_count root.body) root.pages
 
 -- the data pages whose bytes change or are new, in the order of the stream
 unfoldable pub changed_data : Saved → Saved → List ℕ
-changed_data current next = changed (parts 4096 current.stream) (parts 4096 next.stream) (data_of next)
+changed_data current next = changed (parts PAGE_SIZE current.stream) (parts PAGE_SIZE next.stream) (data_of next)
 
 -- the table pages whose entries change or are new, in their order
 unfoldable pub changed_tables : Saved → Saved → List ℕ
-changed_tables current next = changed (parts 1024 (data_of current)) (parts 1024 (data_of next)) (tables_of next.body)
+changed_tables current next = changed (parts TABLE_ENTRIES (data_of current)) (parts TABLE_ENTRIES (data_of next)) (tables_of next.body)
 
 -- the pages that a commit of the next root writes
 abbrev pub changed_pages : Saved → Saved → List ℕ

@@ -1,5 +1,6 @@
 -- What each file that a crash may leave has in each phase of a commit, and what is read.
 use Rattle.std.specs.Prelude.{◌≡◌, ◌≢◌, ◌⊎◌, Ok, ℕ, ◌*◌, ◌-◌, ◌<◌, ◌≤◌, Bool, true, false, List, length, get_or, ⊤}
+use Rattle.fixed_numbers.specs.declared.sizes.TheConstants.{PAGE_SIZE, SLOTS_SIZE}
 use Rattle.disk_trait.specs.File.{part}
 use Rattle.page_file.specs.Pages.{page}
 use Rattle.root_slots.specs.Root.{version_of}
@@ -37,7 +38,7 @@ StaleSlot Sync3 slot stale_open current next file = HasPages next file × (body 
 
 -- What a file has in a phase. The live slot and the pages that its root reaches stay through all of them.
 pub record Stands (phase : Phase) (slot : ℕ) (stale_open : Bool) (current next : Saved) (file : List ℕ) : Type 0 where
-  pub whole : 8192 ≤ length file
+  pub whole : SLOTS_SIZE ≤ length file
   pub is_open : gate slot file ≡ 1
   pub holds : body slot file ≡ current.body
   pub keeps : HasPages current file
@@ -45,7 +46,7 @@ pub record Stands (phase : Phase) (slot : ℕ) (stale_open : Bool) (current next
 
 -- the first k of the new pages are written
 abbrev pub ReadAs : ℕ → List ℕ → List ℕ → List ℕ → Type 0
-ReadAs k numbers fresh file = (i : ℕ) → i < k → page (get_or numbers i 0) file ≡ part fresh (4096 * i) 4096
+ReadAs k numbers fresh file = (i : ℕ) → i < k → page (get_or numbers i 0) file ≡ part fresh (PAGE_SIZE * i) PAGE_SIZE
 
 -- what reads give of the writes since the last sync
 abbrev pub Reads : Phase → ℕ → Saved → List ℕ → List ℕ → List ℕ → Type 0

@@ -1,5 +1,6 @@
 -- A store as its callers see it, and what one step of a commit makes of it.
 use Rattle.std.specs.Prelude.{◌≡◌, ◌≢◌, ℕ, ◌+◌, ◌-◌, ◌*◌, ◌<◌, ◌≤◌, Bool, true, false, nat_lt, if◌then◌else◌, List, ◌++◌, length}
+use Rattle.fixed_numbers.specs.declared.sizes.TheConstants.{BODY_LENGTH, PAGE_SIZE}
 use Rattle.disk_trait.specs.declared.facts.DiskFacts.{Ghosts}
 use Rattle.page_file.specs.Free.{AreLowest}
 use Rattle.page_file.specs.Pages.{are_pages}
@@ -51,7 +52,7 @@ has_failed held disk = record held { disk = disk; phase = left_at held.phase; fa
 -- what a commit under way is about to write
 pub record IsPlan (phase : Phase) (current next : Saved) (numbers fresh : List ℕ) : Type 0 where
   pub newer : version_of current.body < version_of next.body
-  pub size : length next.body ≡ 4088
+  pub size : length next.body ≡ BODY_LENGTH
   -- the new pages lie behind the slots, apart, and none of them is live
   pub free : are_pages (numbers ++ current.pages) ≡ true
   -- each is the lowest free one: all pages below it are live or taken before
@@ -62,7 +63,7 @@ pub record IsPlan (phase : Phase) (current next : Saved) (numbers fresh : List �
 -- what a store keeps
 pub record IsSound {D : Type 0} (facts : Ghosts D) (held : Held D) (slot : ℕ) (numbers fresh : List ℕ) : Type 0 where
   pub slots : slot < 2
-  pub room : length fresh ≡ 4096 * length numbers
+  pub room : length fresh ≡ PAGE_SIZE * length numbers
   pub plan : held.phase ≢ Idle → IsPlan held.phase held.current held.next numbers fresh
   pub stands : facts.tells held.disk → (c : List ℕ) → facts.survives held.disk c
       → Stands held.phase slot held.stale_open held.current held.next c

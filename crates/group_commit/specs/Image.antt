@@ -1,6 +1,7 @@
 -- What a file of pages stands for, before its records are read: the body of its live slot, and the stream of bytes that the
 -- pages hold which that body names.
 use Rattle.std.specs.Prelude.{◌≡◌, ℕ, Bool, not, ◌&&◌, if◌then◌else◌, List, ◌++◌, drop, take, Result, Ok, Err}
+use Rattle.fixed_numbers.specs.declared.refusals.TheConstants.{BAD_ROOT, BAD_STREAM, BAD_TABLE}
 use Rattle.page_file.specs.Pages.{pages, are_whole, is_zero, are_pages, joined}
 pub use Rattle.page_file.specs.Tables.{entries}
 use Rattle.root_slots.specs.Root.{is_root, tables_of, data_count, stream_length_of}
@@ -18,9 +19,9 @@ are_tables root tables =
 -- the stream in these data pages, of which the last one is filled with zeros; or bad root 43, bad table 45, bad stream 46
 abbrev pub stream_in : List ℕ → List (List ℕ) → List (List ℕ) → Result (List ℕ) ℕ
 stream_in root tables data_pages =
-    if not (is_root root && are_whole tables) then Err 43
-    else if not (are_tables root tables && are_whole data_pages) then Err 45
-    else if not (is_zero (drop (stream_length_of root) (joined data_pages))) then Err 46
+    if not (is_root root && are_whole tables) then Err BAD_ROOT
+    else if not (are_tables root tables && are_whole data_pages) then Err BAD_TABLE
+    else if not (is_zero (drop (stream_length_of root) (joined data_pages))) then Err BAD_STREAM
     else Ok (take (stream_length_of root) (joined data_pages))
 
 -- the table pages that a body names

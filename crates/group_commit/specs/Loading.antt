@@ -1,5 +1,7 @@
 -- What a file is loaded as, what a refusal to load it says, and what loading does to the disk.
 use Rattle.std.specs.Prelude.{◌≡◌, ◌≢◌, ◌⊎◌, ℕ, ◌+◌, ◌*◌, nat_le, Bool, true, not, ◌&&◌, if◌then◌else◌, List, [], ◌∷◌, length, take, drop, Result, Ok, Err, ⊤}
+use Rattle.fixed_numbers.specs.declared.refusals.TheConstants.{BAD_ROOT, BAD_STREAM, BAD_TABLE, NO_ROOT, MEMORY, READ_FAILED, SYNC_FAILED}
+use Rattle.fixed_numbers.specs.declared.sizes.TheConstants.{PAGE_SIZE}
 use Rattle.op_model.specs.declared.op.Op.{Op}
 use Rattle.change_codec.specs.Stream.{spelled_all, AreOperations}
 use Rattle.page_file.specs.Pages.{pages, are_whole, is_zero, joined}
@@ -25,13 +27,13 @@ use Rattle.group_commit.specs.declared.open_fault.OpenError.TheVariants.{Memory,
 
 -- each refusal has one number
 abbrev pub number_of : OpenError → ℕ
-number_of Memory = 1
-number_of NoRoot = 42
-number_of BadRoot = 43
-number_of BadTable = 45
-number_of BadStream = 46
-number_of ReadFailed = 50
-number_of SyncFailed = 52
+number_of Memory = MEMORY
+number_of NoRoot = NO_ROOT
+number_of BadRoot = BAD_ROOT
+number_of BadTable = BAD_TABLE
+number_of BadStream = BAD_STREAM
+number_of ReadFailed = READ_FAILED
+number_of SyncFailed = SYNC_FAILED
 
 -- a refusal has met a failure of the device, or not
 abbrev pub failures_of : OpenError → ℕ
@@ -81,10 +83,10 @@ pub record HasNoHistory (file : List ℕ) : Type 0 where
 -- this refusal names the first fault of what was sought in a file; one of memory or of the device says nothing of it
 abbrev pub Names : {T : Type 0} → OpenError → Result T ℕ → Type 0
 Names Memory found = ⊤
-Names NoRoot found = found ≡ Err 42
-Names BadRoot found = found ≡ Err 43
-Names BadTable found = found ≡ Err 45
-Names BadStream found = found ≡ Err 46
+Names NoRoot found = found ≡ Err NO_ROOT
+Names BadRoot found = found ≡ Err BAD_ROOT
+Names BadTable found = found ≡ Err BAD_TABLE
+Names BadStream found = found ≡ Err BAD_STREAM
 Names ReadFailed found = ⊤
 Names SyncFailed found = ⊤
 
@@ -95,12 +97,12 @@ IsFirstFault error file = Names error (stored file) ⊎ ((error ≡ BadStream) �
 -- all of these pages lie whole in a file of so many bytes
 abbrev pub are_within : ℕ → List ℕ → Bool
 are_within size [] = true
-are_within size (n ∷ ns) = nat_le (4096 * n + 4096) size && are_within size ns
+are_within size (n ∷ ns) = nat_le (PAGE_SIZE * n + PAGE_SIZE) size && are_within size ns
 
 -- the stream of so many bytes in these data pages; bad table 45, bad stream 46
 abbrev pub stream_of : ℕ → List (List ℕ) → Result (List ℕ) ℕ
 stream_of n data_pages =
-    if not (are_whole data_pages) then Err 45 else if not (is_zero (drop n (joined data_pages))) then Err 46 else Ok (take n (joined data_pages))
+    if not (are_whole data_pages) then Err BAD_TABLE else if not (is_zero (drop n (joined data_pages))) then Err BAD_STREAM else Ok (take n (joined data_pages))
 
 -- the stream behind so many table pages
 abbrev pub stream_behind : ℕ → ℕ → List ℕ → Result (List ℕ) ℕ → Result (List ℕ) ℕ
@@ -109,7 +111,7 @@ stream_behind tables n file (Err e) = Err e
 
 -- the pages that a root reaches in a file
 abbrev pub reached_of : Root → List ℕ → Result (List ℕ) ℕ
-reached_of head file = reached_in head.tables (pages_for 4096 head.stream_length) file
+reached_of head file = reached_in head.tables (pages_for PAGE_SIZE head.stream_length) file
 
 -- the stream of a root in a file
 abbrev pub stream_at : Root → List ℕ → Result (List ℕ) ℕ

@@ -1,5 +1,7 @@
 -- The file of a new store.
 use Rattle.std.specs.Prelude.{◌≡◌, ◌≢◌, ◌⊎◌, ◌↔◌, ◌≤◌, ℕ, ◌+◌, Bool, true, false, List, [], ◌∷◌, ◌++◌, take, drop, replicate}
+use Rattle.fixed_numbers.specs.declared.refusals.TheConstants.{MEMORY, NOT_EMPTY, READ_FAILED, SYNC_FAILED, WRITE_FAILED}
+use Rattle.fixed_numbers.specs.declared.sizes.TheConstants.{PAGE_SIZE}
 use Rattle.disk_trait.specs.Calls.{Keeps}
 use Rattle.disk_trait.specs.declared.facts.DiskFacts.{Ghosts}
 use Rattle.page_file.specs.Index.{Index}
@@ -19,7 +21,7 @@ slot_page gate body = gate ∷ (replicate 7 0 ++ body)
 
 -- the first slot is open with this body, the second is zero
 abbrev pub new_file : List ℕ → List ℕ
-new_file body = slot_page 1 body ++ replicate 4096 0
+new_file body = slot_page 1 body ++ replicate PAGE_SIZE 0
 
 -- the root of a new store
 abbrev pub first_root : ℕ → Root
@@ -27,11 +29,11 @@ first_root replica = record { version = 1; replica = replica; stream_length = 0;
 
 -- each refusal has one number
 abbrev pub number_of : InitError → ℕ
-number_of Memory = 1
-number_of NotEmpty = 48
-number_of ReadFailed = 50
-number_of WriteFailed = 51
-number_of SyncFailed = 52
+number_of Memory = MEMORY
+number_of NotEmpty = NOT_EMPTY
+number_of ReadFailed = READ_FAILED
+number_of WriteFailed = WRITE_FAILED
+number_of SyncFailed = SYNC_FAILED
 
 -- a refusal has met a failure of the device, or not
 abbrev pub failures_of : InitError → ℕ
@@ -130,7 +132,7 @@ pub record Refuses {D : Type 0} (facts : Ghosts D) (replica : ℕ) (cause : Init
 -- of two writes of slots the first failed, or the second behind it
 abbrev pub PutsPartly : {D : Type 0} → Ghosts D → List ℕ → D → D → Type 0
 PutsPartly facts first old new =
-    Counts facts 1 1 0 old new ⊎ (Counts facts 1 2 0 old new × (take 4096 (facts.content new) ≡ first))
+    Counts facts 1 1 0 old new ⊎ (Counts facts 1 2 0 old new × (take PAGE_SIZE (facts.content new) ≡ first))
 
 -- a crash leaves the file that reads gave before, but for its first byte
 abbrev pub IsLeftBehind : {D : Type 0} → Ghosts D → D → D → Type 0

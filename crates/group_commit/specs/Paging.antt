@@ -1,5 +1,6 @@
 -- How the pages of a store's file go with its roots.
 use Rattle.std.specs.Prelude.{◌≡◌, ◌≢◌, ℕ, ◌+◌, ◌/◌, ◌<◌, ◌≤◌, Bool, true, false, List, [], ◌++◌, length, take, drop, Result, OnOk}
+use Rattle.fixed_numbers.specs.declared.sizes.TheConstants.{TABLE_ENTRIES}
 use Rattle.page_file.specs.Index.{Index, is_free, with_taken}
 use Rattle.root_slots.specs.Root.{tables_of}
 use Rattle.group_commit.specs.Saved.{Paged}
@@ -20,10 +21,10 @@ taken_in phase numbers = numbers
 -- The next root keeps the first data pages of the live one, and the table pages that name these alone. The first new pages come
 -- behind these data pages, the others behind these tables.
 pub record IsRenewed (kept new_data : ℕ) (numbers : List ℕ) (index : Index) (next : Paged) : Type 0 where
-  pub tables : tables_of next.body ≡ take (kept / 1024) index.tables ++ drop new_data numbers
+  pub tables : tables_of next.body ≡ take (kept / TABLE_ENTRIES) index.tables ++ drop new_data numbers
   pub pages : next.pages
-      ≡ (take (kept / 1024) index.tables ++ drop new_data numbers) ++ (take kept index.data_pages ++ take new_data numbers)
-  pub tables_within : kept / 1024 ≤ length index.tables
+      ≡ (take (kept / TABLE_ENTRIES) index.tables ++ drop new_data numbers) ++ (take kept index.data_pages ++ take new_data numbers)
+  pub tables_within : kept / TABLE_ENTRIES ≤ length index.tables
   pub within : kept ≤ length index.data_pages
   pub new_within : new_data ≤ length numbers
 

@@ -1,5 +1,6 @@
 -- A root as a file has it.
 use Rattle.std.specs.Prelude.{◌≡◌, ℕ, ◌*◌, ◌/◌, true, List, ◌++◌, length, take, drop}
+use Rattle.fixed_numbers.specs.declared.sizes.TheConstants.{PAGE_SIZE}
 use Rattle.page_file.specs.Pages.{are_pages}
 use Rattle.root_slots.specs.Root.{is_root, tables_of, data_count, stream_length_of, pages_for}
 use Rattle.root_slots.specs.Body.{Root, Spells}
@@ -25,11 +26,11 @@ in_front root bytes = with_stream root (take (stream_length_of root.body) bytes)
 
 -- the bytes of a stream behind its full pages: fewer than 4,096, and none where it ends at a page's end
 abbrev pub tail_of : List ℕ → List ℕ
-tail_of bytes = drop (4096 * (length bytes / 4096)) bytes
+tail_of bytes = drop (PAGE_SIZE * (length bytes / PAGE_SIZE)) bytes
 
 -- a root has as many data pages as its stream takes, and none of its pages is there twice
 pub record IsInMemory (head : Root) (data_pages : List ℕ) : Type 0 where
-  pub count : length data_pages ≡ pages_for 4096 head.stream_length
+  pub count : length data_pages ≡ pages_for PAGE_SIZE head.stream_length
   pub apart : are_pages (head.tables ++ data_pages) ≡ true
 
 -- a root in memory: its body says its head

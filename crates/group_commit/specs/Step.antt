@@ -1,6 +1,7 @@
 -- What a step of a commit does to the disk below the store.
 use Rattle.std.specs.Prelude.{◌≡◌, ◌≢◌, ◌⊎◌, ◌↔◌, ◌<◌, ℕ, ◌+◌, ◌-◌, ◌*◌, true, false, List, [], ◌∷◌, length, get_or}
 use Rattle.std.specs.Prelude.{Result, Ok, Err, IfOk, IfErr, OnOk, OnErr}
+use Rattle.fixed_numbers.specs.declared.sizes.TheConstants.{BODY_LENGTH, PAGE_SIZE}
 use Rattle.disk_trait.specs.Calls.{IsOneCall, LeavesOnly, Settles, Keeps}
 pub use Rattle.disk_trait.specs.Writing.{failures_in, Writes}
 use Rattle.disk_trait.specs.declared.facts.DiskFacts.{Ghosts}
@@ -36,19 +37,19 @@ pub record Syncs {D : Type 0} {T : Type 0} (facts : Ghosts D) (result : Result T
 pub record WritesPage {D : Type 0} {T : Type 0} (facts : Ghosts D) (result : Result T StoreError) (k : ℕ) (held : Held D) (new : D)
     : Type 0 where
   pub page : List ℕ
-  pub size : length page ≡ 4096
+  pub size : length page ≡ PAGE_SIZE
   pub within : k < length held.numbers
-  pub writes : Writes facts result (4096 * get_or held.numbers k 0) page held.disk new
+  pub writes : Writes facts result (PAGE_SIZE * get_or held.numbers k 0) page held.disk new
 
 -- the stale gate, which reads 1, is written as 0
 pub record Closes {D : Type 0} {T : Type 0} (facts : Ghosts D) (result : Result T StoreError) (held : Held D) (new : D) : Type 0 where
   pub is_one : gate (1 - held.slot) (facts.content held.disk) ≡ 1
-  pub writes : Writes facts result (4096 * (1 - held.slot)) (0 ∷ []) held.disk new
+  pub writes : Writes facts result (PAGE_SIZE * (1 - held.slot)) (0 ∷ []) held.disk new
 
 -- the 4,088 bytes of the next root's body are written behind the stale gate
 pub record Fills {D : Type 0} {T : Type 0} (facts : Ghosts D) (result : Result T StoreError) (held : Held D) (new : D) : Type 0 where
-  pub size : length held.next.body ≡ 4088
-  pub writes : Writes facts result (4096 * (1 - held.slot) + 8) held.next.body held.disk new
+  pub size : length held.next.body ≡ BODY_LENGTH
+  pub writes : Writes facts result (PAGE_SIZE * (1 - held.slot) + 8) held.next.body held.disk new
 
 -- what the call of a phase does to the disk: it writes in the range that the phase names, or it is a sync
 abbrev pub Does : {D T : Type 0} → Ghosts D → Result T StoreError → Phase → Held D → D → Type 0
@@ -58,7 +59,7 @@ Does facts result Close held new = Closes facts result held new
 Does facts result Sync1 held new = Syncs facts result held.disk new
 Does facts result Body held new = Fills facts result held new
 Does facts result Sync2 held new = Syncs facts result held.disk new
-Does facts result Gate held new = Writes facts result (4096 * (1 - held.slot)) (1 ∷ []) held.disk new
+Does facts result Gate held new = Writes facts result (PAGE_SIZE * (1 - held.slot)) (1 ∷ []) held.disk new
 Does facts result Sync3 held new = Syncs facts result held.disk new
 
 -- the device call of a phase: how many writes and syncs it is, and its failure, 52 of a sync, else 51

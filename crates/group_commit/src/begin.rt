@@ -13,7 +13,7 @@ use crate::plan::{Plan, make_plan};
 use crate::root::Root;
 use crate::store::Store;
 use disk_trait::Disk;
-use root_slots::{MAX_OPERATIONS, MAX_STREAM};
+use fixed_numbers::limits::{MAX_OPERATIONS, MAX_STREAM_LENGTH};
 
 // Whether there is a further version behind this root, and room behind its stream for so many
 // operations, whose records take so many bytes.
@@ -22,8 +22,8 @@ fn has_room(root: &Root, count: u64, bytes: u64) -> bool
         → result ≡ has_room_for (with_stream root.now stream) count bytes }
 {
     root.version() < u64::MAX
-        && root.count().saturating_add(count) <= MAX_OPERATIONS
-        && root.stream_length().saturating_add(bytes) <= MAX_STREAM
+        && root.count().saturating_add(count) <= MAX_OPERATIONS as u64
+        && root.stream_length().saturating_add(bytes) <= MAX_STREAM_LENGTH
 }
 
 impl<D: Disk> Store<D> {

@@ -8,14 +8,15 @@ ghost use Rattle.group_commit.specs.declared.error.StoreError.TheVariants.{Write
 
 use crate::error::StoreError;
 use disk_trait::Disk;
+use fixed_numbers::sizes::PAGE_SIZE;
 use page_file::Pages;
 
 // The bytes of a page, as an array.
-fn whole_page(bytes: &[u8]) -> &[u8; 4096]
-    requires size { length bytes.now ≡ 4096 }
+fn whole_page(bytes: &[u8]) -> &[u8; PAGE_SIZE]
+    requires size { length bytes.now ≡ PAGE_SIZE }
     ensures { result.now ≡ bytes.now }
 {
-    let (page, _) = bytes.split_first_chunk::<4096>().unwrap();
+    let (page, _) = bytes.split_first_chunk::<PAGE_SIZE>().unwrap();
     page
 }
 
@@ -28,9 +29,9 @@ pub(crate) fn put_page<D: Disk>(
     bytes: &[u8],
 ) -> Result<(), StoreError>
     requires can_take { CanTake number pages.old }
-    requires size { length bytes.now ≡ 4096 }
-    requires inside { D.tells disk.old → 4096 * number ≤ length (D.content disk.old) }
-    ensures writes { IsWrite D.DiskFacts result (4096 * number) bytes.now disk.old disk.new }
+    requires size { length bytes.now ≡ PAGE_SIZE }
+    requires inside { D.tells disk.old → PAGE_SIZE * number ≤ length (D.content disk.old) }
+    ensures writes { IsWrite D.DiskFacts result (PAGE_SIZE * number) bytes.now disk.old disk.new }
     ensures takes { TakesPage result number pages.old pages.new }
     ensures refused { IfErr result (λ e. e ≡ WriteFailed) }
 {

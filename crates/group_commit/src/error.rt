@@ -2,6 +2,7 @@
 ghost use Rattle.std.specs.Prelude.{◌≡◌};
 ghost use Rattle.group_commit.specs.declared.error.StoreError.TheVariants.{Memory};
 
+use fixed_numbers::refusals::{BUSY, LIMIT, MEMORY, STORE_FAILED, SYNC_FAILED, WRITE_FAILED};
 use std::alloc::AllocError;
 use thiserror::Error;
 
@@ -44,12 +45,12 @@ impl StoreError {
         ensures { result ≡ number_of self }
     {
         match self {
-            StoreError::Memory => 1,
-            StoreError::Limit => 7,
-            StoreError::Busy => 8,
-            StoreError::Failed => 44,
-            StoreError::WriteFailed => 51,
-            StoreError::SyncFailed => 52,
+            StoreError::Memory => MEMORY,
+            StoreError::Limit => LIMIT,
+            StoreError::Busy => BUSY,
+            StoreError::Failed => STORE_FAILED,
+            StoreError::WriteFailed => WRITE_FAILED,
+            StoreError::SyncFailed => SYNC_FAILED,
         }
     }
 }

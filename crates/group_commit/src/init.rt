@@ -1,6 +1,7 @@
 //! The making of a new file.
 ghost use Rattle.std.specs.Prelude.{◌≡◌, ◌≤◌, ◌++◌, [], ◌∷◌, ◌↔◌, ℕ, List, length};
 ghost use Rattle.std.specs.Prelude.{IfOk, IfErr, OnOk, OnErr};
+ghost use Rattle.fixed_numbers.specs.declared.sizes.TheConstants.{BODY_LENGTH};
 ghost use Rattle.disk_trait.specs.Writing.{failures_in};
 ghost use Rattle.page_file.specs.DiskCalls.{IsWrite};
 ghost use Rattle.disk_trait.specs.Calls.{IsOneCall, Keeps, Settles};
@@ -17,12 +18,11 @@ use crate::root::Root;
 use crate::store::Store;
 use crate::stream_tail::StreamTail;
 use disk_trait::{Disk, write_inside};
+use fixed_numbers::sizes::PAGE_SIZE;
 use op_ids::ReplicaId;
 use page_file::Pages;
 use root_slots::Roots;
 use std::alloc::{AllocError, Global};
-
-const PAGE: usize = 4096;
 
 // The gate of an open slot.
 const OPEN: [u8; 1] = [1];
@@ -85,7 +85,7 @@ fn settle<D: Disk>(disk: &mut D) -> Result<(), InitError>
 // The two slots of a file without bytes. It is refused only where the device failed (51).
 fn put_slots<D: Disk>(disk: &mut D, first: &[u8], second: &[u8]) -> Result<(), InitError>
     requires empty { D.tells disk.old → D.content disk.old ≡ [] }
-    requires size { length first.now ≡ 4096 }
+    requires size { length first.now ≡ PAGE_SIZE }
     ensures made { D.tells disk.old
         → OnOk result (IsMade D.DiskFacts (first.now ++ second.now) 2 0 disk.old disk.new) }
     ensures partly { D.tells disk.old
@@ -94,7 +94,7 @@ fn put_slots<D: Disk>(disk: &mut D, first: &[u8], second: &[u8]) -> Result<(), I
     ensures tells { D.tells disk.new ↔ D.tells disk.old }
 {
     put(disk, 0, first)?;
-    put(disk, 4096, second)
+    put(disk, PAGE_SIZE as u64, second)
 }
 
 // Opens the first slot's gate between two syncs: by then the slots are on the disk.
@@ -116,7 +116,7 @@ fn open_first<D: Disk>(disk: &mut D) -> Result<(), InitError>
 // The file of a new store with this body. An error is want of memory (1) or the device's.
 fn make_file<D: Disk>(alloc: Global, disk: &mut D, body: &[u8]) -> Result<(), InitError>
     requires empty { D.tells disk.old → D.content disk.old ≡ [] }
-    requires size { length body.now ≡ 4088 }
+    requires size { length body.now ≡ BODY_LENGTH }
     ensures made { D.tells disk.old
         → OnOk result (IsMade D.DiskFacts (new_file body.now) 3 2 disk.old disk.new) }
     ensures only { D.tells disk.old → OnOk result
@@ -127,7 +127,7 @@ fn make_file<D: Disk>(alloc: Global, disk: &mut D, body: &[u8]) -> Result<(), In
     ensures tells { D.tells disk.new ↔ D.tells disk.old }
 {
     let first = closed_slot(alloc, body)?;
-    put_slots(disk, &first, &[0; PAGE])?;
+    put_slots(disk, &first, &[0; PAGE_SIZE])?;
     open_first(disk)
 }
 

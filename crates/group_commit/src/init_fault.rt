@@ -4,6 +4,7 @@ ghost use Rattle.group_commit.specs.declared.init_fault.InitError.TheVariants.{M
 
 use crate::error::StoreError;
 use disk_trait::Disk;
+use fixed_numbers::refusals::{MEMORY, NOT_EMPTY, READ_FAILED, SYNC_FAILED, WRITE_FAILED};
 use std::alloc::AllocError;
 use thiserror::Error;
 
@@ -50,11 +51,11 @@ impl InitError {
         ensures { result ≡ number_of self }
     {
         match self {
-            InitError::Memory => 1,
-            InitError::NotEmpty => 48,
-            InitError::ReadFailed => 50,
-            InitError::WriteFailed => 51,
-            InitError::SyncFailed => 52,
+            InitError::Memory => MEMORY,
+            InitError::NotEmpty => NOT_EMPTY,
+            InitError::ReadFailed => READ_FAILED,
+            InitError::WriteFailed => WRITE_FAILED,
+            InitError::SyncFailed => SYNC_FAILED,
         }
     }
 }

@@ -1,5 +1,6 @@
 //! The operations of a stream.
 ghost use Rattle.std.specs.Prelude.{◌≡◌, ◌≢◌, ◌≤◌, ◌⊎◌, length, IfOk, IfErr};
+ghost use Rattle.fixed_numbers.specs.declared.limits.TheConstants.{MAX_STREAM_LENGTH};
 ghost use Rattle.change_codec.specs.Stream.{spelled_all, AreOperations};
 ghost use Rattle.group_commit.specs.Loading.{HasNone};
 ghost use Rattle.group_commit.specs.declared.open_fault.OpenError.TheVariants.{Memory, BadStream};
@@ -12,7 +13,7 @@ use std::alloc::Global;
 /// The operations whose records a stream is, as many as there have to be; 46 where it isn't, and 1
 /// for want of memory. The bytes stay where they are.
 pub(crate) fn ops_of(alloc: Global, stream: Vec<u8>, count: u64) -> Result<OpList, OpenError>
-    requires { length stream.items ≤ 1073741824 }
+    requires { length stream.items ≤ MAX_STREAM_LENGTH }
     ensures spelled { IfOk result (λ ops. spelled_all ops ≡ stream.items) }
     ensures fits { IfOk result (λ ops. AreOperations ops) }
     ensures count { IfOk result (λ ops. length ops ≡ count) }

@@ -1,5 +1,6 @@
 //! The stream that a root names, page by page.
 ghost use Rattle.std.specs.Prelude.{◌≡◌, ◌+◌, ◌*◌, ◌≤◌, ◌++◌, length, IfOk, IfErr, Ok};
+ghost use Rattle.fixed_numbers.specs.declared.sizes.TheConstants.{PAGE_SIZE};
 ghost use Rattle.page_file.specs.Pages.{pages};
 ghost use Rattle.root_slots.specs.Body.{IsRoot};
 ghost use Rattle.group_commit.specs.Loading.{Names, failed_in, reached_of, stream_of, stream_at};
@@ -58,7 +59,7 @@ fn read_data<D: Disk>(
     numbers: &[u32],
 ) -> Result<Vec<u8>, OpenError>
     requires size { D.tells disk.old → size ≡ length (D.content disk.old) }
-    requires room { stream_length ≤ 4096 * length numbers.now }
+    requires room { stream_length ≤ PAGE_SIZE * length numbers.now }
     ensures value { D.tells disk.old → IfOk result
         (λ bytes. stream_of stream_length (pages numbers.now (D.content disk.old))
         ≡ Ok bytes.items) }

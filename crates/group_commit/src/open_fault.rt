@@ -4,6 +4,9 @@ ghost use Rattle.group_commit.specs.Loading.{number_of};
 ghost use Rattle.group_commit.specs.declared.open_fault.OpenError.TheVariants.{Memory};
 
 use disk_trait::Disk;
+use fixed_numbers::refusals::{
+    BAD_ROOT, BAD_STREAM, BAD_TABLE, MEMORY, NO_ROOT, READ_FAILED, SYNC_FAILED,
+};
 use page_file::PageError;
 use root_slots::RootsError;
 use std::alloc::AllocError;
@@ -88,13 +91,13 @@ impl OpenError {
         ensures { result ≡ number_of self }
     {
         match self {
-            OpenError::Memory => 1,
-            OpenError::NoRoot => 42,
-            OpenError::BadRoot => 43,
-            OpenError::BadTable => 45,
-            OpenError::BadStream => 46,
-            OpenError::ReadFailed => 50,
-            OpenError::SyncFailed => 52,
+            OpenError::Memory => MEMORY,
+            OpenError::NoRoot => NO_ROOT,
+            OpenError::BadRoot => BAD_ROOT,
+            OpenError::BadTable => BAD_TABLE,
+            OpenError::BadStream => BAD_STREAM,
+            OpenError::ReadFailed => READ_FAILED,
+            OpenError::SyncFailed => SYNC_FAILED,
         }
     }
 }

@@ -1,6 +1,8 @@
 //! What a commit is about to write: the new root, and the new pages.
 ghost use Rattle.std.specs.Prelude.{◌≡◌, ℕ, ◌+◌, ◌*◌, ◌/◌, ◌^◌, ◌≤◌, ◌<◌, ◌++◌, true, []};
 ghost use Rattle.std.specs.Prelude.{List, length, get_or, take, drop, IfOk};
+ghost use Rattle.fixed_numbers.specs.declared.limits.TheConstants.{MAX_OPERATIONS, MAX_STREAM_LENGTH};
+ghost use Rattle.fixed_numbers.specs.declared.sizes.TheConstants.{MAX_LIVE_PAGES};
 ghost use Rattle.page_file.specs.Free.{AreLowest};
 ghost use Rattle.page_file.specs.Pages.{are_pages, is_zero, number_bytes};
 ghost use Rattle.root_slots.specs.Root.{version_of, count_of, stream_length_of};
@@ -12,6 +14,7 @@ ghost use Rattle.group_commit.specs.Plan.{kept_of, filled};
 use crate::load_pages::data_pages;
 use crate::root::Root;
 use crate::stream_tail::{StreamTail, behind};
+use fixed_numbers::sizes::{PAGE_SIZE, TABLE_ENTRIES};
 use ghost_lists::Written;
 use page_file::{Pages, is_zero, put_numbers};
 use root_slots::{RootBody, tables_for};
@@ -46,19 +49,19 @@ pub(crate) fn make_plan(
         (with_stream made.next (stream.now ++ records.now)) made.numbers.items made.fresh.items) }
     ensures renews { IfOk result
         (λ made. IsRenewed made.kept made.new_data made.numbers.items pages.now made.next) }
-    ensures few { IfOk result (λ made. length made.numbers.items ≤ 262400) }
+    ensures few { IfOk result (λ made. length made.numbers.items ≤ MAX_LIVE_PAGES) }
 {
     let old_long = current.stream_length() as usize;
     let kept = kept_pages(old_long, records);
     let long = old_long + records.len();
     let new_data = data_pages(long as u64) - kept;
-    let new_tables = tables_for(long as u64) as usize - kept / 1024;
+    let new_tables = tables_for(long as u64) as usize - kept / TABLE_ENTRIES;
     let numbers = free_pages(current, pages, new_data + new_tables)?;
     let (data_numbers, table_numbers) = numbers.split_at(new_data);
     let olds = live_data_pages(current, pages);
     let DataPages { all, entries } = next_data_pages(alloc, olds, kept, data_numbers)?;
-    let tables = kept_and_new(alloc, current.tables(), kept / 1024, table_numbers)?;
-    let kept_bytes = 4096 * kept;
+    let tables = kept_and_new(alloc, current.tables(), kept / TABLE_ENTRIES, table_numbers)?;
+    let kept_bytes = PAGE_SIZE * kept;
     let old_bytes = rest_behind(stream, old_long, kept_bytes);
     let new_bytes = behind(records, kept_bytes.saturating_sub(old_long));
     let fresh = new_pages(alloc, old_bytes, new_bytes, new_data, &entries, new_tables)?;
@@ -79,11 +82,11 @@ fn numbers_are_small(numbers: &[u32])
 
 // How many data pages stay, of a stream of so many bytes to which these records come.
 fn kept_pages(long: usize, records: &[u8]) -> usize
-    requires { long ≤ 1073741824 }
+    requires { long ≤ MAX_STREAM_LENGTH }
     ensures { result ≡ kept_of long records.now }
 {
     let pages = data_pages(long as u64);
-    if is_zero(front(records, 4096 * pages - long)) {
+    if is_zero(front(records, PAGE_SIZE * pages - long)) {
         pages
     } else {
         pages - 1
@@ -104,10 +107,10 @@ fn front(bytes: &[u8], most: usize) -> &[u8]
 // The bytes of a stream of so many bytes behind the pages that stay, the full ones among them.
 fn rest_behind(stream: &StreamTail, long: usize, kept_bytes: usize) -> &[u8]
     requires long { length stream.now ≡ long }
-    requires full { 4096 * (long / 4096) ≤ kept_bytes }
+    requires full { PAGE_SIZE * (long / PAGE_SIZE) ≤ kept_bytes }
     ensures { result.now ≡ drop kept_bytes stream.now }
 {
-    let full_bytes = 4096 * (long / 4096);
+    let full_bytes = PAGE_SIZE * (long / PAGE_SIZE);
     behind(stream.tail(), kept_bytes - full_bytes)
 }
 
@@ -142,13 +145,13 @@ fn next_data_pages(
     requires { kept ≤ length olds.now }
     ensures all { IfOk result (λ it. it.all.items ≡ take kept olds.now ++ news.now) }
     ensures entries { IfOk result (λ it. it.entries.items
-        ≡ drop (1024 * (kept / 1024)) (take kept olds.now ++ news.now)) }
+        ≡ drop (TABLE_ENTRIES * (kept / TABLE_ENTRIES)) (take kept olds.now ++ news.now)) }
     ensures small { (i : ℕ) → get_or (take kept olds.now ++ news.now) i 0 < 2 ^ 32 }
 {
     // For the proof, as the comment there says.
     numbers_are_small(olds);
     numbers_are_small(news);
-    let first = 1024 * (kept / 1024);
+    let first = TABLE_ENTRIES * (kept / TABLE_ENTRIES);
     let entries = kept_and_new(alloc, &olds[first..], kept - first, news)?;
     let all = Written::new().and(&olds[..kept]).and(news);
     Ok(DataPages { all, entries })
@@ -172,7 +175,7 @@ fn kept_and_new(
 
 // So many lowest pages that the root doesn't reach.
 fn free_pages(current: &Root, pages: &Pages, count: usize) -> Result<Vec<u32>, AllocError>
-    requires few { count ≤ 262400 }
+    requires few { count ≤ MAX_LIVE_PAGES }
     requires index { IsIndexOf current.now pages.now }
     requires none { pages.now.taken ≡ [] }
     ensures count { IfOk result (λ found. length found.items ≡ count) }
@@ -194,19 +197,19 @@ fn new_pages(
     numbers: &[u32],
     table_count: usize,
 ) -> Result<Vec<u8>, AllocError>
-    requires few { data_count + table_count ≤ 262400 }
-    requires data_room { length old_bytes.now + length new_bytes.now ≤ 4096 * data_count }
-    requires table_room { length numbers.now ≤ 1024 * table_count }
+    requires few { data_count + table_count ≤ MAX_LIVE_PAGES }
+    requires data_room { length old_bytes.now + length new_bytes.now ≤ PAGE_SIZE * data_count }
+    requires table_room { length numbers.now ≤ TABLE_ENTRIES * table_count }
     ensures { IfOk result (λ fresh. fresh.items
-        ≡ filled (4096 * data_count) (old_bytes.now ++ new_bytes.now)
-        ++ filled (4096 * table_count) (number_bytes numbers.now)) }
+        ≡ filled (PAGE_SIZE * data_count) (old_bytes.now ++ new_bytes.now)
+        ++ filled (PAGE_SIZE * table_count) (number_bytes numbers.now)) }
 {
     let mut fresh = Vec::new(alloc);
     fresh.extend_from_slice(old_bytes)?;
     fresh.extend_from_slice(new_bytes)?;
-    fresh.resize(4096 * data_count, 0)?;
+    fresh.resize(PAGE_SIZE * data_count, 0)?;
     put_numbers(numbers, &mut fresh)?;
-    fresh.resize(4096 * (data_count + table_count), 0)?;
+    fresh.resize(PAGE_SIZE * (data_count + table_count), 0)?;
     Ok(fresh)
 }
 
@@ -220,7 +223,7 @@ fn root_on(
     tables: Vec<u32>,
 ) -> Result<Root, AllocError>
     requires version { version_of current.now.body < 18446744073709551615 }
-    requires count { count_of current.now.body + more ≤ 16777216 }
+    requires count { count_of current.now.body + more ≤ MAX_OPERATIONS }
     requires pages { HasPagesFor long tables.items data_pages.items }
     ensures long { IfOk result (λ next. stream_length_of next.body ≡ long) }
     ensures grown { IfOk result (λ next. (stream : List ℕ) → length stream ≡ long

@@ -1,5 +1,7 @@
 //! A root in memory.
 ghost use Rattle.std.specs.Prelude.{◌≡◌, ℕ, ◌≤◌, true, List, [], ◌++◌, length, IfOk};
+ghost use Rattle.fixed_numbers.specs.declared.limits.TheConstants.{MAX_OPERATIONS, MAX_STREAM_LENGTH};
+ghost use Rattle.fixed_numbers.specs.declared.sizes.TheConstants.{BODY_LENGTH};
 ghost use Rattle.root_slots.specs.Body.{root_of};
 ghost use Rattle.root_slots.specs.Root.{is_root, version_of, replica_of, count_of};
 ghost use Rattle.root_slots.specs.Root.{stream_length_of, tables_of};
@@ -99,7 +101,7 @@ impl Root {
     /// How many operations the stream has.
     pub(crate) fn count(&self) -> u64
         ensures value { result ≡ count_of self.now.body }
-        ensures most { result ≤ 16777216 }
+        ensures most { result ≤ MAX_OPERATIONS }
     {
         self.head.operations()
     }
@@ -112,7 +114,7 @@ impl Root {
     /// The bytes of the slot's body.
     pub(crate) fn body(&self) -> &[u8]
         ensures bytes { result.now ≡ self.now.body }
-        ensures whole { length result.now ≡ 4088 }
+        ensures whole { length result.now ≡ BODY_LENGTH }
     {
         &self.body
     }
@@ -120,7 +122,7 @@ impl Root {
     /// How many bytes its stream has.
     pub(crate) fn stream_length(&self) -> u64
         ensures long { result ≡ stream_length_of self.now.body }
-        ensures most { result ≤ 1073741824 }
+        ensures most { result ≤ MAX_STREAM_LENGTH }
     {
         self.head.stream_length()
     }

@@ -11,6 +11,7 @@ use crate::error::StoreError;
 use crate::phase::Phase;
 use crate::store::Store;
 use disk_trait::Disk;
+use fixed_numbers::sizes::{PAGE_SIZE, TABLE_ENTRIES};
 use std::mem::swap;
 
 // The phase behind so many written pages.
@@ -36,11 +37,11 @@ fn number_at(numbers: &[u32], k: usize) -> u32
 
 // The bytes of the k-th of these pages.
 fn bytes_at(pages: &[u8], k: usize) -> &[u8]
-    requires within { 4096 * k + 4096 ≤ length pages.now }
-    ensures bytes { result.now ≡ part pages.now (4096 * k) 4096 }
-    ensures whole { length result.now ≡ 4096 }
+    requires within { PAGE_SIZE * k + PAGE_SIZE ≤ length pages.now }
+    ensures bytes { result.now ≡ part pages.now (PAGE_SIZE * k) PAGE_SIZE }
+    ensures whole { length result.now ≡ PAGE_SIZE }
 {
-    &pages[4096 * k..4096 * k + 4096]
+    &pages[PAGE_SIZE * k..PAGE_SIZE * k + PAGE_SIZE]
 }
 
 impl<D: Disk> Store<D> {
@@ -146,7 +147,8 @@ impl<D: Disk> Store<D> {
         }
         self.phase = Phase::Idle;
         self.roots.change_places();
-        self.pages.adopt(self.kept / 1024, self.kept, self.new_data);
+        self.pages
+            .adopt(self.kept / TABLE_ENTRIES, self.kept, self.new_data);
         swap(&mut self.current, &mut self.next);
         Ok(Phase::Sync3)
     }

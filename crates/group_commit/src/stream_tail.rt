@@ -2,6 +2,7 @@
 ghost use Rattle.std.specs.Prelude.{◌≡◌, ◌<◌, [], ◌++◌, length, drop, IfOk};
 ghost use Rattle.group_commit.specs.Saved.{tail_of};
 
+use fixed_numbers::sizes::PAGE_SIZE;
 use ghost_lists::Written;
 use std::alloc::{AllocError, Global};
 use std::marker::Model;
@@ -59,10 +60,10 @@ impl StreamTail {
 // The bytes behind the full pages of these two, one behind the other. An error is want of memory
 // (1).
 fn next_tail(alloc: Global, tail: &[u8], more: &[u8]) -> Result<Vec<u8>, AllocError>
-    requires { length tail.now < 4096 }
+    requires { length tail.now < PAGE_SIZE }
     ensures { IfOk result (λ next. next.items ≡ tail_of (tail.now ++ more.now)) }
 {
-    let full_bytes = 4096 * ((tail.len() + more.len()) / 4096);
+    let full_bytes = PAGE_SIZE * ((tail.len() + more.len()) / PAGE_SIZE);
     let mut next = Vec::new(alloc);
     next.extend_from_slice(behind(tail, full_bytes))?;
     next.extend_from_slice(behind(more, full_bytes.saturating_sub(tail.len())))?;

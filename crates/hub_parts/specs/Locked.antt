@@ -1,5 +1,6 @@
 -- The part of a hub that stands under the lock.
 use Rattle.std.specs.Prelude.{◌≡◌, ℕ, ◌+◌, ◌≤◌, ◌<◌, Bool, false, nat_lt, if◌then◌else◌, length, drop, Contains, Option, Some, None}
+use Rattle.fixed_numbers.specs.declared.limits.TheConstants.{MAX_PENDING}
 use Rattle.op_model.specs.Machine.{Commit, State}
 use Rattle.op_model.specs.Records.{stream_length}
 use Rattle.op_model.specs.Replay.{reached}
@@ -50,7 +51,7 @@ pub record Keeps (l : Held) : Type 0 where
   pub commit : l.replica.settled < l.begun → CanSettle l.replica l.begun
   pub places : l.replica.settled ≡ l.begun → due_behind l.replica l.begun ≤ places_left l.replica.steps
   -- the records that wait for the next commit have at most 1,048,576 bytes
-  pub pending : stream_length (drop l.begun l.replica.list) ≤ 1048576
+  pub pending : stream_length (drop l.begun l.replica.list) ≤ MAX_PENDING
 
 -- what every locked part keeps: its replica's list is causally closed and the kept steps replay, and the above
 pub record IsLocked (l : Held) : Type 0 where

@@ -1,6 +1,7 @@
 -- Why the locked part refuses a call, and the machine's answers.
 use Rattle.std.specs.Prelude.{ℕ, List, Result, Ok, Err}
 use Rattle.std.specs.Global.{Vec}
+use Rattle.fixed_numbers.specs.declared.refusals.TheConstants.{BUSY, FAILED}
 use Rattle.op_model.specs.declared.op.Op.{Op}
 use Rattle.op_model.specs.Machine.{Ticket, Answer, ticket, operations, clock, refused}
 use Rattle.replica_core.specs.Merging.{answer_of}
@@ -12,8 +13,8 @@ use Rattle.hub_parts.specs.declared.refusal.LockedRefusal.TheVariants as refusal
 -- each refusal has one number
 abbrev pub number_of : LockedRefusal → ℕ
 number_of (refusal.Replica e) = number_of_replica e
-number_of refusal.Full = 8
-number_of refusal.Failed = 9
+number_of refusal.Full = BUSY
+number_of refusal.Failed = FAILED
 
 -- the machine's answer to an edit
 abbrev pub edited : Result Ticket LockedRefusal → Answer

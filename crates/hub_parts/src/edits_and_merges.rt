@@ -11,11 +11,9 @@ ghost use Rattle.hub_parts.specs.Refusal.{edited, merged};
 
 use crate::locked::Locked;
 use crate::refusal::LockedRefusal;
+use fixed_numbers::limits::MAX_PENDING;
 use op_model::{Edit, Op};
 use replica_core::{Merged, Ticket};
-
-/// The most bytes that the records of operations take which wait for the next commit.
-pub const MAX_PENDING: u64 = 1_048_576;
 
 impl Locked {
     /// Makes the operations of a session's edit and puts them behind the list; they aren't settled

@@ -5,6 +5,7 @@ ghost use Rattle.hub_parts.specs.Locked.{IsLocked, Held as LockedHeld};
 ghost use Rattle.hub_parts.specs.Meet.{Meet, side_of};
 
 use disk_trait::Disk;
+use fixed_numbers::limits::MAX_PENDING;
 use group_commit::{Phase, Store, StoreError};
 use op_list::Records;
 use std::alloc::AllocError;
@@ -68,7 +69,7 @@ impl<D: Disk> Flusher<D> {
     pub fn reserve(&mut self) -> Result<(), AllocError>
         ensures { self.new ≡ self.old }
     {
-        self.list.reserve(1_048_576)
+        self.list.reserve(MAX_PENDING as usize)
     }
 
     /// Whether a device call has failed, so that the file must be opened again. Takes no memory.

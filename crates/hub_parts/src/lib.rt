@@ -14,7 +14,6 @@ mod reading;
 mod refusal;
 mod telling;
 
-pub use edits_and_merges::MAX_PENDING;
 pub use flusher::Flusher;
 pub use locked::Locked;
 pub use met::Met;

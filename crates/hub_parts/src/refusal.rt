@@ -1,6 +1,7 @@
 //! Why the locked part of a hub refuses a call.
 ghost use Rattle.std.specs.Prelude.{◌≡◌};
 
+use fixed_numbers::refusals::{BUSY, FAILED};
 use replica_core::Refusal;
 use thiserror::Error;
 
@@ -27,8 +28,8 @@ impl LockedRefusal {
     {
         match self {
             LockedRefusal::Replica(refusal) => refusal.number(),
-            LockedRefusal::Full => 8,
-            LockedRefusal::Failed => 9,
+            LockedRefusal::Full => BUSY,
+            LockedRefusal::Failed => FAILED,
         }
     }
 }

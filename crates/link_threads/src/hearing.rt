@@ -2,6 +2,7 @@
 
 use crate::link_end::LinkEnd;
 use causal_sync::Heard;
+use fixed_numbers::refusals::{BUSY, FAILED, MEMORY, STEPS};
 use op_model::Op;
 use pass_books::{Desks, Pass};
 use replica_core::Merged;
@@ -86,8 +87,7 @@ impl<'a, R: Wait, J: Desks, G: Gate> Hearing<'a, R, J, G> {
     }
 }
 
-/// Whether the other end may say an operation again that was refused so: memory 1, busy 8, failed
-/// 9, steps 10.
+/// Whether the other end may say an operation again that was refused so: 1, 8, 9, 10.
 fn may_come_again(refusal: SharedRefusal) -> bool {
-    matches!(refusal.number(), 1 | 8 | 9 | 10)
+    matches!(refusal.number(), MEMORY | BUSY | FAILED | STEPS)
 }

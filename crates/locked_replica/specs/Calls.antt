@@ -1,5 +1,6 @@
 -- What one call of a hub does.
 use Rattle.std.specs.Prelude.{◌≡◌, ◌≢◌, ◌↔◌, ◌⊎◌, ℕ, ◌+◌, ◌≤◌, ◌==◌, true, false, if◌then◌else◌, List, ◌++◌, length, drop, Ok, Err}
+use Rattle.fixed_numbers.specs.declared.refusals.TheConstants.{STORE_FAILED, WRITE_FAILED}
 use Rattle.op_model.specs.declared.op.Op.{Op}
 use Rattle.disk_trait.specs.Calls.{LeavesOnly}
 use Rattle.disk_trait.specs.declared.facts.DiskFacts.{Ghosts}
@@ -19,7 +20,7 @@ use Rattle.locked_replica.specs.Recovery.{HasAtLeast, IsCrash, Recovers}
 abbrev pub device_calls : Answer → ℕ
 device_calls goes_on = 1
 device_calls goes_through = 1
-device_calls (refused n) = if n == 44 then 0 else 1
+device_calls (refused n) = if n == STORE_FAILED then 0 else 1
 device_calls a = 0
 
 -- how many device calls an event with this answer makes
@@ -29,7 +30,7 @@ calls_in event a = 0
 
 -- how many of them fail: each that is refused
 abbrev pub device_failures : Answer → ℕ
-device_failures (refused n) = if n == 44 then 0 else 1
+device_failures (refused n) = if n == STORE_FAILED then 0 else 1
 device_failures a = 0
 
 -- how many failures of the device an event with this answer has met
@@ -55,7 +56,7 @@ syncs_begun a = 0
 
 -- no write of a page, a gate or a body has failed: no device call has, or this one isn't answered so
 abbrev pub NoWriteFails : {D : Type 0} → Answer → StoreHeld D → Type 0
-NoWriteFails answer new = (new.failed ≡ false) ⊎ (answer ≢ refused 51)
+NoWriteFails answer new = (new.failed ≡ false) ⊎ (answer ≢ refused WRITE_FAILED)
 
 -- The disk's own counts, together with what the commit under way still makes, rise by what a commit makes that begins: the writes
 -- as long as none fails, behind a failed sync too, and the syncs as long as no device call fails. One that failed stays so.
@@ -93,7 +94,7 @@ pub record StepsFail {D : Type 0} (facts : Ghosts D) (n : ℕ) (old new : StoreH
 abbrev pub StoreSteps : {D : Type 0} → Ghosts D → Answer → StoreHeld D → StoreHeld D → Type 0
 StoreSteps facts goes_on old new = StepsOn facts old new
 StoreSteps facts goes_through old new = StepsOn facts old new
-StoreSteps facts (refused n) old new = ((n ≡ 44) × (new ≡ old)) ⊎ StepsFail facts n old new
+StoreSteps facts (refused n) old new = ((n ≡ STORE_FAILED) × (new ≡ old)) ⊎ StepsFail facts n old new
 StoreSteps facts a old new = new ≡ old
 
 -- What a call makes of the store: only a begin and a device step change it, and only a device step touches the disk.

@@ -1,5 +1,6 @@
 -- A list of calls of a hub, one after another.
 use Rattle.std.specs.Prelude.{◌≡◌, ◌≢◌, ◌↔◌, ◌⊎◌, ℕ, ◌+◌, ◌≤◌, false, List, [], ◌∷◌, length, take}
+use Rattle.fixed_numbers.specs.declared.refusals.TheConstants.{WRITE_FAILED}
 use Rattle.disk_trait.specs.declared.facts.DiskFacts.{Ghosts}
 use Rattle.group_commit.specs.Counts.{writes_left, syncs_left}
 use Rattle.op_model.specs.Machine.{Event, Answer, refused, Run}
@@ -51,7 +52,7 @@ syncs_planned (e ∷ es) = syncs_begun e.1 + syncs_planned es
 -- none of these answers is that a write failed
 abbrev pub NoneFailed : List (Event × Answer) → Type 0
 NoneFailed [] = Unit {0}
-NoneFailed (e ∷ es) = (e.1 ≢ refused 51) × NoneFailed es
+NoneFailed (e ∷ es) = (e.1 ≢ refused WRITE_FAILED) × NoneFailed es
 
 -- These events and answers were made one after another.
 pub record Ran {D : Type 0} (facts : Ghosts D) (old : Parts D) (events : List (Event × Answer)) (new : Parts D) : Type 0 where

@@ -1,6 +1,7 @@
 -- Calls of a hub and their answers, as the machine has them.
 use Rattle.std.specs.Prelude.{◌≡◌, ℕ, List, [], ◌∷◌, Result, Ok, Err, IfOk, Option, Some, None}
 use Rattle.std.specs.Global.{Vec}
+use Rattle.fixed_numbers.specs.declared.refusals.TheConstants.{BUSY, FAILED}
 use Rattle.op_model.specs.declared.op.Op.{Op}
 use Rattle.op_model.specs.Machine.{Event, edit, merge, begin, device_step, settle, ack, tell, have}
 use Rattle.op_model.specs.Machine.{Ticket, Answer, ticket, begun, nothing_new, idle, goes_on}
@@ -24,8 +25,8 @@ use Rattle.locked_replica.specs.declared.hub_reply.HubReply.TheVariants as reply
 abbrev pub number_of : HubRefusal → ℕ
 number_of (refusal.Replica e) = number_of_replica e
 number_of (refusal.Store e) = number_of_store e
-number_of refusal.Full = 8
-number_of refusal.Failed = 9
+number_of refusal.Full = BUSY
+number_of refusal.Failed = FAILED
 
 -- the machine's answer to an edit
 abbrev pub edited : Result Ticket HubRefusal → Answer

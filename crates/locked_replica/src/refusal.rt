@@ -1,6 +1,7 @@
 //! Why a hub refuses a call.
 ghost use Rattle.std.specs.Prelude.{◌≡◌};
 
+use fixed_numbers::refusals::{BUSY, FAILED};
 use group_commit::StoreError;
 use hub_parts::LockedRefusal;
 use replica_core::Refusal;
@@ -45,8 +46,8 @@ impl HubRefusal {
         match self {
             HubRefusal::Replica(refusal) => refusal.number(),
             HubRefusal::Store(error) => error.number(),
-            HubRefusal::Full => 8,
-            HubRefusal::Failed => 9,
+            HubRefusal::Full => BUSY,
+            HubRefusal::Failed => FAILED,
         }
     }
 }

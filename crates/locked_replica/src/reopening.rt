@@ -1,5 +1,6 @@
 //! The opening of a hub's file anew.
 ghost use Rattle.std.specs.Prelude.{◌≡◌, ◌⊎◌, IfOk, IfErr};
+ghost use Rattle.fixed_numbers.specs.declared.refusals.TheConstants.{MEMORY};
 ghost use Rattle.group_commit.specs.Opening.{IsLookedAt};
 ghost use Rattle.recovery.specs.Faults.{number_of, failures_of};
 ghost use Rattle.locked_replica.specs.Reopening.{IsReopened};
@@ -19,7 +20,7 @@ impl<D: Disk> Hub<D> {
         ensures crash { D.tells self.store.disk
             → IfOk result (λ hub. IsReopened D.DiskFacts self hub) }
         ensures fault { D.tells self.store.disk → IfErr result
-            (λ fault. (number_of fault.cause ≡ 1) ⊎ (failures_of fault.cause ≡ 1)) }
+            (λ fault. (number_of fault.cause ≡ MEMORY) ⊎ (failures_of fault.cause ≡ 1)) }
         // It writes nothing.
         ensures looks { IfOk result
             (λ hub. IsLookedAt D.DiskFacts 0 1 self.store.disk hub.store.disk) }

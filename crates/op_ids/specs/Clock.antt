@@ -2,6 +2,7 @@
 -- count each, in strictly rising order of replica.
 use Rattle.std.specs.Prelude.{◌⊎◌, ◌<◌, ℕ, zero, suc, ◌+◌, ◌==◌, Bool, true, ◌&&◌, nat_lt, nat_le, max, if◌then◌else◌, List, [], ◌∷◌, length}
 use Rattle.std.specs.Cmp.Lexicographic.{pointwise}
+use Rattle.fixed_numbers.specs.declared.limits.TheConstants.{MAX_COUNT, MAX_OPERATIONS, MAX_REPLICAS}
 
 -- how many operations of a replica the clock counts
 abbrev pub count_of : List (ℕ × ℕ) → ℕ → ℕ
@@ -33,11 +34,11 @@ is_ready clock replica deps = count_of clock replica == count_of deps replica &&
 -- the replicas rise from above a number, and each count is from 1 to 2^24
 abbrev pub is_rising_above : ℕ → List (ℕ × ℕ) → Bool
 is_rising_above low [] = true
-is_rising_above low (e ∷ es) = nat_lt low e.0 && nat_le 1 e.1 && nat_le e.1 16777216 && is_rising_above e.0 es
+is_rising_above low (e ∷ es) = nat_lt low e.0 && nat_le 1 e.1 && nat_le e.1 MAX_COUNT && is_rising_above e.0 es
 
 -- the entries of a clock: at most 16, each of a replica that isn't nil, rising
 abbrev pub is_clock : List (ℕ × ℕ) → Bool
-is_clock es = is_rising_above 0 es && nat_le (length es) 16
+is_clock es = is_rising_above 0 es && nat_le (length es) MAX_REPLICAS
 
 -- how many entries are of replicas below this one
 abbrev pub place_of : List (ℕ × ℕ) → ℕ → ℕ
@@ -78,4 +79,4 @@ total_of (e ∷ es) = e.1 + total_of es
 -- Counts a seventeenth replica, or more than 2^24 operations in all: more than any store holds. A clock with one count above
 -- 2^24 does, and whatever is counted besides, it stays so.
 pub record IsOverfull (clock : List (ℕ × ℕ)) : Type 0 where
-  pub over : (16 < length clock) ⊎ (16777216 < total_of clock)
+  pub over : (MAX_REPLICAS < length clock) ⊎ (MAX_OPERATIONS < total_of clock)

@@ -1,2 +1,3 @@
 pub mod Id
 pub mod Clock
+pub mod ClockError

@@ -2,17 +2,12 @@ ghost use Rattle.std.specs.Prelude.{◌≤◌, length, ◌≡◌, ℕ, List, [],
 ghost use Rattle.op_ids.specs.Clock.{count_of, advanced, joined, is_within, is_ready, is_clock, with_count, place_of, missing_from, is_same_clock, IsOverfull};
 
 use crate::{ClockError, ReplicaId};
+use fixed_numbers::limits::{MAX_COUNT, MAX_REPLICAS};
 use std::alloc::{AllocError, Global};
 use std::marker::Model;
 
 #[cfg(test)]
 mod tests;
-
-/// The most replicas that a clock counts.
-pub const MAX_REPLICAS: usize = 16;
-
-/// The most operations of one replica that a clock counts: 2^24.
-pub const MAX_COUNT: u64 = 16_777_216;
 
 /// A vector clock: how many operations of each replica. Contracts see it as the list of its
 /// entries, a replica and a count each, in strictly rising order of replica: at most 16, each count

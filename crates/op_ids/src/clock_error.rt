@@ -1,6 +1,7 @@
 ghost use Rattle.std.specs.Prelude.{◌≡◌};
-ghost use Rattle.op_ids.specs.declared.clock_error.ClockError.TheVariants.{Memory, Limit};
+ghost use Rattle.op_ids.specs.declared.clock_error.ClockError.TheVariants.{Memory};
 
+use fixed_numbers::refusals::{LIMIT, MEMORY};
 use std::alloc::AllocError;
 use thiserror::Error;
 
@@ -24,14 +25,15 @@ impl From<AllocError> for ClockError {
 }
 
 impl ClockError {
+    ghost use Rattle.op_ids.specs.ClockError.{number_of};
+
     /// The number of the refusal: 1 or 7.
     pub fn number(self) -> u8
-        ensures memory { self ≡ Memory → result ≡ 1 }
-        ensures limit { self ≡ Limit → result ≡ 7 }
+        ensures { result ≡ number_of self }
     {
         match self {
-            ClockError::Memory => 1,
-            ClockError::Limit => 7,
+            ClockError::Memory => MEMORY,
+            ClockError::Limit => LIMIT,
         }
     }
 }

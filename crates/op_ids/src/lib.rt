@@ -8,7 +8,7 @@ mod op_id;
 mod replica_id;
 mod several;
 
-pub use clock::{Clock, MAX_COUNT, MAX_REPLICAS};
+pub use clock::Clock;
 pub use clock_error::ClockError;
-pub use op_id::{MAX_COUNTER, OpId};
+pub use op_id::OpId;
 pub use replica_id::ReplicaId;

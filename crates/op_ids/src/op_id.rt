@@ -2,10 +2,8 @@ ghost use Rattle.std.specs.Prelude.{◌≡◌, ◌+◌, ◌-◌, ◌<◌, ◌^�
 ghost use Rattle.op_ids.specs.Id.{Id, is_below, is_same};
 
 use crate::ReplicaId;
+use fixed_numbers::limits::MAX_COUNTER;
 use std::marker::Model;
-
-/// The greatest counter of an operation: 2^48 - 1.
-pub const MAX_COUNTER: u64 = 281_474_976_710_655;
 
 /// The id of an operation: a counter from 1 to 2^48 - 1, and the replica that made it. The order is
 /// by counter, and then by replica.

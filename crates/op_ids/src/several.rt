@@ -2,8 +2,9 @@
 ghost use Rattle.std.specs.Prelude.{◌≡◌, ◌↔◌, OnOk, OnErr, IsErrOf, false, true};
 ghost use Rattle.op_ids.specs.Clock.{advanced_by, is_clock, IsOverfull};
 
-use crate::clock::{Clock, MAX_COUNT, MAX_REPLICAS};
+use crate::clock::Clock;
 use crate::{ClockError, ReplicaId};
+use fixed_numbers::limits::{MAX_COUNT, MAX_REPLICAS};
 
 impl Clock {
     /// Whether so many more operations of a replica can be counted: there would be no seventeenth

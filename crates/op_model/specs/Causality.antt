@@ -1,8 +1,9 @@
 -- Which operation may follow a list of operations.
-use Rattle.std.specs.Prelude.{◌≡◌, ◌⊎◌, ℕ, ◌==◌, Bool, true, false, IsTrue, not, ◌&&◌, nat_lt}
+use Rattle.std.specs.Prelude.{◌≡◌, ◌⊎◌, ℕ, ◌+◌, ◌==◌, Bool, true, false, IsTrue, not, ◌&&◌, nat_lt}
 use Rattle.std.specs.Prelude.{nat_le, if◌then◌else◌, List, [], ◌∷◌, ◌++◌, length, take, map, filter}
 use Rattle.std.specs.Prelude.{Option, Some, None}
 use Rattle.std.specs.List.{list_any, list_all}
+use Rattle.fixed_numbers.specs.declared.limits.TheConstants.{MAX_COUNTER, MAX_DOCUMENTS, MAX_OPERATIONS, MAX_REPLICAS, MAX_STREAM_LENGTH}
 use Rattle.op_ids.specs.Id.{Id, is_same}
 use Rattle.op_ids.specs.Clock.{count_of, advanced, is_ready}
 use Rattle.op_model.specs.declared.op.Op.{Op}
@@ -81,13 +82,13 @@ documents ops = rising (map (λ op. op.doc) ops)
 -- a counter from 1 to 2^48 - 1, a document from 1 to 2^32 - 1
 abbrev pub is_in_range : Op → Bool
 is_in_range op =
-    nat_lt 0 op.id.counter && nat_lt op.id.counter 281474976710656 && nat_lt 0 op.doc && nat_lt op.doc 4294967296
+    nat_lt 0 op.id.counter && nat_lt op.id.counter (MAX_COUNTER + 1) && nat_lt 0 op.doc && nat_lt op.doc 4294967296
 
 -- at most 16 replicas, 1,024 documents, 2^24 operations, 2^30 bytes of records
 abbrev pub has_room : List Op → Bool
 has_room ops =
-    nat_le (length (clock_of ops)) 16 && nat_le (length (documents ops)) 1024 && nat_le (length ops) 16777216
-    && nat_le (stream_length ops) 1073741824
+    nat_le (length (clock_of ops)) MAX_REPLICAS && nat_le (length (documents ops)) MAX_DOCUMENTS && nat_le (length ops) MAX_OPERATIONS
+    && nat_le (stream_length ops) MAX_STREAM_LENGTH
 
 -- keeps the limits of a store
 abbrev pub is_within_limits : List Op → Bool

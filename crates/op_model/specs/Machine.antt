@@ -2,6 +2,8 @@
 use Rattle.std.specs.Prelude.{◌≡◌, ◌⊎◌, ℕ, ◌+◌, ◌≤◌, ◌<◌, Bool, true, false, not, ◌||◌, ◌==◌}
 use Rattle.std.specs.Prelude.{nat_le, if◌then◌else◌, List, [], ◌∷◌, ◌++◌, length, take, drop}
 use Rattle.std.specs.Prelude.{Option, Some, None, is_some}
+use Rattle.fixed_numbers.specs.declared.limits.TheConstants.{MAX_PENDING, MAX_STEPS}
+use Rattle.fixed_numbers.specs.declared.refusals.TheConstants.{BUSY, FAILED, LIMIT, OWN_UNKNOWN, STEPS, STORE_FAILED}
 use Rattle.op_model.specs.declared.op.Op.{Op}
 use Rattle.op_model.specs.declared.edit.Edit.{Edit}
 use Rattle.op_ids.specs.Clock.{is_ready}
@@ -74,7 +76,7 @@ ticket_of list doc = record { end = length list; rev = rev list doc }
 
 -- a step leaves two places behind it: for the settlements of the commit under way and of the one after it
 abbrev pub has_places : Held → Bool
-has_places h = nat_le (length h.steps + 3) 1048576
+has_places h = nat_le (length h.steps + 3) MAX_STEPS
 
 -- how many operations are settled or in the commit
 abbrev pub taken_in : Option Commit → ℕ → ℕ
@@ -87,20 +89,20 @@ pending s = drop (taken_in s.commit s.held.settled) s.held.list
 
 -- the records of those that wait, with those of these behind them, have at most 1,048,576 bytes
 abbrev pub has_record_room : State → List Op → Bool
-has_record_room s more = nat_le (stream_length (pending s) + stream_length more) 1048576
+has_record_room s more = nat_le (stream_length (pending s) + stream_length more) MAX_PENDING
 
 -- what would be appended is refused with 8 where its records have no room
 abbrev pub with_room : Bool → Answer → Answer
 with_room true a = a
-with_room false (ticket t) = refused 8
-with_room false applied = refused 8
+with_room false (ticket t) = refused BUSY
+with_room false applied = refused BUSY
 with_room false a = a
 
 -- the answer to an edit that nothing but the kept steps may refuse: steps 10
 abbrev pub edit_answer_unless : Held → Edit → Option ℕ → Answer
 edit_answer_unless h e (Some n) = refused n
 edit_answer_unless h e None =
-    if has_places h then ticket (ticket_of (h.list ++ made h.list h.replica e) e.doc) else refused 10
+    if has_places h then ticket (ticket_of (h.list ++ made h.list h.replica e) e.doc) else refused STEPS
 
 -- the answer to an edit of a replica without a store: its own refusals, steps 10
 abbrev pub edit_alone : Held → Edit → Answer
@@ -109,34 +111,34 @@ edit_alone h e = edit_answer_unless h e (edit_refusal h.list h.replica e)
 -- the answers to an edit, in the order of test: a failure that is told 9, those of the replica alone, no room for the records 8
 abbrev pub edit_answer : State → Edit → Answer
 edit_answer s e =
-    if s.failure_told then refused 9
+    if s.failure_told then refused FAILED
     else with_room (has_record_room s (made s.held.list s.held.replica e)) (edit_alone s.held e)
 
 -- the answer to a merge that a check may refuse: steps 10
 abbrev pub merge_answer_unless : Held → Option ℕ → Answer
 merge_answer_unless h (Some n) = refused n
-merge_answer_unless h None = if has_places h then applied else refused 10
+merge_answer_unless h None = if has_places h then applied else refused STEPS
 
 -- the answers of a merge without a store, in the order of test: known, own but unknown 20, early, then the checks, steps 10
 abbrev pub merge_alone : Held → Op → Answer
 merge_alone h op =
     if is_known (clock_of h.list) op then known
-    else if op.id.replica == h.replica then refused 20
+    else if op.id.replica == h.replica then refused OWN_UNKNOWN
     else if not (is_ready (clock_of h.list) op.id.replica op.deps) then early
     else merge_answer_unless h (first_failed h.list op)
 
 -- the answers of a merge, in the order of test: a failure that is told 9, those of the replica alone, no room for the record 8
 abbrev pub merge_answer : State → Op → Answer
 merge_answer s op =
-    if s.failure_told then refused 9 else with_room (has_record_room s (op ∷ [])) (merge_alone s.held op)
+    if s.failure_told then refused FAILED else with_room (has_record_room s (op ∷ [])) (merge_alone s.held op)
 
 -- the answers of a begin, in the order of test: failed 44, busy 8, nothing new, no further version 7
 abbrev pub begin_answer : State → Answer
 begin_answer s =
-    if s.failed then refused 44
-    else if is_some s.commit then refused 8
+    if s.failed then refused STORE_FAILED
+    else if is_some s.commit then refused BUSY
     else if nat_le (length s.held.list) s.held.settled then nothing_new
-    else if nat_le 18446744073709551615 s.version then refused 7
+    else if nat_le 18446744073709551615 s.version then refused LIMIT
     else begun (length s.held.list)
 
 -- how many operations a commit that is through has
@@ -202,7 +204,7 @@ with_settlement s n = record s { held = with_settled s.held n; version = s.versi
 
 abbrev pub settle_answer : State → Answer
 settle_answer s =
-    if s.failed then refused 44 else elim (through_of s.commit) [ None ↦ refused 8 | Some n ↦ settled_to n ]
+    if s.failed then refused STORE_FAILED else elim (through_of s.commit) [ None ↦ refused BUSY | Some n ↦ settled_to n ]
 
 abbrev pub SettleStep : State → Answer → State → Type 0
 SettleStep s (settled_to n) next = (settle_answer s ≡ settled_to n) × (next ≡ with_settlement s n)

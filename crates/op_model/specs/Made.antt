@@ -4,6 +4,7 @@ use Rattle.std.specs.Prelude.{[], ◌∷◌, length, take, drop, map, filter, ma
 use Rattle.std.specs.Prelude.{◌==◌, ◌++◌, slice_get, Option, Some, None}
 use Rattle.std.specs.Option.{option_map}
 use Rattle.std.specs.List.{list_any}
+use Rattle.fixed_numbers.specs.declared.limits.TheConstants.{MAX_EDIT}
 use Rattle.op_ids.specs.Id.{Id, is_same}
 use Rattle.op_ids.specs.Clock.{advanced}
 use Rattle.op_model.specs.declared.op.Op.{Op}
@@ -152,8 +153,8 @@ is_inside n (change.Unmark from to key) = nat_lt from to && nat_le to n
 
 -- at most 256 characters are inserted or removed
 abbrev pub is_small : Change → Bool
-is_small (change.Insert at text) = nat_le (length text) 256
-is_small (change.Delete at count) = nat_le count.value 256
+is_small (change.Insert at text) = nat_le (length text) MAX_EDIT
+is_small (change.Delete at count) = nat_le count.value MAX_EDIT
 is_small (change.Mark from to mark) = true
 is_small (change.Unmark from to key) = true
 

@@ -3,7 +3,7 @@ ghost use Rattle.std.specs.Prelude.{◌≡◌, ◌<◌};
 ghost use Rattle.op_model.specs.Made.{is_at_rev, is_small, size_of};
 
 use crate::edit::{Change, Edit};
-use crate::limits::MAX_EDIT;
+use fixed_numbers::limits::MAX_EDIT;
 
 impl Change {
     /// How many operations the change makes, where it lies within the text: at least one. Constant.

@@ -1,16 +1,17 @@
 -- The numbers of the refusals of pages.
 use Rattle.std.specs.Prelude.{ℕ}
+use Rattle.fixed_numbers.specs.declared.refusals.TheConstants.{BAD_TABLE, MEMORY, NO_PAGE, PAGE_NUMBER, READ_FAILED, WRITE_FAILED}
 use Rattle.page_file.specs.declared.error.PageError.{PageError}
 use Rattle.page_file.specs.declared.error.PageError.TheVariants.{Memory, PageNumber, NoPage, BadTable, ReadFailed, WriteFailed}
 
 -- each refusal has one number
 abbrev pub number_of : PageError → ℕ
-number_of Memory = 1
-number_of PageNumber = 40
-number_of NoPage = 41
-number_of BadTable = 45
-number_of ReadFailed = 50
-number_of WriteFailed = 51
+number_of Memory = MEMORY
+number_of PageNumber = PAGE_NUMBER
+number_of NoPage = NO_PAGE
+number_of BadTable = BAD_TABLE
+number_of ReadFailed = READ_FAILED
+number_of WriteFailed = WRITE_FAILED
 
 -- a refusal has met a failure of the device, or not
 abbrev pub failures_of : PageError → ℕ

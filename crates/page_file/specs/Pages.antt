@@ -1,11 +1,12 @@
 -- Pages of a file. A file is the list of its bytes; a page has 4,096 of them.
 use Rattle.std.specs.Prelude.{ℕ, zero, suc, ◌*◌, ◌==◌, Bool, true, false, not, ◌&&◌, ◌||◌, nat_le, List, [], ◌∷◌, ◌++◌, length, drop, take}
 use Rattle.std.specs.Int.{w32, from_be_bytes, to_be_bytes}
+use Rattle.fixed_numbers.specs.declared.sizes.TheConstants.{PAGE_SIZE}
 use Rattle.disk_trait.specs.File.{part}
 
 -- the bytes of the n-th page, or as many of them as the file has
 abbrev pub page : ℕ → List ℕ → List ℕ
-page n file = part file (4096 * n) 4096
+page n file = part file (PAGE_SIZE * n) PAGE_SIZE
 
 -- the bytes of each of these pages
 abbrev pub pages : List ℕ → List ℕ → List (List ℕ)
@@ -14,7 +15,7 @@ pages (n ∷ ns) file = page n file ∷ pages ns file
 
 -- lies whole in the file
 abbrev pub is_whole : List ℕ → Bool
-is_whole bytes = length bytes == 4096
+is_whole bytes = length bytes == PAGE_SIZE
 
 abbrev pub are_whole : List (List ℕ) → Bool
 are_whole [] = true

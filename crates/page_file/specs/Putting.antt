@@ -1,5 +1,6 @@
 -- What a write of one page does.
 use Rattle.std.specs.Prelude.{◌≡◌, ◌↔◌, ◌<◌, ℕ, ◌*◌, List, length, Result, Ok, Err, OnOk, IsErrOf}
+use Rattle.fixed_numbers.specs.declared.sizes.TheConstants.{PAGE_SIZE}
 use Rattle.disk_trait.specs.File.{overwritten}
 use Rattle.disk_trait.specs.Calls.{IsOneCall, Keeps, Tears}
 use Rattle.disk_trait.specs.declared.facts.DiskFacts.{Ghosts}
@@ -23,11 +24,11 @@ writes_in (Err e) = 1
 pub record PutsPage {D : Type 0} {T : Type 0} (facts : Ghosts D) (result : Result T PageError) (n : ℕ) (bytes : List ℕ) (old new : D)
     : Type 0 where
   pub call : IsOneCall facts (failed_in result) (writes_in result) 0 old new
-  pub torn : Tears facts (4096 * n) 4096 old new
+  pub torn : Tears facts (PAGE_SIZE * n) PAGE_SIZE old new
   -- where it succeeds, they are there
-  pub written : OnOk result (facts.content new ≡ overwritten (facts.content old) (4096 * n) bytes)
+  pub written : OnOk result (facts.content new ≡ overwritten (facts.content old) (PAGE_SIZE * n) bytes)
   -- it is no page of the file exactly where it would begin past the end, and then nothing changes
-  pub past_end : IsErrOf result NoPage ↔ (length (facts.content old) < 4096 * n)
+  pub past_end : IsErrOf result NoPage ↔ (length (facts.content old) < PAGE_SIZE * n)
   pub unchanged : IsErrOf result NoPage → Keeps facts old new
 
 -- one such write on a disk that tells as before

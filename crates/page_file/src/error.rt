@@ -2,6 +2,7 @@
 ghost use Rattle.std.specs.Prelude.{◌≡◌};
 ghost use Rattle.page_file.specs.declared.error.PageError.TheVariants.{Memory};
 
+use fixed_numbers::refusals::{BAD_TABLE, MEMORY, NO_PAGE, PAGE_NUMBER, READ_FAILED, WRITE_FAILED};
 use std::alloc::AllocError;
 use thiserror::Error;
 
@@ -44,12 +45,12 @@ impl PageError {
         ensures { result ≡ number_of self }
     {
         match self {
-            PageError::Memory => 1,
-            PageError::PageNumber => 40,
-            PageError::NoPage => 41,
-            PageError::BadTable => 45,
-            PageError::ReadFailed => 50,
-            PageError::WriteFailed => 51,
+            PageError::Memory => MEMORY,
+            PageError::PageNumber => PAGE_NUMBER,
+            PageError::NoPage => NO_PAGE,
+            PageError::BadTable => BAD_TABLE,
+            PageError::ReadFailed => READ_FAILED,
+            PageError::WriteFailed => WRITE_FAILED,
         }
     }
 }

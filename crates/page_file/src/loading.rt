@@ -2,6 +2,8 @@
 ghost use Rattle.std.specs.Prelude.{◌≡◌, ◌⊎◌, ◌+◌, ◌*◌, ◌<◌, ◌≤◌, ◌++◌, true, false, []};
 ghost use Rattle.std.specs.Prelude.{length, Ok, Err, IfOk, IfErr, vec_len, vec_capacity};
 ghost use Rattle.std.specs.List.Sorted.{IsPermutation};
+ghost use Rattle.fixed_numbers.specs.declared.refusals.TheConstants.{BAD_TABLE};
+ghost use Rattle.fixed_numbers.specs.declared.sizes.TheConstants.{MAX_PAGES, MAX_TABLES};
 ghost use Rattle.page_file.specs.DiskCalls.{IsLookedAt};
 ghost use Rattle.page_file.specs.Gaps.{Grows};
 ghost use Rattle.page_file.specs.Index.{live_pages, AreOthers, IsAtRest};
@@ -17,6 +19,7 @@ use crate::page_numbers::take_numbers;
 use crate::pages::Pages;
 use crate::reading::read_pages;
 use disk_trait::Disk;
+use fixed_numbers::sizes::TABLE_ENTRIES;
 use std::alloc::{AllocError, Global};
 
 // Whether all of these numbers are zero.
@@ -67,7 +70,7 @@ fn sorted_of(alloc: Global, tables: &[u32], named: &[u32]) -> Result<Vec<u32>, A
 // The live pages of a root with these table pages and data pages. Refused with 45 where one of them
 // is a root slot or stands twice, and with 1 for want of memory.
 fn index_of(alloc: Global, tables: &[u32], named: &[u32]) -> Result<Pages, PageError>
-    requires few { length tables.now + length named.now ≤ 1073741824 }
+    requires few { length tables.now + length named.now ≤ MAX_PAGES }
     ensures value { IfOk result (λ it. it ≡ record {
       tables = tables.now;
       data_pages = named.now;
@@ -97,11 +100,11 @@ fn index_of(alloc: Global, tables: &[u32], named: &[u32]) -> Result<Pages, PageE
 // data pages. Refused with 45 where a page is a root slot or stands twice, where a number is left
 // behind the data pages, or where there are fewer; and with 1 for want of memory.
 fn pages_of(alloc: Global, tables: &[u32], count: u64, found: &[u32]) -> Result<Pages, PageError>
-    requires few { length tables.now + length found.now ≤ 1073741824 }
+    requires few { length tables.now + length found.now ≤ MAX_PAGES }
     ensures value { IfOk result (λ it. reached_by tables.now count found.now ≡ Ok (live_pages it)) }
     ensures parts { IfOk result (λ it. IsAtRest tables.now count it) }
     ensures fault { IfErr result (λ e. e ≡ BadTable → (length found.now < count)
-        ⊎ (reached_by tables.now count found.now ≡ Err 45)) }
+        ⊎ (reached_by tables.now count found.now ≡ Err BAD_TABLE)) }
     ensures refused { IfErr result (λ e. (e ≡ Memory) ⊎ (e ≡ BadTable)) }
 {
     if count > found.len() as u64 {
@@ -130,18 +133,18 @@ impl Pages {
     ) -> Result<Pages, PageError>
         requires whole { D.tells disk.old
             → are_whole (pages tables.now (D.content disk.old)) ≡ true }
-        requires few { length tables.now ≤ 256 }
+        requires few { length tables.now ≤ MAX_TABLES }
         ensures read { IfOk result
             (λ it. AreNamed D.DiskFacts disk.old tables.now data_pages it) }
         ensures fault { D.tells disk.old → IfErr result (λ e. e ≡ BadTable
-            → (1024 * length tables.now < data_pages)
-            ⊎ (reached_in tables.now data_pages (D.content disk.old) ≡ Err 45)) }
+            → (TABLE_ENTRIES * length tables.now < data_pages)
+            ⊎ (reached_in tables.now data_pages (D.content disk.old) ≡ Err BAD_TABLE)) }
         ensures refused { IfErr result
             (λ e. (e ≡ Memory) ⊎ ((e ≡ BadTable) ⊎ (e ≡ ReadFailed))) }
         ensures looks { IsLookedAt D.DiskFacts (failed_in result) 0 disk.old disk.new }
     {
         let bytes = read_pages(alloc, disk, tables)?;
-        let found = take_numbers(alloc, &bytes, 1024 * tables.len())?;
+        let found = take_numbers(alloc, &bytes, TABLE_ENTRIES * tables.len())?;
         pages_of(alloc, tables, data_pages, &found)
     }
 }

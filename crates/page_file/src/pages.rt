@@ -1,6 +1,7 @@
 //! Which pages of a file are live, and which are free.
 ghost use Rattle.std.specs.Prelude.{◌≡◌, ℕ, ◌+◌, ◌<◌, ◌≤◌, ◌++◌, true, [], length, IfOk, OnOk};
 ghost use Rattle.std.specs.Prelude.{OnErr};
+ghost use Rattle.fixed_numbers.specs.declared.sizes.TheConstants.{MAX_PAGES};
 ghost use Rattle.page_file.specs.Free.{IsLowestFree, AreLowest};
 ghost use Rattle.page_file.specs.Index.{used, with_room};
 ghost use Rattle.page_file.specs.Pages.{are_pages};
@@ -95,7 +96,7 @@ impl Pages {
     /// of free pages and of four bytes for each page that is asked for; an error is want of memory
     /// (1). A few steps for each of these.
     pub fn lowest_free_pages(&self, count: usize) -> Result<Vec<u32>, AllocError>
-        requires few { length (used self.now) + count ≤ 1073741824 }
+        requires few { length (used self.now) + count ≤ MAX_PAGES }
         ensures count { IfOk result (λ found. length found.items ≡ count) }
         ensures apart { IfOk result (λ found. are_pages (found.items ++ used self.now) ≡ true) }
         ensures lowest { IfOk result (λ found. AreLowest (used self.now) found.items) }
@@ -113,7 +114,7 @@ impl Pages {
     /// Makes room for the next `count` calls of `put_free`, and for the `adopt` behind them. Four
     /// growths at most; an error is want of memory (1), and changes nothing.
     pub fn reserve(&mut self, count: usize) -> Result<(), AllocError>
-        requires few { count ≤ 1073741824 }
+        requires few { count ≤ MAX_PAGES }
         ensures room { OnOk result (count ≤ self.new.room) }
         ensures same { self.new ≡ with_room self.new.room self.old }
         ensures no_less { self.old.room ≤ self.new.room }

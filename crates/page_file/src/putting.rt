@@ -13,22 +13,21 @@ use crate::error::PageError;
 use crate::gaps::{has_page, take_page};
 use crate::pages::Pages;
 use disk_trait::{Disk, DiskError};
-
-// The bytes of a page.
-const PAGE: u64 = 4096;
+use fixed_numbers::sizes::PAGE_SIZE;
 
 // Reads the bytes of a page. Refused with 41 where the file hasn't the whole page, and 50 where the
 // device failed.
 fn read_page<D: Disk>(disk: &mut D, number: u32, bytes: &mut [u8]) -> Result<(), PageError>
-    requires size { length bytes.old ≡ 4096 }
+    requires size { length bytes.old ≡ PAGE_SIZE }
     ensures read { D.tells disk.old
-        → OnOk result (bytes.new ≡ part (D.content disk.old) (4096 * number) (length bytes.old)) }
+        → OnOk result (bytes.new
+        ≡ part (D.content disk.old) (PAGE_SIZE * number) (length bytes.old)) }
     ensures no_page { D.tells disk.old → (IsErrOf result NoPage
-        ↔ (length (D.content disk.old) < 4096 * number + 4096)) }
+        ↔ (length (D.content disk.old) < PAGE_SIZE * number + PAGE_SIZE)) }
     ensures looks { IsLookedAt D.DiskFacts (failed_in result) 0 disk.old disk.new }
     ensures refused { IfErr result (λ e. (e ≡ NoPage) ⊎ (e ≡ ReadFailed)) }
 {
-    match disk.read_at(PAGE * u64::from(number), bytes) {
+    match disk.read_at(PAGE_SIZE as u64 * u64::from(number), bytes) {
         Ok(()) => Ok(()),
         Err(DiskError::PastEnd) => Err(PageError::NoPage),
         Err(_) => Err(PageError::ReadFailed),
@@ -37,11 +36,11 @@ fn read_page<D: Disk>(disk: &mut D, number: u32, bytes: &mut [u8]) -> Result<(),
 
 // Writes the bytes of a page. Refused with 41 where it would begin past the end of the file, and 51
 // where the device failed.
-fn write_page<D: Disk>(disk: &mut D, page: u32, bytes: &[u8; 4096]) -> Result<(), PageError>
+fn write_page<D: Disk>(disk: &mut D, page: u32, bytes: &[u8; PAGE_SIZE]) -> Result<(), PageError>
     ensures puts { IsPagePut D.DiskFacts result page bytes.now disk.old disk.new }
     ensures refused { IfErr result (λ e. (e ≡ NoPage) ⊎ (e ≡ WriteFailed)) }
 {
-    match disk.write_at(PAGE * u64::from(page), bytes) {
+    match disk.write_at(PAGE_SIZE as u64 * u64::from(page), bytes) {
         Ok(()) => Ok(()),
         Err(DiskError::PastEnd) => Err(PageError::NoPage),
         Err(_) => Err(PageError::WriteFailed),
@@ -74,11 +73,11 @@ impl Pages {
     /// file hasn't the whole page; with 50 where the device failed; and with 1 for want of memory.
     pub fn page<D: Disk>(&self, disk: &mut D, number: u32) -> Result<Vec<u8>, PageError>
         ensures number { number < 2 → (result ≡ Err PageNumber) × (disk.new ≡ disk.old) }
-        ensures whole { IfOk result (λ bytes. length bytes.items ≡ 4096) }
+        ensures whole { IfOk result (λ bytes. length bytes.items ≡ PAGE_SIZE) }
         ensures read { D.tells disk.old
             → IfOk result (λ bytes. bytes.items ≡ page number (D.content disk.old)) }
         ensures no_page { 2 ≤ number → D.tells disk.old → (IsErrOf result NoPage
-            ↔ (length (D.content disk.old) < 4096 * number + 4096)) }
+            ↔ (length (D.content disk.old) < PAGE_SIZE * number + PAGE_SIZE)) }
         ensures refused { 2 ≤ number
             → IfErr result (λ e. (e ≡ Memory) ⊎ ((e ≡ NoPage) ⊎ (e ≡ ReadFailed))) }
         ensures looks { IsLookedAt D.DiskFacts (failed_in result) 0 disk.old disk.new }
@@ -86,7 +85,7 @@ impl Pages {
         if number < 2 {
             return Err(PageError::PageNumber);
         }
-        let mut bytes = [0; 4096];
+        let mut bytes = [0; PAGE_SIZE];
         read_page(disk, number, &mut bytes)?;
         let page = Vec::from_slice(*self.taken.allocator(), &bytes)?;
         Ok(page)
@@ -102,7 +101,7 @@ impl Pages {
         &mut self,
         disk: &mut D,
         page: u32,
-        bytes: &[u8; 4096],
+        bytes: &[u8; PAGE_SIZE],
     ) -> Result<(), PageError>
         requires room { 0 < self.old.room }
         ensures not_free { is_free page self.old ≡ false

@@ -8,23 +8,22 @@ ghost use Rattle.page_file.specs.declared.error.PageError.TheVariants.{Memory, R
 
 use crate::error::PageError;
 use disk_trait::{Disk, read_inside};
+use fixed_numbers::sizes::PAGE_SIZE;
 use std::alloc::Global;
-
-// The bytes of a page.
-const PAGE: u64 = 4096;
 
 // Appends the bytes of a page that lies whole in the file. Refused with 1 for want of memory, and
 // with 50 where the device failed.
 fn append_page<D: Disk>(disk: &mut D, number: u32, out: &mut Vec<u8>) -> Result<(), PageError>
-    requires inside { D.tells disk.old → 4096 * number + 4096 ≤ length (D.content disk.old) }
+    requires inside { D.tells disk.old
+        → PAGE_SIZE * number + PAGE_SIZE ≤ length (D.content disk.old) }
     ensures read { D.tells disk.old
         → OnOk result (out.new.items ≡ out.old.items ++ page number (D.content disk.old)) }
-    ensures size { OnOk result (length out.new.items ≡ length out.old.items + 4096) }
+    ensures size { OnOk result (length out.new.items ≡ length out.old.items + PAGE_SIZE) }
     ensures looks { IsLookedAt D.DiskFacts (failed_in result) 0 disk.old disk.new }
     ensures refused { IfErr result (λ e. (e ≡ Memory) ⊎ (e ≡ ReadFailed)) }
 {
-    let mut bytes = [0; 4096];
-    if let Err(_) = read_inside(disk, PAGE * u64::from(number), &mut bytes) {
+    let mut bytes = [0; PAGE_SIZE];
+    if let Err(_) = read_inside(disk, PAGE_SIZE as u64 * u64::from(number), &mut bytes) {
         return Err(PageError::ReadFailed);
     }
     out.extend_from_slice(&bytes)?;
@@ -42,7 +41,7 @@ pub fn read_pages<D: Disk>(
     requires whole { D.tells disk.old → are_whole (pages numbers.now (D.content disk.old)) ≡ true }
     ensures read { D.tells disk.old
         → IfOk result (λ bytes. bytes.items ≡ joined (pages numbers.now (D.content disk.old))) }
-    ensures size { IfOk result (λ bytes. length bytes.items ≡ 4096 * length numbers.now) }
+    ensures size { IfOk result (λ bytes. length bytes.items ≡ PAGE_SIZE * length numbers.now) }
     ensures looks { IsLookedAt D.DiskFacts (failed_in result) 0 disk.old disk.new }
     ensures refused { IfErr result (λ e. (e ≡ Memory) ⊎ (e ≡ ReadFailed)) }
 {

@@ -1,5 +1,6 @@
 -- Why a file has no image.
 use Rattle.std.specs.Prelude.{◌≡◌, ℕ, List, length, Ok}
+use Rattle.fixed_numbers.specs.declared.refusals.TheConstants.{BAD_OPERATION}
 use Rattle.op_model.specs.declared.op.Op.{Op}
 use Rattle.op_model.specs.Causality.{IsCausallyClosed}
 use Rattle.change_codec.specs.Stream.{spelled_all, AreOperations}
@@ -12,7 +13,7 @@ use Rattle.recovery.specs.declared.open_fault.OpenError.TheVariants.{Load, BadOp
 -- each refusal has one number
 abbrev pub number_of : OpenError → ℕ
 number_of (Load error) = number_of_load error
-number_of BadOperation = 47
+number_of BadOperation = BAD_OPERATION
 
 -- a refusal has met a failure of the device, or not
 abbrev pub failures_of : OpenError → ℕ

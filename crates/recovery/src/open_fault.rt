@@ -2,6 +2,7 @@
 ghost use Rattle.std.specs.Prelude.{◌≡◌};
 
 use disk_trait::Disk;
+use fixed_numbers::refusals::BAD_OPERATION;
 use thiserror::Error;
 
 /// Why a file isn't opened.
@@ -32,7 +33,7 @@ impl OpenError {
     {
         match self {
             OpenError::Load(error) => error.number(),
-            OpenError::BadOperation => 47,
+            OpenError::BadOperation => BAD_OPERATION,
         }
     }
 }

@@ -1,5 +1,6 @@
 -- What every replica keeps, and when nothing refuses an edit.
 use Rattle.std.specs.Prelude.{◌≡◌, ◌+◌, ◌≤◌, length, take, None}
+use Rattle.fixed_numbers.specs.declared.limits.TheConstants.{MAX_STEPS}
 use Rattle.op_model.specs.declared.edit.Edit.{Edit}
 use Rattle.op_model.specs.Causality.{IsCausallyClosed}
 use Rattle.op_model.specs.Held.{Held}
@@ -10,7 +11,7 @@ use Rattle.replica_core.specs.Steps.{places_left}
 -- nothing refuses an edit: its own causes don't, and there are places for its step and for two settlements
 pub record CanEdit (h : Held) (e : Edit) : Type 0 where
   pub due : edit_refusal h.list h.replica e ≡ None
-  pub places : length h.steps + 3 ≤ 1048576
+  pub places : length h.steps + 3 ≤ MAX_STEPS
 
 -- what every replica keeps
 pub record IsSound (h : Held) : Type 0 where
@@ -25,4 +26,4 @@ pub record IsSound (h : Held) : Type 0 where
   pub acked : h.acked ≤ h.settled
   pub told : h.told ≤ h.settled
   -- the settlements that are due have their places
-  pub places : length h.steps + places_left h.steps ≤ 1048576
+  pub places : length h.steps + places_left h.steps ≤ MAX_STEPS

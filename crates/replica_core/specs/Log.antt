@@ -2,6 +2,7 @@
 --
 -- What a call leaves of the operations of a replica, and of what is known of them.
 use Rattle.std.specs.Prelude.{◌≡◌, ℕ, ◌+◌, ◌≤◌, ◌<◌, ◌^◌, List, ◌++◌, length}
+use Rattle.fixed_numbers.specs.declared.limits.TheConstants.{MAX_OPERATIONS}
 use Rattle.op_model.specs.declared.op.Op.{Op}
 use Rattle.op_model.specs.Records.{stream_length}
 use Rattle.op_model.specs.Spans.{with_number}
@@ -12,7 +13,7 @@ use Rattle.replica_core.specs.declared.log.Log.{Log}
 
 -- these operations are few and short enough to come behind all others, whose length is known
 pub record HasRoom (log : Log) (made : List Op) : Type 0 where
-  pub few : length log.list + length made ≤ 16777216
+  pub few : length log.list + length made ≤ MAX_OPERATIONS
   pub stream : log.index.stream ≡ stream_length log.list
   pub small : stream_length log.list + stream_length made < 2 ^ 32
 

@@ -1,5 +1,6 @@
 -- What a merge answers and leaves.
 use Rattle.std.specs.Prelude.{ℕ, ◌+◌, ◌≤◌, length}
+use Rattle.fixed_numbers.specs.declared.limits.TheConstants.{MAX_STEPS}
 use Rattle.op_model.specs.declared.op.Op.{Op}
 use Rattle.op_model.specs.Machine.{Answer, applied, known, early}
 use Rattle.op_model.specs.Replay.{Joins}
@@ -22,4 +23,4 @@ after_merge merged_as.Early h peer op = h
 -- nothing refuses a peer's operation, and there are places for its step and for two settlements
 pub record CanMerge (h : Held) (op : Op) : Type 0 where
   pub joins : Joins h.replica h.list op
-  pub places : length h.steps + 3 ≤ 1048576
+  pub places : length h.steps + 3 ≤ MAX_STEPS

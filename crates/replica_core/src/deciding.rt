@@ -1,4 +1,5 @@
 ghost use Rattle.std.specs.Prelude.{◌≡◌, ◌+◌, ◌++◌, ◌&&◌, nat_le, length, IfOk, IfErr, Some, None};
+ghost use Rattle.fixed_numbers.specs.declared.limits.TheConstants.{MAX_DOCUMENTS};
 ghost use Rattle.doc_core.specs.Standing.{StandsFor};
 ghost use Rattle.replica_core.specs.Docs.{number_of as doc_number};
 ghost use Rattle.op_model.specs.Causality.{documents, is_within_limits as is_within_limits_of};
@@ -14,9 +15,10 @@ use crate::index::Index;
 use crate::lengths::made_length;
 use crate::refusal::Refusal;
 use doc_core::Doc;
-use op_ids::{Clock, MAX_COUNTER, ReplicaId};
+use fixed_numbers::limits::{MAX_COUNTER, MAX_OPERATIONS, MAX_STREAM_LENGTH};
+use op_ids::{Clock, ReplicaId};
 use op_list::OpSlice;
-use op_model::{Edit, MAX_OPERATIONS, MAX_STREAM_LENGTH};
+use op_model::Edit;
 
 /// How many bytes the records take of the operations that an edit of a document makes, or why it is
 /// refused, by the first cause: `Stale` (6), `Range` (5), `Limit` (7). There is room for its
@@ -34,7 +36,7 @@ pub fn edit_length(
     requires stands { StandsFor doc.now ops.now }
     requires number { doc_number doc.now ≡ edit.now.doc }
     requires place { has_place
-        ≡ nat_le (length (with_number edit.now.doc (documents ops.now))) 1024 }
+        ≡ nat_le (length (with_number edit.now.doc (documents ops.now))) MAX_DOCUMENTS }
     ensures length { IfOk result (λ bytes. (edit_refusal_of ops.now replica edit.now ≡ None)
         × (bytes ≡ stream_length (made_of ops.now replica edit.now))) }
     ensures refused { IfErr result (λ e.
@@ -70,7 +72,7 @@ fn is_within_limits(
     requires counted { AreCounted ops.now clock.now index.now }
     requires right { IsAskedRight ops.now edit.now }
     requires place { has_place
-        ≡ nat_le (length (with_number edit.now.doc (documents ops.now))) 1024 }
+        ≡ nat_le (length (with_number edit.now.doc (documents ops.now))) MAX_DOCUMENTS }
     requires length { bytes ≡ stream_length (made_of ops.now replica edit.now) }
     ensures { result ≡ is_within_limits_of (ops.now ++ made_of ops.now replica edit.now) }
 {
@@ -97,22 +99,22 @@ fn has_counters(greatest: u64, count: u64) -> bool
 /// Whether there is room for so many operations behind the others, where their document has a place
 /// or not, with records of so many bytes behind a stream of so many.
 pub fn has_room(ops: &OpSlice<'_>, has_place: bool, stream: u64, count: usize, bytes: u64) -> bool
-    ensures { result ≡ (has_place && nat_le (length ops.now + count) 16777216
-        && nat_le (stream + bytes) 1073741824) }
+    ensures { result ≡ (has_place && nat_le (length ops.now + count) MAX_OPERATIONS
+        && nat_le (stream + bytes) MAX_STREAM_LENGTH) }
 {
     has_place && has_operations(ops.len(), count) && has_stream(stream, bytes)
 }
 
 /// Whether so many operations, and then so many more, are at most 2^24.
 fn has_operations(ops: usize, more: usize) -> bool
-    ensures { result ≡ nat_le (ops + more) 16777216 }
+    ensures { result ≡ nat_le (ops + more) MAX_OPERATIONS }
 {
     ops <= MAX_OPERATIONS && more <= MAX_OPERATIONS - ops
 }
 
 /// Whether so many bytes, and then so many more, are at most 2^30 bytes.
 fn has_stream(stream: u64, bytes: u64) -> bool
-    ensures { result ≡ nat_le (stream + bytes) 1073741824 }
+    ensures { result ≡ nat_le (stream + bytes) MAX_STREAM_LENGTH }
 {
     stream <= MAX_STREAM_LENGTH && bytes <= MAX_STREAM_LENGTH - stream
 }

@@ -11,8 +11,8 @@ ghost use Rattle.replica_core.specs.Decided.{IsPlace};
 ghost use Rattle.replica_core.specs.Docs.{numbers, AllStand, AreDocs};
 
 use doc_core::{Doc, Made, SequenceError};
+use fixed_numbers::limits::MAX_DOCUMENTS;
 use op_list::OpSlice;
-use op_model::MAX_DOCUMENTS;
 use std::alloc::Global;
 
 /// Of the documents of a list the one with the number of this empty document, or else the empty
@@ -51,7 +51,7 @@ pub fn at<'a>(docs: &'a [Doc], place: Result<usize, usize>, empty: &'a Doc) -> &
 /// Whether there are at most 1,024 documents with the one of this place. Constant.
 pub fn has_room(docs: &[Doc], place: Result<usize, usize>) -> bool
     ensures { (doc : ℕ) → IsPlace (numbers docs.now) doc place
-        → result ≡ nat_le (length (with_number doc (numbers docs.now))) 1024 }
+        → result ≡ nat_le (length (with_number doc (numbers docs.now))) MAX_DOCUMENTS }
 {
     match place {
         Ok(_) => docs.len() <= MAX_DOCUMENTS,

@@ -1,4 +1,5 @@
 ghost use Rattle.std.specs.Prelude.{◌≡◌, ◌<◌, ◌++◌, ◌∷◌, [], ◌&&◌, ◌==◌, nat_le, nat_lt, length, true, MatchOption, Some, None, IsTrue, ◌↔◌};
+ghost use Rattle.fixed_numbers.specs.declared.limits.TheConstants.{MAX_DOCUMENTS};
 ghost use Rattle.op_model.specs.Causality.{IsCausallyClosed, MayFollow, documents, first_failed as first_failed_of};
 ghost use Rattle.op_model.specs.Causality.{is_counted_up as is_counted_up_of, is_covered_insert as is_covered_insert_of, is_known as is_known_in};
 ghost use Rattle.op_model.specs.Causality.{is_within_limits, named_by_anchor, named_by_end, named_by_start, names_inserts as names_inserts_of};
@@ -28,7 +29,8 @@ pub fn is_known(clock: &Clock, op: &Op) -> bool
 /// clocks, and a binary search for each character that it names.
 pub fn may_follow(ops: &OpSlice<'_>, clock: &Clock, index: &Index, op: &Op, has_place: bool) -> bool
     requires counted { AreCounted ops.now clock.now index.now }
-    requires place { has_place ≡ nat_le (length (with_number op.now.doc (documents ops.now))) 1024 }
+    requires place { has_place
+        ≡ nat_le (length (with_number op.now.doc (documents ops.now))) MAX_DOCUMENTS }
     ensures { IsTrue result ↔ MayFollow ops.now op.now }
 {
     if !clock.ready(op.id.replica(), &op.deps) {
@@ -52,7 +54,8 @@ pub fn first_failed(
     has_place: bool,
 ) -> Option<Refusal>
     requires counted { AreCounted ops.now clock.now index.now }
-    requires place { has_place ≡ nat_le (length (with_number op.now.doc (documents ops.now))) 1024 }
+    requires place { has_place
+        ≡ nat_le (length (with_number op.now.doc (documents ops.now))) MAX_DOCUMENTS }
     ensures { MatchOption result (first_failed_of ops.now op.now ≡ None)
         (λ e. first_failed_of ops.now op.now ≡ Some (number_of e)) }
 {
@@ -153,7 +156,8 @@ fn names_insert(ops: &OpSlice<'_>, index: &Index, op: &Op, id: &OpId) -> bool
 /// Whether the operations, and then this one, keep the limits of a store.
 fn fits(ops: &OpSlice<'_>, clock: &Clock, index: &Index, op: &Op, has_place: bool) -> bool
     requires known { AreCounted ops.now clock.now index.now }
-    requires place { has_place ≡ nat_le (length (with_number op.now.doc (documents ops.now))) 1024 }
+    requires place { has_place
+        ≡ nat_le (length (with_number op.now.doc (documents ops.now))) MAX_DOCUMENTS }
     requires document { 0 < op.now.doc }
     ensures { result ≡ is_within_limits (ops.now ++ op.now ∷ []) }
 {

@@ -1,5 +1,6 @@
 ghost use Rattle.std.specs.Prelude.{◌≡◌, ℕ, ◌+◌, ◌-◌, ◌*◌, ◌≤◌, ◌<◌, true, List, length};
 ghost use Rattle.std.specs.Prelude.{if◌then◌else◌};
+ghost use Rattle.fixed_numbers.specs.declared.limits.TheConstants.{MAX_EDIT};
 ghost use Rattle.doc_core.specs.Standing.{StandsFor};
 ghost use Rattle.replica_core.specs.Docs.{number_of};
 ghost use Rattle.op_model.specs.declared.op.Op.{Op};
@@ -36,7 +37,7 @@ fn heads_length(first: usize, later: usize, count: u64) -> u64
     requires first { first ≤ 16 }
     requires later { later ≤ 17 }
     requires some { 0 < count }
-    requires small { count ≤ 256 }
+    requires small { count ≤ MAX_EDIT }
     ensures value { result ≡ head_length_of first + head_length_of later * (count - 1) }
     ensures small { result < 1000000 }
 {

@@ -1,5 +1,6 @@
 ghost use Rattle.std.specs.Prelude.{◌≡◌, ◌≤◌, ◌+◌, length, None, Ok};
 ghost use Rattle.std.specs.Prelude.{IfOk, IfErr, OnOk, OnErr, MatchOption};
+ghost use Rattle.fixed_numbers.specs.declared.limits.TheConstants.{MAX_STEPS};
 ghost use Rattle.op_model.specs.Machine.{merge_alone, merge_answer_unless, IsRefusal, refused};
 ghost use Rattle.op_model.specs.Causality.{first_failed as first_failed_of};
 ghost use Rattle.op_model.specs.Held.{with_merge};
@@ -68,7 +69,8 @@ impl Replica {
     /// Why an operation that is ready is refused, by the first cause. Takes no memory.
     fn merge_refusal(&self, op: &Op) -> Option<Refusal>
         ensures { MatchOption result
-            ((first_failed_of self.now.list op.now ≡ None) × (length self.now.steps + 3 ≤ 1048576))
+            ((first_failed_of self.now.list op.now ≡ None)
+            × (length self.now.steps + 3 ≤ MAX_STEPS))
             (λ e. merge_answer_unless self.now (first_failed_of self.now.list op.now)
             ≡ refused (number_of e)) }
     {

@@ -13,9 +13,10 @@ use crate::following::may_follow;
 use crate::index::Index;
 use crate::refusal::Refusal;
 use doc_core::Doc;
+use fixed_numbers::limits::MAX_DOCUMENTS;
 use op_ids::Clock;
 use op_list::OpSlice;
-use op_model::{MAX_DOCUMENTS, Op};
+use op_model::Op;
 use std::alloc::Global;
 
 /// The clock, the documents and the index of a causally closed list. `BadOperation` (47) exactly

@@ -1,3 +1,7 @@
+use fixed_numbers::refusals::{
+    BAD_OPERATION, COUNTER, DOCUMENT, LIMIT, MEMORY, NAMES, OWN_UNKNOWN, RANGE, STALE, STEPS,
+    STORE_LIMIT,
+};
 use std::alloc::AllocError;
 use thiserror::Error;
 
@@ -48,17 +52,17 @@ impl Refusal {
         ensures { result ≡ number_of self }
     {
         match self {
-            Refusal::Memory => 1,
-            Refusal::Range => 5,
-            Refusal::Stale => 6,
-            Refusal::Limit => 7,
-            Refusal::Steps => 10,
-            Refusal::OwnUnknown => 20,
-            Refusal::Counter => 21,
-            Refusal::Names => 22,
-            Refusal::Document => 23,
-            Refusal::StoreLimit => 24,
-            Refusal::BadOperation => 47,
+            Refusal::Memory => MEMORY,
+            Refusal::Range => RANGE,
+            Refusal::Stale => STALE,
+            Refusal::Limit => LIMIT,
+            Refusal::Steps => STEPS,
+            Refusal::OwnUnknown => OWN_UNKNOWN,
+            Refusal::Counter => COUNTER,
+            Refusal::Names => NAMES,
+            Refusal::Document => DOCUMENT,
+            Refusal::StoreLimit => STORE_LIMIT,
+            Refusal::BadOperation => BAD_OPERATION,
         }
     }
 }

@@ -1,6 +1,7 @@
 ghost use Rattle.std.specs.Prelude.{◌≡◌, ◌≢◌, ◌↔◌, ◌≤◌, ◌<◌, if◌then◌else◌};
 ghost use Rattle.std.specs.Prelude.{[], length, Contains};
 ghost use Rattle.std.specs.Prelude.{IsTrue, IfOk, IfErr, OnOk, OnErr};
+ghost use Rattle.fixed_numbers.specs.declared.limits.TheConstants.{MAX_LISTED};
 ghost use Rattle.op_model.specs.Held.{opened_with, settled_list};
 ghost use Rattle.op_model.specs.Held.{with_acked, with_settled, with_told};
 ghost use Rattle.op_model.specs.Causality.{clock_of, IsCausallyClosed};
@@ -173,7 +174,7 @@ impl Replica {
     /// it is 1. A search by halves for the document, and what `Doc::spans` costs.
     pub fn spans(&self, doc: u32) -> Result<Vec<Span>, AllocError>
         ensures spans { IfOk result (λ found. found.items ≡ spans_of self.now.list doc) }
-        ensures few { IfOk result (λ found. listed found.items ≤ 1048576) }
+        ensures few { IfOk result (λ found. listed found.items ≤ MAX_LISTED) }
     {
         let empty = Doc::new(self.log.list.allocator(), doc);
         find(&self.log.docs, &empty).spans()

@@ -2,12 +2,10 @@ ghost use Rattle.std.specs.Prelude.{◌≡◌, ◌+◌, ◌<◌, nat_le, [], ◌
 ghost use Rattle.replica_core.specs.Steps.{kept_of};
 
 use crate::step::Step;
+use fixed_numbers::limits::MAX_STEPS;
 use ghost_lists::Written;
 use std::fmt;
 use std::marker::Model;
-
-/// The most steps that are kept since opening.
-const MAX_STEPS: usize = 1_048_576;
 
 /// The steps that a replica made since it was opened. Contracts see them, newest first; memory
 /// holds their number alone.
@@ -48,7 +46,7 @@ impl Steps {
 
     /// One more, for which there is a place. Takes no memory.
     pub fn push(&mut self, step: Step)
-        requires { length self.old < 1048576 }
+        requires { length self.old < MAX_STEPS }
         ensures { self.new ≡ kept_of step ∷ self.old }
     {
         self.made = self.made.and(&[step]);
@@ -57,7 +55,7 @@ impl Steps {
 
     /// Whether there are places for a step and for two settlements behind it.
     pub fn has_places(&self) -> bool
-        ensures { result ≡ nat_le (length self.now + 3) 1048576 }
+        ensures { result ≡ nat_le (length self.now + 3) MAX_STEPS }
     {
         self.count <= MAX_STEPS - 3
     }

@@ -1,6 +1,8 @@
 -- What a root body says, and the bytes that say it.
 use Rattle.std.specs.Prelude.{◌≡◌, ℕ, ◌-◌, ◌*◌, ◌≤◌, true, if◌then◌else◌, List, ◌++◌, length, replicate, Option, Some, None}
 use Rattle.std.specs.Int.{w32, w64, w128, to_be_bytes}
+use Rattle.fixed_numbers.specs.declared.limits.TheConstants.{MAX_OPERATIONS, MAX_STREAM_LENGTH}
+use Rattle.fixed_numbers.specs.declared.sizes.TheConstants.{PAGE_SIZE, TABLE_ENTRIES}
 use Rattle.page_file.specs.Pages.{are_pages, number_bytes}
 use Rattle.root_slots.specs.Root.{magic, version_of, replica_of, stream_length_of, count_of, tables_of, pages_for, is_root}
 
@@ -23,13 +25,13 @@ root_in body = if is_root body then Some (root_of body) else None
 
 -- how many table pages a stream of so many bytes needs
 abbrev pub tables_for : ℕ → ℕ
-tables_for stream_length = pages_for 1024 (pages_for 4096 stream_length)
+tables_for stream_length = pages_for TABLE_ENTRIES (pages_for PAGE_SIZE stream_length)
 
 -- the fields of a root lie in their ranges, and there are as many table pages as the stream needs, each of them once
 pub record IsRoot (root : Root) : Type 0 where
   pub version : 1 ≤ root.version
-  pub stream : root.stream_length ≤ 1073741824
-  pub operations : root.operations ≤ 16777216
+  pub stream : root.stream_length ≤ MAX_STREAM_LENGTH
+  pub operations : root.operations ≤ MAX_OPERATIONS
   pub tables : length root.tables ≡ tables_for root.stream_length
   pub pages : are_pages root.tables ≡ true
 

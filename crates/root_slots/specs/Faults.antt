@@ -1,14 +1,15 @@
 -- Why the root slots of a file aren't loaded.
 use Rattle.std.specs.Prelude.{◌≡◌, ℕ, Result, Ok, Err, ⊤}
+use Rattle.fixed_numbers.specs.declared.refusals.TheConstants.{BAD_ROOT, NO_ROOT, MEMORY, READ_FAILED}
 use Rattle.root_slots.specs.declared.error.RootsError.{RootsError}
 use Rattle.root_slots.specs.declared.error.RootsError.TheVariants.{Memory, NoRoot, BadRoot, ReadFailed}
 
 -- each refusal has one number
 abbrev pub number_of : RootsError → ℕ
-number_of Memory = 1
-number_of NoRoot = 42
-number_of BadRoot = 43
-number_of ReadFailed = 50
+number_of Memory = MEMORY
+number_of NoRoot = NO_ROOT
+number_of BadRoot = BAD_ROOT
+number_of ReadFailed = READ_FAILED
 
 -- a refusal has met a failure of the device, or not
 abbrev pub failures_of : RootsError → ℕ
@@ -25,6 +26,6 @@ failed_in (Err e) = failures_of e
 -- this refusal names the first fault of what was sought in a file; one of memory or of the device says nothing of it
 abbrev pub Names : {T : Type 0} → RootsError → Result T ℕ → Type 0
 Names Memory found = ⊤
-Names NoRoot found = found ≡ Err 42
-Names BadRoot found = found ≡ Err 43
+Names NoRoot found = found ≡ Err NO_ROOT
+Names BadRoot found = found ≡ Err BAD_ROOT
 Names ReadFailed found = ⊤

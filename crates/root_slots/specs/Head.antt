@@ -1,5 +1,7 @@
 -- The numbers of a root body before those of its table pages.
 use Rattle.std.specs.Prelude.{ℕ, ◌==◌, Bool, ◌&&◌, nat_le, List, length}
+use Rattle.fixed_numbers.specs.declared.limits.TheConstants.{MAX_OPERATIONS, MAX_STREAM_LENGTH}
+use Rattle.fixed_numbers.specs.declared.sizes.TheConstants.{BODY_LENGTH}
 use Rattle.root_slots.specs.Body.{tables_for}
 use Rattle.root_slots.specs.Root.{magic_of, magic, version_of, replica_of, stream_length_of, count_of, table_count, gap_of}
 
@@ -10,10 +12,10 @@ is_named start version replica = start == magic && nat_le 1 version && nat_le 1 
 -- at most 2^30 bytes of stream, at most 2^24 operations, as many table pages as the stream needs, and a gap of zeros
 unfoldable pub are_counts : ℕ → ℕ → ℕ → ℕ → Bool
 are_counts stream_length operations tables gap =
-    nat_le stream_length 1073741824 && nat_le operations 16777216 && tables == tables_for stream_length && gap == 0
+    nat_le stream_length MAX_STREAM_LENGTH && nat_le operations MAX_OPERATIONS && tables == tables_for stream_length && gap == 0
 
 -- the bytes are as long as a root body, and the numbers before those of the table pages keep their rules
 unfoldable pub is_head : List ℕ → Bool
 is_head body =
-    length body == 4088 && is_named (magic_of body) (version_of body) (replica_of body)
+    length body == BODY_LENGTH && is_named (magic_of body) (version_of body) (replica_of body)
     && are_counts (stream_length_of body) (count_of body) (table_count body) (gap_of body)

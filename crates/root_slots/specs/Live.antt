@@ -1,5 +1,7 @@
 -- Which root slot of a file is live, and what it says.
 use Rattle.std.specs.Prelude.{◌≡◌, ℕ, ◌-◌, ◌<◌, ◌≤◌, ◌==◌, get_or, Bool, if◌then◌else◌, List, length, Result, Ok, Err}
+use Rattle.fixed_numbers.specs.declared.refusals.TheConstants.{BAD_ROOT}
+use Rattle.fixed_numbers.specs.declared.sizes.TheConstants.{SLOTS_SIZE}
 use Rattle.disk_trait.specs.declared.facts.DiskFacts.{Ghosts}
 use Rattle.root_slots.specs.Root.{is_root}
 use Rattle.root_slots.specs.Body.{Root, IsRoot, Spells}
@@ -12,7 +14,7 @@ pub record SlotPair : Type 0 where
 
 -- the live slot of a file, whether the other one is open too, and what the live one says
 pub record IsLive (file : List ℕ) (slot : ℕ) (stale_open : Bool) (head : Root) : Type 0 where
-  pub whole : 8192 ≤ length file
+  pub whole : SLOTS_SIZE ≤ length file
   pub below : slot < 2
   pub picked : live file ≡ Ok slot
   pub other : stale_open ≡ (gate (1 - slot) file == 1)
@@ -28,7 +30,7 @@ pub record AreRead {D : Type 0} (facts : Ghosts D) (disk : D) (slots : SlotPair)
 
 -- this body, or bad root 43
 abbrev pub rooted : List ℕ → Result (List ℕ) ℕ
-rooted root = if is_root root then Ok root else Err 43
+rooted root = if is_root root then Ok root else Err BAD_ROOT
 
 -- the body of the slot that was found, or why none was
 abbrev pub root_at : List ℕ → Result ℕ ℕ → Result (List ℕ) ℕ

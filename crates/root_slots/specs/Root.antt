@@ -1,6 +1,8 @@
 -- The body of a root slot: the 4,088 bytes from byte 8 of its page on.
 use Rattle.std.specs.Prelude.{ℕ, ◌*◌, ◌+◌, ◌-◌, ◌/◌, ◌==◌, Bool, ◌&&◌, nat_le, List, length, drop}
 use Rattle.std.specs.Int.{w32, w64, w128, from_be_bytes}
+use Rattle.fixed_numbers.specs.declared.limits.TheConstants.{MAX_OPERATIONS, MAX_STREAM_LENGTH}
+use Rattle.fixed_numbers.specs.declared.sizes.TheConstants.{BODY_LENGTH, PAGE_SIZE, TABLE_ENTRIES}
 use Rattle.disk_trait.specs.File.{part}
 use Rattle.page_file.specs.Pages.{is_zero, are_pages, numbers}
 
@@ -46,13 +48,13 @@ pages_for size n = (n + (size - 1)) / size
 
 -- how many data pages the stream takes
 abbrev pub data_count : List ℕ → ℕ
-data_count body = pages_for 4096 (stream_length_of body)
+data_count body = pages_for PAGE_SIZE (stream_length_of body)
 
 -- the bytes are a root body: the numbers lie in their ranges, there are as many table pages as the stream needs, each of them
 -- once, and what is left is zero
 abbrev pub is_root : List ℕ → Bool
 is_root body =
-    length body == 4088 && magic_of body == magic && nat_le 1 (version_of body) && nat_le 1 (replica_of body)
-    && nat_le (stream_length_of body) 1073741824 && nat_le (count_of body) 16777216
-    && table_count body == pages_for 1024 (data_count body) && gap_of body == 0
+    length body == BODY_LENGTH && magic_of body == magic && nat_le 1 (version_of body) && nat_le 1 (replica_of body)
+    && nat_le (stream_length_of body) MAX_STREAM_LENGTH && nat_le (count_of body) MAX_OPERATIONS
+    && table_count body == pages_for TABLE_ENTRIES (data_count body) && gap_of body == 0
     && are_pages (tables_of body) && is_zero (drop (56 + 4 * table_count body) body)

@@ -2,6 +2,7 @@
 ghost use Rattle.std.specs.Prelude.{◌≡◌};
 ghost use Rattle.root_slots.specs.declared.error.RootsError.TheVariants.{Memory};
 
+use fixed_numbers::refusals::{BAD_ROOT, MEMORY, NO_ROOT, READ_FAILED};
 use std::alloc::AllocError;
 use thiserror::Error;
 
@@ -38,10 +39,10 @@ impl RootsError {
         ensures { result ≡ number_of self }
     {
         match self {
-            RootsError::Memory => 1,
-            RootsError::NoRoot => 42,
-            RootsError::BadRoot => 43,
-            RootsError::ReadFailed => 50,
+            RootsError::Memory => MEMORY,
+            RootsError::NoRoot => NO_ROOT,
+            RootsError::BadRoot => BAD_ROOT,
+            RootsError::ReadFailed => READ_FAILED,
         }
     }
 }

@@ -1,33 +1,27 @@
 //! The numbers of a root body, whose places are counted from the body's first byte.
 ghost use Rattle.std.specs.Prelude.{◌≡◌, ◌+◌, ◌≤◌, length};
 ghost use Rattle.std.specs.Int.{w32, w64, w128, from_be_bytes};
+ghost use Rattle.fixed_numbers.specs.declared.sizes.TheConstants.{MAX_TABLES};
 ghost use Rattle.disk_trait.specs.File.{part};
 ghost use Rattle.root_slots.specs.Body.{tables_for};
 ghost use Rattle.root_slots.specs.Head.{is_head, is_named, are_counts};
 ghost use Rattle.root_slots.specs.Root.{replica_of};
 
+use fixed_numbers::limits::{MAX_OPERATIONS, MAX_STREAM_LENGTH};
+use fixed_numbers::sizes::{BODY_LENGTH, PAGE_SIZE, TABLE_ENTRIES};
 use op_ids::ReplicaId;
-
-/// How many bytes a root body has: a page without its gate and the seven bytes behind that.
-pub const BODY_LENGTH: usize = 4088;
-
-/// The most bytes that a stream has: 2^30.
-pub const MAX_STREAM: u64 = 1_073_741_824;
-
-/// The most operations that a file has: 2^24.
-pub const MAX_OPERATIONS: u64 = 16_777_216;
 
 /// `PTXTPG01`, read as a number.
 pub const MAGIC: u64 = 0x5054_5854_5047_3031;
 
 /// How many table pages a stream of so many bytes needs: at most 256.
 pub fn tables_for(stream_length: u64) -> u64
-    requires { stream_length ≤ 1073741824 }
+    requires { stream_length ≤ MAX_STREAM_LENGTH }
     ensures value { result ≡ tables_for stream_length }
-    ensures most { result ≤ 256 }
+    ensures most { result ≤ MAX_TABLES }
 {
-    let pages = (stream_length + 4095) / 4096;
-    (pages + 1023) / 1024
+    let pages = (stream_length + (PAGE_SIZE as u64 - 1)) / PAGE_SIZE as u64;
+    (pages + (TABLE_ENTRIES as u64 - 1)) / TABLE_ENTRIES as u64
 }
 
 /// Whether the numbers before those of the table pages lie in their ranges, and there are as many
@@ -57,8 +51,8 @@ fn is_named(start: u64, version: u64, replica: u128) -> bool
 fn are_counts(stream_length: u64, operations: u64, tables: u32, gap: u32) -> bool
     ensures { result ≡ are_counts stream_length operations tables gap }
 {
-    stream_length <= MAX_STREAM
-        && operations <= MAX_OPERATIONS
+    stream_length <= MAX_STREAM_LENGTH
+        && operations <= MAX_OPERATIONS as u64
         && u64::from(tables) == tables_for(stream_length)
         && gap == 0
 }

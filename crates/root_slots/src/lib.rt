@@ -10,7 +10,7 @@ mod slots;
 mod writing;
 
 pub use error::RootsError;
-pub use fields::{BODY_LENGTH, MAX_OPERATIONS, MAX_STREAM, tables_for};
+pub use fields::tables_for;
 pub use root_body::RootBody;
 pub use roots::{LoadedRoots, Roots};
 

@@ -5,10 +5,9 @@ ghost use Rattle.root_slots.specs.Head.{is_head};
 ghost use Rattle.root_slots.specs.Root.{is_root, tables_of};
 ghost use Rattle.root_slots.specs.Body.{Root, IsRoot, Spells, root_in, root_of, body_bytes};
 
-use crate::fields::{
-    BODY_LENGTH, MAGIC, MAX_OPERATIONS, MAX_STREAM, is_head, replica_at, tables_for, u32_at, u64_at,
-};
+use crate::fields::{is_head, replica_at, tables_for, u32_at, u64_at};
 use crate::writing::spelled;
+use fixed_numbers::limits::{MAX_OPERATIONS, MAX_STREAM_LENGTH};
 use op_ids::ReplicaId;
 use page_file::{are_pages, is_zero, take_numbers};
 use std::alloc::{AllocError, Global};
@@ -76,7 +75,7 @@ impl RootBody {
           tables = tables.items;
         }) }
     {
-        if version == 0 || stream_length > MAX_STREAM || operations > MAX_OPERATIONS {
+        if version == 0 || stream_length > MAX_STREAM_LENGTH || operations > MAX_OPERATIONS as u64 {
             return None;
         }
         if tables.len() as u64 != tables_for(stream_length) || !are_pages(&tables) {

@@ -1,6 +1,7 @@
 //! The two root slots of a file.
 ghost use Rattle.std.specs.Prelude.{◌≡◌, ◌-◌, ◌<◌, ◌≤◌, [], ◌∷◌, true, false, length, IfOk};
 ghost use Rattle.std.specs.Prelude.{IfErr, IsOk, OnOk};
+ghost use Rattle.fixed_numbers.specs.declared.sizes.TheConstants.{BODY_LENGTH};
 ghost use Rattle.disk_trait.specs.declared.error.DiskError.TheVariants.{WriteFailed};
 ghost use Rattle.page_file.specs.DiskCalls.{IsLookedAt, IsWrite};
 ghost use Rattle.root_slots.specs.Slots.{gate, gate_place, body_place, live};
@@ -15,13 +16,9 @@ use crate::file_size::size_of;
 use crate::root_body::RootBody;
 use crate::slots::{Live, live_root};
 use disk_trait::{Disk, DiskError, read_inside, write_inside};
+use fixed_numbers::sizes::{PAGE_SIZE, SLOTS_SIZE};
 use std::alloc::Global;
 use std::marker::Model;
-
-// The bytes of a page, and of both slots.
-const PAGE: u64 = 4096;
-
-const SLOTS: usize = 8192;
 
 /// The two root slots of a file: which one is live, and whether the other one's gate reads 1. That
 /// other one is the stale slot: the next root is written there. Contracts see the record of both.
@@ -90,10 +87,10 @@ impl Roots {
         ensures looks { IsLookedAt D.DiskFacts (failed_in result) 0 disk.old disk.new }
     {
         let file_size = size_of(disk)?;
-        if file_size < 8192 {
+        if file_size < SLOTS_SIZE as u64 {
             return Err(RootsError::NoRoot);
         }
-        let mut slots = [0; SLOTS];
+        let mut slots = [0; SLOTS_SIZE];
         if let Err(_) = read_inside(disk, 0, &mut slots) {
             return Err(RootsError::ReadFailed);
         }
@@ -129,7 +126,7 @@ impl Roots {
     /// Closes the stale slot: one write of the byte 0 into its gate, which has to read 1. Refuses
     /// with 51 where the device failed: then the gate holds any byte. Takes no memory.
     pub fn close_stale<D: Disk>(&self, disk: &mut D) -> Result<(), DiskError>
-        requires whole { D.tells disk.old → 8192 ≤ length (D.content disk.old) }
+        requires whole { D.tells disk.old → SLOTS_SIZE ≤ length (D.content disk.old) }
         requires reads_one { D.tells disk.old
             → gate (1 - self.now.slot) (D.content disk.old) ≡ 1 }
         ensures writes { IsWrite D.DiskFacts result (gate_place (1 - self.now.slot)) (0 ∷ [])
@@ -142,15 +139,15 @@ impl Roots {
             → OnOk result (LivesAlone self.now.slot (D.content disk.new)) }
         ensures refused { IfErr result (λ e. e ≡ WriteFailed) }
     {
-        write_inside(disk, PAGE * (1 - self.slot), &[0])
+        write_inside(disk, PAGE_SIZE as u64 * (1 - self.slot), &[0])
     }
 
     /// Writes the body of the next root, 4,088 bytes, into the stale slot behind its gate: one
     /// write. Refuses with 51 where the device failed: then the body holds any bytes. Takes no
     /// memory.
     pub fn put_body<D: Disk>(&self, disk: &mut D, body: &[u8]) -> Result<(), DiskError>
-        requires whole { D.tells disk.old → 8192 ≤ length (D.content disk.old) }
-        requires long { length body.now ≡ 4088 }
+        requires whole { D.tells disk.old → SLOTS_SIZE ≤ length (D.content disk.old) }
+        requires long { length body.now ≡ BODY_LENGTH }
         ensures writes { IsWrite D.DiskFacts result (body_place (1 - self.now.slot)) body.now
             disk.old disk.new }
         ensures live { D.tells disk.old
@@ -162,13 +159,13 @@ impl Roots {
             → OnOk result (LivesBeforeNewer self.now.slot (D.content disk.new)) }
         ensures refused { IfErr result (λ e. e ≡ WriteFailed) }
     {
-        write_inside(disk, PAGE * (1 - self.slot) + 8, body)
+        write_inside(disk, PAGE_SIZE as u64 * (1 - self.slot) + 8, body)
     }
 
     /// Opens the stale slot: one write of the byte 1 into its gate. Refuses with 51 where the
     /// device failed: then the gate holds any byte. Takes no memory.
     pub fn open_gate<D: Disk>(&self, disk: &mut D) -> Result<(), DiskError>
-        requires whole { D.tells disk.old → 8192 ≤ length (D.content disk.old) }
+        requires whole { D.tells disk.old → SLOTS_SIZE ≤ length (D.content disk.old) }
         ensures writes { IsWrite D.DiskFacts result (gate_place (1 - self.now.slot)) (1 ∷ [])
             disk.old disk.new }
         ensures live { D.tells disk.old
@@ -179,7 +176,7 @@ impl Roots {
             → OnOk result (Lives (1 - self.now.slot) (D.content disk.new)) }
         ensures refused { IfErr result (λ e. e ≡ WriteFailed) }
     {
-        write_inside(disk, PAGE * (1 - self.slot), &[1])
+        write_inside(disk, PAGE_SIZE as u64 * (1 - self.slot), &[1])
     }
 
     /// The slots change places: the stale one, whose gate was opened and settled, is live, and the

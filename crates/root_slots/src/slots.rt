@@ -1,5 +1,6 @@
 //! Which root slot is live, of the bytes of both, and what it says.
 ghost use Rattle.std.specs.Prelude.{◌≡◌, ◌⊎◌, ◌-◌, ◌<◌, ◌==◌, true, length, IfOk, IfErr, IsOk, Ok};
+ghost use Rattle.fixed_numbers.specs.declared.sizes.TheConstants.{SLOTS_SIZE};
 ghost use Rattle.root_slots.specs.Body.{IsRoot, Spells};
 ghost use Rattle.root_slots.specs.Root.{version_of};
 ghost use Rattle.root_slots.specs.Slots.{gate, body, greater, live};
@@ -9,6 +10,7 @@ ghost use Rattle.root_slots.specs.declared.error.RootsError.TheVariants.{Memory,
 
 use crate::error::RootsError;
 use crate::root_body::RootBody;
+use fixed_numbers::sizes::{BODY_LENGTH, PAGE_SIZE};
 use std::alloc::{AllocError, Global};
 
 /// The live slot, whether the other one is open too, and what the live one says.
@@ -22,27 +24,27 @@ pub struct Live {
 // Whether a slot is open, of the bytes of both.
 fn is_open(slots: &[u8], slot: u64) -> bool
     requires slot { slot < 2 }
-    requires both { length slots.now ≡ 8192 }
+    requires both { length slots.now ≡ SLOTS_SIZE }
     ensures { result ≡ (gate slot slots.now == 1) }
 {
-    slots[4096 * slot as usize] == 1
+    slots[PAGE_SIZE * slot as usize] == 1
 }
 
 // The body of a slot, of the bytes of both.
 fn body_at(slots: &[u8], slot: u64) -> &[u8]
     requires slot { slot < 2 }
-    requires both { length slots.now ≡ 8192 }
+    requires both { length slots.now ≡ SLOTS_SIZE }
     ensures body { result.now ≡ body slot slots.now }
-    ensures long { length result.now ≡ 4088 }
+    ensures long { length result.now ≡ BODY_LENGTH }
 {
-    let (_, rest) = slots.split_at(4096 * slot as usize + 8);
-    let (body, _) = rest.split_at(4088);
+    let (_, rest) = slots.split_at(PAGE_SIZE * slot as usize + 8);
+    let (body, _) = rest.split_at(BODY_LENGTH);
     body
 }
 
 // The version that a slot's body says, also where it isn't a root body.
 fn version_at(body: &[u8]) -> u64
-    requires { length body.now ≡ 4088 }
+    requires { length body.now ≡ BODY_LENGTH }
     ensures { result ≡ version_of body.now }
 {
     let (_, rest) = body.split_at(8);
@@ -69,7 +71,7 @@ fn greater(version0: u64, version1: u64) -> Result<u64, RootsError>
 // Which slot is live, of the bytes of both: the open one, of two the one with the greater version.
 // 42 where none is open, and 43 where two are with equal versions.
 fn live_slot(slots: &[u8]) -> Result<u64, RootsError>
-    requires { length slots.now ≡ 8192 }
+    requires { length slots.now ≡ SLOTS_SIZE }
     ensures slot { IfOk result (λ slot. live slots.now ≡ Ok slot) }
     ensures below { IfOk result (λ slot. slot < 2) }
     ensures fault { IfErr result (λ e. Names e (live slots.now)) }
@@ -105,7 +107,7 @@ fn root_of(alloc: Global, body: &[u8]) -> Result<RootBody, RootsError>
 /// The live slot and what it says, of the bytes of both slots. 42 where none is open; 43 where two
 /// are with equal versions, or the live one holds no root body; 1 for want of memory.
 pub fn live_root(alloc: Global, slots: &[u8]) -> Result<Live, RootsError>
-    requires { length slots.now ≡ 8192 }
+    requires { length slots.now ≡ SLOTS_SIZE }
     ensures found { IfOk result (λ it. IsLive slots.now it.slot it.stale_open it.root) }
     ensures valid { IfOk result (λ it. IsRoot it.root) }
     ensures fault { IfErr result (λ e. Names e (live_root slots.now)) }

@@ -2,7 +2,8 @@
 ghost use Rattle.std.specs.Prelude.{◌≡◌, ◌++◌, OnOk, IfOk};
 ghost use Rattle.root_slots.specs.Body.{Root, IsRoot, Spells, head_bytes, body_bytes};
 
-use crate::fields::{BODY_LENGTH, MAGIC};
+use crate::fields::MAGIC;
+use fixed_numbers::sizes::BODY_LENGTH;
 use op_ids::ReplicaId;
 use op_ids::laws::{read_undoes_bytes, replica_is_not_nil};
 use page_file::put_numbers;

@@ -7,6 +7,7 @@ use Rattle.op_model.specs.Machine.{Ticket, edit, ack, ticket, acknowledged, refu
 use Rattle.pass_books.specs.Accounts.{PassHeld}
 use Rattle.session_lines.specs.Saying.{number_of}
 use Rattle.session_lines.specs.declared.command.Command.{Command}
+use Rattle.fixed_numbers.specs.declared.refusals.TheConstants.{STOPPING}
 use Rattle.session_lines.specs.declared.command.Command.TheVariants as command
 use Rattle.session_lines.specs.declared.answer.Answer.{Answer}
 use Rattle.session_lines.specs.declared.answer.Answer.TheVariants.{Edited, Text, Spans, Status, Stopped, Done, Refused}
@@ -19,7 +20,7 @@ use Rattle.shared_hub.specs.Shared.{HappensTo, Moment, MomentOf}
 
 -- the numbers that an edit may be refused with: those of a hub, and 12
 abbrev pub is_edit_refusal : ℕ → Bool
-is_edit_refusal n = is_hub_refusal n || n == 12
+is_edit_refusal n = is_hub_refusal n || n == STOPPING
 
 -- the hub gave a ticket for the edit, and later the ticket was acknowledged: only so an edit is answered
 pub record IsAcknowledged (old : PassHeld) (e : Edit) (rev : ℕ) (new : PassHeld) : Type 0 where

@@ -5,6 +5,7 @@ ghost use Rattle.shared_hub.specs.Refusal.{number_of as number_of_shared};
 ghost use Rattle.serve_threads.specs.Serving.{is_edit_refusal, ServesEdit, ServesText, ServesSpans, ServesStatus, ServesStop};
 
 use crate::shared_desk::SharedDesk;
+use fixed_numbers::refusals::{BUSY, FAILED, LIMIT, MEMORY, RANGE, STALE, STEPS, STOPPING};
 use op_model::Edit;
 use pass_books::Desks;
 use session_lines::{Answer, Command, Refusal, SpanList, State};
@@ -115,14 +116,14 @@ fn refusal_of(refusal: SharedRefusal) -> Refusal
     ensures { number_of result ≡ number_of_shared refusal }
 {
     match refusal.number() {
-        1 => Refusal::Memory,
-        5 => Refusal::Range,
-        6 => Refusal::Stale,
-        7 => Refusal::Limit,
-        8 => Refusal::Busy,
-        9 => Refusal::Failed,
-        10 => Refusal::Steps,
-        12 => Refusal::Stopping,
+        MEMORY => Refusal::Memory,
+        RANGE => Refusal::Range,
+        STALE => Refusal::Stale,
+        LIMIT => Refusal::Limit,
+        BUSY => Refusal::Busy,
+        FAILED => Refusal::Failed,
+        STEPS => Refusal::Steps,
+        STOPPING => Refusal::Stopping,
         _ => unreachable!(),
     }
 }

@@ -3,13 +3,11 @@ ghost use Rattle.std.specs.Prelude.{◌≡◌, ◌⊎◌, [], IfErr};
 
 use crate::test_daemons::TURNS;
 use disk_trait::{Disk, DiskError, DiskFacts, MemDisk};
+use fixed_numbers::sizes::BODY_LENGTH;
 use std::rt::Clock;
 use std::sync::{Mutex, Wait};
 use std::thread;
 use std::time::Duration;
-
-/// How many bytes the body of a root slot has.
-const BODY: usize = 4_088;
 
 /// What a disk that waits and the session for which it waits tell each other.
 #[derive(Drop)]
@@ -102,7 +100,7 @@ impl<'a, R: Wait + Clock> Disk for WaitingDisk<'a, R> {
     }
 
     fn write_at(&mut self, pos: u64, bytes: &[u8]) -> Result<(), DiskError> {
-        if bytes.len() == BODY {
+        if bytes.len() == BODY_LENGTH {
             self.meeting.write(self.rt);
         }
         self.disk.write_at(pos, bytes)

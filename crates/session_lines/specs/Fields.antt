@@ -10,6 +10,7 @@ use Rattle.std.proofs.Math.Nat.{zero-lt-suc}
 use Rattle.uuid.specs.Text.{parsed}
 use Rattle.serde_json.specs.Data.{Data, Members, no_members, member}
 use Rattle.serde_json.specs.Find.{get, as_str, as_number, as_u64, as_object}
+use Rattle.fixed_numbers.specs.declared.limits.TheConstants.{MAX_URL_LENGTH}
 use Rattle.session_lines.specs.declared.refusal.Refusal.{Refusal}
 use Rattle.session_lines.specs.declared.refusal.Refusal.TheVariants.{Memory, Field}
 use Rattle.session_lines.specs.declared.verb.Verb.{Verb}
@@ -125,7 +126,7 @@ kind_of d = or_field (option_and_then kind_named (text_at (codes "kind") d))
 
 -- a URL, of 1 to 1,024 bytes
 abbrev pub some_url : List ℕ → Option (List ℕ)
-some_url bytes = if nat_lt 0 (length bytes) && nat_le (length bytes) 1024 then Some bytes else None
+some_url bytes = if nat_lt 0 (length bytes) && nat_le (length bytes) MAX_URL_LENGTH then Some bytes else None
 
 -- where a link leads
 abbrev pub url_of : Data → Result (List ℕ) Refusal

@@ -4,6 +4,7 @@ use Rattle.std.specs.Int.{w128, to_be_bytes}
 use Rattle.uuid.specs.Text.{lower, hyphenated_text}
 use Rattle.serde_json.specs.Data.{string}
 use Rattle.serde_json.specs.Written.{compact_text}
+use Rattle.fixed_numbers.specs.declared.refusals.TheConstants.{BUSY, FAILED, FIELD, LIMIT, LINE, MEMORY, RANGE, REQUEST, STALE, STEPS, STOPPING, SYNTAX}
 use Rattle.op_model.specs.declared.mark.Marks.{Marks}
 use Rattle.op_model.specs.declared.span.Span.{Span}
 use Rattle.session_lines.specs.declared.refusal.Refusal.{Refusal}
@@ -15,18 +16,18 @@ use Rattle.session_lines.specs.declared.answer.State.TheVariants as state
 
 -- the number of a refusal
 abbrev pub number_of : Refusal → ℕ
-number_of refusal.Memory = 1
-number_of refusal.Syntax = 2
-number_of refusal.Request = 3
-number_of refusal.Field = 4
-number_of refusal.Range = 5
-number_of refusal.Stale = 6
-number_of refusal.Limit = 7
-number_of refusal.Busy = 8
-number_of refusal.Failed = 9
-number_of refusal.Steps = 10
-number_of refusal.Line = 11
-number_of refusal.Stopping = 12
+number_of refusal.Memory = MEMORY
+number_of refusal.Syntax = SYNTAX
+number_of refusal.Request = REQUEST
+number_of refusal.Field = FIELD
+number_of refusal.Range = RANGE
+number_of refusal.Stale = STALE
+number_of refusal.Limit = LIMIT
+number_of refusal.Busy = BUSY
+number_of refusal.Failed = FAILED
+number_of refusal.Steps = STEPS
+number_of refusal.Line = LINE
+number_of refusal.Stopping = STOPPING
 
 -- the word of a refusal
 abbrev pub word_of : Refusal → List ℕ

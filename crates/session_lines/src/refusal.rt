@@ -1,6 +1,9 @@
 ghost use Rattle.std.specs.Prelude.{◌≡◌};
 ghost use Rattle.session_lines.specs.declared.refusal.Refusal.TheVariants.{Memory};
 
+use fixed_numbers::refusals::{
+    BUSY, FAILED, FIELD, LIMIT, LINE, MEMORY, RANGE, REQUEST, STALE, STEPS, STOPPING, SYNTAX,
+};
 use std::alloc::AllocError;
 use thiserror::Error;
 
@@ -61,18 +64,18 @@ impl Refusal {
         ensures { result ≡ number_of self }
     {
         match self {
-            Refusal::Memory => 1,
-            Refusal::Syntax => 2,
-            Refusal::Request => 3,
-            Refusal::Field => 4,
-            Refusal::Range => 5,
-            Refusal::Stale => 6,
-            Refusal::Limit => 7,
-            Refusal::Busy => 8,
-            Refusal::Failed => 9,
-            Refusal::Steps => 10,
-            Refusal::Line => 11,
-            Refusal::Stopping => 12,
+            Refusal::Memory => MEMORY,
+            Refusal::Syntax => SYNTAX,
+            Refusal::Request => REQUEST,
+            Refusal::Field => FIELD,
+            Refusal::Range => RANGE,
+            Refusal::Stale => STALE,
+            Refusal::Limit => LIMIT,
+            Refusal::Busy => BUSY,
+            Refusal::Failed => FAILED,
+            Refusal::Steps => STEPS,
+            Refusal::Line => LINE,
+            Refusal::Stopping => STOPPING,
         }
     }
 

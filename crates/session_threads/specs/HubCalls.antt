@@ -1,5 +1,6 @@
 -- Calls of a hub, one after another, and those that commit all that it holds.
 use Rattle.std.specs.Prelude.{◌≡◌, ◌⊎◌, ℕ, ◌-◌, ◌^◌, ◌≤◌, ◌==◌, ◌||◌, Bool, true, false, List, [], ◌∷◌, ◌++◌, length, Option, Some, None, ⊤}
+use Rattle.fixed_numbers.specs.declared.refusals.TheConstants.{MEMORY, RANGE, STALE, LIMIT, BUSY, FAILED, STEPS}
 use Rattle.disk_trait.specs.declared.facts.DiskFacts.{Ghosts}
 use Rattle.op_model.specs.Machine.{State, Event, Answer, edit, merge, begin, device_step, settle, ack, tell, have, refused, is_under_way, through, Commit}
 use Rattle.locked_replica.specs.Hub.{Parts, state_of}
@@ -46,12 +47,13 @@ EndsWith events last = (before : List (Event × Answer)) × (events ≡ before +
 abbrev pub CannotSettle : State → List (Event × Answer) → Type 0
 CannotSettle s events =
     (s.failed ≡ true)
-    ⊎ EndsWith events ((begin, refused 7) ∷ [])
-    ⊎ ((last : List (Event × Answer)) × AreTimes 1000 (begin, refused 1) last × EndsWith events last)
+    ⊎ EndsWith events ((begin, refused LIMIT) ∷ [])
+    ⊎ ((last : List (Event × Answer)) × AreTimes 1000 (begin, refused MEMORY) last × EndsWith events last)
 
 -- the numbers that an edit may be refused with
 abbrev pub is_edit_refusal : ℕ → Bool
-is_edit_refusal n = n == 1 || n == 5 || n == 6 || n == 7 || n == 8 || n == 9 || n == 10
+is_edit_refusal n =
+    n == MEMORY || n == RANGE || n == STALE || n == LIMIT || n == BUSY || n == FAILED || n == STEPS
 
 -- the state with a commit of all its operations, of which no device call is made
 abbrev pub with_begun : State → State

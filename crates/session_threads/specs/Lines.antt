@@ -1,5 +1,6 @@
 -- The lines of a stream of bytes.
 use Rattle.std.specs.Prelude.{ℕ, ◌==◌, List, [], ◌∷◌, Option, Some, None, map, length, nat_lt, if◌then◌else◌}
+use Rattle.fixed_numbers.specs.declared.limits.TheConstants.{MAX_LINE}
 
 -- a byte in front of the first of these lines; where there is none, it is dropped
 abbrev pub onto_first : ℕ → List (List ℕ) → List (List ℕ)
@@ -17,7 +18,7 @@ fitting_in most line = if nat_lt most (length line) then None else Some line
 
 -- a line, or nothing in place of one that is too long, over 65,536 bytes
 abbrev pub fitting : List ℕ → Option (List ℕ)
-fitting line = fitting_in 65536 line
+fitting line = fitting_in MAX_LINE line
 
 -- the lines of a stream as they are read
 abbrev pub lines_read : List ℕ → List (Option (List ℕ))

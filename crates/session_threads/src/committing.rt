@@ -7,6 +7,7 @@ ghost use Rattle.session_threads.specs.HubCalls.{IsQuiet, Begins, GoesThrough, C
 
 use crate::begun::Begun;
 use disk_trait::Disk;
+use fixed_numbers::refusals::MEMORY;
 use group_commit::Phase;
 use locked_replica::Hub;
 
@@ -43,7 +44,7 @@ fn begin<D: Disk>(hub: &mut Hub<D>) -> Begun
         match hub.begin() {
             Ok(Some(_)) => return Begun::UnderWay,
             Ok(None) => return Begun::Settled,
-            Err(refusal) if refusal.number() == 1 => {}
+            Err(refusal) if refusal.number() == MEMORY => {}
             Err(_) => return Begun::Refused,
         }
     }

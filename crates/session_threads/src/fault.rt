@@ -2,6 +2,7 @@
 ghost use Rattle.std.specs.Prelude.{◌≡◌};
 ghost use Rattle.session_threads.specs.declared.fault.SessionFault.TheVariants.{Memory, Stream};
 
+use fixed_numbers::refusals::{MEMORY, STREAM};
 use std::alloc::AllocError;
 use std::io;
 use thiserror::Error;
@@ -33,8 +34,8 @@ impl SessionFault {
         ensures { result ≡ number_of self.now }
     {
         match self {
-            SessionFault::Memory => 1,
-            SessionFault::Stream(_) => 71,
+            SessionFault::Memory => MEMORY,
+            SessionFault::Stream(_) => STREAM,
         }
     }
 }

@@ -3,11 +3,9 @@ ghost use Rattle.std.specs.Prelude.{◌≡◌, ◌≤◌, List, [], ℕ, Option,
 ghost use Rattle.std.specs.Prelude.{option_copied, vec_len, vec_capacity, if◌then◌else◌};
 ghost use Rattle.session_threads.specs.Held.{longer};
 
+use fixed_numbers::limits::MAX_LINE;
 use std::alloc::{AllocError, Global};
 use std::marker::Model;
-
-/// The longest line that is read, in bytes, without its line feed.
-pub const LONGEST: usize = 65_536;
 
 /// What is there of a line, or that it is too long. Its memory is taken when it is made, so a line
 /// grows without.
@@ -18,11 +16,16 @@ pub struct HeldLine {
 }
 
 impl Model for HeldLine {
+    ghost use Rattle.std.specs.Prelude.{ℕ, List, Option, Some, None, ◌≤◌, if◌then◌else◌};
+    ghost use Rattle.std.specs.Prelude.{vec_len, vec_capacity};
+    ghost use Rattle.fixed_numbers.specs.declared.limits.TheConstants.{MAX_LINE};
+
     ghost Value = { Option (List ℕ) };
 
     ghost view = { λ line. if line.is_too_long then None else Some line.bytes.items };
 
-    ghost invariant = { λ line. (vec_len line.bytes ≤ 65536) × (65536 ≤ vec_capacity line.bytes) };
+    ghost invariant = { λ line. (vec_len line.bytes ≤ MAX_LINE)
+        × (MAX_LINE ≤ vec_capacity line.bytes) };
 }
 
 impl HeldLine {
@@ -30,7 +33,7 @@ impl HeldLine {
     pub fn new(alloc: Global) -> Result<HeldLine, AllocError>
         ensures { IfOk result (λ line. line ≡ Some []) }
     {
-        let bytes = Vec::with_capacity(alloc, LONGEST)?;
+        let bytes = Vec::with_capacity(alloc, MAX_LINE)?;
         Ok(HeldLine {
             bytes,
             is_too_long: false,
@@ -51,7 +54,7 @@ impl HeldLine {
     pub fn push(&mut self, bytes: &[u8])
         ensures { self.new ≡ longer self.old bytes.now }
     {
-        if self.bytes.len() + bytes.len() > LONGEST {
+        if self.bytes.len() + bytes.len() > MAX_LINE {
             self.is_too_long = true;
         }
         if !self.is_too_long {

@@ -8,6 +8,7 @@ ghost use Rattle.session_threads.specs.HubServing.{AnswersEdit, AnswersTicket};
 
 use crate::committing::commit;
 use disk_trait::Disk;
+use fixed_numbers::refusals::{BUSY, FAILED, LIMIT, MEMORY, RANGE, STALE, STEPS};
 use locked_replica::{Hub, HubRefusal};
 use op_model::Edit;
 use replica_core::Ticket;
@@ -52,13 +53,13 @@ fn refusal_of(refusal: HubRefusal) -> Refusal
     ensures { number_of result ≡ number_of_hub refusal }
 {
     match refusal.number() {
-        1 => Refusal::Memory,
-        5 => Refusal::Range,
-        6 => Refusal::Stale,
-        7 => Refusal::Limit,
-        8 => Refusal::Busy,
-        9 => Refusal::Failed,
-        10 => Refusal::Steps,
+        MEMORY => Refusal::Memory,
+        RANGE => Refusal::Range,
+        STALE => Refusal::Stale,
+        LIMIT => Refusal::Limit,
+        BUSY => Refusal::Busy,
+        FAILED => Refusal::Failed,
+        STEPS => Refusal::Steps,
         _ => unreachable!(),
     }
 }

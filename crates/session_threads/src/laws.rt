@@ -1,5 +1,6 @@
 //! What follows for the calls that a desk makes of its hub.
 ghost use Rattle.std.specs.Prelude.{◌≡◌, List, ℕ, Option, true};
+ghost use Rattle.fixed_numbers.specs.declared.refusals.TheConstants.{FAILED};
 ghost use Rattle.op_model.specs.declared.edit.Edit.{Edit};
 ghost use Rattle.op_model.specs.Machine.{Event, Answer, State, refused, EditStep};
 ghost use Rattle.locked_replica.specs.Hub.{Parts};
@@ -42,5 +43,5 @@ pub fn a_session_is_a_run<D: Disk>(desk: &HubDesk<D>)
 pub fn edits_fail_behind_a_failure()
     ensures { (session : ℕ) (s next : State) (e : Edit) (answer : Answer) → IsQuiet s
         → s.failed ≡ true → EditStep s session e answer next
-        → (answer ≡ refused 9) × (next ≡ s) }
+        → (answer ≡ refused FAILED) × (next ≡ s) }
 {}

@@ -1,6 +1,7 @@
 -- Why a shared hub refuses a call, and the machine's answers.
 use Rattle.std.specs.Prelude.{ℕ, List, Result, Ok, Err}
 use Rattle.std.specs.Global.{Vec}
+use Rattle.fixed_numbers.specs.declared.refusals.TheConstants.{STOPPING}
 use Rattle.op_model.specs.declared.op.Op.{Op}
 use Rattle.op_model.specs.Machine.{Ticket, Answer, ticket, operations, clock, refused}
 use Rattle.replica_core.specs.Merging.{answer_of}
@@ -12,7 +13,7 @@ use Rattle.shared_hub.specs.declared.refusal.SharedRefusal.TheVariants as refusa
 -- each refusal has one number
 abbrev pub number_of : SharedRefusal → ℕ
 number_of (refusal.Locked e) = number_of_locked e
-number_of refusal.Stopping = 12
+number_of refusal.Stopping = STOPPING
 
 -- the machine's answer to an edit
 abbrev pub edited : Result Ticket SharedRefusal → Answer

@@ -1,5 +1,5 @@
 -- What a call of a shared hub says of the moment at which it had the lock.
-use Rattle.std.specs.Prelude.{◌≡◌, Bool, true, false, Result, Ok, Err}
+use Rattle.std.specs.Prelude.{◌≡◌, Result}
 use Rattle.disk_trait.specs.declared.facts.DiskFacts.{Ghosts}
 use Rattle.group_commit.specs.declared.error.StoreError.{StoreError}
 use Rattle.op_model.specs.Machine.{Event, Answer, Step}
@@ -7,7 +7,6 @@ use Rattle.hub_parts.specs.Locked.{IsLocked, state_of, Held as LockedHeld}
 use Rattle.hub_parts.specs.Flusher.{Held as FlusherHeld}
 use Rattle.hub_parts.specs.Meeting.{Meets}
 use Rattle.hub_parts.specs.declared.met.Met.{Met}
-use Rattle.hub_parts.specs.declared.met.Met.TheVariants.{Begun}
 use Rattle.pass_books.specs.Accounts.{PassHeld}
 use Rattle.shared_hub.specs.Books.{ends_of}
 
@@ -61,29 +60,3 @@ pub record MeetsOnce {D : Type 0} (facts : Ghosts D) (old : FlusherHeld D) (resu
   pub before : LockedHeld
   pub after : LockedHeld
   pub meets : MeetsSound facts before old result after new
-
--- this meeting began a commit
-abbrev pub is_begun : Result Met StoreError → Bool
-is_begun (Ok (Begun n)) = true
-is_begun _ = false
-
--- a meeting that was no error has another one behind it, and whether that began a commit is the answer; an error is the answer itself
-abbrev pub GoesOn : {D : Type 0} → Ghosts D → Result Met StoreError → LockedHeld → FlusherHeld D → Result Bool StoreError → LockedHeld → FlusherHeld D → Type 0
-GoesOn facts (Ok met) l f result after new =
-    (second : Result Met StoreError) × MeetsSound facts l f second after new × (result ≡ Ok (is_begun second))
-GoesOn facts (Err e) l f result after new = (result ≡ Err e) × (after ≡ l) × (new ≡ f)
-
--- the flusher met the locked part, and again where that was no error
-pub record MeetsTwice {D : Type 0} (facts : Ghosts D) (before : LockedHeld) (old : FlusherHeld D) (result : Result Bool StoreError)
-    (after : LockedHeld) (new : FlusherHeld D) : Type 0 where
-  pub first : Result Met StoreError
-  pub between : LockedHeld
-  pub flusher : FlusherHeld D
-  pub meets : MeetsSound facts before old first between flusher
-  pub goes_on : GoesOn facts first between flusher result after new
-
--- while the lock was held once, the flusher met the locked part, and again where that was no error
-pub record Settles {D : Type 0} (facts : Ghosts D) (old : FlusherHeld D) (result : Result Bool StoreError) (new : FlusherHeld D) : Type 0 where
-  pub before : LockedHeld
-  pub after : LockedHeld
-  pub meets : MeetsTwice facts before old result after new

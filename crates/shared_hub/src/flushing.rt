@@ -8,10 +8,16 @@ use disk_trait::Disk;
 use group_commit::{Phase, StoreError};
 use hub_parts::{Flusher, Met};
 use pass_books::Desks;
+use std::io;
+use std::rt::Clock;
 use std::sync::Wait;
+use std::time::{Duration, Instant};
 
 /// How often a begin that finds no memory is made, in a row.
 const TRIES: u32 = 1_000;
+
+/// For so many milliseconds at most the flusher waits for the edits of those who are at work.
+const PATIENCE: u64 = 1;
 
 /// How a try at a commit ended.
 enum Begun {
@@ -24,10 +30,12 @@ enum Begun {
 }
 
 /// Commits what the threads of a shared hub make, one commit after the other, until they were asked
-/// to end or the device fails. It makes device calls with no lock held, and holds the lock once
-/// between two commits: a settlement begins the next one. It sleeps where nothing waits. Behind it
-/// whoever waits for a settlement is told that none comes.
-pub fn flush<R: Wait, D: Disk, J: Desks, G: Gate>(
+/// to end or the device fails. It makes device calls with no lock held. It sleeps where nothing
+/// waits. Behind a commit it waits until as many edits have come as that had and as had come when
+/// it was settled, so that the next one serves all who are at work; but no longer than the commit
+/// took, nor than a millisecond. When it has ended, whoever waits for a settlement is told that
+/// none comes.
+pub fn flush<R: Wait + Clock, D: Disk, J: Desks, G: Gate>(
     rt: &R,
     shared: &Shared<J>,
     flusher: &mut Flusher<D>,
@@ -41,8 +49,9 @@ pub fn flush<R: Wait, D: Disk, J: Desks, G: Gate>(
     flusher.kept();
 }
 
-/// Makes one commit after the other, until the threads were asked to end or the device fails.
-fn commit_each<R: Wait, D: Disk, J: Desks, G: Gate>(
+/// Makes one commit after the other, until the threads were asked to end or the device fails. It
+/// waits for the edits of a commit no longer than the commit before took.
+fn commit_each<R: Wait + Clock, D: Disk, J: Desks, G: Gate>(
     rt: &R,
     shared: &Shared<J>,
     flusher: &mut Flusher<D>,
@@ -50,19 +59,34 @@ fn commit_each<R: Wait, D: Disk, J: Desks, G: Gate>(
 )
     ensures { Goes D.DiskFacts flusher.old flusher.new }
 {
+    let mut patience = Duration::ZERO;
     for _ in rt.forever() {
-        if !shared.wait_for_work(rt) {
+        if !shared.wait_for_work(rt, patience) {
             return;
         }
-        if !commit_on(rt, shared, flusher, gate) {
+        let start = Instant::now(rt);
+        if !commit(rt, shared, flusher, gate) {
             return;
         }
+        patience = patience_since(rt, start);
     }
 }
 
-/// Makes one commit after the other until nothing waits, and answers whether the device still
-/// works.
-fn commit_on<R: Wait, D: Disk, J: Desks, G: Gate>(
+/// How long those who are at work are waited for behind a commit that was tried then: as long as it
+/// took, but at most `PATIENCE`, and not at all where the clock can't be read.
+fn patience_since<R: Clock>(rt: &R, start: io::Result<Instant>) -> Duration {
+    let Ok(start) = start else {
+        return Duration::ZERO;
+    };
+    match start.elapsed(rt) {
+        Ok(took) => took.min(Duration::from_millis(PATIENCE)),
+        Err(_) => Duration::ZERO,
+    }
+}
+
+/// Begins a commit of all that waits, makes its device calls and settles it. Answers whether the
+/// device still works.
+fn commit<R: Wait, D: Disk, J: Desks, G: Gate>(
     rt: &R,
     shared: &Shared<J>,
     flusher: &mut Flusher<D>,
@@ -75,47 +99,13 @@ fn commit_on<R: Wait, D: Disk, J: Desks, G: Gate>(
         Begun::Without => return true,
         Begun::Failed => return false,
     }
-    go_on(rt, shared, flusher, gate)
-}
-
-/// Makes the commit under way and those that begin with a settlement, and answers whether the
-/// device still works.
-fn go_on<R: Wait, D: Disk, J: Desks, G: Gate>(
-    rt: &R,
-    shared: &Shared<J>,
-    flusher: &mut Flusher<D>,
-    gate: &G,
-) -> bool
-    ensures { Goes D.DiskFacts flusher.old flusher.new }
-{
-    for _ in rt.forever() {
-        match commit(rt, shared, flusher, gate) {
-            Ok(true) => {}
-            Ok(false) => return true,
-            Err(_) => return false,
-        }
-    }
-    unreachable!()
-}
-
-/// Makes the device calls of the commit under way, settles it, and begins the next one. Answers
-/// whether that began; an error tells that the device has failed.
-fn commit<R: Wait, D: Disk, J: Desks, G: Gate>(
-    rt: &R,
-    shared: &Shared<J>,
-    flusher: &mut Flusher<D>,
-    gate: &G,
-) -> Result<bool, StoreError>
-    ensures { Goes D.DiskFacts flusher.old flusher.new }
-{
     gate.pass(Point::Begun);
     go_through(rt, flusher, gate);
-    // Room for what the next commit takes; where there is none, that meeting makes its own or is
-    // refused, and `begin` tries it anew.
-    let _ = flusher.reserve();
-    let goes_on = shared.settle(rt, flusher)?;
+    if shared.settle(rt, flusher).is_err() {
+        return false;
+    }
     gate.pass(Point::Settled);
-    Ok(goes_on)
+    true
 }
 
 /// Begins a commit. A begin that finds no memory is made again, at most 1,000 times in a row; after

@@ -54,6 +54,7 @@ impl<J: Desks> Guarded<J> {
         match self.locked.edit(pass.number() as u64, edit) {
             Ok(ticket) => {
                 self.books.add(pass, ticket.end as u64);
+                self.turns.edits = self.turns.edits.wrapping_add(1);
                 Ok(ticket)
             }
             Err(refusal) => Err(SharedRefusal::Locked(refusal)),

@@ -91,11 +91,25 @@ impl<J: Desks> Guarded<J> {
             && self.turns.given_up < length
     }
 
-    /// Whether the flusher sleeps and has work: whoever asks is to wake it.
+    /// Whether fewer edits have come than the flusher waits for. Behind a stop and a close it waits
+    /// for none.
+    pub(crate) fn lacks_edits(&self) -> bool {
+        self.turns.edits < self.turns.group && !self.is_stopping && !self.turns.is_closing
+    }
+
+    /// Marks that the flusher waits for no edits any more, and no longer sleeps.
+    pub(crate) fn end_gathering(&mut self)
+        ensures { self.new ≡ self.old }
+    {
+        self.turns.group = 0;
+        self.turns.flusher_sleeps = false;
+    }
+
+    /// Whether the flusher sleeps, and has work and lacks no edits: whoever asks is to wake it.
     pub(crate) fn wakes_flusher(&mut self) -> bool
         ensures { self.new ≡ self.old }
     {
-        let wakes = self.turns.flusher_sleeps && self.has_work();
+        let wakes = self.turns.flusher_sleeps && self.has_work() && !self.lacks_edits();
         if wakes {
             self.turns.flusher_sleeps = false;
         }
@@ -116,11 +130,20 @@ impl<J: Desks> Guarded<J> {
         self.turns.tried = self.locked.list().len();
     }
 
-    /// Counts a commit that has begun.
+    /// Counts a commit that has begun, and the edits that it has.
     pub(crate) fn count_commit(&mut self)
         ensures { self.new ≡ self.old }
     {
         self.turns.commits = self.turns.commits.wrapping_add(1);
+        self.turns.group = self.turns.edits;
+        self.turns.edits = 0;
+    }
+
+    /// Adds to those that a commit had the edits that have come when it is settled.
+    pub(crate) fn count_group(&mut self)
+        ensures { self.new ≡ self.old }
+    {
+        self.turns.group = self.turns.group.wrapping_add(self.turns.edits);
     }
 
     /// Gives up the commit that was tried last, until another operation comes: one that came behind

@@ -2,8 +2,7 @@
 ghost use Rattle.std.specs.Prelude.{◌≡◌};
 ghost use Rattle.hub_parts.specs.Meet.{Meet, side_of};
 ghost use Rattle.shared_hub.specs.Going.{Goes};
-ghost use Rattle.shared_hub.specs.Shared.{MeetsSound, MeetsTwice};
-ghost use Rattle.shared_hub.specs.Shared.{is_begun as begun};
+ghost use Rattle.shared_hub.specs.Shared.{MeetsSound};
 
 use crate::guarded::Guarded;
 use disk_trait::Disk;
@@ -40,35 +39,25 @@ impl<J: Desks> Guarded<J> {
     {
         self.note_try();
         let result = self.meet(flusher);
-        if is_begun(&result) {
+        if let Ok(Met::Begun(_)) = result {
             self.count_commit();
         }
         result
     }
 
-    /// Settles the commit whose device calls are all made, and begins one of all that waits then.
-    /// Answers whether that began. An error tells that the device has failed (44).
-    pub(crate) fn settle<D: Disk>(&mut self, flusher: &mut Flusher<D>) -> Result<bool, StoreError>
-        ensures met { MeetsTwice D.DiskFacts self.old.locked flusher.old result
+    /// Meets the flusher where the device calls of its commit are all made: that is settled, and
+    /// the edits of those who are at work are counted. An error tells that the device has failed
+    /// (44).
+    pub(crate) fn settle<D: Disk>(&mut self, flusher: &mut Flusher<D>) -> Result<Met, StoreError>
+        ensures met { MeetsSound D.DiskFacts self.old.locked flusher.old result
             self.new.locked flusher.new }
         ensures goes { Goes D.DiskFacts flusher.old flusher.new }
         ensures fits { Meet self.old.locked (side_of flusher.old)
             → Meet self.new.locked (side_of flusher.new) }
         ensures others { self.new ≡ record self.old { locked = self.new.locked } }
     {
-        match self.meet(flusher) {
-            Ok(_) => {
-                let begun = self.begin(flusher);
-                Ok(is_begun(&begun))
-            }
-            Err(error) => Err(error),
-        }
+        let result = self.meet(flusher);
+        self.count_group();
+        result
     }
-}
-
-/// Whether a meeting began a commit.
-fn is_begun(met: &Result<Met, StoreError>) -> bool
-    ensures { result ≡ begun met.now }
-{
-    matches!(met, Ok(Met::Begun(_)))
 }

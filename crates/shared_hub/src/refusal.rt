@@ -1,6 +1,7 @@
 //! Why a shared hub refuses an edit or a merge.
 ghost use Rattle.std.specs.Prelude.{◌≡◌};
 
+use fixed_numbers::refusals::STOPPING;
 use hub_parts::LockedRefusal;
 use thiserror::Error;
 
@@ -24,7 +25,7 @@ impl SharedRefusal {
     {
         match self {
             SharedRefusal::Locked(refusal) => refusal.number(),
-            SharedRefusal::Stopping => 12,
+            SharedRefusal::Stopping => STOPPING,
         }
     }
 }

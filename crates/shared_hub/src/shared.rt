@@ -48,7 +48,7 @@ impl<J: Desks> Shared<J> {
 
     /// Makes an edit, as a step of the pass's number. Refuses with 12 behind `stop`, else as
     /// `Locked::edit` does (9, 6, 5, 7, 10, 8, 1), which then changes nothing. Wakes the flusher
-    /// where it sleeps. Costs what `Locked::edit` does.
+    /// where it sleeps and waits for no further edit. Costs what `Locked::edit` does.
     pub fn edit<R: Wait>(
         &self,
         rt: &R,
@@ -70,7 +70,7 @@ impl<J: Desks> Shared<J> {
 
     /// Merges a peer's operation, as a step of the pass's number. Refuses with 12 behind `stop`,
     /// else as `Locked::merge` does (9, 20 to 24, 10, 8, 1), which then changes nothing. Wakes the
-    /// flusher where it sleeps. Costs what `Locked::merge` does.
+    /// flusher where it sleeps and waits for no edit. Costs what `Locked::merge` does.
     pub fn merge<R: Wait>(
         &self,
         rt: &R,

@@ -2,7 +2,7 @@
 ghost use Rattle.op_model.specs.Machine.{tell as tell_event, have as have_event};
 ghost use Rattle.shared_hub.specs.Going.{Goes};
 ghost use Rattle.shared_hub.specs.Refusal.{told, had};
-ghost use Rattle.shared_hub.specs.Shared.{Happens, MeetsOnce, Settles};
+ghost use Rattle.shared_hub.specs.Shared.{Happens, MeetsOnce};
 
 use crate::refusal::SharedRefusal;
 use crate::shared::Shared;
@@ -50,15 +50,15 @@ impl<J: Desks> Shared<J> {
         result
     }
 
-    /// With the lock held once, the commit whose device calls are all made is settled, and one of
-    /// all that waits then begins. Wakes those who wait for the settled one, and the threads that
-    /// tell. Answers whether the next one began. An error tells that the device has failed (44).
+    /// The flusher meets what stands under the lock, once, where the device calls of its commit are
+    /// all made: that is settled. Wakes those who wait for it, and the threads that tell. An error
+    /// tells that the device has failed (44).
     pub(crate) fn settle<R: Wait, D: Disk>(
         &self,
         rt: &R,
         flusher: &mut Flusher<D>,
-    ) -> Result<bool, StoreError>
-        ensures met { Settles D.DiskFacts flusher.old result flusher.new }
+    ) -> Result<Met, StoreError>
+        ensures met { MeetsOnce D.DiskFacts flusher.old result flusher.new }
         ensures goes { Goes D.DiskFacts flusher.old flusher.new }
     {
         let mut guard = self.guarded.lock(rt);

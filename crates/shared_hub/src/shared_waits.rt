@@ -4,11 +4,14 @@ ghost use Rattle.op_model.specs.Machine.{ack as ack_event, acknowledged};
 ghost use Rattle.shared_hub.specs.Shared.{HappensTo, Moment};
 
 use crate::awaited::Awaited;
+use crate::guarded::Guarded;
 use crate::news::News;
 use crate::shared::Shared;
 use pass_books::{Desks, Pass};
 use replica_core::Ticket;
-use std::sync::Wait;
+use std::rt::Clock;
+use std::sync::{MutexGuard, Wait};
+use std::time::Duration;
 
 impl<J: Desks> Shared<J> {
     /// Waits until the operations of a ticket are settled, and acknowledges them; else the device
@@ -77,9 +80,10 @@ impl<J: Desks> Shared<J> {
     }
 
     /// Waits until operations wait for a commit, which is tried then; not so where the threads were
-    /// asked to end.
-    pub(crate) fn wait_for_work<R: Wait>(&self, rt: &R) -> bool {
-        let mut guard = self.guarded.lock(rt);
+    /// asked to end. Before that it waits, for so long at most, for the next edits of those who
+    /// were answered last, so that one commit serves them all.
+    pub(crate) fn wait_for_work<R: Wait + Clock>(&self, rt: &R, patience: Duration) -> bool {
+        let mut guard = self.gather(rt, patience);
         for _ in rt.forever() {
             if guard.has_work() {
                 guard.note_try();
@@ -92,6 +96,19 @@ impl<J: Desks> Shared<J> {
             guard = self.work.wait(rt, guard);
         }
         unreachable!()
+    }
+
+    /// Waits until no edit is missing of those who are at work, for so long at most; it may end
+    /// sooner. Gives what stands under the lock then.
+    fn gather<R: Wait + Clock>(&self, rt: &R, patience: Duration) -> MutexGuard<'_, Guarded<J>> {
+        let mut guard = self.guarded.lock(rt);
+        if guard.lacks_edits() {
+            guard.sleep_flusher();
+            let (woken, _) = self.work.wait_timeout(rt, guard, patience);
+            guard = woken;
+        }
+        guard.end_gathering();
+        guard
     }
 
     /// Gives up the commit that was tried last, and tells those who wait for it.

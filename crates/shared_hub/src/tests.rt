@@ -12,6 +12,7 @@ use op_model::{Change, Edit, EditText};
 use pass_books::{Desks, Pass};
 use std::alloc::Global;
 use std::marker::Brand;
+use std::rt::Clock;
 use std::sync::{Mutex, Wait};
 use std::test::Fail;
 use std::thread::{self, Threads};
@@ -63,7 +64,7 @@ fn make_edits<R: Wait, J: Desks>(
 
 // Four threads edit beside the flusher's. Gives how many entries their passes have in all, and how
 // many operations the list has then, where the two parts fit.
-fn four_edit<J: Desks + Send + Sync, R: Wait + Threads + Sync>(
+fn four_edit<J: Desks + Send + Sync, R: Wait + Clock + Threads + Sync>(
     rt: &R,
     alloc: Global,
     opened: Opened,
@@ -87,7 +88,7 @@ fn four_edit<J: Desks + Send + Sync, R: Wait + Threads + Sync>(
 }
 
 // Four threads edit while this one flushes.
-fn edit_beside<J: Desks + Send + Sync, R: Wait + Threads + Sync>(
+fn edit_beside<J: Desks + Send + Sync, R: Wait + Clock + Threads + Sync>(
     rt: &R,
     alloc: Global,
     shared: &Shared<J>,
@@ -149,7 +150,7 @@ fn waits_behind_the_end<J: Desks, R: Wait>(
 }
 
 // Ends the flusher, and then edits and stops.
-fn edit_behind_the_end<J: Desks, R: Wait>(
+fn edit_behind_the_end<J: Desks, R: Wait + Clock>(
     rt: &R,
     alloc: Global,
     opened: Opened,

@@ -9,6 +9,11 @@ pub(crate) struct Turns {
     pub given_up: usize,
     /// Whether the flusher sleeps.
     pub flusher_sleeps: bool,
+    /// How many edits came behind those of the last commit that began.
+    pub edits: u64,
+    /// For how many edits the flusher waits before the next commit: as many as the last one had and
+    /// as had come when it was settled. 0 once it has waited.
+    pub group: u64,
     /// How many commits have begun.
     pub commits: u64,
     /// How often a thread that hears woke those that tell.
@@ -26,6 +31,8 @@ impl Turns {
             tried: 0,
             given_up: 0,
             flusher_sleeps: false,
+            edits: 0,
+            group: 0,
             commits: 0,
             calls: 0,
             is_closing: false,

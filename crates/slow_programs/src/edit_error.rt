@@ -1,5 +1,6 @@
 ghost use Rattle.std.specs.Prelude.{◌≡◌};
 
+use fixed_numbers::refusals::{LIMIT, MEMORY, RANGE, STALE};
 use op_ids::ClockError;
 use std::alloc::AllocError;
 use thiserror::Error;
@@ -30,10 +31,10 @@ impl EditError {
         ensures { result ≡ number_of self }
     {
         match self {
-            EditError::Memory => 1,
-            EditError::Stale => 6,
-            EditError::Range => 5,
-            EditError::Limit => 7,
+            EditError::Memory => MEMORY,
+            EditError::Stale => STALE,
+            EditError::Range => RANGE,
+            EditError::Limit => LIMIT,
         }
     }
 }

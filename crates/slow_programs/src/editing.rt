@@ -16,7 +16,8 @@ use crate::numbering::{clock_of, greatest_counter};
 use crate::order::walk;
 use crate::placing::{behind, id_at, id_before, last_end};
 use crate::reading::{rev, visible};
-use op_ids::{MAX_COUNTER, OpId, ReplicaId};
+use fixed_numbers::limits::MAX_COUNTER;
+use op_ids::{OpId, ReplicaId};
 use op_model::{
     Anchor, Body, Change, Character, Edit, End, MarkKey, Op, Start, insert_bodies, numbered,
 };

@@ -5,8 +5,9 @@ ghost use Rattle.op_model.specs.Spans.{with_number};
 ghost use Rattle.op_model.specs.Records.{stream_length};
 ghost use Rattle.op_model.specs.Causality.{clock_of, documents as documents_of, is_in_range as is_in_its_range, is_within_limits as is_within_limits_of};
 
+use fixed_numbers::limits::{MAX_DOCUMENTS, MAX_OPERATIONS, MAX_STREAM_LENGTH};
 use op_ids::Clock;
-use op_model::{MAX_DOCUMENTS, MAX_OPERATIONS, MAX_STREAM_LENGTH, Op};
+use op_model::Op;
 use std::alloc::{AllocError, Global};
 
 /// Whether the operations, and then those made, keep the limits of a store. The clock counts all of
@@ -47,13 +48,13 @@ fn is_in_range(op: &Op) -> bool
 
 /// Whether so many operations, and then those made, are at most 2^24.
 fn has_operations(ops: usize, made: usize) -> bool
-    ensures { result ≡ nat_le (ops + made) 16777216 }
+    ensures { result ≡ nat_le (ops + made) MAX_OPERATIONS }
 {
     ops <= MAX_OPERATIONS && made <= MAX_OPERATIONS - ops
 }
 
 fn has_stream(ops: &[Op], made: &[Op]) -> bool
-    ensures { result ≡ nat_le (stream_length ops.now + stream_length made.now) 1073741824 }
+    ensures { result ≡ nat_le (stream_length ops.now + stream_length made.now) MAX_STREAM_LENGTH }
 {
     match room_behind(ops, MAX_STREAM_LENGTH) {
         Some(room) => room_behind(made, room).is_some(),

@@ -5,6 +5,7 @@ use Rattle.std.specs.Prelude.{◌≡◌, ℕ, ◌+◌, ◌<◌, ◌==◌, Bool, 
 use Rattle.std.specs.Prelude.{filter_map, slice_get, ◌++◌}
 use Rattle.std.proofs.Common.{get_or, zero, suc}
 use Rattle.std.specs.List.{list_any}
+use Rattle.fixed_numbers.specs.declared.limits.TheConstants.{MAX_LISTED}
 use Rattle.op_model.specs.declared.anchor.Anchor.TheVariants.{Before, After}
 use Rattle.op_model.specs.declared.anchor.Start.{Start}
 use Rattle.op_model.specs.declared.anchor.Start.TheVariants as start
@@ -121,5 +122,5 @@ listed_and runs left = listed (map forward_span runs) + left
 pub record IsSwept (s : Sweep) (cells : List Cell) (ms : List Marking) (k : ℕ) : Type 0 where
   pub active : IsActive s.active (length ms) (begun_at cells ms k k) (ended_at cells ms k k)
   pub fresh : IsFresh s.runs.items s.is_changed s.active.set.items ms
-  pub few : listed_and s.runs.items s.left ≡ 1048576
+  pub few : listed_and s.runs.items s.left ≡ MAX_LISTED
   pub runs : map forward_span s.runs.items ≡ cell_runs (λ i. marks_in (covering cells ms i)) 0 (take k cells)

@@ -1,5 +1,6 @@
 ghost use Rattle.std.specs.Prelude.{◌≡◌, ◌+◌, ◌*◌, ◌≤◌, ℕ, List};
 ghost use Rattle.std.specs.Prelude.{Some, take, IfOk, OnOk};
+ghost use Rattle.fixed_numbers.specs.declared.limits.TheConstants.{MAX_LISTED};
 ghost use Rattle.char_sequence.specs.Chunks.{cells_of, size_at};
 ghost use Rattle.char_sequence.specs.Content.{Holds};
 ghost use Rattle.char_sequence.specs.Counting.{count_of};
@@ -24,7 +25,7 @@ use std::alloc::{AllocError, Global};
 pub fn spans(sequence: &Sequence, anchors: &Anchors) -> Result<Vec<Span>, AllocError>
     ensures spans { IfOk result (λ found. (ops : List Op) (doc : ℕ) → Holds sequence.now ops doc
         → AreMarksOf anchors.now ops doc → found.items ≡ spans_of_ops ops doc) }
-    ensures few { IfOk result (λ found. listed found.items ≤ 1048576) }
+    ensures few { IfOk result (λ found. listed found.items ≤ MAX_LISTED) }
 {
     spans_in(sequence, anchors, &mut Ticks::new())
 }
@@ -44,7 +45,7 @@ pub fn spans_in(
 ) -> Result<Vec<Span>, AllocError>
     ensures spans { IfOk result (λ found. (ops : List Op) (doc : ℕ) → Holds sequence.now ops doc
         → AreMarksOf anchors.now ops doc → found.items ≡ spans_of_ops ops doc) }
-    ensures few { IfOk result (λ found. listed found.items ≤ 1048576) }
+    ensures few { IfOk result (λ found. listed found.items ≤ MAX_LISTED) }
     ensures ticks { ticks.new ≤ ticks.old + (2 * count_of sequence.now + 1) }
 {
     let alloc = sequence.allocator();

@@ -2,10 +2,6 @@ ghost use Rattle.std.specs.Prelude.{◌≡◌, ◌+◌, ◌<◌, OnErr, OnOk};
 
 use std::alloc::AllocError;
 
-/// An answer lists at most so many comment ids, one counted in each span that lists it: n staggered
-/// comments over n characters would list half the square of n.
-pub const LISTED_LIMIT: usize = 1_048_576;
-
 /// The marks of a document take at most so many steps: at each character at which mark operations
 /// begin or end, one for each of these and of those that have begun before and not ended, and an
 /// eighth of that again for each of these. n operations over a text with m edges take some m times

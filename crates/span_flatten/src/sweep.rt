@@ -12,9 +12,10 @@ ghost use Rattle.span_flatten.specs.Sweeping.{is_last_same as is_last_same_of};
 
 use crate::active::Active;
 use crate::formatting::marks_of;
-use crate::listing::{LISTED_LIMIT, STEPS_LIMIT, count_down};
+use crate::listing::{STEPS_LIMIT, count_down};
 use crate::run::Run;
 use char_sequence::{Cell, ChunkSize, Sequence};
+use fixed_numbers::limits::MAX_LISTED;
 use mark_anchors::{Anchors, Edge};
 use op_model::{Marking, Marks, Span, Text, Ticks};
 use std::alloc::{AllocError, Global};
@@ -43,7 +44,7 @@ impl Sweep {
             active: Active::new(alloc, markings)?,
             runs: Vec::new(alloc),
             is_changed: true,
-            left: LISTED_LIMIT,
+            left: MAX_LISTED,
             steps: STEPS_LIMIT,
         })
     }

@@ -18,12 +18,12 @@ pub returns-in-Err-2 : goal.returns-in-Err-2
 returns-in-Err-2 g c =
     let (tries, times, calls, same) = c.loop.invariant in
     begins_refused g.D.DiskFacts _ _ _ c.loop.counter _ tries times calls same c.requires c.in-Err.ensures.call
-    (λ one. c.if-number-eq1.false (c.number.ensures ∙ one))
+    (λ one. c.if-number-eq-MEMORY.false (c.number.ensures ∙ one))
 
 pub loop-preserved : goal.loop-preserved
 loop-preserved g c =
     let (tries, times, calls, same) = c.loop.invariant in
-    let made = rw (← c.number.ensures, c.if-number-eq1.true) at c.in-Err.ensures.call in
+    let made = rw (← c.number.ensures, c.if-number-eq-MEMORY.true) at c.in-Err.ensures.call in
     one_more_try g.D.DiskFacts _ _ _ c.loop.counter tries times calls same c.requires made
 
 pub returns : goal.returns

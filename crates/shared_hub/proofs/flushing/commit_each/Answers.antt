@@ -8,9 +8,9 @@ loop-init g c = goes_nowhere g.D.DiskFacts c.args.flusher.now c.args.flusher.now
 
 -- one more
 pub loop-preserved : goal.loop-preserved
-loop-preserved g c = goes_behind g.D.DiskFacts c.args.flusher.now c.loop.flusher c.commit_on.new.flusher c.loop.invariant c.commit_on.ensures
+loop-preserved g c = goes_behind g.D.DiskFacts c.args.flusher.now c.loop.flusher c.commit.new.flusher c.loop.invariant c.commit.ensures
 
 -- one more
-pub returns-then-not-commit_on : goal.returns-then-not-commit_on
-returns-then-not-commit_on g c =
-    goes_behind g.D.DiskFacts c.args.flusher.now c.loop.flusher c.commit_on.new.flusher c.loop.invariant c.commit_on.ensures
+pub returns-then-not-commit : goal.returns-then-not-commit
+returns-then-not-commit g c =
+    goes_behind g.D.DiskFacts c.args.flusher.now c.loop.flusher c.commit.new.flusher c.loop.invariant c.commit.ensures

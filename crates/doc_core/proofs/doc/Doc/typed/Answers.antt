@@ -1,6 +1,7 @@
 use Rattle.std.proofs.Common.{length, ◌∙◌, ap, arith}
 use Rattle.doc_core.proofs.LimitLemmas.{are_few}
-use Rattle.doc_core.proofs.MakingLemmas.{length-insert_bodies, length-numbered, run_numbered}
+use Rattle.model_laws.proofs.EditLimits.{length-insert_bodies, length-numbered}
+use Rattle.doc_core.proofs.MakingLemmas.{run_numbered}
 use Rattle.doc_core.proofs.doc.Doc.typed.Goals as goal
 
 pub numbered-requires-clause-in_range : goal.numbered-requires-clause-in_range

@@ -14,7 +14,7 @@ returns-in_err-slot-clause-fault g c = λ told.
     let file = g.D.DiskFacts.content c.args.disk.now in
     let read : c.read_inside.new.bytes ≡ part file 0 8192 =
     c.in_default.ensures.read (c.size_of.ensures.looks.tells.1 told) ∙ ap (λ f. part f 0 8192) (c.in_ok-file_size.ensures.looks.looks told).same in
-    let whole : 8192 ≤ length file = omega (arith, c.in_ok-file_size.ensures.size told, c.if-file_size-lt8192.false) in
+    let whole : 8192 ≤ length file = omega (arith, c.in_ok-file_size.ensures.size told, c.if-file_size.false) in
     rw (p.1, p.2) (names_on _ (live_root c.read_inside.new.bytes) (live_root file)
     (λ n is. sym (live_root_first file whole) ∙ (rw read at is)) c.in_err-slot.ensures.fault)
 
@@ -24,7 +24,7 @@ returns-in_err-slot-clause-memory g c = λ told.
     let file = g.D.DiskFacts.content c.args.disk.now in
     let read : c.read_inside.new.bytes ≡ part file 0 8192 =
     c.in_default.ensures.read (c.size_of.ensures.looks.tells.1 told) ∙ ap (λ f. part f 0 8192) (c.in_ok-file_size.ensures.looks.looks told).same in
-    let whole : 8192 ≤ length file = omega (arith, c.in_ok-file_size.ensures.size told, c.if-file_size-lt8192.false) in
+    let whole : 8192 ≤ length file = omega (arith, c.in_ok-file_size.ensures.size told, c.if-file_size.false) in
     let same : live c.read_inside.new.bytes ≡ live file = ap live read ∙ live_first file whole in
     rw (p.1, p.2) (λ memory. by_same same (c.in_err-slot.ensures.memory memory))
   where
@@ -44,7 +44,7 @@ returns-clause-read g c = record {
       let file = g.D.DiskFacts.content c.args.disk.now in
       let read : c.read_inside.new.bytes ≡ part file 0 8192 =
       c.in_default.ensures.read (c.size_of.ensures.looks.tells.1 told) ∙ ap (λ f. part f 0 8192) (c.in_ok-file_size.ensures.looks.looks told).same in
-      let whole : 8192 ≤ length file = omega (arith, c.in_ok-file_size.ensures.size told, c.if-file_size-lt8192.false) in
+      let whole : 8192 ≤ length file = omega (arith, c.in_ok-file_size.ensures.size told, c.if-file_size.false) in
       live_on file _ _ _ whole (rw read at c.in_ok-slot.ensures.found);
   size = c.in_ok-file_size.ensures.size;
   below = search rules;

@@ -1,0 +1,34 @@
+//! How many bytes or numbers the parts of a file and of a link's stream have.
+
+/// The bytes of a page of a file.
+pub const PAGE_SIZE: usize = 4096;
+
+/// The numbers of data pages that a table page has room for, four bytes each.
+pub const TABLE_ENTRIES: usize = 1024;
+
+/// The bytes of the two root slots, which are the first two pages of a file.
+pub const SLOTS_SIZE: usize = 8192;
+
+/// The most data pages of a stream: 2^18.
+pub const MAX_DATA_PAGES: usize = 262_144;
+
+/// The most table pages of a root.
+pub const MAX_TABLES: usize = 256;
+
+/// The most pages that a root reaches: those of its tables and of its data.
+pub const MAX_LIVE_PAGES: usize = 262_400;
+
+/// No call is asked for more pages than this, of which no file of a store has as many: 2^30.
+pub const MAX_PAGES: usize = 1_073_741_824;
+
+/// The bytes of a root body: a page without its gate and the seven bytes behind that.
+pub const BODY_LENGTH: usize = 4088;
+
+/// The fewest bytes that the length of an operation's record says.
+pub const MIN_RECORD: usize = 33;
+
+/// The most bytes that the length of an operation's record says.
+pub const MAX_RECORD: usize = 1491;
+
+/// The most bytes that the length of a link's frame says.
+pub const MAX_CONTENT: usize = 131_068;
