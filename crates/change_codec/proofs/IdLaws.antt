@@ -32,7 +32,7 @@ counter_takes : (bytes : List ℕ) (x : ℕ × List ℕ) → IsBytes bytes → c
 unfolding counter_at
 counter_takes bytes x fits e = ranged_takes w64 (2 ^ 64) wide64 1 281474976710655 bytes x fits e
 
-counter_again : (n : ℕ) (rest : List ℕ) → 0 < n → n < 2 ^ 48 → counter_at (number_bytes w64 n ++ rest) ≡ Ok (n, rest)
+counter_again : (n : ℕ) (rest : List ℕ) → 0 < n → n ≤ 281474976710655 → counter_at (number_bytes w64 n ++ rest) ≡ Ok (n, rest)
 unfolding counter_at
 counter_again n rest some most = ranged_again w64 (2 ^ 64) wide64 1 281474976710655 n rest (omega arith) (omega arith) (omega arith)
 

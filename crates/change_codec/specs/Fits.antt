@@ -2,7 +2,7 @@
 use Rattle.std.specs.Prelude.{◌≡◌, ℕ, ◌<◌, ◌≤◌, ◌^◌, true, List, [], ◌∷◌, length, Option, Some, None}
 use Rattle.std.specs.Char.{IsScalar}
 use Rattle.std.specs.Str.{IsUtf8}
-use Rattle.fixed_numbers.specs.declared.limits.TheConstants.{MAX_URL_LENGTH}
+use Rattle.fixed_numbers.specs.declared.limits.TheConstants.{MAX_COUNTER, MAX_URL_LENGTH}
 use Rattle.op_ids.specs.Id.{Id}
 use Rattle.op_ids.specs.Clock.{is_clock}
 use Rattle.op_model.specs.declared.op.Op.{Op}
@@ -22,7 +22,7 @@ use Rattle.op_model.specs.declared.mark.MarkKey.TheVariants as key
 -- a counter from 1 to 2^48 - 1, and a replica that isn't nil
 pub record IsId (id : Id) : Type 0 where
   pub above_zero : 0 < id.counter
-  pub in_range : id.counter < 2 ^ 48
+  pub in_range : id.counter ≤ MAX_COUNTER
   pub not_nil : 0 < id.replica
   pub sixteen : id.replica < 2 ^ 128
 

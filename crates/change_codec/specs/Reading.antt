@@ -4,7 +4,7 @@ use Rattle.std.specs.Prelude.{◌≡◌, ℕ, zero, suc, List, [], ◌∷◌, le
 use Rattle.std.specs.Int.{Width, w16, w32, w64, w128, byte_len, from_be_bytes, is_in_range}
 use lib.Utf8.{scalar}
 use Rattle.std.specs.Str.{is_utf8}
-use Rattle.fixed_numbers.specs.declared.limits.TheConstants.{MAX_COUNT, MAX_COUNTER, MAX_URL_LENGTH}
+use Rattle.fixed_numbers.specs.declared.limits.TheConstants.{MAX_COUNT, MAX_COUNTER, MAX_REPLICAS, MAX_URL_LENGTH}
 use Rattle.op_ids.specs.Id.{Id}
 use Rattle.op_model.specs.declared.op.Op.{Op}
 use Rattle.op_model.specs.declared.op.Body.{Body}
@@ -95,7 +95,7 @@ entries_at (suc n) low bytes = do
 
 -- the number of deps, at most 16
 unfoldable pub count_at : List ℕ → Result (ℕ × List ℕ) CodecError
-count_at bytes = byte_at bytes >>= within 0 16
+count_at bytes = byte_at bytes >>= within 0 MAX_REPLICAS
 
 -- the number of deps, and each of them
 unfoldable pub deps_at : List ℕ → Result (List (ℕ × ℕ) × List ℕ) CodecError

@@ -9,7 +9,7 @@ ghost use Rattle.change_codec.specs.Writing.{Appends, HasRoom};
 use crate::CodecError;
 use crate::id::{put_replica, take_replica};
 use crate::number::{put_byte, put_u64, take_byte, take_u64};
-use fixed_numbers::limits::MAX_COUNT;
+use fixed_numbers::limits::{MAX_COUNT, MAX_REPLICAS};
 use op_ids::{Clock, ReplicaId};
 use std::alloc::Global;
 
@@ -101,7 +101,7 @@ fn take_count(bytes: &[u8]) -> Result<(u8, &[u8]), CodecError>
     ensures { Reads (λ x. (x.0, x.1.now)) result (count_at bytes.now) }
 {
     let (count, rest) = take_byte(bytes)?;
-    if count > 16 {
+    if count as usize > MAX_REPLICAS {
         return Err(CodecError::Number);
     }
     Ok((count, rest))

@@ -1,6 +1,7 @@
 //! Ids of operations and replicas.
-ghost use Rattle.std.specs.Prelude.{◌<◌, ◌^◌, IfOk};
+ghost use Rattle.std.specs.Prelude.{◌<◌, ◌≤◌, IfOk};
 ghost use Rattle.std.specs.Int.{w128};
+ghost use Rattle.fixed_numbers.specs.declared.limits.TheConstants.{MAX_COUNTER};
 ghost use Rattle.change_codec.specs.Spelling.{number_bytes, id_bytes};
 ghost use Rattle.change_codec.specs.Reading.{Reads, counter_at, replica_at, id_at};
 ghost use Rattle.change_codec.specs.Writing.{Appends, HasRoom};
@@ -58,7 +59,7 @@ pub fn take_id(bytes: &[u8]) -> Result<(OpId, &[u8]), CodecError>
 fn take_counter(bytes: &[u8]) -> Result<(u64, &[u8]), CodecError>
     ensures exact { Reads (λ x. (x.0, x.1.now)) result (counter_at bytes.now) }
     ensures above_zero { IfOk result (λ x. 0 < x.0) }
-    ensures in_range { IfOk result (λ x. x.0 < 2 ^ 48) }
+    ensures in_range { IfOk result (λ x. x.0 ≤ MAX_COUNTER) }
 {
     let (counter, rest) = take_u64(bytes)?;
     if counter == 0 || counter > MAX_COUNTER {

@@ -1,5 +1,6 @@
 //! What the operations of an edit do, and whether they keep the limits.
-ghost use Rattle.std.specs.Prelude.{◌≡◌, ◌+◌, ◌≤◌, ◌<◌, ◌^◌, true, length, map, IfOk};
+ghost use Rattle.std.specs.Prelude.{◌≡◌, ◌+◌, ◌≤◌, ◌<◌, true, length, map, IfOk};
+ghost use Rattle.fixed_numbers.specs.declared.limits.TheConstants.{MAX_COUNTER};
 ghost use Rattle.op_ids.specs.Clock.{is_clock};
 ghost use Rattle.op_model.specs.declared.op.Body.TheVariants.{Remove};
 ghost use Rattle.doc_core.specs.Limits.{keep_limits as keep_limits_of};
@@ -28,7 +29,7 @@ pub fn run(
     text: &[char],
 ) -> Result<Vec<(OpId, char)>, AllocError>
     requires above_zero { 0 < counter }
-    requires in_range { counter + length text.now ≤ 2 ^ 48 }
+    requires in_range { counter + length text.now ≤ MAX_COUNTER + 1 }
     ensures { IfOk result (λ run. run.items ≡ run_from replica counter text.now) }
 {
     let mut run = Vec::with_capacity(alloc, text.len())?;

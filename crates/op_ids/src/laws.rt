@@ -1,6 +1,7 @@
 //! Laws of ids and clocks: calls that do nothing, and whose contracts are the laws.
-ghost use Rattle.std.specs.Prelude.{◌≡◌, ◌≢◌, ℕ, ◌+◌, ◌<◌, ◌^◌, ◌⊎◌, ◌↔◌, IsTrue, true, false};
+ghost use Rattle.std.specs.Prelude.{◌≡◌, ◌≢◌, ℕ, ◌+◌, ◌<◌, ◌⊎◌, ◌↔◌, IsTrue, true, false};
 ghost use Rattle.std.specs.Int.{w128, from_be_bytes, to_be_bytes};
+ghost use Rattle.fixed_numbers.specs.declared.limits.TheConstants.{MAX_COUNT};
 ghost use Rattle.op_ids.specs.Id.{is_below, is_same};
 ghost use Rattle.op_ids.specs.Clock.{count_of, advanced, is_rising_above};
 
@@ -56,7 +57,7 @@ pub fn advanced_keeps_others(clock: &Clock, replica: ReplicaId)
 
 /// One more operation of a replica leaves the entries in rising order, up to 2^24 operations.
 pub fn advanced_rises(clock: &Clock, replica: ReplicaId)
-    requires { count_of clock.now replica < 2 ^ 24 }
+    requires { count_of clock.now replica < MAX_COUNT }
     ensures { is_rising_above 0 (advanced clock.now replica) ≡ true }
 {
     let _ = clock.entries();

@@ -1,4 +1,5 @@
-ghost use Rattle.std.specs.Prelude.{◌≡◌, ◌+◌, ◌-◌, ◌<◌, ◌^◌, ◌↔◌, IsSome, IsNone, IfSome};
+ghost use Rattle.std.specs.Prelude.{◌≡◌, ◌+◌, ◌<◌, ◌≤◌, ◌↔◌, IsSome, IsNone, IfSome};
+ghost use Rattle.fixed_numbers.specs.declared.limits.TheConstants.{MAX_COUNTER};
 ghost use Rattle.op_ids.specs.Id.{Id, is_below, is_same};
 
 use crate::ReplicaId;
@@ -14,14 +15,15 @@ pub struct OpId {
 }
 
 impl Model for OpId {
-    ghost use Rattle.std.specs.Prelude.{◌<◌, ◌^◌};
+    ghost use Rattle.std.specs.Prelude.{◌<◌, ◌≤◌};
+    ghost use Rattle.fixed_numbers.specs.declared.limits.TheConstants.{MAX_COUNTER};
     ghost use Rattle.op_ids.specs.Id.{Id};
 
     ghost Value = { Id };
 
     ghost view = { λ a. record { counter = a.counter; replica = a.replica } };
 
-    ghost invariant = { λ a. (0 < a.counter) × (a.counter < 2 ^ 48) };
+    ghost invariant = { λ a. (0 < a.counter) × (a.counter ≤ MAX_COUNTER) };
 
     ghost inverse = { λ id. record { counter = id.counter; replica = id.replica } };
 }
@@ -30,7 +32,7 @@ impl OpId {
     /// The id with this counter and replica.
     pub fn new(counter: u64, replica: ReplicaId) -> OpId
         requires above_zero { 0 < counter }
-        requires in_range { counter < 2 ^ 48 }
+        requires in_range { counter ≤ MAX_COUNTER }
         ensures { result ≡ record { counter = counter; replica = replica } }
     {
         OpId { counter, replica }
@@ -38,7 +40,7 @@ impl OpId {
 
     /// The id with this counter and replica, or `None` where the counter isn't from 1 to 2^48 - 1.
     pub fn try_new(counter: u64, replica: ReplicaId) -> Option<OpId>
-        ensures in_range { IsSome result ↔ ((0 < counter) × (counter < 2 ^ 48)) }
+        ensures in_range { IsSome result ↔ ((0 < counter) × (counter ≤ MAX_COUNTER)) }
         ensures value { IfSome result (λ id. id ≡ record { counter = counter; replica = replica }) }
     {
         if counter == 0 || counter > MAX_COUNTER {
@@ -49,7 +51,7 @@ impl OpId {
 
     /// The id of the same replica with the counter one higher, or `None` at the last counter.
     pub fn next(self) -> Option<OpId>
-        ensures last { IsNone result ↔ (self.counter ≡ 2 ^ 48 - 1) }
+        ensures last { IsNone result ↔ (self.counter ≡ MAX_COUNTER) }
         ensures value { IfSome result (λ id. id ≡ record self { counter = self.counter + 1 }) }
     {
         OpId::try_new(self.counter + 1, self.replica)
@@ -59,7 +61,7 @@ impl OpId {
     pub fn counter(self) -> u64
         ensures value { result ≡ self.counter }
         ensures above_zero { 0 < result }
-        ensures in_range { result < 2 ^ 48 }
+        ensures in_range { result ≤ MAX_COUNTER }
     {
         self.counter
     }

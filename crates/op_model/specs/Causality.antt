@@ -4,6 +4,7 @@ use Rattle.std.specs.Prelude.{nat_le, if◌then◌else◌, List, [], ◌∷◌, 
 use Rattle.std.specs.Prelude.{Option, Some, None}
 use Rattle.std.specs.List.{list_any, list_all}
 use Rattle.fixed_numbers.specs.declared.limits.TheConstants.{MAX_COUNTER, MAX_DOCUMENTS, MAX_OPERATIONS, MAX_REPLICAS, MAX_STREAM_LENGTH}
+use Rattle.fixed_numbers.specs.declared.refusals.TheConstants.{COUNTER, DOCUMENT, NAMES, STORE_LIMIT}
 use Rattle.op_ids.specs.Id.{Id, is_same}
 use Rattle.op_ids.specs.Clock.{count_of, advanced, is_ready}
 use Rattle.op_model.specs.declared.op.Op.{Op}
@@ -106,10 +107,10 @@ pub record MayFollow (ops : List Op) (op : Op) : Type 0 where
 -- of an operation that is ready, the number of the first check that fails: counter 21, names 22, document 23, limits 24
 abbrev pub first_failed : List Op → Op → Option ℕ
 first_failed ops op =
-    if not (is_counted_up ops op) then Some 21
-    else if not (names_inserts ops op) then Some 22
-    else if not (nat_lt 0 op.doc) then Some 23
-    else if not (is_within_limits (ops ++ op ∷ [])) then Some 24
+    if not (is_counted_up ops op) then Some COUNTER
+    else if not (names_inserts ops op) then Some NAMES
+    else if not (nat_lt 0 op.doc) then Some DOCUMENT
+    else if not (is_within_limits (ops ++ op ∷ [])) then Some STORE_LIMIT
     else None
 
 -- each of these may follow those before it

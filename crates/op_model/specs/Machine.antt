@@ -3,7 +3,8 @@ use Rattle.std.specs.Prelude.{◌≡◌, ◌⊎◌, ℕ, ◌+◌, ◌≤◌, ◌
 use Rattle.std.specs.Prelude.{nat_le, if◌then◌else◌, List, [], ◌∷◌, ◌++◌, length, take, drop}
 use Rattle.std.specs.Prelude.{Option, Some, None, is_some}
 use Rattle.fixed_numbers.specs.declared.limits.TheConstants.{MAX_PENDING, MAX_STEPS}
-use Rattle.fixed_numbers.specs.declared.refusals.TheConstants.{BUSY, FAILED, LIMIT, OWN_UNKNOWN, STEPS, STORE_FAILED}
+use Rattle.fixed_numbers.specs.declared.refusals.TheConstants.{BUSY, FAILED, LIMIT, MEMORY, OWN_UNKNOWN, STEPS, STORE_FAILED}
+use Rattle.fixed_numbers.specs.declared.refusals.TheConstants.{SYNC_FAILED, WRITE_FAILED}
 use Rattle.op_model.specs.declared.op.Op.{Op}
 use Rattle.op_model.specs.declared.edit.Edit.{Edit}
 use Rattle.op_ids.specs.Clock.{is_ready}
@@ -159,9 +160,9 @@ through (Some c) = Some (record c { through = true })
 -- something
 abbrev pub IsRefusal : ℕ → Answer → Type 0
 IsRefusal n (refused m) = n ≡ m
-IsRefusal n (ticket t) = n ≡ 1
-IsRefusal n applied = n ≡ 1
-IsRefusal n (begun m) = n ≡ 1
+IsRefusal n (ticket t) = n ≡ MEMORY
+IsRefusal n applied = n ≡ MEMORY
+IsRefusal n (begun m) = n ≡ MEMORY
 IsRefusal n _ = ⊥
 
 -- the state with what the replica holds then
@@ -194,8 +195,9 @@ DeviceStep s goes_on next = (s.failed ≡ false) × (is_under_way s.commit ≡ t
 DeviceStep s goes_through next =
     (s.failed ≡ false) × (is_under_way s.commit ≡ true) × (next ≡ record s { commit = through s.commit })
 DeviceStep s (refused n) next =
-    ((s.failed ≡ true) × (n ≡ 44) × (next ≡ s))
-    ⊎ ((s.failed ≡ false) × (is_under_way s.commit ≡ true) × ((n ≡ 51) ⊎ (n ≡ 52)) × (next ≡ record s { failed = true }))
+    ((s.failed ≡ true) × (n ≡ STORE_FAILED) × (next ≡ s))
+    ⊎ ((s.failed ≡ false) × (is_under_way s.commit ≡ true) × ((n ≡ WRITE_FAILED) ⊎ (n ≡ SYNC_FAILED))
+    × (next ≡ record s { failed = true }))
 DeviceStep s _ next = ⊥
 
 -- the state after the settlement of a commit that is through
@@ -219,12 +221,12 @@ AckStep s t _ next = ⊥
 abbrev pub TellStep : State → List (ℕ × ℕ) → Answer → State → Type 0
 TellStep s c (operations ops) next =
     (ops ≡ untold c (settled_list s.held)) × (next ≡ holding s (with_told s.held (reach c (settled_list s.held))))
-TellStep s c (refused n) next = (n ≡ 1) × (next ≡ s)
+TellStep s c (refused n) next = (n ≡ MEMORY) × (next ≡ s)
 TellStep s c _ next = ⊥
 
 abbrev pub HaveStep : State → Answer → State → Type 0
 HaveStep s (clock c) next = (c ≡ clock_of (settled_list s.held)) × (next ≡ holding s (with_told s.held s.held.settled))
-HaveStep s (refused n) next = (n ≡ 1) × (next ≡ s)
+HaveStep s (refused n) next = (n ≡ MEMORY) × (next ≡ s)
 HaveStep s _ next = ⊥
 
 -- one event of a replica, with its answer: a pair that never comes is impossible

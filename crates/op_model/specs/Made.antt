@@ -5,6 +5,7 @@ use Rattle.std.specs.Prelude.{◌==◌, ◌++◌, slice_get, Option, Some, None}
 use Rattle.std.specs.Option.{option_map}
 use Rattle.std.specs.List.{list_any}
 use Rattle.fixed_numbers.specs.declared.limits.TheConstants.{MAX_EDIT}
+use Rattle.fixed_numbers.specs.declared.refusals.TheConstants.{LIMIT, RANGE, STALE}
 use Rattle.op_ids.specs.Id.{Id, is_same}
 use Rattle.op_ids.specs.Clock.{advanced}
 use Rattle.op_model.specs.declared.op.Op.{Op}
@@ -168,7 +169,7 @@ size_of (change.Unmark from to key) = 1
 -- why an edit is refused, by its number, in the order of test: stale 6, range 5, limit 7
 abbrev pub edit_refusal : List Op → ℕ → Edit → Option ℕ
 edit_refusal ops replica e =
-    if not (is_at_rev (rev ops e.doc) e.rev) then Some 6
-    else if not (is_inside (length (visible ops e.doc)) e.change) then Some 5
-    else if not (is_small e.change && is_within_limits (ops ++ made ops replica e)) then Some 7
+    if not (is_at_rev (rev ops e.doc) e.rev) then Some STALE
+    else if not (is_inside (length (visible ops e.doc)) e.change) then Some RANGE
+    else if not (is_small e.change && is_within_limits (ops ++ made ops replica e)) then Some LIMIT
     else None

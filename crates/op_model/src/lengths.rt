@@ -1,6 +1,7 @@
 //! How many bytes the record of an operation takes: all that works it out without the record stands
 //! here.
-ghost use Rattle.std.specs.Prelude.{◌≡◌, ◌≤◌, if◌then◌else◌};
+ghost use Rattle.std.specs.Prelude.{◌≡◌, ◌+◌, ◌≤◌, if◌then◌else◌};
+ghost use Rattle.fixed_numbers.specs.declared.limits.TheConstants.{MAX_REPLICAS};
 ghost use Rattle.op_model.specs.Records.{head_length as head_length_of, record_length as length_of};
 ghost use Rattle.op_model.specs.Records.{body_length as body_length_of, mark_length as mark_length_of};
 ghost use Rattle.op_model.specs.Records.{key_length as key_length_of};
@@ -16,7 +17,7 @@ pub const ID_LENGTH: u64 = 24;
 /// How many bytes the head of a record takes, where its operation has so many deps: all but the
 /// content. Constant.
 pub fn head_length(deps: usize) -> u64
-    requires { deps ≤ 17 }
+    requires { deps ≤ MAX_REPLICAS + 1 }
     ensures value { result ≡ head_length_of deps }
     ensures within { result ≤ 442 }
 {

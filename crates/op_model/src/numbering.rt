@@ -1,5 +1,6 @@
 //! The operations of an edit: what they do, and their ids, numbered from a counter on.
-ghost use Rattle.std.specs.Prelude.{◌≡◌, ◌+◌, ◌≤◌, ◌<◌, ◌^◌, true, length, IfOk};
+ghost use Rattle.std.specs.Prelude.{◌≡◌, ◌+◌, ◌≤◌, ◌<◌, true, length, IfOk};
+ghost use Rattle.fixed_numbers.specs.declared.limits.TheConstants.{MAX_COUNTER};
 ghost use Rattle.op_ids.specs.Clock.{advanced_by, is_clock};
 ghost use Rattle.op_model.specs.Made.{numbered as numbered_from, insert_bodies as insert_bodies_of};
 
@@ -18,7 +19,7 @@ pub fn insert_bodies(
     text: &[char],
 ) -> Result<Vec<Body>, AllocError>
     requires above_zero { 0 < counter }
-    requires in_range { counter + length text.now ≤ 2 ^ 48 }
+    requires in_range { counter + length text.now ≤ MAX_COUNTER + 1 }
     ensures { IfOk result (λ bodies. bodies.items
         ≡ insert_bodies_of replica counter origin text.now) }
 {
@@ -48,7 +49,7 @@ pub fn numbered(
     bodies: &[Body],
 ) -> Result<Vec<Op>, AllocError>
     requires above_zero { 0 < counter }
-    requires in_range { counter + length bodies.now ≤ 2 ^ 48 }
+    requires in_range { counter + length bodies.now ≤ MAX_COUNTER + 1 }
     requires valid { is_clock clock.now ≡ true }
     requires room { is_clock (advanced_by clock.now replica (length bodies.now)) ≡ true }
     ensures { IfOk result (λ made. made.items

@@ -1,5 +1,6 @@
 //! What follows from the definitions: functions that do nothing, whose contracts are the laws.
 ghost use Rattle.std.specs.Prelude.{◌≡◌, ◌⊎◌, ℕ, List, []};
+ghost use Rattle.fixed_numbers.specs.declared.refusals.TheConstants.{MEMORY};
 ghost use Rattle.op_model.specs.declared.op.Op.{Op};
 ghost use Rattle.root_slots.specs.Body.{root_of};
 ghost use Rattle.group_commit.specs.Commit.{Is};
@@ -30,5 +31,5 @@ pub fn a_file_has_one_image()
 pub fn a_file_with_an_image_has_no_fault()
     ensures { (file : List ℕ) (replica version : ℕ) (ops : List Op) (cause : OpenError)
         → IsImage file replica version ops → IsFault cause file
-        → (number_of cause ≡ 1) ⊎ (failures_of cause ≡ 1) }
+        → (number_of cause ≡ MEMORY) ⊎ (failures_of cause ≡ 1) }
 {}

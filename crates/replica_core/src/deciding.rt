@@ -1,5 +1,5 @@
 ghost use Rattle.std.specs.Prelude.{◌≡◌, ◌+◌, ◌++◌, ◌&&◌, nat_le, length, IfOk, IfErr, Some, None};
-ghost use Rattle.fixed_numbers.specs.declared.limits.TheConstants.{MAX_DOCUMENTS};
+ghost use Rattle.fixed_numbers.specs.declared.limits.TheConstants.{MAX_COUNTER, MAX_DOCUMENTS};
 ghost use Rattle.doc_core.specs.Standing.{StandsFor};
 ghost use Rattle.replica_core.specs.Docs.{number_of as doc_number};
 ghost use Rattle.op_model.specs.Causality.{documents, is_within_limits as is_within_limits_of};
@@ -91,7 +91,7 @@ fn is_within_limits(
 
 /// Whether there are so many counters above this one.
 fn has_counters(greatest: u64, count: u64) -> bool
-    ensures { result ≡ nat_le (greatest + count) 281474976710655 }
+    ensures { result ≡ nat_le (greatest + count) MAX_COUNTER }
 {
     count <= MAX_COUNTER && greatest <= MAX_COUNTER - count
 }

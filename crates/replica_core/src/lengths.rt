@@ -1,6 +1,6 @@
 ghost use Rattle.std.specs.Prelude.{◌≡◌, ℕ, ◌+◌, ◌-◌, ◌*◌, ◌≤◌, ◌<◌, true, List, length};
 ghost use Rattle.std.specs.Prelude.{if◌then◌else◌};
-ghost use Rattle.fixed_numbers.specs.declared.limits.TheConstants.{MAX_EDIT};
+ghost use Rattle.fixed_numbers.specs.declared.limits.TheConstants.{MAX_EDIT, MAX_REPLICAS};
 ghost use Rattle.doc_core.specs.Standing.{StandsFor};
 ghost use Rattle.replica_core.specs.Docs.{number_of};
 ghost use Rattle.op_model.specs.declared.op.Op.{Op};
@@ -34,8 +34,8 @@ pub fn made_length(doc: &Doc, clock: &Clock, replica: ReplicaId, edit: &Edit) ->
 /// How many bytes so many records take without their contents, where the first has so many deps,
 /// and each later one as many as that.
 fn heads_length(first: usize, later: usize, count: u64) -> u64
-    requires first { first ≤ 16 }
-    requires later { later ≤ 17 }
+    requires first { first ≤ MAX_REPLICAS }
+    requires later { later ≤ MAX_REPLICAS + 1 }
     requires some { 0 < count }
     requires small { count ≤ MAX_EDIT }
     ensures value { result ≡ head_length_of first + head_length_of later * (count - 1) }

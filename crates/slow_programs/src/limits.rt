@@ -5,7 +5,7 @@ ghost use Rattle.op_model.specs.Spans.{with_number};
 ghost use Rattle.op_model.specs.Records.{stream_length};
 ghost use Rattle.op_model.specs.Causality.{clock_of, documents as documents_of, is_in_range as is_in_its_range, is_within_limits as is_within_limits_of};
 
-use fixed_numbers::limits::{MAX_DOCUMENTS, MAX_OPERATIONS, MAX_STREAM_LENGTH};
+use fixed_numbers::limits::{MAX_DOCUMENTS, MAX_OPERATIONS, MAX_REPLICAS, MAX_STREAM_LENGTH};
 use op_ids::Clock;
 use op_model::Op;
 use std::alloc::{AllocError, Global};
@@ -26,7 +26,7 @@ pub fn is_within_limits(
     Ok(
         are_in_range(ops)
             && are_in_range(made)
-            && clock.len() <= 16
+            && clock.len() <= MAX_REPLICAS
             && documents.len() <= MAX_DOCUMENTS
             && has_operations(ops.len(), made.len())
             && has_stream(ops, made),
