@@ -12,6 +12,9 @@ use session_threads::{Desk, HubDesk, Session};
 use std::alloc::Global;
 use std::io::{Read, Write};
 
+/// The number of the session that is served alone: its edits are the steps of this one.
+const SESSION: u64 = 1;
+
 /// A disk and an exit status.
 #[derive(Drop)]
 pub struct Performed<D: Disk> {
@@ -81,7 +84,7 @@ fn edit<D: Disk, R: Read + Drop, W: Write>(
 ) -> Ended<D> {
     match Hub::open(alloc, disk) {
         Ok(hub) => {
-            let mut desk = HubDesk::new(hub);
+            let mut desk = HubDesk::new(hub, SESSION);
             let served = serve(alloc, &mut desk, input, output);
             let hub = desk.into_hub();
             let has_failed = hub.has_failed();
@@ -118,7 +121,7 @@ fn serve<D: Disk, R: Read + Drop, W: Write>(
 fn dump<D: Disk, W: Write>(alloc: Global, disk: D, doc: u32, output: &mut W) -> Ended<D> {
     match Hub::open(alloc, disk) {
         Ok(hub) => {
-            let mut desk = HubDesk::new(hub);
+            let mut desk = HubDesk::new(hub, SESSION);
             let text = desk.serve(alloc, Command::Text { doc });
             let spans = desk.serve(alloc, Command::Spans { doc });
             Ended {

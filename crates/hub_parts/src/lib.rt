@@ -16,6 +16,7 @@ mod telling;
 
 pub use flusher::Flusher;
 pub use locked::Locked;
+pub use meeting::BEGIN_TRIES;
 pub use met::Met;
 pub use opening::{Parts, open};
 pub use refusal::LockedRefusal;

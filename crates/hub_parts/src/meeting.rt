@@ -16,6 +16,9 @@ use crate::met::Met;
 use disk_trait::Disk;
 use group_commit::StoreError;
 
+/// How often a begin that finds no memory is made, in a row, until its commit is given up.
+pub const BEGIN_TRIES: u32 = 1_000;
+
 impl<D: Disk> Flusher<D> {
     /// Meets the locked part. It makes no device call. In the order of test:
     ///

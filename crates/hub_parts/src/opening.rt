@@ -1,7 +1,7 @@
 //! The opening of a hub's two parts.
 ghost use Rattle.std.specs.Prelude.{IfOk, IfErr};
 ghost use Rattle.root_slots.specs.Root.{version_of};
-ghost use Rattle.group_commit.specs.Opening.{IsLookedAt};
+ghost use Rattle.group_commit.specs.Opening.{IsLoaded, IsLookedAt};
 ghost use Rattle.recovery.specs.Faults.{IsFault, failures_of};
 ghost use Rattle.recovery.specs.Image.{IsImage};
 ghost use Rattle.hub_parts.specs.Opening.{IsOpened};
@@ -30,6 +30,9 @@ pub fn open<D: Disk>(alloc: Global, disk: D) -> Result<Parts<D>, OpenFault<D>>
         it.locked.replica.replica (version_of it.flusher.store.current.body)
         it.locked.replica.list) }
     ensures opened { IfOk result (λ it. IsOpened it.locked it.flusher) }
+    // The store is of the file's live root, and a crash leaves that file.
+    ensures loaded { IfOk result (λ it. IsLoaded D.DiskFacts disk it.flusher.store
+        it.locked.replica.replica it.locked.replica.list) }
     ensures fault { D.tells disk → IfErr result (λ fault. IsFault fault.cause (D.content disk)) }
     // It writes nothing.
     ensures looks { IfOk result (λ it. IsLookedAt D.DiskFacts 0 1 disk it.flusher.store.disk) }

@@ -3,7 +3,7 @@ ghost use Rattle.std.specs.Prelude.{◌≡◌, List, ℕ, IfOk, IfErr};
 ghost use Rattle.root_slots.specs.Root.{version_of};
 ghost use Rattle.op_model.specs.Machine.{opened};
 ghost use Rattle.group_commit.specs.Commit.{IsLeft};
-ghost use Rattle.group_commit.specs.Opening.{IsLookedAt};
+ghost use Rattle.group_commit.specs.Opening.{IsLoaded, IsLookedAt};
 ghost use Rattle.recovery.specs.Faults.{IsFault, failures_of};
 ghost use Rattle.recovery.specs.Image.{IsImage};
 ghost use Rattle.locked_replica.specs.Hub.{state_of};
@@ -26,6 +26,9 @@ impl<D: Disk> Hub<D> {
             hub.replica.replica (version_of hub.store.current.body) hub.replica.list) }
         ensures opened { IfOk result (λ hub. state_of hub ≡ opened hub.replica.replica
             hub.replica.list (version_of hub.store.current.body)) }
+        // The store is of the file's live root, and a crash leaves that file.
+        ensures loaded { IfOk result (λ hub. IsLoaded D.DiskFacts disk hub.store
+            hub.replica.replica hub.replica.list) }
         ensures fault { D.tells disk
             → IfErr result (λ fault. IsFault fault.cause (D.content disk)) }
         // It writes nothing.

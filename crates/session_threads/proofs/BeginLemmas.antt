@@ -6,7 +6,7 @@ use Rattle.locked_replica.specs.Calls.{IsCall}
 use Rattle.locked_replica.specs.Hub.{Parts, state_of}
 use Rattle.session_threads.specs.declared.begun.Begun.TheVariants.{UnderWay, Settled, Refused}
 use Rattle.locked_replica.specs.Run.{Calls}
-use Rattle.session_threads.specs.HubCalls.{IsQuiet, IsOfCommit, AreOfCommit, AreTimes, CommitCalls, CannotSettle, Begins, with_begun}
+use Rattle.session_threads.specs.HubCalls.{IsQuiet, IsOfCommit, AreOfCommit, AreTimes, CommitCalls, CannotSettle, Begins, begins_at, with_begun}
 use Rattle.session_threads.proofs.CallLemmas.{Calls-append, one_call, more_calls}
 use Rattle.session_threads.proofs.CommitLemmas.{quiet_has_told, state_begun, nothing_new_settled, begin_refused}
 
@@ -20,16 +20,17 @@ AreTimes-more n e (x ∷ xs) (one, more, some) =
     let same : n - 1 + 1 ≡ n + 1 - 1 = omega (arith, some) in
     (one, subst (λ k. AreTimes k e (xs ++ e ∷ [])) same (AreTimes-more (n - 1) e xs more), omega arith)
 
-pub times_of_commit : (n : ℕ) (e : Event × Answer) (xs : List (Event × Answer)) → IsOfCommit e.0 → AreTimes n e xs → AreOfCommit xs
-times_of_commit n e [] of_commit times = tt
-times_of_commit n e (x ∷ xs) of_commit (one, more, some) =
-    (subst (λ y. IsOfCommit y.0) (sym one) of_commit, times_of_commit (n - 1) e xs of_commit more)
+-- so many tries are calls of a commit with so many begins
+pub tries_of_commit : (n : ℕ) (xs : List (Event × Answer)) → AreTimes n tried xs → AreOfCommit n xs
+tries_of_commit n [] times = tt
+tries_of_commit n (x ∷ xs) (one, more, some) =
+    subst (λ y. IsOfCommit y.0 × (begins_at y.0 ≤ n) × AreOfCommit (n - begins_at y.0) xs) (sym one) (tt, some, tries_of_commit (n - 1) xs more)
 
 module _ {D : Type 0} (facts : Ghosts D) where
   -- the begins so far
   abbrev pub tries_made : (old between : Parts D) (n : ℕ) (tries : List (Event × Answer)) → AreTimes n tried tries
-      → Calls facts old tries between → CommitCalls facts old between
-  tries_made old between n tries times calls = record { events = tries; calls = calls; only = times_of_commit n tried tries tt times }
+      → Calls facts old tries between → CommitCalls facts n old between
+  tries_made old between n tries times calls = record { events = tries; calls = calls; only = tries_of_commit n tries times }
 
   pub one_more_try : (old between new : Parts D) (n : ℕ) (tries : List (Event × Answer)) → AreTimes n tried tries
       → Calls facts old tries between → state_of between ≡ state_of old → IsQuiet (state_of old) → IsCall facts begin (refused 1) between new
@@ -41,20 +42,20 @@ module _ {D : Type 0} (facts : Ghosts D) where
     made.step.1 ∙ quiet_has_told (state_of between) (subst IsQuiet (sym same) quiet) ∙ same,
   )
 
-  pub begins_under_way : (old between new : Parts D) (n m : ℕ) (tries : List (Event × Answer)) → AreTimes n tried tries
+  pub begins_under_way : (old between new : Parts D) (n m : ℕ) (tries : List (Event × Answer)) → n + 1 ≤ 1000 → AreTimes n tried tries
       → Calls facts old tries between → state_of between ≡ state_of old → IsCall facts begin (begun m) between new
       → Begins facts old UnderWay new
-  begins_under_way old between new n m tries times calls same made = record {
-    calls = more_calls facts old between new begin (begun m) (tries_made old between n tries times calls) tt made;
+  begins_under_way old between new n m tries within times calls same made = record {
+    calls = more_calls facts n 1000 old between new begin (begun m) (tries_made old between n tries times calls) tt within made;
     ends = let P : State → Type 0 = λ s. (s.failed ≡ false) × (state_of new ≡ with_begun s) in
         subst P same (state_begun (state_of between) (state_of new) m made.step);
   }
 
-  pub begins_settled : (old between new : Parts D) (n : ℕ) (tries : List (Event × Answer)) → AreTimes n tried tries
+  pub begins_settled : (old between new : Parts D) (n : ℕ) (tries : List (Event × Answer)) → n + 1 ≤ 1000 → AreTimes n tried tries
       → Calls facts old tries between → state_of between ≡ state_of old → IsCall facts begin nothing_new between new
       → Begins facts old Settled new
-  begins_settled old between new n tries times calls same made = record {
-    calls = more_calls facts old between new begin nothing_new (tries_made old between n tries times calls) tt made;
+  begins_settled old between new n tries within times calls same made = record {
+    calls = more_calls facts n 1000 old between new begin nothing_new (tries_made old between n tries times calls) tt within made;
     ends = (
       made.step.1 ∙ same,
       subst (λ s. length s.held.list ≤ s.held.settled) same (nothing_new_settled (state_of between) (state_of new) made.step),
@@ -66,14 +67,14 @@ module _ {D : Type 0} (facts : Ghosts D) where
   cannot old between new m tries same (inl failed) = inl (ap (λ s. s.failed) same ∙ failed)
   cannot old between new m tries same (inr last) = inr (inl (tries, ap (λ k. tries ++ (begin, refused k) ∷ []) last))
 
-  pub begins_refused : (old between new : Parts D) (n m : ℕ) (tries : List (Event × Answer)) → AreTimes n tried tries
+  pub begins_refused : (old between new : Parts D) (n m : ℕ) (tries : List (Event × Answer)) → n + 1 ≤ 1000 → AreTimes n tried tries
       → Calls facts old tries between → state_of between ≡ state_of old → IsQuiet (state_of old)
       → IsCall facts begin (refused m) between new → (m ≡ 1 → ⊥) → Begins facts old Refused new
-  begins_refused old between new n m tries times calls same quiet made other =
+  begins_refused old between new n m tries within times calls same quiet made other =
       let was_quiet = subst IsQuiet (sym same) quiet in
       let stays = made.step.1 ∙ quiet_has_told (state_of between) was_quiet in
       record {
-        calls = more_calls facts old between new begin (refused m) (tries_made old between n tries times calls) tt made;
+        calls = more_calls facts n 1000 old between new begin (refused m) (tries_made old between n tries times calls) tt within made;
         ends = (
           stays ∙ same,
           cannot old between new m tries stays (begin_refused (state_of between) (state_of new) m was_quiet made.step other),
@@ -82,7 +83,9 @@ module _ {D : Type 0} (facts : Ghosts D) where
 
   pub begins_never : (old new : Parts D) (n : ℕ) (tries : List (Event × Answer)) → AreTimes n tried tries
       → Calls facts old tries new → state_of new ≡ state_of old → n ≡ 1000 → Begins facts old Refused new
-  begins_never old new n tries times calls same all = record {
-    calls = tries_made old new n tries times calls;
-    ends = (same, inr (inr (tries, subst (λ k. AreTimes k tried tries) all times, ([], refl))));
-  }
+  begins_never old new n tries times calls same all =
+      let thousand = subst (λ k. AreTimes k tried tries) all times in
+      record {
+        calls = tries_made old new 1000 tries thousand calls;
+        ends = (same, inr (inr (tries, thousand, ([], refl))));
+      }

@@ -1,15 +1,29 @@
 -- Calls of a hub, one after another.
-use Rattle.std.proofs.Common.{◌≡◌, ℕ, List, [], ◌∷◌, ◌++◌, refl, sym, ap, ◌∙◌, subst}
+use Rattle.std.proofs.Common.{◌≡◌, ℕ, ◌+◌, ◌-◌, ◌≤◌, List, [], ◌∷◌, ◌++◌, refl, sym, ap, ◌∙◌, subst, arith}
 use Rattle.disk_trait.specs.declared.facts.DiskFacts.{Ghosts}
 use Rattle.op_model.specs.Machine.{Event, Answer}
 use Rattle.locked_replica.specs.Calls.{IsCall}
 use Rattle.locked_replica.specs.Hub.{Parts}
 use Rattle.locked_replica.specs.Run.{Calls}
-use Rattle.session_threads.specs.HubCalls.{CommitCalls, IsOfCommit, AreOfCommit}
+use Rattle.session_threads.specs.HubCalls.{CommitCalls, IsOfCommit, AreOfCommit, begins_at}
 
-pub AreOfCommit-append : (xs ys : List (Event × Answer)) → AreOfCommit xs → AreOfCommit ys → AreOfCommit (xs ++ ys)
-AreOfCommit-append [] ys first rest = rest
-AreOfCommit-append (x ∷ xs) ys (one, more) rest = (one, AreOfCommit-append xs ys more rest)
+-- events with at most so many begins have at most more
+pub AreOfCommit-weaken : (n m : ℕ) (xs : List (Event × Answer)) → n ≤ m → AreOfCommit n xs → AreOfCommit m xs
+AreOfCommit-weaken n m [] within only = tt
+AreOfCommit-weaken n m (x ∷ xs) within (one, enough, more) = (
+  one,
+  omega (arith, within, enough),
+  AreOfCommit-weaken (n - begins_at x.0) (m - begins_at x.0) xs (omega (arith, within, enough)) more,
+)
+
+pub AreOfCommit-append : (n k m : ℕ) (xs ys : List (Event × Answer)) → n + k ≤ m → AreOfCommit n xs → AreOfCommit k ys
+    → AreOfCommit m (xs ++ ys)
+AreOfCommit-append n k m [] ys within first rest = AreOfCommit-weaken k m ys (omega (arith, within)) rest
+AreOfCommit-append n k m (x ∷ xs) ys within (one, enough, more) rest = (
+  one,
+  omega (arith, within, enough),
+  AreOfCommit-append (n - begins_at x.0) k (m - begins_at x.0) xs ys (omega (arith, within, enough)) more rest,
+)
 
 module _ {D : Type 0} (facts : Ghosts D) where
   pub Calls-append : (old between new : Parts D) (xs ys : List (Event × Answer))
@@ -22,21 +36,22 @@ module _ {D : Type 0} (facts : Ghosts D) where
   one_call old new event answer made = (new, made, refl)
 
   -- no calls of a commit
-  abbrev pub no_calls : (hub : Parts D) → CommitCalls facts hub hub
-  no_calls hub = record { events = []; calls = refl; only = tt }
+  abbrev pub no_calls : (n : ℕ) (hub : Parts D) → CommitCalls facts n hub hub
+  no_calls n hub = record { events = []; calls = refl; only = tt }
 
   -- one more call of a commit
-  abbrev pub more_calls : (old between new : Parts D) (event : Event) (answer : Answer) → CommitCalls facts old between
-      → IsOfCommit event → IsCall facts event answer between new → CommitCalls facts old new
-  more_calls old between new event answer before of_commit made = record {
+  abbrev pub more_calls : (n m : ℕ) (old between new : Parts D) (event : Event) (answer : Answer) → CommitCalls facts n old between
+      → IsOfCommit event → n + begins_at event ≤ m → IsCall facts event answer between new → CommitCalls facts m old new
+  more_calls n m old between new event answer before of_commit within made = record {
     events = before.events ++ (event, answer) ∷ [];
     calls = Calls-append old between new before.events ((event, answer) ∷ []) before.calls (one_call between new event answer made);
-    only = AreOfCommit-append before.events ((event, answer) ∷ []) before.only (of_commit, tt);
+    only = AreOfCommit-append n (begins_at event) m before.events ((event, answer) ∷ []) within before.only (of_commit, omega arith, tt);
   }
 
-  abbrev pub both_calls : (old between new : Parts D) → CommitCalls facts old between → CommitCalls facts between new → CommitCalls facts old new
-  both_calls old between new first rest = record {
+  abbrev pub both_calls : (n k m : ℕ) (old between new : Parts D) → n + k ≤ m → CommitCalls facts n old between
+      → CommitCalls facts k between new → CommitCalls facts m old new
+  both_calls n k m old between new within first rest = record {
     events = first.events ++ rest.events;
     calls = Calls-append old between new first.events rest.events first.calls rest.calls;
-    only = AreOfCommit-append first.events rest.events first.only rest.only;
+    only = AreOfCommit-append n k m first.events rest.events within first.only rest.only;
   }

@@ -12,46 +12,46 @@ use Rattle.session_lines.specs.declared.refusal.Refusal.{Refusal}
 use Rattle.session_lines.specs.declared.refusal.Refusal.TheVariants.{Failed}
 use Rattle.locked_replica.specs.Run.{Calls}
 use Rattle.session_threads.specs.HubCalls.{IsQuiet, Commits, is_edit_refusal}
-use Rattle.session_threads.specs.HubServing.{session, AnswersEdit, AnswersTicket}
+use Rattle.session_threads.specs.HubServing.{AnswersEdit, AnswersTicket}
 use Rattle.session_threads.proofs.CallLemmas.{Calls-append, one_call}
 use Rattle.hub_parts.proofs.TicketEnds.{ticket_ends}
 use Rattle.session_threads.proofs.EditLemmas.{edit_refusals, edit_is_quiet, refused_is_quiet, acknowledges, ack_is_quiet}
 
 module _ {D : Type 0} (facts : Ghosts D) where
   -- a ticket's answer is the edit's
-  pub answered : (old between new : Parts D) (e : Edit) (t : Ticket) (answer : Answer) → IsCall facts (edit session e) (ticket t) old between
-      → AnswersTicket facts between t answer new → AnswersEdit facts old e answer new
-  answered old between new e t (Edited rev) call (commit, only, calls, same) =
+  pub answered : (session : ℕ) (old between new : Parts D) (e : Edit) (t : Ticket) (answer : Answer) → IsCall facts (edit session e) (ticket t) old between
+      → AnswersTicket facts between t answer new → AnswersEdit facts session old e answer new
+  answered session old between new e t (Edited rev) call (commit, only, calls, same) =
       record { given = t; commit = commit; only = only; calls = (between, call, calls); same = same }
-  answered old between new e t (Refused refusal) call (commit, only, calls, failed, cause) =
+  answered session old between new e t (Refused refusal) call (commit, only, calls, failed, cause) =
       inr (failed, record { given = t; commit = commit; only = only; calls = (between, call, calls); cause = cause })
-  answered old between new e t (Text rev text) call never = absurd never
-  answered old between new e t (Spans rev spans) call never = absurd never
-  answered old between new e t (Status applied settled s) call never = absurd never
-  answered old between new e t Stopped call never = absurd never
-  answered old between new e t Done call never = absurd never
+  answered session old between new e t (Text rev text) call never = absurd never
+  answered session old between new e t (Spans rev spans) call never = absurd never
+  answered session old between new e t (Status applied settled s) call never = absurd never
+  answered session old between new e t Stopped call never = absurd never
+  answered session old between new e t Done call never = absurd never
 
   -- a refusal of the hub is answered by its number
-  pub answered_refusal : (old new : Parts D) (e : Edit) (refusal : Refusal) (n : ℕ) → number_of refusal ≡ n
-      → IsCall facts (edit session e) (refused n) old new → AnswersEdit facts old e (Refused refusal) new
-  answered_refusal old new e refusal n same call =
+  pub answered_refusal : (session : ℕ) (old new : Parts D) (e : Edit) (refusal : Refusal) (n : ℕ) → number_of refusal ≡ n
+      → IsCall facts (edit session e) (refused n) old new → AnswersEdit facts session old e (Refused refusal) new
+  answered_refusal session old new e refusal n same call =
       inl (one_call facts old new (edit session e) (refused (number_of refusal))
       (subst (λ k. IsCall facts (edit session e) (refused k) old new) (sym same) call))
 
-  pub can_be_refused : (old new : Parts D) (e : Edit) (n : ℕ) → IsCall facts (edit session e) (refused n) old new → IsTrue (is_edit_refusal n)
-  can_be_refused old new e n call = edit_refusals (state_of old) (state_of new) session e n call.step
+  pub can_be_refused : (session : ℕ) (old new : Parts D) (e : Edit) (n : ℕ) → IsCall facts (edit session e) (refused n) old new → IsTrue (is_edit_refusal n)
+  can_be_refused session old new e n call = edit_refusals (state_of old) (state_of new) session e n call.step
 
-  pub ends_within : (old new : Parts D) (e : Edit) (t : Ticket) → IsCall facts (edit session e) (ticket t) old new → t.end ≤ length new.replica.list
-  ends_within old new e t call =
+  pub ends_within : (session : ℕ) (old new : Parts D) (e : Edit) (t : Ticket) → IsCall facts (edit session e) (ticket t) old new → t.end ≤ length new.replica.list
+  ends_within session old new e t call =
       let same = ticket_ends (state_of old) (state_of new) session e t call.step in omega (arith, same)
 
-  pub quiet_after : (old new : Parts D) (e : Edit) (t : Ticket) → IsQuiet (state_of old) → IsCall facts (edit session e) (ticket t) old new
+  pub quiet_after : (session : ℕ) (old new : Parts D) (e : Edit) (t : Ticket) → IsQuiet (state_of old) → IsCall facts (edit session e) (ticket t) old new
       → IsQuiet (state_of new)
-  quiet_after old new e t quiet call = edit_is_quiet (state_of old) (state_of new) session e t quiet call.step
+  quiet_after session old new e t quiet call = edit_is_quiet (state_of old) (state_of new) session e t quiet call.step
 
-  pub quiet_refused : (old new : Parts D) (e : Edit) (n : ℕ) → IsQuiet (state_of old) → IsCall facts (edit session e) (refused n) old new
+  pub quiet_refused : (session : ℕ) (old new : Parts D) (e : Edit) (n : ℕ) → IsQuiet (state_of old) → IsCall facts (edit session e) (refused n) old new
       → IsQuiet (state_of new)
-  quiet_refused old new e n quiet call = refused_is_quiet (state_of old) (state_of new) session e n quiet call.step
+  quiet_refused session old new e n quiet call = refused_is_quiet (state_of old) (state_of new) session e n quiet call.step
 
   -- what all is settled behind is acknowledged
   pub is_acknowledged : (old between new : Parts D) (t : Ticket) (b : Bool) → t.end ≤ length old.replica.list

@@ -13,7 +13,7 @@ use Rattle.session_lines.specs.declared.answer.Answer.TheVariants.{Edited, Text,
 use Rattle.session_lines.specs.declared.refusal.Refusal.{Refusal}
 use Rattle.session_threads.specs.Exchanges.{IsAnswered, Exchange, Exchanges}
 use Rattle.session_threads.specs.HeldDesk.{HeldDesk}
-use Rattle.session_threads.specs.HubServing.{session, AnswersEdit, ServesEdit, Serves}
+use Rattle.session_threads.specs.HubServing.{AnswersEdit, ServesEdit, Serves}
 use Rattle.session_threads.specs.Outcomes.{CutOff}
 use Rattle.session_threads.proofs.CallLemmas.{Calls-append}
 
@@ -25,24 +25,24 @@ module _ {D : Type 0} (facts : Ghosts D) where
   stays : (old new : HeldDesk D) → new ≡ old → Goes old.hub new.hub
   stays old new same = ([], ap (λ (d : HeldDesk D). d.hub) same)
 
-  edit_goes : (old new : Parts D) (e : Edit) (answer : Answer) → AnswersEdit facts old e answer new → Goes old new
-  edit_goes old new e (Edited rev) it = ((edit session e, ticket it.given) ∷ it.commit ++ (ack it.given, acknowledged true) ∷ [], it.calls)
-  edit_goes old new e (Refused refusal) (inl calls) = ((edit session e, refused (number_of refusal)) ∷ [], calls)
-  edit_goes old new e (Refused refusal) (inr (failed, it)) = ((edit session e, ticket it.given) ∷ it.commit, it.calls)
-  edit_goes old new e (Text rev text) never = absurd never
-  edit_goes old new e (Spans rev spans) never = absurd never
-  edit_goes old new e (Status applied settled s) never = absurd never
-  edit_goes old new e Stopped never = absurd never
-  edit_goes old new e Done never = absurd never
+  edit_goes : (session : ℕ) (old new : Parts D) (e : Edit) (answer : Answer) → AnswersEdit facts session old e answer new → Goes old new
+  edit_goes session old new e (Edited rev) it = ((edit session e, ticket it.given) ∷ it.commit ++ (ack it.given, acknowledged true) ∷ [], it.calls)
+  edit_goes session old new e (Refused refusal) (inl calls) = ((edit session e, refused (number_of refusal)) ∷ [], calls)
+  edit_goes session old new e (Refused refusal) (inr (failed, it)) = ((edit session e, ticket it.given) ∷ it.commit, it.calls)
+  edit_goes session old new e (Text rev text) never = absurd never
+  edit_goes session old new e (Spans rev spans) never = absurd never
+  edit_goes session old new e (Status applied settled s) never = absurd never
+  edit_goes session old new e Stopped never = absurd never
+  edit_goes session old new e Done never = absurd never
 
   -- behind a stop the hub isn't asked
-  desk_edit_goes : (hub : Parts D) (stopping : Bool) (new : HeldDesk D) (e : Edit) (answer : Answer)
-      → ServesEdit facts (record { hub = hub; stopping = stopping }) e answer new → Goes hub new.hub
-  desk_edit_goes hub true new e answer (said, same) = stays (record { hub = hub; stopping = true }) new same
-  desk_edit_goes hub false new e answer (answered, goes_on) = edit_goes hub new.hub e answer answered
+  desk_edit_goes : (hub : Parts D) (session : ℕ) (stopping : Bool) (new : HeldDesk D) (e : Edit) (answer : Answer)
+      → ServesEdit facts (record { hub = hub; session = session; stopping = stopping }) e answer new → Goes hub new.hub
+  desk_edit_goes hub session true new e answer (said, same) = stays (record { hub = hub; session = session; stopping = true }) new same
+  desk_edit_goes hub session false new e answer (answered, goes_on) = edit_goes session hub new.hub e answer answered
 
   command_goes : (old new : HeldDesk D) (c : Command) (answer : Answer) → Serves facts old c answer new → Goes old.hub new.hub
-  command_goes old new (command.Edit e) answer it = desk_edit_goes old.hub old.stopping new e answer it
+  command_goes old new (command.Edit e) answer it = desk_edit_goes old.hub old.session old.stopping new e answer it
   command_goes old new (command.Text doc) answer (said, same) = stays old new same
   command_goes old new (command.Spans doc) answer (said, same) = stays old new same
   command_goes old new command.Status answer (said, same) = stays old new same

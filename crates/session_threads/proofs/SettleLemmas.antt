@@ -1,8 +1,8 @@
 -- How a commit ends.
-use Rattle.std.proofs.Common.{◌≡◌, ℕ, ◌≤◌, Bool, true, false, List, ◌++◌, length, Result, Ok, Err, refl, sym, ap, ◌∙◌, subst, inl, arith}
+use Rattle.std.proofs.Common.{◌≡◌, ℕ, ◌+◌, ◌≤◌, Bool, true, false, List, ◌++◌, length, Result, Ok, Err, refl, sym, ap, ◌∙◌, subst, inl, arith}
 use Rattle.std.specs.Prelude.{is_ok}
 use Rattle.disk_trait.specs.declared.facts.DiskFacts.{Ghosts}
-use Rattle.op_model.specs.Machine.{State, settle, refused, settled_to, SettleStep}
+use Rattle.op_model.specs.Machine.{State, Answer, settle, refused, settled_to, SettleStep}
 use Rattle.locked_replica.specs.declared.refusal.HubRefusal.{HubRefusal}
 use Rattle.locked_replica.specs.Calls.{IsCall}
 use Rattle.locked_replica.specs.Hub.{Parts, state_of}
@@ -37,6 +37,13 @@ module _ {D : Type 0} (facts : Ghosts D) where
         list = ap (λ s. s.held.list) same;
       }
 
+  -- the begins, the device calls and the settlement of a commit
+  abbrev all_calls : (old between done new : Parts D) (answer : Answer) → CommitCalls facts 1000 old between
+      → CommitCalls facts 0 between done → IsCall facts settle answer done new → CommitCalls facts 1000 old new
+  all_calls old between done new answer begun gone made =
+      let before = both_calls facts 1000 0 1000 old between done (omega arith) begun gone in
+      more_calls facts 1000 1000 old done new settle answer before tt (omega arith) made
+
   -- the device failed in the commit
   pub ended_wrong : (old between broken new : Parts D) (answer : Result ℕ HubRefusal) → Begins facts old UnderWay between
       → GoesThrough facts between false broken → IsCall facts settle (settle_answered answer) broken new → Ended facts old false new
@@ -47,7 +54,7 @@ module _ {D : Type 0} (facts : Ghosts D) where
       let (failed, told) = failure_is_told (state_of broken) (state_of new) (number_of e) (ap (λ s. s.failed) goes.ends) made.step in
       record {
         commits = record {
-          calls = more_calls facts old broken new settle (refused (number_of e)) (both_calls facts old between broken begins.calls goes.calls) tt made;
+          calls = all_calls old between broken new (refused (number_of e)) begins.calls goes.calls made;
           ends = inl failed;
         };
         quiet = told;
@@ -64,7 +71,7 @@ module _ {D : Type 0} (facts : Ghosts D) where
       let after = state_settled (state_of old) (state_of new) n works step in
       record {
         commits = record {
-          calls = more_calls facts old through new settle (settled_to n) (both_calls facts old between through begins.calls goes.calls) tt made;
+          calls = all_calls old between through new (settled_to n) begins.calls goes.calls made;
           ends = subst (λ s. length s.held.list ≤ s.held.settled) (sym after) (omega arith);
         };
         quiet = settled_is_quiet (state_of old) (state_of new) works after;

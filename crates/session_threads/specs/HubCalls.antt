@@ -3,6 +3,7 @@ use Rattle.std.specs.Prelude.{◌≡◌, ◌⊎◌, ℕ, ◌-◌, ◌^◌, ◌�
 use Rattle.fixed_numbers.specs.declared.refusals.TheConstants.{MEMORY, RANGE, STALE, LIMIT, BUSY, FAILED, STEPS}
 use Rattle.disk_trait.specs.declared.facts.DiskFacts.{Ghosts}
 use Rattle.op_model.specs.Machine.{State, Event, Answer, edit, merge, begin, device_step, settle, ack, tell, have, refused, is_under_way, through, Commit}
+use Rattle.hub_parts.specs.declared.meeting.TheConstants.{BEGIN_TRIES}
 use Rattle.locked_replica.specs.Hub.{Parts, state_of}
 use Rattle.locked_replica.specs.Run.{Calls}
 use Rattle.session_threads.specs.declared.begun.Begun.{Begun}
@@ -28,10 +29,15 @@ IsOfCommit (ack t) = ⊥
 IsOfCommit (tell c) = ⊥
 IsOfCommit have = ⊥
 
--- events of a commit, each with its answer
-abbrev pub AreOfCommit : List (Event × Answer) → Type 0
-AreOfCommit [] = ⊤
-AreOfCommit (e ∷ es) = IsOfCommit e.0 × AreOfCommit es
+-- how many begins an event is: one, or none
+abbrev pub begins_at : Event → ℕ
+begins_at begin = 1
+begins_at _ = 0
+
+-- events of a commit, each with its answer, and at most so many begins among them
+abbrev pub AreOfCommit : ℕ → List (Event × Answer) → Type 0
+AreOfCommit n [] = ⊤
+AreOfCommit n (e ∷ es) = IsOfCommit e.0 × (begins_at e.0 ≤ n) × AreOfCommit (n - begins_at e.0) es
 
 -- the same event with the same answer, so many times
 abbrev pub AreTimes : ℕ → Event × Answer → List (Event × Answer) → Type 0
@@ -48,7 +54,7 @@ abbrev pub CannotSettle : State → List (Event × Answer) → Type 0
 CannotSettle s events =
     (s.failed ≡ true)
     ⊎ EndsWith events ((begin, refused LIMIT) ∷ [])
-    ⊎ ((last : List (Event × Answer)) × AreTimes 1000 (begin, refused MEMORY) last × EndsWith events last)
+    ⊎ ((last : List (Event × Answer)) × AreTimes BEGIN_TRIES (begin, refused MEMORY) last × EndsWith events last)
 
 -- the numbers that an edit may be refused with
 abbrev pub is_edit_refusal : ℕ → Bool
@@ -64,11 +70,11 @@ abbrev pub with_through : State → State
 with_through s = record s { commit = through s.commit }
 
 module _ {D : Type 0} (facts : Ghosts D) where
-  -- calls of a commit alone
-  pub record CommitCalls (old new : Parts D) : Type 0 where
+  -- calls of a commit alone, with at most so many begins
+  pub record CommitCalls (begins : ℕ) (old new : Parts D) : Type 0 where
     pub events : List (Event × Answer)
     pub calls : Calls facts old events new
-    pub only : AreOfCommit events
+    pub only : AreOfCommit begins events
 
   -- how a begin ends: a commit is begun, all was settled, or there is none
   abbrev pub BegunAs : State → State → List (Event × Answer) → Begun → Type 0
@@ -77,7 +83,7 @@ module _ {D : Type 0} (facts : Ghosts D) where
   BegunAs old new events Refused = (new ≡ old) × CannotSettle new events
 
   pub record Begins (old : Parts D) (begun : Begun) (new : Parts D) : Type 0 where
-    pub calls : CommitCalls old new
+    pub calls : CommitCalls BEGIN_TRIES old new
     pub ends : BegunAs (state_of old) (state_of new) calls.events begun
 
   -- how the device calls of a commit end: it is through, or the device failed
@@ -86,7 +92,7 @@ module _ {D : Type 0} (facts : Ghosts D) where
   GoneThrough old new false = new ≡ record old { failed = true }
 
   pub record GoesThrough (old : Parts D) (is_through : Bool) (new : Parts D) : Type 0 where
-    pub calls : CommitCalls old new
+    pub calls : CommitCalls 0 old new
     pub ends : GoneThrough (state_of old) (state_of new) is_through
 
   -- all is settled, or the cause why not
@@ -95,5 +101,5 @@ module _ {D : Type 0} (facts : Ghosts D) where
   SettledAs new events false = CannotSettle (state_of new) events
 
   pub record Commits (old : Parts D) (is_settled : Bool) (new : Parts D) : Type 0 where
-    pub calls : CommitCalls old new
+    pub calls : CommitCalls BEGIN_TRIES old new
     pub ends : SettledAs new calls.events is_settled

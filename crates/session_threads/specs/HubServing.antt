@@ -5,6 +5,7 @@ use Rattle.op_model.specs.declared.edit.Edit.{Edit}
 use Rattle.op_model.specs.Text.{text, rev}
 use Rattle.op_model.specs.Spans.{spans}
 use Rattle.op_model.specs.Machine.{Event, Answer as Reply, Ticket, edit, ack, ticket, acknowledged, refused}
+use Rattle.hub_parts.specs.declared.meeting.TheConstants.{BEGIN_TRIES}
 use Rattle.locked_replica.specs.Hub.{Parts, state_of}
 use Rattle.session_lines.specs.Saying.{number_of}
 use Rattle.session_lines.specs.declared.command.Command.{Command}
@@ -18,10 +19,6 @@ use Rattle.session_lines.specs.declared.refusal.Refusal.TheVariants.{Memory, Fai
 use Rattle.session_threads.specs.HeldDesk.{HeldDesk}
 use Rattle.locked_replica.specs.Run.{Calls}
 use Rattle.session_threads.specs.HubCalls.{AreOfCommit, CannotSettle, Commits}
-
--- the session that the steps of a hub held alone are of
-abbrev pub session : ℕ
-session = 1
 
 -- the text of a document, or want of memory
 abbrev pub ServesText : {D : Type 0} → HeldDesk D → ℕ → Answer → Type 0
@@ -48,41 +45,41 @@ ServesStatus desk answer =
     answer ≡ Status (length held.list) held.settled (state_in desk.hub.store.failed desk.stopping)
 
 module _ {D : Type 0} (facts : Ghosts D) where
-  -- the hub gave a ticket for the edit, all was committed, and then the ticket was acknowledged: only so an edit is answered
-  pub record IsAcknowledged (old new : Parts D) (e : Edit) (rev : ℕ) : Type 0 where
+  -- the hub gave a ticket for the session's edit, all was committed, and then the ticket was acknowledged: only so an edit is answered
+  pub record IsAcknowledged (session : ℕ) (old new : Parts D) (e : Edit) (rev : ℕ) : Type 0 where
     pub given : Ticket
     pub commit : List (Event × Reply)
-    pub only : AreOfCommit commit
+    pub only : AreOfCommit BEGIN_TRIES commit
     pub calls : Calls facts old ((edit session e, ticket given) ∷ commit ++ (ack given, acknowledged true) ∷ []) new
     pub same : given.rev ≡ rev
 
   -- the hub gave a ticket, and then not all could be settled
-  pub record IsLeftOpen (old new : Parts D) (e : Edit) : Type 0 where
+  pub record IsLeftOpen (session : ℕ) (old new : Parts D) (e : Edit) : Type 0 where
     pub given : Ticket
     pub commit : List (Event × Reply)
-    pub only : AreOfCommit commit
+    pub only : AreOfCommit BEGIN_TRIES commit
     pub calls : Calls facts old ((edit session e, ticket given) ∷ commit) new
     pub cause : CannotSettle (state_of new) commit
 
-  -- an edit is acknowledged; or the hub refused it so; or it is answered as failed
-  abbrev pub AnswersEdit : Parts D → Edit → Answer → Parts D → Type 0
-  AnswersEdit old e (Edited rev) new = IsAcknowledged old new e rev
-  AnswersEdit old e (Refused refusal) new =
+  -- a session's edit is acknowledged; or the hub refused it so; or it is answered as failed
+  abbrev pub AnswersEdit : ℕ → Parts D → Edit → Answer → Parts D → Type 0
+  AnswersEdit session old e (Edited rev) new = IsAcknowledged session old new e rev
+  AnswersEdit session old e (Refused refusal) new =
       Calls facts old ((edit session e, refused (number_of refusal)) ∷ []) new
-      ⊎ ((refusal ≡ Failed) × IsLeftOpen old new e)
-  AnswersEdit old e (Text rev t) new = ⊥
-  AnswersEdit old e (Spans rev s) new = ⊥
-  AnswersEdit old e (Status applied settled s) new = ⊥
-  AnswersEdit old e Stopped new = ⊥
-  AnswersEdit old e Done new = ⊥
+      ⊎ ((refusal ≡ Failed) × IsLeftOpen session old new e)
+  AnswersEdit session old e (Text rev t) new = ⊥
+  AnswersEdit session old e (Spans rev s) new = ⊥
+  AnswersEdit session old e (Status applied settled s) new = ⊥
+  AnswersEdit session old e Stopped new = ⊥
+  AnswersEdit session old e Done new = ⊥
 
   -- behind a ticket, all was committed and it was acknowledged; or not all could be settled
   abbrev pub AnswersTicket : Parts D → Ticket → Answer → Parts D → Type 0
   AnswersTicket old given (Edited rev) new =
-      (commit : List (Event × Reply)) × AreOfCommit commit
+      (commit : List (Event × Reply)) × AreOfCommit BEGIN_TRIES commit
       × Calls facts old (commit ++ (ack given, acknowledged true) ∷ []) new × (given.rev ≡ rev)
   AnswersTicket old given (Refused refusal) new =
-      (commit : List (Event × Reply)) × AreOfCommit commit × Calls facts old commit new
+      (commit : List (Event × Reply)) × AreOfCommit BEGIN_TRIES commit × Calls facts old commit new
       × (refusal ≡ Failed) × CannotSettle (state_of new) commit
   AnswersTicket old given (Text rev t) new = ⊥
   AnswersTicket old given (Spans rev s) new = ⊥
@@ -94,7 +91,7 @@ module _ {D : Type 0} (facts : Ghosts D) where
   abbrev pub ServesEdit : HeldDesk D → Edit → Answer → HeldDesk D → Type 0
   ServesEdit old e answer new = elim old.stopping [
     | true ↦ (answer ≡ Refused Stopping) × (new ≡ old)
-    | false ↦ AnswersEdit old.hub e answer new.hub × (new.stopping ≡ false)
+    | false ↦ AnswersEdit old.session old.hub e answer new.hub × (new ≡ record old { hub = new.hub })
   ]
 
   -- a stop is answered where all is settled, or as failed
@@ -105,7 +102,7 @@ module _ {D : Type 0} (facts : Ghosts D) where
   abbrev pub ServesStop : HeldDesk D → Answer → HeldDesk D → Type 0
   ServesStop old answer new =
       (is_settled : Bool) × (answer ≡ answer_to_stop is_settled)
-      × Commits facts old.hub is_settled new.hub × (new.stopping ≡ true)
+      × Commits facts old.hub is_settled new.hub × (new ≡ record old { hub = new.hub; stopping = true })
 
   -- what is answered to a command, and what the desk is then
   abbrev pub Serves : HeldDesk D → Command → Answer → HeldDesk D → Type 0

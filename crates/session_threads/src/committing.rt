@@ -9,10 +9,8 @@ use crate::begun::Begun;
 use disk_trait::Disk;
 use fixed_numbers::refusals::MEMORY;
 use group_commit::Phase;
+use hub_parts::BEGIN_TRIES;
 use locked_replica::Hub;
-
-/// How often a begin that finds no memory is made, in a row.
-const TRIES: u32 = 1_000;
 
 /// Commits all that a hub holds, to the end. Answers whether all is settled then; else the device
 /// failed, or no commit could begin. Takes no memory but for the begin. So many device calls as the
@@ -40,7 +38,7 @@ fn begin<D: Disk>(hub: &mut Hub<D>) -> Begun
     requires { IsQuiet (state_of hub.old) }
     ensures { Begins D.DiskFacts hub.old result hub.new }
 {
-    for _ in 0..TRIES {
+    for _ in 0..BEGIN_TRIES {
         match hub.begin() {
             Ok(Some(_)) => return Begun::UnderWay,
             Ok(None) => return Begun::Settled,

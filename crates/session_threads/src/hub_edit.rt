@@ -14,16 +14,13 @@ use op_model::Edit;
 use replica_core::Ticket;
 use session_lines::{Answer, Refusal};
 
-/// The session that the steps of a hub held alone are of.
-const SESSION: u64 = 1;
-
-/// Makes an edit and commits it to the end: it is answered only where it is acknowledged.
-pub fn answer_edit<D: Disk>(hub: &mut Hub<D>, edit: &Edit) -> Answer
+/// Makes a session's edit and commits it to the end: it is answered only where it is acknowledged.
+pub fn answer_edit<D: Disk>(hub: &mut Hub<D>, session: u64, edit: &Edit) -> Answer
     requires { IsQuiet (state_of hub.old) }
-    ensures answer { AnswersEdit D.DiskFacts hub.old edit.now result hub.new }
+    ensures answer { AnswersEdit D.DiskFacts session hub.old edit.now result hub.new }
     ensures quiet { IsQuiet (state_of hub.new) }
 {
-    match hub.edit(SESSION, edit) {
+    match hub.edit(session, edit) {
         Ok(ticket) => answer_ticket(hub, ticket),
         Err(refusal) => Answer::Refused(refusal_of(refusal)),
     }

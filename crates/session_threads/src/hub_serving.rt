@@ -36,7 +36,7 @@ impl<D: Disk> HubDesk<D> {
         if self.is_stopping {
             return Answer::Refused(Refusal::Stopping);
         }
-        answer_edit(&mut self.hub, edit)
+        answer_edit(&mut self.hub, self.session, edit)
     }
 
     /// The text of a document.

@@ -6,7 +6,7 @@ use Rattle.session_threads.specs.HubCalls.{CommitCalls}
 use Rattle.session_threads.proofs.committing.go_through.Given as goal
 
 abbrev pub invariant-loop-phase : goal.invariant-loop-phase
-invariant-loop-phase g l = CommitCalls g.D.DiskFacts l.initial.hub l.hub × (state_of l.hub ≡ state_of l.initial.hub)
+invariant-loop-phase g l = CommitCalls g.D.DiskFacts 0 l.initial.hub l.hub × (state_of l.hub ≡ state_of l.initial.hub)
 
 abbrev pub decreases-loop-phase : goal.decreases-loop-phase
 decreases-loop-phase g l = calls_left l.hub.store

@@ -3,8 +3,8 @@ use Rattle.session_threads.proofs.hub_edit.answer_edit.Goals as goal
 
 pub returns-in-Ok-clause-answer : goal.returns-in-Ok-clause-answer
 returns-in-Ok-clause-answer g c =
-    answered g.D.DiskFacts _ _ _ c.args.edit.now c.in-Ok.ticket c.answer_ticket.result c.in-Ok.ensures.call c.answer_ticket.ensures.answer
+    answered g.D.DiskFacts c.args.session _ _ _ c.args.edit.now c.in-Ok.ticket c.answer_ticket.result c.in-Ok.ensures.call c.answer_ticket.ensures.answer
 
 pub returns-in-Err-clause-answer : goal.returns-in-Err-clause-answer
 returns-in-Err-clause-answer g c =
-    answered_refusal g.D.DiskFacts _ _ c.args.edit.now c.refusal_of.result _ c.refusal_of.ensures c.in-Err.ensures.call
+    answered_refusal g.D.DiskFacts c.args.session _ _ c.args.edit.now c.refusal_of.result _ c.refusal_of.ensures c.in-Err.ensures.call
