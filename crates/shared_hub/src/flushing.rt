@@ -6,15 +6,12 @@ use crate::gate::{Gate, Point};
 use crate::shared::Shared;
 use disk_trait::Disk;
 use group_commit::{Phase, StoreError};
-use hub_parts::{Flusher, Met};
+use hub_parts::{BEGIN_TRIES, Flusher, Met};
 use pass_books::Desks;
 use std::io;
 use std::rt::Clock;
 use std::sync::Wait;
 use std::time::{Duration, Instant};
-
-/// How often a begin that finds no memory is made, in a row.
-const TRIES: u32 = 1_000;
 
 /// For so many milliseconds at most the flusher waits for the edits of those who are at work.
 const PATIENCE: u64 = 1;
@@ -33,8 +30,8 @@ enum Begun {
 /// to end or the device fails. It makes device calls with no lock held. It sleeps where nothing
 /// waits. Behind a commit it waits until as many edits have come as that had and as had come when
 /// it was settled, so that the next one serves all who are at work; but no longer than the commit
-/// took, nor than a millisecond. When it has ended, whoever waits for a settlement is told that
-/// none comes.
+/// took, nor than a millisecond, and not at all where the turns of so many edits take longer than
+/// the commit. When it has ended, whoever waits for a settlement is told that none comes.
 pub fn flush<R: Wait + Clock, D: Disk, J: Desks, G: Gate>(
     rt: &R,
     shared: &Shared<J>,
@@ -113,7 +110,7 @@ fn commit<R: Wait, D: Disk, J: Desks, G: Gate>(
 fn begin<R: Wait, D: Disk, J: Desks>(rt: &R, shared: &Shared<J>, flusher: &mut Flusher<D>) -> Begun
     ensures { Goes D.DiskFacts flusher.old flusher.new }
 {
-    for _ in 0..TRIES {
+    for _ in 0..BEGIN_TRIES {
         match try_once(rt, shared, flusher) {
             Ok(Met::Begun(_)) => return Begun::UnderWay,
             Ok(_) => return Begun::Without,

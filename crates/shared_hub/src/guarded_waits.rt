@@ -9,6 +9,11 @@ use crate::guarded::Guarded;
 use crate::news::News;
 use pass_books::{Desks, Pass};
 use replica_core::Ticket;
+use std::time::Duration;
+
+/// About how many microseconds an edit's turn takes: the answer to the one before, what its session
+/// makes of that, and the edit itself.
+const TURN: u64 = 20;
 
 impl<J: Desks> Guarded<J> {
     /// Acknowledges a ticket where its operations are settled; else says whether to wait for that.
@@ -95,6 +100,14 @@ impl<J: Desks> Guarded<J> {
     /// for none.
     pub(crate) fn lacks_edits(&self) -> bool {
         self.turns.edits < self.turns.group && !self.is_stopping && !self.turns.is_closing
+    }
+
+    /// Whether the flusher waits for edits behind a commit that took so long: fewer have come than
+    /// it waits for, and the turns of those take no longer than that commit. Where they do, they go
+    /// on beside the device calls of the next commit.
+    pub(crate) fn awaits_edits(&self, took: Duration) -> bool {
+        let turns = Duration::from_micros(TURN.saturating_mul(self.turns.group));
+        self.lacks_edits() && turns <= took
     }
 
     /// Marks that the flusher waits for no edits any more, and no longer sleeps.

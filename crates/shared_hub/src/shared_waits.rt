@@ -98,11 +98,11 @@ impl<J: Desks> Shared<J> {
         unreachable!()
     }
 
-    /// Waits until no edit is missing of those who are at work, for so long at most; it may end
-    /// sooner. Gives what stands under the lock then.
+    /// Waits until no edit is missing of those who are at work, for so long at most, where their
+    /// turns take no longer; it may end sooner. Gives what stands under the lock then.
     fn gather<R: Wait + Clock>(&self, rt: &R, patience: Duration) -> MutexGuard<'_, Guarded<J>> {
         let mut guard = self.guarded.lock(rt);
-        if guard.lacks_edits() {
+        if guard.awaits_edits(patience) {
             guard.sleep_flusher();
             let (woken, _) = self.work.wait_timeout(rt, guard, patience);
             guard = woken;
