@@ -1,7 +1,7 @@
 """Small files with each byte as 0, as 1 and as 255, files that are cut, and longer ones: a dump gives what the plain reader gives.
 
-python3 checks/each_byte.py PROGRAM: every byte. As one of the checks it takes all bytes of gates, slots' heads, page numbers and records, and
-of the others, which are alike, as many as a time allows, in an order by chance.
+python3 checks/each_byte.py PROGRAM: every byte. As one of the checks it takes all bytes of gates, slots' heads, page numbers and records,
+however long that takes, and of the others, which are alike, as many as a time allows, in an order by chance.
 """
 
 import os
@@ -19,8 +19,9 @@ VALUES = (0, 1, 255)
 COMMENT = "00000000-0000-4000-8000-0000000000c1"
 # Beyond the last byte that says something, how many are looked at too.
 BEHIND = 8
-# Seconds for the bytes that say something, and for the others.
-TELLING, OTHERS = 40, 10
+# Seconds for the bytes that say nothing, beside the other checks.
+OTHERS = 10
+# Seconds for all bytes: no machine needs as many.
 LONGEST = 7_200
 
 
@@ -123,7 +124,7 @@ def others(data):
 
 def sweep_all(checks, program, seconds):
     files = {what: made(program, lines) for what, lines in FILES.items()}
-    checks.same("changes of bytes that say something, left out for want of time", sweep(checks, program, files, telling, TELLING), 0)
+    checks.same("changes of bytes that say something, left out for want of time", sweep(checks, program, files, telling, LONGEST), 0)
     left = sweep(checks, program, files, others, seconds)
     checks.holds(f"changes of other bytes, {left} left out", left == 0 or seconds < LONGEST)
     for what, data in files.items():
