@@ -11,7 +11,7 @@ use Rattle.change_codec.specs.declared.codec_error.CodecError.{CodecError}
 use Rattle.change_codec.specs.declared.codec_error.CodecError.TheVariants.{Number}
 use Rattle.change_codec.specs.Fits.{IsOperation}
 use Rattle.change_codec.specs.Reading.{number_at, replica_at, deps_at}
-use Rattle.change_codec.specs.Record.{length_at, taken, Begins}
+use Rattle.change_codec.specs.Record.{length_at, taken, BeginsWithOp}
 use Rattle.change_codec.specs.Spelling.{number_bytes, deps_bytes, spelled}
 use Rattle.change_codec.specs.Stream.{spelled_all, AreOperations}
 use Rattle.change_codec.proofs.IdLaws.{deps_take}
@@ -47,7 +47,7 @@ unfolding record_at
 record_takes bytes x fits e = behind_takes bytes (taken bytes) x fits (λ op n is. taken_begins bytes op n fits is) e
   where
     behind_takes : (bytes : List ℕ) (r : Result (Option (Op × ℕ)) CodecError) (x : Op × List ℕ) → IsBytes bytes
-        → ((op : Op) (n : ℕ) → r ≡ Ok (Some (op, n)) → Begins bytes op n) → behind bytes r ≡ Ok x → (bytes ≡ spelled x.0 ++ x.1) × IsOperation x.0 × IsBytes x.1
+        → ((op : Op) (n : ℕ) → r ≡ Ok (Some (op, n)) → BeginsWithOp bytes op n) → behind bytes r ≡ Ok x → (bytes ≡ spelled x.0 ++ x.1) × IsOperation x.0 × IsBytes x.1
     behind_takes bytes (Ok (Some found)) x fits begins e =
         let b = begins found.0 found.1 refl in
         subst (λ (y : Op × List ℕ). (bytes ≡ spelled y.0 ++ y.1) × IsOperation y.0 × IsBytes y.1) (ok_is (found.0, drop found.1 bytes) x e)

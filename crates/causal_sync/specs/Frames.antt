@@ -1,6 +1,7 @@
 -- The one spelling of each frame in bytes. Numbers have their highest byte first.
 use Rattle.std.specs.Prelude.{◌≡◌, ◌≢◌, ℕ, ◌<◌, ◌≤◌, ◌^◌, Bool, true, false, ◌||◌, List, [], ◌∷◌, ◌++◌, length}
 use Rattle.std.specs.Int.{w16, w32, w128}
+use Rattle.fixed_numbers.specs.declared.limits.TheConstants.{MAX_TOLD}
 use Rattle.op_ids.specs.Clock.{is_clock}
 use Rattle.change_codec.specs.Fits.{HaveSixteen}
 use Rattle.change_codec.specs.Spelling.{number_bytes, deps_bytes}
@@ -45,7 +46,7 @@ IsFrame own true (Ops ops) = ⊥
 IsFrame own true Bye = ⊥
 IsFrame own false (Hello replica) = ⊥
 IsFrame own false (Have clock) = (is_clock clock ≡ true) × HaveSixteen clock
-IsFrame own false (Ops ops) = (1 ≤ length ops) × (length ops ≤ 64) × AreOperations ops
+IsFrame own false (Ops ops) = (1 ≤ length ops) × (length ops ≤ MAX_TOLD) × AreOperations ops
 IsFrame own false Bye = Unit {0}
 
 -- each is a frame that may be heard at its place, and nothing is behind a BYE

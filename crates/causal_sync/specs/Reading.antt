@@ -2,6 +2,7 @@
 use Rattle.std.specs.Prelude.{ℕ, zero, suc, ◌+◌, Bool, true, false, List, [], ◌∷◌, length, take, drop, Option, Some, None, Result}
 use Rattle.std.specs.Prelude.{Ok, Err, nat_lt, ◌==◌, if◌then◌else◌}
 use Rattle.std.specs.Int.{w16, is_in_range}
+use Rattle.fixed_numbers.specs.declared.limits.TheConstants.{MAX_TOLD}
 use Rattle.fixed_numbers.specs.declared.sizes.TheConstants.{MAX_CONTENT}
 use Rattle.op_model.specs.declared.op.Op.{Op}
 use Rattle.change_codec.specs.declared.codec_error.CodecError.{CodecError}
@@ -80,11 +81,11 @@ records_at (suc n) bytes = do
   others ← records_at n first.1
   Ok (first.0 ∷ others)
 
--- the number of records, from 1 to 64
+-- the number of records, from 1 to MAX_TOLD
 unfoldable pub count_at : List ℕ → Result (ℕ × List ℕ) LinkError
 count_at payload = do
   count ← or_fault BadFrame (number_at w16 payload)
-  if is_in_range 1 64 count.0 then Ok count else Err BadFrame
+  if is_in_range 1 MAX_TOLD count.0 then Ok count else Err BadFrame
 
 -- the number of records, and each of them
 unfoldable pub ops_at : List ℕ → Result Heard LinkError

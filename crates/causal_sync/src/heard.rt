@@ -1,4 +1,5 @@
 ghost use Rattle.std.specs.Prelude.{◌≡◌, ◌≤◌, length};
+ghost use Rattle.fixed_numbers.specs.declared.limits.TheConstants.{MAX_TOLD};
 ghost use Rattle.causal_sync.specs.Frames.{is_bye};
 
 use op_ids::{Clock, ReplicaId};
@@ -18,7 +19,7 @@ pub enum Heard {
     Bye,
 }
 
-/// The operations of one frame, in their order: 1 to 64. Contracts see the list.
+/// The operations of one frame, in their order: 1 to `MAX_TOLD`. Contracts see the list.
 #[derive(Debug, Drop)]
 pub struct Ops {
     ops: Vec<Op>,
@@ -26,20 +27,21 @@ pub struct Ops {
 
 impl Model for Ops {
     ghost use Rattle.std.specs.Prelude.{List, length, ◌≤◌};
+    ghost use Rattle.fixed_numbers.specs.declared.limits.TheConstants.{MAX_TOLD};
     ghost use Rattle.op_model.specs.declared.op.Op.{Op};
 
     ghost Value = { List Op };
 
     ghost view = { λ o. o.ops.items };
 
-    ghost invariant = { λ o. (1 ≤ length o.ops.items) × (length o.ops.items ≤ 64) };
+    ghost invariant = { λ o. (1 ≤ length o.ops.items) × (length o.ops.items ≤ MAX_TOLD) };
 }
 
 impl Ops {
     /// These operations.
     pub(crate) fn new(ops: Vec<Op>) -> Ops
         requires some { 1 ≤ length ops.items }
-        requires most { length ops.items ≤ 64 }
+        requires most { length ops.items ≤ MAX_TOLD }
         ensures { result ≡ ops.items }
     {
         Ops { ops }
@@ -49,7 +51,7 @@ impl Ops {
     pub fn as_slice(&self) -> &[Op]
         ensures same { result.now ≡ self.now }
         ensures some { 1 ≤ length result.now }
-        ensures most { length result.now ≤ 64 }
+        ensures most { length result.now ≤ MAX_TOLD }
     {
         &self.ops
     }
@@ -58,7 +60,7 @@ impl Ops {
     pub fn into_vec(self) -> Vec<Op>
         ensures same { result.items ≡ self }
         ensures some { 1 ≤ length result.items }
-        ensures most { length result.items ≤ 64 }
+        ensures most { length result.items ≤ MAX_TOLD }
     {
         self.ops
     }

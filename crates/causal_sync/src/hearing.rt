@@ -1,5 +1,6 @@
 //! What a link hears.
 ghost use Rattle.std.specs.Prelude.{◌≡◌, ◌+◌, ◌<◌, ◌≤◌, ◌⊎◌, [], ◌++◌, Err, None, IfSome, IsErrOf, IsNone, length, drop, true, false};
+ghost use Rattle.fixed_numbers.specs.declared.sizes.TheConstants.{MAX_CONTENT};
 ghost use Rattle.causal_sync.specs.declared.link_error.LinkError.TheVariants.{Memory, Closed};
 ghost use Rattle.causal_sync.specs.Frames.{frames_bytes};
 ghost use Rattle.causal_sync.specs.Hearing.{Hears};
@@ -122,9 +123,9 @@ impl Hearing {
         Some(waiting.into_parts())
     }
 
-    /// How many bytes the unfinished frame has so far: always below 131,072.
+    /// How many bytes the unfinished frame has so far: always fewer than a longest frame has.
     pub(crate) fn held(&self) -> usize
-        ensures few { result < 131072 }
+        ensures few { result < 4 + MAX_CONTENT }
         ensures behind { has_ended self.now ≡ false
             → length (frames_bytes (self.now.given ++ self.now.waiting)) + result
             ≡ length self.now.stream }

@@ -1,6 +1,8 @@
 //! A link to a peer.
 ghost use Rattle.std.specs.Prelude.{◌≡◌, ◌+◌, ◌++◌, ◌≤◌, ◌<◌, ◌↔◌, ◌⊎◌, [], Err, None, true, false};
 ghost use Rattle.std.specs.Prelude.{length, OnOk, OnErr, IfOk, IfErr, IfSome, IsNone, IsErrOf};
+ghost use Rattle.fixed_numbers.specs.declared.limits.TheConstants.{MAX_TOLD};
+ghost use Rattle.fixed_numbers.specs.declared.sizes.TheConstants.{MAX_CONTENT};
 ghost use Rattle.causal_sync.specs.declared.heard.Heard.TheVariants as frame;
 ghost use Rattle.causal_sync.specs.declared.link_error.LinkError.TheVariants.{Memory, Limit, Closed};
 ghost use Rattle.causal_sync.specs.Frames.{frames_bytes};
@@ -114,13 +116,13 @@ impl Link {
         Ok(())
     }
 
-    /// Says 1 to 64 operations, and counts them as had by the peer. `Closed` (27) after a fault or
-    /// a BYE of one's own, before all else; `Limit` (7) where the base would name a seventeenth
-    /// replica or hold a count above 2^24; `Memory` (1), which may stand in place of 7. A refusal
-    /// changes nothing.
+    /// Says 1 to `MAX_TOLD` operations, and counts them as had by the peer. `Closed` (27) after a
+    /// fault or a BYE of one's own, before all else; `Limit` (7) where the base would name a
+    /// seventeenth replica or hold a count above 2^24; `Memory` (1), which may stand in place of 7.
+    /// A refusal changes nothing.
     pub fn say_ops(&mut self, ops: &[Op]) -> Result<(), LinkError>
         requires some { 1 ≤ length ops.now }
-        requires most { length ops.now ≤ 64 }
+        requires most { length ops.now ≤ MAX_TOLD }
         ensures ok { OnOk result (Sends self.old self.new ops.now) }
         ensures err { OnErr result (self.new ≡ self.old) }
         ensures closed { IsErrOf result Closed ↔ (is_silent self.old ≡ true) }
@@ -183,10 +185,10 @@ impl Link {
         self.has_heard_have
     }
 
-    /// How many bytes the unfinished frame has so far: always below 131,072, and none once the
-    /// stream has ended.
+    /// How many bytes the unfinished frame has so far: always fewer than a longest frame has, and
+    /// none once the stream has ended.
     pub fn held(&self) -> usize
-        ensures few { result < 131072 }
+        ensures few { result < 4 + MAX_CONTENT }
         ensures behind { has_ended self.now.heard ≡ false
             → length (frames_bytes (self.now.heard.given ++ self.now.heard.waiting)) + result
             ≡ length self.now.heard.stream }

@@ -1,6 +1,7 @@
 //! Frames as bytes: four bytes for the length of the content, and the content.
 ghost use Rattle.std.specs.Prelude.{◌≡◌, ◌≤◌, ◌<◌, ◌^◌, IfOk, length};
 ghost use Rattle.std.specs.Int.{w32};
+ghost use Rattle.fixed_numbers.specs.declared.limits.TheConstants.{MAX_TOLD};
 ghost use Rattle.causal_sync.specs.declared.heard.Heard.TheVariants as frame;
 ghost use Rattle.causal_sync.specs.Frames.{frame_bytes};
 ghost use Rattle.change_codec.specs.Spelling.{number_bytes};
@@ -33,7 +34,7 @@ pub(crate) fn spelled_have(alloc: Global, clock: &Clock) -> Result<Vec<u8>, Allo
 
 /// The spelling of an OPS. An error is want of memory (1).
 pub(crate) fn spelled_ops(alloc: Global, ops: &[Op]) -> Result<Vec<u8>, AllocError>
-    requires { length ops.now ≤ 64 }
+    requires { length ops.now ≤ MAX_TOLD }
     ensures { IfOk result (λ bytes. bytes.items ≡ frame_bytes (frame.Ops ops.now)) }
 {
     let mut bytes = begun(alloc, 3 + records_len(ops))?;
@@ -65,7 +66,7 @@ fn begun(alloc: Global, len: usize) -> Result<Vec<u8>, AllocError>
 
 // How many bytes the records of some operations take.
 fn records_len(ops: &[Op]) -> usize
-    requires { length ops.now ≤ 64 }
+    requires { length ops.now ≤ MAX_TOLD }
     ensures value { result ≡ stream_length ops.now }
     ensures within { result ≤ 95680 }
 {

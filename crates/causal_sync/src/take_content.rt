@@ -10,6 +10,7 @@ ghost use Rattle.causal_sync.specs.Taking.{Gives, Reads};
 use crate::heard::{Heard, Ops};
 use crate::link_error::LinkError;
 use change_codec::{CodecError, take_clock, take_op};
+use fixed_numbers::limits::MAX_TOLD;
 use op_ids::ReplicaId;
 use op_model::Op;
 use std::alloc::Global;
@@ -131,7 +132,7 @@ fn take_records(alloc: Global, payload: &[u8]) -> Result<Heard, LinkError>
     }
 }
 
-// The number of records: 1 to 64.
+// The number of records: 1 to `MAX_TOLD`.
 #[tactic(auto, unfolding(crate::specs::Reading::count_at, change_codec::specs::Reading::number_at))]
 fn take_count(payload: &[u8]) -> Result<(u16, &[u8]), LinkError>
     ensures { Reads (λ x. (x.0, x.1.now)) result (count_at payload.now) }
@@ -140,7 +141,7 @@ fn take_count(payload: &[u8]) -> Result<(u16, &[u8]), LinkError>
         return Err(LinkError::BadFrame);
     };
     let count = u16::from_be_bytes(*count);
-    if count == 0 || count > 64 {
+    if count == 0 || count as usize > MAX_TOLD {
         return Err(LinkError::BadFrame);
     }
     Ok((count, records))

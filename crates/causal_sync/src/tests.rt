@@ -155,7 +155,7 @@ fn frames_are_heard_however_they_are_cut(rt: HostRuntime) -> Result<(), Fail> {
     Ok(())
 }
 
-/// Whether a HAVE was heard, and how much the base counts, behind so many frames of a conversation.
+/// Whether a HAVE was heard and how much the base counts behind `frames` frames of a conversation.
 fn base_behind(alloc: Global, frames: usize) -> Result<(bool, u64), Fail> {
     let mut link = Link::start(alloc, replica(2)?)?;
     link.feed(&conversation(alloc)?)?;

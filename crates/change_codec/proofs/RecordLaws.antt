@@ -28,7 +28,7 @@ use Rattle.change_codec.specs.declared.head.Head.{Head}
 use Rattle.change_codec.specs.Heads.{head_of}
 use Rattle.change_codec.specs.Fits.{IsMark, IsContent, IsOperation}
 use Rattle.change_codec.specs.Reading.{◌>>=◌, head_at, op_at}
-use Rattle.change_codec.specs.Record.{record_at, length_at, taken, found_length, first_fault, fault_of, IsPartial, Begins, BeginsWithSome, Answers}
+use Rattle.change_codec.specs.Record.{record_at, length_at, taken, found_length, first_fault, fault_of, IsPartial, BeginsWithOp, BeginsWithSome, Answers}
 use Rattle.change_codec.proofs.Steps.{IsBytes, IsBytes-take, IsBytes-drop, bind_ok, done}
 use Rattle.change_codec.proofs.Numbers.{wide32}
 use Rattle.change_codec.proofs.Lengths.{length_body, length_spelled}
@@ -97,7 +97,7 @@ take_both n m xs le =
     let len : length (take n xs) ≡ n = omega (arith, length-take n xs) in
     ap (take (n + m)) (sym split) ∙ ap (λ (k : ℕ). take (k + m) (take n xs ++ drop n xs)) (sym len) ∙ take-append-add (take n xs) (drop n xs) m
 
-pub taken_begins : (bytes : List ℕ) (op : Op) (n : ℕ) → IsBytes bytes → taken bytes ≡ Ok (Some (op, n)) → Begins bytes op n
+pub taken_begins : (bytes : List ℕ) (op : Op) (n : ℕ) → IsBytes bytes → taken bytes ≡ Ok (Some (op, n)) → BeginsWithOp bytes op n
 unfolding taken spelled number_bytes
 taken_begins bytes op n fits e =
     let len = length_at bytes in
@@ -116,8 +116,8 @@ taken_begins bytes op n fits e =
     let front : to_be_bytes w32 len ≡ take 4 bytes = wide32.back (take 4 bytes) (omega (arith, length-take 4 bytes)) (IsBytes-take 4 bytes fits) in
     let whole : take (4 + len) bytes ≡ to_be_bytes w32 (length (body_bytes d.0)) ++ body_bytes d.0 =
     take_both 4 len bytes four ∙ ap (λ (w : List ℕ). w ++ take len rest) (sym front) ∙ ap (λ (w : List ℕ). to_be_bytes w32 len ++ w) law.0 ∙ ap (λ (k : ℕ). to_be_bytes w32 k ++ body_bytes d.0) (sym size) in
-    let begins : Begins bytes d.0 (4 + len) = record { whole = omega (arith, long, length-drop 4 bytes); spelled_so = whole; fits = law.1 } in
-    subst (λ (f : Op × ℕ). Begins bytes f.0 f.1) made begins
+    let begins : BeginsWithOp bytes d.0 (4 + len) = record { whole = omega (arith, long, length-drop 4 bytes); spelled_so = whole; fits = law.1 } in
+    subst (λ (f : Op × ℕ). BeginsWithOp bytes f.0 f.1) made begins
   where
     some_is : {A : Type 0} (x y : A) → done (Some x) ≡ done (Some y) → x ≡ y
     some_is x y e = cc
@@ -151,7 +151,7 @@ spelled_taken op rest fits =
     let size : 4 + len ≡ length (front ++ body) = omega (arith, length-append front body) in
     ap taken (append_assoc front body rest) ∙ front_taken op front rest refl (wide32.again len (omega arith)) fits ∙ ap (λ (k : ℕ). done (Some (op, k))) size
 
-pub begins_taken : (bytes : List ℕ) (op : Op) (n : ℕ) → Begins bytes op n → taken bytes ≡ Ok (Some (op, n))
+pub begins_taken : (bytes : List ℕ) (op : Op) (n : ℕ) → BeginsWithOp bytes op n → taken bytes ≡ Ok (Some (op, n))
 begins_taken bytes op n b =
     let whole : spelled op ++ drop n bytes ≡ bytes = ap (λ (w : List ℕ). w ++ drop n bytes) (sym b.spelled_so) ∙ take-append-drop n bytes in
     let size : length (spelled op) ≡ n = ap (λ (w : List ℕ). length w) (sym b.spelled_so) ∙ omega (arith, length-take n bytes, b.whole) in
@@ -234,12 +234,12 @@ body_answers bytes e four low high long gives =
     some_found (Ok x) n ok = ((x, n), refl)
     some_found (Err d) n ok = absurd cc
 
-pub is_found : (bytes : List ℕ) (r : Result (Option (Op × ℕ)) CodecError) → IsBytes bytes → Answers r (taken bytes) → IfOk r (λ found. IfSome found (λ f. Begins bytes f.0 f.1))
+pub is_found : (bytes : List ℕ) (r : Result (Option (Op × ℕ)) CodecError) → IsBytes bytes → Answers r (taken bytes) → IfOk r (λ found. IfSome found (λ f. BeginsWithOp bytes f.0 f.1))
 is_found bytes (Ok None) fits answers = tt
 is_found bytes (Ok (Some f)) fits answers = taken_begins bytes f.0 f.1 fits answers
 is_found bytes (Err e) fits answers = tt
 
-pub is_only : (bytes : List ℕ) (r : Result (Option (Op × ℕ)) CodecError) (op : Op) (n : ℕ) → Answers r (taken bytes) → Begins bytes op n → (r ≡ Ok (Some (op, n))) ⊎ (r ≡ Err Memory)
+pub is_only : (bytes : List ℕ) (r : Result (Option (Op × ℕ)) CodecError) (op : Op) (n : ℕ) → Answers r (taken bytes) → BeginsWithOp bytes op n → (r ≡ Ok (Some (op, n))) ⊎ (r ≡ Err Memory)
 is_only bytes (Ok found) op n answers begins = inl (sym answers ∙ begins_taken bytes op n begins)
 is_only bytes (Err e) op n (inl fault) begins = let read = begins_taken bytes op n begins in absurd cc
 is_only bytes (Err e) op n (inr (memory, found)) begins = inr (ap (λ (x : CodecError). Err x) memory)
@@ -286,7 +286,7 @@ memory_some bytes (Err d) fits (inr (memory, found)) is = (found.0.0, found.0.1,
 -- ---- what is known of a record without an operation
 
 -- what was found has its length
-skipped_begins : (bytes : List ℕ) (n : ℕ) → IsBytes bytes → found_length (taken bytes) ≡ Some n → (op : Op) × Begins bytes op n
+skipped_begins : (bytes : List ℕ) (n : ℕ) → IsBytes bytes → found_length (taken bytes) ≡ Some n → (op : Op) × BeginsWithOp bytes op n
 skipped_begins bytes n fits is =
     let found = found_is (taken bytes) n is in
     (found.0, taken_begins bytes found.0 n fits found.1)
@@ -297,18 +297,18 @@ skipped_begins bytes n fits is =
     found_is (Err e) n is = absurd cc
 
 -- the same of an answer
-pub skipped_some : (bytes : List ℕ) (r : Option ℕ) → IsBytes bytes → r ≡ found_length (taken bytes) → IfSome r (λ n. (op : Op) × Begins bytes op n)
+pub skipped_some : (bytes : List ℕ) (r : Option ℕ) → IsBytes bytes → r ≡ found_length (taken bytes) → IfSome r (λ n. (op : Op) × BeginsWithOp bytes op n)
 skipped_some bytes (Some n) fits is = skipped_begins bytes n fits (sym is)
 skipped_some bytes None fits is = tt
 
 -- where nothing was found, there is none
-pub none_skipped : (bytes : List ℕ) (op : Op) (n : ℕ) → found_length (taken bytes) ≡ None → Begins bytes op n → ⊥
+pub none_skipped : (bytes : List ℕ) (op : Op) (n : ℕ) → found_length (taken bytes) ≡ None → BeginsWithOp bytes op n → ⊥
 none_skipped bytes op n none begins =
     let found : found_length (taken bytes) ≡ Some n = ap found_length (begins_taken bytes op n begins) in
     cc
 
 -- the head stands behind the length
-pub head_behind : (bytes : List ℕ) (op : Op) (n : ℕ) → Begins bytes op n → (rest : List ℕ) × (head_at (drop 4 bytes) ≡ Ok (head_of op, rest))
+pub head_behind : (bytes : List ℕ) (op : Op) (n : ℕ) → BeginsWithOp bytes op n → (rest : List ℕ) × (head_at (drop 4 bytes) ≡ Ok (head_of op, rest))
 unfolding spelled number_bytes
 head_behind bytes op n b =
     let front : List ℕ = to_be_bytes w32 (length (body_bytes op)) in
@@ -318,11 +318,11 @@ head_behind bytes op n b =
     (_, ap head_at behind ∙ head_again op rest b.fits)
 
 -- a record begins with four bytes
-pub begins_four : (bytes : List ℕ) (op : Op) (n : ℕ) → Begins bytes op n → 4 ≤ length bytes
+pub begins_four : (bytes : List ℕ) (op : Op) (n : ℕ) → BeginsWithOp bytes op n → 4 ≤ length bytes
 begins_four bytes op n b = omega (arith, ap length b.spelled_so, length-take n bytes, length_spelled op, b.whole)
 
 -- what was read as a head is the operation's
-pub read_head : (bytes : List ℕ) (op : Op) (n : ℕ) (head : Head) (rest : List ℕ) → Begins bytes op n → head_at (drop 4 bytes) ≡ Ok (head, rest) → head ≡ head_of op
+pub read_head : (bytes : List ℕ) (op : Op) (n : ℕ) (head : Head) (rest : List ℕ) → BeginsWithOp bytes op n → head_at (drop 4 bytes) ≡ Ok (head, rest) → head ≡ head_of op
 read_head bytes op n head rest b read = let same = head_is (head, rest) (head_of op, behind.0) (sym read ∙ behind.1) in same
   where
     behind : (rest : List ℕ) × (head_at (drop 4 bytes) ≡ Ok (head_of op, rest))
@@ -332,5 +332,5 @@ read_head bytes op n head rest b read = let same = head_is (head, rest) (head_of
     head_is x y e = cc
 
 -- a head can be read
-pub some_head : (bytes : List ℕ) (op : Op) (n : ℕ) (e : CodecError) → Begins bytes op n → head_at (drop 4 bytes) ≡ Err e → ⊥
+pub some_head : (bytes : List ℕ) (op : Op) (n : ℕ) (e : CodecError) → BeginsWithOp bytes op n → head_at (drop 4 bytes) ≡ Err e → ⊥
 some_head bytes op n e b read = let behind = head_behind bytes op n b in let found = behind.1 in cc

@@ -7,7 +7,7 @@ use Rattle.change_codec.specs.declared.codec_error.CodecError.{CodecError}
 use Rattle.change_codec.specs.declared.codec_error.CodecError.TheVariants.{Memory}
 use Rattle.change_codec.specs.Fits.{IsOperation}
 use Rattle.change_codec.specs.Spelling.{spelled}
-use Rattle.change_codec.specs.Record.{Begins}
+use Rattle.change_codec.specs.Record.{BeginsWithOp}
 use Rattle.change_codec.specs.Stream.{spelled_all, AreOperations, IsNoStream}
 use Rattle.change_codec.proofs.Lengths.{length_spelled}
 use Rattle.change_codec.proofs.RecordLaws.{begins_none}
@@ -52,7 +52,7 @@ no_stream_behind (x ∷ xs) rest fits none (y ∷ ys) fits_b is =
     no_stream_behind xs rest fits.1 none ys fits_b.1 both.1
 
 -- bytes begin with the first of the records that they are
-begins_first : (op : Op) (rest : List ℕ) → IsOperation op → Begins (spelled op ++ rest) op (length (spelled op))
+begins_first : (op : Op) (rest : List ℕ) → IsOperation op → BeginsWithOp (spelled op ++ rest) op (length (spelled op))
 begins_first op rest fits =
     record {
       whole = omega (arith, length-append (spelled op) rest);
@@ -61,7 +61,7 @@ begins_first op rest fits =
     }
 
 -- some bytes that begin with no operation are no stream
-pub none_begins : (bytes : List ℕ) → 0 < length bytes → ((op : Op) (n : ℕ) → Begins bytes op n → ⊥) → IsNoStream bytes
+pub none_begins : (bytes : List ℕ) → 0 < length bytes → ((op : Op) (n : ℕ) → BeginsWithOp bytes op n → ⊥) → IsNoStream bytes
 none_begins bytes some none [] fits is = absurd (omega (arith, ap length is, some))
 none_begins bytes some none (op ∷ ops) fits is =
     none op (length (spelled op)) (rw (← is) (begins_first op (spelled_all ops) fits.0))
@@ -80,12 +80,12 @@ spelled_more (x ∷ xs) op rest bytes is =
     ∙ sym (append_assoc (spelled x) (spelled_all xs) (spelled op ++ rest)) ∙ is
 
 -- a record that bytes begin with takes some of them
-pub begins_some : (bytes : List ℕ) (op : Op) (n : ℕ) → Begins bytes op n → 0 < n
+pub begins_some : (bytes : List ℕ) (op : Op) (n : ℕ) → BeginsWithOp bytes op n → 0 < n
 begins_some bytes op n begins = omega (arith, ap length begins.spelled_so, length-take n bytes, spelled_some op)
 
 -- some bytes of which a record can't be taken, for another cause than memory, are no stream
 pub no_begin : (bytes : List ℕ) (r : Result (Option (Op × ℕ)) CodecError) → 0 < length bytes
-    → ((op : Op) (n : ℕ) → Begins bytes op n → (r ≡ Ok (Some (op, n))) ⊎ (r ≡ Err Memory)) → ((f : Op × ℕ) → r ≡ Ok (Some f) → ⊥) → (r ≡ Err Memory → ⊥) → IsNoStream bytes
+    → ((op : Op) (n : ℕ) → BeginsWithOp bytes op n → (r ≡ Ok (Some (op, n))) ⊎ (r ≡ Err Memory)) → ((f : Op × ℕ) → r ≡ Ok (Some f) → ⊥) → (r ≡ Err Memory → ⊥) → IsNoStream bytes
 no_begin bytes r some only not_found not_memory =
     none_begins bytes some (λ op n begins. elim (only op n begins) [
       | inl found ↦ not_found (op, n) found

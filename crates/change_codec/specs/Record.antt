@@ -37,14 +37,14 @@ abbrev pub IsPartial : List ℕ → Type 0
 IsPartial bytes = (length bytes < 4) ⊎ ((MIN_RECORD ≤ length_at bytes) × (length_at bytes ≤ MAX_RECORD) × (length bytes < 4 + length_at bytes))
 
 -- the first n bytes spell the operation
-pub record Begins (bytes : List ℕ) (op : Op) (n : ℕ) : Type 0 where
+pub record BeginsWithOp (bytes : List ℕ) (op : Op) (n : ℕ) : Type 0 where
   pub whole : n ≤ length bytes
   pub spelled_so : Spells (take n bytes) op
   pub fits : IsOperation op
 
 -- the bytes begin with some operation
 abbrev pub BeginsWithSome : List ℕ → Type 0
-BeginsWithSome bytes = (op : Op) × (n : ℕ) × Begins bytes op n
+BeginsWithSome bytes = (op : Op) × (n : ℕ) × BeginsWithOp bytes op n
 
 -- what a function returned is what is read; want of memory may stand in place of an operation
 abbrev pub Answers : Result (Option (Op × ℕ)) CodecError → Result (Option (Op × ℕ)) CodecError → Type 0

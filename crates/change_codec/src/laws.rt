@@ -4,13 +4,13 @@ ghost use Rattle.op_model.specs.Records.{record_length, stream_length};
 ghost use Rattle.op_model.specs.declared.op.Op.{Op as Operation};
 ghost use Rattle.change_codec.specs.Spelling.{spelled, Spells};
 ghost use Rattle.change_codec.specs.Fits.{IsOperation};
-ghost use Rattle.change_codec.specs.Record.{taken, Begins};
+ghost use Rattle.change_codec.specs.Record.{taken, BeginsWithOp};
 ghost use Rattle.change_codec.specs.Stream.{spelled_all, AreOperations};
 
 /// Each value has one spelling: what is read as the same operation is the same bytes.
 pub fn each_has_one_spelling()
     ensures { (op : Operation) (bytes others : List ℕ) (n m : ℕ)
-        → Begins bytes op n → Begins others op m → take n bytes ≡ take m others }
+        → BeginsWithOp bytes op n → BeginsWithOp others op m → take n bytes ≡ take m others }
 {}
 
 /// No spelling begins another one.
@@ -28,7 +28,7 @@ pub fn spelled_is_read()
 /// What is read is spelled so.
 pub fn read_is_spelled()
     ensures { (bytes : List ℕ) (op : Operation) (n : ℕ) → ((i : ℕ) → slice_index bytes i < 256)
-        → taken bytes ≡ Ok (Some (op, n)) → Begins bytes op n }
+        → taken bytes ≡ Ok (Some (op, n)) → BeginsWithOp bytes op n }
 {}
 
 /// A spelling is as long as the limit on a store's stream counts it.

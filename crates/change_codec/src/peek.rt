@@ -2,7 +2,7 @@
 ghost use Rattle.std.specs.Prelude.{◌≡◌, ℕ, None, IfSome, is_ok};
 ghost use Rattle.change_codec.specs.Heads.{head_of};
 ghost use Rattle.change_codec.specs.Reading.{op_at};
-ghost use Rattle.change_codec.specs.Record.{taken, found_length, Begins, BeginsWithSome};
+ghost use Rattle.change_codec.specs.Record.{taken, found_length, BeginsWithOp, BeginsWithSome};
 ghost use Rattle.op_model.specs.declared.op.Op.{Op as Operation};
 
 use crate::content::take_whole_content;
@@ -14,8 +14,8 @@ use fixed_numbers::sizes::{MAX_RECORD, MIN_RECORD};
 /// How many bytes the record takes that the bytes begin with, from 37 to 1,495. `None` where they
 /// begin with no whole record of an operation. One pass over the record; takes no memory.
 pub fn skip_op(bytes: &[u8]) -> Option<usize>
-    ensures some { IfSome result (λ n. (op : Operation) × Begins bytes.now op n) }
-    ensures none { result ≡ None → (op : Operation) (n : ℕ) → Begins bytes.now op n → ⊥ }
+    ensures some { IfSome result (λ n. (op : Operation) × BeginsWithOp bytes.now op n) }
+    ensures none { result ≡ None → (op : Operation) (n : ℕ) → BeginsWithOp bytes.now op n → ⊥ }
 {
     skip_record(bytes)
 }
@@ -59,7 +59,7 @@ fn is_body(bytes: &[u8]) -> bool
 /// takes no memory.
 pub fn record_head(bytes: &[u8]) -> Head
     requires { BeginsWithSome bytes.now }
-    ensures { (op : Operation) (n : ℕ) → Begins bytes.now op n → result ≡ head_of op }
+    ensures { (op : Operation) (n : ℕ) → BeginsWithOp bytes.now op n → result ≡ head_of op }
 {
     let (_, body) = bytes.split_at(4);
     match take_head(body) {

@@ -3,7 +3,7 @@ ghost use Rattle.std.specs.Prelude.{◌≡◌, ◌≢◌, ◌⊎◌, ◌↔◌, 
 ghost use Rattle.change_codec.specs.declared.codec_error.CodecError.TheVariants.{Memory};
 ghost use Rattle.change_codec.specs.Lent.{Gives, HasUrl, body_of, deps_of};
 ghost use Rattle.change_codec.specs.Reading.{deps_at, op_at};
-ghost use Rattle.change_codec.specs.Record.{taken, first_fault, Answers, IsPartial, Begins, BeginsWithSome};
+ghost use Rattle.change_codec.specs.Record.{taken, first_fault, Answers, IsPartial, BeginsWithOp, BeginsWithSome};
 ghost use Rattle.op_model.specs.declared.op.Op.{Op as Operation};
 ghost use Rattle.change_codec.specs.Spelling.{body_bytes, spelled};
 ghost use Rattle.change_codec.specs.Writing.{Appends, HasRoom};
@@ -61,8 +61,8 @@ fn put_body(op: &Op, out: &mut Vec<u8>)
 /// copied, into one allocation each.
 pub fn take_op(alloc: Global, bytes: &[u8]) -> Result<Option<(Op, usize)>, CodecError>
     // An operation is found exactly where the first bytes spell it.
-    ensures found { IfOk result (λ found. IfSome found (λ f. Begins bytes.now f.0 f.1)) }
-    ensures only { (op : Operation) (n : ℕ) → Begins bytes.now op n
+    ensures found { IfOk result (λ found. IfSome found (λ f. BeginsWithOp bytes.now f.0 f.1)) }
+    ensures only { (op : Operation) (n : ℕ) → BeginsWithOp bytes.now op n
         → (result ≡ Ok (Some (op, n))) ⊎ (result ≡ Err Memory) }
 
     // Nothing is found exactly where the record isn't all there.

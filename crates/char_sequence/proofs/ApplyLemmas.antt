@@ -10,7 +10,7 @@ use Rattle.op_model.specs.Placing.{Fits}
 use Rattle.char_sequence.specs.declared.cell.Cell.{Cell}
 use Rattle.char_sequence.specs.declared.place.Place.{Place}
 use Rattle.char_sequence.specs.Cells.{cell_of_insert, has_cell, inserted, past_greater, removed, removed_all}
-use Rattle.char_sequence.specs.Chunks.{Held, IsPlaceOf, before, cell_at, cells_of, from}
+use Rattle.char_sequence.specs.Chunks.{ChunkCells, IsPlaceOf, before, cell_at, cells_of, from}
 use Rattle.char_sequence.specs.Content.{AreContent, FitAfter, IsRun, Takes, TakesRemoves, TakesRun}
 use Rattle.char_sequence.specs.Landing.{Lands, Stops}
 use Rattle.char_sequence.specs.Weave.{AreOnce}
@@ -20,7 +20,7 @@ use Rattle.char_sequence.proofs.LandingLemmas.{removed_at}
 use Rattle.char_sequence.proofs.OnceLemmas.{behind_there, once_content}
 
 -- what a call that puts a cell at its landing owes
-pub takes_landed : (id : Id) (origin : Option Id) (value : ℕ) (old new : Held) (at : Place)
+pub takes_landed : (id : Id) (origin : Option Id) (value : ℕ) (old new : ChunkCells) (at : Place)
     → Lands old origin (record { id = id; value = value; is_removed = false }) at
     → cells_of new ≡ before old at.chunk at.at ++ record { id = id; value = value; is_removed = false } ∷ from old at.chunk at.at
     → Takes id (Insert origin value) old new
@@ -29,7 +29,7 @@ takes_landed id origin value old new at lands put ops doc op fits same_id same_b
     takes_insert id origin value (cells_of old) (cells_of new) (put ∙ sym (lands.placed once)) ops doc op fits same_id same_body holds
 
 -- what a call that makes the cell at its place a tombstone owes
-pub takes_removed : (id : Id) (old new : Held) (i j : ℕ) → IsPlaceOf old id i j
+pub takes_removed : (id : Id) (old new : ChunkCells) (i j : ℕ) → IsPlaceOf old id i j
     → ((c : Cell) → cell_at old i j ≡ Some c → cells_of new ≡ before old i j ++ record c { is_removed = true } ∷ from old i (j + 1))
     → (by : Id) → Takes by (Remove id) old new
 takes_removed id old new i j there gone by ops doc op fits same_id same_body holds =
@@ -81,7 +81,7 @@ run_content (x ∷ xs) front c rest ops doc (op ∷ more) stops fit is_run holds
     rw (append_assoc front (c ∷ []) (d ∷ (map cell_of_insert xs ++ rest)), append_assoc ops (op ∷ []) more) at all
 
 -- what a call that puts a run at the landing of its first cell owes
-takes_run_at : (origin : Option Id) (x : Id × ℕ) (xs : List (Id × ℕ)) (old new : Held) (at : Place) → Lands old origin (cell_of_insert x) at
+takes_run_at : (origin : Option Id) (x : Id × ℕ) (xs : List (Id × ℕ)) (old new : ChunkCells) (at : Place) → Lands old origin (cell_of_insert x) at
     → cells_of new ≡ before old at.chunk at.at ++ (map cell_of_insert (x ∷ xs) ++ from old at.chunk at.at)
     → TakesRun origin (x ∷ xs) old new
 takes_run_at origin x xs old new at lands put ops doc [] fit is_run holds = absurd is_run
@@ -95,7 +95,7 @@ takes_run_at origin x xs old new at lands put ops doc (op ∷ more) fit is_run h
     is_run.2 with_one in
     rw put (rw (append_assoc ops (op ∷ []) more) at all)
 
-pub takes_run : (origin : Option Id) (x : Id × ℕ) (run : List (Id × ℕ)) (old new : Held) (c : Cell) (cs : List Cell) (at : Place)
+pub takes_run : (origin : Option Id) (x : Id × ℕ) (run : List (Id × ℕ)) (old new : ChunkCells) (c : Cell) (cs : List Cell) (at : Place)
     → slice_get run 0 ≡ Some x → c ≡ cell_of_insert x → Lands old origin c at → cs ≡ map cell_of_insert run
     → cells_of new ≡ before old at.chunk at.at ++ (cs ++ from old at.chunk at.at) → TakesRun origin run old new
 takes_run origin x [] old new c cs at first is_cell lands are_cells put = absurd (cc)
@@ -112,7 +112,7 @@ once_removed id (c ∷ cs) once = go (is_same c.id id) (once_removed id cs once.
     go true rest = once
     go false rest = (has_cell-removed id c.id cs ∙ once.0, rest)
 
--- the first so many of these ids were removed: the others are still there, each once, and removing them too makes the same as removing all
+-- the first k of these ids were removed: the others are still there, each once, and removing them too makes the same as removing all
 pub record Left (ids : List Id) (k : ℕ) (old now : List Cell) : Type 0 where
   pub known : list_all (λ n. has_cell now n) (drop k ids) ≡ true
   pub once : AreOnce now
@@ -131,7 +131,7 @@ left_less ids k id old now new within is_it step left =
     }
 
 -- what a call that makes the cells of these ids tombstones owes
-pub takes_all_removed : (ids : List Id) (old new : Held) → list_all (λ n. has_cell (cells_of old) n) ids ≡ true
+pub takes_all_removed : (ids : List Id) (old new : ChunkCells) → list_all (λ n. has_cell (cells_of old) n) ids ≡ true
     → (list_all (λ n. has_cell (cells_of old) n) ids ≡ true → AreOnce (cells_of old) → cells_of new ≡ removed_all ids (cells_of old))
     → TakesRemoves ids old new
 takes_all_removed ids old new known gone ops doc more fit are holds =

@@ -7,7 +7,7 @@ use Rattle.std.proofs.lemmas.List.{length-append, length-map}
 use Rattle.op_ids.specs.Id.{Id}
 use Rattle.char_sequence.specs.declared.cell.Cell.{Cell}
 use Rattle.char_sequence.specs.Cells.{behind_shown, shown}
-use Rattle.char_sequence.specs.Chunks.{Held, cells_of}
+use Rattle.char_sequence.specs.Chunks.{ChunkCells, cells_of}
 use Rattle.char_sequence.proofs.PlaceLemmas.{chunks_from}
 
 -- behind none are all
@@ -33,7 +33,7 @@ behind_past (c ∷ k) cs n past = go c.is_removed n (λ m. behind_past k cs m) p
         rw (some, back) (rest n (omega arith) ∙ ap (behind_shown cs) left)
 
 -- the same from a chunk on
-pub behind_chunk : (held : Held) (i n : ℕ) → length (shown (get_or held i [])) < n
+pub behind_chunk : (held : ChunkCells) (i n : ℕ) → length (shown (get_or held i [])) < n
     → behind_shown (cells_of (drop i held)) n ≡ behind_shown (cells_of (drop (i + 1) held)) (n - length (shown (get_or held i [])))
 behind_chunk held i n past =
     ap (λ cs. behind_shown cs n) (chunks_from held i) ∙ behind_past (get_or held i []) (cells_of (drop (i + 1) held)) n past
@@ -54,7 +54,7 @@ shown_behind (c ∷ cs) (suc n) = go c.is_removed (shown_behind cs (suc n)) (sho
         let back : suc n - 1 ≡ n = omega arith in
         rw (some, back) less
 
--- the ids of so many cells that a reader sees, from these on
+-- the ids of n cells that a reader sees, from these on
 abbrev pub ids_of : ℕ → List Cell → List Id
 ids_of n cs = map (λ c. c.id) (take n (shown cs))
 

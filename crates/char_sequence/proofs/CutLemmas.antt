@@ -15,7 +15,7 @@ drop-drop-add (suc n) m (c ∷ cs) =
     let shift : suc n + m ≡ suc (n + m) = omega arith in
     rw shift (drop-drop-add n m cs)
 
--- one cell put in behind the first so many, counted from an index on
+-- one cell put in behind a given number of cells, counted from an index on
 pub cut_twice : (cs : List Cell) (from by : ℕ) (c : Cell) → from ≤ length cs
     → take from cs ++ (take by (drop from cs) ++ c ∷ drop by (drop from cs)) ≡ take (from + by) cs ++ c ∷ drop (from + by) cs
 cut_twice cs from by c within =

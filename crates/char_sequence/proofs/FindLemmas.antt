@@ -9,19 +9,19 @@ use Rattle.std.proofs.lemmas.Bool.Decides.{nat_tests}
 use Rattle.op_ids.specs.Id.{Id, is_same}
 use Rattle.char_sequence.specs.declared.cell.Cell.{Cell}
 use Rattle.char_sequence.specs.Cells.{has_cell, is_known}
-use Rattle.char_sequence.specs.Chunks.{Held, IsPlaceOf, before, cell_at, cells_of, from, size_at}
+use Rattle.char_sequence.specs.Chunks.{ChunkCells, IsPlaceOf, before, cell_at, cells_of, from, size_at}
 use Rattle.char_sequence.specs.Finding.{has_id_at}
 use Rattle.char_sequence.proofs.PlaceLemmas.{from_cell, joined}
 
 -- past the last chunk no cell has an id
-pub no_chunk_has : (held : Held) (i : ℕ) (id : Id) → size_at held i ≡ None → has_cell (get_or held i []) id ≡ false
+pub no_chunk_has : (held : ChunkCells) (i : ℕ) (id : Id) → size_at held i ≡ None → has_cell (get_or held i []) id ≡ false
 no_chunk_has [] zero id none = refl
 no_chunk_has [] (suc i) id none = refl
 no_chunk_has (k ∷ ks) zero id none = absurd (cc)
 no_chunk_has (k ∷ ks) (suc i) id none = no_chunk_has ks i id none
 
 -- a cell with this id is at its place
-pub is_place_of : (held : Held) (id : Id) (i j : ℕ) → has_id_at (cell_at held i j) id ≡ true → IsPlaceOf held id i j
+pub is_place_of : (held : ChunkCells) (id : Id) (i j : ℕ) → has_id_at (cell_at held i j) id ≡ true → IsPlaceOf held id i j
 is_place_of held id i j is = go (cell_at held i j) refl is
   where
     go : (found : Option Cell) → cell_at held i j ≡ found → has_id_at found id ≡ true → IsPlaceOf held id i j
@@ -29,7 +29,7 @@ is_place_of held id i j is = go (cell_at held i j) refl is
     go (Some c) there is_it = record { c = c; cell = there; same = is_it }
 
 -- a cell of a chunk is an item of it
-cell_of_chunk : (held : Held) (i j : ℕ) → cell_at held i j ≡ slice_get (get_or held i []) j
+cell_of_chunk : (held : ChunkCells) (i j : ℕ) → cell_at held i j ≡ slice_get (get_or held i []) j
 cell_of_chunk [] zero j = refl
 cell_of_chunk [] (suc i) j = refl
 cell_of_chunk (k ∷ ks) zero j = refl
@@ -42,34 +42,34 @@ pass_cell [] (suc j) id other = rw add-one refl
 pass_cell (c ∷ cs) zero id other = rw other refl
 pass_cell (c ∷ cs) (suc j) id other = let rest = pass_cell cs j id other in rw (add-one (suc j)) (rw add-one at rest)
 
-pub pass_in_chunk : (held : Held) (i j : ℕ) (id : Id) → has_id_at (cell_at held i j) id ≡ false
+pub pass_in_chunk : (held : ChunkCells) (i j : ℕ) (id : Id) → has_id_at (cell_at held i j) id ≡ false
     → has_cell (get_or held i []) id ≡ has_cell (drop j (get_or held i [])) id
     → has_cell (get_or held i []) id ≡ has_cell (drop (j + 1) (get_or held i [])) id
 pass_in_chunk held i j id other so = so ∙ pass_cell (get_or held i []) j id (rw (cell_of_chunk held i j) at other)
 
 -- all cells of a chunk were passed
-pub passed_chunk : (held : Held) (i j : ℕ) (id : Id) → length (get_or held i []) ≤ j
+pub passed_chunk : (held : ChunkCells) (i j : ℕ) (id : Id) → length (get_or held i []) ≤ j
     → has_cell (get_or held i []) id ≡ has_cell (drop j (get_or held i [])) id → has_cell (get_or held i []) id ≡ false
 passed_chunk held i j id end so = so ∙ ap (λ cs. has_cell cs id) (drop_of_length-le (get_or held i []) end)
 
 -- all chunks were passed
-pub passed_all_chunks : (held : Held) (i : ℕ) (id : Id) → length held ≤ i
+pub passed_all_chunks : (held : ChunkCells) (i : ℕ) (id : Id) → length held ≤ i
     → has_cell (cells_of held) id ≡ has_cell (cells_of (drop i held)) id → has_cell (cells_of held) id ≡ false
 passed_all_chunks held i id end so = so ∙ ap (λ ks. has_cell (cells_of ks) id) (drop_of_length-le held end)
 
 -- a cell that is at a place is there
-pub has_there : (held : Held) (id : Id) (i j : ℕ) → IsPlaceOf held id i j → has_cell (cells_of held) id ≡ true
+pub has_there : (held : ChunkCells) (id : Id) (i j : ℕ) → IsPlaceOf held id i j → has_cell (cells_of held) id ≡ true
 has_there held id i j there =
     let same = there.same in
     rw (← joined held i j, from_cell held i j there.c there.cell)
     (list_any-append (λ c. is_same c.id id) (before held i j) (there.c ∷ from held i (j + 1)) ∙ grind (arith, nat_tests))
 
-pub known_there : (held : Held) (origin : Option Id) (id : Id) (i j : ℕ) → IsPlaceOf held id i j → origin ≡ Some id
+pub known_there : (held : ChunkCells) (origin : Option Id) (id : Id) (i j : ℕ) → IsPlaceOf held id i j → origin ≡ Some id
     → true ≡ is_known (cells_of held) origin
 known_there held origin id i j there is = rw is (sym (has_there held id i j there))
 
 -- an id that is there can be passed
-pub pass_known : (held : Held) (ids : List Id) (k i j : ℕ) (id : Id) → k < length ids → id ≡ get_or ids k id → IsPlaceOf held id i j
+pub pass_known : (held : ChunkCells) (ids : List Id) (k i j : ℕ) (id : Id) → k < length ids → id ≡ get_or ids k id → IsPlaceOf held id i j
     → list_all (λ n. has_cell (cells_of held) n) ids ≡ list_all (λ n. has_cell (cells_of held) n) (drop k ids)
     → list_all (λ n. has_cell (cells_of held) n) ids ≡ list_all (λ n. has_cell (cells_of held) n) (drop (k + 1) ids)
 pass_known held ids k i j id within is_it there so =

@@ -8,7 +8,7 @@ use Rattle.op_model.specs.Placing.{Fits, IsOrderly}
 use Rattle.model_laws.proofs.Growth.{orderly_push}
 use Rattle.char_sequence.specs.declared.cell.Cell.{Cell}
 use Rattle.char_sequence.specs.Cells.{inserted, removed, removed_all}
-use Rattle.char_sequence.specs.Chunks.{Held, cells_of}
+use Rattle.char_sequence.specs.Chunks.{ChunkCells, cells_of}
 use Rattle.char_sequence.specs.Content.{content_of, AreContent, AreRemoves, TakesCell, TakesRemoves, FitAfter}
 use Rattle.char_sequence.proofs.ContentLemmas.{content_of-insert, content_of-marking, content_of-other, content_of-remove, is_marking}
 
@@ -77,7 +77,7 @@ removes_placed (id ∷ ids) ops doc (op ∷ more) orderly fit are =
     ap (removed_all ids) (sym one) ∙ (later ∙ ap (λ all. content_of all doc) (append_assoc ops (op ∷ []) more))
 
 -- what a call that removes cells owes
-pub takes_removes : (ids : List Id) (old new : Held) → cells_of new ≡ removed_all ids (cells_of old) → TakesRemoves ids old new
+pub takes_removes : (ids : List Id) (old new : ChunkCells) → cells_of new ≡ removed_all ids (cells_of old) → TakesRemoves ids old new
 takes_removes ids old new gone ops doc more fit are holds = record {
   orderly = orderly_after ops doc more holds.orderly fit;
   content = gone ∙ (ap (removed_all ids) holds.content ∙ removes_placed ids ops doc more holds.orderly fit are);

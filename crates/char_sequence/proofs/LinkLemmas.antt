@@ -6,7 +6,7 @@ use Rattle.char_sequence.specs.declared.cell.Cell.{Cell}
 use Rattle.char_sequence.specs.Cells.{past_greater}
 use Rattle.char_sequence.specs.Links.{cell_at_place, next_of, spot, Leads, Passes}
 
--- what begins behind the first so many: one of them is one more
+-- what begins behind the first i: one of them is one more
 pub take_next : {A : Type 0} (xs ys : List A) (x : A) (i : ℕ) → drop i xs ≡ x ∷ ys → take (suc i) xs ≡ take i xs ++ x ∷ []
 take_next [] ys x zero begins = absurd (cc)
 take_next [] ys x (suc i) begins = absurd (cc)
@@ -81,7 +81,7 @@ leads_some cells next at (p ∷ ps) (c ∷ cs) d leads some =
     let same : c ≡ d = cc in
     (ps, cs, rw leads.0 refl, rw same refl)
 
--- so many greater ids were passed
+-- i greater ids were passed
 pub record Passed (c : Cell) (from : ℕ) (order : List ℕ) (cs : List Cell) (i at : ℕ) : Type 0 where
   pub within : i ≤ length order
   pub here : at ≡ spot from order i

@@ -7,7 +7,7 @@ use Rattle.std.proofs.lemmas.List.{drop_more, take_more, take-append-drop}
 use Rattle.std.proofs.lemmas.Option.{slice_get_within, get_or_from_slice_get}
 use Rattle.char_sequence.specs.declared.cell.Cell.{Cell}
 use Rattle.char_sequence.specs.declared.place.Place.{Place}
-use Rattle.char_sequence.specs.Chunks.{AreSized, Held, IsPlace, before, cell_at, cells_of, from}
+use Rattle.char_sequence.specs.Chunks.{AreSized, ChunkCells, IsPlace, before, cell_at, cells_of, from}
 use Rattle.char_sequence.specs.Reading.{Passes}
 
 -- a list that is cut behind one of its items
@@ -31,24 +31,24 @@ all_taken (x ∷ xs) zero past = absurd (omega arith)
 all_taken (x ∷ xs) (suc j) past = ap (λ rest. x ∷ rest) (all_taken xs j (omega arith))
 
 -- a cell that is read stands in its chunk
-pub in_its_chunk : (held : Held) (i j : ℕ) (c : Cell) → cell_at held i j ≡ Some c → (i < length held) × (slice_get (get_or held i []) j ≡ Some c)
+pub in_its_chunk : (held : ChunkCells) (i j : ℕ) (c : Cell) → cell_at held i j ≡ Some c → (i < length held) × (slice_get (get_or held i []) j ≡ Some c)
 in_its_chunk [] i j c is = absurd (cc)
 in_its_chunk (k ∷ ks) zero j c is = (omega arith, is)
 in_its_chunk (k ∷ ks) (suc i) j c is = let rest = in_its_chunk ks i j c is in (omega arith, rest.1)
 
 -- the cell behind a place comes first from there on
-pub from_cell : (held : Held) (i j : ℕ) (c : Cell) → cell_at held i j ≡ Some c → from held i j ≡ c ∷ from held i (j + 1)
+pub from_cell : (held : ChunkCells) (i j : ℕ) (c : Cell) → cell_at held i j ≡ Some c → from held i j ≡ c ∷ from held i (j + 1)
 from_cell held i j c is =
     ap (λ ds. ds ++ cells_of (drop (i + 1) held)) (cut_behind (get_or held i []) j c (in_its_chunk held i j c is).1).0
 
 -- and stands last before the place behind it
-pub before_cell : (held : Held) (i j : ℕ) (c : Cell) → cell_at held i j ≡ Some c → before held i (j + 1) ≡ before held i j ++ c ∷ []
+pub before_cell : (held : ChunkCells) (i j : ℕ) (c : Cell) → cell_at held i j ≡ Some c → before held i (j + 1) ≡ before held i j ++ c ∷ []
 before_cell held i j c is =
     ap (λ ds. cells_of (take i held) ++ ds) (cut_behind (get_or held i []) j c (in_its_chunk held i j c is).1).1
     ∙ sym (append_assoc (cells_of (take i held)) (take j (get_or held i [])) (c ∷ []))
 
 -- what stands before a place and what stands from it on are all
-pub joined : (held : Held) (i j : ℕ) → before held i j ++ from held i j ≡ cells_of held
+pub joined : (held : ChunkCells) (i j : ℕ) → before held i j ++ from held i j ≡ cells_of held
 joined [] zero zero = refl
 joined [] zero (suc j) = refl
 joined [] (suc i) zero = rw add-one refl
@@ -59,14 +59,14 @@ joined (k ∷ ks) (suc i) j =
     rw (add-one (suc i), ← rest, add-one i) (simp append_assoc)
 
 -- the chunks from one on begin with it
-pub chunks_from : (held : Held) (i : ℕ) → cells_of (drop i held) ≡ get_or held i [] ++ cells_of (drop (i + 1) held)
+pub chunks_from : (held : ChunkCells) (i : ℕ) → cells_of (drop i held) ≡ get_or held i [] ++ cells_of (drop (i + 1) held)
 chunks_from [] zero = refl
 chunks_from [] (suc i) = rw add-one refl
 chunks_from (k ∷ ks) zero = refl
 chunks_from (k ∷ ks) (suc i) = rw (add-one (suc i)) (chunks_from ks i ∙ rw add-one refl)
 
 -- the chunks up to one end with it
-pub chunks_to : (held : Held) (i : ℕ) → cells_of (take (i + 1) held) ≡ cells_of (take i held) ++ get_or held i []
+pub chunks_to : (held : ChunkCells) (i : ℕ) → cells_of (take (i + 1) held) ≡ cells_of (take i held) ++ get_or held i []
 chunks_to [] zero = refl
 chunks_to [] (suc i) = rw add-one refl
 chunks_to (k ∷ ks) zero = append-nil k
@@ -75,31 +75,31 @@ chunks_to (k ∷ ks) (suc i) =
     rw (add-one (suc i)) (ap (λ r. k ++ r) (rw add-one at rest) ∙ sym (append_assoc k (cells_of (take i ks)) (get_or ks i [])))
 
 -- where a chunk ends the next one begins
-pub from_next : (held : Held) (i j : ℕ) → length (get_or held i []) ≤ j → from held i j ≡ from held (i + 1) 0
+pub from_next : (held : ChunkCells) (i j : ℕ) → length (get_or held i []) ≤ j → from held i j ≡ from held (i + 1) 0
 from_next held i j end =
     ap (λ ds. ds ++ cells_of (drop (i + 1) held)) (drop_of_length-le (get_or held i []) end) ∙ chunks_from held (i + 1)
 
-pub before_next : (held : Held) (i j : ℕ) → length (get_or held i []) ≤ j → before held i j ≡ before held (i + 1) 0
+pub before_next : (held : ChunkCells) (i j : ℕ) → length (get_or held i []) ≤ j → before held i j ≡ before held (i + 1) 0
 before_next held i j end =
     ap (λ ds. cells_of (take i held) ++ ds) (all_taken (get_or held i []) j end)
     ∙ (sym (chunks_to held i) ∙ sym (append-nil (cells_of (take (i + 1) held))))
 
 -- no cell behind a place is the end of its chunk
-pub ends_chunk : (held : Held) (i j : ℕ) → cell_at held i j ≡ None → length (get_or held i []) ≤ j
+pub ends_chunk : (held : ChunkCells) (i j : ℕ) → cell_at held i j ≡ None → length (get_or held i []) ≤ j
 ends_chunk [] zero j none = omega arith
 ends_chunk [] (suc i) j none = omega arith
 ends_chunk (k ∷ ks) zero j none = past_end k j none
 ends_chunk (k ∷ ks) (suc i) j none = ends_chunk ks i j none
 
 -- no chunk is empty, so that no first cell is no chunk
-pub ends_all : (held : Held) (i : ℕ) → AreSized 1 held → cell_at held i 0 ≡ None → length held ≤ i
+pub ends_all : (held : ChunkCells) (i : ℕ) → AreSized 1 held → cell_at held i 0 ≡ None → length held ≤ i
 ends_all [] i sized none = omega arith
 ends_all ([] ∷ ks) zero sized none = absurd (omega (arith, sized.0))
 ends_all ((c ∷ k) ∷ ks) zero sized none = absurd (cc)
 ends_all (k ∷ ks) (suc i) sized none = let rest = ends_all ks i sized.2 none in omega arith
 
 -- neither a cell behind a place nor one in the next chunk is the end
-pub nothing_from : (held : Held) (i j : ℕ) → AreSized 1 held → cell_at held i j ≡ None → cell_at held (i + 1) 0 ≡ None → from held i j ≡ []
+pub nothing_from : (held : ChunkCells) (i j : ℕ) → AreSized 1 held → cell_at held i j ≡ None → cell_at held (i + 1) 0 ≡ None → from held i j ≡ []
 nothing_from held i j sized none none_next =
     let end : length (get_or held i []) ≤ j = ends_chunk held i j none in
     let last : length held ≤ i + 1 = ends_all held (i + 1) sized none_next in
@@ -107,30 +107,30 @@ nothing_from held i j sized none none_next =
     ∙ ap cells_of (drop_of_length-le held last)
 
 -- a chunk has few cells
-pub few_in_chunk : (held : Held) (i : ℕ) → AreSized 1 held → length (get_or held i []) ≤ 512
+pub few_in_chunk : (held : ChunkCells) (i : ℕ) → AreSized 1 held → length (get_or held i []) ≤ 512
 few_in_chunk [] zero sized = omega arith
 few_in_chunk [] (suc i) sized = omega arith
 few_in_chunk (k ∷ ks) zero sized = sized.1
 few_in_chunk (k ∷ ks) (suc i) sized = few_in_chunk ks i sized.2
 
 -- a place is in a chunk, or the beginning of none
-pub chunk_of_place : (held : Held) (i j : ℕ) → IsPlace held i j → i ≤ length held - 1
+pub chunk_of_place : (held : ChunkCells) (i j : ℕ) → IsPlace held i j → i ≤ length held - 1
 chunk_of_place [] i j place = omega (arith, place.0)
 chunk_of_place (k ∷ ks) i j place = omega (arith, place.0)
 
-pub is_place : (held : Held) (i j : ℕ) → i < length held → j ≤ length (get_or held i []) → IsPlace held i j
+pub is_place : (held : ChunkCells) (i j : ℕ) → i < length held → j ≤ length (get_or held i []) → IsPlace held i j
 is_place [] i j within below = absurd (omega arith)
 is_place (k ∷ ks) i j within below = (within, below)
 
 -- the place behind a cell
-pub place_behind : (held : Held) (i j : ℕ) (c : Cell) → cell_at held i j ≡ Some c → IsPlace held i (j + 1)
+pub place_behind : (held : ChunkCells) (i j : ℕ) (c : Cell) → cell_at held i j ≡ Some c → IsPlace held i (j + 1)
 place_behind held i j c is =
     let here = in_its_chunk held i j c is in
     let below : j < length (get_or held i []) = slice_get_within (get_or held i []) j c here.1 in
     is_place held i (j + 1) here.0 (omega arith)
 
 -- the place behind a cell of the same chunk
-pub passes_here : (held : Held) (at : Place) (c : Cell) → cell_at held at.chunk at.at ≡ Some c
+pub passes_here : (held : ChunkCells) (at : Place) (c : Cell) → cell_at held at.chunk at.at ≡ Some c
     → Passes held at c (record { chunk = at.chunk; at = at.at + 1 })
 passes_here held at c is = record {
   place = place_behind held at.chunk at.at c is;
@@ -139,7 +139,7 @@ passes_here held at c is = record {
 }
 
 -- the place behind the first cell of the next chunk
-pub passes_next : (held : Held) (at : Place) (c : Cell) → cell_at held at.chunk at.at ≡ None → cell_at held (at.chunk + 1) 0 ≡ Some c
+pub passes_next : (held : ChunkCells) (at : Place) (c : Cell) → cell_at held at.chunk at.at ≡ None → cell_at held (at.chunk + 1) 0 ≡ Some c
     → Passes held at c (record { chunk = at.chunk + 1; at = 1 })
 passes_next held at c none is =
     let end : length (get_or held at.chunk []) ≤ at.at = ends_chunk held at.chunk at.at none in
@@ -150,7 +150,7 @@ passes_next held at c none is =
     }
 
 -- a place behind a cell can be counted
-pub fits_behind : (held : Held) (i j : ℕ) (c : Cell) → AreSized 1 held → cell_at held i j ≡ Some c → j < 512
+pub fits_behind : (held : ChunkCells) (i j : ℕ) (c : Cell) → AreSized 1 held → cell_at held i j ≡ Some c → j < 512
 fits_behind held i j c sized is =
     let below : j < length (get_or held i []) = slice_get_within (get_or held i []) j c (in_its_chunk held i j c is).1 in
     let few = few_in_chunk held i sized in

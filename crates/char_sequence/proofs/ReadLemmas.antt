@@ -65,7 +65,7 @@ first_removed-map ops doc (c ∷ cs) = go (first_removed-map ops doc cs) (is_rem
     go rest true = ap (λ r. c.id ∷ r) rest
     go rest false = refl
 
--- the tombstones behind the first so many that a reader sees
+-- the tombstones behind the first count cells that a reader sees
 pub run_there : (ops : List Op) (doc count : ℕ) (cells here : List Cell) → cells ≡ content_of ops doc → here ≡ behind_shown cells count
     → first_removed here ≡ map (λ c. c.id) (tombstones_at ops doc count)
 run_there ops doc count cells here same is_behind =
@@ -89,7 +89,7 @@ ids-map : (ops : List Op) (doc : ℕ) (cs : List Character) → map (λ c. c.id)
 ids-map ops doc [] = refl
 ids-map ops doc (c ∷ cs) = ap (λ ids. c.id ∷ ids) (ids-map ops doc cs)
 
--- the ids of so many that a reader sees
+-- the ids of count cells that a reader sees
 pub shown_range : (ops : List Op) (doc k count : ℕ) (cells : List Cell) → cells ≡ content_of ops doc
     → map (λ c. c.id) (take count (drop k (shown cells))) ≡ map (λ c. c.id) (take count (drop k (visible ops doc)))
 shown_range ops doc k count cells same =
@@ -125,7 +125,7 @@ shown_append (c ∷ k) cs = go c.is_removed (shown_append k cs)
     go true rest = rest
     go false rest = ap (λ r. c ∷ r) rest
 
--- the n-th that a reader sees is among the first cells, where they have so many
+-- the n-th that a reader sees is among the first cells, where a reader sees more than n of those
 pub shown_here : (k cs : List Cell) (n : ℕ) → n < length (shown k) → shown_at (k ++ cs) n ≡ shown_at k n
 shown_here [] cs n few = absurd (omega arith)
 shown_here (c ∷ k) cs n few = go c.is_removed n (λ m. shown_here k cs m) few

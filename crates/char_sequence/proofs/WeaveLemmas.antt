@@ -157,7 +157,7 @@ leads_new cells next after c slot at (q ∷ ps) (d ∷ cs) leads links apart = (
   leads_past cells next after c slot at q ps cs leads.2 links apart.2 apart.1,
 )
 
--- links with a character more, so many steps on
+-- links with a character more, i steps on
 leads_put : (cells : List Cell) (next after : List ℕ) (c : Cell) (at p : ℕ) (ps : List ℕ) (cs : List Cell) (i : ℕ) → Leads cells next p ps cs
     → i ≤ length ps → at ≡ spot p ps i → IsTied next after at (suc (length cells)) → Apart (suc (length cells)) (p ∷ ps)
     → Leads (cells ++ c ∷ []) after p (take i ps ++ suc (length cells) ∷ drop i ps) (take i cs ++ c ∷ drop i cs)

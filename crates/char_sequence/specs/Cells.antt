@@ -63,7 +63,7 @@ abbrev pub shown_at : List Cell → ℕ → Option Id
 shown_at [] k = None
 shown_at (c ∷ cs) k = if c.is_removed then shown_at cs k else if k == 0 then Some c.id else shown_at cs (k - 1)
 
--- what stands behind the first so many cells that a reader sees
+-- what stands behind the first k cells that a reader sees
 abbrev pub behind_shown : List Cell → ℕ → List Cell
 behind_shown [] k = []
 behind_shown (c ∷ cs) k = if k == 0 then c ∷ cs else behind_shown cs (if c.is_removed then k else k - 1)

@@ -2,7 +2,7 @@
 use Rattle.std.specs.Prelude.{◌≡◌, ℕ, Bool, true, List, [], ◌∷◌, ◌++◌, map, if◌then◌else◌, Option, Some, None}
 use Rattle.op_ids.specs.Id.{Id}
 use Rattle.char_sequence.specs.declared.cell.Cell.{Cell}
-use Rattle.char_sequence.specs.Chunks.{Held, cells_of}
+use Rattle.char_sequence.specs.Chunks.{ChunkCells, cells_of}
 use Rattle.op_model.specs.declared.op.Op.{Op}
 use Rattle.op_model.specs.declared.op.Body.{Body}
 use Rattle.op_model.specs.declared.op.Body.TheVariants.{Insert, Remove}
@@ -13,7 +13,7 @@ use Rattle.op_model.specs.Characters.{characters}
 use Rattle.op_model.specs.Placing.{has_id, Fits, IsOrderly}
 
 -- what the sequence of an empty document holds
-abbrev pub empty : Held
+abbrev pub empty : ChunkCells
 empty = []
 
 -- a character's cell: its id, its value, and whether some operation of the document removes it
@@ -30,7 +30,7 @@ pub record AreContent (cells : List Cell) (ops : List Op) (doc : ℕ) : Type 0 w
   pub content : cells ≡ content_of ops doc
 
 -- held is the content of these operations, which can be applied one after another
-abbrev pub Holds : Held → List Op → ℕ → Type 0
+abbrev pub Holds : ChunkCells → List Op → ℕ → Type 0
 Holds held ops doc = AreContent (cells_of held) ops doc
 
 -- the beginning of the text, or the id of one of the document's inserts
@@ -49,7 +49,7 @@ TakesCell id does old new = (ops : List Op) (doc : ℕ) (op : Op) → Fits ops d
     → AreContent old ops doc → AreContent new (ops ++ op ∷ []) doc
 
 -- Where old holds any operations that an operation of this id and body fits, new holds them and it.
-abbrev pub Takes : Id → Body → Held → Held → Type 0
+abbrev pub Takes : Id → Body → ChunkCells → ChunkCells → Type 0
 Takes id does old new = TakesCell id does (cells_of old) (cells_of new)
 
 -- these operations are a run of inserts, each behind the one before
@@ -65,7 +65,7 @@ FitAfter ops doc [] = Unit {0}
 FitAfter ops doc (op ∷ more) = Fits ops doc op × FitAfter (ops ++ op ∷ []) doc more
 
 -- Where old holds any operations that a run of inserts fits, new holds them and the run.
-abbrev pub TakesRun : Option Id → List (Id × ℕ) → Held → Held → Type 0
+abbrev pub TakesRun : Option Id → List (Id × ℕ) → ChunkCells → ChunkCells → Type 0
 TakesRun origin run old new = (ops : List Op) (doc : ℕ) (more : List Op) → FitAfter ops doc more → IsRun origin run more
     → Holds old ops doc → Holds new (ops ++ more) doc
 
@@ -77,6 +77,6 @@ AreRemoves (id ∷ ids) [] = ⊥
 AreRemoves (id ∷ ids) (op ∷ ops) = (op.body ≡ Remove id) × AreRemoves ids ops
 
 -- Where old holds any operations that removes of these characters fit, new holds them and the removes.
-abbrev pub TakesRemoves : List Id → Held → Held → Type 0
+abbrev pub TakesRemoves : List Id → ChunkCells → ChunkCells → Type 0
 TakesRemoves ids old new = (ops : List Op) (doc : ℕ) (more : List Op) → FitAfter ops doc more → AreRemoves ids more
     → Holds old ops doc → Holds new (ops ++ more) doc

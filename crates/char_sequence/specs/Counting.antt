@@ -1,7 +1,7 @@
 -- How many characters a sequence has.
 use Rattle.std.specs.Prelude.{ℕ, length}
-use Rattle.char_sequence.specs.Chunks.{Held, cells_of}
+use Rattle.char_sequence.specs.Chunks.{ChunkCells, cells_of}
 
 -- all of them, tombstones counted
-abbrev pub count_of : Held → ℕ
+abbrev pub count_of : ChunkCells → ℕ
 count_of held = length (cells_of held)

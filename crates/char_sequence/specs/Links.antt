@@ -24,12 +24,12 @@ Leads cells next at (p ∷ ps) (c ∷ cs) = (next_of next at ≡ p) × (cell_at_
 Leads cells next at [] (c ∷ cs) = ⊥
 Leads cells next at (p ∷ ps) [] = ⊥
 
--- the characters at the places that so many links lead to, from a place on
+-- the characters at the places that n links lead to, from a place on
 unfoldable pub followed : List Cell → List ℕ → ℕ → ℕ → List Cell
 followed cells next at zero = []
 followed cells next at (suc n) = cons_option (cell_at_place cells (next_of next at)) (followed cells next (next_of next at) n)
 
--- a place and those behind it: the one so many steps on
+-- a place and those behind it: the one i steps on
 abbrev pub spot : ℕ → List ℕ → ℕ → ℕ
 spot at ps zero = at
 spot at [] (suc i) = at
@@ -44,7 +44,7 @@ abbrev pub Apart : ℕ → List ℕ → Type 0
 Apart n [] = Unit {0}
 Apart n (p ∷ ps) = (p < n) × (has p ps ≡ false) × Apart n ps
 
--- from a place on, and past all greater ids that follow, it is so many steps to here
+-- from a place on, and past all greater ids that follow, it is some number of steps to here
 pub record Passes (c : Cell) (from : ℕ) (order : List ℕ) (cs : List Cell) (at : ℕ) : Type 0 where
   pub by : ℕ
   pub within : by ≤ length order

@@ -30,7 +30,7 @@ abbrev pub AreOnce : List Cell → Type 0
 AreOnce [] = Unit {0}
 AreOnce (c ∷ cs) = (has_cell cs c.id ≡ false) × AreOnce cs
 
--- a place is so many steps from the beginning, and what hangs from this origin goes behind it, past all greater ids that follow
+-- a place is some number of steps from the beginning, and what hangs from this origin goes behind it, past all greater ids that follow
 pub record Starts (order : List ℕ) (cs : List Cell) (origin : Option Id) (from : ℕ) : Type 0 where
   pub steps : ℕ
   pub within : steps ≤ length order

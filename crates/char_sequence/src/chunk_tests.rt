@@ -70,7 +70,7 @@ fn is_removed(chunks: &Chunks, i: usize, j: usize) -> bool {
     }
 }
 
-/// Whether each of so many chunks has from 256 to 512 cells, and there are no more chunks.
+/// Whether each of `count` chunks has from 256 to 512 cells, and there are no more chunks.
 fn are_sized(chunks: &Chunks, count: usize) -> bool {
     let ticks = &mut Ticks::new();
     for i in 0..count {

@@ -28,9 +28,9 @@ pub struct Chunks {
 
 impl Model for Chunks {
     ghost use Rattle.std.specs.Prelude.{◌≤◌, ◌^◌, length};
-    ghost use Rattle.char_sequence.specs.Chunks.{Held, AreChunks};
+    ghost use Rattle.char_sequence.specs.Chunks.{ChunkCells, AreChunks};
 
-    ghost Value = { Held };
+    ghost Value = { ChunkCells };
 
     ghost view = { λ c. c.chunks.items };
 

@@ -44,9 +44,9 @@ impl Hints {
         self.last
     }
 
-    /// Notes that so many characters were put in at a place, and that behind its chunk there are so
-    /// many chunks more. Where memory is refused, hints are missing. A step for each character that
-    /// was put in or moved to another chunk; where chunks came, for each chunk behind them too.
+    /// Notes that `count` characters were put in at a place, and `more` new chunks behind its own.
+    /// Where memory is refused, hints are missing. A step for each character that was put in or
+    /// moved to another chunk; where chunks came, for each chunk behind them too.
     pub fn note(&mut self, chunks: &Chunks, place: Place, count: usize, more: usize) {
         self.last = nth_from(chunks, &place, count.saturating_sub(1), more);
         match self.noted(chunks, &place, count, more) {
@@ -100,7 +100,7 @@ impl Hints {
         Ok(())
     }
 
-    /// Gives serial numbers to so many new chunks at a position, and renews the positions of those
+    /// Gives serial numbers to `more` new chunks at a position, and renews the positions of those
     /// behind.
     fn count_chunks(&mut self, at: usize, more: usize) -> Result<(), AllocError> {
         if more == 0 {
@@ -141,7 +141,7 @@ impl Hints {
 /// More than the cells of a chunk.
 const MOST: usize = 1024;
 
-/// The place of the n-th cell from a place on, in its chunk or one of so many behind.
+/// The place of the n-th cell from a place on, in its chunk or one of the next `more` chunks.
 fn nth_from(chunks: &Chunks, place: &Place, n: usize, more: usize) -> Place {
     let ticks = &mut Ticks::new();
     let mut chunk = place.chunk;

@@ -1,4 +1,4 @@
-/// A place between cells: so many chunks before its own, and so many cells before it in its own.
+/// A place between cells: `chunk` chunks before its own, and `at` cells before it in its own.
 #[derive(Clone, Copy, Debug)]
 pub struct Place {
     pub chunk: usize,

@@ -32,9 +32,9 @@ pub struct Sequence {
 }
 
 impl Model for Sequence {
-    ghost use Rattle.char_sequence.specs.Chunks.{Held};
+    ghost use Rattle.char_sequence.specs.Chunks.{ChunkCells};
 
-    ghost Value = { Held };
+    ghost Value = { ChunkCells };
 
     ghost view = { λ s. s.chunks };
 }
@@ -55,7 +55,7 @@ impl Sequence {
         self.chunks.allocator()
     }
 
-    /// The size of a chunk, with so many before it, or `None` past the last one. For `span_flatten`
+    /// The size of a chunk, with `i` before it, or `None` past the last one. For `span_flatten`
     /// alone. One tick. Constant.
     pub fn chunk(&self, i: usize, ticks: &mut Ticks) -> Option<ChunkSize>
         ensures size { result ≡ size_at self.now i }
@@ -64,8 +64,8 @@ impl Sequence {
         self.chunks.chunk(i, ticks)
     }
 
-    /// The character with so many before it in its chunk, tombstones counted, or `None` past the
-    /// last one. For `span_flatten` alone. One tick. Constant.
+    /// The character with `j` before it in its chunk, tombstones counted, or `None` past the last
+    /// one. For `span_flatten` alone. One tick. Constant.
     pub fn cell(&self, i: usize, j: usize, ticks: &mut Ticks) -> Option<Cell>
         ensures cell { result ≡ cell_at self.now i j }
         ensures tick { ticks.new ≡ ticks.old + 1 }
@@ -123,9 +123,9 @@ impl Sequence {
         shown(&self.chunks, k, ticks)
     }
 
-    /// So many characters that a reader sees, from the k-th on, counted from 0, or as many as there
-    /// are. An error is want of memory (1). Costs what `visible` does, and a step for each
-    /// character up to the last one.
+    /// The ids of `count` characters that a reader sees, from the k-th on, counted from 0, or of as
+    /// many as there are. An error is want of memory (1). Costs what `visible` does, and a step for
+    /// each character up to the last one.
     pub fn visible_range(&self, k: usize, count: usize) -> Result<Vec<OpId>, AllocError>
         ensures range { IfOk result (λ ids. (ops : List Op) (doc : ℕ) → Holds self.now ops doc
             → ids.items ≡ map (λ c. c.id) (take count (drop k (seen ops doc)))) }
@@ -134,7 +134,7 @@ impl Sequence {
         shown_from(&self.chunks, k, count)
     }
 
-    /// The tombstones between the first so many characters that a reader sees and the next one, in
+    /// The tombstones between the first `count` characters that a reader sees and the next one, in
     /// order. An error is want of memory (1). Costs what `visible` does, and a step for each.
     pub fn run_after(&self, count: usize) -> Result<Vec<OpId>, AllocError>
         ensures { IfOk result (λ run. (ops : List Op) (doc : ℕ) → Holds self.now ops doc
@@ -143,7 +143,7 @@ impl Sequence {
         tombstones(&self.chunks, &behind(&self.chunks, count))
     }
 
-    /// Of the tombstones between the first so many characters that a reader sees and the next one
+    /// Of the tombstones between the first `count` characters that a reader sees and the next one
     /// the last that a mark ends just after, or else the character before them, which is given.
     /// Takes no memory. Costs what `visible` does, and a question to the marks for each tombstone.
     pub fn last_ended<M: EndsAfter>(

@@ -53,7 +53,7 @@ fn shown_in(chunks: &Chunks, i: usize, cells: usize, k: usize, ticks: &mut Ticks
     None
 }
 
-/// The place behind the first so many cells that a reader sees; the end where there are fewer. A
+/// The place behind the first `count` cells that a reader sees; the end where there are fewer. A
 /// step for each chunk up to its own, and for each cell of that one up to there; for each cell
 /// where there are fewer.
 pub fn behind(chunks: &Chunks, count: usize) -> Place
@@ -75,7 +75,7 @@ pub fn behind(chunks: &Chunks, count: usize) -> Place
     passed(chunks, &Place { chunk: 0, at: 0 }, count)
 }
 
-/// The place behind the first so many cells that a reader sees from a place on; the end where there
+/// The place behind the first `count` cells that a reader sees from a place on; the end where there
 /// are fewer.
 fn passed(chunks: &Chunks, from: &Place, count: usize) -> Place
     requires { IsPlace chunks.now from.now.chunk from.now.at }
@@ -98,7 +98,7 @@ fn passed(chunks: &Chunks, from: &Place, count: usize) -> Place
     at
 }
 
-/// The ids of so many cells that a reader sees, from the k-th on, or of as many as there are.
+/// The ids of `count` cells that a reader sees, from the k-th on, or of as many as there are.
 pub fn shown_from(chunks: &Chunks, k: usize, count: usize) -> Result<Vec<OpId>, AllocError>
     ensures range { IfOk result (λ ids. ids.items
         ≡ map (λ c. c.id) (take count (drop k (shown_of (cells_of chunks.now))))) }

@@ -60,7 +60,7 @@ fn is_text(sequence: &Sequence, expected: &str) -> Result<bool, AllocError> {
     Ok(sequence.text()? == Text::from(expected))
 }
 
-/// Whether these are the tombstones behind the first so many visible characters.
+/// Whether these are the tombstones behind the first `count` visible characters.
 fn has_run_after(sequence: &Sequence, count: usize, expected: &[OpId]) -> bool {
     match sequence.run_after(count) {
         Ok(run) => run.as_slice() == expected,

@@ -12,7 +12,7 @@ use Rattle.disk_trait.specs.declared.medium.Fate.{Fate}
 use Rattle.disk_trait.specs.declared.medium.Fate.TheVariants.{Old, New, Fill}
 use Rattle.disk_trait.proofs.FileLemmas.{length-overwritten, overwritten_outside}
 
--- a range ends within so many bytes
+-- a range ends within a file of this size
 abbrev Within : ℕ → Range → Type 0
 Within size range = range.0 + range.1 ≤ size
 

@@ -18,7 +18,7 @@ begun (Ok x) = 1
 begun (Err PastEnd) = 0
 begun (Err e) = 1
 
--- One call: time goes on by one, the past stays, and so many failures, writes and syncs are added.
+-- One call: time goes on by one, the past stays, and these numbers of failures, writes and syncs are added.
 pub record IsOneCall {D : Type 0} (facts : Ghosts D) (more_failures more_writes more_syncs : ℕ)
     (old new : D) : Type 0 where
   pub one_more : facts.time new ≡ facts.time old + 1

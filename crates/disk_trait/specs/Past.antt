@@ -3,7 +3,7 @@ use Rattle.std.specs.Prelude.{◌⊎◌, ◌≤◌, ℕ, ◌+◌, List, [], ◌�
 use Rattle.std.proofs.Common.{inl, inr, arith}
 use Rattle.disk_trait.specs.declared.log.Log.{Log}
 
--- the log after one more call, which found the disk in this state and added so many failures,
+-- the log after one more call, which found the disk in this state and added these numbers of failures,
 -- writes and syncs
 abbrev pub called : {S : Type 0} → S → ℕ → ℕ → ℕ → Log S → Log S
 called state failures writes syncs log =

@@ -23,7 +23,7 @@ use std::rt::Files;
 #[derive(Drop)]
 pub struct FileDisk {
     file: File,
-    // The file has at least so many bytes: as many as were seen, since nobody else writes it.
+    // The file has at least `inside` bytes: as many as were seen, since nobody else writes it.
     inside: u64,
     // `create` made the file, and no other program has filled it.
     is_made: bool,
@@ -81,8 +81,8 @@ impl FileDisk {
         }
     }
 
-    /// Whether the file has so many bytes. It is asked only where that isn't known. Refuses with
-    /// 50 where the file can't tell.
+    /// Whether the file has at least `end` bytes. It is asked only where that isn't known. Refuses
+    /// with 50 where the file can't tell.
     fn reaches(&mut self, end: u64) -> Result<bool, DiskError> {
         Ok(end <= self.inside || end <= self.size()?)
     }

@@ -32,7 +32,7 @@ impl MemDisk {
     ghost use Rattle.disk_trait.specs.declared.error.DiskError.TheVariants.{WriteFailed};
     ghost use Rattle.disk_trait.specs.declared.error.DiskError.TheVariants.{SyncFailed, PastEnd};
 
-    /// An empty disk for a file of at most `room` bytes and for so many calls. It takes all its
+    /// An empty disk for a file of at most `room` bytes and for `calls` calls. It takes all its
     /// memory at once, twice `room` bytes and 16 for each call, and refuses with `AllocError` where
     /// that isn't there.
     pub fn new(alloc: Global, room: usize, calls: usize) -> Result<MemDisk, AllocError>

@@ -50,7 +50,7 @@ fn file_of<D: Disk>(alloc: Global, disk: &mut D) -> Result<Vec<u8>, Fail> {
     Ok(file)
 }
 
-// A file of so many ones, and these bytes behind them.
+// A file of `count` ones, and these bytes behind them.
 fn ones(alloc: Global, count: usize, behind: &[u8]) -> Result<Vec<u8>, AllocError> {
     let mut file = Vec::from_elem(alloc, 1, count)?;
     file.extend_from_slice(behind)?;

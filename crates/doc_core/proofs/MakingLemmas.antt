@@ -133,7 +133,7 @@ pub few_more : (i : ℕ) (before after : List Id) (found : Option Id) → after 
 few_more i before after None pushed few = rw pushed (omega (arith, length-append before [], few))
 few_more i before after (Some id) pushed few = rw pushed (omega (arith, length-append before (id ∷ []), few))
 
--- whether there are so many is seen from what is found
+-- whether there are at least n is seen from what is found
 pub shows_some : (cs : List Character) (n : ℕ) (id : Id) → 0 < n → Some id ≡ id_at cs (n - 1) → true ≡ nat_le n (length cs)
 shows_some cs n id some found = sym (le-leb n (length cs) (before_there cs n id some found).1)
 

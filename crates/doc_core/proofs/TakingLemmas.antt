@@ -10,7 +10,7 @@ use Rattle.op_model.specs.Characters.{characters}
 use Rattle.op_model.specs.Placing.{has_id}
 use Rattle.model_laws.proofs.Ids.{same_itself}
 use Rattle.char_sequence.specs.Content.{AreRemoves, IsRun, is_there}
-use Rattle.char_sequence.specs.Chunks.{Held}
+use Rattle.char_sequence.specs.Chunks.{ChunkCells}
 use Rattle.mark_anchors.specs.Keeping.{Kept}
 use Rattle.doc_core.specs.Standing.{are_there, named_outside}
 use Rattle.doc_core.specs.Taking.{TakesIn, TakesAllIn}
@@ -65,7 +65,7 @@ origin_there ops doc (Some id) = alone (has_id (characters ops doc) id)
     alone false = refl
 
 -- one operation taken is an edit of it taken
-pub one_taken : (ops : List Op) (op : Op) (old new : Held) (marks kept : Kept) → length ops ≡ 1 → op ≡ get_or ops 0 op
+pub one_taken : (ops : List Op) (op : Op) (old new : ChunkCells) (marks kept : Kept) → length ops ≡ 1 → op ≡ get_or ops 0 op
     → TakesIn op old new marks kept → TakesAllIn ops old new marks kept
 one_taken [] op old new marks kept one is_it takes = absurd (omega arith)
 one_taken (x ∷ []) op old new marks kept one is_it takes = λ before doc holds are fit.

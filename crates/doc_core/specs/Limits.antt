@@ -3,7 +3,7 @@ use Rattle.std.specs.Prelude.{ℕ, ◌+◌, Bool, ◌&&◌, nat_le, nat_lt, List
 use Rattle.fixed_numbers.specs.declared.limits.TheConstants.{MAX_COUNTER, MAX_EDIT}
 use Rattle.op_ids.specs.Clock.{advanced_by, is_clock}
 
--- so many operations keep the limits: at most 256, their counters from this one on are from 1 to 2^48 - 1, and the clock behind them is
+-- n operations keep the limits: at most 256, their counters from this one on are from 1 to 2^48 - 1, and the clock behind them is
 -- one, of at most 16 replicas with counts of at most 2^24
 abbrev pub keep_limits : ℕ → ℕ → List (ℕ × ℕ) → ℕ → Bool
 keep_limits replica counter clock n =

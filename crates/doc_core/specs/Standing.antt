@@ -9,14 +9,14 @@ use Rattle.op_model.specs.Text.{rev}
 use Rattle.op_model.specs.Causality.{named_by}
 use Rattle.op_model.specs.Characters.{characters}
 use Rattle.op_model.specs.Placing.{has_id, Fits}
-use Rattle.char_sequence.specs.Chunks.{Held}
+use Rattle.char_sequence.specs.Chunks.{ChunkCells}
 use Rattle.char_sequence.specs.Content.{Holds, FitAfter}
 use Rattle.mark_anchors.specs.Keeping.{Kept, AreMarksOf}
 
 -- a document as contracts see it: its number, its characters, its mark operations, and how many operations it counts
 pub record Document : Type 0 where
   pub number : ℕ
-  pub characters : Held
+  pub characters : ChunkCells
   pub marks : Kept
   pub rev : ℕ
 

@@ -88,7 +88,7 @@ impl Doc {
         self.rev
     }
 
-    /// Whether a reader sees so many characters. Takes no memory. Linear in the characters.
+    /// Whether at least `count` characters are visible. Takes no memory. Linear in the characters.
     pub fn shows(&self, count: usize) -> bool
         ensures { (ops : List Op) → StandsFor self.now ops
             → result ≡ nat_le count (length (visible ops self.now.number)) }
@@ -127,7 +127,7 @@ impl Doc {
         self.sequence.visible(at - 1)
     }
 
-    /// Where an insert behind so many visible characters hangs. Takes no memory. Linear in the
+    /// Where an insert behind `at` visible characters hangs. Takes no memory. Linear in the
     /// characters, and for each tombstone there in the mark operations.
     pub fn origin(&self, at: usize) -> Option<OpId>
         ensures { (ops : List Op) → StandsFor self.now ops

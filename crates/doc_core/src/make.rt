@@ -58,7 +58,7 @@ impl Doc {
         Ok(self.typed(alloc, replica, counter, clock, at as usize, text)?)
     }
 
-    /// Makes the removes of so many visible characters from an index on, in the order of the text:
+    /// Makes the removes of `count` visible characters from an index on, in the order of the text:
     /// a replica's next operations, the first with this counter and depending on this clock. The
     /// document stays as it is.
     ///
@@ -122,7 +122,7 @@ impl Doc {
         })
     }
 
-    /// The removes of so many visible characters from an index on, or of as many as there are. An
+    /// The removes of `count` visible characters from an index on, or of as many as there are. An
     /// error is want of memory (1).
     fn erased(
         &self,
@@ -147,8 +147,8 @@ impl Doc {
         })
     }
 
-    /// So many visible characters from an index on, or as many as there are. An error is want of
-    /// memory (1).
+    /// The ids of `count` visible characters from an index on, or of as many as there are. An error
+    /// is want of memory (1).
     fn targets(&self, at: usize, count: usize) -> Result<Vec<OpId>, AllocError>
         ensures all { IfOk result (λ targets. (ops : List Op) → StandsFor self.now ops
             → targets.items

@@ -11,7 +11,7 @@ use op_ids::{Clock, OpId, ReplicaId};
 use op_model::Body;
 use std::alloc::{AllocError, Global};
 
-/// Whether so many operations of a replica, the first with this counter and depending on this
+/// Whether `count` operations of a replica, the first with this counter and depending on this
 /// clock, keep the limits. Takes no memory.
 pub fn keep_limits(replica: ReplicaId, counter: u64, clock: &Clock, count: usize) -> bool
     ensures value { result ≡ keep_limits_of replica counter clock.now count }

@@ -91,7 +91,7 @@ fn change_somewhere(peer: &mut Peer, random: &mut Random) -> Result<(), Fail> {
     }
 }
 
-/// Takes the first so many operations of another peer that aren't known, in its order.
+/// Takes the first `most` operations of another peer that aren't known, in its order.
 fn take_some(peer: &mut Peer, other: &Peer, most: u32) -> Result<(), Fail> {
     let mut left = most;
     for op in &other.ops {
@@ -181,7 +181,7 @@ fn show_one(a: &Peer, b: &Peer) -> Result<bool, Fail> {
     Ok(a.doc.text()? == b.doc.text()? && a.doc.spans()? == b.doc.spans()?)
 }
 
-/// One history of so many steps: how many operations there are at its end, or 0 where something differs.
+/// One history of `steps` steps: how many operations it ends with, or 0 where something differs.
 fn agreed(alloc: Global, random: &mut Random, steps: usize) -> Result<usize, Fail> {
     let mut three = Three::new(alloc)?;
     for _ in 0..steps {

@@ -8,7 +8,7 @@ use Rattle.std.specs.Result.{result_ok, OkIff}
 use Rattle.std.specs.List.{list_all}
 use Rattle.std.specs.Char.{is_ascii_digit, digit_value}
 use Rattle.std.specs.Str.Parse.{AllDigits, IsNumeral, ParsesUnsigned, digits_value, without_leading_plus}
-use Rattle.edit_shell.specs.Asked.{above_zero, number_of}
+use Rattle.edit_shell.specs.Asked.{above_zero, decimal_of}
 
 -- a value that is nowhere found isn't there
 pub no_value : (o : Option (List ℕ)) → ((u : List ℕ) × (o ≡ Some u) → false ≡ true) → o ≡ None
@@ -55,7 +55,7 @@ none_unless true true true n never = absurd (never refl refl)
 
 -- what is parsed of a numeral is its number
 number_is : {E : Type 0} (text : List ℕ) (r : Result ℕ E) → list_all is_ascii_digit text ≡ true
-    → OkIff r (IsNumeral 10 text × (digits_value 10 text < 2 ^ 32)) (digits_value 10 text) → result_ok r ≡ number_of text
+    → OkIff r (IsNumeral 10 text × (digits_value 10 text < 2 ^ 32)) (digits_value 10 text) → result_ok r ≡ decimal_of text
 number_is text (Ok n) all h =
     rw (lt-ltb 0 (length text) h.0.0.0, all, lt-ltb (digits_value 10 text) (2 ^ 32) h.0.1) (ap Some h.1)
 number_is text (Err e) all h =
@@ -64,5 +64,5 @@ number_is text (Err e) all h =
 
 -- what is parsed of decimal digits is their number
 pub number_parsed : {E : Type 0} (text : List ℕ) (r : Result ℕ E) → list_all is_ascii_digit text ≡ true → ParsesUnsigned 32 10 text r
-    → result_ok r ≡ number_of text
+    → result_ok r ≡ decimal_of text
 number_parsed text r all parsed = number_is text r all (rw (no_plus text all) at parsed)

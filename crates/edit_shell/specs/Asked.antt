@@ -48,13 +48,13 @@ abbrev pub is_decimal : List ℕ → Bool
 is_decimal text = nat_lt 0 (length text) && list_all is_ascii_digit text
 
 -- a number in decimal digits, up to 2^32 - 1
-abbrev pub number_of : List ℕ → Option ℕ
-number_of text =
+abbrev pub decimal_of : List ℕ → Option ℕ
+decimal_of text =
     if is_decimal text && nat_lt (digits_value 10 text) (2 ^ 32) then Some (digits_value 10 text) else None
 
 -- the number of a document in decimal digits, from 1 to 2^32 - 1
 abbrev pub doc_of : List ℕ → Option ℕ
-doc_of text = option_and_then above_zero (number_of text)
+doc_of text = option_and_then above_zero (decimal_of text)
 
 -- a number that a port may have
 abbrev pub as_port : ℕ → Option ℕ
@@ -62,7 +62,7 @@ as_port n = if nat_lt 0 n && nat_lt n (2 ^ 16) then Some n else None
 
 -- a port in decimal digits, from 1 to 65,535
 abbrev pub port_of : List ℕ → Option ℕ
-port_of text = option_and_then as_port (number_of text)
+port_of text = option_and_then as_port (decimal_of text)
 
 -- a port that may be left out: where it is, there is none
 abbrev pub optional_port_of : Option (List ℕ) → Option (Option ℕ)

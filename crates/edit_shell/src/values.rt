@@ -2,7 +2,7 @@
 ghost use Rattle.std.specs.Prelude.{◌≡◌, option_map};
 ghost use Rattle.std.specs.List.{list_all};
 ghost use Rattle.std.specs.Char.{is_ascii_digit};
-ghost use Rattle.edit_shell.specs.Asked.{number_of, doc_of, port_of, optional_port_of, replica_of};
+ghost use Rattle.edit_shell.specs.Asked.{decimal_of, doc_of, port_of, optional_port_of, replica_of};
 
 use op_ids::ReplicaId;
 use uuid::Uuid;
@@ -40,7 +40,7 @@ pub fn optional_port(text: Option<&str>) -> Option<Option<u16>>
 
 /// A number in decimal digits, up to 2^32 - 1.
 fn number(text: &str) -> Option<u32>
-    ensures { result ≡ number_of text.now }
+    ensures { result ≡ decimal_of text.now }
 {
     if !is_decimal(text) {
         return None;

@@ -1,5 +1,5 @@
-//! The numbers that are fixed for the whole program, each of which stands here alone: limits, sizes
-//! and the numbers of refusals. Contracts and code name them.
+//! The numbers that are fixed for the whole program: limits, sizes and the numbers of refusals.
+//! Contracts and code name them, so each stands here alone.
 #![tactic(auto)]
 
 pub mod laws;

@@ -1,4 +1,4 @@
-//! The most that a store, an edit, a line or an answer may have.
+//! The most that a store, an edit, a line, an answer or a frame may have.
 
 /// The greatest counter of an id: 2^48 - 1.
 pub const MAX_COUNTER: u64 = 281_474_976_710_655;
@@ -11,6 +11,9 @@ pub const MAX_COUNT: u64 = 16_777_216;
 
 /// The most operations in a store: 2^24.
 pub const MAX_OPERATIONS: usize = 16_777_216;
+
+/// The greatest version of a root: 2^64 - 1.
+pub const MAX_VERSION: u64 = 18_446_744_073_709_551_615;
 
 /// The most documents with operations in a store.
 pub const MAX_DOCUMENTS: usize = 1024;
@@ -36,3 +39,6 @@ pub const MAX_LINE: usize = 65_536;
 /// The most ids of comments that the spans of a document list, each counted once for each span that
 /// has it: 2^20.
 pub const MAX_LISTED: usize = 1_048_576;
+
+/// The most operations that one frame of a link tells a peer.
+pub const MAX_TOLD: usize = 64;

@@ -3,7 +3,7 @@
 
 // Of a session, an edit and a merge.
 
-/// A growth of memory was refused.
+/// A growth of memory was refused, or spans are beyond what an answer may list.
 pub const MEMORY: u8 = 1;
 
 /// A line isn't read as JSON.
@@ -21,7 +21,7 @@ pub const RANGE: u8 = 5;
 /// The document doesn't have the number of operations that was asked for.
 pub const STALE: u8 = 6;
 
-/// A limit of a request, a clock or the store.
+/// A limit of a request, a clock or the store, or of the versions of a file.
 pub const LIMIT: u8 = 7;
 
 /// A commit is under way, or none is through where one is to be settled; the records that wait for
@@ -42,16 +42,16 @@ pub const STOPPING: u8 = 12;
 
 // Of an operation that is merged.
 
-/// It is of the own replica, and unknown there.
+/// The operation is of the own replica, and unknown there.
 pub const OWN_UNKNOWN: u8 = 20;
 
-/// Its counter isn't greater than that of the last operation of its replica.
+/// The operation's counter isn't greater than that of the last one of its replica.
 pub const COUNTER: u8 = 21;
 
-/// It names what is no insert of its document that its deps cover.
+/// The operation names what is no insert of its document that its deps cover.
 pub const NAMES: u8 = 22;
 
-/// Its document is 0.
+/// The operation's document is 0.
 pub const DOCUMENT: u8 = 23;
 
 /// A limit of the store would be passed.
@@ -99,19 +99,19 @@ pub const PAGE_NUMBER: u8 = 40;
 /// The file doesn't have the whole page, or a write of it would begin past the end.
 pub const NO_PAGE: u8 = 41;
 
-/// No open slot.
+/// The file has no open slot, or fewer bytes than the two slots take.
 pub const NO_ROOT: u8 = 42;
 
-/// The live root body, or two open slots of equal versions.
+/// The live root body breaks a rule, or two slots are open with equal versions.
 pub const BAD_ROOT: u8 = 43;
 
 /// A device call of the store failed before.
 pub const STORE_FAILED: u8 = 44;
 
-/// A table page.
+/// A table page breaks a rule.
 pub const BAD_TABLE: u8 = 45;
 
-/// The stream or its records.
+/// The stream isn't the records that the root says, or its last page isn't filled with zeros.
 pub const BAD_STREAM: u8 = 46;
 
 /// An operation isn't ready where it stands, or fails a check.
@@ -120,15 +120,15 @@ pub const BAD_OPERATION: u8 = 47;
 /// A new store on a file with bytes.
 pub const NOT_EMPTY: u8 = 48;
 
-// Of the device, in this call.
+// Of the device.
 
-/// It failed in a read.
+/// The device failed in this call, in a read or where it tells the file's length.
 pub const READ_FAILED: u8 = 50;
 
-/// It failed in a write.
+/// The device failed in this call, in a write.
 pub const WRITE_FAILED: u8 = 51;
 
-/// It failed in a sync.
+/// The device failed in this call, in a sync.
 pub const SYNC_FAILED: u8 = 52;
 
 /// A read past the end of the file, or a write that begins past it.
@@ -145,5 +145,5 @@ pub const UNKNOWN_ID: u8 = 60;
 /// A socket can't be opened, or the peer can't be joined.
 pub const SOCKET: u8 = 70;
 
-/// A stream of a session failed: standard input or output, or its socket.
+/// A stream failed: standard input or output, of a session or of a dump, or a session's socket.
 pub const STREAM: u8 = 71;

@@ -18,17 +18,18 @@ pub const MAX_TABLES: usize = 256;
 /// The most pages that a root reaches: those of its tables and of its data.
 pub const MAX_LIVE_PAGES: usize = 262_400;
 
-/// No call is asked for more pages than this, of which no file of a store has as many: 2^30.
+/// A call that takes pages is asked for so few that, with those in use, they are at most this many:
+/// 2^30. No file of a store has as many.
 pub const MAX_PAGES: usize = 1_073_741_824;
 
 /// The bytes of a root body: a page without its gate and the seven bytes behind that.
 pub const BODY_LENGTH: usize = 4088;
 
-/// The fewest bytes that the length of an operation's record says.
+/// The fewest bytes of the body of an operation's record, which are those that its length counts.
 pub const MIN_RECORD: usize = 33;
 
-/// The most bytes that the length of an operation's record says.
+/// The most bytes of the body of an operation's record.
 pub const MAX_RECORD: usize = 1491;
 
-/// The most bytes that the length of a link's frame says.
+/// The most bytes of the content of a link's frame, which are those that its length counts.
 pub const MAX_CONTENT: usize = 131_068;

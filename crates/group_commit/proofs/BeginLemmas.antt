@@ -9,7 +9,7 @@ use Rattle.op_model.specs.Records.{stream_length}
 use Rattle.change_codec.proofs.StreamLaws.{length-spelled_all}
 use Rattle.page_file.specs.Pages.{is_zero}
 use Rattle.root_slots.specs.Root.{version_of, count_of}
-use Rattle.group_commit.specs.Held.{Held}
+use Rattle.group_commit.specs.Held.{StoreHeld}
 use Rattle.group_commit.specs.Begin.{is_idle, is_none, has_room, begin_due, IsAnswer}
 use Rattle.group_commit.proofs.RecordLemmas.{some_records}
 use Rattle.std.specs.Prelude.{Option}
@@ -33,7 +33,7 @@ pub records_long : (ops : List Op) (count : ℕ) (records : List ℕ) → AreRec
 records_long ops count records are = sym (length-spelled_all ops) ∙ ap length are.spelled_so
 
 -- what is known of a store and of records where their commit is due
-pub record IsDue {D : Type 0} (held : Held D) (count : ℕ) (records : List ℕ) : Type 0 where
+pub record IsDue {D : Type 0} (held : StoreHeld D) (count : ℕ) (records : List ℕ) : Type 0 where
   pub works : held.failed ≡ false
   pub idle : held.phase ≡ Idle
   pub some : is_zero records ≡ false
@@ -41,7 +41,7 @@ pub record IsDue {D : Type 0} (held : Held D) (count : ℕ) (records : List ℕ)
   pub room : count_of held.current.body + count ≤ 16777216
   pub stream : length held.current.stream + length records ≤ 1073741824
 
-pub due_says : {D : Type 0} (held : Held D) (count : ℕ) (records : List ℕ) (ops : List Op) (n : ℕ) → AreRecords ops count records
+pub due_says : {D : Type 0} (held : StoreHeld D) (count : ℕ) (records : List ℕ) (ops : List Op) (n : ℕ) → AreRecords ops count records
     → begin_due held ops ≡ Ok (Some n) → IsDue held count records
 due_says held count records ops n are due =
     let tests = tested held.failed (is_idle held.phase) (is_none ops) (has_room held.current ops) _ n due in
@@ -76,19 +76,19 @@ due_says held count records ops n are due =
     some_of (op ∷ ops) some = omega arith
 
 -- an answer that is the due one for each list whose records these are
-abbrev pub IsDueOf : {D : Type 0} → Held D → ℕ → List ℕ → Result (Option ℕ) StoreError → Type 0
+abbrev pub IsDueOf : {D : Type 0} → StoreHeld D → ℕ → List ℕ → Result (Option ℕ) StoreError → Type 0
 IsDueOf held count records answer = (ops : List Op) → length ops ≡ count → stream_length ops ≡ length records → answer ≡ begin_due held ops
 
-pub due_for : {D : Type 0} (held : Held D) (count : ℕ) (records : List ℕ) (answer : Result (Option ℕ) StoreError) → IsDueOf held count records answer
+pub due_for : {D : Type 0} (held : StoreHeld D) (count : ℕ) (records : List ℕ) (answer : Result (Option ℕ) StoreError) → IsDueOf held count records answer
     → (ops : List Op) → AreRecords ops count records → answer ≡ begin_due held ops
 due_for held count records answer due ops are = due ops are.counted (records_long ops count records are)
 
-pub is_due : {D : Type 0} (held : Held D) (count : ℕ) (records : List ℕ) (answer : Result (Option ℕ) StoreError) (n : ℕ) → IsDueOf held count records answer
+pub is_due : {D : Type 0} (held : StoreHeld D) (count : ℕ) (records : List ℕ) (answer : Result (Option ℕ) StoreError) (n : ℕ) → IsDueOf held count records answer
     → (ops : List Op) × AreRecords ops count records → answer ≡ Ok (Some n) → IsDue held count records
 is_due held count records answer n due some is = due_says held count records some.0 n some.1 (sym (due_for held count records answer due some.0 some.1) ∙ is)
 
 -- memory is wanting where a commit is due
-pub is_wanting : {D : Type 0} (held : Held D) (count : ℕ) (records : List ℕ) (answer wanting : Result (Option ℕ) StoreError) (n : ℕ)
+pub is_wanting : {D : Type 0} (held : StoreHeld D) (count : ℕ) (records : List ℕ) (answer wanting : Result (Option ℕ) StoreError) (n : ℕ)
     → IsDueOf held count records answer → answer ≡ Ok (Some n) → wanting ≡ Err Memory
     → (ops : List Op) → AreRecords ops count records → IsAnswer (begin_due held ops) wanting
 is_wanting held count records answer wanting n due is memory ops are = rw (sym (due_for held count records answer due ops are) ∙ is) (inr (memory, tt))

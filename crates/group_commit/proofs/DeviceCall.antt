@@ -4,9 +4,11 @@ use Rattle.disk_trait.specs.Calls.{IsOneCall, IsLawful}
 use Rattle.disk_trait.specs.declared.facts.DiskFacts.{Ghosts}
 use Rattle.disk_trait.proofs.Moments.{moments_of_call}
 use Rattle.group_commit.specs.Saved.{Saved}
-use Rattle.group_commit.specs.Commit.{Stands, IsLeft}
-use Rattle.group_commit.specs.Held.{Held, IsPlan, IsSound}
-use Rattle.group_commit.specs.Step.{failures_in, IsDeviceCall, IsLeftAround}
+use Rattle.group_commit.specs.Commit.{IsLeft}
+use Rattle.group_commit.specs.Standing.{Stands}
+use Rattle.group_commit.specs.Held.{StoreHeld}
+use Rattle.group_commit.specs.Standing.{IsPlan, IsSound}
+use Rattle.group_commit.specs.Step.{failures_in, Call, writes_of, syncs_of, error_of, IsDeviceCall, IsLeftAround}
 use Rattle.group_commit.specs.declared.error.StoreError.{StoreError}
 use Rattle.group_commit.specs.declared.phase.Phase.{Phase}
 use Rattle.group_commit.specs.declared.phase.Phase.TheVariants.{Idle, Pages, Close, Sync1, Body, Sync2, Gate, Sync3}
@@ -26,20 +28,20 @@ left_in Sync3 slot stale_open current next numbers fresh c below plan stood = is
 
 module _ {D : Type 0} (facts : Ghosts D) where
   -- what a crash now leaves of a store
-  pub left_of : (held : Held D) (slot : ℕ) (numbers fresh : List ℕ) → IsSound facts held slot numbers fresh → facts.tells held.disk
+  pub left_of : (held : StoreHeld D) (slot : ℕ) (numbers fresh : List ℕ) → IsSound facts held slot numbers fresh → facts.tells held.disk
       → (c : List ℕ) → facts.survives held.disk c → IsLeft held.phase held.current held.next c
   left_of held slot numbers fresh sound tells c left =
       left_in held.phase slot held.stale_open held.current held.next numbers fresh c sound.slots sound.plan (sound.stands tells c left)
 
   -- a device call between two sound stores
-  pub device_call : (T : Type 0) (failures writes syncs : ℕ) (error : StoreError) (result : Result T StoreError) (inside old new : Held D) (slot slot' : ℕ)
+  pub device_call : (T : Type 0) (made : Call) (result : Result T StoreError) (inside old new : StoreHeld D) (slot slot' : ℕ)
       (numbers fresh : List ℕ) → inside ≡ old
       → IsSound facts inside slot numbers fresh → IsSound facts new slot' numbers fresh
       → (facts.tells new.disk ↔ facts.tells inside.disk)
-      → (facts.tells inside.disk → IsOneCall facts (failures_in result) writes syncs inside.disk new.disk)
-      → (facts.tells inside.disk → IsLawful facts inside.disk) → IfErr result (λ e. e ≡ error)
-      → IsDeviceCall facts writes syncs error result old new
-  device_call T failures writes syncs error result inside old new slot slot' numbers fresh same sound sound' told call lawful refused =
+      → (facts.tells inside.disk → IsOneCall facts (failures_in result) (writes_of made) (syncs_of made) inside.disk new.disk)
+      → (facts.tells inside.disk → IsLawful facts inside.disk) → IfErr result (λ e. e ≡ error_of made)
+      → IsDeviceCall facts made result old new
+  device_call T made result inside old new slot slot' numbers fresh same sound sound' told call lawful refused =
       rw (sym same) (record {
         tells = told;
         call = call;

@@ -3,7 +3,7 @@ use Rattle.std.proofs.Common.{◌≡◌, ℕ, Bool, true, false, not, ◌&&◌, 
 use Rattle.std.proofs.lemmas.Bool.Decides.{nat_tests}
 use Rattle.page_file.specs.Pages.{pages, are_pages, are_whole, is_zero, joined}
 use Rattle.root_slots.specs.Root.{is_root, tables_of, stream_length_of, data_count}
-use Rattle.group_commit.specs.Image.{entries, data_pages_in, are_tables, stream_in, tables_in, stream, reached, Stores}
+use Rattle.group_commit.specs.Image.{entries, data_pages_in, are_tables, stream_in, tables_in, stream, pages_reached, Stores}
 
 -- some pages and some more are the same: then each of them
 pages_of_first : (a b c f : List ℕ) → pages (a ++ b) c ≡ pages (a ++ b) f → pages a c ≡ pages a f
@@ -31,17 +31,17 @@ pages_of_second (n ∷ ns) b c f same = pages_of_second ns b c f (ap rest_of sam
     rest_of (x ∷ xs) = xs
 
 -- the tables are the same
-tables_same : (f c root : List ℕ) → pages (reached f root) c ≡ pages (reached f root) f → tables_in c root ≡ tables_in f root
+tables_same : (f c root : List ℕ) → pages (pages_reached f root) c ≡ pages (pages_reached f root) f → tables_in c root ≡ tables_in f root
 tables_same f c root same = pages_of_first (tables_of root) (data_pages_in root (tables_in f root)) c f same
 
 -- a file in which the reached pages are the same has the same stream, or the same fault
-pub stream_same : (f c root : List ℕ) → pages (reached f root) c ≡ pages (reached f root) f → stream c root ≡ stream f root
+pub stream_same : (f c root : List ℕ) → pages (pages_reached f root) c ≡ pages (pages_reached f root) f → stream c root ≡ stream f root
 stream_same f c root same =
     let tables = tables_same f c root same in
     let data_pages = pages_of_second (tables_of root) (data_pages_in root (tables_in f root)) c f same in
     ap (λ ts. stream_in root ts (pages (data_pages_in root ts) c)) tables ∙ ap (λ ds. stream_in root (tables_in f root) ds) data_pages
 
-pub reached_same : (f c root : List ℕ) → pages (reached f root) c ≡ pages (reached f root) f → reached c root ≡ reached f root
+pub reached_same : (f c root : List ℕ) → pages (pages_reached f root) c ≡ pages (pages_reached f root) f → pages_reached c root ≡ pages_reached f root
 reached_same f c root same = ap (λ ts. tables_of root ++ data_pages_in root ts) (tables_same f c root same)
 
 -- a root is stored in a file in which its pages are the same

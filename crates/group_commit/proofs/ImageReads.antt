@@ -10,8 +10,8 @@ use Rattle.root_slots.specs.Body.{Root, Spells}
 use Rattle.root_slots.specs.Slots.{gate, body, live}
 use Rattle.root_slots.specs.Live.{IsLive}
 use Rattle.group_commit.specs.Saved.{Saved}
-use Rattle.group_commit.specs.Image.{data_pages_in, are_tables, tables_in, stream, reached, Stores, in_slot, with_stream, stored}
-use Rattle.group_commit.specs.Commit.{Stands}
+use Rattle.group_commit.specs.Image.{data_pages_in, are_tables, tables_in, stream, pages_reached, Stores, in_slot, root_and_stream, stored}
+use Rattle.group_commit.specs.Standing.{Stands}
 use Rattle.group_commit.specs.declared.phase.Phase.TheVariants.{Idle}
 use Rattle.group_commit.specs.Loading.{reached_in, stream_of, stream_behind, reached_of, stream_at}
 
@@ -47,9 +47,9 @@ stream_is : (file root : List ℕ) (head : Root) → Spells root head → stream
 stream_is file root head spells = rw (sym spells.says) (stream_steps file root spells.valid)
 
 -- the pages that were reached
-reached_is : (file root ns : List ℕ) (head : Root) → Spells root head → reached_of head file ≡ Ok ns → reached file root ≡ ns
+reached_is : (file root ns : List ℕ) (head : Root) → Spells root head → reached_of head file ≡ Ok ns → pages_reached file root ≡ ns
 reached_is file root ns head spells found =
-    by_tests (are_whole (tables_in file root)) (are_tables root (tables_in file root)) (reached file root) (rw (sym spells.says) at found)
+    by_tests (are_whole (tables_in file root)) (are_tables root (tables_in file root)) (pages_reached file root) (rw (sym spells.says) at found)
   where
     tested : Bool → Bool → List ℕ → Result (List ℕ) ℕ
     tested w t all = if not w then Err 43 else if not t then Err 45 else Ok all
@@ -72,12 +72,12 @@ stores_of file root bytes ns head spells read found = record {
 -- a fault of the stream is the file's
 pub stream_fault : (file : List ℕ) (slot : ℕ) (stale_open : Bool) (head : Root) (n : ℕ) → IsLive file slot stale_open head → stream_at head file ≡ Err n → stored file ≡ Err n
 stream_fault file slot stale_open head n it is =
-    ap (in_slot file) it.picked ∙ ap (with_stream (body slot file)) (stream_is file (body slot file) head it.spells ∙ is)
+    ap (in_slot file) it.picked ∙ ap (root_and_stream (body slot file)) (stream_is file (body slot file) head it.spells ∙ is)
 
 pub stored_stream : (file : List ℕ) (slot : ℕ) (stale_open : Bool) (head : Root) (bytes : List ℕ) → IsLive file slot stale_open head → stream_at head file ≡ Ok bytes
     → stored file ≡ Ok (body slot file, bytes)
 stored_stream file slot stale_open head bytes it is =
-    ap (in_slot file) it.picked ∙ ap (with_stream (body slot file)) (stream_is file (body slot file) head it.spells ∙ is)
+    ap (in_slot file) it.picked ∙ ap (root_and_stream (body slot file)) (stream_is file (body slot file) head it.spells ∙ is)
 
 -- the live slot is open, and the other one closed or older
 record Opened (file : List ℕ) (slot : ℕ) : Type 0 where

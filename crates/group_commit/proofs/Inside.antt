@@ -13,8 +13,9 @@ use Rattle.page_file.proofs.Apart.{apart_first, each_behind, place_of, has-appen
 use Rattle.root_slots.specs.Root.{tables_of}
 use Rattle.group_commit.specs.Saved.{Saved}
 use Rattle.group_commit.specs.Image.{tables_in, data_pages_in}
-use Rattle.group_commit.specs.Commit.{HasPages, ReadAs, Reads}
-use Rattle.group_commit.specs.Held.{Held, IsSound}
+use Rattle.group_commit.specs.Standing.{HasPages, ReadAs, Reads}
+use Rattle.group_commit.specs.Held.{StoreHeld}
+use Rattle.group_commit.specs.Standing.{IsSound}
 use Rattle.group_commit.specs.declared.phase.Phase.{Phase}
 use Rattle.group_commit.specs.declared.phase.Phase.TheVariants.{Idle, Pages}
 use Rattle.group_commit.proofs.Frame.{reading_of}
@@ -59,7 +60,7 @@ stored_whole root file has_pages =
 
 module _ {D : Type 0} (facts : Ghosts D) where
   -- the next page begins in the file, or at its end
-  pub inside_page : (held : Held D) (slot : ℕ) (numbers fresh : List ℕ) (k : ℕ) → IsSound facts held slot numbers fresh → held.phase ≡ Pages k
+  pub inside_page : (held : StoreHeld D) (slot : ℕ) (numbers fresh : List ℕ) (k : ℕ) → IsSound facts held slot numbers fresh → held.phase ≡ Pages k
       → facts.tells held.disk → (facts.tells held.disk → IsLawful facts held.disk) → held.failed ≡ false
       → 4096 * get_or numbers k 0 ≤ length (facts.content held.disk)
   inside_page held slot numbers fresh k sound at_page tells lawful works =

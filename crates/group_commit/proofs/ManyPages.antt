@@ -9,7 +9,7 @@ use Rattle.std.proofs.lemmas.List.{drop-drop, drop_at, take-append-le, drop-appe
 use Rattle.page_file.specs.Pages.{page, pages, are_whole, is_zero, joined, numbers, number_bytes}
 use Rattle.page_file.proofs.NumberLemmas.{numbers_again, length-number_bytes}
 use Rattle.group_commit.specs.Image.{entries}
-use Rattle.group_commit.specs.Commit.{ReadAs}
+use Rattle.group_commit.specs.Standing.{ReadAs}
 
 pub joined-append : (a b : List (List ℕ)) → joined (a ++ b) ≡ joined a ++ joined b
 joined-append [] b = refl
@@ -135,7 +135,7 @@ numbers_written ns k m below within =
     ∙ ap (λ r. ns ++ numbers k r) (drop_at (number_bytes ns) (replicate m 0) (4 * length ns) (length-number_bytes ns))
     ∙ ap (λ r. ns ++ r) (numbers-zeros k m within)
 
--- what is zero is so many zeros
+-- what is zero is as many zeros
 pub zeros_are : (xs : List ℕ) → is_zero xs ≡ true → xs ≡ replicate (length xs) 0
 zeros_are [] zero_all = refl
 zeros_are (x ∷ xs) zero_all = cong2 (first_zero x xs zero_all) (zeros_are xs (rest_zero x xs zero_all))

@@ -11,8 +11,8 @@ use Rattle.root_slots.specs.Root.{is_root, tables_of, data_count, stream_length_
 use Rattle.root_slots.specs.Slots.{first_byte, gate, body}
 use Rattle.group_commit.specs.Saved.{Saved}
 use Rattle.group_commit.specs.Image.{stream_in, tables_in, data_pages_in, entries}
-use Rattle.group_commit.specs.Commit.{Stands}
-use Rattle.group_commit.specs.NewFile.{slot_page, new_file, Counts, IsMade}
+use Rattle.group_commit.specs.Standing.{Stands}
+use Rattle.group_commit.specs.NewFile.{slot_page, new_file, Raises, IsMade}
 use Rattle.group_commit.specs.declared.phase.Phase.TheVariants.{Idle}
 use Rattle.group_commit.proofs.Roots.{stream_there}
 
@@ -75,6 +75,6 @@ stands_new root next version replica valid size no_stream no_pages says =
 
 -- the file is made where the calls that make it went well
 pub made_by : {D T E : Type 0} (facts : Ghosts D) (result : Result T E) (file : List ℕ) (writes syncs : ℕ) (old new : D) → OnOk result (facts.content new ≡ file)
-    → OnOk result (Counts facts 0 writes syncs old new) → OnOk result (IsMade facts file writes syncs old new)
+    → OnOk result (Raises facts 0 writes syncs old new) → OnOk result (IsMade facts file writes syncs old new)
 made_by facts (Ok x) file writes syncs old new made counts = record { made = made; counts = counts }
 made_by facts (Err e) file writes syncs old new made counts = tt

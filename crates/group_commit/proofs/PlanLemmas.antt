@@ -16,8 +16,9 @@ use Rattle.root_slots.proofs.HeadLemmas.{length-tables}
 use Rattle.root_slots.proofs.SpellingLemmas.{all_words}
 use Rattle.group_commit.specs.Saved.{Saved, HasDataPages}
 use Rattle.group_commit.specs.Changes.{cut, changed, parts, data_of, changed_data, changed_tables}
-use Rattle.group_commit.specs.Commit.{Makes}
-use Rattle.group_commit.specs.Plan.{IsNext, KeepsPages, Plans, kept_of, filled}
+use Rattle.group_commit.specs.Standing.{Makes}
+use Rattle.group_commit.specs.Plan.{IsNext, KeepsPages, kept_of}
+use Rattle.group_commit.specs.Planning.{Plans, filled}
 use Rattle.group_commit.specs.declared.phase.Phase.TheVariants.{Pages}
 use Rattle.group_commit.proofs.CutLemmas.{cut_changed}
 use Rattle.group_commit.proofs.KeptLemmas.{kept_is, more_pages, data_front, data_stays, tables_stay, pages_hold}

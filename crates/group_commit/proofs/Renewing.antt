@@ -7,7 +7,7 @@ use Rattle.std.proofs.lemmas.List.{take-take, take_at, drop_at, take-append-drop
 use Rattle.page_file.specs.Pages.{page, pages, are_whole, joined, numbers, number_bytes}
 use Rattle.root_slots.proofs.HeadLemmas.{length-numbers}
 use Rattle.group_commit.specs.Image.{entries}
-use Rattle.group_commit.specs.Commit.{ReadAs}
+use Rattle.group_commit.specs.Standing.{ReadAs}
 use Rattle.group_commit.proofs.Inside.{whole-append}
 use Rattle.group_commit.proofs.ManyPages.{joined-append, pages-append, length-pages, length-joined}
 use Rattle.group_commit.proofs.ManyPages.{joined-take, whole-take, reads_joined, entries_joined}

@@ -11,8 +11,9 @@ use Rattle.page_file.proofs.Apart.{apart_first, apart_each, each_behind}
 use Rattle.page_file.proofs.Parts.{part_written}
 use Rattle.root_slots.specs.Slots.{gate, body}
 use Rattle.group_commit.specs.Saved.{Saved}
-use Rattle.group_commit.specs.Commit.{Stands, ReadAs, Reads}
-use Rattle.group_commit.specs.Held.{Held, behind_pages, gone_on, IsPlan, IsSound}
+use Rattle.group_commit.specs.Standing.{Stands, ReadAs, Reads}
+use Rattle.group_commit.specs.Held.{StoreHeld, behind_pages, gone_on}
+use Rattle.group_commit.specs.Standing.{IsPlan, IsSound}
 use Rattle.group_commit.specs.declared.phase.Phase.{Phase}
 use Rattle.group_commit.specs.declared.phase.Phase.TheVariants.{Idle, Pages, Close, Sync1, Body, Sync2, Gate, Sync3}
 use Rattle.root_slots.proofs.SlotWrites.{gate_written}
@@ -47,12 +48,12 @@ module _ {D : Type 0} (facts : Ghosts D) where
     makes = plan.makes;
   }
 
-  with_phase : (held : Held D) (slot : ℕ) (numbers fresh : List ℕ) (p : Phase) → held.phase ≡ p → IsSound facts held slot numbers fresh
+  with_phase : (held : StoreHeld D) (slot : ℕ) (numbers fresh : List ℕ) (p : Phase) → held.phase ≡ p → IsSound facts held slot numbers fresh
       → IsSound facts (record held { phase = p }) slot numbers fresh
   with_phase held slot numbers fresh p is sound = rw (sym is) sound
 
   -- a page is written
-  pub sound_page : (held : Held D) (slot : ℕ) (numbers fresh : List ℕ) (k : ℕ) (new : D) → IsSound facts held slot numbers fresh → held.phase ≡ Pages k
+  pub sound_page : (held : StoreHeld D) (slot : ℕ) (numbers fresh : List ℕ) (k : ℕ) (new : D) → IsSound facts held slot numbers fresh → held.phase ≡ Pages k
       → (facts.tells held.disk → IsLawful facts held.disk) → (facts.tells new → facts.tells held.disk)
       → (facts.tells held.disk → Tears facts (4096 * get_or numbers k 0) 4096 held.disk new)
       → (facts.tells held.disk → facts.content new ≡ overwritten (facts.content held.disk) (4096 * get_or numbers k 0) (part fresh (4096 * k) 4096))
@@ -122,7 +123,7 @@ module _ {D : Type 0} (facts : Ghosts D) where
           by_test false true above shut = λ i below. reads i (omega (arith, below, above refl, count))
           by_test false false above shut = ((λ i below. reads i (omega (arith, below, above refl, count))), shut refl)
 
-  pub sound_page_failed : (held : Held D) (slot : ℕ) (numbers fresh : List ℕ) (k : ℕ) (new : D) → IsSound facts held slot numbers fresh → held.phase ≡ Pages k
+  pub sound_page_failed : (held : StoreHeld D) (slot : ℕ) (numbers fresh : List ℕ) (k : ℕ) (new : D) → IsSound facts held slot numbers fresh → held.phase ≡ Pages k
       → (facts.tells new → facts.tells held.disk)
       → (facts.tells held.disk → Tears facts (4096 * get_or numbers k 0) 4096 held.disk new)
       → IsSound facts (record held { disk = new; failed = true }) slot numbers fresh
@@ -143,7 +144,7 @@ module _ {D : Type 0} (facts : Ghosts D) where
       }
 
   -- the stale gate is written, as 0 or in part
-  pub sound_close : (held : Held D) (slot : ℕ) (numbers fresh : List ℕ) (failed : Bool) (new : D) → IsSound facts held slot numbers fresh → held.phase ≡ Close
+  pub sound_close : (held : StoreHeld D) (slot : ℕ) (numbers fresh : List ℕ) (failed : Bool) (new : D) → IsSound facts held slot numbers fresh → held.phase ≡ Close
       → (facts.tells new → facts.tells held.disk)
       → (facts.tells held.disk → Tears facts (4096 * (1 - slot)) 1 held.disk new)
       → (facts.tells held.disk → failed ≡ false → facts.content new ≡ overwritten (facts.content held.disk) (4096 * (1 - slot)) (0 ∷ []))
@@ -170,7 +171,7 @@ module _ {D : Type 0} (facts : Ghosts D) where
       }
 
   -- the new pages and the closed gate are settled
-  pub sound_sync1 : (held : Held D) (slot : ℕ) (numbers fresh : List ℕ) (new : D) → IsSound facts held slot numbers fresh → held.phase ≡ Sync1
+  pub sound_sync1 : (held : StoreHeld D) (slot : ℕ) (numbers fresh : List ℕ) (new : D) → IsSound facts held slot numbers fresh → held.phase ≡ Sync1
       → (facts.tells new → facts.tells held.disk) → (facts.tells held.disk → Settles facts held.disk new)
       → (facts.tells held.disk → IsLawful facts held.disk) → held.failed ≡ false
       → IsSound facts (record held { disk = new; phase = Body }) slot numbers fresh
@@ -187,7 +188,7 @@ module _ {D : Type 0} (facts : Ghosts D) where
       }
 
   -- the body of the stale slot is written, whole or in part
-  pub sound_body : (held : Held D) (slot : ℕ) (numbers fresh : List ℕ) (failed : Bool) (new : D) → IsSound facts held slot numbers fresh → held.phase ≡ Body
+  pub sound_body : (held : StoreHeld D) (slot : ℕ) (numbers fresh : List ℕ) (failed : Bool) (new : D) → IsSound facts held slot numbers fresh → held.phase ≡ Body
       → (facts.tells new → facts.tells held.disk)
       → (facts.tells held.disk → Tears facts (4096 * (1 - slot) + 8) 4088 held.disk new)
       → (facts.tells held.disk → failed ≡ false → facts.content new ≡ overwritten (facts.content held.disk) (4096 * (1 - slot) + 8) held.next.body)
@@ -210,7 +211,7 @@ module _ {D : Type 0} (facts : Ghosts D) where
       }
 
   -- that body is settled
-  pub sound_sync2 : (held : Held D) (slot : ℕ) (numbers fresh : List ℕ) (new : D) → IsSound facts held slot numbers fresh → held.phase ≡ Sync2
+  pub sound_sync2 : (held : StoreHeld D) (slot : ℕ) (numbers fresh : List ℕ) (new : D) → IsSound facts held slot numbers fresh → held.phase ≡ Sync2
       → (facts.tells new → facts.tells held.disk) → (facts.tells held.disk → Settles facts held.disk new)
       → (facts.tells held.disk → IsLawful facts held.disk) → held.failed ≡ false
       → IsSound facts (record held { disk = new; phase = Gate }) slot numbers fresh
@@ -227,7 +228,7 @@ module _ {D : Type 0} (facts : Ghosts D) where
       }
 
   -- the gate of the new root is written, as 1 or in part
-  pub sound_gate : (held : Held D) (slot : ℕ) (numbers fresh : List ℕ) (failed : Bool) (new : D) → IsSound facts held slot numbers fresh → held.phase ≡ Gate
+  pub sound_gate : (held : StoreHeld D) (slot : ℕ) (numbers fresh : List ℕ) (failed : Bool) (new : D) → IsSound facts held slot numbers fresh → held.phase ≡ Gate
       → (facts.tells new → facts.tells held.disk)
       → (facts.tells held.disk → Tears facts (4096 * (1 - slot)) 1 held.disk new)
       → (facts.tells held.disk → failed ≡ false → facts.content new ≡ overwritten (facts.content held.disk) (4096 * (1 - slot)) (1 ∷ []))
@@ -249,7 +250,7 @@ module _ {D : Type 0} (facts : Ghosts D) where
       }
 
   -- the gate is settled: the new root is live
-  pub sound_sync3 : (held : Held D) (slot : ℕ) (numbers fresh : List ℕ) (new : D) → IsSound facts held slot numbers fresh → held.phase ≡ Sync3
+  pub sound_sync3 : (held : StoreHeld D) (slot : ℕ) (numbers fresh : List ℕ) (new : D) → IsSound facts held slot numbers fresh → held.phase ≡ Sync3
       → (facts.tells new → facts.tells held.disk) → (facts.tells held.disk → Settles facts held.disk new)
       → (facts.tells held.disk → IsLawful facts held.disk) → held.failed ≡ false
       → IsSound facts (gone_on Sync3 held new) (1 - slot) numbers fresh
@@ -266,7 +267,7 @@ module _ {D : Type 0} (facts : Ghosts D) where
       }
 
   -- a sync that fails settles nothing
-  pub sound_sync_failed : (held : Held D) (slot : ℕ) (numbers fresh : List ℕ) (new : D) → IsSound facts held slot numbers fresh
+  pub sound_sync_failed : (held : StoreHeld D) (slot : ℕ) (numbers fresh : List ℕ) (new : D) → IsSound facts held slot numbers fresh
       → (facts.tells new → facts.tells held.disk) → (facts.tells held.disk → Keeps facts held.disk new)
       → IsSound facts (record held { disk = new; failed = true }) slot numbers fresh
   sound_sync_failed held slot numbers fresh new sound told keeps = record {
@@ -278,7 +279,7 @@ module _ {D : Type 0} (facts : Ghosts D) where
   }
 
   -- a commit begins: no device call is made
-  pub sound_begin : (held : Held D) (slot : ℕ) (old_numbers old_fresh : List ℕ) (next : Saved) (numbers fresh : List ℕ)
+  pub sound_begin : (held : StoreHeld D) (slot : ℕ) (old_numbers old_fresh : List ℕ) (next : Saved) (numbers fresh : List ℕ)
       → IsSound facts held slot old_numbers old_fresh → held.phase ≡ Idle
       → length fresh ≡ 4096 * length numbers → IsPlan (Pages 0) held.current next numbers fresh
       → IsSound facts (record held { phase = Pages 0; next = next; numbers = numbers }) slot numbers fresh

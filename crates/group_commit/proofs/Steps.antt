@@ -7,9 +7,10 @@ use Rattle.page_file.proofs.Parts.{pages_other, pages_behind, page_other, part_o
 use Rattle.page_file.proofs.Apart.{no_two, each_behind}
 use Rattle.root_slots.specs.Root.{version_of}
 use Rattle.root_slots.specs.Slots.{gate, body, live}
-use Rattle.group_commit.specs.Image.{in_slot, with_stream, stream, tables_in, data_pages_in}
+use Rattle.group_commit.specs.Image.{in_slot, root_and_stream, stream, tables_in, data_pages_in}
 use Rattle.group_commit.specs.Saved.{Saved}
-use Rattle.group_commit.specs.Commit.{HasPages, IsOlder, Stands, ReadAs, Reads, Makes, Is, IsLeft}
+use Rattle.group_commit.specs.Commit.{Is, IsLeft}
+use Rattle.group_commit.specs.Standing.{HasPages, IsOlder, Stands, ReadAs, Reads, Makes}
 use Rattle.group_commit.specs.declared.phase.Phase.{Phase}
 use Rattle.group_commit.specs.declared.phase.Phase.TheVariants.{Idle, Pages, Close, Sync1, Body, Sync2, Gate, Sync3}
 use Rattle.group_commit.proofs.Frame.{stores_same, reading_of}
@@ -164,7 +165,7 @@ stored_in : (file : List ℕ) (slot : ℕ) (root : Saved) → live file ≡ Ok s
 stored_in file slot root is holds has_pages =
     record {
       holds =
-          ap (λ l. in_slot file l) is ∙ ap (λ b. with_stream b (stream file b)) holds ∙ ap (λ r. with_stream root.body r) has_pages.spells;
+          ap (λ l. in_slot file l) is ∙ ap (λ b. root_and_stream b (stream file b)) holds ∙ ap (λ r. root_and_stream root.body r) has_pages.spells;
       reaches = has_pages.reaches;
     }
 

@@ -8,22 +8,22 @@ use Rattle.disk_trait.specs.Writing.{Writes, failures_in}
 use Rattle.disk_trait.specs.declared.facts.DiskFacts.{Ghosts}
 use Rattle.root_slots.specs.Body.{root_of}
 use Rattle.root_slots.specs.Slots.{gate}
-use Rattle.group_commit.specs.NewFile.{slot_page, first_root, failures_of, is_unwritten, Counts, IsUpTo, HasSlots, Stops, Refuses, PutsPartly, OpensPartly}
+use Rattle.group_commit.specs.NewFile.{slot_page, first_root, failures_of, is_unwritten, Raises, IsUpTo, HasSlots, Stops, Refuses, PutsPartly, OpensPartly}
 use Rattle.group_commit.specs.declared.init_fault.InitError.{InitError}
 use Rattle.group_commit.specs.declared.init_fault.InitError.TheVariants.{Memory, NotEmpty, WriteFailed, SyncFailed}
 use Rattle.group_commit.proofs.NewFileLemmas.{put_at_end}
 
 module _ {D : Type 0} (facts : Ghosts D) where
   -- calls one after another
-  pub counts_then : (f w s f' w' s' : ℕ) (old mid new : D) → Counts facts f w s old mid → Counts facts f' w' s' mid new
-      → Counts facts (f + f') (w + w') (s + s') old new
+  pub counts_then : (f w s f' w' s' : ℕ) (old mid new : D) → Raises facts f w s old mid → Raises facts f' w' s' mid new
+      → Raises facts (f + f') (w + w') (s + s') old new
   counts_then f w s f' w' s' old mid new first rest = record {
     failures = omega (arith, first.failures, rest.failures);
     writes = omega (arith, first.writes, rest.writes);
     syncs = omega (arith, first.syncs, rest.syncs);
   }
 
-  pub counts_of : (f w s : ℕ) (old new : D) → IsOneCall facts f w s old new → Counts facts f w s old new
+  pub counts_of : (f w s : ℕ) (old new : D) → IsOneCall facts f w s old new → Raises facts f w s old new
   counts_of f w s old new call = record { failures = call.failures; writes = call.writes; syncs = call.syncs }
 
   pub keeps_then : (old mid new : D) → Keeps facts old mid → Keeps facts mid new → Keeps facts old new
@@ -37,7 +37,7 @@ module _ {D : Type 0} (facts : Ghosts D) where
   keeps_same disk = record { same = refl; no_more = λ c left. left; no_fewer = λ c left. left }
 
   -- nothing was written
-  untouched : (replica : ℕ) (cause : InitError) (old new : D) → IsUpTo cause 0 0 → Counts facts (failures_of cause) 0 0 old new
+  untouched : (replica : ℕ) (cause : InitError) (old new : D) → IsUpTo cause 0 0 → Raises facts (failures_of cause) 0 0 old new
       → Stops facts replica cause old new
   untouched replica cause old new up_to counts = record {
     writes = 0;
@@ -57,7 +57,7 @@ module _ {D : Type 0} (facts : Ghosts D) where
   }
 
   -- the file was looked at before
-  pub refuses_then : (replica : ℕ) (cause : InitError) (old mid new : D) → facts.content old ≡ [] → Counts facts 0 0 0 old mid → Keeps facts old mid
+  pub refuses_then : (replica : ℕ) (cause : InitError) (old mid new : D) → facts.content old ≡ [] → Raises facts 0 0 0 old mid → Keeps facts old mid
       → Refuses facts replica cause mid new → Refuses facts replica cause old new
   refuses_then replica cause old mid new empty looked keeps refused = record {
     not_empty = λ is. absurd (refused.not_empty is (keeps.same ∙ empty));
@@ -90,7 +90,7 @@ module _ {D : Type 0} (facts : Ghosts D) where
 
   -- two writes, if the second one went well too
   pub second_counts : {E : Type 0} (result : Result Unit E) (old mid new : D) → IsOneCall facts 0 1 0 old mid → IsOneCall facts (failures_in result) 1 0 mid new
-      → OnOk result (Counts facts 0 2 0 old new)
+      → OnOk result (Raises facts 0 2 0 old new)
   second_counts (Ok x) old mid new one two = counts_then 0 1 0 0 1 0 old mid new (counts_of 0 1 0 old mid one) (counts_of 0 1 0 mid new two)
   second_counts (Err e) old mid new one two = tt
 
@@ -153,7 +153,7 @@ module _ {D : Type 0} (facts : Ghosts D) where
 
   -- a sync or the write of the gate failed
   pub refuses_opening : (replica : ℕ) (body first : List ℕ) (cause : InitError) (old mid new : D) → facts.content old ≡ []
-      → root_of body ≡ first_root replica → first ≡ slot_page 0 body → facts.content mid ≡ first ++ replicate 4096 0 → Counts facts 0 2 0 old mid
+      → root_of body ≡ first_root replica → first ≡ slot_page 0 body → facts.content mid ≡ first ++ replicate 4096 0 → Raises facts 0 2 0 old mid
       → OpensPartly facts cause mid new → Refuses facts replica cause old new
   refuses_opening replica body first cause old mid new empty root is_first slots before partly = by_call partly
     where

@@ -3,7 +3,8 @@ use Rattle.std.proofs.Common.{◌≡◌, ◌≢◌, ℕ, ◌+◌, Bool, true, fa
 use Rattle.std.proofs.lemmas.List.{take_all, take_at}
 use Rattle.root_slots.specs.Root.{stream_length_of}
 use Rattle.group_commit.specs.Saved.{Paged}
-use Rattle.group_commit.specs.Held.{HasStreams, behind_pages}
+use Rattle.group_commit.specs.Held.{behind_pages}
+use Rattle.group_commit.specs.Standing.{HasStreams}
 use Rattle.group_commit.specs.declared.phase.Phase.{Phase}
 use Rattle.group_commit.specs.declared.phase.Phase.TheVariants.{Idle, Pages, Close, Sync1}
 

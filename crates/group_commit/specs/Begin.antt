@@ -1,8 +1,8 @@
 -- How a commit begins.
-use Rattle.std.specs.Prelude.{◌≡◌, ◌⊎◌, ℕ, ◌+◌, Bool, true, false, not, ◌&&◌, nat_lt, nat_le}
-use Rattle.std.specs.Prelude.{if◌then◌else◌, List, [], ◌∷◌, ◌++◌, length, Result, Ok, Err, Option}
+use Rattle.std.specs.Prelude.{◌≡◌, ◌⊎◌, ℕ, ◌+◌, Bool, true, false, not, ◌&&◌, nat_lt, nat_le, if◌then◌else◌}
+use Rattle.std.specs.Prelude.{List, [], ◌∷◌, ◌++◌, length, Result, Ok, Err, Option}
 use Rattle.std.specs.Prelude.{Some, None}
-use Rattle.fixed_numbers.specs.declared.limits.TheConstants.{MAX_OPERATIONS, MAX_STREAM_LENGTH}
+use Rattle.fixed_numbers.specs.declared.limits.TheConstants.{MAX_OPERATIONS, MAX_STREAM_LENGTH, MAX_VERSION}
 use Rattle.disk_trait.specs.declared.facts.DiskFacts.{Ghosts}
 use Rattle.op_model.specs.declared.op.Op.{Op}
 use Rattle.op_model.specs.Records.{stream_length}
@@ -14,7 +14,7 @@ use Rattle.root_slots.specs.Slots.{live}
 use Rattle.group_commit.specs.Changes.{changed_pages}
 use Rattle.group_commit.specs.Saved.{Saved}
 use Rattle.group_commit.specs.Commit.{IsLeft}
-use Rattle.group_commit.specs.Held.{Held}
+use Rattle.group_commit.specs.Held.{StoreHeld}
 use Rattle.group_commit.specs.Plan.{IsNext, KeepsPages}
 use Rattle.group_commit.specs.declared.error.StoreError.{StoreError}
 use Rattle.group_commit.specs.declared.error.StoreError.TheVariants.{Memory, Limit, Busy, Failed}
@@ -30,11 +30,11 @@ abbrev pub is_none : List Op → Bool
 is_none [] = true
 is_none (op ∷ ops) = false
 
--- there is a further version, and room for so many operations, whose records take so many bytes: at most 2^24 operations in a file,
--- and 2^30 bytes of records
+-- there is a further version, and room for this number of operations, whose records take this number of bytes: at most 2^24
+-- operations in a file, and 2^30 bytes of records
 abbrev pub has_room_for : Saved → ℕ → ℕ → Bool
 has_room_for current count bytes =
-    nat_lt (version_of current.body) 18446744073709551615 && nat_le (count_of current.body + count) MAX_OPERATIONS
+    nat_lt (version_of current.body) MAX_VERSION && nat_le (count_of current.body + count) MAX_OPERATIONS
     && nat_le (length current.stream + bytes) MAX_STREAM_LENGTH
 
 -- there is a further version, and room for these operations
@@ -42,7 +42,7 @@ abbrev pub has_room : Saved → List Op → Bool
 has_room current ops = has_room_for current (length ops) (stream_length ops)
 
 -- the answer that is due, in the order of test: failed 44, busy 8, nothing to commit, limit 7, or the length of the new list
-abbrev pub begin_due : {D : Type 0} → Held D → List Op → Result (Option ℕ) StoreError
+abbrev pub begin_due : {D : Type 0} → StoreHeld D → List Op → Result (Option ℕ) StoreError
 begin_due held ops =
     if held.failed then Err Failed
     else if not (is_idle held.phase) then Err Busy
@@ -60,7 +60,7 @@ abbrev pub IsAnswer : Result (Option ℕ) StoreError → Result (Option ℕ) Sto
 IsAnswer due answer = (answer ≡ due) ⊎ ((answer ≡ Err Memory) × IsBegun due)
 
 -- a commit of these operations has begun: no device call is made, and the live root stays
-pub record Begins {D : Type 0} (facts : Ghosts D) (old : Held D) (ops : List Op) (new : Held D) : Type 0 where
+pub record Begins {D : Type 0} (facts : Ghosts D) (old : StoreHeld D) (ops : List Op) (new : StoreHeld D) : Type 0 where
   pub disk : new.disk ≡ old.disk
   pub current : new.current ≡ old.current
   pub stale_open : new.stale_open ≡ old.stale_open

@@ -1,10 +1,10 @@
 -- Which pages a commit writes: those that change, and those that are new.
-use Rattle.std.specs.Prelude.{ℕ, zero, suc, ◌==◌, Bool, true, false, ◌&&◌, if◌then◌else◌, List, [], ◌∷◌, ◌++◌, length, take, drop, replicate}
+use Rattle.std.specs.Prelude.{ℕ, zero, suc, ◌==◌, Bool, true, false, ◌&&◌, List, [], ◌∷◌, ◌++◌, length, take, drop, replicate, if◌then◌else◌}
 use Rattle.fixed_numbers.specs.declared.sizes.TheConstants.{PAGE_SIZE, TABLE_ENTRIES}
 use Rattle.root_slots.specs.Root.{table_count, tables_of, pages_for}
 use Rattle.group_commit.specs.Saved.{Saved}
 
--- so many parts of one size, one after another
+-- the first parts of one size, one after another, a given number of them
 abbrev pub cut : ℕ → ℕ → List ℕ → List (List ℕ)
 cut size zero all = []
 cut size (suc n) all = take size all ∷ cut size n (drop size all)

@@ -1,6 +1,6 @@
 -- What a file of pages stands for, before its records are read: the body of its live slot, and the stream of bytes that the
 -- pages hold which that body names.
-use Rattle.std.specs.Prelude.{◌≡◌, ℕ, Bool, not, ◌&&◌, if◌then◌else◌, List, ◌++◌, drop, take, Result, Ok, Err}
+use Rattle.std.specs.Prelude.{◌≡◌, ℕ, Bool, not, ◌&&◌, List, ◌++◌, drop, take, Result, Ok, Err, if◌then◌else◌}
 use Rattle.fixed_numbers.specs.declared.refusals.TheConstants.{BAD_ROOT, BAD_STREAM, BAD_TABLE}
 use Rattle.page_file.specs.Pages.{pages, are_whole, is_zero, are_pages, joined}
 pub use Rattle.page_file.specs.Tables.{entries}
@@ -33,15 +33,15 @@ abbrev pub stream : List ℕ → List ℕ → Result (List ℕ) ℕ
 stream file root = stream_in root (tables_in file root) (pages (data_pages_in root (tables_in file root)) file)
 
 -- the pages that a body reaches in a file
-abbrev pub reached : List ℕ → List ℕ → List ℕ
-reached file root = tables_of root ++ data_pages_in root (tables_in file root)
+abbrev pub pages_reached : List ℕ → List ℕ → List ℕ
+pages_reached file root = tables_of root ++ data_pages_in root (tables_in file root)
 
-abbrev pub with_stream : List ℕ → Result (List ℕ) ℕ → Result (List ℕ × List ℕ) ℕ
-with_stream root (Ok bytes) = Ok (root, bytes)
-with_stream root (Err n) = Err n
+abbrev pub root_and_stream : List ℕ → Result (List ℕ) ℕ → Result (List ℕ × List ℕ) ℕ
+root_and_stream root (Ok bytes) = Ok (root, bytes)
+root_and_stream root (Err n) = Err n
 
 abbrev pub in_slot : List ℕ → Result ℕ ℕ → Result (List ℕ × List ℕ) ℕ
-in_slot file (Ok slot) = with_stream (body slot file) (stream file (body slot file))
+in_slot file (Ok slot) = root_and_stream (body slot file) (stream file (body slot file))
 in_slot file (Err n) = Err n
 
 -- the live body of a file and its stream; or the first fault: no root 42, bad root 43, bad table 45, bad stream 46
@@ -51,4 +51,4 @@ stored file = in_slot file (live file)
 -- in this file the body stands for these bytes, and reaches these pages
 pub record Stores (root bytes ns file : List ℕ) : Type 0 where
   pub spells : stream file root ≡ Ok bytes
-  pub reaches : reached file root ≡ ns
+  pub reaches : pages_reached file root ≡ ns

@@ -10,5 +10,7 @@ pub mod NewFile
 pub mod Opening
 pub mod Paging
 pub mod Plan
+pub mod Planning
 pub mod Saved
+pub mod Standing
 pub mod Step

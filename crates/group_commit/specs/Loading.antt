@@ -1,5 +1,5 @@
 -- What a file is loaded as, what a refusal to load it says, and what loading does to the disk.
-use Rattle.std.specs.Prelude.{◌≡◌, ◌≢◌, ◌⊎◌, ℕ, ◌+◌, ◌*◌, nat_le, Bool, true, not, ◌&&◌, if◌then◌else◌, List, [], ◌∷◌, length, take, drop, Result, Ok, Err, ⊤}
+use Rattle.std.specs.Prelude.{◌≡◌, ◌≢◌, ◌⊎◌, ℕ, ◌+◌, ◌*◌, nat_le, Bool, true, not, ◌&&◌, List, [], ◌∷◌, length, take, drop, Result, Ok, Err, ⊤, if◌then◌else◌}
 use Rattle.fixed_numbers.specs.declared.refusals.TheConstants.{BAD_ROOT, BAD_STREAM, BAD_TABLE, NO_ROOT, MEMORY, READ_FAILED, SYNC_FAILED}
 use Rattle.fixed_numbers.specs.declared.sizes.TheConstants.{PAGE_SIZE}
 use Rattle.op_model.specs.declared.op.Op.{Op}
@@ -69,7 +69,7 @@ pub record IsHistory (root : Saved) (replica : ℕ) (ops : List Op) : Type 0 whe
   pub count : length ops ≡ count_of root.body
   pub owner : replica ≡ replica_of root.body
 
--- these bytes aren't the records of so many operations
+-- these bytes aren't the records of this number of operations
 abbrev pub HasNone : List ℕ → ℕ → Type 0
 HasNone bytes count = (ops : List Op) → AreOperations ops → spelled_all ops ≡ bytes → length ops ≢ count
 
@@ -94,17 +94,17 @@ Names SyncFailed found = ⊤
 abbrev pub IsFirstFault : OpenError → List ℕ → Type 0
 IsFirstFault error file = Names error (stored file) ⊎ ((error ≡ BadStream) × HasNoHistory file)
 
--- all of these pages lie whole in a file of so many bytes
+-- all of these pages lie whole in a file of this size
 abbrev pub are_within : ℕ → List ℕ → Bool
 are_within size [] = true
 are_within size (n ∷ ns) = nat_le (PAGE_SIZE * n + PAGE_SIZE) size && are_within size ns
 
--- the stream of so many bytes in these data pages; bad table 45, bad stream 46
+-- the stream of n bytes in these data pages; bad table 45, bad stream 46
 abbrev pub stream_of : ℕ → List (List ℕ) → Result (List ℕ) ℕ
 stream_of n data_pages =
     if not (are_whole data_pages) then Err BAD_TABLE else if not (is_zero (drop n (joined data_pages))) then Err BAD_STREAM else Ok (take n (joined data_pages))
 
--- the stream behind so many table pages
+-- the stream behind this number of table pages
 abbrev pub stream_behind : ℕ → ℕ → List ℕ → Result (List ℕ) ℕ → Result (List ℕ) ℕ
 stream_behind tables n file (Ok ns) = stream_of n (pages (drop tables ns) file)
 stream_behind tables n file (Err e) = Err e

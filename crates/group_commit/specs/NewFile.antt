@@ -10,7 +10,7 @@ use Rattle.root_slots.specs.Root.{is_root, stream_length_of}
 use Rattle.root_slots.specs.Slots.{gate}
 use Rattle.group_commit.specs.Saved.{Paged}
 use Rattle.group_commit.specs.Commit.{IsLeft}
-use Rattle.group_commit.specs.Held.{Held}
+use Rattle.group_commit.specs.Held.{StoreHeld}
 use Rattle.group_commit.specs.declared.phase.Phase.TheVariants.{Idle}
 use Rattle.group_commit.specs.declared.init_fault.InitError.{InitError}
 use Rattle.group_commit.specs.declared.init_fault.InitError.TheVariants.{Memory, NotEmpty, ReadFailed, WriteFailed, SyncFailed}
@@ -47,16 +47,16 @@ is_unwritten WriteFailed = false
 is_unwritten SyncFailed = false
 is_unwritten cause = true
 
--- in some calls so many failed, and so many were writes and syncs
-pub record Counts {D : Type 0} (facts : Ghosts D) (more_failures more_writes more_syncs : ℕ) (old new : D) : Type 0 where
+-- by how much the counts of failures, of writes and of syncs rise in some calls
+pub record Raises {D : Type 0} (facts : Ghosts D) (more_failures more_writes more_syncs : ℕ) (old new : D) : Type 0 where
   pub failures : facts.failures new ≡ facts.failures old + more_failures
   pub writes : facts.writes new ≡ facts.writes old + more_writes
   pub syncs : facts.syncs new ≡ facts.syncs old + more_syncs
 
--- so many writes and syncs made this file, and no call failed
+-- this number of writes and of syncs made this file, and no call failed
 pub record IsMade {D : Type 0} (facts : Ghosts D) (file : List ℕ) (writes syncs : ℕ) (old new : D) : Type 0 where
   pub made : facts.content new ≡ file
-  pub counts : Counts facts 0 writes syncs old new
+  pub counts : Raises facts 0 writes syncs old new
 
 -- the roots of a new store: its first one, an empty one in the place of a commit's, and an index of no pages
 pub record AreFirst (replica : ℕ) (current next : Paged) (index : Index) : Type 0 where
@@ -74,7 +74,7 @@ pub record AreFirst (replica : ℕ) (current next : Paged) (index : Index) : Typ
   pub none_taken : index.taken ≡ []
 
 -- What a new store is, over the disk whose file it made.
-pub record IsNew {D : Type 0} (facts : Ghosts D) (replica : ℕ) (disk : D) (store : Held D) : Type 0 where
+pub record IsNew {D : Type 0} (facts : Ghosts D) (replica : ℕ) (disk : D) (store : StoreHeld D) : Type 0 where
   -- its root says version 1, this replica and no operation
   pub root : root_of store.current.body ≡ first_root replica
   -- and has no stream
@@ -114,7 +114,7 @@ pub record Stops {D : Type 0} (facts : Ghosts D) (replica : ℕ) (cause : InitEr
   pub writes : ℕ
   pub syncs : ℕ
   pub up_to : IsUpTo cause writes syncs
-  pub counts : Counts facts (failures_of cause) writes syncs old new
+  pub counts : Raises facts (failures_of cause) writes syncs old new
   -- the slot's page is written with a closed gate
   pub closed : writes ≡ 2 → gate 0 (facts.content new) ≡ 0
   -- once the gate is written, a crash leaves the slots: they were settled before
@@ -132,7 +132,7 @@ pub record Refuses {D : Type 0} (facts : Ghosts D) (replica : ℕ) (cause : Init
 -- of two writes of slots the first failed, or the second behind it
 abbrev pub PutsPartly : {D : Type 0} → Ghosts D → List ℕ → D → D → Type 0
 PutsPartly facts first old new =
-    Counts facts 1 1 0 old new ⊎ (Counts facts 1 2 0 old new × (take PAGE_SIZE (facts.content new) ≡ first))
+    Raises facts 1 1 0 old new ⊎ (Raises facts 1 2 0 old new × (take PAGE_SIZE (facts.content new) ≡ first))
 
 -- a crash leaves the file that reads gave before, but for its first byte
 abbrev pub IsLeftBehind : {D : Type 0} → Ghosts D → D → D → Type 0
@@ -141,6 +141,6 @@ IsLeftBehind facts old new = (c : List ℕ) → facts.survives new c → drop 1 
 -- of a sync, the write of the first byte, and a sync one failed: nothing was written, or what was there is settled
 abbrev pub OpensPartly : {D : Type 0} → Ghosts D → InitError → D → D → Type 0
 OpensPartly facts e old new =
-    ((e ≡ SyncFailed) × Counts facts 1 0 1 old new × (facts.content new ≡ facts.content old))
-    ⊎ ((e ≡ WriteFailed) × Counts facts 1 1 1 old new × IsLeftBehind facts old new)
-    ⊎ ((e ≡ SyncFailed) × Counts facts 1 1 2 old new × IsLeftBehind facts old new)
+    ((e ≡ SyncFailed) × Raises facts 1 0 1 old new × (facts.content new ≡ facts.content old))
+    ⊎ ((e ≡ WriteFailed) × Raises facts 1 1 1 old new × IsLeftBehind facts old new)
+    ⊎ ((e ≡ SyncFailed) × Raises facts 1 1 2 old new × IsLeftBehind facts old new)

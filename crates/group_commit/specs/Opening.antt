@@ -7,8 +7,9 @@ use Rattle.page_file.specs.Index.{Index}
 use Rattle.root_slots.specs.Body.{Root}
 use Rattle.root_slots.specs.Root.{replica_of, stream_length_of}
 use Rattle.root_slots.specs.Slots.{live}
-use Rattle.group_commit.specs.Commit.{Is, IsLeft, Stands}
-use Rattle.group_commit.specs.Held.{Held}
+use Rattle.group_commit.specs.Commit.{Is, IsLeft}
+use Rattle.group_commit.specs.Standing.{Stands}
+use Rattle.group_commit.specs.Held.{StoreHeld}
 use Rattle.group_commit.specs.Loading.{IsHistory, reached_of, stream_at}
 use Rattle.group_commit.specs.Paging.{IsIndexOf}
 use Rattle.group_commit.specs.Saved.{IsInMemory, with_stream, in_front}
@@ -17,7 +18,7 @@ use Rattle.group_commit.specs.declared.load_stream.Stream.{Stream}
 use Rattle.group_commit.specs.declared.phase.Phase.TheVariants.{Idle}
 
 -- What an opened file is: its store between two commits, the replica that it belongs to, and its operations.
-pub record IsLoaded {D : Type 0} (facts : Ghosts D) (disk : D) (store : Held D) (replica : ℕ) (ops : List Op) : Type 0 where
+pub record IsLoaded {D : Type 0} (facts : Ghosts D) (disk : D) (store : StoreHeld D) (replica : ℕ) (ops : List Op) : Type 0 where
   -- the store's root is the live one of the file
   pub root : facts.tells disk → Is store.current (facts.content disk)
   -- and stands in its live slot

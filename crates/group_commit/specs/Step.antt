@@ -7,26 +7,57 @@ pub use Rattle.disk_trait.specs.Writing.{failures_in, Writes}
 use Rattle.disk_trait.specs.declared.facts.DiskFacts.{Ghosts}
 use Rattle.root_slots.specs.Slots.{gate}
 use Rattle.group_commit.specs.Commit.{IsLeft}
-use Rattle.group_commit.specs.Held.{Held, gone_on, has_failed}
+use Rattle.group_commit.specs.Held.{StoreHeld, gone_on, has_failed}
 use Rattle.group_commit.specs.declared.error.StoreError.{StoreError}
 use Rattle.group_commit.specs.declared.error.StoreError.TheVariants.{Failed, WriteFailed, SyncFailed}
 use Rattle.group_commit.specs.declared.phase.Phase.{Phase}
-use Rattle.group_commit.specs.declared.phase.Phase.TheVariants.{Idle, Pages, Close, Sync1, Body, Sync2, Gate, Sync3}
+use Rattle.group_commit.specs.declared.phase.Phase.TheVariants.{Idle, Pages, Close, Body, Gate}
+
+-- a device call: the write of the k-th new page, of a gate or of a body, or a sync
+pub data Call : Type 0 where
+  no_call : Call
+  write_page : ℕ → Call
+  close_gate : Call
+  write_body : Call
+  open_gate : Call
+  sync : Call
+
+-- the device call of a phase
+abbrev pub call_in : Phase → Call
+call_in Idle = no_call
+call_in (Pages k) = write_page k
+call_in Close = close_gate
+call_in Body = write_body
+call_in Gate = open_gate
+call_in phase = sync
+
+-- how many writes it is, how many syncs, and its failure: 52 of a sync, else 51
+abbrev pub writes_of : Call → ℕ
+writes_of no_call = 0
+writes_of sync = 0
+writes_of call = 1
+
+abbrev pub syncs_of : Call → ℕ
+syncs_of sync = 1
+syncs_of call = 0
+
+abbrev pub error_of : Call → StoreError
+error_of sync = SyncFailed
+error_of call = WriteFailed
 
 -- what a crash leaves before a call, or behind it
-abbrev pub IsLeftAround : {D : Type 0} → Held D → Held D → List ℕ → Type 0
+abbrev pub IsLeftAround : {D : Type 0} → StoreHeld D → StoreHeld D → List ℕ → Type 0
 IsLeftAround old new file = IsLeft old.phase old.current old.next file ⊎ IsLeft new.phase new.current new.next file
 
--- One device call, with so many writes and syncs. It is refused with this error alone, and only where the device failed. A crash
--- at any moment of it leaves what one before it or behind it does.
-pub record IsDeviceCall {D : Type 0} {T : Type 0} (facts : Ghosts D) (writes syncs : ℕ) (error : StoreError) (result : Result T StoreError)
-    (old new : Held D) : Type 0 where
+-- One device call of this kind. It is refused with its failure alone, and only where the device failed. A crash at any moment of it
+-- leaves what one before it or behind it does.
+pub record IsDeviceCall {D T : Type 0} (facts : Ghosts D) (made : Call) (result : Result T StoreError) (old new : StoreHeld D) : Type 0 where
   pub tells : facts.tells new.disk ↔ facts.tells old.disk
-  pub call : facts.tells old.disk → IsOneCall facts (failures_in result) writes syncs old.disk new.disk
+  pub call : facts.tells old.disk → IsOneCall facts (failures_in result) (writes_of made) (syncs_of made) old.disk new.disk
   pub moments : facts.tells old.disk → LeavesOnly facts old.disk new.disk (IsLeftAround old new)
   -- what a crash right after it leaves
   pub left : facts.tells new.disk → (c : List ℕ) → facts.survives new.disk c → IsLeft new.phase new.current new.next c
-  pub refused : IfErr result (λ e. e ≡ error)
+  pub refused : IfErr result (λ e. e ≡ error_of made)
 
 -- A sync, which writes nothing. Where it succeeds, a crash leaves what reads give, and else what it could leave before.
 pub record Syncs {D : Type 0} {T : Type 0} (facts : Ghosts D) (result : Result T StoreError) (old new : D) : Type 0 where
@@ -34,7 +65,7 @@ pub record Syncs {D : Type 0} {T : Type 0} (facts : Ghosts D) (result : Result T
   pub unsettled : OnErr result (Keeps facts old new)
 
 -- the write of the k-th new page
-pub record WritesPage {D : Type 0} {T : Type 0} (facts : Ghosts D) (result : Result T StoreError) (k : ℕ) (held : Held D) (new : D)
+pub record WritesPage {D : Type 0} {T : Type 0} (facts : Ghosts D) (result : Result T StoreError) (k : ℕ) (held : StoreHeld D) (new : D)
     : Type 0 where
   pub page : List ℕ
   pub size : length page ≡ PAGE_SIZE
@@ -42,53 +73,26 @@ pub record WritesPage {D : Type 0} {T : Type 0} (facts : Ghosts D) (result : Res
   pub writes : Writes facts result (PAGE_SIZE * get_or held.numbers k 0) page held.disk new
 
 -- the stale gate, which reads 1, is written as 0
-pub record Closes {D : Type 0} {T : Type 0} (facts : Ghosts D) (result : Result T StoreError) (held : Held D) (new : D) : Type 0 where
+pub record Closes {D : Type 0} {T : Type 0} (facts : Ghosts D) (result : Result T StoreError) (held : StoreHeld D) (new : D) : Type 0 where
   pub is_one : gate (1 - held.slot) (facts.content held.disk) ≡ 1
   pub writes : Writes facts result (PAGE_SIZE * (1 - held.slot)) (0 ∷ []) held.disk new
 
 -- the 4,088 bytes of the next root's body are written behind the stale gate
-pub record Fills {D : Type 0} {T : Type 0} (facts : Ghosts D) (result : Result T StoreError) (held : Held D) (new : D) : Type 0 where
+pub record Fills {D : Type 0} {T : Type 0} (facts : Ghosts D) (result : Result T StoreError) (held : StoreHeld D) (new : D) : Type 0 where
   pub size : length held.next.body ≡ BODY_LENGTH
   pub writes : Writes facts result (PAGE_SIZE * (1 - held.slot) + 8) held.next.body held.disk new
 
--- what the call of a phase does to the disk: it writes in the range that the phase names, or it is a sync
-abbrev pub Does : {D T : Type 0} → Ghosts D → Result T StoreError → Phase → Held D → D → Type 0
-Does facts result Idle held new = new ≡ held.disk
-Does facts result (Pages k) held new = WritesPage facts result k held new
-Does facts result Close held new = Closes facts result held new
-Does facts result Sync1 held new = Syncs facts result held.disk new
-Does facts result Body held new = Fills facts result held new
-Does facts result Sync2 held new = Syncs facts result held.disk new
-Does facts result Gate held new = Writes facts result (PAGE_SIZE * (1 - held.slot)) (1 ∷ []) held.disk new
-Does facts result Sync3 held new = Syncs facts result held.disk new
-
--- the device call of a phase: how many writes and syncs it is, and its failure, 52 of a sync, else 51
-pub record Call : Type 0 where
-  pub writes : ℕ
-  pub syncs : ℕ
-  pub error : StoreError
-
-abbrev pub sync_call : Call
-sync_call = record { writes = 0; syncs = 1; error = SyncFailed }
-
-abbrev pub call_in : Phase → Call
-call_in Idle = record { writes = 0; syncs = 0; error = WriteFailed }
-call_in Sync1 = sync_call
-call_in Sync2 = sync_call
-call_in Sync3 = sync_call
-call_in phase = record { writes = 1; syncs = 0; error = WriteFailed }
-
-abbrev pub writes_in : Phase → ℕ
-writes_in phase = (call_in phase).writes
-
-abbrev pub syncs_in : Phase → ℕ
-syncs_in phase = (call_in phase).syncs
-
-abbrev pub error_in : Phase → StoreError
-error_in phase = (call_in phase).error
+-- what a call does to the disk: it writes in a range of its own, or it is a sync
+abbrev pub Does : {D T : Type 0} → Ghosts D → Result T StoreError → Call → StoreHeld D → D → Type 0
+Does facts result no_call held new = new ≡ held.disk
+Does facts result (write_page k) held new = WritesPage facts result k held new
+Does facts result close_gate held new = Closes facts result held new
+Does facts result write_body held new = Fills facts result held new
+Does facts result open_gate held new = Writes facts result (PAGE_SIZE * (1 - held.slot)) (1 ∷ []) held.disk new
+Does facts result sync held new = Syncs facts result held.disk new
 
 -- The device call of this phase was made, and the commit goes on behind it, or else the store has failed.
-pub record MakesCall {D : Type 0} (facts : Ghosts D) (phase : Phase) (result : Result Phase StoreError) (old new : Held D) : Type 0 where
+pub record MakesCall {D : Type 0} (facts : Ghosts D) (phase : Phase) (result : Result Phase StoreError) (old new : StoreHeld D) : Type 0 where
   -- the answer names the phase whose call it was
   pub made : IfOk result (λ made. made ≡ old.phase)
   -- the next phase is due
@@ -96,12 +100,12 @@ pub record MakesCall {D : Type 0} (facts : Ghosts D) (phase : Phase) (result : R
   -- or none any more
   pub failed : OnErr result (new ≡ has_failed old new.disk)
   -- it is one device call, and a crash leaves what one before it or behind it does
-  pub call : IsDeviceCall {T = Phase} facts (writes_in phase) (syncs_in phase) (error_in phase) result old new
-  -- it writes in the range of this phase alone
-  pub does : facts.tells old.disk → Does {T = Phase} facts result phase old new.disk
+  pub call : IsDeviceCall {T = Phase} facts (call_in phase) result old new
+  -- it does to the disk what the call of this phase does
+  pub does : facts.tells old.disk → Does {T = Phase} facts result (call_in phase) old new.disk
 
 -- One step of a store: none behind a failure, none at rest, else the device call of its phase, behind which it goes on or has failed.
-pub record IsStoreStep {D : Type 0} (facts : Ghosts D) (old : Held D) (result : Result Phase StoreError) (new : Held D) : Type 0 where
+pub record IsStoreStep {D : Type 0} (facts : Ghosts D) (old : StoreHeld D) (result : Result Phase StoreError) (new : StoreHeld D) : Type 0 where
   -- behind a failure it is refused with 44
   pub stopped : old.failed ≡ true → (result ≡ Err Failed) × (new ≡ old)
   -- at rest there is nothing to do
@@ -109,10 +113,9 @@ pub record IsStoreStep {D : Type 0} (facts : Ghosts D) (old : Held D) (result : 
   -- the answer names the phase whose call it was
   pub made : IfOk result (λ phase. phase ≡ old.phase)
   -- else it is one device call, and a crash leaves what one before it or behind it does
-  pub call : old.failed ≡ false → old.phase ≢ Idle
-      → IsDeviceCall {T = Phase} facts (writes_in old.phase) (syncs_in old.phase) (error_in old.phase) result old new
+  pub call : old.failed ≡ false → old.phase ≢ Idle → IsDeviceCall {T = Phase} facts (call_in old.phase) result old new
   -- it writes in the range of its phase alone, and 0 into the stale gate only where that reads 1
-  pub does : old.failed ≡ false → facts.tells old.disk → Does {T = Phase} facts result old.phase old new.disk
+  pub does : old.failed ≡ false → facts.tells old.disk → Does {T = Phase} facts result (call_in old.phase) old new.disk
   -- the next phase is due
   pub went_on : old.failed ≡ false → OnOk result (new ≡ gone_on old.phase old new.disk)
   -- or none any more

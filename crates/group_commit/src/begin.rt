@@ -13,21 +13,21 @@ use crate::plan::{Plan, make_plan};
 use crate::root::Root;
 use crate::store::Store;
 use disk_trait::Disk;
-use fixed_numbers::limits::{MAX_OPERATIONS, MAX_STREAM_LENGTH};
+use fixed_numbers::limits::{MAX_OPERATIONS, MAX_STREAM_LENGTH, MAX_VERSION};
 
-// Whether there is a further version behind this root, and room behind its stream for so many
-// operations, whose records take so many bytes.
+// Whether there is a further version behind this root, and room behind its stream for `count`
+// operations, whose records take `bytes` bytes.
 fn has_room(root: &Root, count: u64, bytes: u64) -> bool
     ensures { (stream : List ℕ) → length stream ≡ stream_length_of root.now.body
         → result ≡ has_room_for (with_stream root.now stream) count bytes }
 {
-    root.version() < u64::MAX
+    root.version() < MAX_VERSION
         && root.count().saturating_add(count) <= MAX_OPERATIONS as u64
         && root.stream_length().saturating_add(bytes) <= MAX_STREAM_LENGTH
 }
 
 impl<D: Disk> Store<D> {
-    /// Whether a commit of so many operations, whose records take so many bytes, has room: there is
+    /// Whether a commit of `count` operations, whose records take `bytes` bytes, has room: there is
     /// a further version, and the number of operations (2^24) and the stream (2^30 bytes) stay
     /// within their limits. Constant; takes no memory.
     pub fn has_room(&self, count: u64, bytes: u64) -> bool
@@ -36,7 +36,7 @@ impl<D: Disk> Store<D> {
         has_room(&self.current, count, bytes)
     }
 
-    // The answer that is due of a begin with so many operations, whose records take so many bytes.
+    // The answer that is due of a begin with `count` operations, whose records take `bytes` bytes.
     fn answer_due(&self, count: u64, bytes: u64) -> Result<Option<u64>, StoreError>
         ensures { (ops : List Operation) → length ops ≡ count → stream_length ops ≡ bytes
             → result ≡ begin_due self.now ops }
@@ -56,7 +56,7 @@ impl<D: Disk> Store<D> {
         Ok(Some(self.current.count() + count))
     }
 
-    /// Begins a commit of the operations whose records these bytes are, so many, which come behind
+    /// Begins a commit of the `count` operations whose records these bytes are, which come behind
     /// the committed ones. Answers the length of the list that it commits; `None` where there are
     /// none. It makes no device call. Records are those of some list, and of no other.
     ///
@@ -67,8 +67,8 @@ impl<D: Disk> Store<D> {
     /// Costs the bytes of the records and of the pages that it writes; it reads and copies no
     /// operation. Of the stream before it, only the bytes behind its full pages are read, fewer
     /// than 4,096; no others are in memory. Of the data pages that stay, the numbers are read that
-    /// stand in the last table page, if it isn't full: fewer than 1,024. Free pages are found
-    /// without a look at each page.
+    /// stand in the last table page, if it isn't full: fewer than 1,024. Free pages are taken
+    /// from the ranges of free ones, the lowest first.
     pub fn begin_records(&mut self, records: &[u8], count: u64) -> Result<Option<u64>, StoreError>
         requires { (ops : List Operation) × AreRecords ops count records.now }
         ensures answer { (ops : List Operation) → AreRecords ops count records.now

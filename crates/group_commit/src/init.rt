@@ -7,7 +7,7 @@ ghost use Rattle.page_file.specs.DiskCalls.{IsWrite};
 ghost use Rattle.disk_trait.specs.Calls.{IsOneCall, Keeps, Settles};
 ghost use Rattle.disk_trait.specs.File.{overwritten};
 ghost use Rattle.root_slots.specs.Body.{root_of};
-ghost use Rattle.group_commit.specs.NewFile.{slot_page, new_file, first_root, Counts, Refuses};
+ghost use Rattle.group_commit.specs.NewFile.{slot_page, new_file, first_root, Raises, Refuses};
 ghost use Rattle.group_commit.specs.NewFile.{IsMade, AreFirst, IsNew, PutsPartly, OpensPartly};
 ghost use Rattle.group_commit.specs.declared.init_fault.InitError.TheVariants.{WriteFailed};
 ghost use Rattle.group_commit.specs.declared.init_fault.InitError.TheVariants.{SyncFailed};
@@ -43,7 +43,7 @@ fn check_empty<D: Disk>(disk: &mut D) -> Result<(), InitError>
     ensures empty { D.tells disk.old → OnOk result (D.content disk.new ≡ []) }
     ensures refused { D.tells disk.old → IfErr result
         (λ e. (replica : ℕ) → Refuses D.DiskFacts replica e disk.old disk.new) }
-    ensures counts { D.tells disk.old → OnOk result (Counts D.DiskFacts 0 0 0 disk.old disk.new) }
+    ensures counts { D.tells disk.old → OnOk result (Raises D.DiskFacts 0 0 0 disk.old disk.new) }
     ensures keeps { D.tells disk.old → Keeps D.DiskFacts disk.old disk.new }
     ensures tells { D.tells disk.new ↔ D.tells disk.old }
 {
@@ -103,7 +103,7 @@ fn open_first<D: Disk>(disk: &mut D) -> Result<(), InitError>
         (D.content disk.new ≡ overwritten (D.content disk.old) 0 (1 ∷ [])) }
     ensures only { D.tells disk.old → OnOk result
         ((c : List ℕ) → D.survives disk.new c → c ≡ D.content disk.new) }
-    ensures counts { D.tells disk.old → OnOk result (Counts D.DiskFacts 0 1 2 disk.old disk.new) }
+    ensures counts { D.tells disk.old → OnOk result (Raises D.DiskFacts 0 1 2 disk.old disk.new) }
     ensures partly { D.tells disk.old
         → IfErr result (λ e. OpensPartly D.DiskFacts e disk.old disk.new) }
     ensures tells { D.tells disk.new ↔ D.tells disk.old }

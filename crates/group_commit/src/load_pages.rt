@@ -7,7 +7,7 @@ ghost use Rattle.group_commit.specs.Loading.{are_within};
 
 use fixed_numbers::sizes::PAGE_SIZE;
 
-/// Whether these pages lie whole in a file of so many bytes.
+/// Whether these pages lie whole in a file of `size` bytes.
 pub(crate) fn are_within(numbers: &[u32], size: u64) -> bool
     ensures { result ≡ are_within size numbers.now }
 {
@@ -19,7 +19,7 @@ pub(crate) fn are_within(numbers: &[u32], size: u64) -> bool
     true
 }
 
-/// How many data pages a stream of so many bytes takes.
+/// How many data pages a stream of this length takes.
 pub(crate) fn data_pages(stream_length: u64) -> usize
     requires { stream_length ≤ MAX_STREAM_LENGTH }
     ensures value { result ≡ pages_for PAGE_SIZE stream_length }

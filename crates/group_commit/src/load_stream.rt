@@ -49,7 +49,7 @@ fn read_tables<D: Disk>(
     }
 }
 
-// The stream of so many bytes that these data pages hold. 45 where one isn't whole in the file, 46
+// The stream of this length that these data pages hold. 45 where one isn't whole in the file, 46
 // where the rest of the last one isn't zero, 50 where a read failed, 1 for want of memory.
 fn read_data<D: Disk>(
     alloc: Global,

@@ -12,7 +12,7 @@ fn id(counter: u64) -> Result<OpId, Fail> {
     Ok(OpId::try_new(counter, replica()?).ok_or("a counter")?)
 }
 
-// The clock of so many operations of the replica.
+// The clock of `count` operations of the replica.
 fn clock(alloc: Global, count: u64) -> Result<Clock, Fail> {
     let mut entries = Vec::new(alloc);
     if count > 0 {
@@ -93,7 +93,7 @@ fn put_numbers(
     Ok(())
 }
 
-// The store behind so many commits: 256 inserts, then one more each.
+// The store behind `commits` commits: 256 inserts, then one more each.
 fn committed(alloc: Global, commits: u64) -> Result<Box<Store<MemDisk>>, Fail> {
     let mut store = store(alloc, 16)?;
     commit_inserts(&mut store, alloc, 1, 256)?;
@@ -114,7 +114,7 @@ fn a_commit_writes_the_pages_that_change(rt: HostRuntime) -> Result<(), Fail> {
     Ok(())
 }
 
-// After so many commits: the size of the file, and the numbers in a slot and in a table page.
+// After some commits: the size of the file, and the numbers in a slot and in a table page.
 fn numbers_after(
     alloc: Global,
     commits: u64,
@@ -130,7 +130,7 @@ fn numbers_after(
 
 #[test]
 fn new_pages_are_the_lowest_free_ones(rt: HostRuntime) -> Result<(), Fail> {
-    // After so many commits: the size, the live slot, its table page, and the last data page.
+    // Commits, and behind them: the size, the live slot, its table page, and the last data page.
     let cases = [
         (1, 36_864, 1, 8, 7),
         (2, 45_056, 0, 10, 9),

@@ -1,15 +1,16 @@
 //! What a commit is about to write: the new root, and the new pages.
 ghost use Rattle.std.specs.Prelude.{◌≡◌, ℕ, ◌+◌, ◌*◌, ◌/◌, ◌^◌, ◌≤◌, ◌<◌, ◌++◌, true, []};
 ghost use Rattle.std.specs.Prelude.{List, length, get_or, take, drop, IfOk};
-ghost use Rattle.fixed_numbers.specs.declared.limits.TheConstants.{MAX_OPERATIONS, MAX_STREAM_LENGTH};
+ghost use Rattle.fixed_numbers.specs.declared.limits.TheConstants.{MAX_OPERATIONS, MAX_STREAM_LENGTH, MAX_VERSION};
 ghost use Rattle.fixed_numbers.specs.declared.sizes.TheConstants.{MAX_LIVE_PAGES};
 ghost use Rattle.page_file.specs.Free.{AreLowest};
 ghost use Rattle.page_file.specs.Pages.{are_pages, is_zero, number_bytes};
 ghost use Rattle.root_slots.specs.Root.{version_of, count_of, stream_length_of};
 ghost use Rattle.group_commit.specs.Paging.{IsIndexOf, IsRenewed};
 ghost use Rattle.group_commit.specs.Saved.{HasDataPages, with_stream};
-ghost use Rattle.group_commit.specs.Plan.{Plans, IsGrown, TakesRecords, HasPagesFor};
-ghost use Rattle.group_commit.specs.Plan.{kept_of, filled};
+ghost use Rattle.group_commit.specs.Planning.{Plans, IsGrown, TakesRecords, HasPagesFor};
+ghost use Rattle.group_commit.specs.Plan.{kept_of};
+ghost use Rattle.group_commit.specs.Planning.{filled};
 
 use crate::load_pages::data_pages;
 use crate::root::Root;
@@ -24,14 +25,14 @@ use std::alloc::{AllocError, Global};
 #[derive(Drop)]
 pub(crate) struct Plan {
     pub next: Root,
-    // So many data pages stay, and so many new ones come behind them.
+    // How many data pages stay, and how many new ones come behind them.
     pub kept: usize,
     pub new_data: usize,
     pub numbers: Vec<u32>,
     pub fresh: Vec<u8>,
 }
 
-/// A plan for these records of so many operations behind the live root's stream. An error is want
+/// A plan for these records of `more` operations behind the live root's stream. An error is want
 /// of memory (1). The pages whose bytes or entries stay keep their numbers; the others are written
 /// anew.
 pub(crate) fn make_plan(
@@ -80,7 +81,7 @@ fn numbers_are_small(numbers: &[u32])
     ensures { (i : ℕ) → get_or numbers.now i 0 < 2 ^ 32 }
 {}
 
-// How many data pages stay, of a stream of so many bytes to which these records come.
+// How many data pages stay, of a stream of `long` bytes to which these records come.
 fn kept_pages(long: usize, records: &[u8]) -> usize
     requires { long ≤ MAX_STREAM_LENGTH }
     ensures { result ≡ kept_of long records.now }
@@ -93,7 +94,7 @@ fn kept_pages(long: usize, records: &[u8]) -> usize
     }
 }
 
-// The first so many bytes, or all of them.
+// The first `most` bytes, or all of them.
 fn front(bytes: &[u8], most: usize) -> &[u8]
     ensures { result.now ≡ take most bytes.now }
 {
@@ -104,7 +105,7 @@ fn front(bytes: &[u8], most: usize) -> &[u8]
     }
 }
 
-// The bytes of a stream of so many bytes behind the pages that stay, the full ones among them.
+// The bytes of a stream of `long` bytes behind the pages that stay, the full ones among them.
 fn rest_behind(stream: &StreamTail, long: usize, kept_bytes: usize) -> &[u8]
     requires long { length stream.now ≡ long }
     requires full { PAGE_SIZE * (long / PAGE_SIZE) ≤ kept_bytes }
@@ -134,7 +135,7 @@ struct DataPages {
     entries: Vec<u32>,
 }
 
-// The first so many of these data pages, and new ones behind them. The entries are fewer than 1,024
+// The first `kept` of these data pages, and new ones behind them. The entries are fewer than 1,024
 // of those, and the new ones. An error is want of memory (1).
 fn next_data_pages(
     alloc: Global,
@@ -157,7 +158,7 @@ fn next_data_pages(
     Ok(DataPages { all, entries })
 }
 
-// The first so many of these page numbers, and new ones behind them.
+// The first `kept` of these page numbers, and new ones behind them.
 fn kept_and_new(
     alloc: Global,
     olds: &[u32],
@@ -187,8 +188,8 @@ fn free_pages(current: &Root, pages: &Pages, count: usize) -> Result<Vec<u32>, A
     pages.lowest_free_pages(count)
 }
 
-// The bytes of so many data pages and, behind them, of the table pages with these numbers, each
-// filled with zeros.
+// The bytes of `data_count` data pages and, behind them, of the table pages with these numbers,
+// each filled with zeros.
 fn new_pages(
     alloc: Global,
     old_bytes: &[u8],
@@ -213,7 +214,7 @@ fn new_pages(
     Ok(fresh)
 }
 
-// The next root, with a stream of so many bytes on these pages.
+// The next root, with a stream of this length on these pages.
 fn root_on(
     alloc: Global,
     current: &Root,
@@ -222,7 +223,7 @@ fn root_on(
     data_pages: Written<u32>,
     tables: Vec<u32>,
 ) -> Result<Root, AllocError>
-    requires version { version_of current.now.body < 18446744073709551615 }
+    requires version { version_of current.now.body < MAX_VERSION }
     requires count { count_of current.now.body + more ≤ MAX_OPERATIONS }
     requires pages { HasPagesFor long tables.items data_pages.items }
     ensures long { IfOk result (λ next. stream_length_of next.body ≡ long) }

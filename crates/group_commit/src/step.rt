@@ -14,7 +14,7 @@ use disk_trait::Disk;
 use fixed_numbers::sizes::{PAGE_SIZE, TABLE_ENTRIES};
 use std::mem::swap;
 
-// The phase behind so many written pages.
+// The phase behind `written` pages of `pages`.
 fn behind(written: usize, pages: usize, stale_open: bool) -> Phase
     ensures { result ≡ behind_pages written pages stale_open }
 {

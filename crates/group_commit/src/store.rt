@@ -1,6 +1,7 @@
 //! A store over a disk.
 ghost use Rattle.std.specs.Prelude.{◌≡◌};
-ghost use Rattle.group_commit.specs.Held.{Held, IsSound, HasStreams};
+ghost use Rattle.group_commit.specs.Held.{StoreHeld};
+ghost use Rattle.group_commit.specs.Standing.{IsSound, HasStreams};
 ghost use Rattle.group_commit.specs.Paging.{IsPaging};
 ghost use Rattle.group_commit.specs.Saved.{in_front};
 
@@ -21,7 +22,7 @@ pub struct Store<D: Disk> {
     pub(crate) next: Root,
     // The pages of the live root, and those that the commit has taken.
     pub(crate) pages: Pages,
-    // So many data pages of the live root stay in the next one, and so many new ones come behind
+    // How many data pages of the live root stay in the next one, and how many new ones come behind
     // them.
     pub(crate) kept: usize,
     pub(crate) new_data: usize,
@@ -36,7 +37,7 @@ pub struct Store<D: Disk> {
 }
 
 impl<D: Disk> Model for Store<D> {
-    ghost Value = { Held D };
+    ghost Value = { StoreHeld D };
 
     ghost view = { λ s. record {
       disk = s.disk;

@@ -70,7 +70,7 @@ fn next_tail(alloc: Global, tail: &[u8], more: &[u8]) -> Result<Vec<u8>, AllocEr
     Ok(next)
 }
 
-/// The bytes behind the first so many.
+/// The bytes from this index on.
 pub(crate) fn behind(bytes: &[u8], at: usize) -> &[u8]
     ensures { result.now ≡ drop at bytes.now }
 {

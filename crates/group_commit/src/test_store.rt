@@ -22,7 +22,7 @@ pub(crate) fn store_on<D: Disk + Drop>(alloc: Global, disk: D) -> Result<Box<Sto
     }
 }
 
-/// A new store on a disk in memory with room for so many pages.
+/// A new store on a disk in memory with room for `pages` pages.
 pub(crate) fn store(alloc: Global, pages: usize) -> Result<Box<Store<MemDisk>>, Fail> {
     let disk = MemDisk::new(alloc, pages.saturating_mul(4096), 4096)?;
     store_on(alloc, disk)

@@ -10,12 +10,12 @@ use Rattle.op_list.proofs.Recorded.{records_long}
 use Rattle.op_list.specs.Records.{AreRecords}
 use Rattle.root_slots.specs.Root.{count_of}
 use Rattle.group_commit.specs.Begin.{has_room, has_room_for, is_idle, is_none, begin_due, Begins, IsAnswer}
-use Rattle.group_commit.specs.Held.{Held as StoreHeld}
+use Rattle.group_commit.specs.Held.{StoreHeld}
 use Rattle.group_commit.specs.Saved.{Saved}
 use Rattle.group_commit.specs.declared.error.StoreError.{StoreError}
 use Rattle.group_commit.specs.declared.error.StoreError.TheVariants.{Memory, Limit}
-use Rattle.hub_parts.specs.Flusher.{Held as FlusherHeld}
-use Rattle.hub_parts.specs.Locked.{has_commit, IsLocked, Held as LockedHeld}
+use Rattle.hub_parts.specs.Flusher.{FlusherHeld}
+use Rattle.hub_parts.specs.Locked.{has_commit, IsLocked, LockedHeld}
 use Rattle.hub_parts.specs.Meet.{Meet, side_of}
 use Rattle.hub_parts.specs.Meeting.{pending, due_without, IsMet}
 use Rattle.hub_parts.specs.declared.met.Met.TheVariants.{Begun}

@@ -4,7 +4,7 @@ use Rattle.disk_trait.specs.declared.facts.DiskFacts.{Ghosts}
 use Rattle.op_model.specs.declared.op.Op.{Op}
 use Rattle.group_commit.specs.Begin.{is_idle}
 use Rattle.group_commit.specs.Commit.{IsLeft}
-use Rattle.group_commit.specs.Held.{gone_on, has_failed, Held as StoreHeld}
+use Rattle.group_commit.specs.Held.{gone_on, has_failed, StoreHeld}
 use Rattle.group_commit.specs.declared.error.StoreError.{StoreError}
 use Rattle.group_commit.specs.declared.phase.Phase.{Phase}
 use Rattle.group_commit.specs.declared.phase.Phase.TheVariants.{Idle, Sync3}

@@ -11,9 +11,9 @@ use Rattle.op_list.proofs.Recorded.{records_long}
 use Rattle.op_list.specs.Records.{AreRecords}
 use Rattle.root_slots.specs.Root.{count_of}
 use Rattle.group_commit.specs.Begin.{has_room_for, is_idle, begin_due, Begins}
-use Rattle.group_commit.specs.Held.{Held as StoreHeld}
+use Rattle.group_commit.specs.Held.{StoreHeld}
 use Rattle.group_commit.specs.Saved.{Saved}
-use Rattle.hub_parts.specs.Flusher.{IsFlusher, IsAtRest, HasFront, Commits, Held as FlusherHeld}
+use Rattle.hub_parts.specs.Flusher.{IsFlusher, IsAtRest, HasFront, RestsOrCommits, FlusherHeld}
 use Rattle.hub_parts.proofs.BeginLemmas.{begin_is_due}
 
 -- no commit that isn't settled is one whose device calls are all made
@@ -21,7 +21,7 @@ pub at_rest : {D : Type 0} (facts : Ghosts D) (s : StoreHeld D) (list : List Op)
     → due ≡ false → is_idle s.phase ≡ true
 at_rest {D} facts s list due kept none = by_test (is_idle s.phase) kept.commit
   where
-    by_test : (t : Bool) → Commits t (record { store = s; list = list; due = due }) → t ≡ true
+    by_test : (t : Bool) → RestsOrCommits t (record { store = s; list = list; due = due }) → t ≡ true
     by_test true rest = refl
     by_test false way = let is = way.due in absurd (cc)
 
@@ -101,7 +101,7 @@ cut_at list ops count counted = omega (arith, counted, length-append list ops)
 pub cut_back : (list ops more : List Op) (count : ℕ) → more ≡ list ++ ops → length ops ≡ count → take (length more - count) more ≡ list
 cut_back list ops more count is counted = rw is (take_at list ops (length (list ++ ops) - count) (cut_at list ops count counted))
 
--- the records of those take so many bytes
+-- those operations take as many bytes as the records have
 pub cut_bytes : (list ops more : List Op) (count : ℕ) (records : List ℕ) → more ≡ list ++ ops → AreRecords ops count records
     → stream_length (drop (length more - count) more) ≡ length records
 cut_bytes list ops more count records is are =

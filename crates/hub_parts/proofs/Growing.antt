@@ -7,13 +7,13 @@ use Rattle.op_model.specs.declared.op.Op.{Op}
 use Rattle.op_model.specs.declared.edit.Edit.{Edit}
 use Rattle.op_model.specs.Made.{made}
 use Rattle.op_model.specs.Replay.{reached}
-use Rattle.op_model.specs.Held.{Held, with_edit, with_merge, with_acked, with_told}
+use Rattle.op_model.specs.Held.{ReplicaHeld, with_edit, with_merge, with_acked, with_told}
 use Rattle.replica_core.specs.Steps.{places_left}
 use Rattle.replica_core.proofs.ReachedLemmas.{contains_tail}
 use Rattle.hub_parts.specs.Locked.{due_behind, CanSettle}
 
 -- The list is longer at its end, and what is settled is as before; there are places for as many settlements as before, or for two.
-pub record Grows (h next : Held) : Type 0 where
+pub record Grows (h next : ReplicaHeld) : Type 0 where
   pub owner : next.replica ≡ h.replica
   pub opened : next.opened ≡ h.opened
   pub settled : next.settled ≡ h.settled
@@ -28,19 +28,19 @@ few true = omega arith
 few false = omega arith
 
 -- at most one settlement is due behind another
-pub due_few : (h : Held) (n : ℕ) → due_behind h n ≤ 1
+pub due_few : (h : ReplicaHeld) (n : ℕ) → due_behind h n ≤ 1
 due_few h n = few (nat_lt n (length h.list))
 
 -- none is due behind all operations
-pub due_behind_all : (h : Held) → due_behind h (length h.list) ≡ 0
+pub due_behind_all : (h : ReplicaHeld) → due_behind h (length h.list) ≡ 0
 due_behind_all h = rw (le-ltb (length h.list) (length h.list) (omega arith)) refl
 
 -- and one behind fewer
-pub due_behind_some : (h : Held) (n : ℕ) → n < length h.list → due_behind h n ≡ 1
+pub due_behind_some : (h : ReplicaHeld) (n : ℕ) → n < length h.list → due_behind h n ≡ 1
 due_behind_some h n less = rw (lt-ltb n (length h.list) less) refl
 
 -- an edit makes the list longer
-pub grows_edit : (h : Held) (session : ℕ) (e : Edit) → Grows h (with_edit h session e)
+pub grows_edit : (h : ReplicaHeld) (session : ℕ) (e : Edit) → Grows h (with_edit h session e)
 grows_edit h session e =
     record {
       owner = refl;
@@ -53,12 +53,12 @@ grows_edit h session e =
     }
 
 -- by the operations that it makes
-pub more_edit : (h : Held) (session : ℕ) (e : Edit) → (grows_edit h session e).more ≡ made h.list h.replica e
+pub more_edit : (h : ReplicaHeld) (session : ℕ) (e : Edit) → (grows_edit h session e).more ≡ made h.list h.replica e
 unfolding grows_edit
 more_edit h session e = refl
 
 -- so does a merge
-pub grows_merge : (h : Held) (peer : ℕ) (op : Op) → Grows h (with_merge h peer op)
+pub grows_merge : (h : ReplicaHeld) (peer : ℕ) (op : Op) → Grows h (with_merge h peer op)
 grows_merge h peer op =
     record {
       owner = refl;
@@ -71,16 +71,16 @@ grows_merge h peer op =
     }
 
 -- by its operation
-pub more_merge : (h : Held) (peer : ℕ) (op : Op) → (grows_merge h peer op).more ≡ op ∷ []
+pub more_merge : (h : ReplicaHeld) (peer : ℕ) (op : Op) → (grows_merge h peer op).more ≡ op ∷ []
 unfolding grows_merge
 more_merge h peer op = refl
 
 -- a front stays as it is
-pub same_front : (h next : Held) (g : Grows h next) (n : ℕ) → n ≤ length h.list → take n next.list ≡ take n h.list
+pub same_front : (h next : ReplicaHeld) (g : Grows h next) (n : ℕ) → n ≤ length h.list → take n next.list ≡ take n h.list
 same_front h next g n within = ap (λ ops. take n ops) g.list ∙ take-append-le n h.list g.more within
 
 -- a commit that could be settled still can
-pub owed_grown : (h next : Held) (n : ℕ) → Grows h next → CanSettle h n → CanSettle next n
+pub owed_grown : (h next : ReplicaHeld) (n : ℕ) → Grows h next → CanSettle h n → CanSettle next n
 owed_grown h next n g owed =
     let more = owed.more in
     record {

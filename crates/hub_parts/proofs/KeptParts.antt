@@ -11,11 +11,11 @@ use Rattle.op_model.specs.declared.edit.Edit.{Edit}
 use Rattle.op_model.specs.Machine.{taken_in, has_record_room}
 use Rattle.op_model.specs.Made.{made}
 use Rattle.op_model.specs.Records.{stream_length}
-use Rattle.op_model.specs.Held.{with_edit, with_merge, Held as ReplicaHeld}
+use Rattle.op_model.specs.Held.{with_edit, with_merge, ReplicaHeld}
 use Rattle.replica_core.specs.Held.{IsSound}
 use Rattle.replica_core.specs.Steps.{places_left}
 use Rattle.replica_core.proofs.ReachedLemmas.{length_is_reached}
-use Rattle.hub_parts.specs.Locked.{commit_of, state_of, Keeps, Held as LockedHeld}
+use Rattle.hub_parts.specs.Locked.{commit_of, state_of, Keeps, LockedHeld}
 use Rattle.hub_parts.proofs.Growing.{Grows, grows_edit, grows_merge, more_edit, more_merge, owed_grown, due_behind_all, due_behind_some}
 
 -- the records that wait where the list grew

@@ -4,9 +4,9 @@ use Rattle.std.proofs.lemmas.List.{length-take-le}
 use Rattle.disk_trait.specs.declared.facts.DiskFacts.{Ghosts}
 use Rattle.op_model.specs.declared.op.Op.{Op}
 use Rattle.root_slots.specs.Root.{count_of}
-use Rattle.group_commit.specs.Held.{Held as StoreHeld}
+use Rattle.group_commit.specs.Held.{StoreHeld}
 use Rattle.hub_parts.specs.Flusher.{IsFlusher, IsUnderWay}
-use Rattle.hub_parts.specs.Locked.{IsLocked, Held as LockedHeld}
+use Rattle.hub_parts.specs.Locked.{IsLocked, LockedHeld}
 use Rattle.hub_parts.specs.Meet.{Meet, side_of}
 use Rattle.hub_parts.proofs.FlusherSteps.{GoesThrough, Outcome}
 

@@ -9,12 +9,12 @@ use Rattle.op_model.specs.declared.op.Op.{Op}
 use Rattle.change_codec.specs.Stream.{spelled_all, AreOperations}
 use Rattle.op_list.specs.Records.{AreRecords}
 use Rattle.root_slots.specs.Root.{count_of}
-use Rattle.op_model.specs.Held.{opened_with, Held as ReplicaHeld}
-use Rattle.group_commit.specs.Held.{Held as StoreHeld}
+use Rattle.op_model.specs.Held.{opened_with, ReplicaHeld}
+use Rattle.group_commit.specs.Held.{StoreHeld}
 use Rattle.group_commit.specs.Loading.{IsHistory}
 use Rattle.group_commit.specs.declared.phase.Phase.TheVariants.{Idle}
 use Rattle.hub_parts.specs.Flusher.{IsFlusher}
-use Rattle.hub_parts.specs.Locked.{due_behind, Keeps, Held as LockedHeld}
+use Rattle.hub_parts.specs.Locked.{due_behind, Keeps, LockedHeld}
 use Rattle.hub_parts.specs.Meet.{Meet, side_of}
 use Rattle.hub_parts.proofs.FlusherSteps.{CrashLeaves}
 

@@ -3,8 +3,8 @@ use Rattle.std.proofs.Common.{◌≡◌, ◌≢◌, ◌+◌, Bool, true, false, 
 use Rattle.std.specs.Prelude.{if◌then◌else◌}
 use Rattle.group_commit.specs.Begin.{is_idle}
 use Rattle.group_commit.specs.Errors.{number_of}
-use Rattle.group_commit.specs.Held.{gone_on, left_at, Held as StoreHeld}
-use Rattle.group_commit.specs.Step.{error_in}
+use Rattle.group_commit.specs.Held.{gone_on, left_at, StoreHeld}
+use Rattle.group_commit.specs.Step.{call_in, error_of}
 use Rattle.group_commit.specs.declared.phase.Phase.{Phase}
 use Rattle.group_commit.specs.declared.phase.Phase.TheVariants.{Idle, Pages, Close, Sync1, Body, Sync2, Gate, Sync3}
 
@@ -47,7 +47,7 @@ failed_busy Gate = refl
 failed_busy Sync3 = refl
 
 -- a call fails with 51 or 52
-pub device_number : (p : Phase) → (number_of (error_in p) ≡ 51) ⊎ (number_of (error_in p) ≡ 52)
+pub device_number : (p : Phase) → (number_of (error_of (call_in p)) ≡ 51) ⊎ (number_of (error_of (call_in p)) ≡ 52)
 device_number Idle = inl refl
 device_number (Pages k) = inl refl
 device_number Close = inl refl

@@ -5,9 +5,9 @@ use Rattle.disk_trait.specs.declared.facts.DiskFacts.{Ghosts}
 use Rattle.op_model.specs.declared.op.Op.{Op}
 use Rattle.op_model.specs.Held.{with_settled}
 use Rattle.group_commit.specs.Begin.{is_idle}
-use Rattle.group_commit.specs.Held.{Held as StoreHeld}
+use Rattle.group_commit.specs.Held.{StoreHeld}
 use Rattle.hub_parts.specs.Flusher.{IsFlusher}
-use Rattle.hub_parts.specs.Locked.{IsLocked, Held as LockedHeld}
+use Rattle.hub_parts.specs.Locked.{IsLocked, LockedHeld}
 use Rattle.hub_parts.specs.Meet.{Meet, side_of}
 use Rattle.hub_parts.proofs.Fronts.{whole_list}
 use Rattle.hub_parts.proofs.MeetSteps.{front_length}

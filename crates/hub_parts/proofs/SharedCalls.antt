@@ -3,8 +3,8 @@ use Rattle.std.proofs.Common.{◌≡◌, ℕ, true, false, [], ◌∷◌, refl}
 use Rattle.op_model.specs.declared.op.Op.{Op}
 use Rattle.op_model.specs.declared.edit.Edit.{Edit}
 use Rattle.op_model.specs.Machine.{applied, known, early, refused, edit_alone, merge_alone, has_record_room, EditStep, MergeStep}
-use Rattle.op_model.specs.Held.{with_merge, Held as ReplicaHeld}
-use Rattle.hub_parts.specs.Locked.{state_of, Held as LockedHeld}
+use Rattle.op_model.specs.Held.{with_merge, ReplicaHeld}
+use Rattle.hub_parts.specs.Locked.{state_of, LockedHeld}
 use Rattle.hub_parts.proofs.RoomAnswers.{refused_alone, known_alone, early_alone, full_merge, wanting_merge}
 
 -- an edit that the replica refuses

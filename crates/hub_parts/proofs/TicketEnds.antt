@@ -3,7 +3,7 @@ use Rattle.std.proofs.Common.{◌≡◌, ℕ, ◌++◌, Bool, true, false, lengt
 use Rattle.std.specs.Prelude.{if◌then◌else◌}
 use Rattle.op_model.specs.declared.edit.Edit.{Edit}
 use Rattle.op_model.specs.Made.{made, edit_refusal}
-use Rattle.op_model.specs.Held.{Held}
+use Rattle.op_model.specs.Held.{ReplicaHeld}
 use Rattle.op_model.specs.Machine.{State, Answer, Ticket, ticket, ticket_of, applied, refused}
 use Rattle.op_model.specs.Machine.{EditStep, edit_alone, edit_answer_unless, has_record_room}
 use Rattle.op_model.specs.Machine.{with_room, has_places}
@@ -12,7 +12,7 @@ ticket_by_places : (places : Bool) (t due : Ticket) → (if places then ticket d
 ticket_by_places true t due e = cc
 ticket_by_places false t due e = let never : ⊥ = cc in absurd never
 
-ticket_by_cause : (h : Held) (e : Edit) (cause : Option ℕ) (t : Ticket)
+ticket_by_cause : (h : ReplicaHeld) (e : Edit) (cause : Option ℕ) (t : Ticket)
     → edit_answer_unless h e cause ≡ ticket t → t ≡ ticket_of (h.list ++ made h.list h.replica e) e.doc
 ticket_by_cause h e (Some m) t is = let never : ⊥ = cc in absurd never
 ticket_by_cause h e None t is = ticket_by_places (has_places h) t _ is

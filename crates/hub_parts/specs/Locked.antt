@@ -4,26 +4,26 @@ use Rattle.fixed_numbers.specs.declared.limits.TheConstants.{MAX_PENDING}
 use Rattle.op_model.specs.Machine.{Commit, State}
 use Rattle.op_model.specs.Records.{stream_length}
 use Rattle.op_model.specs.Replay.{reached}
-use Rattle.op_model.specs.Held.{Held as ReplicaHeld}
+use Rattle.op_model.specs.Held.{ReplicaHeld}
 use Rattle.replica_core.specs.Held.{IsSound}
 use Rattle.replica_core.specs.Steps.{places_left}
 
 -- the replica, how many operations are settled or in the commit, and whether a meeting has told a failure of the device
-pub record Held : Type 0 where
+pub record LockedHeld : Type 0 where
   pub replica : ReplicaHeld
   pub begun : ℕ
   pub failure_told : Bool
 
 -- there is a commit where more operations were taken than are settled
-abbrev pub has_commit : Held → Bool
+abbrev pub has_commit : LockedHeld → Bool
 has_commit l = nat_lt l.replica.settled l.begun
 
 -- the commit as this part sees it, which knows only how many operations it has
-abbrev pub commit_of : Held → Option Commit
+abbrev pub commit_of : LockedHeld → Option Commit
 commit_of l = if has_commit l then Some (record { count = l.begun; through = false }) else None
 
 -- the machine's state as this part sees it: it knows of a failure only what a meeting has told
-abbrev pub state_of : Held → State
+abbrev pub state_of : LockedHeld → State
 state_of l = record {
   held = l.replica;
   version = 0;
@@ -44,7 +44,7 @@ pub record CanSettle (h : ReplicaHeld) (n : ℕ) : Type 0 where
   pub places : 1 + due_behind h n ≤ places_left h.steps
 
 -- what this part keeps beside what its replica does
-pub record Keeps (l : Held) : Type 0 where
+pub record Keeps (l : LockedHeld) : Type 0 where
   pub settled : l.replica.settled ≤ l.begun
   pub within : l.begun ≤ length l.replica.list
   -- the commit, if there is one, can be settled, and there is a place for the settlement of all behind it
@@ -54,6 +54,6 @@ pub record Keeps (l : Held) : Type 0 where
   pub pending : stream_length (drop l.begun l.replica.list) ≤ MAX_PENDING
 
 -- what every locked part keeps: its replica's list is causally closed and the kept steps replay, and the above
-pub record IsLocked (l : Held) : Type 0 where
+pub record IsLocked (l : LockedHeld) : Type 0 where
   pub sound : IsSound l.replica
   pub keeps : Keeps l

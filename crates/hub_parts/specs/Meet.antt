@@ -3,8 +3,8 @@ use Rattle.std.specs.Prelude.{◌≡◌, ℕ, ◌≤◌, Bool, true, false, ◌&
 use Rattle.op_model.specs.declared.op.Op.{Op}
 use Rattle.root_slots.specs.Root.{replica_of, count_of}
 use Rattle.group_commit.specs.Begin.{is_idle}
-use Rattle.hub_parts.specs.Locked.{has_commit, Held as LockedHeld}
-use Rattle.hub_parts.specs.Flusher.{Held as FlusherHeld}
+use Rattle.hub_parts.specs.Locked.{has_commit, LockedHeld}
+use Rattle.hub_parts.specs.Flusher.{FlusherHeld}
 
 -- what the locked part has to fit of a flusher: whose it is, its list, whether it has a commit, whether no device call of that
 -- is left, and how many operations the live root has

@@ -8,8 +8,8 @@ use Rattle.op_model.specs.Held.{with_settled}
 use Rattle.group_commit.specs.Begin.{has_room, has_room_for, is_idle, is_none, Begins}
 use Rattle.group_commit.specs.declared.error.StoreError.{StoreError}
 use Rattle.group_commit.specs.declared.error.StoreError.TheVariants.{Memory, Limit, Busy, Failed}
-use Rattle.hub_parts.specs.Locked.{has_commit, Held as LockedHeld}
-use Rattle.hub_parts.specs.Flusher.{Held as FlusherHeld}
+use Rattle.hub_parts.specs.Locked.{has_commit, LockedHeld}
+use Rattle.hub_parts.specs.Flusher.{FlusherHeld}
 use Rattle.hub_parts.specs.declared.met.Met.{Met}
 use Rattle.hub_parts.specs.declared.met.Met.TheVariants.{Begun, Settled, Nothing}
 

@@ -2,8 +2,8 @@
 use Rattle.std.specs.Prelude.{◌≡◌, false, length}
 use Rattle.op_model.specs.Held.{opened_with}
 use Rattle.group_commit.specs.declared.phase.Phase.TheVariants.{Idle}
-use Rattle.hub_parts.specs.Flusher.{Held as FlusherHeld}
-use Rattle.hub_parts.specs.Locked.{Held as LockedHeld}
+use Rattle.hub_parts.specs.Flusher.{FlusherHeld}
+use Rattle.hub_parts.specs.Locked.{LockedHeld}
 use Rattle.hub_parts.specs.Meet.{Meet, side_of}
 
 -- two parts right after opening: all is settled, no commit is under way, no device call has failed, and the two fit

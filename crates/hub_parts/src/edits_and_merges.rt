@@ -76,7 +76,7 @@ impl Locked {
         }
     }
 
-    /// Whether records of so many bytes have room behind those that wait for the next commit.
+    /// Whether records of `more` bytes have room behind those that wait for the next commit.
     fn has_record_room(&self, more: u64) -> bool
         ensures { (ops : List Operation) → stream_length ops ≡ more
             → result ≡ has_record_room (state_of self.now) ops }

@@ -1,7 +1,7 @@
 //! The part of a hub that commits.
 ghost use Rattle.std.specs.Prelude.{◌≡◌};
 ghost use Rattle.hub_parts.specs.Flusher.{IsFlusher, IsStoreStep};
-ghost use Rattle.hub_parts.specs.Locked.{IsLocked, Held as LockedHeld};
+ghost use Rattle.hub_parts.specs.Locked.{IsLocked, LockedHeld};
 ghost use Rattle.hub_parts.specs.Meet.{Meet, side_of};
 
 use disk_trait::Disk;
@@ -27,9 +27,9 @@ pub struct Flusher<D: Disk> {
 }
 
 impl<D: Disk> Model for Flusher<D> {
-    ghost use Rattle.hub_parts.specs.Flusher.{Held, IsFlusher};
+    ghost use Rattle.hub_parts.specs.Flusher.{FlusherHeld, IsFlusher};
 
-    ghost Value = { Held D };
+    ghost Value = { FlusherHeld D };
 
     ghost view = { λ f. record { store = f.store; list = f.list; due = f.due } };
 

@@ -21,9 +21,9 @@ pub struct Locked {
 }
 
 impl Model for Locked {
-    ghost use Rattle.hub_parts.specs.Locked.{Held, Keeps};
+    ghost use Rattle.hub_parts.specs.Locked.{LockedHeld, Keeps};
 
-    ghost Value = { Held };
+    ghost Value = { LockedHeld };
 
     ghost view = { λ l. record {
       replica = l.replica;
@@ -43,6 +43,7 @@ impl Locked {
     pub fn kept(&self)
         ensures { IsLocked self.now }
     {
+        // For the proof: a field read tells what this part keeps, and `list` what its replica does.
         let _list = self.replica.list();
     }
 }

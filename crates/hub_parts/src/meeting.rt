@@ -79,7 +79,7 @@ impl<D: Disk> Flusher<D> {
         Ok(Met::Begun(length))
     }
 
-    /// Begins a commit of the operations whose records these are, so many, where there is room for
+    /// Begins a commit of the `count` operations whose records these are, where there is room for
     /// them, and answers the length of the list that it commits. It is refused for want of memory
     /// alone, and changes nothing then.
     fn begin_commit(&mut self, records: &[u8], count: u64) -> Result<u64, StoreError>

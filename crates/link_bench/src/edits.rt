@@ -6,7 +6,7 @@ use std::num::NonZeroU32;
 /// The characters that are marked at once.
 const MARKED: u32 = 20;
 
-/// The change of this number in a text of so many characters: of eight changes five put in a word,
+/// The change of this number in a text of `long` characters: of eight changes five put in a word,
 /// two remove a character and one sets or takes away a mark. A text without characters gets a word.
 pub fn change(alloc: Global, word: &str, number: u32, long: u32) -> Option<Change> {
     let at = spread(number) % long.max(1);

@@ -40,7 +40,7 @@ fn print(rt: &impl Print, outcome: Option<Outcome>) -> io::Result<()> {
     }
 }
 
-/// Prints how fast so many operations go over the links.
+/// Prints how fast `count` operations go over the links.
 fn measure<R: Print + Clock + AllocGlobal>(rt: &R, count: u32) -> io::Result<()> {
     let Some(telling) = Telling::new(rt.alloc(), count) else {
         return println!(rt; "refused");

@@ -33,7 +33,7 @@ impl Meeting {
         })
     }
 
-    /// Both hubs make so many changes, from this number on, of which the other one knows nothing.
+    /// Both hubs make `count` changes, from this number on, of which the other one knows nothing.
     pub fn edit_apart(&mut self, alloc: Global, number: u32, count: u32) -> Option<()> {
         self.first.edit_all(alloc, "sun ", number, count)?;
         self.second.edit_all(alloc, "moon ", number, count)

@@ -2,6 +2,7 @@
 use crate::edits;
 use causal_sync::{Heard, Link};
 use disk_trait::MemDisk;
+use fixed_numbers::limits::MAX_TOLD;
 use group_commit::{Phase, Store};
 use locked_replica::Hub;
 use op_ids::{Clock, ReplicaId};
@@ -23,9 +24,6 @@ const STEPS: u32 = 1_048_576;
 /// The bytes that come at once.
 const PIECE: usize = 1_460;
 
-/// The most operations of a frame.
-const FRAME: usize = 64;
-
 /// Who edits, and who is merged.
 const SESSION: u64 = 1;
 
@@ -45,7 +43,7 @@ pub struct Peer {
 }
 
 impl Peer {
-    /// A new replica whose id ends in this byte, on a disk for so many operations.
+    /// A new replica whose id ends in this byte, on a disk for `count` operations.
     pub fn new(alloc: Global, last: u8, count: u32) -> Option<Box<Peer>> {
         let own = ReplicaId::read([0, 0, 0, 0, 0, 0, 0x40, 0, 0x80, 0, 0, 0, 0, 0, 0, last])?;
         let room = ROOM + RECORD * count as usize;
@@ -116,7 +114,7 @@ impl Peer {
         if ops.is_empty() {
             return Some(());
         }
-        if ops.len() > FRAME {
+        if ops.len() > MAX_TOLD {
             return None;
         }
         self.link.say_ops(&ops).ok()
@@ -136,7 +134,7 @@ impl Peer {
         Some(())
     }
 
-    // Takes the frames that wait, of which a piece of so many bytes ends at most so many.
+    // Takes the frames that wait, of which a piece of `most` bytes ends at most `most`.
     fn hear_frames(&mut self, most: usize) -> Option<()> {
         for _ in 0..most {
             match self.link.next() {

@@ -97,7 +97,7 @@ impl Telling {
         })
     }
 
-    /// Tells frame by frame until so many operations are merged.
+    /// Tells frame by frame until `count` operations are merged.
     fn tell_up_to<C: Clock>(&mut self, count: usize, clock: &C) -> Option<Lap> {
         for _ in 0..count {
             if self.hearer.merged >= count {

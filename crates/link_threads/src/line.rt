@@ -1,5 +1,6 @@
 //! What frames are said over.
 ghost use Rattle.std.specs.Prelude.{◌≡◌, ◌≤◌, length, IfOk, IfErr, OnOk, OnErr};
+ghost use Rattle.fixed_numbers.specs.declared.limits.TheConstants.{MAX_TOLD};
 ghost use Rattle.causal_sync.specs.declared.heard.Heard.TheVariants as frame;
 
 use causal_sync::LinkError;
@@ -39,10 +40,10 @@ pub trait Line {
         ensures refused { IfErr result (refuses self.old (frame.Have clock.now)) }
         ensures err { OnErr result (self.new ≡ self.old) };
 
-    /// Says 1 to 64 operations. A refusal changes nothing.
+    /// Says 1 to `MAX_TOLD` operations. A refusal changes nothing.
     fn say_ops(&mut self, ops: &[Op]) -> Result<(), LinkError>
         requires some { 1 ≤ length ops.now }
-        requires most { length ops.now ≤ 64 }
+        requires most { length ops.now ≤ MAX_TOLD }
         ensures ok { OnOk result (says self.old (frame.Ops ops.now) self.new) }
         ensures refused { IfErr result (refuses self.old (frame.Ops ops.now)) }
         ensures err { OnErr result (self.new ≡ self.old) };

@@ -1,5 +1,6 @@
 //! The end of a link that its two threads share.
 ghost use Rattle.std.specs.Prelude.{◌≤◌, length};
+ghost use Rattle.fixed_numbers.specs.declared.limits.TheConstants.{MAX_TOLD};
 
 use causal_sync::{Heard, Link, LinkError};
 use op_ids::{Clock, ReplicaId};
@@ -10,11 +11,11 @@ use std::sync::{Mutex, Wait};
 /// The end of a link that its two threads share, under a lock of its own.
 #[derive(Drop)]
 pub(crate) struct LinkEnd {
-    held: Mutex<Held>,
+    held: Mutex<EndState>,
 }
 
 #[derive(Drop)]
-struct Held {
+struct EndState {
     link: Link,
     has_heard_hello: bool,
     is_over: bool,
@@ -25,7 +26,7 @@ impl LinkEnd {
     pub fn start(alloc: Global, own: ReplicaId) -> Result<LinkEnd, AllocError> {
         let link = Link::start(alloc, own)?;
         Ok(LinkEnd {
-            held: Mutex::new(Held {
+            held: Mutex::new(EndState {
                 link,
                 has_heard_hello: false,
                 is_over: false,
@@ -71,7 +72,7 @@ impl LinkEnd {
     /// Says operations, as `Link::say_ops` does.
     pub fn say_ops<R: Wait>(&self, rt: &R, ops: &[Op]) -> Result<(), LinkError>
         requires some { 1 ≤ length ops.now }
-        requires most { length ops.now ≤ 64 }
+        requires most { length ops.now ≤ MAX_TOLD }
     {
         self.held.lock(rt).link.say_ops(ops)
     }
@@ -87,7 +88,7 @@ impl LinkEnd {
     }
 }
 
-impl Held {
+impl EndState {
     fn next(&mut self) -> Option<Heard> {
         let heard = self.link.next()?;
         if let Heard::Hello(_) = &heard {

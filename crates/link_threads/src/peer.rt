@@ -1,5 +1,6 @@
 //! Who has operations to tell.
 ghost use Rattle.std.specs.Prelude.{◌≡◌, ◌≤◌, length, IfOk, OnErr};
+ghost use Rattle.fixed_numbers.specs.declared.limits.TheConstants.{MAX_TOLD};
 
 use op_ids::Clock;
 use op_model::Op;
@@ -24,10 +25,10 @@ pub trait Peer {
         ensures ok { IfOk result (λ clock. has self.old clock self.new) }
         ensures err { OnErr result (self.new ≡ self.old) };
 
-    /// The first settled operations that a clock doesn't count, at most 64. Want of memory changes
-    /// nothing.
+    /// The first settled operations that a clock doesn't count, at most `MAX_TOLD`. Want of memory
+    /// changes nothing.
     fn tell(&mut self, clock: &Clock) -> Result<Vec<Op>, AllocError>
         ensures ok { IfOk result (λ ops. tells self.old clock.now ops.items self.new) }
-        ensures most { IfOk result (λ ops. length ops.items ≤ 64) }
+        ensures most { IfOk result (λ ops. length ops.items ≤ MAX_TOLD) }
         ensures err { OnErr result (self.new ≡ self.old) };
 }

@@ -91,7 +91,7 @@ struct End {
 }
 
 impl End {
-    /// A replica whose name ends in this byte, and that has made so many operations.
+    /// A replica whose name ends in this byte, and that has made `count` operations.
     fn new(alloc: Global, last: u8, count: u64) -> Result<End, Fail> {
         let name = [0, 0, 0, 0, 0, 0, 0x40, 0, 0x80, 0, 0, 0, 0, 0, 0, last];
         let own = ReplicaId::read(name).ok_or("nil")?;
@@ -201,7 +201,7 @@ fn a_have_is_said_where_it_is_due(rt: HostRuntime) -> Result<(), Fail> {
     Ok(())
 }
 
-/// Takes so many bytes, and then fails.
+/// Takes `room` bytes, and then fails.
 #[derive(Drop)]
 struct Sink {
     taken: Vec<u8>,

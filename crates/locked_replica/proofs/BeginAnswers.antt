@@ -1,20 +1,20 @@
 -- A begin that the store answers.
-use Rattle.std.proofs.Common.{◌≡◌, ◌≢◌, ℕ, ◌+◌, Bool, true, false, ◌&&◌, nat_lt, List, [], length}
-use Rattle.std.proofs.Common.{drop, refl, sym, ap, ◌∙◌, arith, append-nil, Option, Some, None}
+use Rattle.std.proofs.Common.{◌≡◌, ◌≢◌, ℕ, ◌+◌, Bool, true, false, ◌&&◌, nat_lt, List, length}
+use Rattle.std.proofs.Common.{drop, refl, sym, ap, ◌∙◌, arith, Option, Some, None}
 use Rattle.std.proofs.Common.{Result, Ok, Err}
 use Rattle.disk_trait.specs.Calls.{IsLawful}
 use Rattle.disk_trait.specs.declared.facts.DiskFacts.{Ghosts}
 use Rattle.op_model.specs.declared.op.Op.{Op}
 use Rattle.op_model.specs.Machine.{begin, begin_answer}
 use Rattle.root_slots.specs.Root.{version_of, count_of}
-use Rattle.op_model.specs.Held.{Held}
+use Rattle.op_model.specs.Held.{ReplicaHeld}
 use Rattle.group_commit.specs.Begin.{is_idle, is_none, has_room, begin_due, Begins, IsAnswer}
-use Rattle.group_commit.specs.Held.{Held as StoreHeld}
+use Rattle.group_commit.specs.Held.{StoreHeld}
 use Rattle.group_commit.specs.Saved.{Saved}
 use Rattle.group_commit.specs.declared.error.StoreError.{StoreError}
 use Rattle.locked_replica.specs.Hub.{committed, state_of}
-use Rattle.locked_replica.proofs.Fits.{Fits, Commits}
-use Rattle.locked_replica.specs.Calls.{IsCall, Counts, StoreBegins, settled_by}
+use Rattle.locked_replica.proofs.Fits.{Fits, CommitFits}
+use Rattle.locked_replica.specs.Calls.{IsCall, Counts, StoreBegins}
 use Rattle.locked_replica.proofs.PartsOf.{parts}
 use Rattle.locked_replica.proofs.QuietCalls.{quiet_call, counts_same}
 use Rattle.locked_replica.proofs.RoomLemmas.{room_is_version, none_behind, behind_front}
@@ -24,13 +24,13 @@ use Rattle.group_commit.proofs.BeginLemmas.{idle_is}
 use Rattle.locked_replica.proofs.BegunCommits.{counts_begun}
 
 -- what is settled is what the live root has, where no commit is through
-pub all_settled : (idle : Bool) (h : Held) (current next : Saved) → Commits idle h current next → (idle && nat_lt h.settled (count_of current.body)) ≡ false
+pub all_settled : (idle : Bool) (h : ReplicaHeld) (current next : Saved) → CommitFits idle h current next → (idle && nat_lt h.settled (count_of current.body)) ≡ false
     → h.settled ≡ count_of current.body
 all_settled true h current next rest none = let least = ltb-false h.settled (count_of current.body) none in let most = rest.settled in omega (arith, least, most)
 all_settled false h current next way none = way.settled
 
 -- a begin that the store answers
-pub begin_made : {D : Type 0} {failure_told : Bool} (facts : Ghosts D) (h : Held) (s new : StoreHeld D) (answer : Result (Option ℕ) StoreError)
+pub begin_made : {D : Type 0} {failure_told : Bool} (facts : Ghosts D) (h : ReplicaHeld) (s new : StoreHeld D) (answer : Result (Option ℕ) StoreError)
     → (facts.tells s.disk → IsLawful facts s.disk) → Fits facts (parts h s failure_told) → Fits facts (parts h new failure_told) → s.failed ≡ false
     → (is_idle s.phase && nat_lt h.settled (committed s)) ≡ false → IsAnswer (begin_due s (drop h.settled h.list)) answer
     → ((n : ℕ) → answer ≡ Ok (Some n) → Begins facts s (drop h.settled h.list) new)
@@ -76,11 +76,6 @@ begin_made {D} {failure_told = failure_told} facts h s new answer lawful fits af
     its_disk (Ok None) is = ap (λ t. t.disk) (stays (no_number answer (ap has_number is)))
     its_disk (Err e) is = ap (λ t. t.disk) (stays (no_number answer (ap has_number is)))
 
-    same_settled : (a : Result (Option ℕ) StoreError) → h.settled ≡ settled_by h.settled (answer_due a)
-    same_settled (Ok (Some n)) = refl
-    same_settled (Ok None) = refl
-    same_settled (Err e) = refl
-
     -- at rest a commit has no writes and syncs left
     its_counts : (a : Result (Option ℕ) StoreError) → answer ≡ a → Counts facts (answer_due a) s new
     its_counts (Ok (Some n)) is = counts_begun facts s new (drop h.settled h.list) n (idle_is s.phase (due n is).0) works (begins n is)
@@ -96,7 +91,7 @@ begin_made {D} {failure_told = failure_told} facts h s new answer lawful fits af
     its_call =
         let disk = its_disk answer refl in
         quiet_call facts begin (answer_due answer) (parts h s failure_told) (parts h new failure_told) disk (rw disk lawful)
-        after refl
+        after
         (begin_step (state_of (parts h s failure_told)) (state_of (parts h new failure_told)) (begin_due s (drop h.settled h.list)) answer works machine
         is_answer new_state (λ other. ap (λ t. state_of (parts h t failure_told)) (stays other)))
-        [] (sym (append-nil h.list)) (same_settled answer) (omega arith) refl (its_counts answer refl) (its_goes answer refl)
+        (omega arith) refl (its_counts answer refl) (its_goes answer refl)

@@ -5,7 +5,7 @@ use Rattle.disk_trait.specs.declared.facts.DiskFacts.{Ghosts}
 use Rattle.op_model.specs.declared.op.Op.{Op}
 use Rattle.op_model.specs.Machine.{begun as begun_answer}
 use Rattle.group_commit.specs.Begin.{Begins}
-use Rattle.group_commit.specs.Held.{Held as StoreHeld}
+use Rattle.group_commit.specs.Held.{StoreHeld}
 use Rattle.group_commit.specs.Changes.{changed_pages}
 use Rattle.group_commit.specs.Counts.{writes_from, syncs_from, writes_left, syncs_left}
 use Rattle.group_commit.proofs.CountLemmas.{none_left}

@@ -1,17 +1,17 @@
 -- One device call of a commit under way, with what it makes of a hub.
-use Rattle.std.proofs.Common.{Bool, ◌≡◌, ℕ, ◌-◌, true, false, List, [], refl, sym, append-nil, ◌∙◌, arith, inl, inr, ◌⊎◌, Result}
+use Rattle.std.proofs.Common.{Bool, ◌≡◌, ℕ, ◌-◌, true, false, List, refl, sym, ◌∙◌, arith, inl, inr, ◌⊎◌, Result}
 use Rattle.disk_trait.specs.Calls.{LeavesOnly}
 use Rattle.disk_trait.specs.declared.facts.DiskFacts.{Ghosts}
 use Rattle.op_model.specs.Machine.{Answer, device_step, goes_on, goes_through, refused, Step}
 use Rattle.root_slots.specs.Root.{version_of, count_of}
-use Rattle.op_model.specs.Held.{Held}
+use Rattle.op_model.specs.Held.{ReplicaHeld}
 use Rattle.group_commit.specs.Begin.{is_idle}
-use Rattle.group_commit.specs.Held.{Held as StoreHeld}
-use Rattle.group_commit.specs.Step.{IsDeviceCall, IsLeftAround, failures_in as failures_of}
+use Rattle.group_commit.specs.Held.{StoreHeld}
+use Rattle.group_commit.specs.Step.{Call, IsDeviceCall, IsLeftAround, failures_in as failures_of}
 use Rattle.group_commit.specs.declared.error.StoreError.{StoreError}
 use Rattle.locked_replica.specs.Hub.{state_of}
 use Rattle.locked_replica.proofs.Fits.{Fits, IsUnderWay}
-use Rattle.locked_replica.specs.Calls.{IsCall, IsLeftIn, Counts, StepsOn, StepsFail, StoreSteps, calls_in, failures_in, settled_by}
+use Rattle.locked_replica.specs.Calls.{IsCall, IsLeftIn, Counts, StepsOn, StepsFail, StoreSteps, calls_in, failures_in}
 use Rattle.locked_replica.proofs.PartsOf.{parts}
 use Rattle.locked_replica.proofs.Recovering.{survivor_has_settled, survivor_is_left, left_of, left_has}
 use Rattle.std.proofs.lemmas.Bool.{lt-ltb}
@@ -31,19 +31,15 @@ moments_of facts old new P Q weaker leaves =
     either {file = file} (inr p) = inr (weaker file p)
 
 -- one device call of a commit under way, with what it makes of the hub
-device_call : {D : Type 0} {failure_told : Bool} {T : Type 0} (facts : Ghosts D) (h : Held) (s new : StoreHeld D) (writes syncs : ℕ) (error : StoreError) (result : Result T StoreError)
-    (answer : Answer) → Fits facts (parts h s failure_told) → is_idle s.phase ≡ false → IsDeviceCall facts writes syncs error result s new
+device_call : {D : Type 0} {failure_told : Bool} {T : Type 0} (facts : Ghosts D) (h : ReplicaHeld) (s new : StoreHeld D) (made : Call) (result : Result T StoreError)
+    (answer : Answer) → Fits facts (parts h s failure_told) → is_idle s.phase ≡ false → IsDeviceCall facts made result s new
     → Step (state_of (parts h s failure_told)) device_step answer (state_of (parts h new failure_told))
-    → calls_in device_step answer ≡ 1 → failures_of result ≡ failures_in device_step answer → h.settled ≡ settled_by h.settled answer
+    → calls_in device_step answer ≡ 1 → failures_of result ≡ failures_in device_step answer
     → Fits facts (parts h new failure_told) → Counts facts answer s new → StoreSteps facts answer s new
     → IsCall facts device_step answer (parts h s failure_told) (parts h new failure_told)
-device_call {failure_told = failure_told} facts h s new writes syncs error result answer fits busy call step one failing same after counts goes =
+device_call {failure_told = failure_told} facts h s new made result answer fits busy call step one failing after counts goes =
     record {
-      owner = refl;
       step = step;
-      grows = ([], sym (append-nil h.list));
-      settled = same;
-      rises = omega arith;
       sound = fits.sound;
       store = goes;
       tells = call.tells;
@@ -65,38 +61,38 @@ device_call {failure_told = failure_told} facts h s new writes syncs error resul
         record { has = left_has facts (parts h new failure_told) file after left; around = inr left }
 
 -- the commit goes on
-pub call_goes_on : {D : Type 0} {failure_told : Bool} {T : Type 0} (facts : Ghosts D) (h : Held) (s new : StoreHeld D) (writes syncs : ℕ) (error : StoreError) (result : Result T StoreError)
-    → Fits facts (parts h s failure_told) → s.failed ≡ false → is_idle s.phase ≡ false → IsDeviceCall facts writes syncs error result s new
+pub call_goes_on : {D : Type 0} {failure_told : Bool} {T : Type 0} (facts : Ghosts D) (h : ReplicaHeld) (s new : StoreHeld D) (made : Call) (result : Result T StoreError)
+    → Fits facts (parts h s failure_told) → s.failed ≡ false → is_idle s.phase ≡ false → IsDeviceCall facts made result s new
     → is_idle new.phase ≡ false → new.current ≡ s.current → new.next ≡ s.next → new.failed ≡ false
     → Fits facts (parts h new failure_told)
     → Counts facts goes_on s new → failures_of result ≡ 0 → StepsOn facts s new
     → IsCall facts device_step goes_on (parts h s failure_told) (parts h new failure_told)
-call_goes_on {failure_told = failure_told} facts h s new writes syncs error result fits works busy call busy' current next works' after counts none goes =
-    device_call facts h s new writes syncs error result goes_on fits busy call (rw (works, busy, works', busy', current, next) (refl, refl, refl)) refl none refl after counts goes
+call_goes_on {failure_told = failure_told} facts h s new made result fits works busy call busy' current next works' after counts none goes =
+    device_call facts h s new made result goes_on fits busy call (rw (works, busy, works', busy', current, next) (refl, refl, refl)) refl none after counts goes
 
 -- the commit is through
-pub call_goes_through : {D : Type 0} {failure_told : Bool} {T : Type 0} (facts : Ghosts D) (h : Held) (s new : StoreHeld D) (writes syncs : ℕ) (error : StoreError)
+pub call_goes_through : {D : Type 0} {failure_told : Bool} {T : Type 0} (facts : Ghosts D) (h : ReplicaHeld) (s new : StoreHeld D) (made : Call)
     (result : Result T StoreError) → Fits facts (parts h s failure_told) → s.failed ≡ false → is_idle s.phase ≡ false
-    → IsDeviceCall facts writes syncs error result s new → is_idle new.phase ≡ true → new.current ≡ s.next → new.failed ≡ false
+    → IsDeviceCall facts made result s new → is_idle new.phase ≡ true → new.current ≡ s.next → new.failed ≡ false
     → Fits facts (parts h new failure_told)
     → Counts facts goes_through s new → failures_of result ≡ 0 → StepsOn facts s new
     → IsCall facts device_step goes_through (parts h s failure_told) (parts h new failure_told)
-call_goes_through {failure_told = failure_told} facts h s new writes syncs error result fits works busy call rest current works' after counts none goes =
+call_goes_through {failure_told = failure_told} facts h s new made result fits works busy call rest current works' after counts none goes =
     let way : IsUnderWay h s.current s.next = rw busy at fits.commit in
     let more = lt-ltb h.settled (count_of s.next.body) way.owed.more in
     let before : version_of s.next.body - 1 ≡ version_of s.current.body = let after = way.version in omega (arith, after) in
-    device_call facts h s new writes syncs error result goes_through fits busy call (rw (works, busy, works', rest, current, more, before) (refl, refl, refl)) refl none refl after counts goes
+    device_call facts h s new made result goes_through fits busy call (rw (works, busy, works', rest, current, more, before) (refl, refl, refl)) refl none after counts goes
 
 -- the device failed
-pub call_fails : {D : Type 0} {failure_told : Bool} {T : Type 0} (facts : Ghosts D) (h : Held) (s new : StoreHeld D) (writes syncs : ℕ) (error : StoreError) (result : Result T StoreError)
-    (n : ℕ) → Fits facts (parts h s failure_told) → s.failed ≡ false → is_idle s.phase ≡ false → IsDeviceCall facts writes syncs error result s new
+pub call_fails : {D : Type 0} {failure_told : Bool} {T : Type 0} (facts : Ghosts D) (h : ReplicaHeld) (s new : StoreHeld D) (made : Call) (result : Result T StoreError)
+    (n : ℕ) → Fits facts (parts h s failure_told) → s.failed ≡ false → is_idle s.phase ≡ false → IsDeviceCall facts made result s new
     → is_idle new.phase ≡ false → new.current ≡ s.current → new.next ≡ s.next → new.failed ≡ true → (n ≡ 51) ⊎ (n ≡ 52)
     → Fits facts (parts h new failure_told)
     → Counts facts (refused n) s new → failures_of result ≡ 1 → StepsFail facts n s new
     → IsCall facts device_step (refused n) (parts h s failure_told) (parts h new failure_told)
-call_fails {failure_told = failure_told} facts h s new writes syncs error result n fits works busy call busy' current next failed is after counts some goes =
-    device_call facts h s new writes syncs error result (refused n) fits busy call
-    (inr (works, rw busy refl, is, rw (busy, failed, busy', current, next) refl)) (one n is) (some ∙ sym (one n is)) refl after counts (inr goes)
+call_fails {failure_told = failure_told} facts h s new made result n fits works busy call busy' current next failed is after counts some goes =
+    device_call facts h s new made result (refused n) fits busy call
+    (inr (works, rw busy refl, is, rw (busy, failed, busy', current, next) refl)) (one n is) (some ∙ sym (one n is)) after counts (inr goes)
   where
     one : (n : ℕ) → (n ≡ 51) ⊎ (n ≡ 52) → calls_in device_step (refused n) ≡ 1
     one n (inl is) = rw is refl

@@ -5,6 +5,7 @@ pub mod DeviceCalls
 pub mod DeviceSteps
 pub mod Fits
 pub mod ListLemmas
+pub mod MachineSteps
 pub mod MetCalls
 pub mod PartsFit
 pub mod PartsOf

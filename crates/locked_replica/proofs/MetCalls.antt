@@ -12,8 +12,8 @@ use Rattle.group_commit.specs.Begin.{begin_due, has_room, is_idle, is_none, Begi
 use Rattle.group_commit.specs.Errors.{number_of}
 use Rattle.group_commit.specs.declared.error.StoreError.{StoreError}
 use Rattle.group_commit.specs.declared.error.StoreError.TheVariants.{Limit, Failed}
-use Rattle.hub_parts.specs.Locked.{has_commit, IsLocked, Held as LockedHeld}
-use Rattle.hub_parts.specs.Flusher.{Commits as CommitsOf, IsAtRest, IsFlusher, Held as FlusherHeld}
+use Rattle.hub_parts.specs.Locked.{has_commit, IsLocked, LockedHeld}
+use Rattle.hub_parts.specs.Flusher.{RestsOrCommits, IsAtRest, IsFlusher, FlusherHeld}
 use Rattle.hub_parts.specs.Meet.{Meet, side_of}
 use Rattle.hub_parts.specs.Meeting.{differ, due_without, meeting_due, pending, IsMet, Leaves, Meets}
 use Rattle.hub_parts.specs.declared.met.Met.{Met}
@@ -86,7 +86,7 @@ module _ {D : Type 0} (facts : Ghosts D) (l : LockedHeld) (f : FlusherHeld D) (l
       of_test true live = refl
       of_test false live = refl
 
-      by_phase : (idle : Bool) → CommitsOf idle f
+      by_phase : (idle : Bool) → RestsOrCommits idle f
           → is_some (commit_in idle l.replica.settled (committed f.store) (count_of f.store.next.body)) ≡ f.due
       by_phase true rest =
           let all : committed f.store ≡ l.begun = rest.all ∙ taken_all facts l f locked flusher meet in
@@ -105,7 +105,7 @@ module _ {D : Type 0} (facts : Ghosts D) (l : LockedHeld) (f : FlusherHeld D) (l
       and_false true = refl
       and_false false = refl
 
-      by_phase : (idle : Bool) → CommitsOf idle f → (f.due && idle) ≡ (idle && nat_lt l.replica.settled (committed f.store))
+      by_phase : (idle : Bool) → RestsOrCommits idle f → (f.due && idle) ≡ (idle && nat_lt l.replica.settled (committed f.store))
       by_phase true rest =
           let all : committed f.store ≡ l.begun = rest.all ∙ taken_all facts l f locked flusher meet in
           and_true f.due ∙ meet.both ∙ ap (λ n. nat_lt l.replica.settled n) (sym all)
@@ -118,7 +118,7 @@ module _ {D : Type 0} (facts : Ghosts D) (l : LockedHeld) (f : FlusherHeld D) (l
       let most = locked.keeps.settled in
       (omega (arith, least, most), by_phase (is_idle f.store.phase) flusher.commit)
     where
-      by_phase : (idle : Bool) → CommitsOf idle f → idle ≡ true
+      by_phase : (idle : Bool) → RestsOrCommits idle f → idle ≡ true
       by_phase true rest = refl
       by_phase false way = let due = way.due in let never : ⊥ = cc in absurd never
 

@@ -8,12 +8,12 @@ use Rattle.op_model.specs.Machine.{taken_in}
 use Rattle.root_slots.specs.Root.{replica_of, count_of}
 use Rattle.group_commit.specs.Begin.{is_idle}
 use Rattle.group_commit.specs.Saved.{Saved}
-use Rattle.hub_parts.specs.Locked.{IsLocked, has_commit, Held as LockedHeld}
+use Rattle.hub_parts.specs.Locked.{IsLocked, has_commit, LockedHeld}
 use Rattle.hub_parts.specs.Locked.{commit_of as locked_commit}
-use Rattle.hub_parts.specs.Flusher.{Commits as CommitsOf, HasFront, IsFlusher, Held as FlusherHeld}
+use Rattle.hub_parts.specs.Flusher.{RestsOrCommits, HasFront, IsFlusher, FlusherHeld}
 use Rattle.hub_parts.specs.Meet.{Meet, side_of}
 use Rattle.locked_replica.specs.Hub.{Parts, commit_in, commit_of, committed}
-use Rattle.locked_replica.proofs.Fits.{Commits, Fits, IsFront}
+use Rattle.locked_replica.proofs.Fits.{CommitFits, Fits, IsFront}
 use Rattle.locked_replica.proofs.PartsOf.{parts}
 
 -- a hub of two parts
@@ -40,7 +40,7 @@ module _ {D : Type 0} (facts : Ghosts D) (l : LockedHeld) (f : FlusherHeld D) (l
         fits = rw same at front.fits;
       }
 
-  commits : (idle : Bool) → is_idle f.store.phase ≡ idle → CommitsOf idle f → Commits idle l.replica f.store.current f.store.next
+  commits : (idle : Bool) → is_idle f.store.phase ≡ idle → RestsOrCommits idle f → CommitFits idle l.replica f.store.current f.store.next
   commits true is rest =
       let all : committed f.store ≡ l.begun = rest.all ∙ taken_all in
       let settled = locked.keeps.settled in
@@ -81,7 +81,7 @@ module _ {D : Type 0} (facts : Ghosts D) (l : LockedHeld) (f : FlusherHeld D) (l
           let most = locked.keeps.settled in
           omega (arith, least, most, all)
 
-      by_phase : (idle : Bool) → CommitsOf idle f
+      by_phase : (idle : Bool) → RestsOrCommits idle f
           → taken_in (commit_in idle l.replica.settled (committed f.store) (count_of f.store.next.body)) l.replica.settled ≡ l.begun
       by_phase true rest = at_rest (committed f.store) (nat_lt l.replica.settled (committed f.store)) refl (rest.all ∙ taken_all)
       by_phase false way = way.all ∙ taken_all

@@ -1,20 +1,19 @@
 -- Calls of a hub that make no device call.
-use Rattle.std.proofs.Common.{◌≡◌, ℕ, ◌≤◌, Bool, List, [], ◌++◌, refl, sym, subst, arith, append-nil, inl, inr}
+use Rattle.std.proofs.Common.{◌≡◌, ℕ, ◌≤◌, Bool, List, refl, subst, arith, inl, inr}
 use Rattle.disk_trait.specs.Calls.{IsLawful, LeavesOnly}
 use Rattle.disk_trait.specs.declared.facts.DiskFacts.{Ghosts}
-use Rattle.op_model.specs.declared.op.Op.{Op}
 use Rattle.op_model.specs.Machine.{Event, edit, merge, begin, device_step, settle, ack, tell, have, Answer, goes_on, goes_through, refused, Step}
-use Rattle.op_model.specs.Held.{Held}
-use Rattle.group_commit.specs.Held.{Held as StoreHeld}
+use Rattle.op_model.specs.Held.{ReplicaHeld}
+use Rattle.group_commit.specs.Held.{StoreHeld}
 use Rattle.locked_replica.specs.Hub.{Parts, state_of}
 use Rattle.locked_replica.proofs.Fits.{Fits}
 use Rattle.locked_replica.specs.Recovery.{HasAtLeast}
-use Rattle.locked_replica.specs.Calls.{IsCall, IsLeftIn, Counts, StoreGoes, calls_in, failures_in, settled_by, writes_begun, syncs_begun}
+use Rattle.locked_replica.specs.Calls.{IsCall, IsLeftIn, Counts, StoreGoes, calls_in, failures_in, writes_begun, syncs_begun}
 use Rattle.locked_replica.proofs.PartsOf.{parts}
 use Rattle.locked_replica.proofs.Recovering.{survivor_has_settled, survivor_is_left}
 
 -- what has more has fewer
-pub has_fewer : (n m : ℕ) (h : Held) (file : List ℕ) → n ≤ m → HasAtLeast m h file → HasAtLeast n h file
+pub has_fewer : (n m : ℕ) (h : ReplicaHeld) (file : List ℕ) → n ≤ m → HasAtLeast m h file → HasAtLeast n h file
 has_fewer n m h file fewer has =
     let enough = has.enough in
     record { version = has.version; count = has.count; enough = omega arith; within = has.within; image = has.image }
@@ -41,18 +40,12 @@ few_failures have answer = omega arith
 
 -- a call that leaves the disk as it was
 pub quiet_call : {D : Type 0} (facts : Ghosts D) (event : Event) (answer : Answer) (old new : Parts D) → new.store.disk ≡ old.store.disk
-    → (facts.tells new.store.disk → IsLawful facts new.store.disk) → Fits facts new → new.replica.replica ≡ old.replica.replica
-    → Step (state_of old) event answer (state_of new)
-    → (more : List Op) → new.replica.list ≡ old.replica.list ++ more
-    → new.replica.settled ≡ settled_by old.replica.settled answer → old.replica.settled ≤ new.replica.settled → calls_in event answer ≡ 0
+    → (facts.tells new.store.disk → IsLawful facts new.store.disk) → Fits facts new
+    → Step (state_of old) event answer (state_of new) → old.replica.settled ≤ new.replica.settled → calls_in event answer ≡ 0
     → Counts facts answer old.store new.store → StoreGoes facts event answer old new.store → IsCall facts event answer old new
-quiet_call {D} facts event answer old new same lawful fits owner step more list settled rises none counts goes =
+quiet_call {D} facts event answer old new same lawful fits step rises none counts goes =
     record {
-      owner = owner;
       step = step;
-      grows = (more, list);
-      settled = settled;
-      rises = rises;
       sound = fits.sound;
       store = goes;
       tells = rw same ((λ told. told), (λ told. told));
@@ -80,11 +73,11 @@ quiet_call {D} facts event answer old new same lawful fits owner step more list 
         }
 
 -- a call that leaves the replica and the store, whatever is told of a failure
-pub quiet_same : {D : Type 0} {was is : Bool} (facts : Ghosts D) (event : Event) (answer : Answer) (h : Held) (s : StoreHeld D)
+pub quiet_same : {D : Type 0} {was is : Bool} (facts : Ghosts D) (event : Event) (answer : Answer) (h : ReplicaHeld) (s : StoreHeld D)
     → (facts.tells s.disk → IsLawful facts s.disk) → Fits facts (parts h s is)
     → Step (state_of (parts h s was)) event answer (state_of (parts h s is))
-    → h.settled ≡ settled_by h.settled answer → calls_in event answer ≡ 0 → writes_begun answer s ≡ 0 → syncs_begun answer ≡ 0
+    → calls_in event answer ≡ 0 → writes_begun answer s ≡ 0 → syncs_begun answer ≡ 0
     → StoreGoes facts event answer (parts h s was) s → IsCall facts event answer (parts h s was) (parts h s is)
-quiet_same {was = was} {is = is} facts event answer h s lawful fits step settled none no_writes no_syncs goes =
-    quiet_call facts event answer (parts h s was) (parts h s is) refl lawful fits refl step [] (sym (append-nil h.list)) settled (omega arith) none
+quiet_same {was = was} {is = is} facts event answer h s lawful fits step none no_writes no_syncs goes =
+    quiet_call facts event answer (parts h s was) (parts h s is) refl lawful fits step (omega arith) none
     (counts_same facts answer s no_writes no_syncs) goes

@@ -12,7 +12,7 @@ use Rattle.op_model.specs.Causality.{IsCausallyClosed}
 use Rattle.op_model.specs.Machine.{Commit, State, CrashLeaves, CrashLeavesOf, opened}
 use Rattle.model_laws.proofs.Growth.{closed_front}
 use Rattle.root_slots.specs.Root.{version_of, count_of}
-use Rattle.op_model.specs.Held.{Held}
+use Rattle.op_model.specs.Held.{ReplicaHeld}
 use Rattle.replica_core.specs.Held.{IsSound}
 use Rattle.group_commit.specs.Begin.{is_idle}
 use Rattle.group_commit.specs.Commit.{Is, IsLeft}
@@ -20,7 +20,7 @@ use Rattle.group_commit.specs.Saved.{Saved}
 use Rattle.group_commit.specs.declared.phase.Phase.{Phase}
 use Rattle.group_commit.specs.declared.phase.Phase.TheVariants.{Idle, Pages, Close, Sync1, Body, Sync2, Gate, Sync3}
 use Rattle.locked_replica.specs.Hub.{Parts, commit_in, version_in, commit_of, version_at}
-use Rattle.locked_replica.proofs.Fits.{Fits, IsFront, IsUnderWay, Commits}
+use Rattle.locked_replica.proofs.Fits.{Fits, IsFront, IsUnderWay, CommitFits}
 use Rattle.locked_replica.specs.Recovery.{HasFront, is_gated, RecoversWith, RecoversIn, Recovers, IsCrash, HasAtLeast}
 use Rattle.locked_replica.specs.Calls.{IsLeftOf}
 
@@ -29,7 +29,7 @@ closed_take : (n : ℕ) (ops : List Op) → IsCausallyClosed ops → IsCausallyC
 closed_take n ops closed = closed_front (take n ops) (drop n ops) (rw (take-append-drop n ops) closed)
 
 -- a file with a root that is a front has the front as its image
-image_of : (h : Held) (root : Saved) (file : List ℕ) → IsSound h → IsFront h root → Is root file
+image_of : (h : ReplicaHeld) (root : Saved) (file : List ℕ) → IsSound h → IsFront h root → Is root file
     → HasFront h (version_of root.body) (count_of root.body) file
 image_of h root file sound front is =
     record {
@@ -43,7 +43,7 @@ image_of h root file sound front is =
     }
 
 -- at rest the live root's operations are settled, or those of a commit that is through
-recovers_at_rest : (gated : Bool) (h : Held) (live version next : ℕ) (file : List ℕ) → h.settled ≤ live → (h.settled < live → 0 < version)
+recovers_at_rest : (gated : Bool) (h : ReplicaHeld) (live version next : ℕ) (file : List ℕ) → h.settled ≤ live → (h.settled < live → 0 < version)
     → HasFront h version live file
     → RecoversIn gated h (version_in true h.settled live version) (commit_in true h.settled live next) file
 recovers_at_rest gated h live version next file settled above image = by_test (nat_lt h.settled live) refl
@@ -59,19 +59,19 @@ recovers_at_rest gated h live version next file settled above image = by_test (n
         rw same image
 
 -- under way the live root's are settled, and those of the next one are the commit's
-recovers_settled : (gated : Bool) (h : Held) (current next : Saved) (file : List ℕ) → IsUnderWay h current next
+recovers_settled : (gated : Bool) (h : ReplicaHeld) (current next : Saved) (file : List ℕ) → IsUnderWay h current next
     → HasFront h (version_of current.body) (count_of current.body) file
     → RecoversIn gated h (version_of current.body) (commit_in false h.settled (count_of current.body) (count_of next.body)) file
 recovers_settled true h current next file commit image = inl (rw (commit.settled) image)
 recovers_settled false h current next file commit image = rw (commit.settled) image
 
-recovers_next : (h : Held) (current next : Saved) (file : List ℕ) → IsUnderWay h current next
+recovers_next : (h : ReplicaHeld) (current next : Saved) (file : List ℕ) → IsUnderWay h current next
     → HasFront h (version_of next.body) (count_of next.body) file
     → RecoversIn true h (version_of current.body) (commit_in false h.settled (count_of current.body) (count_of next.body)) file
 recovers_next h current next file commit image = inr (rw (sym commit.version) image)
 
 -- what is left has the image of the live root, or in the last phase of the next one
-pub recovers : (phase : Phase) (h : Held) (current next : Saved) (file : List ℕ) → IsSound h → IsFront h current → Commits (is_idle phase) h current next
+pub recovers : (phase : Phase) (h : ReplicaHeld) (current next : Saved) (file : List ℕ) → IsSound h → IsFront h current → CommitFits (is_idle phase) h current next
     → IsLeft phase current next file
     → RecoversIn (is_gated phase) h (version_in (is_idle phase) h.settled (count_of current.body) (version_of current.body))
     (commit_in (is_idle phase) h.settled (count_of current.body) (count_of next.body)) file
@@ -81,7 +81,7 @@ recovers phase h current next file sound live commit left = by_phase phase commi
         → RecoversIn gated h (version_of current.body) (commit_in false h.settled (count_of current.body) (count_of next.body)) file
     settled gated commit is = recovers_settled gated h current next file commit (image_of h current file sound live is)
 
-    by_phase : (phase : Phase) → Commits (is_idle phase) h current next → IsLeft phase current next file
+    by_phase : (phase : Phase) → CommitFits (is_idle phase) h current next → IsLeft phase current next file
         → RecoversIn (is_gated phase) h (version_in (is_idle phase) h.settled (count_of current.body) (version_of current.body))
         (commit_in (is_idle phase) h.settled (count_of current.body) (count_of next.body)) file
     by_phase Sync3 commit (inl is) = settled true commit is
@@ -97,11 +97,11 @@ recovers phase h current next file sound live commit left = by_phase phase commi
     by_phase Gate commit is = settled false commit is
 
 -- the operations of a commit are in the list, and all that are settled among them
-abbrev IsWithin : Held → Option Commit → Type 0
+abbrev IsWithin : ReplicaHeld → Option Commit → Type 0
 IsWithin h None = Unit {0}
 IsWithin h (Some c) = (h.settled ≤ c.count) × (c.count ≤ length h.list)
 
-commit_within : (idle : Bool) (h : Held) (current next : Saved) → IsFront h current → Commits idle h current next
+commit_within : (idle : Bool) (h : ReplicaHeld) (current next : Saved) → IsFront h current → CommitFits idle h current next
     → IsWithin h (commit_in idle h.settled (count_of current.body) (count_of next.body))
 commit_within true h current next live commit = by_test (nat_lt h.settled (count_of current.body))
   where
@@ -110,12 +110,12 @@ commit_within true h current next live commit = by_test (nat_lt h.settled (count
     by_test false = tt
 commit_within false h current next live commit = let more = commit.owed.more in (omega (arith, more), commit.front.within)
 
-settled_within : (idle : Bool) (h : Held) (current next : Saved) → IsFront h current → Commits idle h current next → h.settled ≤ length h.list
+settled_within : (idle : Bool) (h : ReplicaHeld) (current next : Saved) → IsFront h current → CommitFits idle h current next → h.settled ≤ length h.list
 settled_within true h current next live commit = let within = live.within in let settled = commit.settled in omega (arith, within, settled)
 settled_within false h current next live commit = let within = live.within in let settled = commit.settled in omega (arith, within, settled)
 
 -- so the image has at least the settled operations
-at_least : (gated : Bool) (h : Held) (version : ℕ) (commit : Option Commit) (file : List ℕ) → h.settled ≤ length h.list → IsWithin h commit
+at_least : (gated : Bool) (h : ReplicaHeld) (version : ℕ) (commit : Option Commit) (file : List ℕ) → h.settled ≤ length h.list → IsWithin h commit
     → RecoversIn gated h version commit file → HasAtLeast h.settled h file
 at_least gated h version None file settled within image =
     record { version = version; count = h.settled; enough = omega arith; within = settled; image = image }
@@ -144,7 +144,7 @@ pub survivor_has_settled : {D : Type 0} (facts : Ghosts D) (hub : Parts D) (file
 survivor_has_settled facts hub file fits told survives = recovered_has facts hub file fits (survivor_has facts hub file fits told survives)
 
 -- the machine's state with this commit and version
-abbrev state_at : Held → Bool → Bool → ℕ → Option Commit → State
+abbrev state_at : ReplicaHeld → Bool → Bool → ℕ → Option Commit → State
 state_at h failed failure_told version commit = record {
   held = h;
   version = version;
@@ -154,7 +154,7 @@ state_at h failed failure_told version commit = record {
 }
 
 -- what is opened from a file with such an image is what the machine's crash leaves
-opened_from : (gated : Bool) (h : Held) (failed failure_told : Bool) (version : ℕ) (commit : Option Commit) (file : List ℕ)
+opened_from : (gated : Bool) (h : ReplicaHeld) (failed failure_told : Bool) (version : ℕ) (commit : Option Commit) (file : List ℕ)
     → RecoversIn gated h version commit file
     → (v n : ℕ) × HasFront h v n file × CrashLeaves (state_at h failed failure_told version commit) (opened h.replica (take n h.list) v)
 opened_from gated h failed failure_told version None file image = (version, h.settled, image, refl)

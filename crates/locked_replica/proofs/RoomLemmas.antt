@@ -14,7 +14,7 @@ use Rattle.change_codec.proofs.StreamLaws.{length-spelled_all}
 use Rattle.root_slots.specs.Root.{version_of, count_of}
 use Rattle.group_commit.specs.Begin.{is_none, has_room}
 use Rattle.group_commit.specs.Saved.{Saved}
-use Rattle.op_model.specs.Held.{Held}
+use Rattle.op_model.specs.Held.{ReplicaHeld}
 use Rattle.locked_replica.proofs.Fits.{IsFront}
 
 within_in_turn : (before ops : List Op) → is_within_limits before ≡ true → FollowInTurn before ops → is_within_limits (before ++ ops) ≡ true
@@ -47,7 +47,7 @@ stream_behind : (n : ℕ) (ops : List Op) → stream_length (take n ops) + strea
 stream_behind n ops = sym (stream_length-append (take n ops) (drop n ops)) ∙ ap stream_length (take-append-drop n ops)
 
 -- so there is room for all of them behind the live root, if there is a further version
-pub room_is_version : (h : Held) (root : Saved) → IsCausallyClosed h.list → IsFront h root
+pub room_is_version : (h : ReplicaHeld) (root : Saved) → IsCausallyClosed h.list → IsFront h root
     → has_room root (drop (count_of root.body) h.list) ≡ nat_lt (version_of root.body) 18446744073709551615
 room_is_version h root closed front =
     let n = count_of root.body in

@@ -8,14 +8,16 @@ use Rattle.disk_trait.specs.Calls.{IsLawful}
 use Rattle.disk_trait.specs.declared.facts.DiskFacts.{Ghosts}
 use Rattle.op_model.specs.declared.op.Op.{Op}
 use Rattle.op_model.specs.Machine.{State, Event, Answer, refused, Step, Run}
-use Rattle.op_model.specs.Held.{Held}
+use Rattle.op_model.specs.Held.{ReplicaHeld}
 use Rattle.locked_replica.specs.Hub.{Parts, state_of}
-use Rattle.locked_replica.specs.Calls.{IsCall, IsLeftIn, IsLeftOf, calls_in, settled_by, writes_begun, syncs_begun, NoWriteFails}
+use Rattle.locked_replica.specs.Calls.{IsCall, IsLeftIn, IsLeftOf, calls_in, writes_begun, syncs_begun, NoWriteFails}
 use Rattle.locked_replica.specs.Recovery.{HasAtLeast, IsCrash, Recovers}
-use Rattle.locked_replica.specs.Run.{Ran, Calls, CrashesIn, FrontsStand, calls_made, settled_behind, writes_planned, syncs_planned, NoneFailed, NamePhases}
+use Rattle.locked_replica.specs.Run.{Ran, Calls, CrashesIn, FrontsStand, NoneFailed, NamePhases}
+use Rattle.locked_replica.specs.Run.{settled_by, settled_behind, calls_made, writes_planned, syncs_planned}
 use Rattle.locked_replica.specs.Steps.{NamesPhase}
 use Rattle.locked_replica.specs.declared.hub_reply.HubReply.{HubReply}
 use Rattle.locked_replica.proofs.ListLemmas.{take_all}
+use Rattle.locked_replica.proofs.MachineSteps.{Goes, step_goes, step_rises}
 use Rattle.locked_replica.proofs.QuietCalls.{has_fewer}
 
 take_none : {A : Type 0} (k : ℕ) → take {A = A} k [] ≡ []
@@ -42,7 +44,7 @@ fewer (suc k) [] = omega arith
 fewer (suc k) (x ∷ es) = let rest = fewer k es in omega (arith, rest)
 
 -- what is a beginning of the list is one of a longer list
-has_longer : (n : ℕ) (h next : Held) (more : List Op) (file : List ℕ) → next.replica ≡ h.replica → next.list ≡ h.list ++ more → HasAtLeast n h file
+has_longer : (n : ℕ) (h next : ReplicaHeld) (more : List Op) (file : List ℕ) → next.replica ≡ h.replica → next.list ≡ h.list ++ more → HasAtLeast n h file
     → HasAtLeast n next file
 has_longer n h next more file owner list has =
     let within = has.within in
@@ -99,7 +101,6 @@ pub ran_none : {D : Type 0} (facts : Ghosts D) (hub : Parts D) → (facts.tells 
     → Ran facts hub [] hub
 ran_none facts hub lawful left recovered crash =
     record {
-      owner = refl;
       machine = refl;
       settled = refl;
       rising = λ k within. rw (take_none {A = Event × Answer} k) (omega arith);
@@ -136,7 +137,6 @@ unfoldable made_more : {D : Type 0} (facts : Ghosts D) (old mid new : Parts D) (
     → Ran facts old (es ++ (event, answer) ∷ []) new
 made_more facts old mid new es event answer lawful ran call =
     record {
-      owner = call.owner ∙ ran.owner;
       machine = run_more (state_of old) (state_of mid) (state_of new) es (event, answer) ran.machine call.step;
       settled = its_settled;
       rising = its_rising;
@@ -157,6 +157,9 @@ made_more facts old mid new es event answer lawful ran call =
           omega (arith, more, before, after);
     }
   where
+    its_step : Goes answer mid.replica new.replica
+    its_step = step_goes (state_of mid) event answer (state_of new) call.step
+
     its_crashes : facts.tells old.store.disk → (file : List ℕ) → facts.left_since new.store.disk (facts.time old.store.disk) file
         → CrashesIn facts old (es ++ (event, answer) ∷ []) new (calls_chain facts old mid new es event answer ran.calls call) file
     its_crashes told file since = either ((call.moments (ran.tells.1 told)).before _ file (let before = ran.time told in omega (arith, before)) since)
@@ -193,7 +196,7 @@ made_more facts old mid new es event answer lawful ran call =
         none_last (e ∷ es) none = none_last es none.1
 
     its_settled : new.replica.settled ≡ settled_behind old.replica.settled (es ++ (event, answer) ∷ [])
-    its_settled = call.settled ∙ ap (λ n. settled_by n answer) ran.settled ∙ sym (settled_more old.replica.settled es (event, answer))
+    its_settled = its_step.settled ∙ ap (λ n. settled_by n answer) ran.settled ∙ sym (settled_more old.replica.settled es (event, answer))
 
     its_time : facts.tells old.store.disk → facts.time new.store.disk ≡ facts.time old.store.disk + calls_made (es ++ (event, answer) ∷ [])
     its_time told =
@@ -214,7 +217,10 @@ made_more facts old mid new es event answer lawful ran call =
     its_rising k within = by_place (up_to k (length es) (rw long at within))
       where
         by_place : (k ≤ length es) ⊎ (k ≡ length es + 1) → settled_behind old.replica.settled (take k (es ++ (event, answer) ∷ [])) ≤ new.replica.settled
-        by_place (inl within) = rw (earlier k within) (let was = ran.rising k within in let rises = call.rises in omega (arith, was, rises))
+        by_place (inl within) = rw (earlier k within) (
+            let was = ran.rising k within in
+            let rises = step_rises mid event answer (state_of new) call.step in
+            omega (arith, was, rises, its_step.settled))
         by_place (inr is) = rw (whole k is, sym its_settled) (omega arith)
 
     its_fronts : facts.tells old.store.disk → FrontsStand facts old (es ++ (event, answer) ∷ []) new
@@ -233,7 +239,7 @@ made_more facts old mid new es event answer lawful ran call =
             either : facts.left_since mid.store.disk (facts.time old.store.disk + calls_made (take k es)) file ⊎ IsLeftIn mid new file
                 → HasAtLeast (settled_behind old.replica.settled (take k es)) new.replica file
             either (inl since) =
-                has_longer _ mid.replica new.replica call.grows.0 file call.owner call.grows.1 (ran.fronts told k file within since)
+                has_longer _ mid.replica new.replica its_step.more file its_step.owner its_step.grows (ran.fronts told k file within since)
             either (inr left) = has_fewer _ mid.replica.settled new.replica file (ran.rising k within) left.has
 
         by_place : (k ≤ length es) ⊎ (k ≡ length es + 1) → HasAtLeast (settled_behind old.replica.settled (take k (es ++ (event, answer) ∷ []))) new.replica file

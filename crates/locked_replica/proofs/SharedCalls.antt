@@ -1,7 +1,6 @@
 -- Calls of the locked part are calls of the hub.
-use Rattle.std.proofs.Common.{◌≡◌, ℕ, ◌+◌, Bool, true, false, nat_le, List, [], ◌∷◌, drop, take, refl, sym, ap, ◌∙◌, arith}
-use Rattle.std.proofs.Common.{append-nil, Option}
-use Rattle.std.specs.Prelude.{if◌then◌else◌}
+use Rattle.std.proofs.Common.{◌≡◌, ℕ, ◌+◌, Bool, true, false, nat_le, List, [], ◌∷◌, drop, refl, sym, ap, ◌∙◌, arith, if◌then◌else◌}
+use Rattle.std.proofs.Common.{Option}
 use Rattle.disk_trait.specs.Calls.{IsLawful}
 use Rattle.disk_trait.specs.declared.facts.DiskFacts.{Ghosts}
 use Rattle.op_model.specs.declared.op.Op.{Op}
@@ -12,13 +11,13 @@ use Rattle.op_model.specs.Machine.{refused, has_record_room, with_room, edit_ans
 use Rattle.op_model.specs.Machine.{EditStep, MergeStep, AckStep, TellStep, HaveStep}
 use Rattle.op_model.specs.Made.{made}
 use Rattle.op_model.specs.Records.{stream_length}
-use Rattle.op_model.specs.Held.{settled_list, with_acked, with_edit, with_merge, with_told, Held}
+use Rattle.op_model.specs.Held.{settled_list, with_acked, with_edit, with_merge, with_told, ReplicaHeld}
 use Rattle.replica_core.specs.Merging.{after_merge, answer_of}
 use Rattle.replica_core.specs.declared.merged.Merged.{Merged}
 use Rattle.replica_core.specs.declared.merged.Merged.TheVariants as merged_as
-use Rattle.hub_parts.specs.Locked.{IsLocked, Held as LockedHeld}
+use Rattle.hub_parts.specs.Locked.{IsLocked, LockedHeld}
 use Rattle.hub_parts.specs.Locked.{commit_of as locked_commit, state_of as locked_state}
-use Rattle.hub_parts.specs.Flusher.{IsFlusher, Held as FlusherHeld}
+use Rattle.hub_parts.specs.Flusher.{IsFlusher, FlusherHeld}
 use Rattle.hub_parts.specs.Meet.{Meet, side_of}
 use Rattle.locked_replica.specs.Calls.{IsCall}
 use Rattle.locked_replica.specs.Hub.{commit_of, state_of, version_at}
@@ -26,7 +25,7 @@ use Rattle.locked_replica.proofs.PartsFit.{hub_fits, hub_of, locked_taken, taken
 use Rattle.locked_replica.proofs.QuietCalls.{quiet_call, counts_same}
 
 -- a state of this replica, whatever its device and its commit
-abbrev at : Held → Bool → Bool → ℕ → Option Commit → State
+abbrev at : ReplicaHeld → Bool → Bool → ℕ → Option Commit → State
 at h told failed version commit = record {
   held = h;
   version = version;
@@ -36,18 +35,18 @@ at h told failed version commit = record {
 }
 
 -- whether there is room depends on the commit only by what was taken
-same_room : (h : Held) (told f f' : Bool) (v v' : ℕ) (c c' : Option Commit) (ops : List Op) → taken_in c h.settled ≡ taken_in c' h.settled
+same_room : (h : ReplicaHeld) (told f f' : Bool) (v v' : ℕ) (c c' : Option Commit) (ops : List Op) → taken_in c h.settled ≡ taken_in c' h.settled
     → has_record_room (at h told f v c) ops ≡ has_record_room (at h told f' v' c') ops
 same_room h told f f' v v' c c' ops same = ap (λ n. nat_le (stream_length (drop n h.list) + stream_length ops) 1048576) same
 
 -- and so do the answers to an edit and to a merge
-same_edit : (h : Held) (told f f' : Bool) (v v' : ℕ) (c c' : Option Commit) (e : Edit) → taken_in c h.settled ≡ taken_in c' h.settled
+same_edit : (h : ReplicaHeld) (told f f' : Bool) (v v' : ℕ) (c c' : Option Commit) (e : Edit) → taken_in c h.settled ≡ taken_in c' h.settled
     → edit_answer (at h told f v c) e ≡ edit_answer (at h told f' v' c') e
 same_edit h told f f' v v' c c' e same =
     ap (λ room. if told then refused 9 else with_room room (edit_alone h e))
     (same_room h told f f' v v' c c' (made h.list h.replica e) same)
 
-same_merge : (h : Held) (told f f' : Bool) (v v' : ℕ) (c c' : Option Commit) (op : Op) → taken_in c h.settled ≡ taken_in c' h.settled
+same_merge : (h : ReplicaHeld) (told f f' : Bool) (v v' : ℕ) (c c' : Option Commit) (op : Op) → taken_in c h.settled ≡ taken_in c' h.settled
     → merge_answer (at h told f v c) op ≡ merge_answer (at h told f' v' c') op
 same_merge h told f f' v v' c c' op same =
     ap (λ room. if told then refused 9 else with_room room (merge_alone h op))
@@ -75,16 +74,16 @@ module _ {D : Type 0} (facts : Ghosts D) (l : LockedHeld) (f : FlusherHeld D) (l
       let next' : LockedHeld = record l { replica = with_edit l.replica session e } in
       let fits = hub_fits facts next' f (rw is at locked') flusher (rw is at meet') in
       let due = edit_due e ∙ answer in
-      rw is (quiet_call facts (edit session e) (ticket t) (hub_of l f) (hub_of next' f) refl lawful fits refl (due, refl)
-      (made l.replica.list l.replica.replica e) refl refl (omega arith) refl (counts_same facts _ f.store refl refl) refl)
+      rw is (quiet_call facts (edit session e) (ticket t) (hub_of l f) (hub_of next' f) refl lawful fits (due, refl)
+      (omega arith) refl (counts_same facts _ f.store refl refl) refl)
 
   -- an edit that is refused
   pub call_edit_refused : (session : ℕ) (e : Edit) (n : ℕ) (next : LockedHeld) → EditStep (locked_state l) session e (refused n) (locked_state next)
       → next ≡ l → IsCall facts (edit session e) (refused n) (hub_of l f) (hub_of next f)
   call_edit_refused session e n next (answer, left) is =
       let due : IsRefusal n (edit_answer (state_of (hub_of l f)) e) = rw (edit_due e) answer in
-      rw is (quiet_call facts (edit session e) (refused n) (hub_of l f) (hub_of l f) refl lawful (hub_fits facts l f locked flusher meet) refl (due, refl)
-      [] (sym (append-nil l.replica.list)) refl (omega arith) refl (counts_same facts _ f.store refl refl) refl)
+      rw is (quiet_call facts (edit session e) (refused n) (hub_of l f) (hub_of l f) refl lawful (hub_fits facts l f locked flusher meet) (due, refl)
+      (omega arith) refl (counts_same facts _ f.store refl refl) refl)
 
   -- a merge that isn't refused
   pub call_merge : (peer : ℕ) (op : Op) (m : Merged) (next : LockedHeld) → IsLocked next → Meet next (side_of f)
@@ -94,24 +93,24 @@ module _ {D : Type 0} (facts : Ghosts D) (l : LockedHeld) (f : FlusherHeld D) (l
       let next' : LockedHeld = record l { replica = with_merge l.replica peer op } in
       let fits = hub_fits facts next' f (rw is at locked') flusher (rw is at meet') in
       let due = merge_due op ∙ answer in
-      rw is (quiet_call facts (merge peer op) applied (hub_of l f) (hub_of next' f) refl lawful fits refl (due, refl)
-      (op ∷ []) refl refl (omega arith) refl (counts_same facts _ f.store refl refl) refl)
+      rw is (quiet_call facts (merge peer op) applied (hub_of l f) (hub_of next' f) refl lawful fits (due, refl)
+      (omega arith) refl (counts_same facts _ f.store refl refl) refl)
   call_merge peer op merged_as.Known next locked' meet' (answer, left) is =
       let due = merge_due op ∙ answer in
-      rw is (quiet_call facts (merge peer op) known (hub_of l f) (hub_of l f) refl lawful (hub_fits facts l f locked flusher meet) refl (due, refl)
-      [] (sym (append-nil l.replica.list)) refl (omega arith) refl (counts_same facts _ f.store refl refl) refl)
+      rw is (quiet_call facts (merge peer op) known (hub_of l f) (hub_of l f) refl lawful (hub_fits facts l f locked flusher meet) (due, refl)
+      (omega arith) refl (counts_same facts _ f.store refl refl) refl)
   call_merge peer op merged_as.Early next locked' meet' (answer, left) is =
       let due = merge_due op ∙ answer in
-      rw is (quiet_call facts (merge peer op) early (hub_of l f) (hub_of l f) refl lawful (hub_fits facts l f locked flusher meet) refl (due, refl)
-      [] (sym (append-nil l.replica.list)) refl (omega arith) refl (counts_same facts _ f.store refl refl) refl)
+      rw is (quiet_call facts (merge peer op) early (hub_of l f) (hub_of l f) refl lawful (hub_fits facts l f locked flusher meet) (due, refl)
+      (omega arith) refl (counts_same facts _ f.store refl refl) refl)
 
   -- a merge that is refused
   pub call_merge_refused : (peer : ℕ) (op : Op) (n : ℕ) (next : LockedHeld) → MergeStep (locked_state l) peer op (refused n) (locked_state next)
       → next ≡ l → IsCall facts (merge peer op) (refused n) (hub_of l f) (hub_of next f)
   call_merge_refused peer op n next (answer, left) is =
       let due : IsRefusal n (merge_answer (state_of (hub_of l f)) op) = rw (merge_due op) answer in
-      rw is (quiet_call facts (merge peer op) (refused n) (hub_of l f) (hub_of l f) refl lawful (hub_fits facts l f locked flusher meet) refl (due, refl)
-      [] (sym (append-nil l.replica.list)) refl (omega arith) refl (counts_same facts _ f.store refl refl) refl)
+      rw is (quiet_call facts (merge peer op) (refused n) (hub_of l f) (hub_of l f) refl lawful (hub_fits facts l f locked flusher meet) (due, refl)
+      (omega arith) refl (counts_same facts _ f.store refl refl) refl)
 
   -- an acknowledgement, also of a hub whose device failed
   pub call_ack : (t : Ticket) (b : Bool) (next : LockedHeld) → IsLocked next → Meet next (side_of f)
@@ -120,11 +119,11 @@ module _ {D : Type 0} (facts : Ghosts D) (l : LockedHeld) (f : FlusherHeld D) (l
   call_ack t true next locked' meet' (settled, left) is =
       let next' : LockedHeld = record l { replica = with_acked l.replica t.end } in
       let fits = hub_fits facts next' f (rw is at locked') flusher (rw is at meet') in
-      rw is (quiet_call facts (ack t) (acknowledged true) (hub_of l f) (hub_of next' f) refl lawful fits refl (settled, refl)
-      [] (sym (append-nil l.replica.list)) refl (omega arith) refl (counts_same facts _ f.store refl refl) refl)
+      rw is (quiet_call facts (ack t) (acknowledged true) (hub_of l f) (hub_of next' f) refl lawful fits (settled, refl)
+      (omega arith) refl (counts_same facts _ f.store refl refl) refl)
   call_ack t false next locked' meet' (unsettled, left) is =
-      rw is (quiet_call facts (ack t) (acknowledged false) (hub_of l f) (hub_of l f) refl lawful (hub_fits facts l f locked flusher meet) refl (unsettled, refl)
-      [] (sym (append-nil l.replica.list)) refl (omega arith) refl (counts_same facts _ f.store refl refl) refl)
+      rw is (quiet_call facts (ack t) (acknowledged false) (hub_of l f) (hub_of l f) refl lawful (hub_fits facts l f locked flusher meet) (unsettled, refl)
+      (omega arith) refl (counts_same facts _ f.store refl refl) refl)
 
   -- a telling of operations
   pub call_tell : (c : List (ℕ × ℕ)) (ops : List Op) (next : LockedHeld) → IsLocked next → Meet next (side_of f)
@@ -134,15 +133,15 @@ module _ {D : Type 0} (facts : Ghosts D) (l : LockedHeld) (f : FlusherHeld D) (l
   call_tell c ops next locked' meet' (are, left) is =
       let next' : LockedHeld = record l { replica = with_told l.replica (reach c (settled_list l.replica)) } in
       let fits = hub_fits facts next' f (rw is at locked') flusher (rw is at meet') in
-      rw is (quiet_call facts (tell c) (operations ops) (hub_of l f) (hub_of next' f) refl lawful fits refl (are, refl)
-      [] (sym (append-nil l.replica.list)) refl (omega arith) refl (counts_same facts _ f.store refl refl) refl)
+      rw is (quiet_call facts (tell c) (operations ops) (hub_of l f) (hub_of next' f) refl lawful fits (are, refl)
+      (omega arith) refl (counts_same facts _ f.store refl refl) refl)
 
   -- one that finds no memory
   pub call_tell_refused : (c : List (ℕ × ℕ)) (n : ℕ) (next : LockedHeld) → TellStep (locked_state l) c (refused n) (locked_state next) → next ≡ l
       → IsCall facts (tell c) (refused n) (hub_of l f) (hub_of next f)
   call_tell_refused c n next (memory, left) is =
-      rw is (quiet_call facts (tell c) (refused n) (hub_of l f) (hub_of l f) refl lawful (hub_fits facts l f locked flusher meet) refl (memory, refl)
-      [] (sym (append-nil l.replica.list)) refl (omega arith) refl (counts_same facts _ f.store refl refl) refl)
+      rw is (quiet_call facts (tell c) (refused n) (hub_of l f) (hub_of l f) refl lawful (hub_fits facts l f locked flusher meet) (memory, refl)
+      (omega arith) refl (counts_same facts _ f.store refl refl) refl)
 
   -- a telling of the clock
   pub call_have : (c : List (ℕ × ℕ)) (next : LockedHeld) → IsLocked next → Meet next (side_of f)
@@ -151,11 +150,11 @@ module _ {D : Type 0} (facts : Ghosts D) (l : LockedHeld) (f : FlusherHeld D) (l
   call_have c next locked' meet' (is_clock, left) is =
       let next' : LockedHeld = record l { replica = with_told l.replica l.replica.settled } in
       let fits = hub_fits facts next' f (rw is at locked') flusher (rw is at meet') in
-      rw is (quiet_call facts have (clock c) (hub_of l f) (hub_of next' f) refl lawful fits refl (is_clock, refl)
-      [] (sym (append-nil l.replica.list)) refl (omega arith) refl (counts_same facts _ f.store refl refl) refl)
+      rw is (quiet_call facts have (clock c) (hub_of l f) (hub_of next' f) refl lawful fits (is_clock, refl)
+      (omega arith) refl (counts_same facts _ f.store refl refl) refl)
 
   pub call_have_refused : (n : ℕ) (next : LockedHeld) → HaveStep (locked_state l) (refused n) (locked_state next) → next ≡ l
       → IsCall facts have (refused n) (hub_of l f) (hub_of next f)
   call_have_refused n next (memory, left) is =
-      rw is (quiet_call facts have (refused n) (hub_of l f) (hub_of l f) refl lawful (hub_fits facts l f locked flusher meet) refl (memory, refl)
-      [] (sym (append-nil l.replica.list)) refl (omega arith) refl (counts_same facts _ f.store refl refl) refl)
+      rw is (quiet_call facts have (refused n) (hub_of l f) (hub_of l f) refl lawful (hub_fits facts l f locked flusher meet) (memory, refl)
+      (omega arith) refl (counts_same facts _ f.store refl refl) refl)

@@ -5,7 +5,7 @@ use Rattle.std.proofs.Common.{Result, Ok, Err}
 use Rattle.std.specs.Prelude.{if◌then◌else◌, is_some}
 use Rattle.std.proofs.lemmas.Bool.Decides.{nat_tests}
 use Rattle.op_model.specs.Machine.{State, Answer, begun, nothing_new, refused, begin_answer, with_failure_told, through_of, is_under_way, BeginStep}
-use Rattle.op_model.specs.Held.{Held}
+use Rattle.op_model.specs.Held.{ReplicaHeld}
 use Rattle.group_commit.specs.Begin.{is_none, has_room, IsAnswer}
 use Rattle.group_commit.specs.Errors.{number_of}
 use Rattle.group_commit.specs.declared.error.StoreError.{StoreError}
@@ -14,7 +14,7 @@ use Rattle.locked_replica.specs.Hub.{commit_in, version_in}
 use Rattle.locked_replica.specs.Steps.{begun_of}
 
 -- the state with these tests and numbers
-abbrev pub state_with : Held → Bool → Bool → Bool → ℕ → ℕ → ℕ → State
+abbrev pub state_with : ReplicaHeld → Bool → Bool → Bool → ℕ → ℕ → ℕ → State
 state_with h failed failure_told idle live next version = record {
   held = h;
   version = version_in idle h.settled live version;
@@ -77,7 +77,7 @@ not_not true = refl
 not_not false = refl
 
 -- the machine's answer to a begin is what is due of the store
-pub begin_as_due : (h : Held) (failure_told idle none room : Bool) (live next version n : ℕ) → (idle && nat_lt h.settled live) ≡ false
+pub begin_as_due : (h : ReplicaHeld) (failure_told idle none room : Bool) (live next version n : ℕ) → (idle && nat_lt h.settled live) ≡ false
     → nat_le (length h.list) h.settled ≡ none → (idle ≡ true → room ≡ nat_lt version 18446744073709551615) → (idle ≡ true → n ≡ length h.list)
     → begin_answer (state_with h false failure_told idle live next version) ≡ answer_due (due_by idle none room n)
 begin_as_due h failure_told idle none room live next version n resting is_none has_room is_all =

@@ -1,16 +1,15 @@
 -- What one call of a hub does.
-use Rattle.std.specs.Prelude.{◌≡◌, ◌≢◌, ◌↔◌, ◌⊎◌, ℕ, ◌+◌, ◌≤◌, ◌==◌, true, false, if◌then◌else◌, List, ◌++◌, length, drop, Ok, Err}
+use Rattle.std.specs.Prelude.{◌≡◌, ◌≢◌, ◌↔◌, ◌⊎◌, ℕ, ◌+◌, ◌==◌, true, false, List, length, drop, Ok, Err, if◌then◌else◌}
 use Rattle.fixed_numbers.specs.declared.refusals.TheConstants.{STORE_FAILED, WRITE_FAILED}
-use Rattle.op_model.specs.declared.op.Op.{Op}
 use Rattle.disk_trait.specs.Calls.{LeavesOnly}
 use Rattle.disk_trait.specs.declared.facts.DiskFacts.{Ghosts}
-use Rattle.op_model.specs.Machine.{Event, begin, device_step, Answer, begun, goes_on, goes_through, settled_to, refused, Step}
+use Rattle.op_model.specs.Machine.{Event, begin, device_step, Answer, begun, goes_on, goes_through, refused, Step}
 use Rattle.group_commit.specs.Begin.{Begins}
 use Rattle.group_commit.specs.Changes.{changed_pages}
 use Rattle.group_commit.specs.Counts.{writes_left, syncs_left}
 use Rattle.group_commit.specs.Errors.{number_of}
-use Rattle.group_commit.specs.Held.{Held as StoreHeld, gone_on, has_failed}
-use Rattle.group_commit.specs.Step.{error_in, writes_in, syncs_in, Does}
+use Rattle.group_commit.specs.Held.{StoreHeld, gone_on, has_failed}
+use Rattle.group_commit.specs.Step.{call_in, error_of, writes_of, syncs_of, Does}
 use Rattle.group_commit.specs.declared.phase.Phase.{Phase}
 use Rattle.replica_core.specs.Held.{IsSound}
 use Rattle.locked_replica.specs.Hub.{Parts, state_of}
@@ -37,11 +36,6 @@ device_failures a = 0
 abbrev pub failures_in : Event → Answer → ℕ
 failures_in device_step a = device_failures a
 failures_in event a = 0
-
--- the settled number behind an answer
-abbrev pub settled_by : ℕ → Answer → ℕ
-settled_by n (settled_to m) = m
-settled_by n a = n
 
 -- How many writes a commit makes that begins with this answer: one for each page whose bytes or entries change or that is new, the
 -- close where the stale gate reads 1, the body and the gate.
@@ -74,21 +68,21 @@ StoreBegins facts a old new = new ≡ old.store
 
 -- the call of the phase is counted, whether it fails or not
 pub record IsCounted {D : Type 0} (facts : Ghosts D) (old new : StoreHeld D) : Type 0 where
-  pub writes : facts.writes new.disk ≡ facts.writes old.disk + writes_in old.phase
-  pub syncs : facts.syncs new.disk ≡ facts.syncs old.disk + syncs_in old.phase
+  pub writes : facts.writes new.disk ≡ facts.writes old.disk + writes_of (call_in old.phase)
+  pub syncs : facts.syncs new.disk ≡ facts.syncs old.disk + syncs_of (call_in old.phase)
 
 -- A device step that succeeds made the call of its phase, and goes on to the next one.
 pub record StepsOn {D : Type 0} (facts : Ghosts D) (old new : StoreHeld D) : Type 0 where
   pub counted : facts.tells old.disk → IsCounted facts old new
   pub next : new ≡ gone_on old.phase old new.disk
-  pub does : facts.tells old.disk → Does {T = Phase} facts (Ok old.phase) old.phase old new.disk
+  pub does : facts.tells old.disk → Does {T = Phase} facts (Ok old.phase) (call_in old.phase) old new.disk
 
 -- One that fails has the number of its phase's failure; a write may be torn, in its range alone.
 pub record StepsFail {D : Type 0} (facts : Ghosts D) (n : ℕ) (old new : StoreHeld D) : Type 0 where
   pub counted : facts.tells old.disk → IsCounted facts old new
-  pub number : n ≡ number_of (error_in old.phase)
+  pub number : n ≡ number_of (error_of (call_in old.phase))
   pub next : new ≡ has_failed old new.disk
-  pub does : facts.tells old.disk → Does {T = Phase} facts (Err (error_in old.phase)) old.phase old new.disk
+  pub does : facts.tells old.disk → Does {T = Phase} facts (Err (error_of (call_in old.phase))) (call_in old.phase) old new.disk
 
 -- a device step goes on, or it is refused: with 44 without a call, else because it failed
 abbrev pub StoreSteps : {D : Type 0} → Ghosts D → Answer → StoreHeld D → StoreHeld D → Type 0
@@ -115,14 +109,10 @@ pub record IsLeftIn {D : Type 0} (old new : Parts D) (file : List ℕ) : Type 0 
   pub has : HasAtLeast old.replica.settled new.replica file
   pub around : IsLeftOf old file ⊎ IsLeftOf new file
 
--- A call is one step of the machine, with its answer. The list only grows and is causally closed, the settled number doesn't fall, and
--- what is acknowledged and told is settled. The disk's time goes on by the device calls that the answer shows.
+-- A call is one step of the machine, with its answer. The list stays causally closed, and what is acknowledged and told is settled. The
+-- disk's time goes on by the device calls that the answer shows.
 pub record IsCall {D : Type 0} (facts : Ghosts D) (event : Event) (answer : Answer) (old new : Parts D) : Type 0 where
-  pub owner : new.replica.replica ≡ old.replica.replica
   pub step : Step (state_of old) event answer (state_of new)
-  pub grows : (more : List Op) × (new.replica.list ≡ old.replica.list ++ more)
-  pub settled : new.replica.settled ≡ settled_by old.replica.settled answer
-  pub rises : old.replica.settled ≤ new.replica.settled
   pub sound : IsSound new.replica
   pub store : StoreGoes facts event answer old new.store
   pub tells : facts.tells new.store.disk ↔ facts.tells old.store.disk

@@ -1,10 +1,10 @@
 -- A hub as contracts see it, and the state of the machine that it is in.
-use Rattle.std.specs.Prelude.{ℕ, ◌-◌, Bool, true, false, ◌&&◌, nat_lt, if◌then◌else◌, Option, Some, None}
+use Rattle.std.specs.Prelude.{ℕ, ◌-◌, Bool, true, false, ◌&&◌, nat_lt, Option, Some, None, if◌then◌else◌}
 use Rattle.root_slots.specs.Root.{version_of, count_of}
 use Rattle.op_model.specs.Machine.{Commit, State}
-use Rattle.op_model.specs.Held.{Held as ReplicaHeld}
+use Rattle.op_model.specs.Held.{ReplicaHeld}
 use Rattle.group_commit.specs.Begin.{is_idle}
-use Rattle.group_commit.specs.Held.{Held as StoreHeld}
+use Rattle.group_commit.specs.Held.{StoreHeld}
 
 -- what its replica and its store hold, and whether a meeting of the two has told a failure of the device
 pub record Parts (D : Type 0) : Type 0 where

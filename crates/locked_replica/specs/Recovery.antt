@@ -1,14 +1,14 @@
 -- What a crash leaves of a hub.
 use Rattle.std.specs.Prelude.{◌⊎◌, ℕ, ◌+◌, ◌≤◌, Bool, true, false, List, length, take, Option, Some, None}
 use Rattle.op_model.specs.Machine.{Commit, CrashLeaves, opened}
-use Rattle.op_model.specs.Held.{Held}
+use Rattle.op_model.specs.Held.{ReplicaHeld}
 use Rattle.recovery.specs.Image.{IsImage}
 use Rattle.group_commit.specs.declared.phase.Phase.{Phase}
 use Rattle.group_commit.specs.declared.phase.Phase.TheVariants.{Sync3}
 use Rattle.locked_replica.specs.Hub.{Parts, commit_of, version_at, state_of}
 
--- the file's image is the first so many operations of the list, in this version
-abbrev pub HasFront : Held → ℕ → ℕ → List ℕ → Type 0
+-- the file's image is the first count operations of the list, in this version
+abbrev pub HasFront : ReplicaHeld → ℕ → ℕ → List ℕ → Type 0
 HasFront h version count file = IsImage file h.replica version (take count h.list)
 
 -- the gate of a commit under way is written, and may be on the disk or not
@@ -16,15 +16,15 @@ abbrev pub is_gated : Phase → Bool
 is_gated Sync3 = true
 is_gated phase = false
 
--- With a commit of so many operations, through or not, and gated or not: one that is through is what the image has; one that isn't
+-- With a commit of count operations, through or not, and gated or not: one that is through is what the image has; one that isn't
 -- leaves the settled list, or where its gate is written either one.
-abbrev pub RecoversWith : Bool → Bool → Held → ℕ → ℕ → List ℕ → Type 0
+abbrev pub RecoversWith : Bool → Bool → ReplicaHeld → ℕ → ℕ → List ℕ → Type 0
 RecoversWith true gated h version count file = HasFront h (version + 1) count file
 RecoversWith false true h version count file = HasFront h version h.settled file ⊎ HasFront h (version + 1) count file
 RecoversWith false false h version count file = HasFront h version h.settled file
 
 -- without a commit it is the settled list
-abbrev pub RecoversIn : Bool → Held → ℕ → Option Commit → List ℕ → Type 0
+abbrev pub RecoversIn : Bool → ReplicaHeld → ℕ → Option Commit → List ℕ → Type 0
 RecoversIn gated h version None file = HasFront h version h.settled file
 RecoversIn gated h version (Some c) file = RecoversWith c.through gated h version c.count file
 
@@ -40,8 +40,8 @@ pub record IsCrash {D : Type 0} (hub : Parts D) (file : List ℕ) : Type 0 where
   pub image : IsImage file hub.replica.replica version (take count hub.replica.list)
   pub leaves : CrashLeaves (state_of hub) (opened hub.replica.replica (take count hub.replica.list) version)
 
--- the image of the file is a beginning of the list, of at least so many operations
-pub record HasAtLeast (n : ℕ) (h : Held) (file : List ℕ) : Type 0 where
+-- the image of the file is a beginning of the list, of at least n operations
+pub record HasAtLeast (n : ℕ) (h : ReplicaHeld) (file : List ℕ) : Type 0 where
   pub version : ℕ
   pub count : ℕ
   pub enough : n ≤ count

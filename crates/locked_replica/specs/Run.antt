@@ -3,8 +3,8 @@ use Rattle.std.specs.Prelude.{◌≡◌, ◌≢◌, ◌↔◌, ◌⊎◌, ℕ, �
 use Rattle.fixed_numbers.specs.declared.refusals.TheConstants.{WRITE_FAILED}
 use Rattle.disk_trait.specs.declared.facts.DiskFacts.{Ghosts}
 use Rattle.group_commit.specs.Counts.{writes_left, syncs_left}
-use Rattle.op_model.specs.Machine.{Event, Answer, refused, Run}
-use Rattle.locked_replica.specs.Calls.{IsCall, IsLeftOf, calls_in, settled_by, writes_begun, syncs_begun}
+use Rattle.op_model.specs.Machine.{Event, Answer, refused, settled_to, Run}
+use Rattle.locked_replica.specs.Calls.{IsCall, IsLeftOf, calls_in, writes_begun, syncs_begun}
 use Rattle.locked_replica.specs.Hub.{Parts, state_of}
 use Rattle.locked_replica.specs.Recovery.{HasAtLeast}
 use Rattle.locked_replica.specs.Steps.{events_of, AreRepliesTo, NamesPhase}
@@ -15,6 +15,11 @@ use Rattle.locked_replica.specs.declared.hub_reply.HubReply.{HubReply}
 abbrev pub calls_made : List (Event × Answer) → ℕ
 calls_made [] = 0
 calls_made (e ∷ es) = calls_in e.0 e.1 + calls_made es
+
+-- the settled number behind an answer
+abbrev pub settled_by : ℕ → Answer → ℕ
+settled_by n (settled_to m) = m
+settled_by n a = n
 
 -- the settled number behind these events
 abbrev pub settled_behind : ℕ → List (Event × Answer) → ℕ
@@ -56,7 +61,6 @@ NoneFailed (e ∷ es) = (e.1 ≢ refused WRITE_FAILED) × NoneFailed es
 
 -- These events and answers were made one after another.
 pub record Ran {D : Type 0} (facts : Ghosts D) (old : Parts D) (events : List (Event × Answer)) (new : Parts D) : Type 0 where
-  pub owner : new.replica.replica ≡ old.replica.replica
   -- they are a run of the machine
   pub machine : Run (state_of old) events (state_of new)
   -- the settled number is that of the answers, and never fell

@@ -11,7 +11,7 @@ use Rattle.replica_core.specs.Merging.{answer_of as answer_of_merge}
 use Rattle.replica_core.specs.Refusal.{number_of as number_of_replica}
 use Rattle.replica_core.specs.declared.merged.Merged.{Merged}
 use Rattle.group_commit.specs.Errors.{number_of as number_of_store}
-use Rattle.group_commit.specs.Held.{Held as StoreHeld}
+use Rattle.group_commit.specs.Held.{StoreHeld}
 use Rattle.group_commit.specs.declared.phase.Phase.{Phase}
 use Rattle.group_commit.specs.declared.phase.Phase.TheVariants as phase
 use Rattle.locked_replica.specs.declared.refusal.HubRefusal.{HubRefusal}

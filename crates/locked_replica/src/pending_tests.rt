@@ -6,7 +6,7 @@ use op_model::{Change, Edit, EditText};
 use std::alloc::Global;
 use std::test::Fail;
 
-/// The insert of so many characters into document 1.
+/// The insert of `count` characters into document 1.
 fn insert_many(alloc: Global, at: u32, count: usize) -> Result<Edit, Fail> {
     let mut text = Vec::new(alloc);
     for _ in 0..count {

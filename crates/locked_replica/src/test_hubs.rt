@@ -14,7 +14,7 @@ pub(crate) fn replica(last: u8) -> Result<ReplicaId, Fail> {
     Ok(ReplicaId::read(bytes).ok_or("nil")?)
 }
 
-// A disk with the store of a new replica, for a file of so many bytes and so many calls.
+// A disk with the store of a new replica, for a file of `room` bytes and `calls` calls.
 pub(crate) fn new_disk(
     alloc: Global,
     last: u8,

@@ -19,7 +19,7 @@ fn made(alloc: Global, hub: &mut Hub<MemDisk>, steps: &[HubStep]) -> Result<Vec<
     Ok(run(alloc, hub, steps)?)
 }
 
-// An edit, and a commit with so many device calls.
+// An edit, and a commit with `calls` device calls.
 fn commit(alloc: Global, edit: HubStep, calls: usize) -> Result<Vec<HubStep>, Fail> {
     let mut steps = Vec::new(alloc);
     steps.push(edit)?;
@@ -30,7 +30,7 @@ fn commit(alloc: Global, edit: HubStep, calls: usize) -> Result<Vec<HubStep>, Fa
     Ok(steps)
 }
 
-// An insert, and a commit with so many device calls.
+// An insert, and a commit with `calls` device calls.
 fn commit_of(alloc: Global, at: u32, value: char, calls: usize) -> Result<Vec<HubStep>, Fail> {
     commit(alloc, insert_step(alloc, at, value)?, calls)
 }
@@ -156,7 +156,7 @@ fn with_settled(alloc: Global, edits: usize) -> Result<Box<Hub<MemDisk>>, Fail> 
     Ok(hub)
 }
 
-// How many operations a crash leaves of the commit of this number that is stopped behind so many
+// How many operations a crash leaves of the commit of this number that is stopped behind `calls`
 // device calls.
 fn left_behind(
     alloc: Global,

@@ -98,7 +98,7 @@ pub(crate) fn new_world(alloc: Global) -> Result<Box<World>, Fail> {
     Ok(Box::new(alloc, world)?)
 }
 
-/// "ab" or "x", at a place of a text of so many characters.
+/// "ab" or "x", at a place of a text of `long` characters.
 fn insert(alloc: Global, number: u32, long: usize) -> Result<Change, Fail> {
     let letters: &[char] = if number % 2 == 0 { &['a', 'b'] } else { &['x'] };
     let mut text = Vec::new(alloc);
@@ -125,8 +125,8 @@ fn mark(alloc: Global, number: u32, long: usize) -> Result<Change, Fail> {
     })
 }
 
-/// What an event asks to be changed in a text of so many characters: a removal and a mark only
-/// where there are any.
+/// What an event asks to be changed in a text of `long` characters: a removal and a mark only where
+/// there are any.
 fn change(alloc: Global, event: Event, number: u32, long: usize) -> Result<Option<Change>, Fail> {
     Ok(match event {
         Event::Insert => Some(insert(alloc, number, long)?),

@@ -55,7 +55,7 @@ impl Anchors {
     }
 
     /// Those of a document whose mark operations are given in the order in which they came, and
-    /// whose characters are given too. An error is want of memory (1). Their edges are sorted: so
+    /// whose characters are given too. An error is want of memory (1). Their edges are sorted: as
     /// many steps as there are mark operations, times their logarithm.
     pub fn from_markings(markings: Vec<Marking>, sequence: &Sequence) -> Result<Anchors, AllocError>
         ensures { IfOk result (λ a. (ops : List Op) (doc : ℕ) → Holds sequence.now ops doc

@@ -63,7 +63,7 @@ impl Gathering {
     }
 
     /// The anchors of a document whose mark operations these are, and whose characters are given.
-    /// An error is want of memory (1). Their edges are sorted: so many steps as there are mark
+    /// An error is want of memory (1). Their edges are sorted: as many steps as there are mark
     /// operations, times their logarithm.
     pub fn anchors(self, sequence: &Sequence) -> Result<Anchors, AllocError>
         ensures { IfOk result (λ a. (ops : List Op) (doc : ℕ) → Holds sequence.now ops doc

@@ -19,7 +19,7 @@ impl Place {
         }
     }
 
-    /// Where the edit of this number goes in a text of so many characters.
+    /// Where the edit of this number goes in a text of `long` characters.
     pub fn at(self, number: u32, long: u32) -> u32 {
         match self {
             Place::End => long,

@@ -74,7 +74,7 @@ impl Plan {
         Some(ops)
     }
 
-    /// A third of the operations, of a writer who types from so many quarters of the text on.
+    /// A third of the operations, of a writer who types from `quarters` quarters of the text on.
     fn typed_on(&self, alloc: Global, base: &Replica, quarters: u8) -> Option<Vec<Op>> {
         let mut writer = copied(alloc, base, quarters.saturating_add(2))?;
         let start = (self.count / 4).saturating_mul(u32::from(quarters));
@@ -103,7 +103,7 @@ impl Merges {
     }
 }
 
-/// The operations of a list behind the first so many.
+/// The operations of a list from the index `first` on.
 fn made_since(alloc: Global, replica: &Replica, first: u32) -> Option<Vec<Op>> {
     let list = replica.list();
     let first = first as usize;
@@ -118,7 +118,7 @@ fn id(last: u8) -> Option<ReplicaId> {
     ReplicaId::read([0, 0, 0, 0, 0, 0, 0x40, 0, 0x80, 0, 0, 0, 0, 0, 0, last])
 }
 
-/// A replica that typed so many characters.
+/// A replica that typed `count` characters.
 fn typed(alloc: Global, count: u32) -> Option<Replica> {
     let mut replica = Replica::new(alloc, id(1)?);
     for edit in 0..count / MOST {
@@ -131,7 +131,7 @@ fn typed(alloc: Global, count: u32) -> Option<Replica> {
     Some(replica)
 }
 
-/// Inserts so many characters.
+/// Inserts `count` characters.
 fn insert(alloc: Global, replica: &mut Replica, at: u32, count: u32) -> Option<()> {
     let text = EditText::new(Vec::from_elem(alloc, 'a', count as usize).ok()?)?;
     let edit = Edit {

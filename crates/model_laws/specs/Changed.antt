@@ -15,7 +15,7 @@ use Rattle.op_model.specs.Marks.{markings}
 use Rattle.op_model.specs.Places.{covers}
 use Rattle.op_model.specs.Walk.{walk}
 
--- the text with the change: an insert puts its characters at an index, a delete leaves out so many from an index on
+-- the text with the change: an insert puts its characters at an index, a delete leaves out count characters from an index on
 abbrev pub changed : List ℕ → Change → List ℕ
 changed text (Insert at added) = take at text ++ added ++ drop at text
 changed text (Delete at count) = take at text ++ drop (at + count.value) text

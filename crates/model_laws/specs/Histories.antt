@@ -3,7 +3,7 @@ use Rattle.std.specs.Prelude.{◌≡◌, ℕ, List, length, take}
 use Rattle.op_model.specs.declared.op.Op.{Op}
 use Rattle.op_model.specs.Causality.{made_by}
 
--- these are the first so many of a history
+-- these are the first operations of a history
 abbrev pub IsFrontOf : List Op → List Op → Type 0
 IsFrontOf ops history = ops ≡ take (length ops) history
 

@@ -29,7 +29,7 @@ pub fn edits_keep_lists_closed()
 {}
 
 /// The text after an edit is the text before it with the edit's change: a text inserted at its
-/// index, so many characters left out from an index on, or, for a mark, the same text.
+/// index, a given number of characters left out from an index on, or, for a mark, the same text.
 pub fn edits_change_the_text()
     ensures { (ops : List Op) (replica : ℕ) (edit : Edit) → IsCausallyClosed ops
         → is_inside (length (visible ops edit.doc)) edit.change ≡ true

@@ -65,7 +65,7 @@ length-le-advanced_by es r (suc n) =
     let rest = length-le-advanced_by (advanced es r) r n in
     omega arith
 
--- there is room for so many more operations of a replica
+-- there is room for n more operations of a replica
 pub record HasRoom (es : List (ℕ × ℕ)) (r n : ℕ) : Type 0 where
   pub replicas : count_of es r ≡ 0 → length es < 16
   pub counts : count_of es r + n ≤ 16777216
@@ -124,7 +124,7 @@ new_replica es r n len valid positive some within none long =
     λ many. (no_room-replicas es r n valid positive some none (omega arith)).0 in
     (grind (arith, nat_tests), λ many. (no_room-replicas es r n valid positive some none (grind (arith, nat_tests))).1)
 
--- a clock with so many more operations has room for them
+-- a clock with n more operations has room for them
 pub room_from : (es : List (ℕ × ℕ)) (r n : ℕ) → is_clock es ≡ true → 0 < r → 0 < n → is_clock (advanced_by es r n) ≡ true → HasRoom es r n
 room_from es r n valid positive some after = record {
   replicas = λ none. elim (cases_Bool (nat_lt (length es) 16)) [
@@ -155,7 +155,7 @@ set_twice (e ∷ es) r n m =
     let rest = set_twice es r n m in
     grind (arith, nat_tests)
 
--- so many more operations set the count so much higher
+-- n more operations set the count n higher
 pub advanced_by-set : (es : List (ℕ × ℕ)) (r n : ℕ) → is_clock es ≡ true → 0 < r → 0 < n → is_clock (advanced_by es r n) ≡ true
     → advanced_by es r n ≡ with_count es r (count_of es r + n)
 advanced_by-set es r zero valid positive some after = absurd (omega arith)
@@ -169,7 +169,7 @@ advanced_by-set es r (suc (suc n)) valid positive some after =
     ∙ (ap (λ clock. with_count clock r (count_of es r + suc (suc n))) (advanced_as_set es r valid)
     ∙ set_twice es r (count_of es r + 1) (count_of es r + suc (suc n))))
 
--- where a clock hasn't room for so many more, they are too many
+-- where a clock hasn't room for n more, they are too many
 pub overfull_from : (es : List (ℕ × ℕ)) (r n : ℕ) → is_clock es ≡ true → 0 < r → is_clock (advanced_by es r n) ≡ false → IsOverfull (advanced_by es r n)
 overfull_from es r zero valid positive full = absurd (both_ways (is_clock es) full valid)
 overfull_from es r (suc n) valid positive full =

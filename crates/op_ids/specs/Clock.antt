@@ -17,7 +17,7 @@ advanced (e ∷ es) replica =
     else if e.0 == replica then (replica, e.1 + 1) ∷ es
     else e ∷ advanced es replica
 
--- the clock with so many more operations of a replica
+-- the clock with n more operations of a replica
 abbrev pub advanced_by : List (ℕ × ℕ) → ℕ → ℕ → List (ℕ × ℕ)
 advanced_by clock replica zero = clock
 advanced_by clock replica (suc n) = advanced_by (advanced clock replica) replica n

@@ -1,4 +1,5 @@
 ghost use Rattle.std.specs.Prelude.{◌≤◌, length, ◌≡◌, ℕ, List, [], ◌==◌, ◌↔◌, IsTrue, IsSome, IfSome, IfOk, OnOk, OnErr, IsErrOf, true, false, nat_le, max};
+ghost use Rattle.fixed_numbers.specs.declared.limits.TheConstants.{MAX_REPLICAS};
 ghost use Rattle.op_ids.specs.Clock.{count_of, advanced, joined, is_within, is_ready, is_clock, with_count, place_of, missing_from, is_same_clock, IsOverfull};
 
 use crate::{ClockError, ReplicaId};
@@ -55,10 +56,10 @@ impl Clock {
         &self.entries
     }
 
-    /// How many replicas are counted: at most 16.
+    /// How many replicas are counted: at most `MAX_REPLICAS`.
     pub fn len(&self) -> usize
         ensures value { result ≡ length self.now }
-        ensures within { result ≤ 16 }
+        ensures within { result ≤ MAX_REPLICAS }
     {
         self.entries.len()
     }
@@ -92,7 +93,7 @@ impl Clock {
         0
     }
 
-    /// Whether so many operations of a replica are counted. At most 16 steps.
+    /// Whether at least `count` operations of a replica are counted. At most 16 steps.
     pub fn covers(&self, replica: ReplicaId, count: u64) -> bool
         ensures { result ≡ nat_le count (count_of self.now replica) }
     {

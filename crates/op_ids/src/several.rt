@@ -7,7 +7,7 @@ use crate::{ClockError, ReplicaId};
 use fixed_numbers::limits::{MAX_COUNT, MAX_REPLICAS};
 
 impl Clock {
-    /// Whether so many more operations of a replica can be counted: there would be no seventeenth
+    /// Whether `count` more operations of a replica can be counted: there would be no seventeenth
     /// replica, and no count above 2^24. Takes no memory. At most 16 steps.
     pub fn can_advance_by(&self, replica: ReplicaId, count: u64) -> bool
         ensures fits { result ≡ is_clock (advanced_by self.now replica count) }
@@ -27,7 +27,7 @@ impl Clock {
         self.len() < MAX_REPLICAS
     }
 
-    /// Counts so many more operations of a replica. `Limit` (7) where that would be a seventeenth
+    /// Counts `count` more operations of a replica. `Limit` (7) where that would be a seventeenth
     /// replica or a count above 2^24, `Memory` (1) where a growth was refused; both leave the clock
     /// as it was. At most 16 steps.
     pub fn advance_by(&mut self, replica: ReplicaId, count: u64) -> Result<(), ClockError>

@@ -9,7 +9,7 @@ use Rattle.change_codec.specs.declared.codec_error.CodecError.{CodecError}
 use Rattle.change_codec.specs.declared.head.Head.{Head}
 use Rattle.change_codec.specs.Fits.{IsOperation}
 use Rattle.change_codec.specs.Heads.{kind_of, head_of as codec_head_of}
-use Rattle.change_codec.specs.Record.{taken, Begins}
+use Rattle.change_codec.specs.Record.{taken, BeginsWithOp}
 use Rattle.change_codec.specs.Spelling.{spelled}
 use Rattle.change_codec.specs.Stream.{spelled_all, AreOperations}
 use Rattle.change_codec.proofs.RecordLaws.{begins_taken}
@@ -20,11 +20,11 @@ use Rattle.op_list.specs.declared.head.OpHead.{OpHead}
 pub record First (bytes : List ℕ) (ops : List Op) (i : ℕ) : Type 0 where
   pub op : Op
   pub len : ℕ
-  pub begins : Begins bytes op len
+  pub begins : BeginsWithOp bytes op len
   pub at : (d : Op) → get_or ops i d ≡ op
 
 begins_first : (op : Op) (rest : List ℕ) → IsOperation op
-    → Begins (spelled op ++ rest) op (length (spelled op))
+    → BeginsWithOp (spelled op ++ rest) op (length (spelled op))
 begins_first op rest fits =
     record {
       whole = omega (arith, length-append (spelled op) rest);
@@ -51,14 +51,14 @@ same_reading : (r : Result (Option (Op × ℕ)) CodecError) (f g : Op × ℕ) �
 same_reading r f g a b = let c : Ok (Some f) ≡ r = sym a in let d = c ∙ b in cc
 
 -- bytes begin with one operation
-pub begins_one : (bytes : List ℕ) (a b : Op) (n m : ℕ) → Begins bytes a n → Begins bytes b m → a ≡ b
+pub begins_one : (bytes : List ℕ) (a b : Op) (n m : ℕ) → BeginsWithOp bytes a n → BeginsWithOp bytes b m → a ≡ b
 begins_one bytes a b n m one two =
     same_reading (taken bytes) (a, n) (b, m) (begins_taken bytes a n one)
     (begins_taken bytes b m two)
 
 -- what begins the records from the i-th on is the i-th
 pub is_at : (bytes : List ℕ) (ops : List Op) (i n : ℕ) (op d : Op) → First bytes ops i
-    → Begins bytes op n → op ≡ get_or ops i d
+    → BeginsWithOp bytes op n → op ≡ get_or ops i d
 is_at bytes ops i n op d first begins =
     begins_one bytes op first.op n first.len begins first.begins ∙ sym (first.at d)
 

@@ -4,7 +4,7 @@ use Rattle.std.proofs.lemmas.List.{append-nil, take-append-drop, length-append}
 use Rattle.op_model.specs.declared.op.Op.{Op}
 use Rattle.op_model.specs.Records.{record_length, stream_length}
 use Rattle.change_codec.specs.Spelling.{spelled}
-use Rattle.change_codec.specs.Record.{Begins}
+use Rattle.change_codec.specs.Record.{BeginsWithOp}
 use Rattle.change_codec.specs.Stream.{spelled_all, AreOperations, IsNoStream}
 use Rattle.change_codec.proofs.Lengths.{length_spelled}
 use Rattle.change_codec.proofs.StreamLaws.{spelled_more, are_more, length-spelled_all, no_stream_behind, none_begins}
@@ -23,7 +23,7 @@ passed_none records = record { all = refl; fits = tt; ends_so = refl }
 
 -- one more was passed
 pub passed_more : (records rest after ends : List ℕ) (ops : List Op) (op : Op) (n end : ℕ)
-    → Passed records rest ends ops → Begins rest op n
+    → Passed records rest ends ops → BeginsWithOp rest op n
     → after ≡ drop n rest → end ≡ length records - length after → Passed records after
     (ends ++ end ∷ []) (ops ++ op ∷ [])
 passed_more records rest after ends ops op n end passed begins after_is end_is =
@@ -60,6 +60,6 @@ passed_all records rest ends ops passed none small =
 
 -- no record stands behind those that were passed
 pub no_stream : (records rest ends : List ℕ) (ops : List Op) → Passed records rest ends ops
-    → 0 < length rest → ((op : Op) (n : ℕ) → Begins rest op n → ⊥) → IsNoStream records
+    → 0 < length rest → ((op : Op) (n : ℕ) → BeginsWithOp rest op n → ⊥) → IsNoStream records
 no_stream records rest ends ops passed some none =
     subst IsNoStream passed.all (no_stream_behind ops rest passed.fits (none_begins rest some none))

@@ -48,7 +48,7 @@ few_records ops count records are = omega (arith, few_ops ops, are.counted, reco
 pub last_within : (n : ℕ) (ops : List Op) → stream_length (take n ops) + stream_length (drop n ops) ≡ stream_length ops
 last_within n ops = sym (stream_length-append (take n ops) (drop n ops)) ∙ ap stream_length (take-append-drop n ops)
 
--- the records of the first operations, where those of the others take so many bytes
+-- the records of the first operations, where it is known how many bytes those of the others take
 pub records_cut : (n : ℕ) (ops : List Op) (count left dropped long : ℕ) (records front : List ℕ) → AreRecords ops count records → n ≤ length ops → n ≡ left
     → stream_length (drop n ops) ≡ dropped → long ≡ length records - dropped → front ≡ take long records → AreRecords (take n ops) left front
 records_cut n ops count left dropped long records front are within counted last is cut =

@@ -4,7 +4,7 @@ use crate::{OpList, Records};
 use std::alloc::Global;
 use std::test::Fail;
 
-/// The first so many operations, left of all by dropping the others.
+/// The first `count` operations, left of all by dropping the others.
 fn front_of(alloc: Global, list: &OpList, count: usize) -> Result<Records, Fail> {
     let all = list.as_slice();
     let count = count.min(all.len());

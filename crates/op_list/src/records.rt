@@ -64,16 +64,16 @@ impl Records {
         self.bytes.as_slice() == ops.records_from(0)
     }
 
-    /// Makes room for so many more bytes of records. An error is want of memory (1). Linear in the
-    /// records where they move, else constant.
+    /// Makes room for `more` further bytes of records. An error is want of memory (1). Linear in
+    /// the records where they move, else constant.
     pub fn reserve(&mut self, more: usize) -> Result<(), AllocError>
         ensures { self.new ≡ self.old }
     {
         self.bytes.reserve(more)
     }
 
-    /// Puts the operations whose records these bytes are, so many, behind the others: all of them,
-    /// or none. An error is want of memory (1). Linear in these records where there is room.
+    /// Puts the `count` operations whose records these bytes are behind the others: all of them, or
+    /// none. An error is want of memory (1). Linear in these records where there is room.
     pub fn append(&mut self, records: &[u8], count: u64) -> Result<(), AllocError>
         requires { (ops : List Operation) × AreRecords ops count records.now }
         ensures ok { OnOk result ((ops : List Operation) → AreRecords ops count records.now
@@ -85,7 +85,7 @@ impl Records {
         Ok(())
     }
 
-    /// Drops the last operations, so many, whose records take so many bytes. Takes no memory.
+    /// Drops the last `count` operations, whose records take `bytes` bytes. Takes no memory.
     pub fn drop_last(&mut self, bytes: usize, count: u64)
         requires within { count ≤ length self.old }
         requires last { stream_length (drop (length self.old - count) self.old) ≡ bytes }

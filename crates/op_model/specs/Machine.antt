@@ -2,7 +2,7 @@
 use Rattle.std.specs.Prelude.{◌≡◌, ◌⊎◌, ℕ, ◌+◌, ◌≤◌, ◌<◌, Bool, true, false, not, ◌||◌, ◌==◌}
 use Rattle.std.specs.Prelude.{nat_le, if◌then◌else◌, List, [], ◌∷◌, ◌++◌, length, take, drop}
 use Rattle.std.specs.Prelude.{Option, Some, None, is_some}
-use Rattle.fixed_numbers.specs.declared.limits.TheConstants.{MAX_PENDING, MAX_STEPS}
+use Rattle.fixed_numbers.specs.declared.limits.TheConstants.{MAX_PENDING, MAX_STEPS, MAX_VERSION}
 use Rattle.fixed_numbers.specs.declared.refusals.TheConstants.{BUSY, FAILED, LIMIT, MEMORY, OWN_UNKNOWN, STEPS, STORE_FAILED}
 use Rattle.fixed_numbers.specs.declared.refusals.TheConstants.{SYNC_FAILED, WRITE_FAILED}
 use Rattle.op_model.specs.declared.op.Op.{Op}
@@ -12,10 +12,10 @@ use Rattle.op_model.specs.Text.{rev}
 use Rattle.op_model.specs.Causality.{clock_of, is_known, first_failed}
 use Rattle.op_model.specs.Made.{made, edit_refusal}
 use Rattle.op_model.specs.Records.{stream_length}
-use Rattle.op_model.specs.Held.{Held, opened_with, settled_list, with_edit, with_merge, with_settled, with_acked, with_told}
+use Rattle.op_model.specs.Held.{ReplicaHeld, opened_with, settled_list, with_edit, with_merge, with_settled, with_acked, with_told}
 use Rattle.op_model.specs.Telling.{untold, reach}
 
--- a commit: of so many operations of the list, and whether it is through
+-- a commit: of the first count operations of the list, and whether it is through
 pub record Commit : Type 0 where
   pub count : ℕ
   pub through : Bool
@@ -23,7 +23,7 @@ pub record Commit : Type 0 where
 -- what the replica holds, the version of the live root, whether the device has failed and a refused begin or settle has told it, and
 -- the commit, if there is one
 pub record State : Type 0 where
-  pub held : Held
+  pub held : ReplicaHeld
   pub version : ℕ
   pub failed : Bool
   pub failure_told : Bool
@@ -51,7 +51,7 @@ pub data Answer : Type 0 where
   applied : Answer
   known : Answer
   early : Answer
-  -- of a begin: a commit of so many operations, or that there is nothing new
+  -- of a begin: a commit of a given number of operations, or that there is nothing new
   begun : ℕ → Answer
   nothing_new : Answer
   -- of a device step: no call, a call that succeeded, or the commit's last call
@@ -76,7 +76,7 @@ abbrev pub ticket_of : List Op → ℕ → Ticket
 ticket_of list doc = record { end = length list; rev = rev list doc }
 
 -- a step leaves two places behind it: for the settlements of the commit under way and of the one after it
-abbrev pub has_places : Held → Bool
+abbrev pub has_places : ReplicaHeld → Bool
 has_places h = nat_le (length h.steps + 3) MAX_STEPS
 
 -- how many operations are settled or in the commit
@@ -100,13 +100,13 @@ with_room false applied = refused BUSY
 with_room false a = a
 
 -- the answer to an edit that nothing but the kept steps may refuse: steps 10
-abbrev pub edit_answer_unless : Held → Edit → Option ℕ → Answer
+abbrev pub edit_answer_unless : ReplicaHeld → Edit → Option ℕ → Answer
 edit_answer_unless h e (Some n) = refused n
 edit_answer_unless h e None =
     if has_places h then ticket (ticket_of (h.list ++ made h.list h.replica e) e.doc) else refused STEPS
 
 -- the answer to an edit of a replica without a store: its own refusals, steps 10
-abbrev pub edit_alone : Held → Edit → Answer
+abbrev pub edit_alone : ReplicaHeld → Edit → Answer
 edit_alone h e = edit_answer_unless h e (edit_refusal h.list h.replica e)
 
 -- the answers to an edit, in the order of test: a failure that is told 9, those of the replica alone, no room for the records 8
@@ -116,12 +116,12 @@ edit_answer s e =
     else with_room (has_record_room s (made s.held.list s.held.replica e)) (edit_alone s.held e)
 
 -- the answer to a merge that a check may refuse: steps 10
-abbrev pub merge_answer_unless : Held → Option ℕ → Answer
+abbrev pub merge_answer_unless : ReplicaHeld → Option ℕ → Answer
 merge_answer_unless h (Some n) = refused n
 merge_answer_unless h None = if has_places h then applied else refused STEPS
 
 -- the answers of a merge without a store, in the order of test: known, own but unknown 20, early, then the checks, steps 10
-abbrev pub merge_alone : Held → Op → Answer
+abbrev pub merge_alone : ReplicaHeld → Op → Answer
 merge_alone h op =
     if is_known (clock_of h.list) op then known
     else if op.id.replica == h.replica then refused OWN_UNKNOWN
@@ -139,7 +139,7 @@ begin_answer s =
     if s.failed then refused STORE_FAILED
     else if is_some s.commit then refused BUSY
     else if nat_le (length s.held.list) s.held.settled then nothing_new
-    else if nat_le 18446744073709551615 s.version then refused LIMIT
+    else if nat_le MAX_VERSION s.version then refused LIMIT
     else begun (length s.held.list)
 
 -- how many operations a commit that is through has
@@ -166,7 +166,7 @@ IsRefusal n (begun m) = n ≡ MEMORY
 IsRefusal n _ = ⊥
 
 -- the state with what the replica holds then
-abbrev pub holding : State → Held → State
+abbrev pub holding : State → ReplicaHeld → State
 holding s h = record s { held = h }
 
 abbrev pub EditStep : State → ℕ → Edit → Answer → State → Type 0
@@ -255,7 +255,7 @@ opened replica list version = record {
   commit = None;
 }
 
--- the state after opening a file that has the first so many operations
+-- the state after opening a file that has the first count operations
 abbrev pub reopened : State → ℕ → ℕ → State
 reopened s count version = opened s.held.replica (take count s.held.list) version
 

@@ -27,7 +27,7 @@ use Rattle.op_model.specs.Text.{is_removed, visible, rev}
 use Rattle.op_model.specs.Marks.{key_of}
 use Rattle.op_model.specs.Causality.{clock_of, is_within_limits}
 
--- what stands behind the first so many visible characters
+-- what stands behind the first n visible characters
 abbrev pub behind_visible : (Character → Bool) → ℕ → List Character → List Character
 behind_visible hidden n [] = []
 behind_visible hidden n (c ∷ cs) =
@@ -68,7 +68,7 @@ last_or before (c ∷ cs) = last_or (Some c.id) cs
 abbrev pub id_at : List Character → ℕ → Option Id
 id_at cs i = option_map (λ c. c.id) (slice_get cs i)
 
--- the id of the last of the first so many characters
+-- the id of the character just before an index
 abbrev pub id_before : List Character → ℕ → Option Id
 id_before cs zero = None
 id_before cs (suc i) = id_at cs i

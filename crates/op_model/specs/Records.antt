@@ -53,7 +53,7 @@ body_length (RemoveMark key start end) = key_length key + start_length start + e
 abbrev pub head_length : ℕ → ℕ
 head_length deps = 34 + 24 * deps
 
--- the head, for so many deps, and the content
+-- the head, for as many deps as the operation has, and the content
 abbrev pub record_length : Op → ℕ
 record_length op = head_length (length op.deps) + body_length op.body
 

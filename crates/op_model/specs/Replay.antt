@@ -6,7 +6,7 @@ use Rattle.op_model.specs.Causality.{MayFollow}
 use Rattle.op_model.specs.Made.{made}
 
 -- an edit of a session, with the index of its first operation and how many it made; a peer's operation at an index; a
--- settlement of so many operations
+-- settlement of a given number of operations
 pub data Kept : Type 0 where
   edited : ℕ → Edit → ℕ → ℕ → Kept
   merged : ℕ → ℕ → Kept

@@ -31,7 +31,7 @@ impl Change {
 }
 
 impl Edit {
-    /// Whether a document with so many operations is at the number that the edit asks for, if it
+    /// Whether a document with `count` operations is at the number that the edit asks for, if it
     /// asks. Constant.
     pub fn is_at_rev(&self, count: usize) -> bool
         ensures { result ≡ is_at_rev count self.now.rev }

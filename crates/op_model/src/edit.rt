@@ -84,7 +84,7 @@ pub struct Edit {
 pub enum Change {
     /// Inserts text before the character at an index, or at the end.
     Insert { at: u32, text: EditText },
-    /// Removes so many characters from an index on.
+    /// Removes `count` characters from an index on.
     Delete { at: u32, count: NonZeroU32 },
     /// Marks the characters from an index up to another, that one not.
     Mark { from: u32, to: u32, mark: Mark },

@@ -14,7 +14,7 @@ use crate::op::{Body, Op};
 /// The bytes of an id, which is all that a remove has beside its head.
 pub const ID_LENGTH: u64 = 24;
 
-/// How many bytes the head of a record takes, where its operation has so many deps: all but the
+/// How many bytes the head of a record takes, where its operation has `deps` deps: all but the
 /// content. Constant.
 pub fn head_length(deps: usize) -> u64
     requires { deps ≤ MAX_REPLICAS + 1 }

@@ -21,7 +21,7 @@ count_more n (m ∷ ms) is_there = by_test (has n ms) refl (count_rises n ms) (�
     by_test true is rises more = let rest = more is in grind (arith, nat_tests)
     by_test false is rises more = grind (arith, nat_tests)
 
--- so many used places add to the count
+-- k used places add to the count
 pub filled : (start k : ℕ) (used : List ℕ) → ((m : ℕ) → start ≤ m → m < start + k → has m used ≡ true)
     → count_below start used + k ≤ count_below (start + k) used
 filled start zero used all = let place : start ≡ start + 0 = omega arith in rw (sym place) (omega arith)
@@ -31,7 +31,7 @@ filled start (suc k) used all =
     let more = rw (place) at (count_more (start + k) used (all (start + k) (omega arith) (omega arith))) in
     omega (arith, rest, more)
 
--- among so many places one is free
+-- among more places than are used one is free
 pub one_is_free : (start : ℕ) (used : List ℕ) → ((m : ℕ) → start ≤ m → m < start + (length used + 1) → has m used ≡ true) → ⊥
 one_is_free start used all =
     omega (arith, filled start (length used + 1) used all, count_within (start + (length used + 1)) used)

@@ -50,7 +50,7 @@ numbers-append (suc n) m (w ∷ []) b size = absurd (omega (arith, size))
 numbers-append (suc n) m (w ∷ x ∷ []) b size = absurd (omega (arith, size))
 numbers-append (suc n) m (w ∷ x ∷ y ∷ []) b size = absurd (omega (arith, size))
 
--- so many numbers of each page
+-- the first k numbers of each page
 abbrev some : ℕ → List (List ℕ) → List ℕ
 some k [] = []
 some k (p ∷ ps) = numbers k p ++ some k ps

@@ -33,7 +33,7 @@ pub zero-replicate : (n : ℕ) → is_zero (replicate n 0) ≡ true
 zero-replicate zero = refl
 zero-replicate (suc n) = zero-replicate n
 
--- so many numbers are read
+-- n numbers are read
 pub length-numbers : (n : ℕ) (bytes : List ℕ) → length (numbers n bytes) ≡ n
 length-numbers zero bytes = refl
 length-numbers (suc n) bytes = ap suc (length-numbers n (drop 4 bytes))

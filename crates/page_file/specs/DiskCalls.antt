@@ -4,7 +4,7 @@ use Rattle.disk_trait.specs.Looks.{OnlyLooks}
 use Rattle.disk_trait.specs.Writing.{Writes}
 use Rattle.disk_trait.specs.declared.facts.DiskFacts.{Ghosts}
 
--- A disk was only looked at, by calls of which so many failed and so many are syncs, and it tells as before.
+-- A disk was only looked at, by calls with this number of failures and this number of syncs, and it tells as before.
 pub record IsLookedAt {D : Type 0} (facts : Ghosts D) (failures syncs : ℕ) (old new : D) : Type 0 where
   -- reads give the same, and a crash leaves no other file
   pub looks : facts.tells old → OnlyLooks facts failures syncs old new

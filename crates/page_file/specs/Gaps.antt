@@ -42,7 +42,7 @@ pub record Gains (is_given : ℕ → Bool) (old new : List Gap) : Type 0 where
   pub falling : are_falling 4294967296 new ≡ true
   pub more : (m : ℕ) → in_gaps m new ≡ (in_gaps m old || is_given m)
 
--- the list has at most so many more ranges, and no less memory
+-- the list has at most this number of ranges more, and no less memory
 pub record Grows (more : ℕ) (old new : Vec Gap Global) : Type 0 where
   pub size : vec_len new ≤ vec_len old + more
   pub capacity : vec_capacity old ≤ vec_capacity new

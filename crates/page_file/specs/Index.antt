@@ -50,7 +50,7 @@ pub record AreOthers (pages : List ℕ) (gaps : List Gap) : Type 0 where
   pub falling : are_falling 4294967296 gaps ≡ true
   pub free : (m : ℕ) → m < 4294967296 → in_gaps m gaps ≡ (nat_le 2 m && not (has m pages))
 
--- the live pages are these tables and so many data pages, none of them twice, and none is taken
+-- the live pages are these tables and count data pages, none of them twice, and none is taken
 pub record IsAtRest (tables : List ℕ) (count : ℕ) (index : Index) : Type 0 where
   pub has_tables : index.tables ≡ tables
   pub has_count : length index.data_pages ≡ count
@@ -58,8 +58,8 @@ pub record IsAtRest (tables : List ℕ) (count : ℕ) (index : Index) : Type 0 w
   pub none_taken : index.taken ≡ []
   pub no_room : index.room ≡ 0
 
--- Lists of so many tables, data pages, taken pages and ranges fit their memory, and so will those of the next root with so many
--- more pages.
+-- Lists of tables, data pages, taken pages and ranges, of these lengths, fit their memory, and so will those of the next root; room is
+-- the number of its further pages.
 pub record HasRoom (room tables data_pages taken gaps tables_most data_most taken_most gaps_most : ℕ) : Type 0 where
   pub for_tables : tables + (taken + room) ≤ tables_most
   pub for_data : data_pages + (taken + room) ≤ data_most

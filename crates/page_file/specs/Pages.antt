@@ -36,7 +36,7 @@ abbrev pub are_pages : List ℕ → Bool
 are_pages [] = true
 are_pages (n ∷ ns) = nat_le 2 n && not (has n ns) && are_pages ns
 
--- the first so many numbers, of four bytes each
+-- the first n numbers, of four bytes each
 abbrev pub numbers : ℕ → List ℕ → List ℕ
 numbers zero bytes = []
 numbers (suc n) bytes = from_be_bytes w32 (take 4 bytes) ∷ numbers n (drop 4 bytes)

@@ -16,7 +16,7 @@ abbrev pub reached_by : List ℕ → ℕ → List ℕ → Result (List ℕ) ℕ
 reached_by tables count found =
     if not (is_zero (drop count found) && are_pages (tables ++ take count found)) then Err BAD_TABLE else Ok (tables ++ take count found)
 
--- the pages that a root with these table pages and so many data pages reaches in a file; bad root 43, bad table 45
+-- the pages that a root with these table pages and count data pages reaches in a file; bad root 43, bad table 45
 abbrev pub reached_in : List ℕ → ℕ → List ℕ → Result (List ℕ) ℕ
 reached_in tables count file = if not (are_whole (pages tables file)) then Err BAD_ROOT else reached_by tables count (entries (pages tables file))
 

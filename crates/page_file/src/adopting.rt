@@ -37,7 +37,7 @@ fn renew(pages: &mut Vec<u32>, kept: usize, others: &[u32])
     }
 }
 
-// The pages behind the first so many.
+// The pages behind the first `kept`.
 fn behind(pages: &[u32], kept: usize) -> &[u32]
     requires within { kept ≤ length pages.now }
     ensures { result.now ≡ drop kept pages.now }

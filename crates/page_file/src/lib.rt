@@ -1,4 +1,6 @@
-//! The pages of a file: their numbers, and the bytes that these are written in.
+//! The pages of a file: their numbers, and the bytes that these are written in. A table page is
+//! 1,024 numbers of 4 bytes, big-endian, of the data pages in the order of the stream. What is left
+//! of the last table page is zero.
 #![tactic(auto)]
 
 mod adopting;

@@ -96,9 +96,9 @@ fn index_of(alloc: Global, tables: &[u32], named: &[u32]) -> Result<Pages, PageE
     })
 }
 
-// The live pages of a root with these table pages, in which so many numbers are found, of so many
-// data pages. Refused with 45 where a page is a root slot or stands twice, where a number is left
-// behind the data pages, or where there are fewer; and with 1 for want of memory.
+// The live pages of a root with these table pages, in which the numbers `found` stand, and with
+// `count` data pages. Refused with 45 where a page is a root slot or stands twice, where a number
+// is left behind the data pages, or where there are fewer; and with 1 for want of memory.
 fn pages_of(alloc: Global, tables: &[u32], count: u64, found: &[u32]) -> Result<Pages, PageError>
     requires few { length tables.now + length found.now ≤ MAX_PAGES }
     ensures value { IfOk result (λ it. reached_by tables.now count found.now ≡ Ok (live_pages it)) }

@@ -3,7 +3,7 @@ use disk_trait::{Disk, FaultDisk, MemDisk};
 use std::alloc::Global;
 use std::test::Fail;
 
-// A file of so many pages, each of one byte over and over: its number.
+// A file of `pages` pages, each of one byte over and over: its number.
 fn file_of(rt: &HostRuntime, pages: u8) -> Result<MemDisk, Fail> {
     let mut disk = MemDisk::new(rt.alloc(), 65536, 64)?;
     for number in 0..pages {

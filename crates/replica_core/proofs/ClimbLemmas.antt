@@ -224,7 +224,7 @@ last_decides ops places k h op closed below made long is_it =
     ∙ (all_last (at_places ops places) k x.0 op.id.counter (rw made (closed_climb ops op.id.replica closed)) (long ∙ sym all) x.1
     ∙ ap (λ n. nat_lt n op.id.counter) (sym (counter_of h x.0 x.2)))
 
--- what is known of the first so many indexes of a replica
+-- what is known of the first n indexes of a replica
 pub record AreFirst (ops : List Op) (r n : ℕ) (is : List ℕ) : Type 0 where
   pub below : AreBelow (length ops) is
   pub climb : Climb (at_places ops is)

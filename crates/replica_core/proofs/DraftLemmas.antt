@@ -7,7 +7,7 @@ use Rattle.doc_core.specs.declared.draft.Draft.{Draft}
 use Rattle.doc_core.specs.Drafting.{IsDraftOf}
 use Rattle.replica_core.specs.Docs.{draft_number}
 use Rattle.doc_core.specs.Standing.{StandsFor}
-use Rattle.replica_core.specs.Docs.{number_of}
+use Rattle.replica_core.specs.Docs.{doc_number}
 use Rattle.op_model.specs.Placing.{Fits}
 use Rattle.doc_core.proofs.FittingLemmas.{draft_stays}
 use Rattle.op_model.specs.declared.op.Op.{Op}
@@ -24,10 +24,10 @@ drafts_push [] d ops all draft = (draft, tt)
 drafts_push (x ∷ ds) d ops all draft = (all.0, drafts_push ds d ops all.1 draft)
 
 -- one more document, that of the next draft
-pub docs_push : (ds : List Doc) (d : Doc) (x : Draft) (rest : List Draft) → number_of d ≡ draft_number x
+pub docs_push : (ds : List Doc) (d : Doc) (x : Draft) (rest : List Draft) → doc_number d ≡ draft_number x
     → numbers (ds ++ d ∷ []) ++ draft_numbers rest ≡ numbers ds ++ draft_numbers (x ∷ rest)
 docs_push [] d x rest same = ap (λ n. n ∷ draft_numbers rest) same
-docs_push (y ∷ ds) d x rest same = ap (λ more. number_of y ∷ more) (docs_push ds d x rest same)
+docs_push (y ∷ ds) d x rest same = ap (λ more. doc_number y ∷ more) (docs_push ds d x rest same)
 
 pub stand_push : (ds : List Doc) (d : Doc) (ops : List Op) → AllStand ds ops → StandsFor d ops → AllStand (ds ++ d ∷ []) ops
 stand_push [] d ops all stands = (stands, tt)
@@ -79,7 +79,7 @@ draft_put (x ∷ ds) (suc i) d new list op up here is_it same all takes =
       draft_put ds i d new list op up.1 (omega arith) is_it same all.1 takes,
     )
 
--- the first so many and the next one
+-- the first i and the next one
 pub take_push : (list : List Op) (i : ℕ) (op : Op) → i < length list → op ≡ get_or list i op → take (i + 1) list ≡ take i list ++ op ∷ []
 take_push list i op here is_it = rw (take_more list i op here, ← is_it) refl
 

@@ -163,7 +163,7 @@ pub insert_content : (named : Bool) → (if named then 29 else 5) ≡ (if named 
 insert_content true = refl
 insert_content false = refl
 
--- removes so many characters
+-- removes n characters
 abbrev pub IsDelete : Change → ℕ → Type 0
 IsDelete (change.Insert at text) n = ⊥
 IsDelete (change.Delete at count) n = n ≡ count.value

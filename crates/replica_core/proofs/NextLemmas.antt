@@ -40,7 +40,7 @@ pub record ArePassed (clock : List (ℕ × ℕ)) (ops : List Op) (r from at : �
   pub closed : IsCausallyClosed ops
   pub passed : at ≡ max (length (made_by r (take from ops))) (count_of clock r)
 
--- an operation of the replica that the clock doesn't count has so many others before it
+-- an operation of the replica that the clock doesn't count has at least this number of others, at, before it
 passed_before : (clock : List (ℕ × ℕ)) (ops : List Op) (r from at k : ℕ) (op : Op) → ArePassed clock ops r from at → from ≤ k → k < length ops → op ≡ get_or ops k op
     → op.id.replica ≡ r → is_known clock op ≡ false → at ≤ length (made_by r (take k ops))
 passed_before clock ops r from at k op passed behind there is_it own new =

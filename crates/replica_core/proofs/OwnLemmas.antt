@@ -39,7 +39,7 @@ count_passes (x ∷ ops) r (suc m) (suc n) op there is_it own less =
     let rest = count_passes ops r m n op (omega arith) is_it own (omega arith) in
     elim (cases_Bool (x.id.replica == r)) [ inl same ↦ rw same (omega arith) | inr other ↦ rw other rest ]
 
--- at an index stands a replica's operation, behind so many of its others
+-- at index d stands an operation of replica r, behind j of its others
 pub record IsPlace (ops : List Op) (r j d : ℕ) : Type 0 where
   pub there : d < length ops
   pub op : Op

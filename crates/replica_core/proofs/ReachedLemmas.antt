@@ -4,7 +4,7 @@ use Rattle.std.specs.Prelude.{Contains}
 use Rattle.std.proofs.lemmas.List.{length-take-le}
 use Rattle.op_model.specs.declared.op.Op.{Op}
 use Rattle.op_model.specs.Replay.{Kept, edited, merged, settlement, reached, Replays}
-use Rattle.op_model.specs.Held.{Held}
+use Rattle.op_model.specs.Held.{ReplicaHeld}
 use Rattle.replica_core.specs.Held.{IsSound}
 
 contains_head : (y x : ℕ) (xs : List ℕ) → y ≡ x → Contains (y ∷ xs) x
@@ -24,7 +24,7 @@ reached_now replica opened list (merged peer index ∷ steps) fits =
 reached_now replica opened list (settlement n ∷ steps) fits = reached_now replica opened list steps fits.2
 
 -- the length of the list now is one of them
-pub length_is_reached : (h : Held) → IsSound h → Contains (reached h.opened h.steps) (length h.list)
+pub length_is_reached : (h : ReplicaHeld) → IsSound h → Contains (reached h.opened h.steps) (length h.list)
 length_is_reached h sound =
     let long : length (take h.opened h.list) ≡ h.opened = length-take-le h.opened h.list sound.opened in
     rw long at (reached_now h.replica (take h.opened h.list) h.list h.steps sound.replays)

@@ -34,7 +34,7 @@ use Rattle.replica_core.specs.declared.log.Log.{Log}
 use Rattle.replica_core.specs.Indexes.{IsIndexOf}
 use Rattle.replica_core.specs.Log.{IsAppended}
 use Rattle.replica_core.specs.Fields.{AreFields, held_of}
-use Rattle.op_model.specs.Held.{Held, with_edit, with_merge}
+use Rattle.op_model.specs.Held.{ReplicaHeld, with_edit, with_merge}
 use Rattle.replica_core.specs.Held.{CanEdit, IsSound}
 use Rattle.replica_core.specs.Merging.{CanMerge}
 use Rattle.replica_core.proofs.LimitLemmas.{documents-made, documents-push, length-made}
@@ -99,7 +99,7 @@ rev-numbered replica doc counter clock (b ∷ bs) =
     let rest : sum_by (λ (o : Op). cond (o.doc == doc) 1 0) more ≡ length more = rev-numbered replica doc (counter + 1) (advanced clock replica) bs in
     sum_by-cons (λ (o : Op). cond (o.doc == doc) 1 0) op more ∙ (rw (first, rest) (omega arith))
 
--- so many operations more has its document
+-- the number of its document's operations rises by the size of the change
 pub rev-made : (ops : List Op) (replica : ℕ) (e : Edit) → edit_refusal ops replica e ≡ None
     → rev (ops ++ made ops replica e) e.doc ≡ rev ops e.doc + size_of e.change
 rev-made ops replica e due =
@@ -117,7 +117,7 @@ due_counts ops replica e due =
     (omega arith, omega arith)
 
 -- what is answered to an edit that nothing refuses
-pub edit_alone-due : (h : Held) (e : Edit) (t : Ticket) → CanEdit h e
+pub edit_alone-due : (h : ReplicaHeld) (e : Edit) (t : Ticket) → CanEdit h e
     → t.end ≡ length h.list + size_of e.change → t.rev ≡ rev h.list e.doc + size_of e.change
     → edit_alone h e ≡ ticket t
 edit_alone-due h e t can end revs =
@@ -129,7 +129,7 @@ edit_alone-due h e t can end revs =
     rw (can.due, fits, long, number) refl
 
 -- what a replica keeps is kept by an edit
-pub IsSound-with_edit : (h : Held) (session : ℕ) (e : Edit) → IsSound h → CanEdit h e → IsSound (with_edit h session e)
+pub IsSound-with_edit : (h : ReplicaHeld) (session : ℕ) (e : Edit) → IsSound h → CanEdit h e → IsSound (with_edit h session e)
 IsSound-with_edit h session e sound can =
     let more = made h.list h.replica e in
     let long = length-append h.list more in
@@ -149,7 +149,7 @@ IsSound-with_edit h session e sound can =
     }
 
 -- so are its fields
-pub AreFields-with_edit : (h : Held) (session : ℕ) (e : Edit) (counts_before counts : List (ℕ × ℕ)) (docs_before docs : List Doc) (before after : Index)
+pub AreFields-with_edit : (h : ReplicaHeld) (session : ℕ) (e : Edit) (counts_before counts : List (ℕ × ℕ)) (docs_before docs : List Doc) (before after : Index)
     → AreFields h counts_before docs_before before → CanEdit h e → 0 < size_of e.change
     → counts ≡ clock_of (h.list ++ made h.list h.replica e) → numbers docs ≡ with_number e.doc (numbers docs_before)
     → (AreDocs docs_before h.list → FitAfter h.list e.doc (made h.list h.replica e) → AllStand docs (h.list ++ made h.list h.replica e))
@@ -186,7 +186,7 @@ pub AreFields-edit : (id opened settled acked told session first count : ℕ) (s
     → first ≡ length old.list → count ≡ size_of e.change
     → AreFields (held_of id new.list opened settled acked told (edited session e first count ∷ steps)) counts new.docs.items new.index
 AreFields-edit id opened settled acked told session first count steps old new added e counts_before counts fields can some is_clock is are at many =
-    let h : Held = held_of id old.list opened settled acked told steps in
+    let h : ReplicaHeld = held_of id old.list opened settled acked told steps in
     let held = held_of-edit id opened settled acked told session first count steps old new added e is are at many (due_asks_right old.list id e can.due) in
     rw held
     (AreFields-with_edit h session e counts_before counts old.docs.items new.docs.items old.index new.index
@@ -212,7 +212,7 @@ passed_follows ops op ready passed =
     record { ready = ready; counter = all.0; names = all.1; document = all.2; limits = all.3 }
 
 -- what a replica keeps is kept by a merge
-pub IsSound-with_merge : (h : Held) (peer : ℕ) (op : Op) → IsSound h → CanMerge h op → IsSound (with_merge h peer op)
+pub IsSound-with_merge : (h : ReplicaHeld) (peer : ℕ) (op : Op) → IsSound h → CanMerge h op → IsSound (with_merge h peer op)
 IsSound-with_merge h peer op sound can =
     let long = length-append h.list (op ∷ []) in
     let seam = take-append_seam h.list (op ∷ []) in
@@ -247,7 +247,7 @@ pub AreFields-merge : (id opened settled acked told peer index : ℕ) (steps : L
     → IsAppended old new added op.doc → added ≡ op ∷ [] → index ≡ length old.list
     → AreFields (held_of id new.list opened settled acked told (merged peer index ∷ steps)) counts new.docs.items new.index
 AreFields-merge id opened settled acked told peer index steps old new added op counts_before counts fields can is_clock is are at =
-    let h : Held = held_of id old.list opened settled acked told steps in
+    let h : ReplicaHeld = held_of id old.list opened settled acked told steps in
     let held = held_of-merge id opened settled acked told peer index steps old new added op is are at in
     rw held (record {
       sound = IsSound-with_merge h peer op fields.sound can;
@@ -263,7 +263,7 @@ differs : (a b : ℕ) → (a == b) ≡ false → a ≢ b
 differs a b other = grind (arith, nat_tests)
 
 -- where a merge may apply an operation
-pub may_merge : (h : Held) (op : Op) → is_ready (clock_of h.list) op.id.replica op.deps ≡ true → (op.id.replica == h.replica) ≡ false
+pub may_merge : (h : ReplicaHeld) (op : Op) → is_ready (clock_of h.list) op.id.replica op.deps ≡ true → (op.id.replica == h.replica) ≡ false
     → first_failed h.list op ≡ None → length h.steps + 3 ≤ 1048576 → CanMerge h op
 may_merge h op ready other passed places = record {
   joins = record { follows = passed_follows h.list op ready passed; foreign = differs op.id.replica h.replica other };
@@ -271,7 +271,7 @@ may_merge h op ready other passed places = record {
 }
 
 -- there it answers so
-pub merge_alone-applied : (h : Held) (op : Op) → is_known (clock_of h.list) op ≡ false → is_ready (clock_of h.list) op.id.replica op.deps ≡ true
+pub merge_alone-applied : (h : ReplicaHeld) (op : Op) → is_known (clock_of h.list) op ≡ false → is_ready (clock_of h.list) op.id.replica op.deps ≡ true
     → (op.id.replica == h.replica) ≡ false → first_failed h.list op ≡ None → length h.steps + 3 ≤ 1048576
     → merge_alone h op ≡ applied
 merge_alone-applied h op new ready other passed places =
@@ -279,7 +279,7 @@ merge_alone-applied h op new ready other passed places =
     rw (new, other, ready, passed, fits) refl
 
 -- what a replica keeps is kept where it told of settled operations
-pub AreFields-told : (h : Held) (n now : ℕ) (counts : List (ℕ × ℕ)) (docs : List Doc) (known : Index)
+pub AreFields-told : (h : ReplicaHeld) (n now : ℕ) (counts : List (ℕ × ℕ)) (docs : List Doc) (known : Index)
     → AreFields h counts docs known → n ≤ h.settled
     → now ≡ max h.told n → AreFields (record h { told = now }) counts docs known
 AreFields-told h n now counts docs known fields within is_it = record {

@@ -10,12 +10,12 @@ use Rattle.op_model.specs.declared.op.Op.{Op}
 use Rattle.op_model.specs.Causality.{documents}
 
 -- the number of a document
-abbrev pub number_of : Doc → ℕ
-number_of d = d.number
+abbrev pub doc_number : Doc → ℕ
+doc_number d = d.number
 
 -- their numbers
 abbrev pub numbers : List Doc → List ℕ
-numbers ds = map number_of ds
+numbers ds = map doc_number ds
 
 -- each of these stands for a list
 abbrev pub AllStand : List Doc → List Op → Type 0

@@ -9,11 +9,11 @@ use Rattle.doc_core.specs.declared.doc.Doc.{Doc}
 use Rattle.replica_core.specs.declared.index.Index.{Index}
 use Rattle.replica_core.specs.Docs.{AreDocs}
 use Rattle.replica_core.specs.Indexes.{IsIndexOf}
-use Rattle.op_model.specs.Held.{Held}
+use Rattle.op_model.specs.Held.{ReplicaHeld}
 use Rattle.replica_core.specs.Held.{IsSound}
 
 -- what a replica with these fields holds
-abbrev pub held_of : ℕ → List Op → ℕ → ℕ → ℕ → ℕ → List Kept → Held
+abbrev pub held_of : ℕ → List Op → ℕ → ℕ → ℕ → ℕ → List Kept → ReplicaHeld
 held_of replica list opened settled acked told steps = record {
   replica = replica;
   list = list;
@@ -25,7 +25,7 @@ held_of replica list opened settled acked told steps = record {
 }
 
 -- what a replica holds is sound, and its clock, its documents and its index are those of the list
-pub record AreFields (h : Held) (counts : List (ℕ × ℕ)) (kept_docs : List Doc) (known : Index) : Type 0 where
+pub record AreFields (h : ReplicaHeld) (counts : List (ℕ × ℕ)) (kept_docs : List Doc) (known : Index) : Type 0 where
   pub sound : IsSound h
   pub clock : counts ≡ clock_of h.list
   pub docs : AreDocs kept_docs h.list

@@ -10,7 +10,7 @@ use op_list::OpSlice;
 use op_model::Op;
 use std::alloc::{AllocError, Global};
 
-/// How many operations each replica has among the first so many of a causally closed list, with its
+/// How many operations each replica has among the first `count` of a causally closed list, with its
 /// clock and its index. An error is want of memory (1). A search by halves for each replica.
 pub fn clock_of_front(
     alloc: Global,

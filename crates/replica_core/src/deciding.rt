@@ -1,7 +1,7 @@
 ghost use Rattle.std.specs.Prelude.{◌≡◌, ◌+◌, ◌++◌, ◌&&◌, nat_le, length, IfOk, IfErr, Some, None};
 ghost use Rattle.fixed_numbers.specs.declared.limits.TheConstants.{MAX_COUNTER, MAX_DOCUMENTS};
 ghost use Rattle.doc_core.specs.Standing.{StandsFor};
-ghost use Rattle.replica_core.specs.Docs.{number_of as doc_number};
+ghost use Rattle.replica_core.specs.Docs.{doc_number};
 ghost use Rattle.op_model.specs.Causality.{documents, is_within_limits as is_within_limits_of};
 ghost use Rattle.op_model.specs.Made.{edit_refusal as edit_refusal_of, made as made_of};
 ghost use Rattle.op_model.specs.Records.{stream_length};
@@ -59,7 +59,7 @@ pub fn edit_length(
 }
 
 /// Whether the operations, and then those of an edit that asks right, keep the limits of a store.
-/// There is room for its document or not, and the records that it makes take so many bytes.
+/// There is room for its document or not, and the records that it makes take `bytes` bytes.
 fn is_within_limits(
     ops: &OpSlice<'_>,
     clock: &Clock,
@@ -89,15 +89,15 @@ fn is_within_limits(
     has_room(ops, has_place, index.stream, count as usize, bytes)
 }
 
-/// Whether there are so many counters above this one.
+/// Whether there are `count` counters above `greatest`.
 fn has_counters(greatest: u64, count: u64) -> bool
     ensures { result ≡ nat_le (greatest + count) MAX_COUNTER }
 {
     count <= MAX_COUNTER && greatest <= MAX_COUNTER - count
 }
 
-/// Whether there is room for so many operations behind the others, where their document has a place
-/// or not, with records of so many bytes behind a stream of so many.
+/// Whether there is room for `count` operations behind the others, where their document has a place
+/// or not, with records of `bytes` bytes behind a stream of `stream` bytes.
 pub fn has_room(ops: &OpSlice<'_>, has_place: bool, stream: u64, count: usize, bytes: u64) -> bool
     ensures { result ≡ (has_place && nat_le (length ops.now + count) MAX_OPERATIONS
         && nat_le (stream + bytes) MAX_STREAM_LENGTH) }
@@ -105,14 +105,14 @@ pub fn has_room(ops: &OpSlice<'_>, has_place: bool, stream: u64, count: usize, b
     has_place && has_operations(ops.len(), count) && has_stream(stream, bytes)
 }
 
-/// Whether so many operations, and then so many more, are at most 2^24.
+/// Whether `ops` operations, and then `more` others, are at most 2^24.
 fn has_operations(ops: usize, more: usize) -> bool
     ensures { result ≡ nat_le (ops + more) MAX_OPERATIONS }
 {
     ops <= MAX_OPERATIONS && more <= MAX_OPERATIONS - ops
 }
 
-/// Whether so many bytes, and then so many more, are at most 2^30 bytes.
+/// Whether `stream` bytes, and then `bytes` others, are at most 2^30 bytes.
 fn has_stream(stream: u64, bytes: u64) -> bool
     ensures { result ≡ nat_le (stream + bytes) MAX_STREAM_LENGTH }
 {

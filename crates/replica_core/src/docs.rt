@@ -1,6 +1,6 @@
 ghost use Rattle.std.specs.Prelude.{◌≡◌, ℕ, List, [], ◌++◌, length, nat_le, OnOk, OnErr, IsErrOf};
 ghost use Rattle.doc_core.specs.Standing.{StandsFor};
-ghost use Rattle.replica_core.specs.Docs.{number_of};
+ghost use Rattle.replica_core.specs.Docs.{doc_number};
 ghost use Rattle.char_sequence.specs.Content.{FitAfter};
 ghost use Rattle.model_laws.specs.Rising.{IsUp};
 ghost use Rattle.op_model.specs.declared.op.Op.{Op};
@@ -20,7 +20,7 @@ use std::alloc::Global;
 pub fn find<'a>(docs: &'a [Doc], empty: &'a Doc) -> &'a Doc
     requires rising { IsUp (numbers docs.now) }
     requires empty { StandsFor empty.now [] }
-    ensures number { number_of result.now ≡ number_of empty.now }
+    ensures number { doc_number result.now ≡ doc_number empty.now }
     ensures stands { (ops : List Op) → AreDocs docs.now ops → StandsFor result.now ops }
 {
     at(docs, place(docs, empty.number()), empty)
@@ -37,9 +37,9 @@ pub fn place(docs: &[Doc], doc: u32) -> Result<usize, usize>
 
 /// The document at this place, or else this empty one. Constant.
 pub fn at<'a>(docs: &'a [Doc], place: Result<usize, usize>, empty: &'a Doc) -> &'a Doc
-    requires place { IsPlace (numbers docs.now) (number_of empty.now) place }
+    requires place { IsPlace (numbers docs.now) (doc_number empty.now) place }
     requires empty { StandsFor empty.now [] }
-    ensures number { number_of result.now ≡ number_of empty.now }
+    ensures number { doc_number result.now ≡ doc_number empty.now }
     ensures stands { (ops : List Op) → AreDocs docs.now ops → StandsFor result.now ops }
 {
     match place {
@@ -64,7 +64,7 @@ pub fn has_room(docs: &[Doc], place: Result<usize, usize>) -> bool
 pub fn count(doc: &Doc, list: &OpSlice<'_>) -> usize
     requires closed { IsCausallyClosed list.now }
     requires stands { StandsFor doc.now list.now }
-    ensures { result ≡ rev list.now (number_of doc.now) }
+    ensures { result ≡ rev list.now (doc_number doc.now) }
 {
     let _ = list;
     doc.rev() as usize

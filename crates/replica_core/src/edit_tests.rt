@@ -48,7 +48,7 @@ fn a_stale_edit_is_refused_first(rt: HostRuntime) -> Result<(), Fail> {
     Ok(())
 }
 
-/// A text of so many characters.
+/// A text of `count` characters.
 fn long(alloc: Global, count: u32) -> Result<String, Fail> {
     let mut text = String::new(alloc);
     for _ in 0..count {

@@ -161,6 +161,7 @@ fn fits(ops: &OpSlice<'_>, clock: &Clock, index: &Index, op: &Op, has_place: boo
     requires document { 0 < op.now.doc }
     ensures { result ≡ is_within_limits (ops.now ++ op.now ∷ []) }
 {
+    // From these the proof has that the counter and the document are in range.
     let _counter = op.id.counter();
     let _document = op.doc;
     if !clock.can_advance(op.id.replica()) {

@@ -56,7 +56,7 @@ impl Index {
         }
     }
 
-    /// Makes room for so many more operations of a replica. An error is want of memory (1).
+    /// Makes room for `count` more operations of a replica. An error is want of memory (1).
     pub fn reserve(
         &mut self,
         alloc: Global,
@@ -70,7 +70,7 @@ impl Index {
         maker::reserve(&mut self.makers, alloc, replica, count)
     }
 
-    /// Counts an operation that goes behind so many others. There is room for it.
+    /// Counts an operation that goes behind `behind` others. There is room for it.
     pub fn put(&mut self, op: &Op, behind: u32)
         requires room { 0 < room_of self.old.makers.items op.now.id.replica }
         requires small { self.old.stream + length_of op.now < 2 ^ 64 }
@@ -85,7 +85,7 @@ impl Index {
         self.stream += op.record_length();
     }
 
-    /// Counts operations of one replica that go behind so many others. There is room for them.
+    /// Counts operations of one replica that go behind `behind` others. There is room for them.
     pub fn put_all(&mut self, ops: &[Op], replica: ReplicaId, behind: u32)
         requires own { made_by replica ops.now ≡ ops.now }
         requires room { length ops.now ≤ room_of self.old.makers.items replica }

@@ -2,7 +2,7 @@ ghost use Rattle.std.specs.Prelude.{◌≡◌, ℕ, ◌+◌, ◌-◌, ◌*◌, �
 ghost use Rattle.std.specs.Prelude.{if◌then◌else◌};
 ghost use Rattle.fixed_numbers.specs.declared.limits.TheConstants.{MAX_EDIT, MAX_REPLICAS};
 ghost use Rattle.doc_core.specs.Standing.{StandsFor};
-ghost use Rattle.replica_core.specs.Docs.{number_of};
+ghost use Rattle.replica_core.specs.Docs.{doc_number};
 ghost use Rattle.op_model.specs.declared.op.Op.{Op};
 ghost use Rattle.op_model.specs.Causality.{clock_of};
 ghost use Rattle.op_model.specs.Made.{bodies_of, end_of, is_inside, is_small, made as made_of, origin_of};
@@ -18,7 +18,7 @@ use op_model::{Change, Edit, ID_LENGTH, MarkKey, head_length, insert_length, pla
 /// How many bytes the records take that a small edit of a document makes. Takes no memory.
 pub fn made_length(doc: &Doc, clock: &Clock, replica: ReplicaId, edit: &Edit) -> u64
     requires { is_small edit.now.change ≡ true }
-    ensures { (ops : List Op) → StandsFor doc.now ops → number_of doc.now ≡ edit.now.doc
+    ensures { (ops : List Op) → StandsFor doc.now ops → doc_number doc.now ≡ edit.now.doc
         → clock.now ≡ clock_of ops → IsAskedRight ops edit.now
         → result ≡ stream_length (made_of ops replica edit.now) }
 {
@@ -31,8 +31,8 @@ pub fn made_length(doc: &Doc, clock: &Clock, replica: ReplicaId, edit: &Edit) ->
     heads_length(first, later, edit.change.size() as u64) + bodies_length(doc, &edit.change)
 }
 
-/// How many bytes so many records take without their contents, where the first has so many deps,
-/// and each later one as many as that.
+/// How many bytes `count` records take without their contents, where the first has `first` deps,
+/// and each later one has `later`.
 fn heads_length(first: usize, later: usize, count: u64) -> u64
     requires first { first ≤ MAX_REPLICAS }
     requires later { later ≤ MAX_REPLICAS + 1 }
@@ -48,8 +48,8 @@ fn heads_length(first: usize, later: usize, count: u64) -> u64
 fn bodies_length(doc: &Doc, change: &Change) -> u64
     requires { is_small change.now ≡ true }
     ensures value { (ops : List Op) (replica : ℕ) → StandsFor doc.now ops
-        → is_inside (length (visible ops (number_of doc.now))) change.now ≡ true
-        → result ≡ lengths (bodies_of ops replica (number_of doc.now) change.now) }
+        → is_inside (length (visible ops (doc_number doc.now))) change.now ≡ true
+        → result ≡ lengths (bodies_of ops replica (doc_number doc.now) change.now) }
     ensures small { result < 1000000 }
 {
     match change {
@@ -67,11 +67,11 @@ fn bodies_length(doc: &Doc, change: &Change) -> u64
     }
 }
 
-/// Whether an insert behind so many characters that a reader sees has an origin.
+/// Whether an insert behind the first `at` characters that a reader sees has an origin.
 fn has_origin(doc: &Doc, at: usize) -> bool
     ensures { (ops : List Op) → StandsFor doc.now ops
-        → at ≤ length (visible ops (number_of doc.now))
-        → (if result then 25 else 1) ≡ origin_length (origin_of ops (number_of doc.now) at) }
+        → at ≤ length (visible ops (doc_number doc.now))
+        → (if result then 25 else 1) ≡ origin_length (origin_of ops (doc_number doc.now) at) }
 {
     if at > 0 {
         return true;
@@ -86,9 +86,9 @@ fn has_origin(doc: &Doc, at: usize) -> bool
 fn has_end(doc: &Doc, key: &MarkKey, to: usize) -> bool
     requires { to < 4294967296 }
     ensures { (ops : List Op) → StandsFor doc.now ops → 0 < to
-        → to ≤ length (visible ops (number_of doc.now))
+        → to ≤ length (visible ops (doc_number doc.now))
         → (if result then 25 else 1)
-        ≡ end_length (end_of (visible ops (number_of doc.now)) key.now to) }
+        ≡ end_length (end_of (visible ops (doc_number doc.now)) key.now to) }
 {
     match key {
         MarkKey::Strong | MarkKey::Em => doc.shows(to + 1),

@@ -48,7 +48,7 @@ fn place(makers: &[Maker], replica: ReplicaId) -> Option<usize>
     None
 }
 
-/// Makes room for so many more operations of a replica. An error is want of memory (1).
+/// Makes room for `count` more operations of a replica. An error is want of memory (1).
 pub fn reserve(
     makers: &mut Vec<Maker>,
     alloc: Global,

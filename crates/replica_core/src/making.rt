@@ -2,7 +2,7 @@ ghost use Rattle.std.specs.Prelude.{◌≡◌, IfOk, IfErr, None};
 ghost use Rattle.doc_core.specs.Standing.{StandsFor};
 ghost use Rattle.op_model.specs.Made.{edit_refusal, made as made_of};
 ghost use Rattle.replica_core.specs.Deciding.{AreCounted};
-ghost use Rattle.replica_core.specs.Docs.{number_of};
+ghost use Rattle.replica_core.specs.Docs.{doc_number};
 
 use crate::index::Index;
 use crate::refusal::Refusal;
@@ -27,7 +27,7 @@ pub fn made(
     requires counted { AreCounted ops.now clock.now index.now }
     requires due { edit_refusal ops.now replica edit.now ≡ None }
     requires stands { StandsFor doc.now ops.now }
-    requires number { number_of doc.now ≡ edit.now.doc }
+    requires number { doc_number doc.now ≡ edit.now.doc }
     ensures made { IfOk result (λ made. made ≡ made_of ops.now replica edit.now) }
     ensures memory { IfErr result (λ e. e ≡ Refusal.Memory) }
 {

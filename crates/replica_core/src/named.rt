@@ -26,7 +26,7 @@ pub fn is_covered_insert(ops: &OpSlice<'_>, index: &Index, op: &Op, id: &OpId) -
     }
 }
 
-/// The first so many of these indexes, or all of them.
+/// The first `count` of these indexes, or all of them.
 fn first(places: &[u32], count: usize) -> &[u32]
     ensures { result.now ≡ take count places.now }
 {

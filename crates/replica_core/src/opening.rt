@@ -54,8 +54,8 @@ fn checked(alloc: Global, list: &OpSlice<'_>) -> Result<(Clock, Vec<u32>, Index)
     Ok((clock, numbers, index))
 }
 
-/// Counts an operation that may follow so many that are counted, so that the clock has room for it.
-/// An error is want of memory (1).
+/// Counts an operation that may follow the `behind` counted ones, so that the clock has room for
+/// it. An error is want of memory (1).
 fn count(
     alloc: Global,
     clock: &mut Clock,

@@ -48,10 +48,10 @@ pub struct Replica {
 }
 
 impl Model for Replica {
-    ghost use Rattle.op_model.specs.Held.{Held};
+    ghost use Rattle.op_model.specs.Held.{ReplicaHeld};
     ghost use Rattle.replica_core.specs.Fields.{held_of, AreFields};
 
-    ghost Value = { Held };
+    ghost Value = { ReplicaHeld };
 
     ghost view = { λ r. held_of r.id r.log.list r.opened r.settled r.acked r.told r.steps };
 

@@ -5,7 +5,7 @@ use op_model::Edit;
 /// once: it takes no memory, and the edit isn't copied.
 #[derive(Drop)]
 pub enum Step {
-    /// An edit of a session made so many operations, the first of them with this index in the list.
+    /// An edit of a session made `count` operations, the first of them with this index in the list.
     Edit {
         session: u64,
         edit: Seen<Edit>,

@@ -7,18 +7,16 @@ ghost use Rattle.replica_core.specs.Telling.{IsNext};
 
 use crate::index::Index;
 use crate::maker::count_below;
+use fixed_numbers::limits::MAX_TOLD;
 use op_ids::{Clock, ReplicaId};
 use op_list::OpSlice;
 use op_model::Op;
 use std::alloc::{AllocError, Global};
 
-/// The most operations that are told at once.
-const MAX_TOLD: usize = 64;
-
-/// Of the first so many operations of a causally closed list, with its clock and its index, the
-/// first ones, at most 64, that a peer's clock doesn't count, and how many operations the last of
-/// them needs. An error is want of memory (1). For each that is told a search by halves in the
-/// indexes of each replica; no other operation is looked at.
+/// Of the first `settled` operations of a causally closed list, with its clock and its index, the
+/// first ones, at most `MAX_TOLD`, that a peer's clock doesn't count, and how many operations the
+/// last of them needs. An error is want of memory (1). For each that is told a search by halves in
+/// the indexes of each replica; no other operation is looked at.
 pub fn untold(
     alloc: Global,
     peer: &Clock,

@@ -20,7 +20,7 @@ const NOTHING: usize = 255;
 pub enum Wish<'a> {
     /// Inserts a text at an index.
     Insert(u32, &'a str),
-    /// Removes so many characters from an index on.
+    /// Removes, from an index on, this number of characters.
     Delete(u32, u32),
     /// Makes characters strong, from an index up to another.
     Mark(u32, u32),
@@ -64,8 +64,8 @@ pub enum Ask<'a> {
     Spans,
     /// How many operations are told to a peer that has nothing.
     Tell,
-    /// How many are told to a peer that counts so many operations of replicas 1, 2 and 3, or 255
-    /// where these aren't those that a look at each operation finds.
+    /// How many operations are told to a peer with these counts of replicas 1, 2 and 3, or 255
+    /// where the operations aren't those that a look at each one finds.
     TellBehind([u64; 3]),
     /// Whether the operations before an end are settled: 1 or 0.
     Ack(usize),

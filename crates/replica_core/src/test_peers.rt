@@ -180,8 +180,8 @@ pub fn told_to_none(alloc: Global, replica: &mut Replica) -> usize {
     }
 }
 
-/// How many operations a replica tells a peer that counts so many of replicas 1, 2 and 3, or 255
-/// where these aren't those that a look at each operation finds.
+/// How many operations a replica tells a peer with these counts of replicas 1, 2 and 3, or 255
+/// where the operations aren't those that a look at each one finds.
 pub fn told(alloc: Global, replica: &mut Replica, counts: &[u64; 3]) -> usize {
     match counting(alloc, counts) {
         Some(clock) => told_behind(alloc, replica, &clock),

@@ -8,6 +8,7 @@ use Rattle.std.proofs.lemmas.Grind.{get_or_default_zero}
 use Rattle.std.proofs.lemmas.Bool.{eq-eqb, le-leb}
 use Rattle.root_slots.proofs.HeadLemmas.{most_tables}
 use Rattle.std.proofs.lemmas.Nat.{from_be_bytes-to_be_bytes_4, from_be_bytes-to_be_bytes_8}
+use Rattle.fixed_numbers.specs.declared.sizes.TheConstants.{BODY_LENGTH}
 use Rattle.page_file.specs.Pages.{are_pages, is_zero, number_bytes}
 use Rattle.page_file.proofs.NumberLemmas.{length-number_bytes, numbers_again}
 use Rattle.root_slots.specs.Body.{Root, IsRoot, Spells, head_bytes, body_bytes, tables_for}
@@ -74,11 +75,11 @@ length-body root is =
     let most = most_tables root.stream_length is.stream in
     omega (
       arith,
-      length-append (head ++ number_bytes root.tables) (replicate (4032 - 4 * length root.tables) 0),
+      length-append (head ++ number_bytes root.tables) (replicate (BODY_LENGTH - 56 - 4 * length root.tables) 0),
       length-append head (number_bytes root.tables),
       length-head root.version root.replica root.stream_length root.operations (length root.tables),
       length-number_bytes root.tables,
-      length-replicate {A = ℕ} (4032 - 4 * length root.tables) 0,
+      length-replicate {A = ℕ} (BODY_LENGTH - 56 - 4 * length root.tables) 0,
       is.tables,
       most,
     )
@@ -94,25 +95,25 @@ body_is root put len len-is is put-is =
     let size : length put ≡ 56 + 4 * length root.tables =
     omega (arith, ap length put-is, length-append head (number_bytes root.tables), length-head root.version root.replica root.stream_length root.operations (length root.tables), length-number_bytes root.tables) in
     let within : length put ≤ 4088 = omega (arith, size, is.tables, most) in
-    let left : 4088 - len ≡ 4032 - 4 * length root.tables = omega (arith, size, len-is) in
+    let left : 4088 - len ≡ BODY_LENGTH - 56 - 4 * length root.tables = omega (arith, size, len-is) in
     rw (take_all 4088 put within, left, put-is) refl
 
 -- what stands behind the head
-tail_is : (root : Root) → drop 56 (body_bytes root) ≡ number_bytes root.tables ++ replicate (4032 - 4 * length root.tables) 0
+tail_is : (root : Root) → drop 56 (body_bytes root) ≡ number_bytes root.tables ++ replicate (BODY_LENGTH - 56 - 4 * length root.tables) 0
 unfolding body_bytes
 tail_is root =
     let head = head_bytes root.version root.replica root.stream_length root.operations (length root.tables) in
-    let zeros : List ℕ = replicate (4032 - 4 * length root.tables) 0 in
+    let zeros : List ℕ = replicate (BODY_LENGTH - 56 - 4 * length root.tables) 0 in
     ap (drop 56) (append_assoc head (number_bytes root.tables) zeros) ∙ drop_head root.version root.replica root.stream_length root.operations (length root.tables) (number_bytes root.tables ++ zeros)
 
 -- the last bytes are zero
 end_is_zero : (root : Root) → is_zero (drop (56 + 4 * length root.tables) (body_bytes root)) ≡ true
 end_is_zero root =
-    let zeros : List ℕ = replicate (4032 - 4 * length root.tables) 0 in
+    let zeros : List ℕ = replicate (BODY_LENGTH - 56 - 4 * length root.tables) 0 in
     let behind : drop (56 + 4 * length root.tables) (body_bytes root) ≡ zeros =
     sym (drop-drop (4 * length root.tables) 56 (body_bytes root)) ∙ ap (drop (4 * length root.tables)) (tail_is root)
     ∙ drop_at (number_bytes root.tables) zeros (4 * length root.tables) (length-number_bytes root.tables) in
-    rw behind (is_zero-replicate (4032 - 4 * length root.tables))
+    rw behind (is_zero-replicate (BODY_LENGTH - 56 - 4 * length root.tables))
 
 -- the head of a body that was written
 body_heads : (root : Root) → IsRoot root → IsWide root
@@ -120,7 +121,7 @@ body_heads : (root : Root) → IsRoot root → IsWide root
 unfolding body_bytes
 body_heads root is wide =
     let head = head_bytes root.version root.replica root.stream_length root.operations (length root.tables) in
-    let zeros : List ℕ = replicate (4032 - 4 * length root.tables) 0 in
+    let zeros : List ℕ = replicate (BODY_LENGTH - 56 - 4 * length root.tables) 0 in
     let most = most_tables root.stream_length is.stream in
     let few : length root.tables < 2 ^ 32 = omega (arith, is.tables, most) in
     rw (append_assoc head (number_bytes root.tables) zeros)
@@ -130,7 +131,7 @@ body_heads root is wide =
 pub spells : (root : Root) → IsRoot root → IsWide root → Spells (body_bytes root) root
 spells root is wide =
     let body = body_bytes root in
-    let zeros : List ℕ = replicate (4032 - 4 * length root.tables) 0 in
+    let zeros : List ℕ = replicate (BODY_LENGTH - 56 - 4 * length root.tables) 0 in
     let h = body_heads root is wide in
     let count = h.tables in
     let tables : tables_of body ≡ root.tables =

@@ -2,7 +2,7 @@
 use Rattle.std.specs.Prelude.{◌≡◌, ℕ, ◌-◌, ◌*◌, ◌≤◌, true, if◌then◌else◌, List, ◌++◌, length, replicate, Option, Some, None}
 use Rattle.std.specs.Int.{w32, w64, w128, to_be_bytes}
 use Rattle.fixed_numbers.specs.declared.limits.TheConstants.{MAX_OPERATIONS, MAX_STREAM_LENGTH}
-use Rattle.fixed_numbers.specs.declared.sizes.TheConstants.{PAGE_SIZE, TABLE_ENTRIES}
+use Rattle.fixed_numbers.specs.declared.sizes.TheConstants.{BODY_LENGTH, PAGE_SIZE, TABLE_ENTRIES}
 use Rattle.page_file.specs.Pages.{are_pages, number_bytes}
 use Rattle.root_slots.specs.Root.{magic, version_of, replica_of, stream_length_of, count_of, tables_of, pages_for, is_root}
 
@@ -23,7 +23,7 @@ root_of body =
 unfoldable pub root_in : List ℕ → Option Root
 root_in body = if is_root body then Some (root_of body) else None
 
--- how many table pages a stream of so many bytes needs
+-- how many table pages a stream of stream_length bytes needs
 abbrev pub tables_for : ℕ → ℕ
 tables_for stream_length = pages_for TABLE_ENTRIES (pages_for PAGE_SIZE stream_length)
 
@@ -41,11 +41,11 @@ head_bytes version replica stream_length operations tables =
     to_be_bytes w64 magic ++ to_be_bytes w64 version ++ to_be_bytes w128 replica ++ to_be_bytes w64 stream_length
     ++ to_be_bytes w64 operations ++ to_be_bytes w32 tables ++ to_be_bytes w32 0
 
--- the 4,088 bytes of a root: the rest is zero
+-- the bytes of a root, BODY_LENGTH of them: the rest is zero
 unfoldable pub body_bytes : Root → List ℕ
 body_bytes root =
     head_bytes root.version root.replica root.stream_length root.operations (length root.tables) ++ number_bytes root.tables
-    ++ replicate (4032 - 4 * length root.tables) 0
+    ++ replicate (BODY_LENGTH - 56 - 4 * length root.tables) 0
 
 -- the bytes are a root body, and say this
 pub record Spells (body : List ℕ) (root : Root) : Type 0 where

@@ -6,7 +6,7 @@ use Rattle.fixed_numbers.specs.declared.sizes.TheConstants.{BODY_LENGTH, PAGE_SI
 use Rattle.disk_trait.specs.File.{part}
 use Rattle.page_file.specs.Pages.{is_zero, are_pages, numbers}
 
--- so many bytes of the body, where their place is counted from the first byte of the page
+-- n bytes of the body, where their place is counted from the first byte of the page
 abbrev pub field : List ℕ → ℕ → ℕ → List ℕ
 field body at n = part body (at - 8) n
 

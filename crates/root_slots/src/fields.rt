@@ -14,7 +14,7 @@ use op_ids::ReplicaId;
 /// `PTXTPG01`, read as a number.
 pub const MAGIC: u64 = 0x5054_5854_5047_3031;
 
-/// How many table pages a stream of so many bytes needs: at most 256.
+/// How many table pages a stream of `stream_length` bytes needs: at most 256.
 pub fn tables_for(stream_length: u64) -> u64
     requires { stream_length ≤ MAX_STREAM_LENGTH }
     ensures value { result ≡ tables_for stream_length }

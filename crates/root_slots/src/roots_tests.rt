@@ -6,7 +6,7 @@ use disk_trait::{Disk, MemDisk};
 use std::alloc::Global;
 use std::test::Fail;
 
-/// A disk for so many calls with these slots, each a gate and the pieces of a body.
+/// A disk for `calls` calls with these slots, each a gate and the pieces of a body.
 fn disk_of(alloc: Global, calls: usize, slots: &[(u8, &str)]) -> Result<MemDisk, Fail> {
     let mut disk = MemDisk::new(alloc, 8192, calls)?;
     let mut at: u64 = 0;

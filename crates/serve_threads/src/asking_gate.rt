@@ -9,7 +9,7 @@ use std::sync::{Condvar, Mutex, Wait};
 
 /// How far the flusher is.
 #[derive(Clone, Copy, Debug, PartialEq, Eq)]
-pub enum Held {
+pub enum Progress {
     /// It has made no device call yet.
     Before,
     /// It is held up behind its first device call.
@@ -28,7 +28,7 @@ pub struct AskingGate<'a, R> {
     port: u16,
     request: &'static str,
     answer: &'static str,
-    held: Mutex<Held>,
+    held: Mutex<Progress>,
     came: Condvar,
     /// Whether the answer came.
     is_told: Mutex<bool>,
@@ -49,7 +49,7 @@ impl<'a, R: Wait> AskingGate<'a, R> {
             port,
             request,
             answer,
-            held: Mutex::new(Held::Before),
+            held: Mutex::new(Progress::Before),
             came: Condvar::new(),
             is_told: Mutex::new(false),
         }
@@ -60,7 +60,7 @@ impl<'a, R: Wait> AskingGate<'a, R> {
         let held = self.held.lock(self.rt);
         let _held = self
             .came
-            .wait_while(self.rt, held, |held| *held == Held::Before);
+            .wait_while(self.rt, held, |held| *held == Progress::Before);
     }
 
     /// Whether the answer came that the gate waited for.
@@ -69,7 +69,7 @@ impl<'a, R: Wait> AskingGate<'a, R> {
     }
 
     /// Notes how far the flusher is, and gives how far it was.
-    fn put(&self, now: Held) -> Held {
+    fn put(&self, now: Progress) -> Progress {
         let mut held = self.held.lock(self.rt);
         let before = *held;
         *held = now;
@@ -82,14 +82,14 @@ impl<'a, R: Wait> AskingGate<'a, R> {
 impl<'a, R: Wait + Clock + Net<Listener = TcpListener, Stream = TcpStream>> Gate
     for AskingGate<'a, R> {
     fn pass(&self, point: Point) {
-        if point != Point::DeviceCall || *self.held.lock(self.rt) != Held::Before {
+        if point != Point::DeviceCall || *self.held.lock(self.rt) != Progress::Before {
             return;
         }
-        self.put(Held::Now);
+        self.put(Progress::Now);
         if let Some(mut talk) = Talk::to(self.rt, self.alloc, self.port) {
             let is_told = talk.comes_to(self.rt, self.request, self.answer);
             *self.is_told.lock(self.rt) = is_told;
         }
-        self.put(Held::Behind);
+        self.put(Progress::Behind);
     }
 }

@@ -27,7 +27,7 @@ impl Meeting {
         }
     }
 
-    /// Waits until the disk writes the body, at most so many turns, and tells whether it does.
+    /// Waits until the disk writes the body, at most `TURNS` turns, and tells whether it does.
     pub fn is_writing<R: Wait + Clock>(&self, rt: &R) -> bool {
         comes(rt, &self.is_writing)
     }
@@ -53,7 +53,7 @@ impl Meeting {
     }
 }
 
-/// Waits until this is so, at most so many turns, and tells whether it is.
+/// Waits until this is so, at most `TURNS` turns, and tells whether it is.
 fn comes<R: Wait + Clock>(rt: &R, is_so: &Mutex<bool>) -> bool {
     for _ in 0..TURNS {
         if *is_so.lock(rt) {

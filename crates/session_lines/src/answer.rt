@@ -5,7 +5,7 @@ use op_model::Text;
 /// What a session is answered.
 #[derive(Debug, Drop)]
 pub enum Answer {
-    /// An edit is settled; the document had so many operations right after it.
+    /// An edit is settled; the document had `rev` operations right after it.
     Edited {
         rev: u64,
     },

@@ -6,7 +6,7 @@ use Rattle.locked_replica.specs.Calls.{IsCall}
 use Rattle.locked_replica.specs.Hub.{Parts, state_of}
 use Rattle.session_threads.specs.declared.begun.Begun.TheVariants.{UnderWay, Settled, Refused}
 use Rattle.locked_replica.specs.Run.{Calls}
-use Rattle.session_threads.specs.HubCalls.{IsQuiet, IsOfCommit, AreOfCommit, AreTimes, CommitCalls, CannotSettle, Begins, begins_at, with_begun}
+use Rattle.session_threads.specs.HubCalls.{IsQuiet, IsOfCommit, AreOfCommit, AreTimes, CommitCalls, CannotSettle, DeskBegins, begins_at, with_begun}
 use Rattle.session_threads.proofs.CallLemmas.{Calls-append, one_call, more_calls}
 use Rattle.session_threads.proofs.CommitLemmas.{quiet_has_told, state_begun, nothing_new_settled, begin_refused}
 
@@ -20,7 +20,7 @@ AreTimes-more n e (x ∷ xs) (one, more, some) =
     let same : n - 1 + 1 ≡ n + 1 - 1 = omega (arith, some) in
     (one, subst (λ k. AreTimes k e (xs ++ e ∷ [])) same (AreTimes-more (n - 1) e xs more), omega arith)
 
--- so many tries are calls of a commit with so many begins
+-- n tries are calls of a commit with n begins
 pub tries_of_commit : (n : ℕ) (xs : List (Event × Answer)) → AreTimes n tried xs → AreOfCommit n xs
 tries_of_commit n [] times = tt
 tries_of_commit n (x ∷ xs) (one, more, some) =
@@ -44,7 +44,7 @@ module _ {D : Type 0} (facts : Ghosts D) where
 
   pub begins_under_way : (old between new : Parts D) (n m : ℕ) (tries : List (Event × Answer)) → n + 1 ≤ 1000 → AreTimes n tried tries
       → Calls facts old tries between → state_of between ≡ state_of old → IsCall facts begin (begun m) between new
-      → Begins facts old UnderWay new
+      → DeskBegins facts old UnderWay new
   begins_under_way old between new n m tries within times calls same made = record {
     calls = more_calls facts n 1000 old between new begin (begun m) (tries_made old between n tries times calls) tt within made;
     ends = let P : State → Type 0 = λ s. (s.failed ≡ false) × (state_of new ≡ with_begun s) in
@@ -53,7 +53,7 @@ module _ {D : Type 0} (facts : Ghosts D) where
 
   pub begins_settled : (old between new : Parts D) (n : ℕ) (tries : List (Event × Answer)) → n + 1 ≤ 1000 → AreTimes n tried tries
       → Calls facts old tries between → state_of between ≡ state_of old → IsCall facts begin nothing_new between new
-      → Begins facts old Settled new
+      → DeskBegins facts old Settled new
   begins_settled old between new n tries within times calls same made = record {
     calls = more_calls facts n 1000 old between new begin nothing_new (tries_made old between n tries times calls) tt within made;
     ends = (
@@ -69,7 +69,7 @@ module _ {D : Type 0} (facts : Ghosts D) where
 
   pub begins_refused : (old between new : Parts D) (n m : ℕ) (tries : List (Event × Answer)) → n + 1 ≤ 1000 → AreTimes n tried tries
       → Calls facts old tries between → state_of between ≡ state_of old → IsQuiet (state_of old)
-      → IsCall facts begin (refused m) between new → (m ≡ 1 → ⊥) → Begins facts old Refused new
+      → IsCall facts begin (refused m) between new → (m ≡ 1 → ⊥) → DeskBegins facts old Refused new
   begins_refused old between new n m tries within times calls same quiet made other =
       let was_quiet = subst IsQuiet (sym same) quiet in
       let stays = made.step.1 ∙ quiet_has_told (state_of between) was_quiet in
@@ -82,7 +82,7 @@ module _ {D : Type 0} (facts : Ghosts D) where
       }
 
   pub begins_never : (old new : Parts D) (n : ℕ) (tries : List (Event × Answer)) → AreTimes n tried tries
-      → Calls facts old tries new → state_of new ≡ state_of old → n ≡ 1000 → Begins facts old Refused new
+      → Calls facts old tries new → state_of new ≡ state_of old → n ≡ 1000 → DeskBegins facts old Refused new
   begins_never old new n tries times calls same all =
       let thousand = subst (λ k. AreTimes k tried tries) all times in
       record {

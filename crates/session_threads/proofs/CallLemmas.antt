@@ -7,7 +7,7 @@ use Rattle.locked_replica.specs.Hub.{Parts}
 use Rattle.locked_replica.specs.Run.{Calls}
 use Rattle.session_threads.specs.HubCalls.{CommitCalls, IsOfCommit, AreOfCommit, begins_at}
 
--- events with at most so many begins have at most more
+-- events with at most n begins have at most m where m is no less
 pub AreOfCommit-weaken : (n m : ℕ) (xs : List (Event × Answer)) → n ≤ m → AreOfCommit n xs → AreOfCommit m xs
 AreOfCommit-weaken n m [] within only = tt
 AreOfCommit-weaken n m (x ∷ xs) within (one, enough, more) = (

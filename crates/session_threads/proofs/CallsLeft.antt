@@ -1,10 +1,10 @@
 -- How many device calls a commit has left.
 use Rattle.std.specs.Prelude.{ℕ, ◌+◌, ◌-◌, length}
-use Rattle.group_commit.specs.Held.{Held}
+use Rattle.group_commit.specs.Held.{StoreHeld}
 use Rattle.group_commit.specs.declared.phase.Phase.{Phase}
 use Rattle.group_commit.specs.declared.phase.Phase.TheVariants.{Idle, Pages, Close, Sync1, Body, Sync2, Gate, Sync3}
 
--- at most so many calls are left from a phase on, of a commit of so many new pages
+-- the most calls that are left from a phase on, where pages is the number of the commit's new pages
 abbrev pub calls_from : ℕ → Phase → ℕ
 calls_from pages Idle = 0
 calls_from pages (Pages k) = (pages - k) + 7
@@ -15,5 +15,5 @@ calls_from pages Sync2 = 3
 calls_from pages Gate = 2
 calls_from pages Sync3 = 1
 
-abbrev pub calls_left : {D : Type 0} → Held D → ℕ
+abbrev pub calls_left : {D : Type 0} → StoreHeld D → ℕ
 calls_left store = calls_from (length store.numbers) store.phase

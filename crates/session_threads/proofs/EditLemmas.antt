@@ -5,7 +5,7 @@ use Rattle.std.proofs.Common.{cond}
 use Rattle.std.specs.Prelude.{if◌then◌else◌}
 use Rattle.op_model.specs.declared.edit.Edit.{Edit}
 use Rattle.op_model.specs.Made.{made, edit_refusal, is_at_rev, is_inside, is_small}
-use Rattle.op_model.specs.Held.{Held}
+use Rattle.op_model.specs.Held.{ReplicaHeld}
 use Rattle.op_model.specs.Machine.{State, Answer, Ticket, ticket, ticket_of, applied, refused}
 use Rattle.op_model.specs.Machine.{acknowledged, EditStep, AckStep, IsRefusal, edit_alone}
 use Rattle.op_model.specs.Machine.{edit_answer_unless, has_record_room, with_room, has_places}
@@ -24,7 +24,7 @@ by_places : (places : Bool) (t : Ticket) (n : ℕ) → IsRefusal n (if places th
 by_places true t n is = rw is refl
 by_places false t n is = rw is refl
 
-by_cause : (h : Held) (e : Edit) (cause : Option ℕ) (n : ℕ) → IfSome cause (λ m. IsTrue (is_edit_refusal m))
+by_cause : (h : ReplicaHeld) (e : Edit) (cause : Option ℕ) (n : ℕ) → IfSome cause (λ m. IsTrue (is_edit_refusal m))
     → IsRefusal n (edit_answer_unless h e cause) → IsTrue (is_edit_refusal n)
 by_cause h e (Some m) n known is = rw is known
 by_cause h e None n known is = by_places (has_places h) _ n is

@@ -1,5 +1,5 @@
 -- How a commit ends.
-use Rattle.std.proofs.Common.{◌≡◌, ℕ, ◌+◌, ◌≤◌, Bool, true, false, List, ◌++◌, length, Result, Ok, Err, refl, sym, ap, ◌∙◌, subst, inl, arith}
+use Rattle.std.proofs.Common.{◌≡◌, ℕ, ◌≤◌, Bool, true, false, List, ◌++◌, length, Result, Ok, Err, refl, sym, ap, ◌∙◌, subst, inl, arith}
 use Rattle.std.specs.Prelude.{is_ok}
 use Rattle.disk_trait.specs.declared.facts.DiskFacts.{Ghosts}
 use Rattle.op_model.specs.Machine.{State, Answer, settle, refused, settled_to, SettleStep}
@@ -8,7 +8,7 @@ use Rattle.locked_replica.specs.Calls.{IsCall}
 use Rattle.locked_replica.specs.Hub.{Parts, state_of}
 use Rattle.locked_replica.specs.Steps.{settle_answered, number_of}
 use Rattle.session_threads.specs.declared.begun.Begun.TheVariants.{UnderWay, Settled, Refused}
-use Rattle.session_threads.specs.HubCalls.{IsQuiet, CommitCalls, Begins, GoesThrough, Commits, with_begun, with_through}
+use Rattle.session_threads.specs.HubCalls.{IsQuiet, CommitCalls, DeskBegins, GoesThrough, Commits, with_begun, with_through}
 use Rattle.session_threads.proofs.CallLemmas.{more_calls, both_calls}
 use Rattle.session_threads.proofs.CommitLemmas.{state_settled, never_refused, settled_is_quiet, failure_is_told, settles_nothing}
 
@@ -19,7 +19,7 @@ pub record Ended {D : Type 0} (facts : Ghosts D) (old : Parts D) (is_settled : B
   pub list : new.replica.list ≡ old.replica.list
 
 module _ {D : Type 0} (facts : Ghosts D) where
-  pub ended_settled : (old new : Parts D) → IsQuiet (state_of old) → Begins facts old Settled new → Ended facts old true new
+  pub ended_settled : (old new : Parts D) → IsQuiet (state_of old) → DeskBegins facts old Settled new → Ended facts old true new
   ended_settled old new quiet begins =
       let (same, all) = begins.ends in
       record {
@@ -28,7 +28,7 @@ module _ {D : Type 0} (facts : Ghosts D) where
         list = ap (λ s. s.held.list) same;
       }
 
-  pub ended_refused : (old new : Parts D) → IsQuiet (state_of old) → Begins facts old Refused new → Ended facts old false new
+  pub ended_refused : (old new : Parts D) → IsQuiet (state_of old) → DeskBegins facts old Refused new → Ended facts old false new
   ended_refused old new quiet begins =
       let (same, cause) = begins.ends in
       record {
@@ -45,7 +45,7 @@ module _ {D : Type 0} (facts : Ghosts D) where
       more_calls facts 1000 1000 old done new settle answer before tt (omega arith) made
 
   -- the device failed in the commit
-  pub ended_wrong : (old between broken new : Parts D) (answer : Result ℕ HubRefusal) → Begins facts old UnderWay between
+  pub ended_wrong : (old between broken new : Parts D) (answer : Result ℕ HubRefusal) → DeskBegins facts old UnderWay between
       → GoesThrough facts between false broken → IsCall facts settle (settle_answered answer) broken new → Ended facts old false new
   ended_wrong old between broken new (Ok n) begins goes made =
       absurd (settles_nothing (state_of broken) (state_of new) n (ap (λ s. s.failed) goes.ends) made.step)
@@ -61,7 +61,7 @@ module _ {D : Type 0} (facts : Ghosts D) where
         list = ap (λ s. s.held.list) made.step.1 ∙ ap (λ s. s.held.list) goes.ends ∙ ap (λ s. s.held.list) begun;
       }
 
-  pub ended_through : (old between through new : Parts D) (answer : Result ℕ HubRefusal) → Begins facts old UnderWay between
+  pub ended_through : (old between through new : Parts D) (answer : Result ℕ HubRefusal) → DeskBegins facts old UnderWay between
       → GoesThrough facts between true through → IsCall facts settle (settle_answered answer) through new
       → Ended facts old (is_ok answer) new
   ended_through old between through new (Ok n) begins goes made =

@@ -1,8 +1,8 @@
 -- Calls of a hub, one after another, and those that commit all that it holds.
-use Rattle.std.specs.Prelude.{◌≡◌, ◌⊎◌, ℕ, ◌-◌, ◌^◌, ◌≤◌, ◌==◌, ◌||◌, Bool, true, false, List, [], ◌∷◌, ◌++◌, length, Option, Some, None, ⊤}
+use Rattle.std.specs.Prelude.{◌≡◌, ◌⊎◌, ℕ, ◌-◌, ◌≤◌, ◌==◌, ◌||◌, Bool, true, false, List, [], ◌∷◌, ◌++◌, length, Option, Some, None, ⊤}
 use Rattle.fixed_numbers.specs.declared.refusals.TheConstants.{MEMORY, RANGE, STALE, LIMIT, BUSY, FAILED, STEPS}
 use Rattle.disk_trait.specs.declared.facts.DiskFacts.{Ghosts}
-use Rattle.op_model.specs.Machine.{State, Event, Answer, edit, merge, begin, device_step, settle, ack, tell, have, refused, is_under_way, through, Commit}
+use Rattle.op_model.specs.Machine.{State, Event, Answer, edit, begin, device_step, settle, refused, through, Commit}
 use Rattle.hub_parts.specs.declared.meeting.TheConstants.{BEGIN_TRIES}
 use Rattle.locked_replica.specs.Hub.{Parts, state_of}
 use Rattle.locked_replica.specs.Run.{Calls}
@@ -23,23 +23,19 @@ abbrev pub IsOfCommit : Event → Type 0
 IsOfCommit begin = ⊤
 IsOfCommit device_step = ⊤
 IsOfCommit settle = ⊤
-IsOfCommit (edit session e) = ⊥
-IsOfCommit (merge peer op) = ⊥
-IsOfCommit (ack t) = ⊥
-IsOfCommit (tell c) = ⊥
-IsOfCommit have = ⊥
+IsOfCommit _ = ⊥
 
 -- how many begins an event is: one, or none
 abbrev pub begins_at : Event → ℕ
 begins_at begin = 1
 begins_at _ = 0
 
--- events of a commit, each with its answer, and at most so many begins among them
+-- events of a commit, each with its answer, and at most n begins among them
 abbrev pub AreOfCommit : ℕ → List (Event × Answer) → Type 0
 AreOfCommit n [] = ⊤
 AreOfCommit n (e ∷ es) = IsOfCommit e.0 × (begins_at e.0 ≤ n) × AreOfCommit (n - begins_at e.0) es
 
--- the same event with the same answer, so many times
+-- the same event with the same answer, n times
 abbrev pub AreTimes : ℕ → Event × Answer → List (Event × Answer) → Type 0
 AreTimes n e [] = n ≡ 0
 AreTimes n e (x ∷ xs) = (x ≡ e) × AreTimes (n - 1) e xs × (1 ≤ n)
@@ -70,7 +66,7 @@ abbrev pub with_through : State → State
 with_through s = record s { commit = through s.commit }
 
 module _ {D : Type 0} (facts : Ghosts D) where
-  -- calls of a commit alone, with at most so many begins
+  -- calls of a commit alone, with at most this number of begins
   pub record CommitCalls (begins : ℕ) (old new : Parts D) : Type 0 where
     pub events : List (Event × Answer)
     pub calls : Calls facts old events new
@@ -82,7 +78,7 @@ module _ {D : Type 0} (facts : Ghosts D) where
   BegunAs old new events Settled = (new ≡ old) × (length old.held.list ≤ old.held.settled)
   BegunAs old new events Refused = (new ≡ old) × CannotSettle new events
 
-  pub record Begins (old : Parts D) (begun : Begun) (new : Parts D) : Type 0 where
+  pub record DeskBegins (old : Parts D) (begun : Begun) (new : Parts D) : Type 0 where
     pub calls : CommitCalls BEGIN_TRIES old new
     pub ends : BegunAs (state_of old) (state_of new) calls.events begun
 

@@ -1,5 +1,5 @@
 -- What a desk over a hub answers to a command, and what it makes of the hub.
-use Rattle.std.specs.Prelude.{◌≡◌, ◌⊎◌, ℕ, Bool, true, false, List, [], ◌∷◌, ◌++◌, length, if◌then◌else◌}
+use Rattle.std.specs.Prelude.{◌≡◌, ◌⊎◌, ℕ, Bool, true, false, List, [], ◌∷◌, ◌++◌, length}
 use Rattle.disk_trait.specs.declared.facts.DiskFacts.{Ghosts}
 use Rattle.op_model.specs.declared.edit.Edit.{Edit}
 use Rattle.op_model.specs.Text.{text, rev}
@@ -11,10 +11,9 @@ use Rattle.session_lines.specs.Saying.{number_of}
 use Rattle.session_lines.specs.declared.command.Command.{Command}
 use Rattle.session_lines.specs.declared.command.Command.TheVariants as command
 use Rattle.session_lines.specs.declared.answer.Answer.{Answer}
-use Rattle.session_lines.specs.declared.answer.Answer.TheVariants.{Edited, Text, Spans, Status, Stopped, Done, Refused}
+use Rattle.session_lines.specs.declared.answer.Answer.TheVariants.{Edited, Text, Spans, Status, Stopped, Refused}
 use Rattle.session_lines.specs.declared.answer.State.{State}
 use Rattle.session_lines.specs.declared.answer.State.TheVariants as state
-use Rattle.session_lines.specs.declared.refusal.Refusal.{Refusal}
 use Rattle.session_lines.specs.declared.refusal.Refusal.TheVariants.{Memory, Failed, Stopping}
 use Rattle.session_threads.specs.HeldDesk.{HeldDesk}
 use Rattle.locked_replica.specs.Run.{Calls}
@@ -67,11 +66,7 @@ module _ {D : Type 0} (facts : Ghosts D) where
   AnswersEdit session old e (Refused refusal) new =
       Calls facts old ((edit session e, refused (number_of refusal)) ∷ []) new
       ⊎ ((refusal ≡ Failed) × IsLeftOpen session old new e)
-  AnswersEdit session old e (Text rev t) new = ⊥
-  AnswersEdit session old e (Spans rev s) new = ⊥
-  AnswersEdit session old e (Status applied settled s) new = ⊥
-  AnswersEdit session old e Stopped new = ⊥
-  AnswersEdit session old e Done new = ⊥
+  AnswersEdit session old e _ new = ⊥
 
   -- behind a ticket, all was committed and it was acknowledged; or not all could be settled
   abbrev pub AnswersTicket : Parts D → Ticket → Answer → Parts D → Type 0
@@ -81,11 +76,7 @@ module _ {D : Type 0} (facts : Ghosts D) where
   AnswersTicket old given (Refused refusal) new =
       (commit : List (Event × Reply)) × AreOfCommit BEGIN_TRIES commit × Calls facts old commit new
       × (refusal ≡ Failed) × CannotSettle (state_of new) commit
-  AnswersTicket old given (Text rev t) new = ⊥
-  AnswersTicket old given (Spans rev s) new = ⊥
-  AnswersTicket old given (Status applied settled s) new = ⊥
-  AnswersTicket old given Stopped new = ⊥
-  AnswersTicket old given Done new = ⊥
+  AnswersTicket old given _ new = ⊥
 
   -- after a stop an edit is refused, and the hub isn't asked
   abbrev pub ServesEdit : HeldDesk D → Edit → Answer → HeldDesk D → Type 0

@@ -3,7 +3,7 @@ ghost use Rattle.std.specs.Prelude.{◌≡◌, ◌↔◌, true, false, IsTrue};
 ghost use Rattle.group_commit.specs.declared.phase.Phase.TheVariants.{Sync3};
 ghost use Rattle.op_model.specs.Machine.{is_under_way};
 ghost use Rattle.locked_replica.specs.Hub.{state_of};
-ghost use Rattle.session_threads.specs.HubCalls.{IsQuiet, Begins, GoesThrough, Commits};
+ghost use Rattle.session_threads.specs.HubCalls.{IsQuiet, DeskBegins, GoesThrough, Commits};
 
 use crate::begun::Begun;
 use disk_trait::Disk;
@@ -36,7 +36,7 @@ pub fn commit<D: Disk>(hub: &mut Hub<D>) -> bool
 /// Begins a commit, where a begin that finds no memory is made again.
 fn begin<D: Disk>(hub: &mut Hub<D>) -> Begun
     requires { IsQuiet (state_of hub.old) }
-    ensures { Begins D.DiskFacts hub.old result hub.new }
+    ensures { DeskBegins D.DiskFacts hub.old result hub.new }
 {
     for _ in 0..BEGIN_TRIES {
         match hub.begin() {

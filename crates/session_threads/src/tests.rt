@@ -32,7 +32,8 @@ impl Desk for Counter {
     }
 }
 
-/// Gives so many bytes at most at a time, is interrupted before each, and fails in place of an end if it is told to.
+/// Gives at most `most` bytes at a time, is interrupted before each, and fails in place of an end
+/// if it is told to.
 #[derive(Drop)]
 struct CutInput<'a> {
     rest: &'a [u8],
@@ -60,7 +61,7 @@ impl<'a> Read for CutInput<'a> {
     }
 }
 
-/// Takes so many bytes, a few at a time, and then fails.
+/// Takes `room` bytes, a few at a time, and then fails.
 #[derive(Drop)]
 struct Sink {
     taken: Vec<u8>,

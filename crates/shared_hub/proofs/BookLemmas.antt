@@ -10,7 +10,7 @@ use Rattle.op_model.specs.Replay.{Kept, edited, merged, settlement}
 use Rattle.op_model.specs.declared.op.Op.{Op}
 use Rattle.op_model.specs.Made.{made}
 use Rattle.op_model.specs.Held.{with_edit, with_merge}
-use Rattle.hub_parts.specs.Locked.{Held as LockedHeld}
+use Rattle.hub_parts.specs.Locked.{LockedHeld}
 use Rattle.pass_books.specs.Accounts.{PassHeld}
 use Rattle.shared_hub.specs.Books.{ends_of, BooksFit}
 

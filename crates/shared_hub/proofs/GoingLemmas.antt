@@ -5,14 +5,14 @@ use Rattle.std.specs.Prelude.{◌↔◌, ◌≤◌, [], ◌++◌, Result}
 use Rattle.disk_trait.specs.declared.facts.DiskFacts.{Ghosts}
 use Rattle.root_slots.specs.Root.{count_of}
 use Rattle.group_commit.specs.Begin.{is_idle}
-use Rattle.group_commit.specs.Held.{Held as StoreHeld}
+use Rattle.group_commit.specs.Held.{StoreHeld}
 use Rattle.group_commit.specs.declared.error.StoreError.{StoreError}
 use Rattle.group_commit.specs.declared.phase.Phase.{Phase}
 use Rattle.group_commit.specs.declared.phase.Phase.TheVariants.{Idle, Sync3}
 use Rattle.hub_parts.proofs.FlusherSteps.{Outcome, outcome_of}
 use Rattle.hub_parts.proofs.PhaseLemmas.{kind_of, not_idle}
-use Rattle.hub_parts.specs.Flusher.{IsFlusher, IsStoreStep, IsUnderWay, Held as FlusherHeld}
-use Rattle.hub_parts.specs.Locked.{Held as LockedHeld}
+use Rattle.hub_parts.specs.Flusher.{IsFlusher, IsStoreStep, IsUnderWay, FlusherHeld}
+use Rattle.hub_parts.specs.Locked.{LockedHeld}
 use Rattle.hub_parts.specs.Meeting.{Leaves, pending}
 use Rattle.hub_parts.specs.declared.met.Met.{Met}
 use Rattle.hub_parts.specs.declared.met.Met.TheVariants.{Begun, Settled, Nothing}

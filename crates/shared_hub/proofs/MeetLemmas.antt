@@ -3,8 +3,8 @@ use Rattle.std.proofs.Common.{◌≡◌, ◌≢◌, ℕ, Bool, true, false, refl
 use Rattle.std.specs.Prelude.{if◌then◌else◌, Result}
 use Rattle.disk_trait.specs.declared.facts.DiskFacts.{Ghosts}
 use Rattle.group_commit.specs.declared.error.StoreError.{StoreError}
-use Rattle.hub_parts.specs.Flusher.{Held as FlusherHeld}
-use Rattle.hub_parts.specs.Locked.{Held as LockedHeld}
+use Rattle.hub_parts.specs.Flusher.{FlusherHeld}
+use Rattle.hub_parts.specs.Locked.{LockedHeld}
 use Rattle.hub_parts.specs.Meeting.{Leaves}
 use Rattle.hub_parts.specs.declared.met.Met.{Met}
 use Rattle.hub_parts.specs.declared.met.Met.TheVariants.{Begun, Settled, Nothing}

@@ -40,7 +40,7 @@ one_more passes p n first is = rw (first, is, add-one n) refl
 pub none_left : {A : Type 0} (xs : List A) (n : ℕ) → n ≤ length xs → drop n xs ≡ [] → n ≡ length xs
 none_left xs n within none = omega (arith, within, ap length none, length-drop n xs)
 
--- there are so many of them
+-- there are n new passes
 pub length_new : (n : ℕ) → length (new_passes n) ≡ n
 length_new zero = refl
 length_new (suc n) = length-append (new_passes n) (record { number = n; entries = [] } ∷ []) ∙ ap (λ k. k + 1) (length_new n) ∙ add-one n

@@ -15,7 +15,7 @@ ends_of n (settlement m ∷ steps) = ends_of n steps
 abbrev pub BooksFit : List Kept → List (List ℕ) → Type 0
 BooksFit steps books = (n : ℕ) (entries : List ℕ) → slice_get books n ≡ Some entries → entries ≡ ends_of n steps
 
--- so many passes, numbered from 0 on, none of which has an entry
+-- n passes, numbered from 0 on, none of which has an entry
 abbrev pub new_passes : ℕ → List PassHeld
 new_passes zero = []
 new_passes (suc n) = new_passes n ++ record { number = n; entries = [] } ∷ []

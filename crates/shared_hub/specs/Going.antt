@@ -3,7 +3,7 @@ use Rattle.std.specs.Prelude.{◌≡◌, ◌↔◌, ◌≤◌, List, ◌++◌}
 use Rattle.disk_trait.specs.declared.facts.DiskFacts.{Ghosts}
 use Rattle.op_model.specs.declared.op.Op.{Op}
 use Rattle.root_slots.specs.Root.{count_of}
-use Rattle.hub_parts.specs.Flusher.{IsFlusher, Held as FlusherHeld}
+use Rattle.hub_parts.specs.Flusher.{IsFlusher, FlusherHeld}
 
 -- the longer list begins with the other one
 abbrev pub Extends : List Op → List Op → Type 0

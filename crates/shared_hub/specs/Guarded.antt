@@ -1,7 +1,7 @@
 -- What stands under the lock of a shared hub.
 use Rattle.std.specs.Prelude.{◌≡◌, ℕ, Bool, List, ◌∷◌, Result, Ok, Err}
 use Rattle.op_model.specs.Machine.{Ticket}
-use Rattle.hub_parts.specs.Locked.{IsLocked, Held as LockedHeld}
+use Rattle.hub_parts.specs.Locked.{IsLocked, LockedHeld}
 use Rattle.pass_books.specs.Accounts.{PassHeld}
 use Rattle.replica_core.specs.declared.merged.Merged.{Merged}
 use Rattle.replica_core.specs.declared.merged.Merged.TheVariants as merged_as
@@ -9,7 +9,7 @@ use Rattle.shared_hub.specs.Books.{ends_of}
 use Rattle.shared_hub.specs.declared.refusal.SharedRefusal.{SharedRefusal}
 
 -- the locked part, the entries of each book, and whether it was asked to stop
-pub record Held : Type 0 where
+pub record GuardedHeld : Type 0 where
   pub locked : LockedHeld
   pub books : List (List ℕ)
   pub stopping : Bool

@@ -3,8 +3,8 @@ use Rattle.std.specs.Prelude.{◌≡◌, Result}
 use Rattle.disk_trait.specs.declared.facts.DiskFacts.{Ghosts}
 use Rattle.group_commit.specs.declared.error.StoreError.{StoreError}
 use Rattle.op_model.specs.Machine.{Event, Answer, Step}
-use Rattle.hub_parts.specs.Locked.{IsLocked, state_of, Held as LockedHeld}
-use Rattle.hub_parts.specs.Flusher.{Held as FlusherHeld}
+use Rattle.hub_parts.specs.Locked.{IsLocked, state_of, LockedHeld}
+use Rattle.hub_parts.specs.Flusher.{FlusherHeld}
 use Rattle.hub_parts.specs.Meeting.{Meets}
 use Rattle.hub_parts.specs.declared.met.Met.{Met}
 use Rattle.pass_books.specs.Accounts.{PassHeld}

@@ -13,7 +13,7 @@ use std::rt::Clock;
 use std::sync::Wait;
 use std::time::{Duration, Instant};
 
-/// For so many milliseconds at most the flusher waits for the edits of those who are at work.
+/// How many milliseconds at most the flusher waits for the edits of those who are at work.
 const PATIENCE: u64 = 1;
 
 /// How a try at a commit ended.
@@ -30,7 +30,7 @@ enum Begun {
 /// to end or the device fails. It makes device calls with no lock held. It sleeps where nothing
 /// waits. Behind a commit it waits until as many edits have come as that had and as had come when
 /// it was settled, so that the next one serves all who are at work; but no longer than the commit
-/// took, nor than a millisecond, and not at all where the turns of so many edits take longer than
+/// took, nor than a millisecond, and not at all where the turns of as many edits take longer than
 /// the commit. When it has ended, whoever waits for a settlement is told that none comes.
 pub fn flush<R: Wait + Clock, D: Disk, J: Desks, G: Gate>(
     rt: &R,

@@ -23,9 +23,9 @@ pub struct Guarded<J: Desks> {
 
 impl<J: Desks> Model for Guarded<J> {
     ghost use Rattle.shared_hub.specs.Books.{BooksFit};
-    ghost use Rattle.shared_hub.specs.Guarded.{Held};
+    ghost use Rattle.shared_hub.specs.Guarded.{GuardedHeld};
 
-    ghost Value = { Held };
+    ghost Value = { GuardedHeld };
 
     ghost view = { λ g. record { locked = g.locked; books = g.books; stopping = g.is_stopping } };
 

@@ -65,7 +65,7 @@ impl<J: Desks> Guarded<J> {
         }
     }
 
-    /// The parity of the commit that begins so many behind the last one.
+    /// The parity of the commit that begins `later` commits behind the last one.
     pub(crate) fn parity(&self, later: u64) -> Parity {
         if self.turns.commits.wrapping_add(later) % 2 == 0 {
             Parity::Even

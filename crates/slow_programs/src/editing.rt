@@ -1,5 +1,6 @@
-ghost use Rattle.std.specs.Prelude.{◌≡◌, ◌≢◌, ◌↔◌, ◌+◌, ◌≤◌, ◌<◌, ◌^◌, ◌++◌, length, map};
+ghost use Rattle.std.specs.Prelude.{◌≡◌, ◌≢◌, ◌↔◌, ◌+◌, ◌≤◌, ◌<◌, ◌++◌, length, map};
 ghost use Rattle.std.specs.Prelude.{Some, None, true, false, IfOk, IfErr, IsErrOf, ℕ};
+ghost use Rattle.fixed_numbers.specs.declared.limits.TheConstants.{MAX_COUNTER};
 ghost use Rattle.op_model.specs.Text.{visible as visible_of, rev as rev_of};
 ghost use Rattle.op_model.specs.Causality.{is_within_limits as is_within_limits_of};
 ghost use Rattle.op_model.specs.Made.{is_at_rev as is_at_rev_of, is_inside as is_inside_of};
@@ -23,7 +24,7 @@ use op_model::{
 };
 use std::alloc::{AllocError, Global};
 
-/// Whether a change lies within a text of so many characters.
+/// Whether a change lies within a text of `count` characters.
 pub fn is_inside(count: usize, change: &Change) -> bool
     ensures { result ≡ is_inside_of count change.now }
 {
@@ -35,7 +36,7 @@ pub fn is_inside(count: usize, change: &Change) -> bool
     }
 }
 
-/// Where an insert behind so many visible characters hangs.
+/// Where an insert behind `at` visible characters hangs.
 fn origin(
     alloc: Global,
     ops: &[Op],
@@ -101,7 +102,7 @@ fn bodies(
     requires seen { seen.now ≡ visible_of ops.now edit.now.doc }
     requires inside { is_inside_of (length seen.now) edit.now.change ≡ true }
     requires counter { counter ≡ greatest_in ops.now + 1 }
-    requires in_range { counter + size_of edit.now.change ≤ 2 ^ 48 }
+    requires in_range { counter + size_of edit.now.change ≤ MAX_COUNTER + 1 }
     ensures { IfOk result (λ bodies. bodies.items
         ≡ bodies_in ops.now replica edit.now.doc edit.now.change) }
 {

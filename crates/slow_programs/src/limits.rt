@@ -46,7 +46,7 @@ fn is_in_range(op: &Op) -> bool
     op.id.counter() > 0 && op.doc > 0
 }
 
-/// Whether so many operations, and then those made, are at most 2^24.
+/// Whether `ops` operations, and then `made` more, are at most 2^24.
 fn has_operations(ops: usize, made: usize) -> bool
     ensures { result ≡ nat_le (ops + made) MAX_OPERATIONS }
 {
@@ -62,7 +62,7 @@ fn has_stream(ops: &[Op], made: &[Op]) -> bool
     }
 }
 
-/// What is left of so many bytes behind the records of the operations, or `None` where they don't
+/// What is left of `room` bytes behind the records of the operations, or `None` where they don't
 /// fit.
 fn room_behind(ops: &[Op], room: u64) -> Option<u64>
     ensures { MatchOption result (room < stream_length ops.now)

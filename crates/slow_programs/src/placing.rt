@@ -45,7 +45,7 @@ pub fn id_at(characters: &[Character], index: usize) -> Option<OpId>
     }
 }
 
-/// The id of the last of the first so many characters.
+/// The id of the last of the first `count` characters.
 pub fn id_before(characters: &[Character], count: usize) -> Option<OpId>
     ensures { result ≡ id_before_in characters.now count }
 {
@@ -55,7 +55,7 @@ pub fn id_before(characters: &[Character], count: usize) -> Option<OpId>
     id_at(characters, count - 1)
 }
 
-/// How many characters are up to and with so many visible ones: what stands behind them begins
+/// How many characters are up to and with `count` visible ones: what stands behind them begins
 /// there.
 pub fn behind(ops: &[Op], doc: u32, walked: &[Character], count: usize) -> usize
     ensures within { result ≤ length walked.now }

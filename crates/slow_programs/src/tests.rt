@@ -135,7 +135,7 @@ fn concurrent_inserts_skip_what_hangs_below_greater_ids(rt: HostRuntime) -> Resu
     Ok(())
 }
 
-/// So many characters.
+/// A string of `count` characters.
 fn long(alloc: Global, count: usize) -> Result<String, Fail> {
     let mut long = String::new(alloc);
     for _ in 0..count {

@@ -250,11 +250,11 @@ with_end p r id is_after same ms es are i =
     ∙ passes_or p (λ m. stops_at id is_after m.end) r same ms i
 
 -- with the edges before a cell it is reached
-pub reached : (a : Active) (cells : List Cell) (ms : List Marking) (es : List Edge) (k : ℕ) (c : Cell) → slice_get cells k ≡ Some c → AreEdges ms es
+pub has_reached : (a : Active) (cells : List Cell) (ms : List Marking) (es : List Edge) (k : ℕ) (c : Cell) → slice_get cells k ≡ Some c → AreEdges ms es
     → IsActive a (length ms) (with_edges false false (filter (λ e. is_same e.id c.id) es) (begun_at cells ms k k))
     (with_edges false true (filter (λ e. is_same e.id c.id) es) (ended_at cells ms k k))
     → IsActive a (length ms) (begun_at cells ms (k + 1) k) (ended_at cells ms (k + 1) k)
-reached a cells ms es k c there edges are =
+has_reached a cells ms es k c there edges are =
     active_same a (length ms) (with_edges false false (filter (λ e. is_same e.id c.id) es) (begun_at cells ms k k))
     (with_edges false true (filter (λ e. is_same e.id c.id) es) (ended_at cells ms k k)) (begun_at cells ms (k + 1) k) (ended_at cells ms (k + 1) k)
     (with_start (λ m. has_begun cells k k m.start) (λ m. has_begun cells (k + 1) k m.start) c.id false (λ m. begun_reached cells k c m.start there) ms es edges)

@@ -27,7 +27,7 @@ use Rattle.span_flatten.specs.Formatting.{marks_in}
 use Rattle.span_flatten.specs.Listing.{listed}
 use Rattle.span_flatten.specs.Runs.{cell_runs}
 
--- where the first so many cells were reached, and the first so many of them passed, a mark operation with this start has begun
+-- where a given number of first cells were reached, and a given number of these passed, a mark operation with this start has begun
 abbrev pub has_begun : List Cell → ℕ → ℕ → Start → Bool
 has_begun cells reached passed start.OfText = true
 has_begun cells reached passed (start.From (Before id)) = has_cell (take reached cells) id
@@ -65,7 +65,7 @@ picked ms set = filter_map (λ i. slice_get ms i) set
 abbrev pub is_from_start : Marking → Bool
 is_from_start m = has_begun [] 0 0 m.start
 
--- kept are which of so many mark operations have ended, and in rising order those that have begun and not ended
+-- kept are which of n mark operations have ended, and in rising order those that have begun and not ended
 pub record IsActive (a : Active) (n : ℕ) (begun ended : ℕ → Bool) : Type 0 where
   pub long : length a.ended.items ≡ n
   pub flags : (i : ℕ) → i < n → get_or a.ended.items i true ≡ ended i
@@ -114,7 +114,7 @@ IsLast marks (s ∷ t ∷ ss) = IsLast marks (t ∷ ss)
 abbrev pub IsFresh : List Run → Bool → List ℕ → List Marking → Type 0
 IsFresh runs is_changed set ms = is_changed ≡ false → IsLast (marks_in (picked ms set)) (map forward_span runs)
 
--- how many comment ids these runs list, and so many more
+-- how many comment ids these runs list, and a given number more
 abbrev pub listed_and : List Run → ℕ → ℕ
 listed_and runs left = listed (map forward_span runs) + left
 

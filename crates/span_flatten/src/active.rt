@@ -144,7 +144,7 @@ fn push_at<'a>(
     Ok(())
 }
 
-/// For so many mark operations that none has ended. An error is want of memory (1).
+/// For `count` mark operations that none has ended. An error is want of memory (1).
 fn not_ended(alloc: Global, count: usize) -> Result<Vec<bool>, AllocError>
     ensures { IfOk result (λ ended. (length ended.items ≡ count)
         × ((i : ℕ) → i < count → get_or ended.items i true ≡ false)) }

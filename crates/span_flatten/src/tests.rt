@@ -19,7 +19,7 @@ fn text(alloc: Global, expected: &str) -> Result<Text, Fail> {
     Ok(Text::from(characters))
 }
 
-/// The letter of the text with so many before it.
+/// The letter of the text with `k` before it.
 fn letter(k: usize) -> char {
     LETTERS[k % 7]
 }
@@ -104,7 +104,7 @@ fn tombstones_are_in_no_span(rt: HostRuntime) -> Result<(), Fail> {
     Ok(())
 }
 
-/// So many characters, each of which was typed at the end.
+/// A sequence of `count` characters, each of which was typed at the end.
 fn typed_at_the_end(alloc: Global, count: usize) -> Result<Sequence, Fail> {
     let mut sequence = Sequence::new(alloc);
     let mut last = None;
@@ -125,7 +125,7 @@ fn typed_at_the_start(alloc: Global, count: usize) -> Result<Sequence, Fail> {
     Ok(sequence)
 }
 
-/// Removes every third of so many characters.
+/// Removes every third of `count` characters.
 fn thin(sequence: &mut Sequence, count: usize) -> Result<(), Fail> {
     for k in 0..count / 3 {
         let id = sequence.visible(2 * k + 2).ok_or("no character")?;
@@ -134,14 +134,14 @@ fn thin(sequence: &mut Sequence, count: usize) -> Result<(), Fail> {
     Ok(())
 }
 
-/// The operation that adds strong to the first half of so many characters that a reader sees.
+/// The operation that adds strong to the first half of `count` characters that a reader sees.
 fn first_half(alloc: Global, sequence: &Sequence, count: usize) -> Result<Op, Fail> {
     let first = sequence.visible(0).ok_or("no character")?;
     let middle = sequence.visible(count / 2).ok_or("no character")?;
     strong(alloc, first, End::To(Anchor::Before(middle)))
 }
 
-/// The text of so many characters, every third of which is removed and half of the rest strong; its
+/// The text of `count` characters, every third of which is removed and half of the rest strong; its
 /// two spans are found by both programs.
 fn text_of_half_strong(alloc: Global, typed: Sequence, count: usize) -> Result<Text, Fail> {
     let mut sequence = typed;
@@ -154,7 +154,7 @@ fn text_of_half_strong(alloc: Global, typed: Sequence, count: usize) -> Result<T
     Ok(sequence.text()?)
 }
 
-/// Whether both ways of typing so many characters give one text.
+/// Whether both ways of typing `count` characters give one text.
 fn are_typed_alike(alloc: Global, count: usize) -> Result<bool, Fail> {
     let at_end = text_of_half_strong(alloc, typed_at_the_end(alloc, count)?, count)?;
     let at_start = text_of_half_strong(alloc, typed_at_the_start(alloc, count)?, count)?;

@@ -6,7 +6,7 @@ use Rattle.op_model.specs.Machine.{Commit, State}
 use Rattle.world_law.specs.World.{Message, IsInBag}
 use Rattle.world_law.proofs.Members.{IsInBag-more}
 
--- a commit has so many operations
+-- a commit has from low to high operations
 abbrev pub IsWithin : ℕ → ℕ → Option Commit → Type 0
 IsWithin low high None = Unit {0}
 IsWithin low high (Some c) = (low ≤ c.count) × (c.count ≤ high)

@@ -13,7 +13,7 @@ use Rattle.op_model.specs.declared.edit.Edit.{Edit}
 use Rattle.op_model.specs.Text.{rev, visible}
 use Rattle.op_model.specs.Causality.{clock_of, is_known, first_failed, is_within_limits, HasOp}
 use Rattle.op_model.specs.Made.{numbered, made, greatest_counter, bodies_of, edit_refusal, is_at_rev, is_inside, is_small}
-use Rattle.op_model.specs.Held.{Held, with_edit, with_merge}
+use Rattle.op_model.specs.Held.{ReplicaHeld, with_edit, with_merge}
 use Rattle.op_model.specs.Telling.{due, untold}
 use Rattle.op_model.specs.Machine.{Commit, State, Ticket, Event, edit, merge, begin, device_step}
 use Rattle.op_model.specs.Machine.{settle, ack, tell, have, Answer, ticket, applied, known, early}
@@ -48,7 +48,7 @@ within_more low high more None l h = tt
 within_more low high more (Some c) l h = (h.0, omega arith)
 
 -- where an edit is answered a ticket, nothing refuses it
-ticket_unless : (h : Held) (e : Edit) (t : Ticket) (r : Option ℕ) → edit_answer_unless h e r ≡ ticket t → r ≡ None
+ticket_unless : (h : ReplicaHeld) (e : Edit) (t : Ticket) (r : Option ℕ) → edit_answer_unless h e r ≡ ticket t → r ≡ None
 ticket_unless h e t None is = refl
 ticket_unless h e t (Some n) is = absurd (cc)
 
@@ -105,7 +105,7 @@ edit_goes bag s session e (refused n) next h (is, at) = goes_same bag s next h a
 edit_goes bag s session e _ next h k = absurd k
 
 -- where a merge is applied, the operation is ready, and no check fails
-applied_unless : (h : Held) (r : Option ℕ) → merge_answer_unless h r ≡ applied → r ≡ None
+applied_unless : (h : ReplicaHeld) (r : Option ℕ) → merge_answer_unless h r ≡ applied → r ≡ None
 applied_unless h None is = refl
 applied_unless h (Some n) is = absurd (cc)
 

@@ -6,7 +6,7 @@ ghost use Rattle.op_model.specs.Causality.{clock_of, first_failed};
 ghost use Rattle.op_model.specs.Causality.{HasOp, IsCausallyClosed, MayFollow};
 ghost use Rattle.world_law.specs.Counts.{own_count};
 
-/// The first so many operations of a causally closed list are one.
+/// The first `n` operations of a causally closed list are one.
 pub fn fronts_of_closed_lists_are_closed()
     ensures { (ops : List Op) (n : ℕ) → IsCausallyClosed ops → IsCausallyClosed (take n ops) }
 {}

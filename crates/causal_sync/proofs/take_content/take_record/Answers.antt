@@ -1,5 +1,5 @@
 use Rattle.std.proofs.Common.{rules, refl, inl, inr}
-use Rattle.change_codec.specs.Record.{Begins}
+use Rattle.change_codec.specs.Record.{BeginsWithOp}
 use Rattle.change_codec.proofs.RecordLaws.{begins_taken, partial_taken}
 use Rattle.causal_sync.specs.Reading.{record_at}
 use Rattle.causal_sync.proofs.TakenRecords.{refused}
@@ -8,7 +8,7 @@ use Rattle.causal_sync.proofs.take_content.take_record.Goals as goal
 pub returns-in-Ok-Some : goal.returns-in-Ok-Some
 unfolding record_at
 returns-in-Ok-Some c =
-    let begins : Begins c.args.bytes.now c.in-Ok-Some.op c.in-Ok-Some.len = search rules in
+    let begins : BeginsWithOp c.args.bytes.now c.in-Ok-Some.op c.in-Ok-Some.len = search rules in
     rw (begins_taken c.args.bytes.now c.in-Ok-Some.op c.in-Ok-Some.len begins, c.split_at.ensures.back) refl
 
 pub returns-in-Ok-None : goal.returns-in-Ok-None

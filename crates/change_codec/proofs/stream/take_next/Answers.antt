@@ -1,13 +1,13 @@
 use Rattle.std.proofs.Common.{◌≡◌, Ok, Err, rules, arith}
 use Rattle.change_codec.specs.declared.codec_error.CodecError.TheVariants.{Memory}
 use Rattle.change_codec.specs.declared.stream_error.StreamError.TheVariants.{Stream}
-use Rattle.change_codec.specs.Record.{Begins}
+use Rattle.change_codec.specs.Record.{BeginsWithOp}
 use Rattle.change_codec.proofs.StreamLaws.{begins_some, no_begin}
 use Rattle.change_codec.proofs.stream.take_next.Goals as goal
 
 pub returns-in-Ok-Some-clause-fewer : goal.returns-in-Ok-Some-clause-fewer
 returns-in-Ok-Some-clause-fewer c =
-    let begins : Begins c.args.bytes.now c.in-Ok-Some.op c.in-Ok-Some.len = search rules in
+    let begins : BeginsWithOp c.args.bytes.now c.in-Ok-Some.op c.in-Ok-Some.len = search rules in
     let some = begins_some c.args.bytes.now c.in-Ok-Some.op c.in-Ok-Some.len begins in
     omega (arith, c.split_at.ensures.back_len, some, c.requires)
 

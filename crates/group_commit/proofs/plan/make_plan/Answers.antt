@@ -4,7 +4,8 @@ use Rattle.std.proofs.lemmas.List.{take-append-drop}
 use Rattle.page_file.specs.Pages.{number_bytes}
 use Rattle.root_slots.specs.Root.{pages_for, tables_of}
 use Rattle.group_commit.specs.Saved.{with_stream}
-use Rattle.group_commit.specs.Plan.{filled, kept_of}
+use Rattle.group_commit.specs.Plan.{kept_of}
+use Rattle.group_commit.specs.Planning.{filled}
 use Rattle.group_commit.proofs.KeptLemmas.{Grows, grown}
 use Rattle.group_commit.proofs.PagingLemmas.{renews_by}
 use Rattle.group_commit.proofs.PlanLemmas.{plan_of, next_apart, Follows, drop_both}
@@ -15,7 +16,7 @@ use Rattle.group_commit.proofs.plan.make_plan.Goals as goal
 kept_tables : (kept p t : ℕ) → kept ≤ p → t ≡ pages_for 1024 p → kept / 1024 ≤ t
 kept_tables kept p t le is = omega (arith, le, is)
 
--- so many of the old ones and the new ones are all
+-- those of the old ones that are kept and the new ones are all
 put_count : (kept : ℕ) (olds news : List ℕ) (all : ℕ) → kept ≤ length olds → kept ≤ all → length news ≡ all - kept → length (take kept olds ++ news) ≡ all
 put_count kept olds news all within grows size = omega (arith, length-append (take kept olds) news, length-take kept olds, within, grows, size)
 

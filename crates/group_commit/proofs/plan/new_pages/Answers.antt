@@ -4,7 +4,7 @@ use Rattle.std.specs.declared.alloc.Global.{Global}
 use Rattle.std.proofs.lemmas.List.{take_all, length-replicate}
 use Rattle.page_file.specs.Pages.{number_bytes}
 use Rattle.page_file.proofs.NumberLemmas.{length-number_bytes}
-use Rattle.group_commit.specs.Plan.{filled}
+use Rattle.group_commit.specs.Planning.{filled}
 use Rattle.group_commit.proofs.plan.new_pages.Goals as goal
 
 counted : (v : Vec ℕ Global) → vec_len v ≡ length v.items

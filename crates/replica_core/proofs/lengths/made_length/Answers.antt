@@ -1,5 +1,5 @@
 use Rattle.std.proofs.Common.{◌≡◌, ◌∙◌, ◌<◌, true, length, refl, ap, arith}
-use Rattle.replica_core.specs.Docs.{number_of}
+use Rattle.replica_core.specs.Docs.{doc_number}
 use Rattle.op_ids.specs.Clock.{advanced, count_of, is_clock}
 use Rattle.op_model.specs.Causality.{clock_of}
 use Rattle.op_model.specs.Made.{bodies_of, is_inside, size_of}
@@ -20,7 +20,7 @@ returns c = λ ops stands number clock right.
     ] in
     let some : 0 < size_of c.args.edit.now.change = rw c.size.ensures.value at c.size.ensures.some in
     let all = stream_length-made ops c.args.replica c.args.edit.now c.if-get-eq0.later right some later in
-    let inside : is_inside (length (visible ops (number_of c.args.doc.now))) c.args.edit.now.change ≡ true = rw number right.inside in
+    let inside : is_inside (length (visible ops (doc_number c.args.doc.now))) c.args.edit.now.change ≡ true = rw number right.inside in
     let bodies = c.bodies_length.ensures.value ops c.args.replica stands inside
     ∙ ap (λ n. lengths (bodies_of ops c.args.replica n c.args.edit.now.change)) number in
     rw (all, ← c.size.ensures.value, ← first, c.heads_length.ensures.value, bodies) refl

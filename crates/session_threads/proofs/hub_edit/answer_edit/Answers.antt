@@ -1,4 +1,4 @@
-use Rattle.session_threads.proofs.ServeLemmas.{answered, answered_refusal}
+use Rattle.session_threads.proofs.ServeLemmas.{answered, answered_refusal, can_be_refused}
 use Rattle.session_threads.proofs.hub_edit.answer_edit.Goals as goal
 
 pub returns-in-Ok-clause-answer : goal.returns-in-Ok-clause-answer
@@ -8,3 +8,6 @@ returns-in-Ok-clause-answer g c =
 pub returns-in-Err-clause-answer : goal.returns-in-Err-clause-answer
 returns-in-Err-clause-answer g c =
     answered_refusal g.D.DiskFacts c.args.session _ _ c.args.edit.now c.refusal_of.result _ c.refusal_of.ensures c.in-Err.ensures.call
+
+pub refusal_of-requires : goal.refusal_of-requires
+refusal_of-requires g c = can_be_refused g.D.DiskFacts c.args.session _ _ c.args.edit.now _ c.in-Err.ensures.call

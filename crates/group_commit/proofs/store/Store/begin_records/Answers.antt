@@ -3,7 +3,7 @@ use Rattle.std.specs.Prelude.{ℕ, Vec, vec_len}
 use Rattle.std.specs.declared.alloc.Global.{Global}
 use Rattle.std.proofs.lemmas.Result.{err_from_is_err_and}
 use Rattle.root_slots.specs.Root.{stream_length_of}
-use Rattle.group_commit.specs.Held.{IsSound}
+use Rattle.group_commit.specs.Standing.{IsSound}
 use Rattle.group_commit.specs.Paging.{taken_in}
 use Rattle.group_commit.specs.Saved.{with_stream}
 use Rattle.group_commit.specs.declared.phase.Phase.TheVariants.{Idle, Pages}

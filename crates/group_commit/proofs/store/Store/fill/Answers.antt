@@ -4,13 +4,13 @@ use Rattle.disk_trait.specs.Calls.{Tears}
 use Rattle.disk_trait.specs.declared.facts.DiskFacts.{Ghosts}
 use Rattle.group_commit.specs.declared.phase.Phase.{Phase}
 use Rattle.group_commit.specs.declared.phase.Phase.TheVariants.{Idle, Body, Sync2}
-use Rattle.group_commit.specs.declared.error.StoreError.TheVariants.{WriteFailed}
 use Rattle.group_commit.proofs.store.Store.fill.Goals as goal
 use Rattle.group_commit.proofs.PagingLemmas.{paging_failed, paging_on}
 use Rattle.group_commit.proofs.Streams.{streams_on, busy_at}
 use Rattle.group_commit.proofs.Sound.{sound_body}
 use Rattle.group_commit.proofs.Doing.{slots_whole}
 use Rattle.group_commit.proofs.DeviceCall.{device_call}
+use Rattle.group_commit.specs.Step.{write_body}
 
 not_idle : (p : Phase) → p ≡ Body → p ≢ Idle
 not_idle p is idle = cc
@@ -55,7 +55,7 @@ returns-in-Err g c = record {
     made = tt;
     went_on = tt;
     failed = search rules;
-    call = device_call g.D.DiskFacts _ 1 1 0 WriteFailed _ _ _ _ c.self.inside.roots.slot c.self.inside.roots.slot _ _ c.self.view_is c.self.invariant.0
+    call = device_call g.D.DiskFacts _ write_body _ _ _ _ c.self.inside.roots.slot c.self.inside.roots.slot _ _ c.self.view_is c.self.invariant.0
         (invariant_of-self g c).0 c.in-Err.ensures.writes.tells (λ told. (c.in-Err.ensures.writes.writes told).call) (λ told. g.met.D.Disk.lawful c.self.inside.disk told) refl;
     does = rw (sym c.self.view_is) (λ told. record {
       size = (c.self.invariant.0.plan (not_idle _ (ap (λ h. h.phase) c.self.view_is ∙ c.requires.phase))).size;
@@ -74,7 +74,7 @@ returns g c = record {
     made = search rules;
     went_on = search rules;
     failed = tt;
-    call = device_call g.D.DiskFacts _ 0 1 0 WriteFailed _ _ _ _ c.self.inside.roots.slot c.self.inside.roots.slot _ _ c.self.view_is c.self.invariant.0
+    call = device_call g.D.DiskFacts _ write_body _ _ _ _ c.self.inside.roots.slot c.self.inside.roots.slot _ _ c.self.view_is c.self.invariant.0
         (invariant_of-self-in_default g c).0 c.in_default.ensures.writes.tells (λ told. (c.in_default.ensures.writes.writes told).call) (λ told. g.met.D.Disk.lawful c.self.inside.disk told) tt;
     does = rw (sym c.self.view_is) (λ told. record {
       size = (c.self.invariant.0.plan (not_idle _ (ap (λ h. h.phase) c.self.view_is ∙ c.requires.phase))).size;

@@ -1,11 +1,11 @@
 use Rattle.std.proofs.Common.{ap, sym, ◌≡◌, ◌≢◌, ◌<◌, ◌≤◌, ◌*◌, ◌+◌, ℕ, length, get_or, refl, arith, ◌∙◌}
-use Rattle.group_commit.specs.declared.error.StoreError.TheVariants.{WriteFailed}
 use Rattle.group_commit.proofs.store.Store.put.Goals as goal
 use Rattle.group_commit.proofs.Inside.{inside_page}
 use Rattle.group_commit.proofs.PagingLemmas.{paging_failed, paging_put, next_free, next_room}
 use Rattle.group_commit.proofs.Streams.{streams_on, busy_at, busy_behind}
 use Rattle.group_commit.proofs.Sound.{sound_page, sound_page_failed}
 use Rattle.group_commit.proofs.DeviceCall.{device_call}
+use Rattle.group_commit.specs.Step.{write_page}
 use Rattle.disk_trait.specs.File.{part, overwritten}
 use Rattle.std.specs.Prelude.{Vec, vec_len}
 use Rattle.std.proofs.Common.{rules}
@@ -75,7 +75,7 @@ returns-in-Err g c = record {
     made = tt;
     went_on = tt;
     failed = search rules;
-    call = device_call g.D.DiskFacts _ 1 1 0 WriteFailed _ _ _ _ c.self.inside.roots.slot c.self.inside.roots.slot _ _ c.self.view_is c.self.invariant.0
+    call = device_call g.D.DiskFacts _ (write_page c.args.k) _ _ _ _ c.self.inside.roots.slot c.self.inside.roots.slot _ _ c.self.view_is c.self.invariant.0
         (invariant_of-self g c).0 c.in-Err.ensures.writes.tells (λ told. (c.in-Err.ensures.writes.writes told).call) (λ told. g.met.D.Disk.lawful c.self.inside.disk told) c.in-Err.ensures.refused;
     does = rw (sym c.self.view_is) (λ told. record {
       page = part c.self.inside.fresh.items (4096 * c.args.k) 4096;
@@ -96,7 +96,7 @@ returns g c = record {
     made = search rules;
     went_on = search rules;
     failed = tt;
-    call = device_call g.D.DiskFacts _ 0 1 0 WriteFailed _ _ _ _ c.self.inside.roots.slot c.self.inside.roots.slot _ _ c.self.view_is c.self.invariant.0
+    call = device_call g.D.DiskFacts _ (write_page c.args.k) _ _ _ _ c.self.inside.roots.slot c.self.inside.roots.slot _ _ c.self.view_is c.self.invariant.0
         (invariant_of-self-2 g c).0 c.in_default.ensures.writes.tells (λ told. (c.in_default.ensures.writes.writes told).call) (λ told. g.met.D.Disk.lawful c.self.inside.disk told) tt;
     does = rw (sym c.self.view_is) (λ told. record {
       page = part c.self.inside.fresh.items (4096 * c.args.k) 4096;

@@ -1,5 +1,4 @@
 use Rattle.std.proofs.Common.{rules, ap, ◌∙◌, true, sym, refl}
-use Rattle.group_commit.specs.declared.error.StoreError.TheVariants.{WriteFailed}
 use Rattle.group_commit.proofs.store.Store.raise.Goals as goal
 use Rattle.group_commit.specs.declared.phase.Phase.TheVariants.{Gate, Sync3}
 use Rattle.group_commit.proofs.PagingLemmas.{paging_failed, paging_on}
@@ -7,6 +6,7 @@ use Rattle.group_commit.proofs.Streams.{streams_on, busy_at}
 use Rattle.group_commit.proofs.Sound.{sound_gate}
 use Rattle.group_commit.proofs.Doing.{slots_whole}
 use Rattle.group_commit.proofs.DeviceCall.{device_call}
+use Rattle.group_commit.specs.Step.{open_gate}
 
 pub open_gate-requires : goal.open_gate-requires
 open_gate-requires g c = record {
@@ -39,7 +39,7 @@ returns-in-Err g c = record {
     made = tt;
     went_on = tt;
     failed = search rules;
-    call = device_call g.D.DiskFacts _ 1 1 0 WriteFailed _ _ _ _ c.self.inside.roots.slot c.self.inside.roots.slot _ _ c.self.view_is c.self.invariant.0
+    call = device_call g.D.DiskFacts _ open_gate _ _ _ _ c.self.inside.roots.slot c.self.inside.roots.slot _ _ c.self.view_is c.self.invariant.0
         (invariant_of-self g c).0 c.in-Err.ensures.writes.tells (λ told. (c.in-Err.ensures.writes.writes told).call) (λ told. g.met.D.Disk.lawful c.self.inside.disk told) refl;
     does = rw (sym c.self.view_is) (λ told. record { torn = (c.in-Err.ensures.writes.writes told).torn; written = tt; call = (c.in-Err.ensures.writes.writes told).call });
   };
@@ -51,7 +51,7 @@ returns g c = record {
     made = search rules;
     went_on = search rules;
     failed = tt;
-    call = device_call g.D.DiskFacts _ 0 1 0 WriteFailed _ _ _ _ c.self.inside.roots.slot c.self.inside.roots.slot _ _ c.self.view_is c.self.invariant.0
+    call = device_call g.D.DiskFacts _ open_gate _ _ _ _ c.self.inside.roots.slot c.self.inside.roots.slot _ _ c.self.view_is c.self.invariant.0
         (invariant_of-self-in_default g c).0 c.in_default.ensures.writes.tells (λ told. (c.in_default.ensures.writes.writes told).call) (λ told. g.met.D.Disk.lawful c.self.inside.disk told) tt;
     does = rw (sym c.self.view_is) (λ told. record { torn = (c.in_default.ensures.writes.writes told).torn; written = (c.in_default.ensures.writes.writes told).written; call = (c.in_default.ensures.writes.writes told).call });
   };

@@ -1,5 +1,4 @@
 use Rattle.std.proofs.Common.{rules, refl, ◌≡◌, ap, ◌∙◌, sym}
-use Rattle.group_commit.specs.declared.error.StoreError.TheVariants.{SyncFailed}
 use Rattle.group_commit.proofs.store.Store.settle_gate.Goals as goal
 use Rattle.group_commit.specs.declared.phase.Phase.TheVariants.{Idle, Sync3}
 use Rattle.group_commit.specs.Paging.{taken_in}
@@ -7,6 +6,7 @@ use Rattle.group_commit.proofs.PagingLemmas.{paging_failed, paging_through}
 use Rattle.group_commit.proofs.Streams.{streams_through, busy_at}
 use Rattle.group_commit.proofs.Sound.{sound_sync3, sound_sync_failed}
 use Rattle.group_commit.proofs.DeviceCall.{device_call}
+use Rattle.group_commit.specs.Step.{sync}
 
 not_idle : Sync3 ≡ Idle → ⊥
 not_idle is = absurd cc
@@ -43,7 +43,7 @@ returns-in-Err g c = record {
     made = tt;
     went_on = tt;
     failed = search rules;
-    call = device_call g.D.DiskFacts _ 1 0 1 SyncFailed _ _ _ _ c.self.inside.roots.slot c.self.inside.roots.slot _ _ c.self.view_is c.self.invariant.0
+    call = device_call g.D.DiskFacts _ sync _ _ _ _ c.self.inside.roots.slot c.self.inside.roots.slot _ _ c.self.view_is c.self.invariant.0
         (invariant_of-self g c).0 (c.in-Err.ensures).tells (c.in-Err.ensures).call (λ told. g.met.D.Disk.lawful c.self.inside.disk told) (c.in-Err.ensures).refused;
     does = rw (sym c.self.view_is) (λ told. record { settled = tt; unsettled = c.in-Err.ensures.unsettled told });
   };
@@ -55,7 +55,7 @@ returns g c = record {
     made = search rules;
     went_on = search rules;
     failed = tt;
-    call = device_call g.D.DiskFacts _ 0 0 1 SyncFailed _ _ _ _ c.self.inside.roots.slot c.change_places.new.self.slot _ _ c.self.view_is c.self.invariant.0
+    call = device_call g.D.DiskFacts _ sync _ _ _ _ c.self.inside.roots.slot c.change_places.new.self.slot _ _ c.self.view_is c.self.invariant.0
         (invariant_of-self-2 g c).0 (c.in_default.ensures).tells (c.in_default.ensures).call (λ told. g.met.D.Disk.lawful c.self.inside.disk told) tt;
     does = rw (sym c.self.view_is) (λ told. record { settled = c.in_default.ensures.settled told; unsettled = tt });
   };

@@ -1,11 +1,11 @@
 use Rattle.std.proofs.Common.{rules, refl, ap, ◌∙◌, sym}
-use Rattle.group_commit.specs.declared.error.StoreError.TheVariants.{SyncFailed}
 use Rattle.group_commit.proofs.store.Store.settle_pages.Goals as goal
 use Rattle.group_commit.specs.declared.phase.Phase.TheVariants.{Sync1, Body}
 use Rattle.group_commit.proofs.PagingLemmas.{paging_failed, paging_on}
 use Rattle.group_commit.proofs.Streams.{streams_on, busy_at}
 use Rattle.group_commit.proofs.Sound.{sound_sync1, sound_sync_failed}
 use Rattle.group_commit.proofs.DeviceCall.{device_call}
+use Rattle.group_commit.specs.Step.{sync}
 
 pub invariant_of-self : goal.invariant_of-self
 invariant_of-self g c = (
@@ -30,7 +30,7 @@ returns-in-Err g c = record {
     made = tt;
     went_on = tt;
     failed = search rules;
-    call = device_call g.D.DiskFacts _ 1 0 1 SyncFailed _ _ _ _ c.self.inside.roots.slot c.self.inside.roots.slot _ _ c.self.view_is c.self.invariant.0
+    call = device_call g.D.DiskFacts _ sync _ _ _ _ c.self.inside.roots.slot c.self.inside.roots.slot _ _ c.self.view_is c.self.invariant.0
         (invariant_of-self g c).0 (c.in-Err.ensures).tells (c.in-Err.ensures).call (λ told. g.met.D.Disk.lawful c.self.inside.disk told) (c.in-Err.ensures).refused;
     does = rw (sym c.self.view_is) (λ told. record { settled = tt; unsettled = c.in-Err.ensures.unsettled told });
   };
@@ -42,7 +42,7 @@ returns g c = record {
     made = search rules;
     went_on = search rules;
     failed = tt;
-    call = device_call g.D.DiskFacts _ 0 0 1 SyncFailed _ _ _ _ c.self.inside.roots.slot c.self.inside.roots.slot _ _ c.self.view_is c.self.invariant.0
+    call = device_call g.D.DiskFacts _ sync _ _ _ _ c.self.inside.roots.slot c.self.inside.roots.slot _ _ c.self.view_is c.self.invariant.0
         (invariant_of-self-2 g c).0 (c.in_default.ensures).tells (c.in_default.ensures).call (λ told. g.met.D.Disk.lawful c.self.inside.disk told) tt;
     does = rw (sym c.self.view_is) (λ told. record { settled = c.in_default.ensures.settled told; unsettled = tt });
   };

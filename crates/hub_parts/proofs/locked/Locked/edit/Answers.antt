@@ -1,6 +1,6 @@
 use Rattle.std.proofs.Common.{sym, ◌∙◌}
 use Rattle.op_model.specs.Made.{made}
-use Rattle.hub_parts.specs.Locked.{Held as LockedHeld}
+use Rattle.hub_parts.specs.Locked.{LockedHeld}
 use Rattle.hub_parts.proofs.SharedCalls.{edit_refused}
 use Rattle.hub_parts.proofs.KeptParts.{keeps_edit}
 use Rattle.hub_parts.proofs.locked.Locked.edit.Goals.{in-Ok-put_edit, in-Err-put_edit}

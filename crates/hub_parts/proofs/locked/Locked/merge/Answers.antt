@@ -1,7 +1,7 @@
 use Rattle.std.proofs.Common.{◌≡◌, [], ◌∷◌, sym, ap, ◌∙◌, arith}
 use Rattle.op_model.specs.Records.{stream_length}
 use Rattle.replica_core.specs.Refusal.{number_of}
-use Rattle.hub_parts.specs.Locked.{Held as LockedHeld}
+use Rattle.hub_parts.specs.Locked.{LockedHeld}
 use Rattle.hub_parts.proofs.SharedCalls.{merge_known, merge_early, merge_refused, merge_full, merge_wanting, merge_applied}
 use Rattle.hub_parts.proofs.KeptParts.{keeps_merge}
 use Rattle.hub_parts.proofs.locked.Locked.merge.Goals.{in-Ok, in-Err-put_merge}

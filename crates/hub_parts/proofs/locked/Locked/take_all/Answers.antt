@@ -1,4 +1,4 @@
-use Rattle.hub_parts.specs.Locked.{Held as LockedHeld}
+use Rattle.hub_parts.specs.Locked.{LockedHeld}
 use Rattle.hub_parts.proofs.KeptParts.{keeps_taken}
 use Rattle.hub_parts.proofs.locked.Locked.take_all.Goals as goal
 

@@ -1,5 +1,5 @@
 use Rattle.std.proofs.Common.{inl, inr, rules}
-use Rattle.change_codec.specs.Record.{Begins}
+use Rattle.change_codec.specs.Record.{BeginsWithOp}
 use Rattle.op_list.proofs.FirstRecord.{first_of, is_at}
 use Rattle.op_list.proofs.op_slice.OpSlice.get.Goals as goal
 
@@ -29,7 +29,7 @@ returns-in-Ok-Some c =
     let first =
     first_of c.records_from.result.now c.args.self.now c.args.i c.requires
     c.records_from.ensures.fits c.records_from.ensures.spelled_so in
-    let begins : Begins c.records_from.result.now c.in-Ok-Some.op c.in-Ok-Some.field-0-0-1 =
+    let begins : BeginsWithOp c.records_from.result.now c.in-Ok-Some.op c.in-Ok-Some.field-0-0-1 =
     search rules in
     is_at c.records_from.result.now c.args.self.now c.args.i c.in-Ok-Some.field-0-0-1
     c.in-Ok-Some.op c.in-Ok-Some.op first begins

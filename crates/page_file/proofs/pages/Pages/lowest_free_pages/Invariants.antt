@@ -3,7 +3,7 @@ use Rattle.page_file.specs.Free.{AreLowest}
 use Rattle.page_file.specs.Index.{used, AreOthers}
 use Rattle.page_file.proofs.pages.Pages.lowest_free_pages.Given as goal
 
--- the ranges have all pages that are neither used nor found, and so many are found
+-- the ranges have all pages that are neither used nor found, and the counter tells how many are found
 abbrev pub invariant-loop : goal.invariant-loop
 invariant-loop l = record {
   others : AreOthers (l.found.items ++ used l.self) l.gaps.items;

@@ -2,7 +2,7 @@ use Rattle.std.proofs.Common.{◌≡◌, ◌∙◌, ap}
 use Rattle.std.proofs.lemmas.Result.{IfOk-weaker}
 use Rattle.op_model.specs.Spans.{spans}
 use Rattle.replica_core.specs.Docs.{AreDocs}
-use Rattle.op_model.specs.Held.{Held}
+use Rattle.op_model.specs.Held.{ReplicaHeld}
 use Rattle.replica_core.proofs.DocLemmas.{docs_up}
 use Rattle.replica_core.proofs.replica.Replica.spans.Goals as goal
 
@@ -11,7 +11,7 @@ find-requires-clause-rising c = rw c.deref.ensures.value (docs_up c.self.inside.
 
 pub returns-clause-spans : goal.returns-clause-spans
 returns-clause-spans c =
-    let list : c.self.inside.log.list ≡ c.args.self.now.list = ap (λ (h : Held). h.list) c.self.view_is in
+    let list : c.self.inside.log.list ≡ c.args.self.now.list = ap (λ (h : ReplicaHeld). h.list) c.self.view_is in
     let docs : AreDocs c.deref.result.now c.self.inside.log.list = rw c.deref.ensures.value c.self.invariant.docs in
     IfOk-weaker c.spans.result _ _ (λ found says.
     says c.self.inside.log.list (c.find.ensures.stands c.self.inside.log.list docs)

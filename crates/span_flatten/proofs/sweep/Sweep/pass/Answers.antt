@@ -2,7 +2,7 @@ use Rattle.std.proofs.Common.{◌≡◌, ◌+◌, map, length, ap, ◌∙◌}
 use Rattle.std.proofs.lemmas.Result.{on_ok_weaker}
 use Rattle.mark_anchors.specs.Keeping.{in_order}
 use Rattle.span_flatten.specs.Sweeping.{begun_at, ended_at, forward_span, picked, IsActive, IsFresh}
-use Rattle.span_flatten.proofs.PassLemmas.{passed, picked_covering, reached, runs_more}
+use Rattle.span_flatten.proofs.PassLemmas.{passed, picked_covering, has_reached, runs_more}
 use Rattle.span_flatten.proofs.sweep.Sweep.pass.Goals as goal
 
 pub returns : goal.returns
@@ -11,7 +11,7 @@ returns c =
     let ms = in_order c.args.anchors.now in
     let es = c.args.anchors.now.edges in
     let reached_it : IsActive c.take.new.self (length ms) (begun_at cells ms (k + 1) k) (ended_at cells ms (k + 1) k) =
-    reached c.take.new.self cells ms es k c.args.cell.now there c.are_edges.ensures
+    has_reached c.take.new.self cells ms es k c.args.cell.now there c.are_edges.ensures
     (rw c.edges_at-edges.ensures at (c.in_ok-take.ensures.active (length ms) (begun_at cells ms k k) (ended_at cells ms k k) swept.active)) in
     let fresh : IsFresh c.args.self.now.runs.items c.is_changed-self.result c.take.new.self.set.items c.in_order.result.now =
     λ e. rw (c.in_order.ensures, c.in_ok-take.ensures.none (c.is_changed-self.ensures e).1) (swept.fresh (c.is_changed-self.ensures e).0) in
