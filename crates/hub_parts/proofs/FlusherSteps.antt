@@ -1,5 +1,5 @@
 -- One device call, with what it makes of a flusher.
-use Rattle.std.proofs.Common.{◌≡◌, ◌≢◌, ℕ, Bool, true, false, List, refl, ap, ◌∙◌, arith, inl, inr, ◌⊎◌, Result, Ok, Err}
+use Rattle.std.proofs.Common.{◌≡◌, ◌≢◌, ℕ, Bool, true, false, List, refl, ap, ◌∙◌, inl, inr, ◌⊎◌, Result, Ok, Err}
 use Rattle.disk_trait.specs.declared.facts.DiskFacts.{Ghosts}
 use Rattle.op_model.specs.declared.op.Op.{Op}
 use Rattle.group_commit.specs.Begin.{is_idle}
@@ -107,12 +107,10 @@ flusher_through : {D : Type 0} (facts : Ghosts D) (s new : StoreHeld D) (list : 
     → GoesThrough facts s new → IsFlusher facts (record { store = new; list = list; due = due })
 flusher_through facts s new list due kept through =
     let way : IsUnderWay (record { store = s; list = list; due = due }) = rw through.was_busy at kept.commit in
-    let version = way.version in
     record {
       live = rw through.current way.front;
       commit = rw through.rest (record {
         all = rw through.current way.all;
-        version = λ is_due. rw through.current (omega (arith, version));
       });
       left = through.left;
     }

@@ -61,7 +61,7 @@ flusher_opened facts s replica ops list history idle left is =
         stream = sym history.spelled ∙ ap spelled_all (sym all);
         fits = rw all history.fits;
       };
-      commit = rw idle (record { all = count; version = λ never. absurd (cc) });
+      commit = rw idle (record { all = count });
       left = left;
     })
 

@@ -1,5 +1,5 @@
 -- The part of a hub that commits.
-use Rattle.std.specs.Prelude.{◌≡◌, ℕ, ◌+◌, ◌<◌, ◌≤◌, Bool, true, false, List, length, take}
+use Rattle.std.specs.Prelude.{◌≡◌, ℕ, ◌+◌, ◌≤◌, Bool, true, false, List, length, take}
 use Rattle.disk_trait.specs.declared.facts.DiskFacts.{Ghosts}
 use Rattle.op_model.specs.declared.op.Op.{Op}
 use Rattle.change_codec.specs.Stream.{spelled_all, AreOperations}
@@ -22,10 +22,9 @@ pub record HasFront (list : List Op) (root : Saved) : Type 0 where
   pub stream : root.stream ≡ spelled_all (take (count_of root.body) list)
   pub fits : AreOperations (take (count_of root.body) list)
 
--- between two commits the live root has the whole list; that of a commit which isn't settled is not the file's first one
+-- between two commits the live root has the whole list
 pub record IsAtRest {D : Type 0} (f : FlusherHeld D) : Type 0 where
   pub all : count_of f.store.current.body ≡ length f.list
-  pub version : f.due ≡ true → 0 < version_of f.store.current.body
 
 -- a commit is under way: the root that it makes follows the live one, and has the whole list
 pub record IsUnderWay {D : Type 0} (f : FlusherHeld D) : Type 0 where

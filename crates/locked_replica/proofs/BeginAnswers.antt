@@ -18,7 +18,7 @@ use Rattle.locked_replica.specs.Calls.{IsCall, Counts, StoreBegins}
 use Rattle.locked_replica.proofs.PartsOf.{parts}
 use Rattle.locked_replica.proofs.QuietCalls.{quiet_call, counts_same}
 use Rattle.locked_replica.proofs.RoomLemmas.{room_is_version, none_behind, behind_front}
-use Rattle.locked_replica.proofs.StateLemmas.{answer_due, begin_as_due, begin_step, due_begun, due_by, was_due, as_made, has_number, no_number}
+use Rattle.locked_replica.proofs.StateLemmas.{answer_due, begin_as_due, begin_step, due_begun, due_by, was_due, has_number, no_number}
 use Rattle.std.proofs.lemmas.Bool.{ltb-false}
 use Rattle.group_commit.proofs.BeginLemmas.{idle_is}
 use Rattle.locked_replica.proofs.BegunCommits.{counts_begun}
@@ -68,8 +68,7 @@ begin_made {D} {failure_told = failure_told} facts h s new answer lawful fits af
     new_state n is =
         let b = begins n is in
         let all = b.follows.count ∙ (due n is).2 in
-        let version = as_made (is_idle s.phase) h.settled (committed s) (version_of s.current.body) none in
-        rw (works, b.works, b.phase, b.current, all, version) refl
+        rw (works, b.works, b.phase, b.current, all) refl
 
     its_disk : (a : Result (Option ℕ) StoreError) → answer ≡ a → new.disk ≡ s.disk
     its_disk (Ok (Some n)) is = (begins n is).disk

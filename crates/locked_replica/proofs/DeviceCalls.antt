@@ -1,9 +1,9 @@
 -- One device call of a commit under way, with what it makes of a hub.
-use Rattle.std.proofs.Common.{Bool, ◌≡◌, ℕ, ◌-◌, true, false, List, refl, sym, ◌∙◌, arith, inl, inr, ◌⊎◌, Result}
+use Rattle.std.proofs.Common.{Bool, ◌≡◌, ℕ, ◌-◌, true, false, List, refl, sym, ◌∙◌, inl, inr, ◌⊎◌, Result}
 use Rattle.disk_trait.specs.Calls.{LeavesOnly}
 use Rattle.disk_trait.specs.declared.facts.DiskFacts.{Ghosts}
 use Rattle.op_model.specs.Machine.{Answer, device_step, goes_on, goes_through, refused, Step}
-use Rattle.root_slots.specs.Root.{version_of, count_of}
+use Rattle.root_slots.specs.Root.{count_of}
 use Rattle.op_model.specs.Held.{ReplicaHeld}
 use Rattle.group_commit.specs.Begin.{is_idle}
 use Rattle.group_commit.specs.Held.{StoreHeld}
@@ -80,8 +80,7 @@ pub call_goes_through : {D : Type 0} {failure_told : Bool} {T : Type 0} (facts :
 call_goes_through {failure_told = failure_told} facts h s new made result fits works busy call rest current works' after counts none goes =
     let way : IsUnderWay h s.current s.next = rw busy at fits.commit in
     let more = lt-ltb h.settled (count_of s.next.body) way.owed.more in
-    let before : version_of s.next.body - 1 ≡ version_of s.current.body = let after = way.version in omega (arith, after) in
-    device_call facts h s new made result goes_through fits busy call (rw (works, busy, works', rest, current, more, before) (refl, refl, refl)) refl none after counts goes
+    device_call facts h s new made result goes_through fits busy call (rw (works, busy, works', rest, current, more, way.version) (refl, refl, refl)) refl none after counts goes
 
 -- the device failed
 pub call_fails : {D : Type 0} {failure_told : Bool} {T : Type 0} (facts : Ghosts D) (h : ReplicaHeld) (s new : StoreHeld D) (made : Call) (result : Result T StoreError)

@@ -29,7 +29,6 @@ pub record IsUnderWay (h : ReplicaHeld) (current next : Saved) : Type 0 where
 -- no commit is under way: the live root's operations are settled, or those of a commit that is through and can be settled
 pub record IsAtRest (h : ReplicaHeld) (current : Saved) : Type 0 where
   pub settled : h.settled ≤ count_of current.body
-  pub version : h.settled < count_of current.body → 0 < version_of current.body
   pub through : h.settled < count_of current.body → CanSettle h (count_of current.body)
   pub places : h.settled ≡ count_of current.body → due_behind h h.settled ≤ places_left h.steps
 

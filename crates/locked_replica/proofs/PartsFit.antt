@@ -1,7 +1,7 @@
 -- Two parts that fit are a hub.
 use Rattle.std.proofs.Common.{◌≡◌, ℕ, Bool, true, false, nat_lt, length, take, refl, sym, ap, ◌∙◌, arith, Some, None}
 use Rattle.std.specs.Prelude.{if◌then◌else◌}
-use Rattle.std.proofs.lemmas.Bool.{lt-ltb, ltb-true, ltb-false}
+use Rattle.std.proofs.lemmas.Bool.{ltb-true, ltb-false}
 use Rattle.std.proofs.lemmas.List.{length-take-le, take-take}
 use Rattle.disk_trait.specs.declared.facts.DiskFacts.{Ghosts}
 use Rattle.op_model.specs.Machine.{taken_in}
@@ -46,7 +46,6 @@ module _ {D : Type 0} (facts : Ghosts D) (l : LockedHeld) (f : FlusherHeld D) (l
       let settled = locked.keeps.settled in
       record {
         settled = omega (arith, all, settled);
-        version = λ less. rest.version (meet.both ∙ lt-ltb l.replica.settled l.begun (omega (arith, all, less)));
         through = λ less. rw all (locked.keeps.commit (omega (arith, all, less)));
         places = λ same. rw (same ∙ all) (locked.keeps.places (same ∙ all));
       }

@@ -1,9 +1,8 @@
 -- What a crash leaves of a hub, by what the hub keeps.
-use Rattle.std.proofs.Common.{◌≡◌, ℕ, ◌+◌, ◌-◌, ◌<◌, ◌≤◌, Bool, true, false, nat_lt, List, length}
+use Rattle.std.proofs.Common.{◌≡◌, ℕ, ◌+◌, ◌-◌, ◌≤◌, Bool, true, false, nat_lt, List, length}
 use Rattle.std.proofs.Common.{take, drop, refl, sym, ap, ◌∙◌, arith, inl, inr, Ok, Option, Some}
 use Rattle.std.proofs.Common.{None}
 use Rattle.std.specs.Prelude.{if◌then◌else◌}
-use Rattle.std.proofs.lemmas.Bool.{ltb-true}
 use Rattle.std.proofs.lemmas.Bool.Decides.{nat_tests}
 use Rattle.std.proofs.lemmas.List.{take-append-drop, length-take-le}
 use Rattle.disk_trait.specs.declared.facts.DiskFacts.{Ghosts}
@@ -19,7 +18,7 @@ use Rattle.group_commit.specs.Commit.{Is, IsLeft}
 use Rattle.group_commit.specs.Saved.{Saved}
 use Rattle.group_commit.specs.declared.phase.Phase.{Phase}
 use Rattle.group_commit.specs.declared.phase.Phase.TheVariants.{Idle, Pages, Close, Sync1, Body, Sync2, Gate, Sync3}
-use Rattle.locked_replica.specs.Hub.{Parts, commit_in, version_in, commit_of, version_at}
+use Rattle.locked_replica.specs.Hub.{Parts, commit_in, commit_of}
 use Rattle.locked_replica.proofs.Fits.{Fits, IsFront, IsUnderWay, CommitFits}
 use Rattle.locked_replica.specs.Recovery.{HasFront, is_gated, RecoversWith, RecoversIn, Recovers, IsCrash, HasAtLeast}
 use Rattle.locked_replica.specs.Calls.{IsLeftOf}
@@ -43,17 +42,13 @@ image_of h root file sound front is =
     }
 
 -- at rest the live root's operations are settled, or those of a commit that is through
-recovers_at_rest : (gated : Bool) (h : ReplicaHeld) (live version next : ℕ) (file : List ℕ) → h.settled ≤ live → (h.settled < live → 0 < version)
-    → HasFront h version live file
-    → RecoversIn gated h (version_in true h.settled live version) (commit_in true h.settled live next) file
-recovers_at_rest gated h live version next file settled above image = by_test (nat_lt h.settled live) refl
+recovers_at_rest : (gated : Bool) (h : ReplicaHeld) (live version next : ℕ) (file : List ℕ) → h.settled ≤ live → HasFront h version live file
+    → RecoversIn gated h version (commit_in true h.settled live next) file
+recovers_at_rest gated h live version next file settled image = by_test (nat_lt h.settled live) refl
   where
     by_test : (t : Bool) → nat_lt h.settled live ≡ t
-        → RecoversIn gated h (if t then version - 1 else version) (if t then Some (record { count = live; through = true }) else None) file
-    by_test true is =
-        let some = above (ltb-true _ _ is) in
-        let same : (version - 1) + 1 ≡ version = omega arith in
-        rw same image
+        → RecoversIn gated h version (if t then Some (record { count = live; through = true }) else None) file
+    by_test true is = image
     by_test false is =
         let same : h.settled ≡ live = grind (arith, nat_tests) in
         rw same image
@@ -73,7 +68,7 @@ recovers_next h current next file commit image = inr (rw (sym commit.version) im
 -- what is left has the image of the live root, or in the last phase of the next one
 pub recovers : (phase : Phase) (h : ReplicaHeld) (current next : Saved) (file : List ℕ) → IsSound h → IsFront h current → CommitFits (is_idle phase) h current next
     → IsLeft phase current next file
-    → RecoversIn (is_gated phase) h (version_in (is_idle phase) h.settled (count_of current.body) (version_of current.body))
+    → RecoversIn (is_gated phase) h (version_of current.body)
     (commit_in (is_idle phase) h.settled (count_of current.body) (count_of next.body)) file
 recovers phase h current next file sound live commit left = by_phase phase commit left
   where
@@ -82,12 +77,12 @@ recovers phase h current next file sound live commit left = by_phase phase commi
     settled gated commit is = recovers_settled gated h current next file commit (image_of h current file sound live is)
 
     by_phase : (phase : Phase) → CommitFits (is_idle phase) h current next → IsLeft phase current next file
-        → RecoversIn (is_gated phase) h (version_in (is_idle phase) h.settled (count_of current.body) (version_of current.body))
+        → RecoversIn (is_gated phase) h (version_of current.body)
         (commit_in (is_idle phase) h.settled (count_of current.body) (count_of next.body)) file
     by_phase Sync3 commit (inl is) = settled true commit is
     by_phase Sync3 commit (inr is) = recovers_next h current next file commit (image_of h next file sound commit.front is)
     by_phase Idle commit is =
-        recovers_at_rest false h (count_of current.body) (version_of current.body) (count_of next.body) file commit.settled commit.version
+        recovers_at_rest false h (count_of current.body) (version_of current.body) (count_of next.body) file commit.settled
         (image_of h current file sound live is)
     by_phase (Pages k) commit is = settled false commit is
     by_phase Close commit is = settled false commit is
@@ -122,7 +117,7 @@ at_least gated h version None file settled within image =
 at_least gated h version (Some c) file settled within image = by_kind c.through gated image
   where
     by_kind : (through gated : Bool) → RecoversWith through gated h version c.count file → HasAtLeast h.settled h file
-    by_kind true gated image = record { version = version + 1; count = c.count; enough = within.0; within = within.1; image = image }
+    by_kind true gated image = record { version = version; count = c.count; enough = within.0; within = within.1; image = image }
     by_kind false true (inl image) = record { version = version; count = h.settled; enough = omega arith; within = settled; image = image }
     by_kind false true (inr image) = record { version = version + 1; count = c.count; enough = within.0; within = within.1; image = image }
     by_kind false false image = record { version = version; count = h.settled; enough = omega arith; within = settled; image = image }
@@ -135,7 +130,7 @@ survivor_has facts hub file fits told survives =
 
 recovered_has : {D : Type 0} (facts : Ghosts D) (hub : Parts D) (file : List ℕ) → Fits facts hub → Recovers hub file → HasAtLeast hub.replica.settled hub.replica file
 recovered_has facts hub file fits recovered =
-    at_least (is_gated hub.store.phase) hub.replica (version_at hub.replica hub.store) (commit_of hub.replica hub.store) file
+    at_least (is_gated hub.store.phase) hub.replica (version_of hub.store.current.body) (commit_of hub.replica hub.store) file
     (settled_within (is_idle hub.store.phase) hub.replica hub.store.current hub.store.next fits.live fits.commit)
     (commit_within (is_idle hub.store.phase) hub.replica hub.store.current hub.store.next fits.live fits.commit) recovered
 
@@ -163,14 +158,14 @@ opened_from gated h failed failure_told version (Some c) file image = by_kind c.
     by_kind : (through gated : Bool) → RecoversWith through gated h version c.count file
         → (v n : ℕ) × HasFront h v n file
         × CrashLeavesOf (state_at h failed failure_told version (Some c)) (record { count = c.count; through = through }) (opened h.replica (take n h.list) v)
-    by_kind true gated image = (version + 1, c.count, image, refl)
+    by_kind true gated image = (version, c.count, image, refl)
     by_kind false true (inl image) = (version, h.settled, image, inl refl)
     by_kind false true (inr image) = (version + 1, c.count, image, inr refl)
     by_kind false false image = (version, h.settled, image, inl refl)
 
 crash_recovered : {D : Type 0} (hub : Parts D) (file : List ℕ) → Recovers hub file → IsCrash hub file
 crash_recovered hub file recovered =
-    let from = opened_from (is_gated hub.store.phase) hub.replica hub.store.failed hub.failure_told (version_at hub.replica hub.store)
+    let from = opened_from (is_gated hub.store.phase) hub.replica hub.store.failed hub.failure_told (version_of hub.store.current.body)
     (commit_of hub.replica hub.store) file recovered in
     record { version = from.0; count = from.1; image = from.2; leaves = from.3 }
 

@@ -1,14 +1,14 @@
 -- Settlements of a commit that is through.
-use Rattle.std.proofs.Common.{◌≡◌, ℕ, ◌+◌, ◌-◌, ◌<◌, Bool, true, false, ◌&&◌, nat_lt, refl, ap, arith, None}
+use Rattle.std.proofs.Common.{◌≡◌, ◌-◌, ◌<◌, Bool, true, false, ◌&&◌, nat_lt, refl, arith}
 use Rattle.disk_trait.specs.Calls.{IsLawful}
 use Rattle.disk_trait.specs.declared.facts.DiskFacts.{Ghosts}
-use Rattle.op_model.specs.Machine.{State, settle, refused, settled_to, Step}
-use Rattle.root_slots.specs.Root.{version_of, count_of}
+use Rattle.op_model.specs.Machine.{settle, refused, settled_to, Step}
+use Rattle.root_slots.specs.Root.{count_of}
 use Rattle.op_model.specs.Held.{ReplicaHeld, with_settled}
 use Rattle.group_commit.specs.Begin.{is_idle}
 use Rattle.group_commit.specs.Held.{StoreHeld}
 use Rattle.locked_replica.specs.Hub.{committed, state_of}
-use Rattle.locked_replica.proofs.Fits.{Fits, fits_told, IsAtRest}
+use Rattle.locked_replica.proofs.Fits.{Fits, fits_told}
 use Rattle.locked_replica.specs.Calls.{IsCall}
 use Rattle.locked_replica.proofs.PartsOf.{parts}
 use Rattle.locked_replica.proofs.QuietCalls.{quiet_call, quiet_same, counts_same}
@@ -24,27 +24,10 @@ settle_made {failure_told = failure_told} facts h s lawful fits after works idle
     quiet_call facts settle (settled_to (committed s)) (parts h s failure_told) (parts (with_settled h (committed s)) s failure_told) refl lawful
     after step (omega (arith, less)) refl (counts_same facts _ s refl refl) refl
   where
-    rest : IsAtRest h s.current
-    rest = rw idle at fits.commit
-
-    -- the version that the settlement counts
-    version : version_of s.current.body ≡ version_of s.current.body - 1 + 1
-    version = let some = rest.version less in omega (arith, some)
-
-    -- the state behind it, in a version
-    settled_in : ℕ → State
-    settled_in v = record {
-      held = with_settled h (committed s);
-      version = v;
-      failed = false;
-      failure_told = failure_told;
-      commit = None;
-    }
-
     step : Step (state_of (parts h s failure_told)) settle (settled_to (committed s)) (state_of (parts (with_settled h (committed s)) s failure_told))
     step =
         rw (works, idle, lt-ltb h.settled (committed s) less, le-ltb (committed s) (committed s) (omega arith))
-        (refl, ap (λ v. settled_in v) version)
+        (refl, refl)
 
 pub settle_failed : {D : Type 0} {failure_told : Bool} (facts : Ghosts D) (h : ReplicaHeld) (s : StoreHeld D) → (facts.tells s.disk → IsLawful facts s.disk)
     → Fits facts (parts h s failure_told) → s.failed ≡ true → IsCall facts settle (refused 44) (parts h s failure_told) (parts h s true)

@@ -19,8 +19,9 @@ use Rattle.hub_parts.specs.Locked.{IsLocked, LockedHeld}
 use Rattle.hub_parts.specs.Locked.{commit_of as locked_commit, state_of as locked_state}
 use Rattle.hub_parts.specs.Flusher.{IsFlusher, FlusherHeld}
 use Rattle.hub_parts.specs.Meet.{Meet, side_of}
+use Rattle.root_slots.specs.Root.{version_of}
 use Rattle.locked_replica.specs.Calls.{IsCall}
-use Rattle.locked_replica.specs.Hub.{commit_of, state_of, version_at}
+use Rattle.locked_replica.specs.Hub.{commit_of, state_of}
 use Rattle.locked_replica.proofs.PartsFit.{hub_fits, hub_of, locked_taken, taken_begun}
 use Rattle.locked_replica.proofs.QuietCalls.{quiet_call, counts_same}
 
@@ -60,11 +61,11 @@ module _ {D : Type 0} (facts : Ghosts D) (l : LockedHeld) (f : FlusherHeld D) (l
   -- so the answers to an edit and to a merge are the locked part's
   edit_due : (e : Edit) → edit_answer (state_of (hub_of l f)) e ≡ edit_answer (locked_state l) e
   edit_due e =
-      same_edit l.replica l.failure_told f.store.failed false (version_at l.replica f.store) 0 (commit_of l.replica f.store) (locked_commit l) e taken
+      same_edit l.replica l.failure_told f.store.failed false (version_of f.store.current.body) 0 (commit_of l.replica f.store) (locked_commit l) e taken
 
   merge_due : (op : Op) → merge_answer (state_of (hub_of l f)) op ≡ merge_answer (locked_state l) op
   merge_due op =
-      same_merge l.replica l.failure_told f.store.failed false (version_at l.replica f.store) 0 (commit_of l.replica f.store) (locked_commit l) op taken
+      same_merge l.replica l.failure_told f.store.failed false (version_of f.store.current.body) 0 (commit_of l.replica f.store) (locked_commit l) op taken
 
   -- an edit that is answered with a ticket
   pub call_edit : (session : ℕ) (e : Edit) (t : Ticket) (next : LockedHeld) → IsLocked next → Meet next (side_of f)

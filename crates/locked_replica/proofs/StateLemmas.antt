@@ -10,14 +10,14 @@ use Rattle.group_commit.specs.Begin.{is_none, has_room, IsAnswer}
 use Rattle.group_commit.specs.Errors.{number_of}
 use Rattle.group_commit.specs.declared.error.StoreError.{StoreError}
 use Rattle.group_commit.specs.declared.error.StoreError.TheVariants.{Memory, Limit, Busy}
-use Rattle.locked_replica.specs.Hub.{commit_in, version_in}
+use Rattle.locked_replica.specs.Hub.{commit_in}
 use Rattle.locked_replica.specs.Steps.{begun_of}
 
 -- the state with these tests and numbers
 abbrev pub state_with : ReplicaHeld → Bool → Bool → Bool → ℕ → ℕ → ℕ → State
 state_with h failed failure_told idle live next version = record {
   held = h;
-  version = version_in idle h.settled live version;
+  version = version;
   failed = failed;
   failure_told = failure_told;
   commit = commit_in idle h.settled live next;
@@ -65,10 +65,6 @@ is_busy : (idle : Bool) (settled live next : ℕ) → (idle && nat_lt settled li
 is_busy false settled live next resting = refl
 is_busy true settled live next resting = rw resting refl
 
-pub as_made : (idle : Bool) (settled live version : ℕ) → (idle && nat_lt settled live) ≡ false → version_in idle settled live version ≡ version
-as_made false settled live version resting = refl
-as_made true settled live version resting = rw resting refl
-
 last_version : (version most : ℕ) → nat_le most version ≡ not (nat_lt version most)
 last_version version most = grind (arith, nat_tests)
 
@@ -81,7 +77,7 @@ pub begin_as_due : (h : ReplicaHeld) (failure_told idle none room : Bool) (live 
     → nat_le (length h.list) h.settled ≡ none → (idle ≡ true → room ≡ nat_lt version 18446744073709551615) → (idle ≡ true → n ≡ length h.list)
     → begin_answer (state_with h false failure_told idle live next version) ≡ answer_due (due_by idle none room n)
 begin_as_due h failure_told idle none room live next version n resting is_none has_room is_all =
-    rw (is_busy idle h.settled live next resting, as_made idle h.settled live version resting, is_none, last_version version 18446744073709551615) (by_idle idle has_room is_all)
+    rw (is_busy idle h.settled live next resting, is_none, last_version version 18446744073709551615) (by_idle idle has_room is_all)
   where
     by_idle : (idle : Bool) → (idle ≡ true → room ≡ nat_lt version 18446744073709551615) → (idle ≡ true → n ≡ length h.list)
         → begin_by (not idle) none (not (nat_lt version 18446744073709551615)) (length h.list) ≡ answer_due (due_by idle none room n)

@@ -1,5 +1,5 @@
 -- A hub as contracts see it, and the state of the machine that it is in.
-use Rattle.std.specs.Prelude.{ℕ, ◌-◌, Bool, true, false, ◌&&◌, nat_lt, Option, Some, None, if◌then◌else◌}
+use Rattle.std.specs.Prelude.{ℕ, Bool, true, false, ◌&&◌, nat_lt, Option, Some, None, if◌then◌else◌}
 use Rattle.root_slots.specs.Root.{version_of, count_of}
 use Rattle.op_model.specs.Machine.{Commit, State}
 use Rattle.op_model.specs.Held.{ReplicaHeld}
@@ -22,11 +22,6 @@ abbrev pub commit_in : Bool → ℕ → ℕ → ℕ → Option Commit
 commit_in false settled live next = Some (record { count = next; through = false })
 commit_in true settled live next = if nat_lt settled live then Some (record { count = live; through = true }) else None
 
--- the version of the live root, counted from the settlement of a commit that is through
-abbrev pub version_in : Bool → ℕ → ℕ → ℕ → ℕ
-version_in false settled live version = version
-version_in true settled live version = if nat_lt settled live then version - 1 else version
-
 -- the device calls of a commit are all made, and it isn't settled
 abbrev pub is_through : {D : Type 0} → Parts D → Bool
 is_through hub = is_idle hub.store.phase && nat_lt hub.replica.settled (committed hub.store)
@@ -35,14 +30,11 @@ is_through hub = is_idle hub.store.phase && nat_lt hub.replica.settled (committe
 abbrev pub commit_of : {D : Type 0} → ReplicaHeld → StoreHeld D → Option Commit
 commit_of replica store = commit_in (is_idle store.phase) replica.settled (committed store) (count_of store.next.body)
 
-abbrev pub version_at : {D : Type 0} → ReplicaHeld → StoreHeld D → ℕ
-version_at replica store = version_in (is_idle store.phase) replica.settled (committed store) (version_of store.current.body)
-
 -- the machine's state
 abbrev pub state_of : {D : Type 0} → Parts D → State
 state_of hub = record {
   held = hub.replica;
-  version = version_at hub.replica hub.store;
+  version = version_of hub.store.current.body;
   failed = hub.store.failed;
   failure_told = hub.failure_told;
   commit = commit_of hub.replica hub.store;

@@ -2,10 +2,11 @@
 use Rattle.std.specs.Prelude.{◌⊎◌, ℕ, ◌+◌, ◌≤◌, Bool, true, false, List, length, take, Option, Some, None}
 use Rattle.op_model.specs.Machine.{Commit, CrashLeaves, opened}
 use Rattle.op_model.specs.Held.{ReplicaHeld}
+use Rattle.root_slots.specs.Root.{version_of}
 use Rattle.recovery.specs.Image.{IsImage}
 use Rattle.group_commit.specs.declared.phase.Phase.{Phase}
 use Rattle.group_commit.specs.declared.phase.Phase.TheVariants.{Sync3}
-use Rattle.locked_replica.specs.Hub.{Parts, commit_of, version_at, state_of}
+use Rattle.locked_replica.specs.Hub.{Parts, commit_of, state_of}
 
 -- the file's image is the first count operations of the list, in this version
 abbrev pub HasFront : ReplicaHeld → ℕ → ℕ → List ℕ → Type 0
@@ -19,7 +20,7 @@ is_gated phase = false
 -- With a commit of count operations, through or not, and gated or not: one that is through is what the image has; one that isn't
 -- leaves the settled list, or where its gate is written either one.
 abbrev pub RecoversWith : Bool → Bool → ReplicaHeld → ℕ → ℕ → List ℕ → Type 0
-RecoversWith true gated h version count file = HasFront h (version + 1) count file
+RecoversWith true gated h version count file = HasFront h version count file
 RecoversWith false true h version count file = HasFront h version h.settled file ⊎ HasFront h (version + 1) count file
 RecoversWith false false h version count file = HasFront h version h.settled file
 
@@ -31,7 +32,7 @@ RecoversIn gated h version (Some c) file = RecoversWith c.through gated h versio
 -- The image of a file that a crash leaves of a hub: the settled list, or that of the commit.
 abbrev pub Recovers : {D : Type 0} → Parts D → List ℕ → Type 0
 Recovers hub file =
-    RecoversIn (is_gated hub.store.phase) hub.replica (version_at hub.replica hub.store) (commit_of hub.replica hub.store) file
+    RecoversIn (is_gated hub.store.phase) hub.replica (version_of hub.store.current.body) (commit_of hub.replica hub.store) file
 
 -- what is opened from the file is what the machine's crash leaves
 pub record IsCrash {D : Type 0} (hub : Parts D) (file : List ℕ) : Type 0 where

@@ -156,6 +156,10 @@ abbrev pub through : Option Commit → Option Commit
 through None = None
 through (Some c) = Some (record c { through = true })
 
+-- the state with its commit through, whose root is live now
+abbrev pub with_through : State → State
+with_through s = record s { version = s.version + 1; commit = through s.commit }
+
 -- this number may be answered where that answer is due: the refusal's own, or 1, want of memory, in place of a success that grows
 -- something
 abbrev pub IsRefusal : ℕ → Answer → Type 0
@@ -192,8 +196,7 @@ BeginStep s _ next = ⊥
 abbrev pub DeviceStep : State → Answer → State → Type 0
 DeviceStep s idle next = (s.failed ≡ false) × (is_under_way s.commit ≡ false) × (next ≡ s)
 DeviceStep s goes_on next = (s.failed ≡ false) × (is_under_way s.commit ≡ true) × (next ≡ s)
-DeviceStep s goes_through next =
-    (s.failed ≡ false) × (is_under_way s.commit ≡ true) × (next ≡ record s { commit = through s.commit })
+DeviceStep s goes_through next = (s.failed ≡ false) × (is_under_way s.commit ≡ true) × (next ≡ with_through s)
 DeviceStep s (refused n) next =
     ((s.failed ≡ true) × (n ≡ STORE_FAILED) × (next ≡ s))
     ⊎ ((s.failed ≡ false) × (is_under_way s.commit ≡ true) × ((n ≡ WRITE_FAILED) ⊎ (n ≡ SYNC_FAILED))
@@ -202,7 +205,7 @@ DeviceStep s _ next = ⊥
 
 -- the state after the settlement of a commit that is through
 abbrev pub with_settlement : State → ℕ → State
-with_settlement s n = record s { held = with_settled s.held n; version = s.version + 1; commit = None }
+with_settlement s n = record s { held = with_settled s.held n; commit = None }
 
 abbrev pub settle_answer : State → Answer
 settle_answer s =
@@ -262,7 +265,7 @@ reopened s count version = opened s.held.replica (take count s.held.list) versio
 -- A crash leaves the settled list, or the list of the commit; once that is through, its list alone.
 abbrev pub CrashLeavesOf : State → Commit → State → Type 0
 CrashLeavesOf s c next = elim c.through [
-  | true ↦ next ≡ reopened s c.count (s.version + 1)
+  | true ↦ next ≡ reopened s c.count s.version
   | false ↦ (next ≡ reopened s s.held.settled s.version) ⊎ (next ≡ reopened s c.count (s.version + 1))
 ]
 

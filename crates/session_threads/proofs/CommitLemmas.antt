@@ -7,7 +7,8 @@ use Rattle.op_model.specs.Machine.{BeginStep, DeviceStep, SettleStep, settle_ans
 use Rattle.group_commit.specs.declared.phase.Phase.{Phase}
 use Rattle.group_commit.specs.declared.phase.Phase.TheVariants.{Idle, Pages, Close, Sync1, Body, Sync2, Gate, Sync3}
 use Rattle.locked_replica.specs.Steps.{stepped_in}
-use Rattle.session_threads.specs.HubCalls.{IsQuiet, IsQuietBy, with_begun, with_through}
+use Rattle.session_threads.specs.HubCalls.{IsQuiet, IsQuietBy, with_begun}
+use Rattle.op_model.specs.Machine.{with_through}
 
 -- ---- a failure
 

@@ -7,7 +7,8 @@ use Rattle.op_model.specs.Machine.{State, device_step, refused, goes_through, is
 use Rattle.locked_replica.specs.Calls.{IsCall}
 use Rattle.locked_replica.specs.Hub.{Parts, state_of}
 use Rattle.locked_replica.specs.Steps.{stepped_in}
-use Rattle.session_threads.specs.HubCalls.{CommitCalls, GoesThrough, with_through}
+use Rattle.session_threads.specs.HubCalls.{CommitCalls, GoesThrough}
+use Rattle.op_model.specs.Machine.{with_through}
 use Rattle.session_threads.proofs.CallLemmas.{more_calls}
 use Rattle.session_threads.proofs.CommitLemmas.{state_goes_on, state_fails}
 

@@ -8,7 +8,8 @@ use Rattle.locked_replica.specs.Calls.{IsCall}
 use Rattle.locked_replica.specs.Hub.{Parts, state_of}
 use Rattle.locked_replica.specs.Steps.{settle_answered, number_of}
 use Rattle.session_threads.specs.declared.begun.Begun.TheVariants.{UnderWay, Settled, Refused}
-use Rattle.session_threads.specs.HubCalls.{IsQuiet, CommitCalls, DeskBegins, GoesThrough, Commits, with_begun, with_through}
+use Rattle.session_threads.specs.HubCalls.{IsQuiet, CommitCalls, DeskBegins, GoesThrough, Commits, with_begun}
+use Rattle.op_model.specs.Machine.{with_through}
 use Rattle.session_threads.proofs.CallLemmas.{more_calls, both_calls}
 use Rattle.session_threads.proofs.CommitLemmas.{state_settled, never_refused, settled_is_quiet, failure_is_told, settles_nothing}
 

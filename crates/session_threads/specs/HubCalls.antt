@@ -2,7 +2,7 @@
 use Rattle.std.specs.Prelude.{◌≡◌, ◌⊎◌, ℕ, ◌-◌, ◌≤◌, ◌==◌, ◌||◌, Bool, true, false, List, [], ◌∷◌, ◌++◌, length, Option, Some, None, ⊤}
 use Rattle.fixed_numbers.specs.declared.refusals.TheConstants.{MEMORY, RANGE, STALE, LIMIT, BUSY, FAILED, STEPS}
 use Rattle.disk_trait.specs.declared.facts.DiskFacts.{Ghosts}
-use Rattle.op_model.specs.Machine.{State, Event, Answer, edit, begin, device_step, settle, refused, through, Commit}
+use Rattle.op_model.specs.Machine.{State, Event, Answer, edit, begin, device_step, settle, refused, with_through, Commit}
 use Rattle.hub_parts.specs.declared.meeting.TheConstants.{BEGIN_TRIES}
 use Rattle.locked_replica.specs.Hub.{Parts, state_of}
 use Rattle.locked_replica.specs.Run.{Calls}
@@ -60,10 +60,6 @@ is_edit_refusal n =
 -- the state with a commit of all its operations, of which no device call is made
 abbrev pub with_begun : State → State
 with_begun s = record s { commit = Some (record { count = length s.held.list; through = false }) }
-
--- the state with its commit through
-abbrev pub with_through : State → State
-with_through s = record s { commit = through s.commit }
 
 module _ {D : Type 0} (facts : Ghosts D) where
   -- calls of a commit alone, with at most this number of begins

@@ -16,7 +16,7 @@ abbrev with_commit : State
 with_commit = record with_a { commit = Some (record { count = 1; through = false }) }
 
 abbrev commit_through : State
-commit_through = record with_a { commit = Some (record { count = 1; through = true }) }
+commit_through = record with_a { version = 2; commit = Some (record { count = 1; through = true }) }
 
 abbrev with_a_settled : State
 with_a_settled = with_settlement commit_through 1

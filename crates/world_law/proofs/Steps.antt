@@ -204,7 +204,16 @@ device_goes : (bag : List Message) (s : State) (a : Answer) (next : State) → I
 device_goes bag s idle next h k = goes_same bag s next h k.2
 device_goes bag s goes_on next h k = goes_same bag s next h k.2
 device_goes bag s goes_through next h k =
-    let at = k.2 in rw at (goes_with_commit bag s (through s.commit) h (within_through s.held.settled (length s.held.list) s.commit h.commit))
+    let at = k.2 in rw at (record {
+      sound = record {
+        closed = h.closed;
+        foreign = h.foreign;
+        settled = h.settled;
+        commit = within_through s.held.settled (length s.held.list) s.commit h.commit;
+      };
+      number = refl;
+      kept = λ op l. l;
+    })
 device_goes bag s (refused n) next h (inl k) = goes_same bag s next h k.2
 device_goes bag s (refused n) next h (inr k) =
     let at = k.3 in rw at (record {
@@ -298,11 +307,11 @@ opened_goes bag s n version h low high = record {
 crash_of-through : (bag : List Message) (s next : State) (count : ℕ) (t : Bool) → IsSound bag s
     → (s.held.settled ≤ count) × (count ≤ length s.held.list)
     → (elim t as (λ _. Type 0) [
-      | true ↦ next ≡ reopened s count (s.version + 1)
+      | true ↦ next ≡ reopened s count s.version
       | false ↦ (next ≡ reopened s s.held.settled s.version) ⊎ (next ≡ reopened s count (s.version + 1))
     ])
     → Goes bag s next
-crash_of-through bag s next count true h lies is = rw is (opened_goes bag s count (s.version + 1) h lies.0 lies.1)
+crash_of-through bag s next count true h lies is = rw is (opened_goes bag s count s.version h lies.0 lies.1)
 crash_of-through bag s next count false h lies (inl is) = rw is (opened_goes bag s s.held.settled s.version h (omega arith) h.settled)
 crash_of-through bag s next count false h lies (inr is) = rw is (opened_goes bag s count (s.version + 1) h lies.0 lies.1)
 
