@@ -4,7 +4,7 @@ use Rattle.fixed_numbers.specs.declared.sizes.TheConstants.{PAGE_SIZE, TABLE_ENT
 use Rattle.root_slots.specs.Root.{table_count, tables_of, pages_for}
 use Rattle.group_commit.specs.Saved.{Saved}
 
--- the first parts of one size, one after another, a given number of them
+-- the first n parts of this size, one after another
 abbrev pub cut : ℕ → ℕ → List ℕ → List (List ℕ)
 cut size zero all = []
 cut size (suc n) all = take size all ∷ cut size n (drop size all)

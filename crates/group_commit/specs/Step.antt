@@ -13,7 +13,7 @@ use Rattle.group_commit.specs.declared.error.StoreError.TheVariants.{Failed, Wri
 use Rattle.group_commit.specs.declared.phase.Phase.{Phase}
 use Rattle.group_commit.specs.declared.phase.Phase.TheVariants.{Idle, Pages, Close, Body, Gate}
 
--- a device call: the write of the k-th new page, of a gate or of a body, or a sync
+-- a device call, or none: the write of the k-th new page, of a gate or of a body, or a sync
 pub data Call : Type 0 where
   no_call : Call
   write_page : ℕ → Call
@@ -22,7 +22,7 @@ pub data Call : Type 0 where
   open_gate : Call
   sync : Call
 
--- the device call of a phase
+-- the device call of a phase: none at rest
 abbrev pub call_in : Phase → Call
 call_in Idle = no_call
 call_in (Pages k) = write_page k

@@ -34,6 +34,7 @@ pub record IsUnderWay {D : Type 0} (f : FlusherHeld D) : Type 0 where
   pub owner : replica_of f.store.next.body ≡ replica_of f.store.current.body
   pub version : version_of f.store.next.body ≡ version_of f.store.current.body + 1
 
+-- at rest, or with a commit under way
 abbrev pub RestsOrCommits : {D : Type 0} → Bool → FlusherHeld D → Type 0
 RestsOrCommits true f = IsAtRest f
 RestsOrCommits false f = IsUnderWay f

@@ -61,7 +61,7 @@ named_by (Remove target) = target ∷ []
 named_by (AddMark mark start end) = named_by_start start ++ named_by_end end
 named_by (RemoveMark key start end) = named_by_start start ++ named_by_end end
 
--- among the operations that deps cover, the first of its replica, as many as deps count, is an insert of the document with this id
+-- among the first operations of the id's replica, as many as deps count, one is an insert of the document with this id
 abbrev pub is_covered_insert : List Op → List (ℕ × ℕ) → ℕ → Id → Bool
 is_covered_insert ops deps doc id =
     list_any (λ op. is_same op.id id && op.doc == doc && is_insert op.body)

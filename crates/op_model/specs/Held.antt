@@ -46,10 +46,10 @@ with_merge h peer op = record h { list = h.list ++ op ∷ []; steps = merged pee
 abbrev pub with_settled : ReplicaHeld → ℕ → ReplicaHeld
 with_settled h n = record h { settled = n; steps = settlement n ∷ h.steps }
 
--- with n operations acknowledged
+-- with at least n operations acknowledged
 abbrev pub with_acked : ReplicaHeld → ℕ → ReplicaHeld
 with_acked h n = record h { acked = max h.acked n }
 
--- with n operations told
+-- with at least n operations told
 abbrev pub with_told : ReplicaHeld → ℕ → ReplicaHeld
 with_told h n = record h { told = max h.told n }
