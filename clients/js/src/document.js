@@ -2,6 +2,7 @@
 
 import { keyOf } from "./marks.js";
 import { Reading } from "./reading.js";
+import { Stale } from "./refusals.js";
 
 /**
  * @typedef {import("./marks.js").Mark} Mark
@@ -10,7 +11,8 @@ import { Reading } from "./reading.js";
 
 /**
  * A document, by its number. Places are counted in characters (Unicode scalar values), from 0; `read` gives a text with
- * edits that are counted as JavaScript's strings are. An edit may name the `rev` that it was made for.
+ * edits that are counted as JavaScript's strings are. An edit may name the `rev` that it was made for, which this session
+ * has to have read.
  *
  * Each edit answers the document's new `rev` once it is settled on the disk: it then outlives a power cut.
  */
@@ -73,6 +75,8 @@ export class Document {
    * @returns {Promise<number>}
    */
   async edit(fields, rev) {
+    // The number is another session's. After a crash, or at a peer, it may name another text, and would be taken for this one.
+    if (rev !== undefined && !this.session.knowsRev(this.number)) throw new Stale(6, "stale");
     const answer = await this.session.send({ doc: this.number, ...fields, rev });
     return answer.rev;
   }

@@ -11,9 +11,11 @@ import { Session } from "./session.js";
 class Child {
   /** @type {(line: string) => void} */
   onLine = () => {};
+  onPart = () => {};
   onEnd = () => {};
   #child;
   #said = "";
+  wasAbandoned = false;
   #lines = new Lines();
 
   /**
@@ -44,7 +46,15 @@ class Child {
     this.#child.stdin.end();
   }
 
-  /** Waits for the program, and throws what its end tells, where it isn't a good one. */
+  /** Kills the program: what it answered is in the file, which is free then. */
+  abandon() {
+    this.#child.kill("SIGKILL");
+    // What else has its ends of the pipes isn't waited for.
+    for (const pipe of [this.#child.stdin, this.#child.stdout, this.#child.stderr]) pipe.destroy();
+    this.wasAbandoned = true;
+  }
+
+  /** Waits for the program, and throws what its end tells, if it isn't a good one. */
   async check() {
     const status = await this.end;
     const said = this.#said.trim();
@@ -56,6 +66,7 @@ class Child {
 
   /** @param {string} chunk */
   #take(chunk) {
+    this.onPart();
     for (const line of this.#lines.take(chunk)) this.onLine(line);
   }
 }
@@ -67,16 +78,18 @@ export class FileSession extends Session {
   /**
    * @param {string} program
    * @param {string} file
+   * @param {{timeout?: number | null}} options
    */
-  constructor(program, file) {
+  constructor(program, file, options) {
     const child = new Child(program, ["edit", file]);
-    super(child);
+    super(child, options);
     this.#child = child;
   }
 
-  /** Ends the session and waits for the program. `Refused` where it ends by a refusal. */
+  /** Ends the session and waits for the program. `Refused` if it ends by a refusal. */
   async close() {
     await super.close();
+    if (this.#child.wasAbandoned) throw new Ended(`the session has ended (${this.reason})`);
     await this.#child.check();
   }
 }
@@ -94,13 +107,14 @@ export async function init(file, { replica = randomUUID(), program = "peritext" 
 }
 
 /**
- * A session over a file, which no other program can have open meanwhile. `Refused` where it can't be opened, as 54 where
+ * A session over a file, which no other program can have open meanwhile. `Refused` if it can't be opened, as 54 if
  * another program has it.
  * @param {string} file
- * @param {{program?: string}} options
+ * @param {{program?: string, timeout?: number | null}} options `timeout`: milliseconds without a byte while an answer is
+ *   due, or null for no limit
  */
-export async function open(file, { program = "peritext" } = {}) {
-  const session = new FileSession(program, file);
+export async function open(file, { program = "peritext", timeout } = {}) {
+  const session = new FileSession(program, file, { timeout });
   try {
     await session.send({ op: "status" });
   } catch (error) {

@@ -179,8 +179,8 @@ class Binding {
     if (this.#view === undefined || this.#next !== document) return;
     this.#next = undefined;
     this.#document = document;
-    const { base, rev, pending } = this.#known();
-    const isThere = this.#unsure && isMade(this.#modules, base, pending[0], this.#shown(reading.spans), reading.rev - rev);
+    const { base, pending } = this.#known();
+    const isThere = this.#unsure && isMade(this.#modules, base, pending[0], this.#shown(reading.spans));
     this.#unsure = false;
     if (isThere) this.#confirm(reading.rev, reading);
     this.#take(reading);

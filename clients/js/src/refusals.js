@@ -18,7 +18,7 @@ const ADVICE = {
   7: "at most 256 characters in one request; else the file has reached a limit, and can only be read",
   8: "too much waits, or all places for sessions are taken; try again a little later",
   9: "the device failed, and the edit may be there or not; end the program, look at the disk, open again",
-  10: "a million steps since opening; end the program and start it again",
+  10: "a million steps since opening; connect again if the daemon opens its file anew, else end the program and start it again",
   11: LINE,
   12: "the program was told to stop; start it again",
   42: "the file isn't a store, or its making was cut off; make one under another name with init",
@@ -55,10 +55,13 @@ export class Refused extends Error {
   }
 }
 
-/** The document isn't at the `rev` that the edit was made for (6): read it anew, and make the edit for what is there. */
+/**
+ * The document isn't at the `rev` that the edit was made for (6), or this session hasn't read it yet: read it anew, and
+ * make the edit for what is there.
+ */
 export class Stale extends Refused {}
 
-/** The session ended before this request was answered. Whether an edit is there is known once the file is opened again. */
+/** The session ended before this request was answered, and why. Whether an edit is there is known once the file is opened again. */
 export class Ended extends Error {
   /**
    * @param {string} message

@@ -16,6 +16,7 @@ const PATIENCE = 10_000;
 class Connection {
   /** @type {(line: string) => void} */
   onLine = () => {};
+  onPart = () => {};
   onEnd = () => {};
   /**
    * Why there is no connection.
@@ -26,11 +27,12 @@ class Connection {
 
   /** @param {number} port */
   constructor(port) {
-    // A request is small, and waits for nothing; behind the last one the answers still come.
+    // A request is small, and waits for nothing; after the last one the answers still come.
     const socket = createConnection({ host: HOST, port, noDelay: true, allowHalfOpen: true });
     const lines = new Lines();
     this.#socket = socket;
     socket.setEncoding("utf8").on("data", (/** @type {string} */ part) => {
+      this.onPart();
       for (const line of lines.take(part)) this.onLine(line);
     });
     socket.on("end", () => socket.end());
@@ -53,14 +55,15 @@ class Connection {
 }
 
 /**
- * A session of the daemon whose `--sessions` port this is. `NoDaemon` where there is none; `Refused` with the number 8
- * where all 32 places are taken.
+ * A session of the daemon whose `--sessions` port this is. `NoDaemon` if there is none; `Refused` with the number 8 if
+ * all 32 places are taken.
  * @param {number} port
- * @param {{patience?: number}} options milliseconds until somebody who listens has to answer
+ * @param {{patience?: number, timeout?: number | null}} options `patience`: milliseconds until somebody who listens has to
+ *   have answered first; `timeout`: those without a byte while an answer is due, or null for no limit
  */
-export async function connect(port, { patience = PATIENCE } = {}) {
+export async function connect(port, { patience = PATIENCE, timeout } = {}) {
   const connection = new Connection(port);
-  const session = new Session(connection);
+  const session = new Session(connection, { timeout });
   const timer = setTimeout(() => connection.abandon(), patience);
   try {
     // A daemon without a place for this session says so in place of the answer.

@@ -1,59 +1,16 @@
 // Sessions over a daemon of the real program, which PERITEXT names.
 
 import assert from "node:assert/strict";
-import { spawn } from "node:child_process";
 import { once } from "node:events";
 import { readFileSync } from "node:fs";
-import { connect as connectTo, createServer } from "node:net";
-import { resolve } from "node:path";
+import { createServer } from "node:net";
 import { test } from "node:test";
 
-import { Ended, NoDaemon, STRONG, Stale, connect, init, open } from "peritext";
+import { Ended, NoDaemon, STRONG, Stale, connect, open } from "peritext";
 
-import { withFile } from "./support.mjs";
+import { freePort, program, start, withDaemon } from "./served.mjs";
 
-const program = resolve(process.env.PERITEXT ?? "bin/peritext");
 const SESSIONS = 32;
-
-/** A port on which nobody listens now. */
-async function freePort() {
-  const server = createServer().listen(0, "127.0.0.1");
-  await once(server, "listening");
-  const { port } = server.address();
-  await new Promise((done) => server.close(done));
-  return port;
-}
-
-async function isHeard(port) {
-  const socket = connectTo(port, "127.0.0.1");
-  const heard = await once(socket, "connect").then(() => true, () => false);
-  socket.destroy();
-  return heard;
-}
-
-async function start(file) {
-  const [port, peers] = [await freePort(), await freePort()];
-  const child = spawn(program, ["serve", file, "--sessions", port, "--peers", peers], { stdio: "ignore" });
-  const ended = once(child, "exit");
-  while (!(await isHeard(port))) await new Promise((done) => setTimeout(done, 20));
-  const kill = async () => {
-    child.kill("SIGKILL");
-    await ended;
-  };
-  return { port, peers, ended, kill };
-}
-
-function withDaemon(work) {
-  return withFile(async (file) => {
-    await init(file, { program });
-    const daemon = await start(file);
-    try {
-      await work(daemon, file);
-    } finally {
-      await daemon.kill();
-    }
-  });
-}
 
 test("two sessions see each other", () =>
   withDaemon(async ({ port }) => {

@@ -11,10 +11,14 @@ import { editorOver, plainSchema, prosemirror } from "./support.mjs";
 const modules = prosemirror();
 const schema = plainSchema(modules.model);
 
-/** An editor over a text. What it sends isn't answered; what is under way is made where `made` says so, and then the session ends. */
-async function cutOff(text, act, { made }) {
+/** An editor over a text, that so many letters came to and went from before. What it sends isn't answered; what is under way is made where `made` says so, and then the session ends. */
+async function cutOff(text, act, { made, before = 0 }) {
   const store = new Store();
   const document = new Session(store.session()).document(1);
+  for (let left = before; left > 0; left -= 1) {
+    await document.insert(0, "z");
+    await document.delete(0, 1);
+  }
   await document.insert(0, text);
   const errors = [];
   const { view, binding, transport } = await editorOver(store, modules, schema, { onError: (error) => errors.push(error) });
@@ -85,6 +89,33 @@ test("the marks of an insert that was made are put right", async () => {
   const cut = await cutOff("ab", put, { made: true });
   assert.equal(await resumed(cut), "axb");
   assert.deepEqual(await cut.document.spans(), [{ text: "a" }, { em: true, text: "x" }, { text: "b" }]);
+});
+
+test("an insert that was made is there once, whatever the numbers are there", async () => {
+  // The other store came to the same text in fewer operations, as a file that is opened anew, or a peer's, may.
+  const cut = await cutOff("abab", (tr) => tr.insertText("xy", 3), { made: false, before: 9 });
+  const store = new Store();
+  const document = new Session(store.session()).document(1);
+  await document.insert(0, "abxyab");
+  assert.equal(await resumed({ ...cut, store, document }), "abxyab");
+});
+
+test("an edit names no rev of the connection before", async () => {
+  const cut = await cutOff("ab", (tr) => tr.insertText("x", 2), { made: false });
+  // There the number of the text that was read is that of another text.
+  const store = new Store();
+  const document = new Session(store.session()).document(1);
+  await document.insert(0, "cd");
+  const transport = store.session();
+  const sent = [];
+  const { send } = transport;
+  transport.send = (line) => {
+    sent.push(JSON.parse(line).op);
+    send.call(transport, line);
+  };
+  await cut.binding.resume(new Session(transport).document(1));
+  assert.equal(sent[0], "spans");
+  assert.equal([...(await document.text())].sort().join(""), "cdx");
 });
 
 test("a session that has ended too is no place to go on", async () => {

@@ -21,8 +21,11 @@ function run(name, missing) {
 const noProgram = program === undefined ? "for PERITEXT names no program" : undefined;
 const noEditor = hasEditor ? undefined : "for node-prosemirror-state isn't installed";
 run("client");
+run("cuts");
+run("limits");
 run("file", noProgram);
 run("daemon", noProgram);
+run("slow", noProgram);
 run("paragraphs", noEditor);
 run("binding", noEditor);
 run("resume", noEditor);

@@ -10,8 +10,8 @@ import threading
 from unittest import mock
 
 import peritext
-from peritext import daemon, session
-from support import CLIENT, PROGRAM, Daemon, WithDaemon, WithFile, free_port
+from peritext import daemon, file
+from support import CLIENT, PROGRAM, Daemon, WithDaemon, WithFile, free_port, retried
 
 SESSIONS = 32
 
@@ -153,7 +153,7 @@ class WordsThatHelp(WithDaemon):
 
     def end_of(self, ended):
         with self.assertRaises(peritext.Refused) as caught:
-            session.check(*ended.ended())
+            file.check(*ended.ended())
         return caught.exception
 
 
@@ -190,13 +190,3 @@ class Examples(WithDaemon):
 def text_over(port):
     with peritext.connect(port) as opened:
         return opened.document(1).text()
-
-
-def retried(call):
-    """What a call gives once it isn't refused: a place is free soon after a session has gone."""
-    for _ in range(200):
-        try:
-            return call()
-        except peritext.Refused:
-            threading.Event().wait(0.05)
-    return call()

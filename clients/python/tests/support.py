@@ -78,3 +78,13 @@ def is_heard(port):
     except OSError:
         return False
     return True
+
+
+def retried(call):
+    """What a call gives once it isn't refused: a place is free soon after a session has gone."""
+    for _ in range(200):
+        try:
+            return call()
+        except peritext.Refused:
+            threading.Event().wait(0.05)
+    return call()

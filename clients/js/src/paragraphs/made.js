@@ -12,16 +12,15 @@ import { applied, textsOf } from "./steps.js";
 
 /**
  * Whether a document has what a step puts in: its text is then nearer to what the step makes than to what was there
- * before. Of other steps this needn't be known: to take away twice, or to mark twice, is the same as once.
+ * before. Of other steps this needn't be known: to take away twice, or to mark twice, is the same as once. How many
+ * operations there are says nothing of it: the number of one connection isn't that of the next.
  * @param {Modules} modules
  * @param {Node} before
  * @param {Edit} step
  * @param {Node} shown
- * @param {number} operations how many have come to the document since
  */
-export function isMade({ transform }, before, step, shown, operations) {
+export function isMade({ transform }, before, step, shown) {
   if (!(step instanceof transform.ReplaceStep) || step.slice.size === 0) return false;
-  if (operations < charactersOf(step.slice.content).length) return false;
   return distance(applied(before, [step]), shown) < distance(before, shown);
 }
 

@@ -15,9 +15,10 @@
 
 from .daemon import connect
 from .document import Document, Reading
+from .file import init, open
 from .marks import EM, STRONG, Comment, Link, Mark, Span
 from .refusals import Ended, NoDaemon, Refused, Stale
-from .session import Session, init, open
+from .session import Session
 
 __all__ = [
     "Comment",

@@ -5,6 +5,7 @@ from __future__ import annotations
 from typing import TYPE_CHECKING, Any, NamedTuple
 
 from .marks import Mark, Span
+from .refusals import Stale
 
 if TYPE_CHECKING:
     from concurrent.futures import Future
@@ -13,7 +14,7 @@ if TYPE_CHECKING:
 
 
 class Reading(NamedTuple):
-    """A text and the `rev` that it has: an edit that is sent with this `rev` is made in just this text, or is `Stale`."""
+    """A text and the `rev` that it has: an edit that is sent in the same session with this `rev` is made in just this text, or is `Stale`."""
 
     text: str
     rev: int
@@ -66,6 +67,9 @@ class Document:
         return self.read().rev
 
     def _edit(self, rev: int | None, **fields: Any) -> int:
+        if rev is not None and not self.session.knows_rev(self.number):
+            # The number is another session's. After a crash, or at a peer, it may name another text, and would be taken for this one.
+            raise Stale(6, "stale")
         answer = self.session.ask(doc=self.number, **fields, **({} if rev is None else {"rev": rev}))
         return int(answer["rev"])
 

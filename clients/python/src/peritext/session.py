@@ -2,38 +2,54 @@
 
 from __future__ import annotations
 
-import errno
 import json
-import os
-import subprocess
 import threading
 from collections import deque
 from concurrent.futures import Future
+from io import BufferedReader
 from types import TracebackType
-from typing import IO, Any, Union
-from uuid import UUID, uuid4
+from typing import IO, Any, NamedTuple
 
+from .answers import NoAnswer, answer_of
 from .document import Document
-from .refusals import Ended, refused
+from .lines import Lines
+from .refusals import Ended, Refused
+from .silence import TIMEOUT, Silence
 
-Path = Union[str, "os.PathLike[str]"]
+# Bytes that are read at once.
+PART = 65_536
+
+
+class Owed(NamedTuple):
+    """An answer that is due, and what of its request says how to read it."""
+
+    answer: Future[dict[str, Any]]
+    op: object
+    doc: object
 
 
 class Session:
     """Requests and their answers, in order. Several threads may ask at once.
 
-    A thread of its own reads the answers, so any number of requests can be under way.
+    A thread of its own reads the answers, so any number of requests can be under way. If no byte comes for `timeout` seconds while an answer
+    is due, the session ends; with None it waits as long as it takes.
     """
 
-    def __init__(self, requests: IO[bytes], answers: IO[bytes]) -> None:
+    def __init__(self, requests: IO[bytes], answers: BufferedReader, timeout: float | None = TIMEOUT) -> None:
         self._requests = requests
         self._answers = answers
-        self._waiting: deque[Future[dict[str, Any]]] = deque()
-        self._ended = False
+        self._waiting: deque[Owed] = deque()
+        # The documents whose `rev` was told in this session.
+        self._told: set[int] = set()
+        self._closes = False
+        # Why it ended, once it has.
+        self._end: str | None = None
         # Held while a request is written and its place among those that wait is taken.
         self._writing = threading.Lock()
-        # Held while that list changes.
+        # Held while that list changes, or what is known of the end.
         self._listing = threading.Lock()
+        self._timeout = timeout
+        self._silence = Silence(timeout, self._fall_silent)
         self._reader = threading.Thread(target=self._read, daemon=True)
         self._reader.start()
 
@@ -42,18 +58,21 @@ class Session:
         return Document(self, number)
 
     def ask(self, **fields: Any) -> dict[str, Any]:
-        """The answer to a request, as it comes. `Refused` where it is refused, `Ended` where none comes."""
+        """The answer to a request, as it comes. `Refused` if it is refused, `Ended` if none comes."""
         return self.send(**fields).result()
 
     def send(self, **fields: Any) -> Future[dict[str, Any]]:
         """Sends a request and doesn't wait for its answer."""
         line = json.dumps(fields, ensure_ascii=False).encode() + b"\n"
         answer: Future[dict[str, Any]] = Future()
+        # It is under way from now on: who doesn't want the answer any more can't take it out of its order.
+        answer.set_running_or_notify_cancel()
         with self._writing:
             with self._listing:
-                if self._ended:
-                    raise Ended("the session has ended")
-                self._waiting.append(answer)
+                if self._end is not None:
+                    raise Ended(f"the session has ended ({self._end})")
+                self._waiting.append(Owed(answer, fields.get("op"), fields.get("doc")))
+                self._silence.begin()
             try:
                 self._requests.write(line)
                 self._requests.flush()
@@ -61,6 +80,10 @@ class Session:
                 # The reader sees the end too, and tells all that wait.
                 pass
         return answer
+
+    def knows_rev(self, document: int) -> bool:
+        """Whether this session was told a `rev` of a document. Before, the number of another session could name another text."""
+        return document in self._told
 
     def settled(self) -> bool:
         """Whether all that was edited is settled on the disk."""
@@ -73,6 +96,10 @@ class Session:
 
     def close(self) -> None:
         """Ends the session, once all that was sent is answered."""
+        with self._listing:
+            self._closes = True
+            # The end of the answers is due.
+            self._silence.begin()
         with self._writing:
             try:
                 self._end_requests()
@@ -85,6 +112,9 @@ class Session:
         """Says that no more is sent."""
         self._requests.close()
 
+    def _abandon(self) -> None:
+        """Cuts off both directions, so that nobody waits to read or to write."""
+
     def __enter__(self) -> Session:
         return self
 
@@ -92,79 +122,66 @@ class Session:
         self.close()
 
     def _read(self) -> None:
+        """Gives answers until no more can come. However that ends, all who wait are told."""
+        end = "no more answers come"
         try:
-            for line in self._answers:
-                with self._listing:
-                    answer = self._waiting.popleft()
-                self._give(answer, json.loads(line))
-        except (OSError, ValueError, IndexError):
-            # No answer, or none that was asked for: the session ends here.
-            pass
+            end = self._read_all() or end
+        except OSError as error:
+            end = f"reading failed: {error}"
+        except Exception as error:
+            end = str(error) if isinstance(error, NoAnswer) else f"an answer couldn't be read: {error!r}"
+            # Nothing after it can be told apart.
+            self._over(end)
+            self._abandon()
+        finally:
+            self._over(end)
+            self._silence.close()
+
+    def _read_all(self) -> str | None:
+        """Why the answers ended, if they didn't do so between two of them."""
+        lines = Lines()
+        while part := self._answers.read1(PART):
+            self._silence.heard()
+            for line in lines.take(part):
+                self._take(line)
+        return "an answer was cut off" if lines.is_within() else None
+
+    def _take(self, line: bytes) -> None:
         with self._listing:
-            self._ended = True
+            owed = self._waiting[0] if self._waiting else None
+        if owed is None:
+            raise NoAnswer("a line came that nobody asked for")
+        # It waits on until this is known to be its answer.
+        told = answer_of(line, owed.op)
+        if self._is_taken_off(told):
+            if isinstance(told, Refused):
+                owed.answer.set_exception(told)
+            else:
+                owed.answer.set_result(told)
+
+    def _is_taken_off(self, told: dict[str, Any] | Refused) -> bool:
+        """Takes the first of those that wait off the list, unless all of them were told of the end meanwhile."""
+        with self._listing:
+            if self._end is not None:
+                return False
+            owed = self._waiting.popleft()
+            if not self._waiting and not self._closes:
+                self._silence.end()
+            if not isinstance(told, Refused) and "rev" in told and isinstance(owed.doc, int):
+                self._told.add(owed.doc)
+            return True
+
+    def _fall_silent(self) -> None:
+        self._over(f"no byte came for {self._timeout:g} seconds, its timeout")
+        self._abandon()
+
+    def _over(self, end: str) -> None:
+        """Ends the session, unless it has ended, and tells all that wait."""
+        with self._listing:
+            if self._end is None:
+                self._end = end
             left, self._waiting = self._waiting, deque()
-        for answer in left:
-            answer.set_exception(Ended("the session ended before this request was answered: begin another one, and read what is there"))
-
-    @staticmethod
-    def _give(answer: Future[dict[str, Any]], told: dict[str, Any]) -> None:
-        if told.get("ok") is True:
-            answer.set_result(told)
-        else:
-            answer.set_exception(refused(told["code"], told["error"]))
-
-
-class FileSession(Session):
-    """A session of a program of its own, which holds the file alone."""
-
-    def __init__(self, program: Path, file: Path) -> None:
-        self._program = started(program, "edit", file)
-        assert self._program.stdin and self._program.stdout
-        super().__init__(self._program.stdin, self._program.stdout)
-
-    def close(self) -> None:
-        """Ends the session and waits for the program. `Refused` where it ends by a refusal, as 54 where another program has the file."""
-        super().close()
-        assert self._program.stderr
-        said = self._program.stderr.read().decode(errors="replace")
-        self._program.stderr.close()
-        check(self._program.wait(), said)
-
-
-def started(program: Path, *words: Path) -> subprocess.Popen[bytes]:
-    """The program, running."""
-    try:
-        return subprocess.Popen([program, *words], stdin=subprocess.PIPE, stdout=subprocess.PIPE, stderr=subprocess.PIPE)
-    except FileNotFoundError:
-        raise FileNotFoundError(errno.ENOENT, "no such program; build it with `make peritext`, and name it by program=", program) from None
-
-
-def check(status: int, said: str) -> None:
-    """Raises what a program's end tells, where it isn't a good one."""
-    if status == 0:
-        return
-    number, _, word = said.removeprefix("peritext: ").strip().partition(" ")
-    if number.isdigit():
-        raise refused(int(number), word)
-    raise Ended(said.strip() or f"the program ended with status {status}")
-
-
-def init(file: Path, replica: UUID | None = None, program: Path = "peritext") -> UUID:
-    """Makes the file of a new replica, with an id that nobody else has, and gives that id."""
-    replica = replica or uuid4()
-    program_run = started(program, "init", file, "--replica", str(replica))
-    _, said = program_run.communicate()
-    check(program_run.returncode, said.decode(errors="replace"))
-    return replica
-
-
-def open(file: Path, program: Path = "peritext") -> FileSession:
-    """A session over a file, which no other program can have open meanwhile. `Refused` where it can't be opened, as 54 where another program
-    has it."""
-    session = FileSession(program, file)
-    try:
-        session.ask(op="status")
-    except Ended:
-        session.close()
-        raise
-    return session
+        for owed in left:
+            owed.answer.set_exception(
+                Ended(f"the session ended before this request was answered ({self._end}): begin another one, and read what is there")
+            )

@@ -1,0 +1,102 @@
+/** The answers that a line can be: those of docs/PROTOCOL.md, and nothing else. */
+
+import { refused } from "./refusals.js";
+
+/** A line that is no answer to its request, and why. */
+export class NoAnswer extends Error {}
+
+/**
+ * What a line answers to a request of this kind, or the refusal that it tells. `NoAnswer` if it isn't one.
+ * @param {string} line
+ * @param {unknown} op
+ * @returns {import("./session.js").Answer | import("./refusals.js").Refused}
+ */
+export function answerOf(line, op) {
+  const told = object(line);
+  if (told.ok === true) {
+    need(told, FIELDS.get(op) ?? {});
+    return told;
+  }
+  if (told.ok === false) {
+    need(told, REFUSAL);
+    return refused(told.code, told.error);
+  }
+  throw new NoAnswer("a line came that doesn't say `ok`");
+}
+
+/** @param {string} line */
+function object(line) {
+  let told;
+  try {
+    told = JSON.parse(line);
+  } catch {
+    told = undefined;
+  }
+  if (!isObject(told)) throw new NoAnswer("a line came that is no JSON object");
+  return told;
+}
+
+/**
+ * @param {Record<string, unknown>} told
+ * @param {Record<string, (value: unknown) => boolean>} fields
+ */
+function need(told, fields) {
+  for (const [name, isRight] of Object.entries(fields)) {
+    if (!isRight(told[name])) throw new NoAnswer(`an answer came without a right \`${name}\``);
+  }
+}
+
+/** @param {unknown} value */
+function isObject(value) {
+  return typeof value === "object" && value !== null && !Array.isArray(value);
+}
+
+/** @param {unknown} value */
+function isNumber(value) {
+  return Number.isSafeInteger(value) && /** @type {number} */ (value) >= 0;
+}
+
+/** @param {unknown} value */
+function isText(value) {
+  return typeof value === "string";
+}
+
+/** @param {unknown} value */
+function isFlag(value) {
+  return typeof value === "boolean";
+}
+
+/** @param {unknown} value */
+function areTexts(value) {
+  return Array.isArray(value) && value.every(isText);
+}
+
+/** @param {unknown} value */
+function areSpans(value) {
+  return Array.isArray(value) && value.every(isSpan);
+}
+
+/** @param {any} value */
+function isSpan(value) {
+  return isObject(value) && isText(value.text) && MARKS.every(([key, isRight]) => value[key] === undefined || isRight(value[key]));
+}
+
+const MARKS = Object.entries({ strong: isFlag, em: isFlag, link: isText, comments: areTexts });
+const REFUSAL = { code: isNumber, error: isText };
+const EDITED = { rev: isNumber };
+
+/**
+ * The fields of an answer, by the request.
+ * @type {Map<unknown, Record<string, (value: unknown) => boolean>>}
+ */
+const FIELDS = new Map(
+  Object.entries({
+    insert: EDITED,
+    delete: EDITED,
+    mark: EDITED,
+    unmark: EDITED,
+    text: { rev: isNumber, text: isText },
+    spans: { rev: isNumber, spans: areSpans },
+    status: { applied: isNumber, settled: isNumber, state: isText },
+  }),
+);

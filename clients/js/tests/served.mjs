@@ -1,0 +1,54 @@
+// Daemons of the real program, which PERITEXT names.
+
+import { spawn } from "node:child_process";
+import { once } from "node:events";
+import { connect as connectTo, createServer } from "node:net";
+import { resolve } from "node:path";
+
+import { init } from "peritext";
+
+import { withFile } from "./support.mjs";
+
+export const program = resolve(process.env.PERITEXT ?? "bin/peritext");
+
+/** A port on which nobody listens now. */
+export async function freePort() {
+  const server = createServer().listen(0, "127.0.0.1");
+  await once(server, "listening");
+  const { port } = server.address();
+  await new Promise((done) => server.close(done));
+  return port;
+}
+
+async function isHeard(port) {
+  const socket = connectTo(port, "127.0.0.1");
+  const heard = await once(socket, "connect").then(() => true, () => false);
+  socket.destroy();
+  return heard;
+}
+
+/** A daemon over a file. */
+export async function start(file) {
+  const [port, peers] = [await freePort(), await freePort()];
+  const child = spawn(program, ["serve", file, "--sessions", port, "--peers", peers], { stdio: "ignore" });
+  const ended = once(child, "exit");
+  while (!(await isHeard(port))) await new Promise((done) => setTimeout(done, 20));
+  const kill = async () => {
+    child.kill("SIGKILL");
+    await ended;
+  };
+  return { port, peers, pid: child.pid, ended, kill };
+}
+
+/** Runs a test over a daemon that is gone afterwards. */
+export function withDaemon(work) {
+  return withFile(async (file) => {
+    await init(file, { program });
+    const daemon = await start(file);
+    try {
+      await work(daemon, file);
+    } finally {
+      await daemon.kill();
+    }
+  });
+}

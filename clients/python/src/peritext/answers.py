@@ -1,0 +1,86 @@
+"""The answers that a line can be: those of docs/PROTOCOL.md, and nothing else."""
+
+from __future__ import annotations
+
+import json
+from typing import Any, Callable, Mapping
+
+from .refusals import Refused, refused
+
+
+class NoAnswer(Exception):
+    """A line that is no answer to its request, and why."""
+
+
+def answer_of(line: bytes, op: object) -> dict[str, Any] | Refused:
+    """What a line answers to a request of this kind. `NoAnswer` if it isn't one.
+
+    >>> answer_of(b'{"ok":true,"rev":3}', "insert")
+    {'ok': True, 'rev': 3}
+    >>> answer_of(b'{"code":6,"error":"stale","ok":false}', "insert").word
+    'stale'
+    """
+    told = _object(line)
+    if told.get("ok") is True:
+        _need(told, _FIELDS.get(op, {}) if isinstance(op, str) else {})
+        return told
+    if told.get("ok") is False:
+        _need(told, _REFUSAL)
+        return refused(told["code"], told["error"])
+    raise NoAnswer("a line came that doesn't say `ok`")
+
+
+def _object(line: bytes) -> dict[str, Any]:
+    try:
+        told = json.loads(line.decode())
+    except (ValueError, RecursionError):
+        told = None
+    if not isinstance(told, dict):
+        raise NoAnswer("a line came that is no JSON object")
+    return told
+
+
+def _need(told: Mapping[str, Any], fields: Mapping[str, Callable[[Any], bool]]) -> None:
+    for name, is_right in fields.items():
+        if not is_right(told.get(name)):
+            raise NoAnswer(f"an answer came without a right `{name}`")
+
+
+def _is_number(value: Any) -> bool:
+    # True and False are no numbers here.
+    return type(value) is int and value >= 0
+
+
+def _is_text(value: Any) -> bool:
+    return isinstance(value, str)
+
+
+def _are_spans(value: Any) -> bool:
+    return isinstance(value, list) and all(map(_is_span, value))
+
+
+def _is_span(value: Any) -> bool:
+    return isinstance(value, dict) and _is_text(value.get("text")) and all(_MARKS[key](value[key]) for key in _MARKS if key in value)
+
+
+def _is_flag(value: Any) -> bool:
+    return isinstance(value, bool)
+
+
+def _are_texts(value: Any) -> bool:
+    return isinstance(value, list) and all(map(_is_text, value))
+
+
+_MARKS = {"strong": _is_flag, "em": _is_flag, "link": _is_text, "comments": _are_texts}
+_REFUSAL = {"code": _is_number, "error": _is_text}
+_EDITED = {"rev": _is_number}
+# The fields of an answer, by the request.
+_FIELDS: dict[str, dict[str, Callable[[Any], bool]]] = {
+    "insert": _EDITED,
+    "delete": _EDITED,
+    "mark": _EDITED,
+    "unmark": _EDITED,
+    "text": {"rev": _is_number, "text": _is_text},
+    "spans": {"rev": _is_number, "spans": _are_spans},
+    "status": {"applied": _is_number, "settled": _is_number, "state": _is_text},
+}
