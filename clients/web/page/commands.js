@@ -1,7 +1,6 @@
 /** What keys and buttons do. Each command takes the editor's state and a place to send a transaction to, and says whether it does something. */
 
 import { schema } from "./schema.js";
-import { redo, undo } from "./history.js";
 
 const { strong, em, link, comment } = schema.marks;
 
@@ -82,12 +81,21 @@ function forward({ tr, selection }, dispatch) {
 }
 
 const KEYS = { Enter: split, "Shift-Enter": split, Backspace: backspace, "Mod-Backspace": backspace, Delete: forward };
-const WITH_CONTROL = { "Mod-b": toggleStrong, "Mod-i": toggleEm, "Mod-z": undo, "Mod-y": redo, "Mod-Shift-z": redo };
+
+/** The keys that do what a button does. */
+const BUTTONS = { "Mod-b": "strong", "Mod-i": "em", "Mod-k": "link", "Mod-z": "undo", "Mod-y": "redo", "Mod-Shift-z": "redo" };
 
 /** The command of a key, or nothing. */
-export function commandOf({ key, ctrlKey, metaKey, altKey, shiftKey }) {
-  if (altKey) return undefined;
+export function commandOf(event) {
+  return KEYS[nameOf(event)];
+}
+
+/** What the button does whose key it is, or nothing. */
+export function buttonOf(event) {
+  return BUTTONS[nameOf(event)];
+}
+
+function nameOf({ key, ctrlKey, metaKey, altKey, shiftKey }) {
   const name = key.length === 1 ? key.toLowerCase() : key;
-  const full = `${ctrlKey || metaKey ? "Mod-" : ""}${shiftKey ? "Shift-" : ""}${name}`;
-  return KEYS[full] ?? WITH_CONTROL[full];
+  return `${ctrlKey || metaKey ? "Mod-" : ""}${altKey ? "Alt-" : ""}${shiftKey ? "Shift-" : ""}${name}`;
 }

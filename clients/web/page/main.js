@@ -5,20 +5,9 @@ import { Peer } from "./peer.js";
 
 const NAMES = ["alice", "bob"];
 
-/** Each character with its marks, as a text. An editor has comments on one character in the order in which they came; here that doesn't matter. */
-function shown(doc) {
-  const characters = [];
-  doc?.descendants(({ isText, text, marks }) => {
-    const names = marks.map((mark) => JSON.stringify(mark)).sort();
-    if (isText) for (const character of text) characters.push([character, ...names]);
-    else characters.push([]);
-  });
-  return JSON.stringify(characters);
-}
-
 function showSameness() {
   const docs = peers.map(({ doc }) => doc);
-  const isSame = docs.length === NAMES.length && docs.every((doc) => doc !== undefined && shown(doc) === shown(docs[0]));
+  const isSame = docs.length === NAMES.length && docs.every((doc) => doc !== undefined && doc.eq(docs[0]));
   const place = document.querySelector("#same");
   place.dataset.same = isSame;
   place.textContent = isSame ? "both show the same" : "they differ";

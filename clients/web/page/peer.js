@@ -7,9 +7,12 @@ import { EditorView } from "prosemirror-view";
 import { Ended, Session } from "peritext";
 import { bind } from "peritext/prosemirror";
 
-import { addComment, commandOf, commentsOf, has, removeComment, toggleEm, toggleLink, toggleStrong } from "./commands.js";
+import { Chips } from "./chips.js";
+import { addComment, buttonOf, commandOf, commentsOf, has, removeComment, toggleEm, toggleLink, toggleStrong } from "./commands.js";
 import { history, redo, undo } from "./history.js";
-import { hueOf, schema } from "./schema.js";
+import { Notice } from "./notice.js";
+import { schema } from "./schema.js";
+import { shownComment, spotlight, toggleShown } from "./spotlight.js";
 import { Wire } from "./wire.js";
 
 /** The document that both sides edit. */
@@ -23,6 +26,8 @@ export class Peer {
   #name;
   #place;
   #onChange;
+  #notice;
+  #chips;
   #binding;
   #view;
 
@@ -35,7 +40,11 @@ export class Peer {
     this.#name = name;
     this.#place = place;
     this.#onChange = onChange;
+    this.#notice = new Notice(this.#part(".notice"));
+    this.#chips = new Chips(this.#part(".comments"), { show: (id) => this.#showComment(id), remove: (id) => this.#removeComment(id) });
     this.#part("h2").textContent = name;
+    this.#part(".tools").setAttribute("aria-label", `Marks and undo for ${name}`);
+    this.#part(".comments").setAttribute("aria-label", `Comments that ${name} has`);
     for (const button of place.querySelectorAll("[data-do]")) {
       // The selection stays where it is.
       button.addEventListener("mousedown", (event) => event.preventDefault());
@@ -63,7 +72,7 @@ export class Peer {
         await this.#begin(new Session(wire).document(DOCUMENT));
         while (!wire.isOver) {
           await this.#binding.pull();
-          this.#clear("fault");
+          this.#notice.clear("fault");
           await pause(LOOK);
         }
       } catch (error) {
@@ -79,11 +88,11 @@ export class Peer {
     if (this.#binding !== undefined) return this.#binding.resume(document);
     const modules = { model, state, transform };
     this.#binding = await bind(modules, schema, document, { onError: (error) => this.#fail(error) });
-    const start = state.EditorState.create({ doc: this.#binding.doc, plugins: [this.#binding.plugin, history()] });
+    const start = state.EditorState.create({ doc: this.#binding.doc, plugins: [this.#binding.plugin, history(), spotlight()] });
     this.#view = new EditorView(this.#part(".editor"), {
       state: start,
-      attributes: { "aria-label": `What ${this.#name} writes`, spellcheck: "false" },
-      handleKeyDown: (view, event) => commandOf(event)?.(view.state, view.dispatch) ?? false,
+      attributes: ({ doc }) => this.#attributes(doc),
+      handleKeyDown: (_, event) => this.#key(event),
       dispatchTransaction: (transaction) => {
         this.#view.updateState(this.#view.state.apply(transaction));
         this.#show();
@@ -92,9 +101,32 @@ export class Peer {
     this.#show();
   }
 
+  /** The invitation to type is the style's: it is no part of the document. */
+  #attributes(doc) {
+    return {
+      role: "textbox",
+      "aria-multiline": "true",
+      "aria-label": `What ${this.#name} writes`,
+      "aria-placeholder": "Write here…",
+      spellcheck: "false",
+      class: doc.childCount === 1 && doc.textContent === "" ? "empty" : "",
+    };
+  }
+
   /** The end of a session is shown by the daemon's state; any other refusal is for whoever types. */
   #fail(error) {
-    if (!(error instanceof Ended)) this.#notice(error.message, "fault");
+    if (!(error instanceof Ended)) this.#notice.say("fault", error.message);
+  }
+
+  /** Whether a key did something. One with a button does what the button does. */
+  #key(event) {
+    const what = buttonOf(event);
+    if (what !== undefined) this.#do(what);
+    return what !== undefined || (this.#dispatched(commandOf(event)) ?? false);
+  }
+
+  #dispatched(command) {
+    return command?.(this.#view.state, this.#view.dispatch);
   }
 
   /** @param {string} what a button's */
@@ -108,8 +140,8 @@ export class Peer {
       undo,
       redo,
     };
-    this.#clear("hint");
-    if (!commands[what]?.(this.#view.state, this.#view.dispatch)) this.#hint(what);
+    this.#notice.clear("hint");
+    if (!this.#dispatched(commands[what])) this.#hint(what);
     this.#view.focus();
   }
 
@@ -119,22 +151,19 @@ export class Peer {
   }
 
   #hint(what) {
-    if (what === "link" && this.#linkCommand() === undefined) this.#notice("Give a whole address, as https://example.org/");
-    else if (what === "link" || what === "comment") this.#notice("Select some text first.");
+    if (what === "link" && this.#linkCommand() === undefined) this.#notice.say("hint", "Give a whole address, as https://example.org/");
+    else if (what === "link" || what === "comment") this.#notice.say("hint", "Select some text first.");
   }
 
-  /** @param {"fault" | "hint"} kind */
-  #notice(text, kind = "hint") {
-    const place = this.#part(".notice");
-    place.dataset.kind = kind;
-    place.textContent = text;
-    place.hidden = false;
+  #showComment(id) {
+    this.#dispatched(toggleShown(id));
+    this.#part(".shown")?.scrollIntoView({ block: "nearest" });
   }
 
-  /** @param {"fault" | "hint"} kind */
-  #clear(kind) {
-    const place = this.#part(".notice");
-    if (place.dataset.kind === kind) place.hidden = true;
+  #removeComment(id) {
+    this.#dispatched(removeComment(id));
+    // Its chip is gone, and the focus with it.
+    this.#view.focus();
   }
 
   #show() {
@@ -151,21 +180,7 @@ export class Peer {
     for (const mark of ["strong", "em", "link"]) {
       this.#part(`[data-do="${mark}"]`).setAttribute("aria-pressed", has(now, schema.marks[mark]));
     }
-    const ids = commentsOf(now.doc);
-    const place = this.#part(".comments");
-    if (place.dataset.ids === ids.join()) return;
-    place.dataset.ids = ids.join();
-    place.replaceChildren(...ids.map((id) => this.#commentButton(id)));
-  }
-
-  #commentButton(id) {
-    const button = document.createElement("button");
-    button.type = "button";
-    button.className = hueOf(id);
-    button.textContent = id.slice(0, 8);
-    button.title = `Take the comment ${id} away`;
-    button.addEventListener("click", () => removeComment(id)(this.#view.state, this.#view.dispatch));
-    return button;
+    this.#chips.update(commentsOf(now.doc), shownComment(now));
   }
 
   /** @param {string} selector */

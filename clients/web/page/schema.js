@@ -1,6 +1,6 @@
 /** What a document may hold: paragraphs of text, with the marks that the program has. */
 
-import { Schema } from "prosemirror-model";
+import { Mark, Schema } from "prosemirror-model";
 
 const HUES = 6;
 
@@ -45,3 +45,26 @@ export const schema = new Schema({
     },
   },
 });
+
+const { comment } = schema.marks;
+
+/**
+ * Comments on one character stand in the order of their ids, whichever was made first or came first: else two editors that
+ * hold the same would nest them differently.
+ */
+class Comment extends Mark {
+  addToSet(set) {
+    const marks = super.addToSet(set);
+    if (marks === set) return set;
+    // ProseMirror has them last, as the schema does, but in the order in which they were added.
+    const first = marks.findIndex(({ type }) => type === comment);
+    return [...marks.slice(0, first), ...marks.slice(first).sort(byId)];
+  }
+}
+
+function byId({ attrs: { id: one } }, { attrs: { id: other } }) {
+  return one < other ? -1 : 1;
+}
+
+// All that makes a comment, in the page or in ProseMirror, makes it by this.
+comment.create = ({ id }) => new Comment(comment, { id });

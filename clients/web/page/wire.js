@@ -4,6 +4,7 @@ import { Lines } from "peritext";
 
 export class Wire {
   onLine = () => {};
+  onPart = () => {};
   onEnd = () => {};
   isOver = false;
   #web;
@@ -34,8 +35,9 @@ export class Wire {
     for (const line of this.#early.splice(0)) this.send(line);
   }
 
-  /** A message may end within a line, and within a character. */
+  /** A message may end within a line, and within a character: a long answer comes in many, and none of them is silence. */
   #take(data) {
+    this.onPart();
     for (const line of this.#lines.take(this.#decoder.decode(data, { stream: true }))) this.onLine(line);
   }
 

@@ -1,6 +1,6 @@
 // The demo and its page in a browser, with what a person does there.
 
-import { mkdtempSync, rmSync } from "node:fs";
+import { mkdirSync, mkdtempSync, rmSync, writeFileSync } from "node:fs";
 import { tmpdir } from "node:os";
 import { join, resolve } from "node:path";
 
@@ -9,6 +9,9 @@ import { Demo } from "../src/demo.js";
 import { Browser } from "./webdriver.mjs";
 
 export const PROGRAM = resolve(process.env.PERITEXT || "bin/peritext");
+
+/** Where pictures of the page go, if anywhere. */
+const { PICTURES } = process.env;
 
 /** Runs a test over a new demo, which is gone afterwards. */
 export async function withPage(test) {
@@ -55,23 +58,41 @@ export class Page {
     await pause(60);
   }
 
-  /** Selects a text within one text node of an editor. */
+  /** Selects a text within one paragraph of an editor, whatever marks its parts have. */
   async select(name, text) {
     await this.browser.run(
       (id, wanted) => {
         const editor = document.querySelector(`#${id} .ProseMirror`);
         editor.focus();
-        const walker = document.createTreeWalker(editor, NodeFilter.SHOW_TEXT);
+        const paragraph = [...editor.children].find(({ textContent }) => textContent.includes(wanted));
+        const walker = document.createTreeWalker(paragraph, NodeFilter.SHOW_TEXT);
+        const ends = [];
+        let from = paragraph.textContent.indexOf(wanted);
+        let to = from + wanted.length;
         while (walker.nextNode()) {
-          const at = walker.currentNode.data.indexOf(wanted);
-          if (at >= 0) return getSelection().setBaseAndExtent(walker.currentNode, at, walker.currentNode, at + wanted.length);
+          const { length } = walker.currentNode;
+          if (from >= 0 && from < length) ends.push(walker.currentNode, from);
+          if (to > 0 && to <= length) ends.push(walker.currentNode, to);
+          from -= length;
+          to -= length;
         }
-        throw new Error(`there is no ${wanted}`);
+        getSelection().setBaseAndExtent(...ends);
       },
       name,
       text,
     );
     await pause(60);
+  }
+
+  /** The ids that the next comments get, in place of random ones. */
+  nextIds(...ids) {
+    return this.browser.run((given) => (crypto.randomUUID = () => given.shift()), ids);
+  }
+
+  /** Comments on a text. */
+  async comment(name, text) {
+    await this.select(name, text);
+    await this.press(name, "comment");
   }
 
   press(name, what) {
@@ -144,6 +165,16 @@ export class Page {
   /** A session of one's own at the daemon of a peer. */
   session(name) {
     return connect(this.demo.daemon(name).ports.sessions);
+  }
+
+  /** Takes a picture of the page, with nothing under the mouse and no caret. */
+  async picture(name) {
+    if (!PICTURES) return;
+    await this.goTo("alice");
+    await this.browser.run(() => document.activeElement.blur());
+    await this.browser.pointAway();
+    mkdirSync(PICTURES, { recursive: true });
+    writeFileSync(join(PICTURES, `${name}.png`), await this.browser.picture());
   }
 
   /** What the daemon of a peer has. */

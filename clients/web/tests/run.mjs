@@ -24,4 +24,4 @@ const noProgram = existsSync(program) ? undefined : `for there is no program ${p
 run("bridge", missing());
 run("demo", missing() ?? noProgram);
 run("kills", missing() ?? noProgram);
-run("browser", missing() ?? noProgram ?? missingBrowser());
+for (const name of ["browser", "comments", "tools", "wire"]) run(name, missing() ?? noProgram ?? missingBrowser());

@@ -6,6 +6,8 @@ import { tmpdir } from "node:os";
 import { join } from "node:path";
 
 const ELEMENT = "element-6066-11e4-a52e-4f735466cecf";
+const CONTROL = "\uE009";
+const COMMAND = "\uE03D";
 
 /** Milliseconds until something that is due has to have come. */
 const PATIENCE = 20_000;
@@ -53,11 +55,30 @@ export class Browser {
     await this.#ask("POST", `/element/${await this.#find(selector)}/click`, {});
   }
 
-  /** Types keys where the focus is, with Control held where it is said. */
-  async keys(text, { control = false } = {}) {
-    const strokes = [...text].flatMap((value) => [{ type: "keyDown", value }, { type: "keyUp", value }]);
-    const held = control ? [{ type: "keyDown", value: "\uE009" }, ...strokes, { type: "keyUp", value: "\uE009" }] : strokes;
-    await this.#ask("POST", "/actions", { actions: [{ type: "key", id: "keys", actions: held }] });
+  /** The name that a screen reader speaks. */
+  async label(selector) {
+    return this.#ask("GET", `/element/${await this.#find(selector)}/computedlabel`);
+  }
+
+  /** Types keys where the focus is, with Control or Command held where it is said. */
+  async keys(text, { control = false, command = false } = {}) {
+    const held = [...(control ? [CONTROL] : []), ...(command ? [COMMAND] : [])];
+    const actions = [
+      ...held.map((value) => ({ type: "keyDown", value })),
+      ...[...text].flatMap((value) => [{ type: "keyDown", value }, { type: "keyUp", value }]),
+      ...held.map((value) => ({ type: "keyUp", value })),
+    ];
+    await this.#ask("POST", "/actions", { actions: [{ type: "key", id: "keys", actions }] });
+  }
+
+  /** Takes the mouse to a corner, where it is over nothing. */
+  async pointAway() {
+    const actions = [{ type: "pointerMove", x: 0, y: 0 }];
+    await this.#ask("POST", "/actions", { actions: [{ type: "pointer", id: "mouse", actions }] });
+  }
+
+  resize(width, height) {
+    return this.#ask("POST", "/window/rect", { width, height });
   }
 
   /** Puts a text in at once, as an input method or a list of emoji does. */

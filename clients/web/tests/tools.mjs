@@ -1,0 +1,103 @@
+// The buttons and lines around an editor: what is spoken, what keys do, and that nothing moves.
+
+import assert from "node:assert/strict";
+import { test } from "node:test";
+
+import { withPage } from "./page.mjs";
+
+/** What a screen reader says of each button. */
+const LABELS = { strong: "Bold", em: "Italic", link: "Link", comment: "Comment", undo: "Undo", redo: "Redo" };
+
+const BACKSPACE = "\uE003";
+
+/** The window's widths: both editors side by side, and one below the other. */
+const WIDTHS = [1100, 600];
+
+test("buttons and editors have names that a screen reader speaks", () =>
+  withPage(async (page) => {
+    for (const name of ["alice", "bob"]) {
+      for (const [what, label] of Object.entries(LABELS)) assert.equal(await page.browser.label(`#${name} [data-do="${what}"]`), label);
+      assert.equal(await page.browser.label(`#${name} .ProseMirror`), `What ${name} writes`);
+    }
+    const pressed = () => page.browser.run(() => [...document.querySelectorAll("#alice [data-do]")].map((button) => button.getAttribute("aria-pressed")));
+    await page.type("alice", "word");
+    assert.deepEqual(await pressed(), ["false", "false", "false", null, null, null]);
+    await page.select("alice", "word");
+    await page.press("alice", "em");
+    assert.deepEqual(await pressed(), ["false", "true", "false", null, null, null]);
+  }));
+
+test("Ctrl-K and Cmd-K make a link to the address beside, and take it away", () =>
+  withPage(async (page) => {
+    const links = async () => (await page.spans("alice")).filter(({ link }) => link).map(({ text, link }) => [text, link]);
+    const isAt = (id, text) => page.browser.until((peer, wanted) => (document.querySelector(`#${peer} .ProseMirror a`)?.textContent ?? "") === wanted, id, text);
+    await page.type("alice", "one two");
+    for (const held of [{ control: true }, { command: true }]) {
+      await page.select("alice", "two");
+      await page.browser.keys("k", held);
+      await isAt("bob", "two");
+      await page.agrees();
+      assert.deepEqual(await links(), [["two", "https://example.org/"]]);
+      await page.browser.keys("k", held);
+      await isAt("bob", "");
+    }
+    await page.goTo("alice");
+    await page.browser.keys("k", { control: true });
+    assert.equal(await page.browser.run(() => document.querySelector("#alice .notice").textContent), "Select some text first.");
+  }));
+
+test("an empty document invites to type, with words that are no part of it", () =>
+  withPage(async (page) => {
+    const invitations = () => page.browser.run(() => [...document.querySelectorAll(".ProseMirror")].map((editor) => getComputedStyle(editor, "::before").content));
+    assert.deepEqual(await invitations(), ['"Write here…"', '"Write here…"']);
+    assert.equal(await page.text("alice"), "");
+    await page.type("alice", "a");
+    await page.shows("bob", "a");
+    assert.deepEqual(await invitations(), ["none", "none"]);
+    await page.browser.keys(BACKSPACE);
+    await page.shows("bob", "");
+    assert.deepEqual(await invitations(), ['"Write here…"', '"Write here…"']);
+    await page.agrees();
+    assert.deepEqual(await page.spans("bob"), []);
+  }));
+
+test("a hint or a state that comes or goes moves nothing", () =>
+  withPage(async (page) => {
+    const places = () =>
+      page.browser.run(() => {
+        const parts = document.querySelectorAll(".peer, .peer > header, .tools, .editor, .peer footer, .saved, .comments");
+        return [document.documentElement.scrollHeight, ...[...parts].map((part) => Object.values(part.getBoundingClientRect().toJSON()))];
+      });
+    const says = (words) => page.browser.until((wanted) => document.querySelector("#alice .notice").textContent.startsWith(wanted), words);
+    const isBelowText = () =>
+      page.browser.run(() => {
+        const text = document.querySelector("#alice .ProseMirror").lastElementChild;
+        return document.querySelector("#alice .notice").getBoundingClientRect().top >= text.getBoundingClientRect().bottom;
+      });
+    await page.paste("alice", [...Array(20).keys()].join("\n"));
+    await page.agrees();
+    for (const width of WIDTHS) {
+      await page.browser.resize(width, 1400);
+      await page.link("linked");
+      const before = await places();
+      await page.goTo("alice");
+      await page.press("alice", "comment");
+      await says("Select some text");
+      assert.deepEqual(await places(), before, "with a hint");
+      // As long as no fault is.
+      await page.browser.run(() => (document.querySelector("#alice .notice").textContent = "8 busy, and more words. ".repeat(20)));
+      assert.deepEqual(await places(), before, "with a long fault");
+      assert.equal(await isBelowText(), true);
+      await page.press("alice", "undo");
+      await says("");
+      await page.press("alice", "redo");
+      await page.power("alice");
+      await page.daemonIs("alice", "ended");
+      await page.type("alice", "s");
+      await page.savedIs("alice", "waiting");
+      assert.deepEqual(await places(), before, "with a daemon killed");
+      await page.power("alice");
+      await page.agrees();
+      assert.deepEqual(await places(), before, "once it runs again");
+    }
+  }));
