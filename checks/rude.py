@@ -9,8 +9,8 @@ import time
 
 from beside import STATUS, Beside, link, seat, together
 from daemon import PATIENCE, connection, new_daemon
-from frames import OPS, Peer, have, hello, inserted, ops, record, replica, typed
-from malformed import ENDED_BY
+from frames import BYE, OPS, Peer, framed, have, hello, inserted, ops, record, replica, typed
+from malformed import ENDED_BY, REFUSED, US
 from program import insert, line, run
 
 SOON = 2
@@ -20,6 +20,7 @@ TRICKLE = 0.1
 CONNECTIONS = 2_000
 # How many links there may be; seconds after which a peer that takes nothing is let go, and how many more it may be on a busy machine.
 LINKS, TAKES_NOTHING, SLACK = 8, 30, 10
+MANY = 8_000
 MEGABYTE = 1_000_000
 BESIDE, READ, TRICKLED, PEERS = 50, 51, 52, 53
 STOP = line(op="stop")
@@ -126,17 +127,18 @@ def deaf(port, maker, data, held):
         pass
 
 
-def told_before(daemon, maker):
-    """What a peer told once, so that it is known from then on."""
-    records = typed(maker, 64, PEERS)
+def told_before(daemon, maker, count=64):
+    """What a peer told once, so that it is known from then on: the first frame of it."""
+    records = typed(maker, count, PEERS)
     peer = link(daemon, maker)
-    peer.say(ops(*records))
+    for data in framed(records):
+        peer.say(data)
     talk, until = seat(daemon), time.monotonic() + PATIENCE
-    while talk.ask(line(op="text", doc=PEERS))["rev"] < 64 and time.monotonic() < until:
+    while talk.ask(line(op="text", doc=PEERS))["rev"] < count and time.monotonic() < until:
         time.sleep(0.01)
     talk.close()
     peer.close()
-    return ops(*records)
+    return ops(*records[:64])
 
 
 def check_peers(checks, daemon):
@@ -171,6 +173,16 @@ def check_malformed(checks, daemon):
             pass  # It may have ended the link before all was sent.
         checks.holds(f"a link ends behind {what}", peer.has_ended(PATIENCE))
         peer.close()
+    for what, data in REFUSED.items():
+        peer = link(daemon, US)
+        peer.say(ops(data))
+        said, is_over = [], False
+        while not is_over:
+            found, is_over = peer.frames(PATIENCE)
+            said += [kind for kind, _ in found]
+            is_over = is_over or not found
+        checks.same(f"the last frame behind {what}", said[-1:], [BYE])
+        peer.close()
     checks.same("operations after all malformed frames", talk.ask(STATUS)["applied"], before)
     talk.close()
 
@@ -186,7 +198,8 @@ class LetGo(threading.Thread):
         daemon = new_daemon(self.program, "deaf")
         held = []
         try:
-            told_before(daemon, replica(21))
+            # So much that it fills the sockets soon, asked for a few times.
+            told_before(daemon, replica(21), MANY)
             deaf(daemon.peers, replica(61), have() * 100, held)
             begun = time.monotonic()
             held += [link(daemon, replica(62 + number)) for number in range(LINKS - 1)]

@@ -14,17 +14,23 @@ import kills
 import locks
 import long_texts
 import memory
+import noise
+import parting
+import renewal
 import rude
 import served_limits
 import serving
+import session_memory
 import streams
+import web_pages
 import words
 import worst
 from program import Checks
 
 LIMIT = 600
 GROUPS = (
-    words, examples, long_texts, streams, locks, full_disk, crafted, damage, each_byte, kills, memory, serving, served_limits, rude, worst,
+    words, examples, long_texts, streams, locks, full_disk, crafted, damage, each_byte, kills, memory, serving, served_limits, web_pages,
+    parting, rude, noise, worst, session_memory, renewal,
 )
 
 

@@ -8,9 +8,9 @@ import subprocess
 import time
 
 from beside import Beside, together
-from daemon import HOST, PATIENCE, Daemon, within
+from daemon import HOST, PATIENCE, Daemon, free_ports, new_daemon, within
 from full_disk import limited
-from program import PAGE, REPLICA, insert, line, new_file, run, text_of
+from program import PAGE, REPLICA, fault, insert, line, new_file, run, text_of
 
 OTHER = REPLICA[:-1] + "2"
 STATUS, STOP = line(op="status"), line(op="stop")
@@ -156,9 +156,8 @@ def check_stop_under_load(checks, program):
 
 
 def check_half_closed(checks, program):
-    """A session that says all and then only listens is answered all, and a daemon that is joined to itself serves on."""
-    new_file(program, "half-closed")
-    daemon = Daemon(program, "half-closed")
+    """A session that says all and then only listens is answered all."""
+    daemon = new_daemon(program, "half-closed")
     talk = daemon.talk()
     talk.send(insert(0, "h") * 50 + STATUS + b'{"op":"te')
     talk.socket.shutdown(socket.SHUT_WR)
@@ -166,15 +165,22 @@ def check_half_closed(checks, program):
     checks.same("answers after the end of what is said", [answer["ok"] for answer in answers], [True] * 51)
     checks.holds("then it ends", talk.ended())
     checks.same("the end after that", daemon.stop(), ({"ok": True}, (0, b"", b"")))
-    own = Daemon(program, "half-closed", ports=(daemon.sessions, daemon.peers), link=daemon.peers)
-    talk = own.talk()
-    checks.same("an edit of a daemon that is its own peer", talk.ask(insert(0, "o")), {"ok": True, "rev": 51})
-    talk.close()
-    checks.same("the end of a daemon that is its own peer", own.stop(), ({"ok": True}, (0, b"", b"")))
+
+
+def check_refused(checks, program):
+    """A daemon that could serve nobody, or whose peer is itself, says so at once."""
+    new_file(program, "refused")
+    first, second = (str(port) for port in free_ports(2))
+    words = ("serve", "refused", "--sessions", first, "--peers", second)
+    for files in (8, 9):
+        few = {"preexec_fn": lambda files=files: resource.setrlimit(resource.RLIMIT_NOFILE, (files, files))}
+        checks.same(f"a daemon with {files} descriptors", run(program, *words, **few), fault(1))
+    for port in (first, second):
+        checks.same("a daemon that is its own peer", run(program, *words, "--link", port), fault(70))
 
 
 def check(checks, program, _until):
-    for part in (check_few_files, check_end_without_files, check_full_disk, check_stop_under_load, check_half_closed):
+    for part in (check_few_files, check_end_without_files, check_full_disk, check_stop_under_load, check_half_closed, check_refused):
         try:
             part(checks, program)
         except (OSError, TimeoutError, subprocess.TimeoutExpired) as error:

@@ -10,6 +10,7 @@ import time
 from daemon import Daemon, Talk, connection, free_ports, new_daemon, within
 from program import NAME, REPLICA, delete, fault, insert, line, new_file, run, text_of, texts
 
+COMMENT = "00000000-0000-4000-8000-0000000000c"
 OTHER = REPLICA[:-1] + "2"
 THIRD = REPLICA[:-1] + "3"
 STOP = line(op="stop")
@@ -34,6 +35,18 @@ def mark(kind, first, last, **more):
     return line(op="mark", doc=1, **{"from": first}, to=last, kind=kind, **more)
 
 
+def unmark(kind, first, last, **more):
+    return line(op="unmark", doc=1, **{"from": first}, to=last, kind=kind, **more)
+
+
+def spans():
+    return line(op="spans", doc=1)
+
+
+def shown(rev, *them):
+    return {"ok": True, "rev": rev, "spans": list(them)}
+
+
 def done(rev):
     return {"ok": True, "rev": rev}
 
@@ -52,6 +65,39 @@ ROWS = {
     "a link doesn't": [
         (insert(0, "abc"), done(3)), (mark("link", 0, 2, url="u"), done(4)), (insert(2, "x"), done(5)),
         (line(op="spans", doc=1), {"ok": True, "rev": 5, "spans": [{"link": "u", "text": "ab"}, {"text": "xc"}]}),
+    ],
+    "em grows": [
+        (insert(0, "abc"), done(3)), (mark("em", 0, 2), done(4)), (insert(2, "x"), done(5)),
+        (spans(), shown(5, {"em": True, "text": "abx"}, {"text": "c"})),
+    ],
+    "an unmark grows": [
+        (insert(0, "ab"), done(2)), (mark("strong", 0, 2), done(3)), (unmark("strong", 1, 2), done(4)), (insert(2, "c"), done(5)),
+        (spans(), shown(5, {"strong": True, "text": "a"}, {"text": "bc"})),
+    ],
+    "a link behind a tombstone": [
+        (insert(0, "ab"), done(2)), (mark("link", 0, 2, url="u"), done(3)), (delete(1, 1), done(4)), (insert(1, "x"), done(5)),
+        (spans(), shown(5, {"link": "u", "text": "a"}, {"text": "x"})),
+    ],
+    "a link of nothing": [
+        (insert(0, "a"), done(1)), (mark("link", 0, 1, url="u"), done(2)), (delete(0, 1), done(3)), (insert(0, "x"), done(4)),
+        (spans(), shown(4, {"text": "x"})),
+    ],
+    "strong over strong": [
+        (insert(0, "The fox jumped"), done(14)), (mark("strong", 0, 7), done(15)), (mark("strong", 4, 14), done(16)),
+        (spans(), shown(16, {"strong": True, "text": "The fox jumped"})),
+    ],
+    "comments over one another": [
+        (insert(0, "abc"), done(3)), (mark("comment", 0, 2, id=COMMENT + "1"), done(4)), (mark("comment", 1, 3, id=COMMENT + "2"), done(5)),
+        (spans(), shown(5, {"comments": [COMMENT + "1"], "text": "a"}, {"comments": [COMMENT + "1", COMMENT + "2"], "text": "b"},
+                        {"comments": [COMMENT + "2"], "text": "c"})),
+        (unmark("comment", 1, 2, id=COMMENT + "1"), done(6)),
+        (spans(), shown(6, {"comments": [COMMENT + "1"], "text": "a"}, {"comments": [COMMENT + "2"], "text": "bc"})),
+    ],
+    "the fields of a line": [
+        (insert(0, "a"), done(1)), (insert(0, "a", doc=0), refused(4, "field")), (b'{"op":"insert","doc":1,"at":1.0,"text":"b"}\n', refused(4, "field")),
+        (b"[" * 100 + b"]" * 100 + b"\n", refused(3, "request")), (b"[" * 200 + b"]" * 200 + b"\n", refused(2, "syntax")),
+        (mark("link", 0, 1, url="u" * 1_025), refused(4, "field")), (mark("link", 0, 1, url="u" * 1_024), done(2)),
+        (spans(), shown(2, {"link": "u" * 1_024, "text": "a"})),
     ],
     "limits": [
         (insert(0, "x" * 257), refused(7, "limit")), (insert(0, "x" * 256), done(256)), (delete(256, 1), refused(5, "range")),

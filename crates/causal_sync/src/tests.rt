@@ -265,6 +265,20 @@ fn frames_before_a_fault_are_given(rt: HostRuntime) -> Result<(), Fail> {
     Ok(())
 }
 
+#[test]
+fn operations_that_break_a_rule_end_the_link(rt: HostRuntime) -> Result<(), Fail> {
+    let alloc = rt.alloc();
+    let surrogate = "0000002a 03 0001 00000023 01 00000001 0000000000000001 A 00 00 0000d800";
+    let fewer = "0000002a 03 0002 00000023 01 00000001 0000000000000001 A 00 00 00000061";
+    for (operations, due) in [(surrogate, 33), (fewer, 25)] {
+        let bytes = bytes_of(alloc, &format!(in alloc; "{HELLO} {operations}")?)?;
+        let mut link = Link::start(alloc, replica(2)?)?;
+        assert_eq!(rt; answers(alloc, &mut link, &bytes), (due, 27, 27));
+        assert!(rt; hears(alloc, &mut link, &["hello"])?);
+    }
+    Ok(())
+}
+
 /// The answer to the saying of a first operation of a replica.
 fn said_first(alloc: Global, link: &mut Link, last: u8) -> Result<u8, Fail> {
     let mut op = first_insert(alloc)?;

@@ -12,7 +12,7 @@ use crate::serve_order::ServeOrder;
 use crate::store_order::StoreOrder;
 use disk_trait::{Disk, DiskError, FileDisk, MemDisk};
 use hub_parts::open;
-use serve_threads::{Joined, Sockets, serve_all};
+use serve_threads::{Joined, Sockets, serve_on};
 use shared_hub::NoGate;
 use std::fs::File;
 use std::io::{ErrorKind, Write};
@@ -157,7 +157,7 @@ fn run_held<
 /// Serves the sessions and the peers of a file. Faults come in this order: the file can't be opened
 /// (54); it is no store, the device fails or memory is refused (42 to 47, 50, 52, 1); a socket
 /// can't be opened or the peer can't be joined (70); the device failed while it served, or what was
-/// applied couldn't be settled (9).
+/// applied couldn't be settled (9); or those of an opening, where the file is opened anew.
 fn serve<
     R: Files<File = File>
         + Clock
@@ -177,7 +177,10 @@ fn serve<
     let Ok(sockets) = open_sockets(rt, order) else {
         return Err(Fault::Socket);
     };
-    let served = serve_all(rt, rt.alloc(), parts, sockets, &NoGate);
+    let served = match serve_on(rt, rt.alloc(), parts, sockets, &NoGate) {
+        Ok(served) => served,
+        Err(fault) => return Err(Fault::from(fault.cause)),
+    };
     if !served.has_begun {
         Err(Fault::Memory)
     } else if served.has_failed {
@@ -187,11 +190,15 @@ fn serve<
     }
 }
 
-/// Opens the sockets that an order names, in its order, and joins its peer.
+/// Opens the sockets that an order names, in its order, and joins its peer, which isn't the daemon
+/// itself.
 fn open_sockets<R: Net<Listener = TcpListener, Stream = TcpStream>>(
     rt: &R,
     order: &ServeOrder<'_>,
 ) -> io::Result<Sockets> {
+    if order.link == Some(order.peers) || order.link == Some(order.sessions) {
+        return Err(io::Error::other("a daemon is no peer of its own"));
+    }
     let sessions = TcpListener::bind(rt, (HOST, order.sessions))?;
     let peers = TcpListener::bind(rt, (HOST, order.peers))?;
     let joined = match order.link {

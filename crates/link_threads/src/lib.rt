@@ -16,7 +16,7 @@ mod telling;
 mod write_out;
 
 pub use line::Line;
-pub use link_thread::serve_link;
+pub use link_thread::{Parted, serve_link};
 pub use peer::Peer;
 pub use speak_error::SpeakError;
 pub use speaker::Speaker;

@@ -18,8 +18,26 @@ use std::thread::Threads;
 /// How many notes wait at most.
 const NOTES: usize = 64;
 
-/// Serves a link of this replica to its end: this thread hears, and another one tells. Answers
-/// whether the other end said HELLO.
+/// What became of a link that has ended.
+#[derive(Clone, Copy, Debug, Drop, PartialEq, Eq)]
+pub struct Parted {
+    /// Whether the other end said a HAVE or operations: a link that only greets is of no use.
+    pub was_of_use: bool,
+    /// Whether an operation found no steps left (10): none can be taken before the file was opened
+    /// anew.
+    pub is_out_of_steps: bool,
+}
+
+impl Parted {
+    /// A link that there was no memory for.
+    const AT_ONCE: Parted = Parted {
+        was_of_use: false,
+        is_out_of_steps: false,
+    };
+}
+
+/// Serves a link of this replica to its end: this thread hears, and another one tells. Tells what
+/// became of it.
 pub fn serve_link<R: Wait + Clock + Threads + Sync, J: Desks + Send + Sync, G: Gate + Sync>(
     rt: &R,
     alloc: Global,
@@ -28,14 +46,14 @@ pub fn serve_link<R: Wait + Clock + Threads + Sync, J: Desks + Send + Sync, G: G
     pass: &mut Pass<J>,
     stream: &TcpStream,
     gate: &G,
-) -> bool {
+) -> Parted {
     let Ok(end) = LinkEnd::start(alloc, own) else {
-        return false;
+        return Parted::AT_ONCE;
     };
     let Ok((producer, consumer)) = RingBuffer::new(alloc, NOTES) else {
-        return false;
+        return Parted::AT_ONCE;
     };
-    hear_and_tell(
+    let is_out_of_steps = hear_and_tell(
         rt,
         alloc,
         shared,
@@ -45,10 +63,14 @@ pub fn serve_link<R: Wait + Clock + Threads + Sync, J: Desks + Send + Sync, G: G
         stream,
         gate,
     );
-    end.has_heard_hello(rt)
+    Parted {
+        was_of_use: end.has_heard_more(rt),
+        is_out_of_steps,
+    }
 }
 
-/// This thread hears, and another one tells, until the link ends.
+/// This thread hears, and another one tells, until the link ends. Answers whether an operation found
+/// no steps left.
 fn hear_and_tell<'a, R: Wait + Clock + Threads + Sync, J: Desks + Send + Sync, G: Gate + Sync>(
     rt: &'a R,
     alloc: Global,
@@ -58,7 +80,8 @@ fn hear_and_tell<'a, R: Wait + Clock + Threads + Sync, J: Desks + Send + Sync, G
     (producer, consumer): (Producer<u8>, Consumer<u8>),
     stream: &'a TcpStream,
     gate: &'a G,
-) {
+) -> bool {
+    let link = pass.number();
     let mut hearing = Hearing {
         rt,
         shared,
@@ -66,11 +89,15 @@ fn hear_and_tell<'a, R: Wait + Clock + Threads + Sync, J: Desks + Send + Sync, G
         gate,
         pass,
         notes: producer,
+        is_due: false,
+        haves: 0,
+        is_out_of_steps: false,
     };
     let telling = Telling {
         rt,
         shared,
         end,
+        link,
         notes: consumer,
         speaker: Speaker::new(),
         pause: PAUSE,
@@ -80,6 +107,7 @@ fn hear_and_tell<'a, R: Wait + Clock + Threads + Sync, J: Desks + Send + Sync, G
         let told = scope.spawn(move || {
             let mut writer = stream;
             telling.run(alloc, &mut writer);
+            end.end(rt);
             let _ = stream.shutdown(Shutdown::Both);
         });
         if told.is_ok() {
@@ -87,6 +115,7 @@ fn hear_and_tell<'a, R: Wait + Clock + Threads + Sync, J: Desks + Send + Sync, G
             hearing.run(&mut reader);
         }
         end.end(rt);
-        shared.call(rt);
+        shared.call(rt, link);
     });
+    hearing.is_out_of_steps
 }

@@ -23,12 +23,19 @@ pub(crate) const PAUSE: u64 = 10;
 
 const LONGEST_PAUSE: u64 = 1_000;
 
+/// The pause before operations are told that were asked for again, in milliseconds: an end that
+/// asks for ever leaves the hub's lock and the processors to others. It is longer than the pause
+/// after many HAVEs, so that such an end has asked again when it is over.
+const PAUSE_AGAIN: u64 = 4;
+
 /// What the thread of a link that tells works with.
 #[derive(Drop)]
 pub(crate) struct Telling<'a, R: Wait + Clock, J: Desks> {
     pub rt: &'a R,
     pub shared: &'a Shared<J>,
     pub end: &'a LinkEnd,
+    /// The number of the link's pass.
+    pub link: usize,
     /// The notes of the thread that hears: a HAVE is due.
     pub notes: Consumer<u8>,
     pub speaker: Speaker,
@@ -69,6 +76,9 @@ impl<'a, R: Wait + Clock, J: Desks> Telling<'a, R, J> {
             if self.end.is_over(self.rt) || seen.is_closing {
                 return true;
             }
+            if self.end.take_asked_again(self.rt) {
+                thread::sleep(self.rt, Duration::from_millis(PAUSE_AGAIN));
+            }
             // A HAVE that found no memory stays due.
             if !is_have_due {
                 is_have_due = self.has_notes();
@@ -77,7 +87,7 @@ impl<'a, R: Wait + Clock, J: Desks> Telling<'a, R, J> {
                 Ok(has_told) => {
                     is_have_due = false;
                     if !has_told {
-                        seen = self.shared.wait_for_news(self.rt, seen);
+                        seen = self.shared.wait_for_news(self.rt, self.link, seen);
                     }
                 }
                 Err(SpeakError::Memory) => match write_out(line, stream) {

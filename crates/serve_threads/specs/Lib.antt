@@ -1,1 +1,3 @@
+pub mod RequestLine
 pub mod Serving
+pub mod Turns

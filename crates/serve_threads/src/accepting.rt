@@ -1,14 +1,15 @@
 //! The threads that let connections in.
 
+use crate::busy::say_busy;
 use crate::doors::Doors;
+use crate::ending::End;
 use crate::hall::Hall;
+use crate::lobby::Lobby;
 use crate::session_thread::serve_session;
 use link_threads::serve_link;
 use pass_books::Desks;
-use session_lines::{Answer, Refusal, say};
 use shared_hub::Gate;
 use std::alloc::Global;
-use std::io::Write;
 use std::net::TcpStream;
 use std::rt::Clock;
 use std::sync::Wait;
@@ -31,7 +32,8 @@ pub(crate) enum Kind {
 }
 
 /// Lets connections of one kind in, each of which gets a thread, until the daemon is asked to end;
-/// then waits for their ends. One that finds no place is closed, a session with the answer 8.
+/// then waits for their ends. One that finds no place or no thread is closed, a session with the
+/// answer 8.
 pub(crate) fn accept<R: Wait + Clock + Threads + Sync, J: Desks + Send + Sync, G: Gate + Sync>(
     rt: &R,
     alloc: Global,
@@ -41,9 +43,9 @@ pub(crate) fn accept<R: Wait + Clock + Threads + Sync, J: Desks + Send + Sync, G
     doors: &Doors,
 ) {
     let lobby = hall.lobby(kind);
-    let listener = doors.listener(kind);
+    let door = doors.door(kind);
     thread::scope(thread::scope_env(), rt, |scope| {
-        for stream in listener.incoming() {
+        for stream in door.listener().incoming() {
             if hall.ending.is_asked(rt) {
                 break;
             }
@@ -53,15 +55,16 @@ pub(crate) fn accept<R: Wait + Clock + Threads + Sync, J: Desks + Send + Sync, G
             };
             let Some(entry) = lobby.enter(rt, &stream) else {
                 if kind == Kind::Session {
-                    refuse(alloc, &stream);
+                    say_busy(&stream);
                 }
                 continue;
             };
             let served = scope.spawn(move || serve(rt, alloc, hall, gate, kind, entry, &stream));
             if served.is_err() {
-                lobby.leave(rt, entry, None);
+                lobby.turn_away(rt, entry, kind);
             }
         }
+        door.note_left(rt);
     });
 }
 
@@ -78,37 +81,33 @@ fn serve<R: Wait + Clock + Threads + Sync, J: Desks + Send + Sync, G: Gate + Syn
     match kind {
         Kind::Session => serve_session(rt, alloc, hall, gate, entry, stream),
         Kind::Link => {
-            let _is_greeted = link(rt, alloc, hall, gate, entry, stream);
+            let _is_of_use = link(rt, alloc, hall, gate, &hall.links, entry, stream);
         }
     }
 }
 
-/// Answers a session for which there is no place.
-fn refuse(alloc: Global, stream: &TcpStream) {
-    let mut text = Vec::new(alloc);
-    let mut writer = stream;
-    if say(alloc, &Answer::Refused(Refusal::Busy), &mut text).is_ok() {
-        let _ = writer.write_all(&text);
-    }
-}
-
-/// Serves a link whose connection is in the lobby, to its end, and gives its place back. Answers
-/// whether the other end said HELLO.
+/// Serves a link whose connection is in this lobby, to its end, and gives its place back. Answers
+/// whether the other end said more than HELLO and BYE. One whose operation finds no steps left (10)
+/// asks the daemon to open its file anew.
 pub(crate) fn link<R: Wait + Clock + Threads + Sync, J: Desks + Send + Sync, G: Gate + Sync>(
     rt: &R,
     alloc: Global,
     hall: &Hall<J>,
     gate: &G,
+    lobby: &Lobby<J>,
     entry: u64,
     stream: &TcpStream,
 ) -> bool {
     let _ = stream.set_nodelay(true);
     let _ = stream.set_write_timeout(Some(Duration::from_secs(PATIENCE)));
-    let Some(mut pass) = hall.links.take_pass(rt) else {
-        hall.links.leave(rt, entry, None);
+    let Some(mut pass) = lobby.take_pass(rt) else {
+        lobby.leave(rt, entry, None);
         return false;
     };
-    let greeted = serve_link(rt, alloc, hall.own, &hall.shared, &mut pass, stream, gate);
-    hall.links.leave(rt, entry, Some(pass));
-    greeted
+    let parted = serve_link(rt, alloc, hall.own, &hall.shared, &mut pass, stream, gate);
+    if parted.is_out_of_steps {
+        hall.ending.ask(rt, End::Renewal);
+    }
+    lobby.leave(rt, entry, Some(pass));
+    parted.was_of_use
 }

@@ -4,6 +4,7 @@ ghost use Rattle.session_lines.specs.Saying.{number_of};
 ghost use Rattle.shared_hub.specs.Refusal.{number_of as number_of_shared};
 ghost use Rattle.serve_threads.specs.Serving.{is_edit_refusal, ServesEdit, ServesText, ServesSpans, ServesStatus, ServesStop};
 
+use crate::ending::End;
 use crate::shared_desk::SharedDesk;
 use fixed_numbers::refusals::{BUSY, FAILED, LIMIT, MEMORY, RANGE, STALE, STEPS, STOPPING};
 use op_model::Edit;
@@ -36,6 +37,7 @@ impl<'a, R: Wait, J: Desks, G: Gate> Desk for SharedDesk<'a, R, J, G> {
 
 impl<'a, R: Wait, J: Desks, G: Gate> SharedDesk<'a, R, J, G> {
     /// Makes an edit, and waits until it is settled: it is answered only where it is acknowledged.
+    /// One that finds no steps left (10) asks the daemon to open its file anew.
     fn edit(&mut self, edit: &Edit) -> Answer
         ensures { ServesEdit self.old edit.now result self.new }
     {
@@ -50,24 +52,33 @@ impl<'a, R: Wait, J: Desks, G: Gate> SharedDesk<'a, R, J, G> {
                     Answer::Refused(Refusal::Failed)
                 }
             }
-            Err(refusal) => Answer::Refused(refusal_of(refusal)),
+            Err(refusal) => {
+                let refusal = refusal_of(refusal);
+                if refusal == Refusal::Steps {
+                    self.ending.ask(self.rt, End::Renewal);
+                }
+                Answer::Refused(refusal)
+            }
         }
     }
 
-    /// The text of a document.
+    /// The text of a document. Those who read take turns, since a reading holds the hub's lock: so
+    /// an edit, which takes that lock a few times, waits for no more readings than that.
     fn text(&mut self, doc: u32) -> Answer
         ensures { ServesText self.old doc result self.new }
     {
+        let _turn = self.read_turn.lock(self.rt);
         match self.shared.text(self.rt, &mut self.pass, doc) {
             Ok(Shown { rev, content }) => Answer::Text { rev, text: content },
             Err(_) => Answer::Refused(Refusal::Memory),
         }
     }
 
-    /// The text of a document, cut where its marks change.
+    /// The text of a document, cut where its marks change, in turn with others who read.
     fn spans(&mut self, doc: u32) -> Answer
         ensures { ServesSpans self.old doc result self.new }
     {
+        let _turn = self.read_turn.lock(self.rt);
         match self.shared.spans(self.rt, &mut self.pass, doc) {
             Ok(Shown { rev, content }) => Answer::Spans {
                 rev,
@@ -101,7 +112,7 @@ impl<'a, R: Wait, J: Desks, G: Gate> SharedDesk<'a, R, J, G> {
         ensures { ServesStop self.old result self.new }
     {
         let is_settled = self.shared.stop(self.rt);
-        self.ending.ask(self.rt);
+        self.ending.ask(self.rt, End::Stop);
         if is_settled {
             Answer::Stopped
         } else {

@@ -1,49 +1,67 @@
-//! Whether the daemon was asked to end.
+//! Whether the daemon's threads were asked to end, and for what.
 
 use std::rt::Clock;
 use std::sync::{Condvar, Mutex, Wait};
 use std::time::Duration;
 
-/// Whether the daemon was asked to end, for which threads may wait.
+/// What the daemon's threads are asked to end for.
+#[derive(Clone, Copy, Debug, PartialEq, Eq)]
+pub(crate) enum End {
+    /// A session asked for a stop, or not all threads could be started.
+    Stop,
+    /// The hub has no steps left (10), so the file is to be opened anew.
+    Renewal,
+}
+
+/// Whether the daemon's threads were asked to end, for which they may wait.
 #[derive(Drop)]
 pub(crate) struct Ending {
-    is_asked: Mutex<bool>,
-    asked: Condvar,
+    asked: Mutex<Option<End>>,
+    came: Condvar,
 }
 
 impl Ending {
-    /// It wasn't asked yet.
+    /// They weren't asked yet.
     pub fn new() -> Ending {
         Ending {
-            is_asked: Mutex::new(false),
-            asked: Condvar::new(),
+            asked: Mutex::new(None),
+            came: Condvar::new(),
         }
     }
 
-    /// Asks it to end.
-    pub fn ask<R: Wait>(&self, rt: &R) {
-        *self.is_asked.lock(rt) = true;
-        self.asked.notify_all();
+    /// Asks them to end. A stop outweighs a renewal, whichever is asked for first.
+    pub fn ask<R: Wait>(&self, rt: &R, end: End) {
+        let mut asked = self.asked.lock(rt);
+        if *asked != Some(End::Stop) {
+            *asked = Some(end);
+        }
+        drop(asked);
+        self.came.notify_all();
     }
 
-    /// Whether it was asked.
+    /// What they were asked to end for, if they were.
+    pub fn asked<R: Wait>(&self, rt: &R) -> Option<End> {
+        *self.asked.lock(rt)
+    }
+
+    /// Whether they were asked.
     pub fn is_asked<R: Wait>(&self, rt: &R) -> bool {
-        *self.is_asked.lock(rt)
+        self.asked(rt).is_some()
     }
 
-    /// Waits until it is asked.
+    /// Waits until they are asked.
     pub fn wait<R: Wait>(&self, rt: &R) {
         let _asked = self
-            .asked
-            .wait_while(rt, self.is_asked.lock(rt), |is_asked| !*is_asked);
+            .came
+            .wait_while(rt, self.asked.lock(rt), |asked| asked.is_none());
     }
 
-    /// Waits until it is asked, at most so long, and answers whether it was.
+    /// Waits until they are asked, at most so long, and answers whether they were.
     pub fn wait_at_most<R: Wait + Clock>(&self, rt: &R, time: Duration) -> bool {
-        let guard = self.is_asked.lock(rt);
+        let guard = self.asked.lock(rt);
         let (_, result) = self
-            .asked
-            .wait_timeout_while(rt, guard, time, |is_asked| !*is_asked);
+            .came
+            .wait_timeout_while(rt, guard, time, |asked| asked.is_none());
         !result.timed_out()
     }
 }

@@ -5,12 +5,18 @@
 mod accepting;
 #[cfg(test)]
 mod asking_gate;
+mod busy;
 mod desk_serving;
+mod door;
 mod doors;
 mod ending;
+mod first_look;
+mod front;
 mod hall;
+mod last_words;
 mod lobby;
 mod rejoining;
+mod renewing;
 mod serving;
 mod session_thread;
 mod shared_desk;
@@ -18,10 +24,12 @@ mod shared_desk;
 mod test_daemons;
 #[cfg(test)]
 mod tests;
-mod until_asked;
+mod until_closed;
 #[cfg(test)]
 mod waiting_disk;
 
+pub use front::Front;
 pub use rejoining::Joined;
+pub use renewing::serve_on;
 pub use serving::{Served, Sockets, serve_all};
 pub use shared_desk::SharedDesk;

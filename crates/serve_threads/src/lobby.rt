@@ -1,5 +1,7 @@
 //! Who is connected.
 
+use crate::accepting::Kind;
+use crate::busy::say_busy;
 use pass_books::{Desks, Pass};
 use std::alloc::{AllocError, Global};
 use std::net::{Shutdown, TcpStream};
@@ -20,23 +22,32 @@ struct Inside<J: Desks> {
     passes: Vec<Pass<J>>,
     /// How many more connections may enter.
     places: usize,
-    /// Those that are connected, by the number of their entry.
-    sockets: Vec<(u64, TcpStream)>,
+    connected: Vec<Connected>,
     /// How many have entered.
     entered: u64,
     is_closed: bool,
+}
+
+/// One that is connected.
+#[derive(Drop)]
+struct Connected {
+    /// The number of its entry.
+    entry: u64,
+    socket: TcpStream,
+    /// Whether a thread reads from it.
+    is_reading: bool,
 }
 
 impl<J: Desks> Lobby<J> {
     /// Nobody is connected. An error is want of memory (1).
     pub fn new(alloc: Global, passes: Vec<Pass<J>>) -> Result<Lobby<J>, AllocError> {
         let places = passes.len();
-        let sockets = Vec::with_capacity(alloc, places)?;
+        let connected = Vec::with_capacity(alloc, places)?;
         Ok(Lobby {
             inside: Mutex::new(Inside {
                 passes,
                 places,
-                sockets,
+                connected,
                 entered: 0,
                 is_closed: false,
             }),
@@ -61,8 +72,38 @@ impl<J: Desks> Lobby<J> {
         self.left.notify_all();
     }
 
-    /// Lets nobody in any more, and ends what the connections read.
+    /// Shuts a connection for which there is no thread, a session with the answer 8, and gives its
+    /// place back.
+    pub fn turn_away<R: Wait>(&self, rt: &R, entry: u64, kind: Kind) {
+        if kind == Kind::Session {
+            self.inside.lock(rt).refuse(entry);
+        }
+        self.leave(rt, entry, None);
+    }
+
+    /// Notes that a thread reads from a connection, unless nobody is served any more: answers
+    /// whether it may.
+    pub fn begin_reading<R: Wait>(&self, rt: &R, entry: u64) -> bool {
+        let mut inside = self.inside.lock(rt);
+        inside.note_reading(entry, true);
+        !inside.is_closed
+    }
+
+    /// Notes that a thread has read from a connection.
+    pub fn end_reading<R: Wait>(&self, rt: &R, entry: u64) {
+        self.inside.lock(rt).note_reading(entry, false);
+    }
+
+    /// Lets nobody in any more, and ends the waits of those who read. Others find out when they
+    /// read next: of them something may be unread, which is to be dropped before they are shut.
     pub fn close<R: Wait>(&self, rt: &R) {
+        let mut inside = self.inside.lock(rt);
+        inside.is_closed = true;
+        inside.end_waits();
+    }
+
+    /// Lets nobody in any more, and ends all that is read.
+    pub fn close_at_once<R: Wait>(&self, rt: &R) {
         let mut inside = self.inside.lock(rt);
         inside.is_closed = true;
         inside.shut(Shutdown::Read);
@@ -73,7 +114,7 @@ impl<J: Desks> Lobby<J> {
         let guard = self.inside.lock(rt);
         let (guard, _) = self
             .left
-            .wait_timeout_while(rt, guard, time, |inside| !inside.sockets.is_empty());
+            .wait_timeout_while(rt, guard, time, |inside| !inside.connected.is_empty());
         guard.shut(Shutdown::Both);
     }
 }
@@ -84,10 +125,31 @@ impl<J: Desks> Inside<J> {
             return None;
         }
         let entry = self.entered;
-        self.sockets.push((entry, socket)).ok()?;
+        let connected = Connected {
+            entry,
+            socket,
+            is_reading: false,
+        };
+        self.connected.push(connected).ok()?;
         self.places -= 1;
         self.entered = entry.wrapping_add(1);
         Some(entry)
+    }
+
+    fn refuse(&self, entry: u64) {
+        for it in self.connected.iter() {
+            if it.entry == entry {
+                say_busy(&it.socket);
+            }
+        }
+    }
+
+    fn note_reading(&mut self, entry: u64, is_reading: bool) {
+        for it in self.connected.iter_mut() {
+            if it.entry == entry {
+                it.is_reading = is_reading;
+            }
+        }
     }
 
     fn leave(&mut self, entry: u64, pass: Option<Pass<J>>) {
@@ -95,15 +157,23 @@ impl<J: Desks> Inside<J> {
             let _ = self.passes.push(pass);
         }
         self.places = self.places.saturating_add(1);
-        if let Some(at) = self.sockets.iter().position(|(number, _)| *number == entry) {
-            let (_, socket) = self.sockets.swap_remove(at);
+        if let Some(at) = self.connected.iter().position(|it| it.entry == entry) {
+            let Connected { socket, .. } = self.connected.swap_remove(at);
             let _ = socket.shutdown(Shutdown::Both);
         }
     }
 
+    fn end_waits(&self) {
+        for it in self.connected.iter() {
+            if it.is_reading {
+                let _ = it.socket.shutdown(Shutdown::Read);
+            }
+        }
+    }
+
     fn shut(&self, how: Shutdown) {
-        for (_, socket) in self.sockets.iter() {
-            let _ = socket.shutdown(how);
+        for it in self.connected.iter() {
+            let _ = it.socket.shutdown(how);
         }
     }
 }

@@ -10,7 +10,7 @@ use std::net::{Ipv4Addr, Net, SocketAddr, TcpListener, TcpStream};
 use std::rt::Clock;
 use std::sync::Wait;
 use std::thread::Threads;
-use std::time::Duration;
+use std::time::{Duration, Instant};
 
 /// The pauses before a peer is joined again, in milliseconds: the first, which doubles up to the
 /// longest.
@@ -22,10 +22,14 @@ const LONGEST_PAUSE: u64 = 5_000;
 /// would hold up the daemon's end.
 const PATIENCE: u64 = 1_000;
 
+/// How long a link lasts, in seconds, after which its peer is joined again as soon as at first.
+const LASTING: u64 = 60;
+
 /// A peer that was joined, and where it listens on 127.0.0.1.
 #[derive(Drop)]
 pub struct Joined {
-    pub stream: TcpStream,
+    /// The connection to it; where there is none, it is to be joined anew.
+    pub stream: Option<TcpStream>,
     pub port: u16,
 }
 
@@ -36,13 +40,20 @@ impl Joined {
         rt: &R,
         port: u16,
     ) -> io::Result<Joined> {
-        let stream = connect(rt, port)?;
+        let stream = Some(connect(rt, port)?);
         Ok(Joined { stream, port })
+    }
+
+    /// A peer on this port that is to be joined anew.
+    pub fn anew(port: u16) -> Joined {
+        Joined { stream: None, port }
     }
 }
 
 /// Serves the link to a peer that was joined. Where that ends, the peer is joined again, with
-/// pauses that double from 100 milliseconds to 5 seconds, until the daemon is asked to end.
+/// pauses that double from 100 milliseconds to 5 seconds, until the daemon is asked to end. The
+/// pauses begin anew after a link that lasted a minute, or on which the peer said more than HELLO
+/// and BYE.
 pub(crate) fn keep_joined<
     R: Wait + Clock + Threads + Net<Listener = TcpListener, Stream = TcpStream> + Sync,
     J: Desks + Send + Sync,
@@ -50,10 +61,13 @@ pub(crate) fn keep_joined<
 >(rt: &R, alloc: Global, hall: &Hall<J>, gate: &G, joined: Joined) {
     let Joined { stream, port } = joined;
     let mut pause = PAUSE;
-    let mut stream = Some(stream);
+    let mut stream = match stream {
+        Some(stream) => Some(stream),
+        None => connect(rt, port).ok(),
+    };
     for _ in rt.forever() {
         if let Some(stream) = stream {
-            if is_greeted(rt, alloc, hall, gate, &stream) {
+            if is_of_use(rt, alloc, hall, gate, &stream) {
                 pause = PAUSE;
             }
         }
@@ -74,17 +88,29 @@ fn connect<R: Net<Listener = TcpListener, Stream = TcpStream>>(
     TcpStream::connect_timeout(rt, &place, Duration::from_millis(PATIENCE))
 }
 
-/// Serves the link over a stream to its end, where there is a place for it, and answers whether the
-/// peer said HELLO.
-fn is_greeted<R: Wait + Clock + Threads + Sync, J: Desks + Send + Sync, G: Gate + Sync>(
+/// Serves the link over a stream to its end, where there is a place for it, and answers whether it
+/// was of use: it lasted a minute, or the peer said more than HELLO and BYE.
+fn is_of_use<R: Wait + Clock + Threads + Sync, J: Desks + Send + Sync, G: Gate + Sync>(
     rt: &R,
     alloc: Global,
     hall: &Hall<J>,
     gate: &G,
     stream: &TcpStream,
 ) -> bool {
-    match hall.links.enter(rt, stream) {
-        Some(entry) => link(rt, alloc, hall, gate, entry, stream),
-        None => false,
+    let Some(entry) = hall.own_link.enter(rt, stream) else {
+        return false;
+    };
+    let start = Instant::now(rt);
+    link(rt, alloc, hall, gate, &hall.own_link, entry, stream) || has_lasted(rt, start)
+}
+
+/// Whether a minute has passed since a time; not where the clock can't be read.
+fn has_lasted<R: Clock>(rt: &R, start: io::Result<Instant>) -> bool {
+    let Ok(start) = start else {
+        return false;
+    };
+    match start.elapsed(rt) {
+        Ok(took) => Duration::from_secs(LASTING) <= took,
+        Err(_) => false,
     }
 }

@@ -5,6 +5,7 @@ ghost use Rattle.shared_hub.specs.Going.{Goes, ComesBack};
 
 use crate::accepting::{Kind, accept};
 use crate::doors::Doors;
+use crate::ending::End;
 use crate::hall::Hall;
 use crate::rejoining::{Joined, keep_joined};
 use disk_trait::Disk;
@@ -20,8 +21,12 @@ use std::thread;
 use std::thread::Threads;
 use std::time::Duration;
 
-/// How long sessions and links have for their last words, in milliseconds.
-const LAST_WORDS: u64 = 1_000;
+/// How long sessions have for their last words, in milliseconds: longer than what they still send
+/// is dropped.
+const SESSION_WORDS: u64 = 3_000;
+
+/// How long links have for theirs.
+const LINK_WORDS: u64 = 1_000;
 
 /// Where the daemon listens, and the peer that it joined.
 #[derive(Drop)]
@@ -40,13 +45,19 @@ pub struct Served<D: Disk> {
     pub has_failed: bool,
     /// Whether there was memory to begin with, that of its threads included.
     pub has_begun: bool,
+    /// Where no steps were left (10) and nobody asked for a stop: the sockets, which go on
+    /// listening. The file is to be opened anew and served over them.
+    pub renewal: Option<Sockets>,
 }
 
-/// Serves sessions and links over a hub that was just opened, until a session asked for a stop and
-/// what was applied is settled; then hands back the disk.
+/// Serves sessions and links over a hub that was just opened, until a session asked for a stop, or
+/// an edit or a merge found no steps left (10), and what was applied is settled; then hands back the
+/// disk, and in the second case the sockets.
 ///
-/// At most 32 sessions and 8 links are served at once: a further session is answered 8 and closed,
-/// a further link is closed. At the end they have a second for their last words.
+/// At most 32 sessions and 8 links are served at once, one of which is the joined peer's, where
+/// there is one: a further session is answered 8 and closed, a further link is closed. A session
+/// whose first bytes are a request line of HTTP is closed before any line of it is served. At the
+/// end sessions have three seconds for their last words, and links have one.
 pub fn serve_all<
     D: Disk + Drop,
     R: Wait + Clock + Threads + Net<Listener = TcpListener, Stream = TcpStream> + Sync,
@@ -71,6 +82,7 @@ fn without_memory<D: Disk>(flusher: Flusher<D>) -> Served<D>
         has_failed: false,
         has_begun: false,
         disk: flusher.into_disk(),
+        renewal: None,
     }
 }
 
@@ -90,24 +102,41 @@ fn serve_named<
     let Ok(named) = opened.share::<J>(alloc, locked) else {
         return without_memory(flusher);
     };
-    let Ok(hall) = Hall::new(alloc, own, named) else {
-        return without_memory(flusher);
-    };
     let Sockets {
         sessions,
         peers,
         joined,
     } = sockets;
+    let Ok(hall) = Hall::new(alloc, own, named, joined.is_some()) else {
+        return without_memory(flusher);
+    };
     let Ok(doors) = Doors::new(sessions, peers) else {
         return without_memory(flusher);
     };
+    let port = joined.as_ref().map(|joined| joined.port);
     let (has_begun, flusher) = run(rt, alloc, &hall, flusher, &doors, joined, gate);
-    let Hall { shared, .. } = hall;
+    let Hall { shared, ending, .. } = hall;
+    let renewal = match ending.asked(rt) {
+        Some(End::Renewal) => Some(anew(doors, port)),
+        _ => None,
+    };
     let locked = shared.end().into_locked();
     Served {
         has_failed: flusher.has_failed() || locked.settled() < locked.list().len(),
         has_begun,
         disk: flusher.into_disk(),
+        renewal,
+    }
+}
+
+/// The sockets for the next turn, whose peer is joined anew.
+fn anew(doors: Doors, port: Option<u16>) -> Sockets {
+    let (sessions, peers) = doors.into_listeners();
+    let joined = port.map(Joined::anew);
+    Sockets {
+        sessions,
+        peers,
+        joined,
     }
 }
 
@@ -141,6 +170,7 @@ fn run<
             // First the one that ends the others: without it nobody is let in.
             let ending = scope.spawn(move || end_when_asked(rt, hall, doors));
             if ending.is_err() {
+                hall.ending.ask(rt, End::Stop);
                 end_all(rt, hall, doors);
             }
             let sessions = scope.spawn(move || accept(rt, alloc, hall, gate, Kind::Session, doors));
@@ -153,7 +183,7 @@ fn run<
             };
             let has_begun = ending.is_ok() && sessions.is_ok() && peers.is_ok() && joining;
             if !has_begun {
-                hall.ending.ask(rt);
+                hall.ending.ask(rt, End::Stop);
             }
             // This thread is the flusher's.
             flush(rt, &hall.shared, &mut flusher, gate);
@@ -163,18 +193,32 @@ fn run<
 }
 
 /// Waits until the daemon is asked to end, and ends all threads.
-fn end_when_asked<J: Desks, R: Wait + Clock>(rt: &R, hall: &Hall<J>, doors: &Doors) {
+fn end_when_asked<J: Desks, R: Wait + Clock + Net<Listener = TcpListener, Stream = TcpStream>>(
+    rt: &R,
+    hall: &Hall<J>,
+    doors: &Doors,
+) {
     hall.ending.wait(rt);
     end_all(rt, hall, doors);
 }
 
-/// Ends all threads: nobody is let in any more, and those that are connected have a second.
-fn end_all<J: Desks, R: Wait + Clock>(rt: &R, hall: &Hall<J>, doors: &Doors) {
-    hall.ending.ask(rt);
+/// Ends all threads: nobody is let in any more, and those that are connected have a little time for
+/// their last words. For a renewal the sockets listen to the end, so that whoever comes meanwhile waits for the next turn.
+fn end_all<J: Desks, R: Wait + Clock + Net<Listener = TcpListener, Stream = TcpStream>>(
+    rt: &R,
+    hall: &Hall<J>,
+    doors: &Doors,
+) {
     hall.sessions.close(rt);
-    hall.links.close(rt);
-    doors.close();
-    hall.sessions.clear(rt, Duration::from_millis(LAST_WORDS));
+    hall.links.close_at_once(rt);
+    hall.own_link.close_at_once(rt);
+    if hall.ending.asked(rt) != Some(End::Renewal) {
+        doors.shut();
+    }
+    hall.sessions
+        .clear(rt, Duration::from_millis(SESSION_WORDS));
     hall.shared.close(rt);
-    hall.links.clear(rt, Duration::from_millis(LAST_WORDS));
+    hall.links.clear(rt, Duration::from_millis(LINK_WORDS));
+    hall.own_link.clear(rt, Duration::from_millis(LINK_WORDS));
+    doors.leave(rt, &hall.ending);
 }

@@ -1,16 +1,20 @@
 //! A session's thread.
 
+use crate::busy::say_busy;
+use crate::first_look::FirstLook;
 use crate::hall::Hall;
+use crate::last_words::send_last_words;
 use crate::shared_desk::SharedDesk;
-use crate::until_asked::UntilAsked;
+use crate::until_closed::UntilClosed;
 use pass_books::{Desks, Pass};
-use session_threads::Session;
+use session_threads::{Session, SessionFault};
 use shared_hub::Gate;
 use std::alloc::Global;
 use std::net::TcpStream;
 use std::sync::Wait;
 
-/// Serves a session whose connection is in the lobby, to its end, and gives its place back.
+/// Serves a session whose connection is in the lobby, to its end, and gives its place back. One for
+/// which there is no memory is answered 8.
 pub(crate) fn serve_session<R: Wait, J: Desks, G: Gate>(
     rt: &R,
     alloc: Global,
@@ -20,8 +24,11 @@ pub(crate) fn serve_session<R: Wait, J: Desks, G: Gate>(
     stream: &TcpStream,
 ) {
     let pass = match hall.sessions.take_pass(rt) {
-        Some(pass) => Some(serve(rt, alloc, hall, gate, stream, pass)),
-        None => None,
+        Some(pass) => Some(serve(rt, alloc, hall, gate, entry, stream, pass)),
+        None => {
+            say_busy(stream);
+            None
+        }
     };
     hall.sessions.leave(rt, entry, pass);
 }
@@ -32,6 +39,7 @@ fn serve<R: Wait, J: Desks, G: Gate>(
     alloc: Global,
     hall: &Hall<J>,
     gate: &G,
+    entry: u64,
     stream: &TcpStream,
     pass: Pass<J>,
 ) -> Pass<J> {
@@ -40,15 +48,23 @@ fn serve<R: Wait, J: Desks, G: Gate>(
     let mut desk = SharedDesk {
         rt,
         shared: &hall.shared,
+        read_turn: &hall.read_turn,
         ending: &hall.ending,
         gate,
         pass,
     };
-    let reader = UntilAsked {
+    let reader = UntilClosed {
         rt,
-        ending: &hall.ending,
+        lobby: &hall.sessions,
+        entry,
         reader: stream,
     };
-    let _ = Session::new(reader, stream).serve(alloc, &mut desk);
+    let served = Session::new(FirstLook::new(reader), stream).serve(alloc, &mut desk);
+    if let Err(SessionFault::Memory) = served {
+        say_busy(stream);
+    }
+    if hall.ending.is_asked(rt) {
+        send_last_words(stream);
+    }
     desk.into_pass()
 }

@@ -5,7 +5,7 @@ use crate::ending::Ending;
 use pass_books::{Desks, Pass};
 use shared_hub::{Gate, Shared};
 use std::marker::Model;
-use std::sync::Wait;
+use std::sync::{Mutex, Wait};
 
 /// A desk of one session over a shared hub, with the session's pass. A stop asks the daemon to end.
 /// Contracts see the pass: what it has entered are the kept steps of its number.
@@ -13,6 +13,7 @@ use std::sync::Wait;
 pub struct SharedDesk<'a, R: Wait, J: Desks, G: Gate> {
     pub(crate) rt: &'a R,
     pub(crate) shared: &'a Shared<J>,
+    pub(crate) read_turn: &'a Mutex<()>,
     pub(crate) ending: &'a Ending,
     pub(crate) gate: &'a G,
     pub(crate) pass: Pass<J>,

@@ -1,2 +1,4 @@
 pub mod FieldLemmas
+pub mod PutLemmas
+pub mod QuotedLemmas
 pub mod SaidLemmas

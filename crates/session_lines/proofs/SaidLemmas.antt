@@ -1,7 +1,8 @@
 -- Lists that are said item by item.
-use Rattle.std.proofs.Common.{◌≡◌, ℕ, suc, ◌+◌, ◌<◌, List, ◌∷◌, ◌++◌, Bool, true, length, get_or, drop, append_assoc, add-one, drop-cons, sym, ap, ◌∙◌}
+use Rattle.std.proofs.Common.{◌≡◌, ℕ, suc, ◌+◌, ◌<◌, List, ◌∷◌, ◌++◌, Bool, true, length, get_or, drop, append_assoc, add-one, drop-cons, sym, ap, ◌∙◌, ◌≤◌, [], false, true≢false, eqb, codes, refl, arith, length-drop}
+use Rattle.std.proofs.lemmas.List.{nil_from_length}
 use Rattle.op_model.specs.declared.span.Span.{Span}
-use Rattle.session_lines.specs.Saying.{comma_after, said_id, said_ids, said_span, said_spans}
+use Rattle.session_lines.specs.Saying.{comma_after, said_id, said_ids, said_span, said_spans, said_comments}
 
 -- a piece moves from what is still to be said to what is said
 moved : (before comma item rest whole : List ℕ) → before ++ (comma ++ (item ++ rest)) ≡ whole
@@ -25,3 +26,19 @@ pub said_span_more : (before : List ℕ) (ss : List Span) (i : ℕ) (later : Boo
 said_span_more before ss i later s whole within is so_far =
     let split : drop i ss ≡ s ∷ drop (suc i) ss = drop-cons ss i s within ∙ ap (λ x. x ∷ drop (suc i) ss) (sym is) in
     rw add-one (moved before (comma_after later) (said_span s) _ whole (rw split at so_far))
+
+-- no more comment is left
+pub said_ids_end : (before ids : List ℕ) (i : ℕ) (later : Bool) (whole : List ℕ) → length ids ≤ i
+    → before ++ said_ids later (drop i ids) ≡ whole → whole ≡ before ++ codes "]"
+said_ids_end before ids i later whole past so_far = sym (rw (nil_from_length (drop i ids) (omega (arith, length-drop i ids))) at so_far)
+
+-- no more span is left
+pub said_spans_end : (before : List ℕ) (ss : List Span) (i : ℕ) (later : Bool) (whole : List ℕ) → length ss ≤ i
+    → before ++ said_spans later (drop i ss) ≡ whole → whole ≡ before ++ codes "]"
+said_spans_end before ss i later whole past so_far = sym (rw (nil_from_length (drop i ss) (omega (arith, length-drop i ss))) at so_far)
+
+-- some comments are said with the name of their member
+pub said_some_comments : (ids : List ℕ) → eqb (length ids) 0 ≡ false
+    → said_comments ids ≡ codes "\"comments\":[" ++ (said_ids false ids ++ codes ",")
+said_some_comments [] none = absurd (true≢false none)
+said_some_comments (id ∷ ids) some = refl

@@ -1,34 +1,45 @@
-ghost use Rattle.std.specs.Prelude.{◌≡◌, ◌≤◌, ◌+◌, ◌++◌, IsTrue, IfOk, OnOk, OnErr};
-ghost use Rattle.std.specs.Prelude.{string_bytes, vec_len, vec_capacity};
+ghost use Rattle.std.specs.Prelude.{◌≡◌, ◌≤◌, ◌+◌, ◌++◌, IsTrue, OnOk, OnErr};
+ghost use Rattle.std.specs.Prelude.{vec_len, vec_capacity};
+ghost use Rattle.session_lines.specs.Putting.{Puts};
 ghost use Rattle.session_lines.specs.Saying.{said, is_long, said_text, said_listed};
 
 use crate::answer::Answer;
+use crate::quoted::{put, put_characters};
 use crate::short_line::{SHORT, put_done, put_edited, put_refused, put_status};
 use crate::span_list::SpanList;
-use crate::spans::{quoted_text, spans_text};
+use crate::spans::put_spans;
+use itoa::Buffer;
 use op_model::Text;
 use std::alloc::{AllocError, Global};
 
 /// Puts an answer as text behind what is there: compact JSON with its keys in the order of their
 /// bytes, and a line feed. An error is want of memory (1), and leaves what is there as it was;
 /// where there is room for 128 bytes, it comes for a text or spans alone. The time is that of the
-/// text's length.
-pub fn say(alloc: Global, answer: &Answer, out: &mut Vec<u8>) -> Result<(), AllocError>
+/// text's length, and nothing but `out` takes memory.
+pub fn say(_alloc: Global, answer: &Answer, out: &mut Vec<u8>) -> Result<(), AllocError>
     ensures ok { OnOk result (out.new.items ≡ out.old.items ++ said answer.now) }
     ensures err { OnErr result (out.new.items ≡ out.old.items) }
     ensures room { OnErr result (vec_len out.old + SHORT ≤ vec_capacity out.old
         → IsTrue (is_long answer.now)) }
     ensures capacity { vec_capacity out.old ≤ vec_capacity out.new }
 {
+    let before = out.len();
+    let done = put_answer(answer, out);
+    if done.is_err() {
+        out.truncate(before);
+    }
+    done
+}
+
+/// Puts an answer, or some of it if memory is refused.
+fn put_answer(answer: &Answer, out: &mut Vec<u8>) -> Result<(), AllocError>
+    ensures puts { Puts result out.old out.new (said answer.now) }
+    ensures room { OnErr result (vec_len out.old + SHORT ≤ vec_capacity out.old
+        → IsTrue (is_long answer.now)) }
+{
     match answer {
-        Answer::Text { rev, text } => {
-            let line = shown(alloc, *rev, text)?;
-            out.extend_from_slice(line.as_bytes())
-        }
-        Answer::Spans { rev, spans } => {
-            let line = listed(alloc, *rev, spans)?;
-            out.extend_from_slice(line.as_bytes())
-        }
+        Answer::Text { rev, text } => put_shown(*rev, text, out),
+        Answer::Spans { rev, spans } => put_listed(*rev, spans, out),
         Answer::Edited { rev } => {
             out.reserve(SHORT)?;
             put_edited(*rev, out);
@@ -56,18 +67,24 @@ pub fn say(alloc: Global, answer: &Answer, out: &mut Vec<u8>) -> Result<(), Allo
     }
 }
 
-/// The answer that shows a text.
-fn shown(alloc: Global, rev: u64, text: &Text) -> Result<String, AllocError>
-    ensures { IfOk result (λ line. string_bytes line ≡ said_text rev text.now) }
+/// Puts the answer that shows a text.
+fn put_shown(rev: u64, text: &Text, out: &mut Vec<u8>) -> Result<(), AllocError>
+    ensures { Puts result out.old out.new (said_text rev text.now) }
 {
-    let text = quoted_text(alloc, text.as_slice())?;
-    format!(in alloc; "{{\"ok\":true,\"rev\":{rev},\"text\":{text}}}\n")
+    put(b"{\"ok\":true,\"rev\":", out)?;
+    put(Buffer::new().format(rev).as_bytes(), out)?;
+    put(b",\"text\":", out)?;
+    put_characters(text.as_slice(), out)?;
+    put(b"}\n", out)
 }
 
-/// The answer that lists spans.
-fn listed(alloc: Global, rev: u64, spans: &SpanList) -> Result<String, AllocError>
-    ensures { IfOk result (λ line. string_bytes line ≡ said_listed rev spans.now) }
+/// Puts the answer that lists spans.
+fn put_listed(rev: u64, spans: &SpanList, out: &mut Vec<u8>) -> Result<(), AllocError>
+    ensures { Puts result out.old out.new (said_listed rev spans.now) }
 {
-    let spans = spans_text(alloc, spans.as_slice())?;
-    format!(in alloc; "{{\"ok\":true,\"rev\":{rev},\"spans\":[{spans}}}\n")
+    put(b"{\"ok\":true,\"rev\":", out)?;
+    put(Buffer::new().format(rev).as_bytes(), out)?;
+    put(b",\"spans\":[", out)?;
+    put_spans(spans.as_slice(), out)?;
+    put(b"}\n", out)
 }

@@ -7,6 +7,7 @@ mod command;
 mod fields;
 mod kind;
 mod line;
+mod quoted;
 mod refusal;
 mod request;
 mod short_line;

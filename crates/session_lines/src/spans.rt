@@ -1,128 +1,108 @@
 //! Spans and what they are made of, as JSON.
-ghost use Rattle.std.specs.Prelude.{◌≡◌, ◌++◌, false, IfOk, OnOk, string_bytes};
-ghost use Rattle.session_lines.specs.Saying.{quoted, said_characters, comma_after};
-ghost use Rattle.session_lines.specs.Saying.{said_id, said_ids, said_comments, said_if, said_link};
-ghost use Rattle.session_lines.specs.Saying.{said_marks, said_span, said_spans};
+ghost use Rattle.std.specs.Prelude.{◌≡◌, false};
+ghost use Rattle.session_lines.specs.Putting.{Puts};
+ghost use Rattle.session_lines.specs.Saying.{comma_after, said_id, said_ids, said_comments};
+ghost use Rattle.session_lines.specs.Saying.{said_if, said_link, said_marks, said_span, said_spans};
 
+use crate::quoted::{put, put_characters, put_quoted};
 use op_model::{CommentId, Marks, Span, Url};
-use serde_json::Value;
-use std::alloc::{AllocError, Global};
+use std::alloc::AllocError;
 use uuid::Uuid;
 
-/// A text as a JSON string.
-fn quoted(alloc: Global, text: &str) -> Result<String, AllocError>
-    ensures { IfOk result (λ string. string_bytes string ≡ quoted text.now) }
+/// A comma if something stands before.
+fn comma(later: bool) -> &'static [u8]
+    ensures { result.now ≡ comma_after later }
 {
-    Value::String(String::from_str(alloc, text)?).to_string(alloc)
+    if later { b"," } else { b"" }
 }
 
-/// Characters as a JSON string.
-pub fn quoted_text(alloc: Global, characters: &[char]) -> Result<String, AllocError>
-    ensures { IfOk result (λ string. string_bytes string ≡ said_characters characters.now) }
-{
-    let text: String = characters.iter().copied().collect(alloc)?;
-    Value::String(text).to_string(alloc)
-}
-
-/// The name of a comment as a JSON string.
-fn quoted_id(alloc: Global, id: CommentId) -> Result<String, AllocError>
-    ensures { IfOk result (λ string. string_bytes string ≡ said_id id) }
+/// Puts the name of a comment as a JSON string.
+fn put_id(id: CommentId, out: &mut Vec<u8>) -> Result<(), AllocError>
+    ensures { Puts result out.old out.new (said_id id) }
 {
     let mut buffer = Uuid::encode_buffer();
     let name = Uuid::from_bytes(id.bytes())
         .hyphenated()
         .encode_lower(&mut buffer);
-    quoted(alloc, name)
+    put_quoted(name, out)
 }
 
-/// Puts an item of a list, behind a comma where it isn't the first.
-fn put_item(item: &str, later: bool, text: &mut String) -> Result<(), AllocError>
-    ensures { OnOk result
-        (string_bytes text.new ≡ string_bytes text.old ++ (comma_after later ++ item.now)) }
+/// Puts the names of comments, and the closing bracket.
+fn put_ids(ids: &[CommentId], out: &mut Vec<u8>) -> Result<(), AllocError>
+    ensures { Puts result out.old out.new (said_ids false ids.now) }
 {
-    if later {
-        text.push_str(",")?;
-    }
-    text.push_str(item)
-}
-
-/// The names of comments, and the closing bracket.
-fn ids_text(alloc: Global, ids: &[CommentId]) -> Result<String, AllocError>
-    ensures { IfOk result (λ text. string_bytes text ≡ said_ids false ids.now) }
-{
-    let mut text = String::new(alloc);
     let mut later = false;
     for id in ids {
-        let id = quoted_id(alloc, *id)?;
-        put_item(id.as_str(), later, &mut text)?;
+        put(comma(later), out)?;
+        put_id(*id, out)?;
         later = true;
     }
-    text.push_str("]")?;
-    Ok(text)
+    put(b"]", out)
 }
 
-/// The member of the comments, where there are some.
-fn comments_text(alloc: Global, ids: &[CommentId]) -> Result<String, AllocError>
-    ensures { IfOk result (λ text. string_bytes text ≡ said_comments ids.now) }
+/// Puts the member of the comments if there are some.
+fn put_comments(ids: &[CommentId], out: &mut Vec<u8>) -> Result<(), AllocError>
+    ensures { Puts result out.old out.new (said_comments ids.now) }
 {
     if ids.is_empty() {
-        return Ok(String::new(alloc));
+        return Ok(());
     }
-    let ids = ids_text(alloc, ids)?;
-    format!(in alloc; "\"comments\":[{ids},")
+    put(b"\"comments\":[", out)?;
+    put_ids(ids, out)?;
+    put(b",", out)
 }
 
-/// The member of the link, where there is one.
-fn link_text(alloc: Global, link: &Option<Url>) -> Result<String, AllocError>
-    ensures { IfOk result (λ text. string_bytes text ≡ said_link link.now) }
+/// Puts the member of the link if there is one.
+fn put_link(link: &Option<Url>, out: &mut Vec<u8>) -> Result<(), AllocError>
+    ensures { Puts result out.old out.new (said_link link.now) }
 {
     match link {
         Some(url) => {
-            let url = quoted(alloc, url.as_str())?;
-            format!(in alloc; "\"link\":{url},")
+            put(b"\"link\":", out)?;
+            put_quoted(url.as_str(), out)?;
+            put(b",", out)
         }
-        None => Ok(String::new(alloc)),
+        None => Ok(()),
     }
 }
 
-/// The member of a mark, where there is one.
-fn mark_text(there: bool, member: &'static str) -> &'static str
-    ensures { result.now ≡ said_if there member.entry.now }
+/// Puts the member of a mark if there is one.
+fn put_mark(there: bool, member: &[u8], out: &mut Vec<u8>) -> Result<(), AllocError>
+    ensures { Puts result out.old out.new (said_if there member.now) }
 {
-    if there { member } else { "" }
+    if there { put(member, out) } else { Ok(()) }
 }
 
-/// The members of the marks that there are.
-fn marks_text(alloc: Global, marks: &Marks) -> Result<String, AllocError>
-    ensures { IfOk result (λ text. string_bytes text ≡ said_marks marks.now) }
+/// Puts the members of the marks that there are.
+fn put_marks(marks: &Marks, out: &mut Vec<u8>) -> Result<(), AllocError>
+    ensures { Puts result out.old out.new (said_marks marks.now) }
 {
-    let comments = comments_text(alloc, marks.comments.as_slice())?;
-    let em = mark_text(marks.em, "\"em\":true,");
-    let link = link_text(alloc, &marks.link)?;
-    let strong = mark_text(marks.strong, "\"strong\":true,");
-    format!(in alloc; "{comments}{em}{link}{strong}")
+    put_comments(marks.comments.as_slice(), out)?;
+    put_mark(marks.em, b"\"em\":true,", out)?;
+    put_link(&marks.link, out)?;
+    put_mark(marks.strong, b"\"strong\":true,", out)
 }
 
-/// A span: its marks, and then its text.
-fn span_text(alloc: Global, span: &Span) -> Result<String, AllocError>
-    ensures { IfOk result (λ text. string_bytes text ≡ said_span span.now) }
+/// Puts a span: its marks, and then its text.
+fn put_span(span: &Span, out: &mut Vec<u8>) -> Result<(), AllocError>
+    ensures { Puts result out.old out.new (said_span span.now) }
 {
-    let marks = marks_text(alloc, &span.marks)?;
-    let text = quoted_text(alloc, span.text.as_slice())?;
-    format!(in alloc; "{{{marks}\"text\":{text}}}")
+    put(b"{", out)?;
+    put_marks(&span.marks, out)?;
+    put(b"\"text\":", out)?;
+    put_characters(span.text.as_slice(), out)?;
+    put(b"}", out)
 }
 
-/// Spans, and the closing bracket.
-pub fn spans_text(alloc: Global, spans: &[Span]) -> Result<String, AllocError>
-    ensures { IfOk result (λ text. string_bytes text ≡ said_spans false spans.now) }
+/// Puts spans, and the closing bracket.
+pub fn put_spans(spans: &[Span], out: &mut Vec<u8>) -> Result<(), AllocError>
+    ensures { Puts result out.old out.new (said_spans false spans.now) }
 {
-    let mut text = String::new(alloc);
     let mut later = false;
     for span in spans {
-        let span = span_text(alloc, span)?;
-        put_item(span.as_str(), later, &mut text)?;
+        put(comma(later), out)?;
+        put_span(span, out)?;
         later = true;
     }
-    text.push_str("]")?;
-    Ok(text)
+    put(b"]", out)
 }

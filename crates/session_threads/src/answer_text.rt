@@ -1,5 +1,5 @@
 //! The text of an answer.
-ghost use Rattle.std.specs.Prelude.{◌≡◌, ◌≤◌, List, ℕ, IfOk, vec_capacity};
+ghost use Rattle.std.specs.Prelude.{◌≡◌, ◌≤◌, List, [], ℕ, IfOk, vec_capacity};
 ghost use Rattle.session_threads.specs.Exchanges.{IsSaid};
 
 use session_lines::{Answer, Refusal, say};
@@ -8,6 +8,9 @@ use std::marker::Model;
 
 /// The room that each short answer fits in, in bytes.
 const RESERVE: usize = 128;
+
+/// How much room is kept after an answer was written, in bytes.
+const KEPT: usize = 65_536;
 
 /// The text of one answer, with room for each short one, which so needs no memory.
 #[derive(Drop)]
@@ -45,5 +48,14 @@ impl AnswerText {
         if say(alloc, answer, &mut self.text).is_err() {
             let _ = say(alloc, &Answer::Refused(Refusal::Memory), &mut self.text);
         }
+    }
+
+    /// Lets go of the text, and of the room above 64 KiB: else a session would hold its longest
+    /// answer until it ends.
+    pub fn let_go(&mut self)
+        ensures { self.new ≡ [] }
+    {
+        self.text.clear();
+        self.text.shrink_to(KEPT);
     }
 }

@@ -36,7 +36,7 @@ fn answer<D: Desk>(alloc: Global, line: &HeldLine, desk: &mut D) -> Answer
     }
 }
 
-/// Answers the line that is there, and writes the answer.
+/// Answers the line that is there, and writes the answer, whose memory is given back then.
 pub fn exchange<W: Write, D: Desk>(
     alloc: Global,
     room: &mut Room,
@@ -54,5 +54,9 @@ pub fn exchange<W: Write, D: Desk>(
     desk.line_read();
     let answer = answer(alloc, &room.line, desk);
     room.text.say(alloc, &answer);
-    put(writer, room.text.as_slice())
+    // A peer that reads slowly holds the text for long, and not the answer that it was made of.
+    drop(answer);
+    let written = put(writer, room.text.as_slice());
+    room.text.let_go();
+    written
 }

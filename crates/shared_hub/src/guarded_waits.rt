@@ -7,6 +7,7 @@ ghost use Rattle.shared_hub.specs.declared.awaited.Awaited.TheVariants.{Settled}
 use crate::awaited::{Awaited, Parity};
 use crate::guarded::Guarded;
 use crate::news::News;
+use crate::rooms::ROOMS;
 use pass_books::{Desks, Pass};
 use replica_core::Ticket;
 use std::time::Duration;
@@ -174,20 +175,26 @@ impl<J: Desks> Guarded<J> {
         self.turns.has_ended = true;
     }
 
-    /// What is to be seen by a thread that tells.
-    pub(crate) fn news(&self) -> News {
+    /// What is to be seen by the thread that tells over the link of this number.
+    pub(crate) fn news(&self, link: usize) -> News {
         News {
             settled: self.locked.settled(),
-            calls: self.turns.calls,
+            calls: self.turns.calls[link % ROOMS],
             is_closing: self.turns.is_closing,
         }
     }
 
-    /// Calls the threads that tell.
-    pub(crate) fn call(&mut self)
+    /// Calls the thread that tells over the link of this number.
+    pub(crate) fn call(&mut self, link: usize)
         ensures { self.new ≡ self.old }
     {
-        self.turns.calls = self.turns.calls.wrapping_add(1);
+        let calls = &mut self.turns.calls[link % ROOMS];
+        *calls = calls.wrapping_add(1);
+    }
+
+    /// Whether the threads were asked to end.
+    pub(crate) fn is_closing(&self) -> bool {
+        self.turns.is_closing
     }
 
     /// Asks the threads to end.

@@ -14,6 +14,7 @@ mod meeting;
 mod news;
 mod opening;
 mod refusal;
+mod rooms;
 mod shared;
 mod shared_reads;
 mod shared_tells;

@@ -5,7 +5,7 @@
 pub struct News {
     /// How many operations were settled.
     pub settled: usize,
-    /// How often a thread that hears had woken those that tell.
+    /// How often the thread had been called.
     pub calls: u64,
     /// Whether the threads were asked to end.
     pub is_closing: bool,

@@ -9,6 +9,7 @@ ghost use Rattle.shared_hub.specs.declared.refusal.SharedRefusal.TheVariants.{St
 use crate::awaited::Parity;
 use crate::guarded::Guarded;
 use crate::refusal::SharedRefusal;
+use crate::rooms::Rooms;
 use op_model::{Edit, Op};
 use pass_books::{Desks, Pass};
 use replica_core::{Merged, Ticket};
@@ -26,7 +27,7 @@ pub struct Shared<J: Desks> {
     /// The flusher, where it sleeps.
     pub(crate) work: Condvar,
     /// The threads that tell.
-    pub(crate) news: Condvar,
+    pub(crate) news: Rooms,
 }
 
 impl<J: Desks> Shared<J> {
@@ -36,7 +37,7 @@ impl<J: Desks> Shared<J> {
             even: Condvar::new(),
             odd: Condvar::new(),
             work: Condvar::new(),
-            news: Condvar::new(),
+            news: Rooms::new(),
         }
     }
 

@@ -45,7 +45,7 @@ impl<J: Desks> Shared<J> {
         // A flusher whose commit was through has settled it.
         if matches!(result, Ok(Met::Settled(_))) {
             self.wake_waiting();
-            self.news.notify_all();
+            self.news.wake_all();
         }
         result
     }
@@ -70,7 +70,7 @@ impl<J: Desks> Shared<J> {
         } else {
             self.wake_waiting();
         }
-        self.news.notify_all();
+        self.news.wake_all();
         result
     }
 }

@@ -52,23 +52,24 @@ impl<J: Desks> Shared<J> {
         unreachable!()
     }
 
-    /// Waits until there is something that wasn't seen, and gives what is to be seen then.
-    pub fn wait_for_news<R: Wait>(&self, rt: &R, seen: News) -> News {
+    /// Waits until there is something for the link of this number that wasn't seen, and gives what
+    /// is to be seen then. Wakes for what is settled, for the end, and for a call of its own.
+    pub fn wait_for_news<R: Wait>(&self, rt: &R, link: usize, seen: News) -> News {
         let mut guard = self.guarded.lock(rt);
         for _ in rt.forever() {
-            let news = guard.news();
+            let news = guard.news(link);
             if news != seen {
                 return news;
             }
-            guard = self.news.wait(rt, guard);
+            guard = self.news.of(link).wait(rt, guard);
         }
         unreachable!()
     }
 
-    /// Wakes the threads that tell.
-    pub fn call<R: Wait>(&self, rt: &R) {
-        self.guarded.lock(rt).call();
-        self.news.notify_all();
+    /// Wakes the thread that tells over the link of this number.
+    pub fn call<R: Wait>(&self, rt: &R, link: usize) {
+        self.guarded.lock(rt).call(link);
+        self.news.of(link).notify_all();
     }
 
     /// Asks the flusher and the threads that tell to end. The flusher first commits what waits.
@@ -76,7 +77,7 @@ impl<J: Desks> Shared<J> {
         self.guarded.lock(rt).close();
         self.wake_waiting();
         self.work.notify_all();
-        self.news.notify_all();
+        self.news.wake_all();
     }
 
     /// Waits until operations wait for a commit, which is tried then; not so where the threads were
@@ -89,7 +90,7 @@ impl<J: Desks> Shared<J> {
                 guard.note_try();
                 return true;
             }
-            if guard.news().is_closing {
+            if guard.is_closing() {
                 return false;
             }
             guard.sleep_flusher();

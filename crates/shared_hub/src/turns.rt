@@ -1,5 +1,7 @@
 //! Who sleeps, and what wakes it.
 
+use crate::rooms::ROOMS;
+
 /// Who sleeps, and what wakes it. No contract speaks of it.
 #[derive(Clone, Copy, Debug)]
 pub(crate) struct Turns {
@@ -16,8 +18,8 @@ pub(crate) struct Turns {
     pub group: u64,
     /// How many commits have begun.
     pub commits: u64,
-    /// How often a thread that hears woke those that tell.
-    pub calls: u64,
+    /// How often the threads that tell were called, room by room.
+    pub calls: [u64; ROOMS],
     /// Whether the threads were asked to end.
     pub is_closing: bool,
     /// Whether the flusher has ended, so that nothing more is settled.
@@ -34,7 +36,7 @@ impl Turns {
             edits: 0,
             group: 0,
             commits: 0,
-            calls: 0,
+            calls: [0; ROOMS],
             is_closing: false,
             has_ended: false,
         }

@@ -1,0 +1,70 @@
+//! Serving one file for as long as nobody asks for a stop.
+ghost use Rattle.std.specs.Prelude.{◌≡◌, [], IfOk, IfErr};
+ghost use Rattle.recovery.specs.Faults.{failures_of};
+ghost use Rattle.serve_threads.specs.Turns.{Turns, IsNotOpened};
+
+use crate::serving::{Served, Sockets, serve_all};
+use disk_trait::Disk;
+use hub_parts::{Parts, open};
+use recovery::OpenFault;
+use shared_hub::Gate;
+use std::alloc::Global;
+use std::net::{Net, TcpListener, TcpStream};
+use std::rt::Clock;
+use std::sync::Wait;
+use std::thread::Threads;
+
+/// Serves as `serve_all` does, turn after turn: each time that no steps are left (10), the file is
+/// opened anew in this process and served over the same sockets, at which whoever came meanwhile
+/// has waited. It ends with the turn in which a session asked for a stop, the device failed, or
+/// there was no memory to begin with. An error is that of an opening, with the disk.
+pub fn serve_on<
+    D: Disk + Drop,
+    R: Wait + Clock + Threads + Net<Listener = TcpListener, Stream = TcpStream> + Sync,
+    G: Gate + Sync,
+>(
+    rt: &R,
+    alloc: Global,
+    parts: Parts<D>,
+    sockets: Sockets,
+    gate: &G,
+) -> Result<Served<D>, OpenFault<D>>
+    requires { parts.locked.replica.steps ≡ [] }
+    // Each turn hands the disk back as `serve_all` does, and the next one opens that.
+    ensures ok { IfOk result (λ served. Turns D.DiskFacts parts.flusher served.disk) }
+    ensures err { IfErr result (λ fault.
+        IsNotOpened D.DiskFacts parts.flusher (failures_of fault.cause) fault.disk) }
+{
+    let mut served = serve_all(rt, alloc, parts, sockets, gate);
+    for _ in rt.forever() {
+        let (disk, sockets) = match renewed(served) {
+            Ok(next) => next,
+            Err(ended) => return Ok(ended),
+        };
+        let parts = open(alloc, disk)?;
+        served = serve_all(rt, alloc, parts, sockets, gate);
+    }
+    unreachable!()
+}
+
+/// What the next turn is served over, the disk and the sockets; or how the last one ended.
+fn renewed<D: Disk>(served: Served<D>) -> Result<(D, Sockets), Served<D>>
+    ensures next { IfOk result (λ turn. turn.0 ≡ served.disk) }
+    ensures ended { IfErr result (λ ended. ended.disk ≡ served.disk) }
+{
+    let Served {
+        disk,
+        has_failed,
+        has_begun,
+        renewal,
+    } = served;
+    match renewal {
+        Some(sockets) if !has_failed => Ok((disk, sockets)),
+        renewal => Err(Served {
+            disk,
+            has_failed,
+            has_begun,
+            renewal,
+        }),
+    }
+}

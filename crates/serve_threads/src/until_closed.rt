@@ -1,0 +1,27 @@
+//! A reader that ends once nobody is served any more.
+
+use crate::lobby::Lobby;
+use pass_books::Desks;
+use std::io;
+use std::io::Read;
+use std::sync::Wait;
+
+/// A reader of a connection that ends once its lobby is closed.
+#[derive(Drop)]
+pub(crate) struct UntilClosed<'a, R: Wait, J: Desks, S: Read> {
+    pub rt: &'a R,
+    pub lobby: &'a Lobby<J>,
+    pub entry: u64,
+    pub reader: S,
+}
+
+impl<'a, R: Wait, J: Desks, S: Read> Read for UntilClosed<'a, R, J, S> {
+    fn read(&mut self, buf: &mut [u8]) -> io::Result<usize> {
+        if !self.lobby.begin_reading(self.rt, self.entry) {
+            return Ok(0);
+        }
+        let result = self.reader.read(buf);
+        self.lobby.end_reading(self.rt, self.entry);
+        result
+    }
+}
