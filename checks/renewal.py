@@ -18,7 +18,7 @@ TOLD, AHEAD, EDITORS, FIRST_DOC, MORE = 64, 8_192, 8, 10, 10
 # Seconds that each part may take on a slow machine.
 LONG = 300
 DOC, MAKER = 1, replica(7)
-STEPS = {"code": 10, "error": "steps", "ok": False}
+STEPS, BUSY = {"code": 10, "error": "steps", "ok": False}, {"code": 8, "error": "busy", "ok": False}
 # How many times as long as an opening takes a connection may wait, and how many seconds more on a busy machine.
 TIMES, SLACK = 3, 5
 
@@ -95,7 +95,8 @@ class Editor(threading.Thread):
                 answer = talk.ask(insert(0, f"{number}.", self.doc))
             except OSError:
                 answer = None
-            if answer is None:
+            if answer is None or answer == BUSY:
+                # It may have come just as nobody was let in any more.
                 talk = None
             elif answer.get("ok"):
                 self.answered.append(number)

@@ -42,6 +42,28 @@ pub(crate) struct Hearing<'a, R: Wait + Clock, J: Desks, G: Gate> {
 }
 
 impl<'a, R: Wait + Clock, J: Desks, G: Gate> Hearing<'a, R, J, G> {
+    /// One that has heard nothing so far.
+    pub fn new(
+        rt: &'a R,
+        shared: &'a Shared<J>,
+        end: &'a LinkEnd,
+        gate: &'a G,
+        pass: &'a mut Pass<J>,
+        notes: Producer<u8>,
+    ) -> Hearing<'a, R, J, G> {
+        Hearing {
+            rt,
+            shared,
+            end,
+            gate,
+            pass,
+            notes,
+            is_due: false,
+            haves: 0,
+            is_out_of_steps: false,
+        }
+    }
+
     /// Hears what the other end says, and merges its operations, until the stream ends, breaks its
     /// rules or says BYE, or an operation is refused for good or for want of steps (10).
     pub fn run<S: Read>(&mut self, stream: &mut S) {
@@ -111,8 +133,8 @@ impl<'a, R: Wait + Clock, J: Desks, G: Gate> Hearing<'a, R, J, G> {
         true
     }
 
-    /// Counts a HAVE. After many there is a pause, so that an end that says them as fast as they are
-    /// taken leaves the processors to others. Answers whether the link goes on.
+    /// Counts a HAVE. After many there is a pause, so that an end that says them as fast as they
+    /// are taken leaves the processors to others. Answers whether the link goes on.
     fn count_have(&mut self) -> bool {
         self.haves = self.haves.saturating_add(1);
         if self.haves < MANY_HAVES {

@@ -69,8 +69,8 @@ pub fn serve_link<R: Wait + Clock + Threads + Sync, J: Desks + Send + Sync, G: G
     }
 }
 
-/// This thread hears, and another one tells, until the link ends. Answers whether an operation found
-/// no steps left.
+/// This thread hears, and another one tells, until the link ends. Answers whether an operation
+/// found no steps left.
 fn hear_and_tell<'a, R: Wait + Clock + Threads + Sync, J: Desks + Send + Sync, G: Gate + Sync>(
     rt: &'a R,
     alloc: Global,
@@ -82,17 +82,7 @@ fn hear_and_tell<'a, R: Wait + Clock + Threads + Sync, J: Desks + Send + Sync, G
     gate: &'a G,
 ) -> bool {
     let link = pass.number();
-    let mut hearing = Hearing {
-        rt,
-        shared,
-        end,
-        gate,
-        pass,
-        notes: producer,
-        is_due: false,
-        haves: 0,
-        is_out_of_steps: false,
-    };
+    let mut hearing = Hearing::new(rt, shared, end, gate, pass, producer);
     let telling = Telling {
         rt,
         shared,

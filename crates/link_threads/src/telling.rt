@@ -76,13 +76,9 @@ impl<'a, R: Wait + Clock, J: Desks> Telling<'a, R, J> {
             if self.end.is_over(self.rt) || seen.is_closing {
                 return true;
             }
-            if self.end.take_asked_again(self.rt) {
-                thread::sleep(self.rt, Duration::from_millis(PAUSE_AGAIN));
-            }
+            self.pause_if_asked_again();
             // A HAVE that found no memory stays due.
-            if !is_have_due {
-                is_have_due = self.has_notes();
-            }
+            is_have_due = is_have_due || self.has_notes();
             match self.speaker.speak(alloc, peer, line, stream, is_have_due) {
                 Ok(has_told) => {
                     is_have_due = false;
@@ -103,6 +99,13 @@ impl<'a, R: Wait + Clock, J: Desks> Telling<'a, R, J> {
             }
         }
         unreachable!()
+    }
+
+    /// Makes a pause where what was told is asked for again.
+    fn pause_if_asked_again(&self) {
+        if self.end.take_asked_again(self.rt) {
+            thread::sleep(self.rt, Duration::from_millis(PAUSE_AGAIN));
+        }
     }
 
     /// Whether there are notes, which are taken then; before that is answered, there is a pause.

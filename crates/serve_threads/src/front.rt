@@ -1,5 +1,5 @@
 //! Whether what came begins with a request line of HTTP.
-ghost use Rattle.std.specs.Prelude.{◌≡◌, ◌++◌, ◌∷◌, List, ℕ, [], true};
+ghost use Rattle.std.specs.Prelude.{◌≡◌, ◌++◌, ◌∷◌, List, ℕ, []};
 ghost use Rattle.serve_threads.specs.RequestLine.{asks, is_request};
 
 /// How what came from a connection begins. No line and no frame of ours begins as a request line

@@ -15,8 +15,8 @@ const SESSIONS: usize = 32;
 /// How many links of peers that came in are served beside the one that the daemon joins.
 const OTHERS: usize = 7;
 
-/// What the daemon's threads share: the hub, the connections of sessions and of links, whose turn it
-/// is to read, and whether it was asked to end.
+/// What the daemon's threads share: the hub, the connections of sessions and of links, whose turn
+/// it is to read, and whether it was asked to end.
 #[derive(Drop)]
 pub(crate) struct Hall<J: Desks> {
     pub own: ReplicaId,

@@ -51,8 +51,8 @@ pub struct Served<D: Disk> {
 }
 
 /// Serves sessions and links over a hub that was just opened, until a session asked for a stop, or
-/// an edit or a merge found no steps left (10), and what was applied is settled; then hands back the
-/// disk, and in the second case the sockets.
+/// an edit or a merge found no steps left (10), and what was applied is settled; then hands back
+/// the disk, and in the second case the sockets.
 ///
 /// At most 32 sessions and 8 links are served at once, one of which is the joined peer's, where
 /// there is one: a further session is answered 8 and closed, a further link is closed. A session
@@ -170,8 +170,7 @@ fn run<
             // First the one that ends the others: without it nobody is let in.
             let ending = scope.spawn(move || end_when_asked(rt, hall, doors));
             if ending.is_err() {
-                hall.ending.ask(rt, End::Stop);
-                end_all(rt, hall, doors);
+                end_at_once(rt, hall, doors);
             }
             let sessions = scope.spawn(move || accept(rt, alloc, hall, gate, Kind::Session, doors));
             let peers = scope.spawn(move || accept(rt, alloc, hall, gate, Kind::Link, doors));
@@ -192,6 +191,16 @@ fn run<
     )
 }
 
+/// Asks the daemon to end, and ends all threads.
+fn end_at_once<J: Desks, R: Wait + Clock + Net<Listener = TcpListener, Stream = TcpStream>>(
+    rt: &R,
+    hall: &Hall<J>,
+    doors: &Doors,
+) {
+    hall.ending.ask(rt, End::Stop);
+    end_all(rt, hall, doors);
+}
+
 /// Waits until the daemon is asked to end, and ends all threads.
 fn end_when_asked<J: Desks, R: Wait + Clock + Net<Listener = TcpListener, Stream = TcpStream>>(
     rt: &R,
@@ -203,7 +212,8 @@ fn end_when_asked<J: Desks, R: Wait + Clock + Net<Listener = TcpListener, Stream
 }
 
 /// Ends all threads: nobody is let in any more, and those that are connected have a little time for
-/// their last words. For a renewal the sockets listen to the end, so that whoever comes meanwhile waits for the next turn.
+/// their last words. For a renewal the sockets listen to the end, so that whoever comes meanwhile
+/// waits for the next turn.
 fn end_all<J: Desks, R: Wait + Clock + Net<Listener = TcpListener, Stream = TcpStream>>(
     rt: &R,
     hall: &Hall<J>,

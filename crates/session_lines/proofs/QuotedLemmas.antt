@@ -1,5 +1,6 @@
 -- A JSON string that is made piece by piece.
-use Rattle.std.proofs.Common.{◌≡◌, ℕ, ◌+◌, ◌-◌, List, [], ◌∷◌, ◌++◌, length, take, slice_range, codes, flat_map, encode_utf8, encode_utf8_all, get_or, ◌<◌, append-nil, refl, ap, ◌∙◌, arith, length-append}
+use Rattle.std.proofs.Common.{◌≡◌, ℕ, ◌+◌, ◌-◌, List, [], ◌∷◌, ◌++◌, length, take, slice_range}
+use Rattle.std.proofs.Common.{codes, flat_map, encode_utf8, encode_utf8_all, get_or, ◌<◌, append-nil, refl, ap, ◌∙◌, arith, length-append}
 use Rattle.std.proofs.lemmas.List.{take_at, take_more}
 use Rattle.std.proofs.lemmas.List.Concat.{flat_map-append}
 use Rattle.std.proofs.lemmas.Str.{encodes-append}

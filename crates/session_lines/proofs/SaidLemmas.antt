@@ -1,5 +1,6 @@
 -- Lists that are said item by item.
-use Rattle.std.proofs.Common.{◌≡◌, ℕ, suc, ◌+◌, ◌<◌, List, ◌∷◌, ◌++◌, Bool, true, length, get_or, drop, append_assoc, add-one, drop-cons, sym, ap, ◌∙◌, ◌≤◌, [], false, true≢false, eqb, codes, refl, arith, length-drop}
+use Rattle.std.proofs.Common.{◌≡◌, ℕ, suc, ◌+◌, ◌<◌, List, ◌∷◌, ◌++◌, Bool, true, length, get_or, drop, append_assoc}
+use Rattle.std.proofs.Common.{add-one, drop-cons, sym, ap, ◌∙◌, ◌≤◌, [], false, true≢false, eqb, codes, refl, arith, length-drop}
 use Rattle.std.proofs.lemmas.List.{nil_from_length}
 use Rattle.op_model.specs.declared.span.Span.{Span}
 use Rattle.session_lines.specs.Saying.{comma_after, said_id, said_ids, said_span, said_spans, said_comments}

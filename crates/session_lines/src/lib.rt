@@ -10,6 +10,8 @@ mod line;
 mod quoted;
 mod refusal;
 mod request;
+#[cfg(test)]
+mod saying_tests;
 mod short_line;
 mod span_list;
 mod spans;

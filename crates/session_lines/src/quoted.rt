@@ -1,5 +1,5 @@
 //! JSON strings, put byte by byte: nothing takes memory but what they are put to.
-ghost use Rattle.std.specs.Prelude.{◌≡◌, ◌<◌, ℕ, List, [], ◌∷◌, encode_utf8_all};
+ghost use Rattle.std.specs.Prelude.{◌≡◌, ◌<◌, [], ◌∷◌, encode_utf8_all};
 ghost use Rattle.std.specs.Char.{digit_char};
 ghost use Rattle.session_lines.specs.Putting.{Puts, inside};
 ghost use Rattle.session_lines.specs.Saying.{quoted, said_characters};
