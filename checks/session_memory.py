@@ -1,5 +1,6 @@
 """Sessions that read an answer of forty megabytes and stay: a second later the daemon holds little more than before."""
 
+import os
 import subprocess
 import time
 
@@ -18,8 +19,9 @@ LISTED = COMMENTS * (COMMENTS + 1) // 2
 LEAST = 39 * LISTED
 # As many sessions as there are places; so many read at once.
 SESSIONS, AT_ONCE = 32, 4
-# What the allocator keeps of what was freed, some 21 MB a session, counts too.
-PAUSE, HELD = 1, 1_000 * MEGABYTE
+PAUSE, HELD = 1, 64 * MEGABYTE
+# The allocator gives back what was freed (docs/OPERATING.md has the same in the unit); else it keeps some 21 MB for each of these sessions.
+GIVES_BACK = {**os.environ, "GLIBC_TUNABLES": "glibc.malloc.tcache_count=0"}
 
 
 def marked():
@@ -47,7 +49,7 @@ def all_read(talks):
 
 
 def check(checks, program, _until):
-    daemon, talks = new_daemon(program, "session-memory"), []
+    daemon, talks = new_daemon(program, "session-memory", env=GIVES_BACK), []
     try:
         talks.append(seat(daemon))
         tell(daemon, talks[0], MAKER, marked(), DOC, 2 * COMMENTS)
