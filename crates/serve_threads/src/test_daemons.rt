@@ -1,7 +1,8 @@
 //! Daemons over disks in memory, and sessions to them over sockets, for tests.
 ghost use Rattle.std.specs.Prelude.{◌≡◌, [], IfSome};
 
-use crate::serving::{Served, Sockets, serve_all};
+use crate::renewing::serve_on;
+use crate::serving::{Served, Sockets};
 use disk_trait::{Disk, MemDisk};
 use group_commit::Store;
 use hub_parts::{Parts, open};
@@ -51,7 +52,7 @@ pub fn serve_disk<
     G: Gate + Sync,
 >(rt: &R, alloc: Global, disk: D, sockets: Sockets, gate: &G) -> Option<Served<D>> {
     let parts = parts(alloc, disk)?;
-    Some(serve_all(rt, alloc, parts, sockets, gate))
+    serve_on(rt, alloc, parts, sockets, gate).ok()
 }
 
 /// A listener on a port that nobody else has, and that port.
