@@ -16,6 +16,21 @@ MEGABYTES = 15
 SESSIONS = 30
 
 
+class Held:
+    """The answers of a session, of which no more are read until they are let through."""
+
+    def __init__(self, answers):
+        self._answers = answers
+        self.through = threading.Event()
+
+    def read1(self, count):
+        self.through.wait(3 * PATIENCE)
+        return self._answers.read1(count)
+
+    def close(self):
+        self._answers.close()
+
+
 class SlowReader:
     """A session that asks for 15 MB, and whose answers aren't read until they are let through."""
 
@@ -24,15 +39,10 @@ class SlowReader:
         self._connection = self.session._connection
         # As much as the answer may wait on this side.
         self._connection.setsockopt(socket.SOL_SOCKET, socket.SO_RCVBUF, 1 << 20)
-        self._through = threading.Event()
-        # The reading thread tells of an answer, and reads on after that. One that came before this is asked is told here.
-        for _ in range(20):
-            self.session.send(op="status").add_done_callback(lambda _: self._hold())
+        self._held = self.session._answers = Held(self.session._answers)
+        # The reading thread may be within a reading already: this answer ends that one.
+        self.session.send(op="status")
         self.under_way = [self.session.send(op="spans", doc=1)] + [self.session.send(op="text", doc=1) for _ in range(others)]
-
-    def _hold(self):
-        if threading.current_thread() is self.session._reader:
-            self._through.wait(3 * PATIENCE)
 
     def is_answered(self):
         """Whether a part of the answer has come."""
@@ -40,7 +50,7 @@ class SlowReader:
             return len(self._connection.recv(10_000, socket.MSG_PEEK | socket.MSG_DONTWAIT)) == 10_000
 
     def let_through(self):
-        self._through.set()
+        self._held.through.set()
 
 
 class Slow(WithDaemon):
