@@ -1,7 +1,7 @@
 """Files that break one rule each, with the number that is due."""
 
 import page_file
-from program import PAGE, fault, run, write
+from program import PAGE, REPLICA, fault, insert, line, run, write
 from words import FIRST, MADE, NAME, ONE, SECOND, TWO, record, slot, table
 
 
@@ -60,6 +60,19 @@ SOUND = [
 ]
 
 
+# Strong over the one character of the text: from just before it to the end of the text.
+STRONG = bytes.fromhex("00000051" "03" "00000001" "0000000000000002") + NAME + b"\1" + NAME + (1).to_bytes(8, "big") \
+    + bytes.fromhex("01" "01" "0000000000000001") + NAME + b"\3"
+
+
+def check_a_mark(checks, program):
+    """The record of a mark that a session puts on a text, to the byte."""
+    run(program, "init", "marked", "--replica", REPLICA)
+    run(program, "edit", "marked", lines=insert(0, "a") + line(op="mark", doc=1, **{"from": 0, "to": 1}, kind="strong"))
+    with open("marked", "rb") as file:
+        checks.same("the record of a mark", page_file.stream(file.read())[1].hex(), (FIRST + STRONG).hex())
+
+
 def expected(data):
     """What a dump of document 1 gives, by the plain reader: a refusal's number, or the text."""
     try:
@@ -69,6 +82,7 @@ def expected(data):
 
 
 def check(checks, program, _until):
+    check_a_mark(checks, program)
     for what, data, due in BROKEN:
         checks.same(f"the plain reader, {what}", expected(data), due)
         write("crafted", data)

@@ -15,7 +15,9 @@ use Rattle.change_codec.specs.Stream.{spelled_all, AreOperations}
 use Rattle.change_codec.proofs.IdLaws.{deps_again}
 use Rattle.change_codec.proofs.Lengths.{length-deps, length-bytes16, length-bytes32, length-bytes128}
 use Rattle.change_codec.proofs.Numbers.{wide16, wide32, wide128, number_again}
-use Rattle.change_codec.proofs.RecordLaws.{body_range, spelled_taken}
+use Rattle.change_codec.specs.declared.format.Format.TheVariants.{First, Third}
+use Rattle.change_codec.specs.Formats.{IsOf, AreOf}
+use Rattle.change_codec.proofs.RecordLaws.{body_range, of_third, spelled_taken}
 use Rattle.causal_sync.specs.declared.heard.Heard.{Heard}
 use Rattle.causal_sync.specs.declared.heard.Heard.TheVariants.{Hello, Have, Ops, Bye}
 use Rattle.causal_sync.specs.Frames.{content_bytes, frame_bytes, IsFrame}
@@ -46,22 +48,22 @@ have_again clock is sixteen =
     rw read refl
 
 -- a record is read again
-record_again : (op : Op) (rest : List ℕ) → IsOperation op → record_at (spelled op ++ rest) ≡ Ok (op, rest)
+record_again : (op : Op) (rest : List ℕ) → IsOf First op → IsOperation op → record_at (spelled op ++ rest) ≡ Ok (op, rest)
 unfolding record_at
-record_again op rest fits = rw (spelled_taken op rest fits, drop_at (spelled op) rest (length (spelled op)) refl) refl
+record_again op rest bare fits = rw (spelled_taken First op rest bare fits, drop_at (spelled op) rest (length (spelled op)) refl) refl
 
 -- records are read again
-records_again : (ops : List Op) → AreOperations ops → records_at (length ops) (spelled_all ops) ≡ Ok ops
+records_again : (ops : List Op) → AreOf First ops → AreOperations ops → records_at (length ops) (spelled_all ops) ≡ Ok ops
 unfolding records_at
-records_again [] fits = refl
-records_again (op ∷ ops) fits = rw (record_again op (spelled_all ops) fits.0, records_again ops fits.1) refl
+records_again [] bare fits = refl
+records_again (op ∷ ops) bare fits = rw (record_again op (spelled_all ops) bare.0 fits.0, records_again ops bare.1 fits.1) refl
 
 -- an OPS is read again
-ops_again : (ops : List Op) → 1 ≤ length ops → length ops ≤ 64 → AreOperations ops → ops_at (number_bytes w16 (length ops) ++ spelled_all ops) ≡ Ok (Ops ops)
+ops_again : (ops : List Op) → 1 ≤ length ops → length ops ≤ 64 → AreOf First ops → AreOperations ops → ops_at (number_bytes w16 (length ops) ++ spelled_all ops) ≡ Ok (Ops ops)
 unfolding ops_at count_at
-ops_again ops some most fits =
+ops_again ops some most bare fits =
     let test : is_in_range 1 64 (length ops) ≡ true = grind (arith, nat_tests) in
-    rw (number_again w16 (2 ^ 16) wide16 (length ops) (spelled_all ops) (omega (arith, most)), test, records_again ops fits) refl
+    rw (number_again w16 (2 ^ 16) wide16 (length ops) (spelled_all ops) (omega (arith, most)), test, records_again ops bare fits) refl
 
 -- what a frame says is read again
 content_again : (own : ℕ) (first : Bool) (frame : Heard) → IsFrame own first frame → content_at own first (content_bytes frame) ≡ Ok frame
@@ -72,16 +74,16 @@ content_again own true (Ops ops) is = absurd is
 content_again own true Bye is = absurd is
 content_again own false (Hello replica) is = absurd is
 content_again own false (Have clock) is = have_again clock is.0 is.1
-content_again own false (Ops ops) is = ops_again ops is.0 is.1 is.2
+content_again own false (Ops ops) is = ops_again ops is.0 is.1 is.3 is.2
 content_again own false Bye is = refl
 
 -- 64 records take few bytes
-few_bytes : (ops : List Op) → AreOperations ops → length (spelled_all ops) ≤ 1495 * length ops
+few_bytes : (ops : List Op) → AreOperations ops → length (spelled_all ops) ≤ 1511 * length ops
 unfolding spelled
 few_bytes [] fits = omega arith
 few_bytes (op ∷ ops) fits =
     let head = number_bytes w32 (length (body_bytes op)) in
-    omega (arith, length-append (head ++ body_bytes op) (spelled_all ops), length-append head (body_bytes op), length-bytes32 (length (body_bytes op)), (body_range op fits.0).1, few_bytes ops fits.1)
+    omega (arith, length-append (head ++ body_bytes op) (spelled_all ops), length-append head (body_bytes op), length-bytes32 (length (body_bytes op)), (body_range Third op (of_third op) fits.0).1, few_bytes ops fits.1)
 
 -- a clock has few entries
 few_entries : (es : List (ℕ × ℕ)) → is_clock es ≡ true → length es ≤ 16

@@ -11,6 +11,8 @@ use Rattle.change_codec.specs.declared.codec_error.CodecError.{CodecError}
 use Rattle.change_codec.specs.declared.codec_error.CodecError.TheVariants.{Number}
 use Rattle.change_codec.specs.Fits.{IsOperation}
 use Rattle.change_codec.specs.Reading.{number_at, replica_at, deps_at}
+use Rattle.change_codec.specs.declared.format.Format.TheVariants.{First}
+use Rattle.change_codec.specs.Formats.{IsOf, AreOf}
 use Rattle.change_codec.specs.Record.{length_at, taken, BeginsWithOp}
 use Rattle.change_codec.specs.Spelling.{number_bytes, deps_bytes, spelled}
 use Rattle.change_codec.specs.Stream.{spelled_all, AreOperations}
@@ -42,33 +44,34 @@ have_takes payload frame fits e =
     (rw (← whole.0) (ap (λ (b : List ℕ). 2 ∷ b) (parts ∙ rw whole.1 (append-nil (deps_bytes a.0.0))), λ own. (read.1, read.2)))
 
 -- a record that was read
-record_takes : (bytes : List ℕ) (x : Op × List ℕ) → IsBytes bytes → record_at bytes ≡ Ok x → (bytes ≡ spelled x.0 ++ x.1) × IsOperation x.0 × IsBytes x.1
+record_takes : (bytes : List ℕ) (x : Op × List ℕ) → IsBytes bytes → record_at bytes ≡ Ok x → (bytes ≡ spelled x.0 ++ x.1) × IsOperation x.0 × IsBytes x.1 × IsOf First x.0
 unfolding record_at
-record_takes bytes x fits e = behind_takes bytes (taken bytes) x fits (λ op n is. taken_begins bytes op n fits is) e
+record_takes bytes x fits e = behind_takes bytes (taken First bytes) x fits (λ op n is. taken_begins First bytes op n fits is) e
   where
     behind_takes : (bytes : List ℕ) (r : Result (Option (Op × ℕ)) CodecError) (x : Op × List ℕ) → IsBytes bytes
-        → ((op : Op) (n : ℕ) → r ≡ Ok (Some (op, n)) → BeginsWithOp bytes op n) → behind bytes r ≡ Ok x → (bytes ≡ spelled x.0 ++ x.1) × IsOperation x.0 × IsBytes x.1
+        → ((op : Op) (n : ℕ) → r ≡ Ok (Some (op, n)) → IsOf First op × BeginsWithOp bytes op n) → behind bytes r ≡ Ok x → (bytes ≡ spelled x.0 ++ x.1) × IsOperation x.0 × IsBytes x.1 × IsOf First x.0
     behind_takes bytes (Ok (Some found)) x fits begins e =
-        let b = begins found.0 found.1 refl in
-        subst (λ (y : Op × List ℕ). (bytes ≡ spelled y.0 ++ y.1) × IsOperation y.0 × IsBytes y.1) (ok_is (found.0, drop found.1 bytes) x e)
-        (rw (← b.spelled_so) (sym (take-append-drop found.1 bytes)), b.fits, IsBytes-drop found.1 bytes fits)
+        let both = begins found.0 found.1 refl in
+        let b = both.1 in
+        subst (λ (y : Op × List ℕ). (bytes ≡ spelled y.0 ++ y.1) × IsOperation y.0 × IsBytes y.1 × IsOf First y.0) (ok_is (found.0, drop found.1 bytes) x e)
+        (rw (← b.spelled_so) (sym (take-append-drop found.1 bytes)), b.fits, IsBytes-drop found.1 bytes fits, both.0)
     behind_takes bytes (Ok None) x fits begins e = absurd cc
     behind_takes bytes (Err d) x fits begins e = absurd cc
 
 -- records that were read
-records_take : (n : ℕ) (bytes : List ℕ) (ops : List Op) → IsBytes bytes → records_at n bytes ≡ Ok ops → (bytes ≡ spelled_all ops) × AreOperations ops × (length ops ≡ n)
+records_take : (n : ℕ) (bytes : List ℕ) (ops : List Op) → IsBytes bytes → records_at n bytes ≡ Ok ops → (bytes ≡ spelled_all ops) × AreOperations ops × (length ops ≡ n) × AreOf First ops
 unfolding records_at
 records_take zero bytes ops fits e =
     let p = passed (eqb (length bytes) 0) BadFrame (Ok []) ops e in
     let none : bytes ≡ [] = no_bytes bytes (grind (arith, nat_tests)) in
-    subst (λ (os : List Op). (bytes ≡ spelled_all os) × AreOperations os × (length os ≡ 0)) (ok_is [] ops p.1) (none, tt, refl)
+    subst (λ (os : List Op). (bytes ≡ spelled_all os) × AreOperations os × (length os ≡ 0) × AreOf First os) (ok_is [] ops p.1) (none, tt, refl, tt)
 records_take (suc n) bytes ops fits e =
     let a = bind_ok (record_at bytes) (λ first. records_at n first.1 >>= λ others. Ok (first.0 ∷ others)) ops e in
     let b = bind_ok (records_at n a.0.1) (λ others. Ok (a.0.0 ∷ others)) ops a.2 in
     let first = record_takes bytes a.0 fits a.1 in
     let others = records_take n a.0.1 b.0 first.2 b.1 in
-    subst (λ (os : List Op). (bytes ≡ spelled_all os) × AreOperations os × (length os ≡ suc n)) (ok_is (a.0.0 ∷ b.0) ops b.2)
-    (first.0 ∙ ap (λ (t : List ℕ). spelled a.0.0 ++ t) others.0, (first.1, others.1), ap suc others.2)
+    subst (λ (os : List Op). (bytes ≡ spelled_all os) × AreOperations os × (length os ≡ suc n) × AreOf First os) (ok_is (a.0.0 ∷ b.0) ops b.2)
+    (first.0 ∙ ap (λ (t : List ℕ). spelled a.0.0 ++ t) others.0, (first.1, others.1), ap suc others.2, (first.3, others.3))
 
 -- an OPS that was read
 ops_take : (payload : List ℕ) (frame : Heard) → IsBytes payload → ops_at payload ≡ Ok frame → (3 ∷ payload ≡ content_bytes frame) × ((own : ℕ) → IsFrame own false frame)
@@ -86,7 +89,7 @@ ops_take payload frame fits e =
     let most : a.0.0 ≤ 64 = grind (arith, nat_tests) in
     let rs = records_take a.0.0 a.0.1 b.0 t.0.rest_fits b.1 in
     subst (λ (f : Heard). (3 ∷ payload ≡ content_bytes f) × ((own : ℕ) → IsFrame own false f)) (ok_is (Ops b.0) frame b.2)
-    (ap (λ (x : List ℕ). 3 ∷ x) (t.0.parts ∙ ap (λ (k : ℕ). number_bytes w16 k ++ a.0.1) (sym rs.2) ∙ ap (λ (x : List ℕ). number_bytes w16 (length b.0) ++ x) rs.0), λ own. (omega (arith, rs.2, some), omega (arith, rs.2, most), rs.1))
+    (ap (λ (x : List ℕ). 3 ∷ x) (t.0.parts ∙ ap (λ (k : ℕ). number_bytes w16 k ++ a.0.1) (sym rs.2) ∙ ap (λ (x : List ℕ). number_bytes w16 (length b.0) ++ x) rs.0), λ own. (omega (arith, rs.2, some), omega (arith, rs.2, most), rs.1, rs.3))
 
 -- a frame behind the first that was read
 later_takes : (own : ℕ) (content : List ℕ) (frame : Heard) → IsBytes content → later_at content ≡ Ok frame → (content ≡ content_bytes frame) × IsFrame own false frame

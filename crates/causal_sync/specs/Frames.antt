@@ -3,7 +3,9 @@ use Rattle.std.specs.Prelude.{◌≡◌, ◌≢◌, ℕ, ◌<◌, ◌≤◌, ◌
 use Rattle.std.specs.Int.{w16, w32, w128}
 use Rattle.fixed_numbers.specs.declared.limits.TheConstants.{MAX_TOLD}
 use Rattle.op_ids.specs.Clock.{is_clock}
+use Rattle.change_codec.specs.declared.format.Format.TheVariants.{First}
 use Rattle.change_codec.specs.Fits.{HaveSixteen}
+use Rattle.change_codec.specs.Formats.{AreOf}
 use Rattle.change_codec.specs.Spelling.{number_bytes, deps_bytes}
 use Rattle.change_codec.specs.Stream.{spelled_all, AreOperations}
 use Rattle.causal_sync.specs.declared.heard.Heard.{Heard}
@@ -38,7 +40,7 @@ abbrev pub is_over : List Heard → Bool
 is_over [] = false
 is_over (frame ∷ frames) = is_bye frame || is_over frames
 
--- the first frame that a replica may hear is a HELLO of another one, and no later one is a HELLO
+-- the first frame that a replica may hear is a HELLO of another one, and no later one is a HELLO; operations have no tokens
 abbrev pub IsFrame : ℕ → Bool → Heard → Type 0
 IsFrame own true (Hello replica) = (0 < replica) × (replica < 2 ^ 128) × (replica ≢ own)
 IsFrame own true (Have clock) = ⊥
@@ -46,7 +48,7 @@ IsFrame own true (Ops ops) = ⊥
 IsFrame own true Bye = ⊥
 IsFrame own false (Hello replica) = ⊥
 IsFrame own false (Have clock) = (is_clock clock ≡ true) × HaveSixteen clock
-IsFrame own false (Ops ops) = (1 ≤ length ops) × (length ops ≤ MAX_TOLD) × AreOperations ops
+IsFrame own false (Ops ops) = (1 ≤ length ops) × (length ops ≤ MAX_TOLD) × AreOperations ops × AreOf First ops
 IsFrame own false Bye = Unit {0}
 
 -- each is a frame that may be heard at its place, and nothing is behind a BYE

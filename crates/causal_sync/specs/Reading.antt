@@ -7,6 +7,7 @@ use Rattle.fixed_numbers.specs.declared.sizes.TheConstants.{MAX_CONTENT}
 use Rattle.op_model.specs.declared.op.Op.{Op}
 use Rattle.change_codec.specs.declared.codec_error.CodecError.{CodecError}
 use Rattle.change_codec.specs.Reading.{number_at, replica_at, deps_at}
+use Rattle.change_codec.specs.declared.format.Format.TheVariants.{First}
 use Rattle.change_codec.specs.Record.{length_at, taken}
 use Rattle.causal_sync.specs.declared.heard.Heard.{Heard}
 use Rattle.causal_sync.specs.declared.heard.Heard.TheVariants.{Hello, Have, Ops, Bye}
@@ -69,9 +70,9 @@ behind bytes (Ok (Some found)) = Ok (found.0, drop found.1 bytes)
 behind bytes (Ok None) = Err BadFrame
 behind bytes (Err e) = Err (Record e)
 
--- a record at the front
+-- a record at the front, without a token
 unfoldable pub record_at : List ℕ → Result (Op × List ℕ) LinkError
-record_at bytes = behind bytes (taken bytes)
+record_at bytes = behind bytes (taken First bytes)
 
 -- this many records, and nothing behind them
 unfoldable pub records_at : ℕ → List ℕ → Result (List Op) LinkError

@@ -68,7 +68,7 @@ fn begun(alloc: Global, len: usize) -> Result<Vec<u8>, AllocError>
 fn records_len(ops: &[Op]) -> usize
     requires { length ops.now ≤ MAX_TOLD }
     ensures value { result ≡ stream_length ops.now }
-    ensures within { result ≤ 95680 }
+    ensures within { result ≤ 96704 }
 {
     let mut total = 0;
     for op in ops {

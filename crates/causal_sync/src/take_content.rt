@@ -9,7 +9,7 @@ ghost use Rattle.causal_sync.specs.Taking.{Gives, Reads};
 
 use crate::heard::{Heard, Ops};
 use crate::link_error::LinkError;
-use change_codec::{CodecError, take_clock, take_op};
+use change_codec::{CodecError, Format, take_clock, take_op};
 use fixed_numbers::limits::MAX_TOLD;
 use op_ids::ReplicaId;
 use op_model::Op;
@@ -175,7 +175,7 @@ fn take_each(alloc: Global, count: u16, records: &[u8]) -> Result<Vec<Op>, LinkE
 fn take_record(alloc: Global, bytes: &[u8]) -> Result<(Op, &[u8]), LinkError>
     ensures { Gives (λ x. (x.0, x.1.now)) result (record_at bytes.now) }
 {
-    match take_op(alloc, bytes) {
+    match take_op(alloc, Format::First, bytes) {
         Ok(Some((op, len))) => Ok((op, bytes.split_at(len).1)),
         Ok(None) => Err(LinkError::BadFrame),
         Err(fault) => Err(link_error(fault)),

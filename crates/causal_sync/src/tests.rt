@@ -48,6 +48,7 @@ fn first_insert(alloc: Global) -> Result<Op, Fail> {
     Ok(Op {
         id: OpId::try_new(1, replica(1)?).ok_or("counter")?,
         doc: 1,
+        token: None,
         deps: Clock::new(alloc),
         body: Body::Insert {
             origin: None,

@@ -1,17 +1,19 @@
 -- No fault of the bytes is want of memory.
-use Rattle.std.proofs.Common.{◌≡◌, ◌≢◌, ℕ, zero, suc, ◌+◌, Bool, true, false, cond, ltb, eqb, List, [], ◌∷◌, length, take, drop, Some, None, Result, Ok, Err}
+use Rattle.std.proofs.Common.{◌≡◌, ◌≢◌, ℕ, zero, suc, ◌+◌, ◌-◌, ◌&&◌, Bool, true, false, cond, ltb, eqb, List, [], ◌∷◌, length, take, drop, Some, None, Result, Ok, Err}
 use Rattle.std.specs.Int.{Width, w16, w32, w64, w128, byte_len, from_be_bytes, is_in_range}
 use Rattle.std.specs.Str.{is_utf8}
 use lib.Utf8.{scalar}
 use Rattle.change_codec.specs.declared.codec_error.CodecError.{CodecError}
 use Rattle.change_codec.specs.declared.codec_error.CodecError.TheVariants as fault
+use Rattle.change_codec.specs.declared.format.Format.{Format}
 use Rattle.change_codec.specs.declared.content.Kind.{Kind}
 use Rattle.change_codec.specs.declared.content.Kind.TheVariants as kind
 use Rattle.change_codec.specs.Reading.{◌>>=◌, within, byte_at, number_at, bytes_at, counter_at}
 use Rattle.change_codec.specs.Reading.{replica_at, id_at, entry_at, entries_at, count_at, deps_at}
 use Rattle.change_codec.specs.Reading.{origin_at, scalar_at, url_at, mark_at, key_at, start_at}
-use Rattle.change_codec.specs.Reading.{end_at, span_at, kind_at, content_at, body_at, head_at}
-use Rattle.change_codec.specs.Reading.{op_at}
+use Rattle.change_codec.specs.Reading.{end_at, span_at, kind_named, kind_at, token_at, content_at, body_at, head_at}
+use Rattle.change_codec.specs.Reading.{rest_at, op_at}
+use Rattle.change_codec.specs.Formats.{has_tokens, longest}
 use Rattle.change_codec.specs.Record.{length_at, record_at, taken}
 
 -- a value, or a fault of the bytes
@@ -153,15 +155,27 @@ span : (bytes : List ℕ) → IsClean (span_at bytes)
 unfolding span_at
 span bytes = bind (start_at bytes) _ (start bytes) (λ from. bind (end_at from.1) _ (end from.1) (λ to. tt))
 
-tag : (bytes : List ℕ) → IsClean (kind_at bytes)
+named : (b : ℕ) → IsClean (kind_named b)
+unfolding kind_named
+named zero = kind_fault
+named (suc zero) = tt
+named (suc (suc zero)) = tt
+named (suc (suc (suc zero))) = tt
+named (suc (suc (suc (suc zero)))) = tt
+named (suc (suc (suc (suc (suc b))))) = kind_fault
+
+tag : (format : Format) (bytes : List ℕ) → IsClean (kind_at format bytes)
 unfolding kind_at
-tag [] = length_fault
-tag (zero ∷ rest) = kind_fault
-tag (suc zero ∷ rest) = tt
-tag (suc (suc zero) ∷ rest) = tt
-tag (suc (suc (suc zero)) ∷ rest) = tt
-tag (suc (suc (suc (suc zero))) ∷ rest) = tt
-tag (suc (suc (suc (suc (suc b)))) ∷ rest) = kind_fault
+tag format [] = length_fault
+tag format (b ∷ rest) =
+    choice (ltb 16 b && has_tokens format) (kind_named (b - 16) >>= λ k. Ok ((k, true), rest)) (kind_named b >>= λ k. Ok ((k, false), rest))
+    (bind (kind_named (b - 16)) (λ k. Ok ((k, true), rest)) (named (b - 16)) (λ k. tt))
+    (bind (kind_named b) (λ k. Ok ((k, false), rest)) (named b) (λ k. tt))
+
+token : (has_token : Bool) (bytes : List ℕ) → IsClean (token_at has_token bytes)
+unfolding token_at
+token false bytes = tt
+token true bytes = bind (replica_at bytes) _ (replica bytes) (λ t. tt)
 
 content : (k : Kind) (bytes : List ℕ) → IsClean (content_at k bytes)
 unfolding content_at
@@ -174,22 +188,27 @@ body : (k : Kind) (bytes : List ℕ) → IsClean (body_at k bytes)
 unfolding body_at
 body k bytes = bind (content_at k bytes) _ (content k bytes) (λ c. choice (eqb (length c.1) 0) (Ok c.0) (Err fault.Length) tt length_fault)
 
-head : (bytes : List ℕ) → IsClean (head_at bytes)
+head : (format : Format) (bytes : List ℕ) → IsClean (head_at format bytes)
 unfolding head_at
-head bytes = bind (kind_at bytes) _ (tag bytes) (λ k. bind (number_at w32 k.1) _ (number w32 k.1) (λ d. bind (id_at d.1) _ (id d.1) (λ i. tt)))
+head format bytes = bind (kind_at format bytes) _ (tag format bytes) (λ k. bind (number_at w32 k.1) _ (number w32 k.1) (λ d. bind (id_at d.1) _ (id d.1) (λ i. tt)))
 
-operation : (bytes : List ℕ) → IsClean (op_at bytes)
+remainder : (has_token : Bool) (k : Kind) (bytes : List ℕ) → IsClean (rest_at has_token k bytes)
+remainder has_token k bytes = bind (token_at has_token bytes) _ (token has_token bytes) (λ t. bind (body_at k t.1) _ (body k t.1) (λ b. tt))
+
+operation : (format : Format) (bytes : List ℕ) → IsClean (op_at format bytes)
 unfolding op_at
-operation bytes = bind (head_at bytes) _ (head bytes) (λ h. bind (deps_at h.1) _ (deps h.1) (λ d. bind (body_at h.0.kind d.1) _ (body h.0.kind d.1) (λ b. tt)))
+operation format bytes =
+    bind (head_at format bytes) _ (head format bytes)
+    (λ h. bind (deps_at h.1) _ (deps h.1) (λ d. bind (rest_at h.0.has_token h.0.kind d.1) _ (remainder h.0.has_token h.0.kind d.1) (λ x. tt)))
 
-pub taken_clean : (bytes : List ℕ) → IsClean (taken bytes)
+pub taken_clean : (format : Format) (bytes : List ℕ) → IsClean (taken format bytes)
 unfolding taken
-taken_clean bytes =
+taken_clean format bytes =
     let len = length_at bytes in
     let rest = drop 4 bytes in
-    choice (ltb (length bytes) 4) (Ok None) (record_at len rest) tt
-    (choice (is_in_range 33 1491 len) (cond (ltb (length rest) len) (Ok None) (op_at (take len rest) >>= λ op. Ok (Some (op, 4 + len)))) (Err fault.Length)
-    (choice (ltb (length rest) len) (Ok None) (op_at (take len rest) >>= λ op. Ok (Some (op, 4 + len))) tt (bind (op_at (take len rest)) (λ op. Ok (Some (op, 4 + len))) (operation (take len rest)) (λ op. tt)))
+    choice (ltb (length bytes) 4) (Ok None) (record_at format len rest) tt
+    (choice (is_in_range 33 (longest format) len) (cond (ltb (length rest) len) (Ok None) (op_at format (take len rest) >>= λ op. Ok (Some (op, 4 + len)))) (Err fault.Length)
+    (choice (ltb (length rest) len) (Ok None) (op_at format (take len rest) >>= λ op. Ok (Some (op, 4 + len))) tt (bind (op_at format (take len rest)) (λ op. Ok (Some (op, 4 + len))) (operation format (take len rest)) (λ op. tt)))
     length_fault)
 
 no_memory_of : {A : Type 0} (r : Result A CodecError) → IsClean r → r ≡ Err fault.Memory → ⊥
@@ -197,5 +216,5 @@ no_memory_of (Ok x) h e = cc
 no_memory_of (Err d) h e = let same : d ≡ fault.Memory = cc in h same
 
 -- what is read is never want of memory
-pub no_memory : (bytes : List ℕ) → taken bytes ≡ Err fault.Memory → ⊥
-no_memory bytes e = no_memory_of (taken bytes) (taken_clean bytes) e
+pub no_memory : (format : Format) (bytes : List ℕ) → taken format bytes ≡ Err fault.Memory → ⊥
+no_memory format bytes e = no_memory_of (taken format bytes) (taken_clean format bytes) e

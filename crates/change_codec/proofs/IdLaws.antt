@@ -36,7 +36,7 @@ counter_again : (n : ℕ) (rest : List ℕ) → 0 < n → n ≤ 281474976710655 
 unfolding counter_at
 counter_again n rest some most = ranged_again w64 (2 ^ 64) wide64 1 281474976710655 n rest (omega arith) (omega arith) (omega arith)
 
-replica_takes : (bytes : List ℕ) (x : ℕ × List ℕ) → IsBytes bytes → replica_at bytes ≡ Ok x → Takes bytes (number_bytes w128 x.0) x.1 × (0 < x.0) × (x.0 < 2 ^ 128)
+pub replica_takes : (bytes : List ℕ) (x : ℕ × List ℕ) → IsBytes bytes → replica_at bytes ≡ Ok x → Takes bytes (number_bytes w128 x.0) x.1 × (0 < x.0) × (x.0 < 2 ^ 128)
 unfolding replica_at
 replica_takes bytes x fits e =
     let a = bind_ok (number_at w128 bytes) (λ n. cond (eqb n.0 0) (Err Number) (Ok n)) x e in
@@ -47,7 +47,7 @@ replica_takes bytes x fits e =
     let above : 0 < x.0 = grind (arith, nat_tests) in
     (t.0, above, t.1)
 
-replica_again : (n : ℕ) (rest : List ℕ) → 0 < n → n < 2 ^ 128 → replica_at (number_bytes w128 n ++ rest) ≡ Ok (n, rest)
+pub replica_again : (n : ℕ) (rest : List ℕ) → 0 < n → n < 2 ^ 128 → replica_at (number_bytes w128 n ++ rest) ≡ Ok (n, rest)
 unfolding replica_at
 replica_again n rest some most =
     let test : eqb n 0 ≡ false = grind (arith, nat_tests) in

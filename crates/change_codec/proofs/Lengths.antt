@@ -3,7 +3,7 @@ use Rattle.std.proofs.Common.{◌≡◌, ℕ, ◌+◌, ◌*◌, List, [], ◌∷
 use Rattle.std.proofs.lemmas.List.{length-append}
 use Rattle.std.specs.Int.{w16, w32, w64, w128}
 use Rattle.op_ids.specs.Id.{Id}
-use Rattle.op_model.specs.Records.{origin_length, start_length, end_length, mark_length, key_length, body_length, record_length}
+use Rattle.op_model.specs.Records.{origin_length, start_length, end_length, mark_length, key_length, body_length, token_length, record_length}
 use Rattle.op_model.specs.declared.op.Op.{Op}
 use Rattle.op_model.specs.declared.op.Body.{Body}
 use Rattle.op_model.specs.declared.op.Body.TheVariants.{Insert, Remove, AddMark, RemoveMark}
@@ -20,7 +20,7 @@ use Rattle.op_model.specs.declared.mark.MarkKey.TheVariants as key
 use Rattle.change_codec.specs.Spelling.{number_bytes, id_bytes, entry_bytes, entries_bytes}
 use Rattle.change_codec.specs.Spelling.{deps_bytes, origin_bytes, url_bytes, mark_bytes, key_bytes}
 use Rattle.change_codec.specs.Spelling.{anchor_bytes, start_bytes, end_bytes, content_bytes}
-use Rattle.change_codec.specs.Spelling.{body_bytes, spelled}
+use Rattle.change_codec.specs.Spelling.{token_bytes, body_bytes, spelled}
 
 pub length-bytes16 : (n : ℕ) → length (number_bytes w16 n) ≡ 2
 unfolding number_bytes
@@ -53,6 +53,11 @@ length-entries (e ∷ es) = omega (arith, length-append (entry_bytes e) (entries
 pub length-deps : (es : List (ℕ × ℕ)) → length (deps_bytes es) ≡ 1 + 24 * length es
 unfolding deps_bytes
 length-deps es = omega (arith, length-entries es)
+
+pub length-token : (token : Option ℕ) → length (token_bytes token) ≡ token_length token
+unfolding token_bytes
+length-token None = refl
+length-token (Some token) = length-bytes128 token
 
 pub length-origin : (origin : Option Id) → length (origin_bytes origin) ≡ origin_length origin
 unfolding origin_bytes
@@ -105,12 +110,14 @@ unfolding body_bytes
 length_body op =
     omega (
       arith,
-      length-append (number_bytes w32 op.doc) (id_bytes op.id ++ (deps_bytes op.deps ++ content_bytes op.body)),
-      length-append (id_bytes op.id) (deps_bytes op.deps ++ content_bytes op.body),
-      length-append (deps_bytes op.deps) (content_bytes op.body),
+      length-append (number_bytes w32 op.doc) (id_bytes op.id ++ (deps_bytes op.deps ++ (token_bytes op.token ++ content_bytes op.body))),
+      length-append (id_bytes op.id) (deps_bytes op.deps ++ (token_bytes op.token ++ content_bytes op.body)),
+      length-append (deps_bytes op.deps) (token_bytes op.token ++ content_bytes op.body),
+      length-append (token_bytes op.token) (content_bytes op.body),
       length-bytes32 op.doc,
       length-id op.id,
       length-deps op.deps,
+      length-token op.token,
       length-content op.body,
     )
 

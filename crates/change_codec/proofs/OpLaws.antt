@@ -1,27 +1,31 @@
 -- Whole bodies: what is read is spelled so, and what is spelled so is read.
-use Rattle.std.proofs.Common.{◌≡◌, ℕ, zero, suc, ◌^◌, ◌<◌, cond, eqb, List, [], ◌∷◌, ◌++◌, length, Ok, Err, refl, sym, ap, subst, ◌∙◌, append_assoc}
+use Rattle.std.proofs.Common.{◌≡◌, ℕ, zero, suc, ◌^◌, ◌+◌, ◌-◌, ◌<◌, ◌≤◌, Bool, true, false, ◌&&◌, inl, inr, arith, Option, Some, None, cond, eqb, ltb, List, [], ◌∷◌, ◌++◌, length, Ok, Err, refl, sym, ap, subst, ◌∙◌, append_assoc}
 use Rattle.std.specs.Int.{w32}
-use Rattle.std.proofs.lemmas.Bool.{eqb-true}
+use Rattle.std.specs.Prelude.{is_some}
+use Rattle.std.proofs.lemmas.Bool.{cases_Bool, and_parts, eqb-true, ltb-true, lt-ltb, le-ltb}
 use Rattle.std.proofs.lemmas.List.{append-nil, nil_from_length}
 use lib.Utf8.{scalar_fits}
 use Rattle.op_model.specs.declared.op.Op.{Op}
 use Rattle.op_model.specs.declared.op.Body.{Body}
 use Rattle.op_model.specs.declared.op.Body.TheVariants.{Insert, Remove, AddMark, RemoveMark}
 use Rattle.change_codec.specs.declared.codec_error.CodecError.TheVariants.{Length}
+use Rattle.change_codec.specs.declared.format.Format.{Format}
+use Rattle.change_codec.specs.declared.format.Format.TheVariants.{Third}
 use Rattle.change_codec.specs.declared.head.Head.{Head}
 use Rattle.change_codec.specs.declared.content.Kind.{Kind}
 use Rattle.change_codec.specs.declared.content.Kind.TheVariants as kind
 use Rattle.change_codec.specs.Heads.{kind_of, head_of}
 use Rattle.change_codec.specs.Spelling.{number_bytes, id_bytes, deps_bytes, origin_bytes}
 use Rattle.change_codec.specs.Spelling.{mark_bytes, key_bytes, start_bytes, end_bytes, kind_byte}
-use Rattle.change_codec.specs.Spelling.{content_bytes, body_bytes}
+use Rattle.change_codec.specs.Spelling.{token_bytes, tagged, content_bytes, body_bytes}
 use Rattle.change_codec.specs.Reading.{◌>>=◌, number_at, id_at, deps_at, origin_at, scalar_at}
-use Rattle.change_codec.specs.Reading.{mark_at, key_at, span_at, kind_at, content_at, body_at}
-use Rattle.change_codec.specs.Reading.{head_at, op_at}
-use Rattle.change_codec.specs.Fits.{IsId, IsContent, IsOperation}
+use Rattle.change_codec.specs.Reading.{replica_at, mark_at, key_at, span_at, kind_named, kind_at, token_at, content_at, body_at}
+use Rattle.change_codec.specs.Reading.{head_at, rest_at, with_head, op_at}
+use Rattle.change_codec.specs.Formats.{has_tokens, IsOf}
+use Rattle.change_codec.specs.Fits.{IsId, IsContent, IsToken, IsOperation}
 use Rattle.change_codec.proofs.Steps.{IsBytes, bind_ok, passed, ok_is, Takes, Takes-then}
 use Rattle.change_codec.proofs.Numbers.{wide32, number_takes, number_again}
-use Rattle.change_codec.proofs.IdLaws.{id_takes, id_again, deps_take, deps_again}
+use Rattle.change_codec.proofs.IdLaws.{replica_takes, replica_again, id_takes, id_again, deps_take, deps_again}
 use Rattle.change_codec.proofs.ContentLaws.{origin_takes, origin_again, scalar_takes, scalar_again}
 use Rattle.change_codec.proofs.ContentLaws.{mark_takes, mark_again, key_takes, key_again}
 use Rattle.change_codec.proofs.ContentLaws.{span_takes, span_again}
@@ -33,26 +37,65 @@ tag_of kind.Remove = 2
 tag_of kind.AddMark = 3
 tag_of kind.RemoveMark = 4
 
-kind_takes : (bytes : List ℕ) (x : Kind × List ℕ) → IsBytes bytes → kind_at bytes ≡ Ok x → Takes bytes (tag_of x.0 ∷ []) x.1
-unfolding kind_at
-kind_takes [] x fits e = absurd cc
-kind_takes (zero ∷ rest) x fits e = absurd cc
-kind_takes (suc zero ∷ rest) x fits e =
-    subst (λ (y : Kind × List ℕ). Takes (1 ∷ rest) (tag_of y.0 ∷ []) y.1) (ok_is (kind.Insert, rest) x e) (record { parts = refl; rest_fits = λ i. fits (suc i) })
-kind_takes (suc (suc zero) ∷ rest) x fits e =
-    subst (λ (y : Kind × List ℕ). Takes (2 ∷ rest) (tag_of y.0 ∷ []) y.1) (ok_is (kind.Remove, rest) x e) (record { parts = refl; rest_fits = λ i. fits (suc i) })
-kind_takes (suc (suc (suc zero)) ∷ rest) x fits e =
-    subst (λ (y : Kind × List ℕ). Takes (3 ∷ rest) (tag_of y.0 ∷ []) y.1) (ok_is (kind.AddMark, rest) x e) (record { parts = refl; rest_fits = λ i. fits (suc i) })
-kind_takes (suc (suc (suc (suc zero))) ∷ rest) x fits e =
-    subst (λ (y : Kind × List ℕ). Takes (4 ∷ rest) (tag_of y.0 ∷ []) y.1) (ok_is (kind.RemoveMark, rest) x e) (record { parts = refl; rest_fits = λ i. fits (suc i) })
-kind_takes (suc (suc (suc (suc (suc b)))) ∷ rest) x fits e = absurd cc
+named_takes : (b : ℕ) (k : Kind) → kind_named b ≡ Ok k → b ≡ tag_of k
+unfolding kind_named
+named_takes zero k e = absurd cc
+named_takes (suc zero) k e = ap tag_of (ok_is kind.Insert k e)
+named_takes (suc (suc zero)) k e = ap tag_of (ok_is kind.Remove k e)
+named_takes (suc (suc (suc zero))) k e = ap tag_of (ok_is kind.AddMark k e)
+named_takes (suc (suc (suc (suc zero)))) k e = ap tag_of (ok_is kind.RemoveMark k e)
+named_takes (suc (suc (suc (suc (suc b))))) k e = absurd cc
 
-kind_again : (body : Body) (rest : List ℕ) → kind_at (kind_byte body ∷ rest) ≡ Ok (kind_of body, rest)
+named_again : (body : Body) → kind_named (kind_byte body) ≡ Ok (kind_of body)
+unfolding kind_named
+named_again (Insert origin value) = refl
+named_again (Remove target) = refl
+named_again (AddMark mark from to) = refl
+named_again (RemoveMark mark from to) = refl
+
+-- what the first byte says: a kind, and a token where the format has them
+record Tag (format : Format) (bytes : List ℕ) (k : Kind) (has_token : Bool) (rest : List ℕ) : Type 0 where
+  taken : Takes bytes (tagged has_token (tag_of k) ∷ []) rest
+  within : has_tokens format ≡ false → has_token ≡ false
+
+kind_takes : (format : Format) (bytes : List ℕ) (x : (Kind × Bool) × List ℕ) → IsBytes bytes → kind_at format bytes ≡ Ok x → Tag format bytes x.0.0 x.0.1 x.1
 unfolding kind_at
-kind_again (Insert origin value) rest = refl
-kind_again (Remove target) rest = refl
-kind_again (AddMark mark from to) rest = refl
-kind_again (RemoveMark mark from to) rest = refl
+kind_takes format [] x fits e = absurd cc
+kind_takes format (b ∷ rest) x fits e =
+    elim (cases_Bool (ltb 16 b && has_tokens format)) [
+      | inl with_token ↦
+          let above = and_parts (ltb 16 b) (has_tokens format) with_token in
+          let high = ltb-true 16 b above.0 in
+          let a = bind_ok (kind_named (b - 16)) (λ k. Ok ((k, true), rest)) x (sym (ap (λ t. cond t (kind_named (b - 16) >>= λ k. Ok ((k, true), rest)) (kind_named b >>= λ k. Ok ((k, false), rest))) with_token) ∙ e) in
+          let is : b ≡ 16 + tag_of a.0 = omega (arith, named_takes (b - 16) a.0 a.1, high) in
+          subst (λ (y : (Kind × Bool) × List ℕ). Tag format (b ∷ rest) y.0.0 y.0.1 y.1) (ok_is ((a.0, true), rest) x a.2)
+          (record { taken = record { parts = ap (λ n. n ∷ rest) is; rest_fits = λ i. fits (suc i) }; within = λ none. absurd (let has = above.1 in let broken : ⊥ = cc in broken) })
+      | inr without ↦
+          let a = bind_ok (kind_named b) (λ k. Ok ((k, false), rest)) x (sym (ap (λ t. cond t (kind_named (b - 16) >>= λ k. Ok ((k, true), rest)) (kind_named b >>= λ k. Ok ((k, false), rest))) without) ∙ e) in
+          subst (λ (y : (Kind × Bool) × List ℕ). Tag format (b ∷ rest) y.0.0 y.0.1 y.1) (ok_is ((a.0, false), rest) x a.2)
+          (record { taken = record { parts = ap (λ n. n ∷ rest) (named_takes b a.0 a.1); rest_fits = λ i. fits (suc i) }; within = λ none. refl })
+    ]
+
+-- the kinds are few
+kind_few : (body : Body) → (0 < kind_byte body) × (kind_byte body ≤ 4)
+kind_few (Insert origin value) = (omega arith, omega arith)
+kind_few (Remove target) = (omega arith, omega arith)
+kind_few (AddMark mark from to) = (omega arith, omega arith)
+kind_few (RemoveMark mark from to) = (omega arith, omega arith)
+
+kind_again : (format : Format) (body : Body) (has_token : Bool) (rest : List ℕ) → (has_tokens format ≡ false → has_token ≡ false)
+    → kind_at format (tagged has_token (kind_byte body) ∷ rest) ≡ Ok ((kind_of body, has_token), rest)
+unfolding kind_at
+kind_again format body false rest within =
+    let low : ltb 16 (kind_byte body) ≡ false = le-ltb _ _ (omega (arith, (kind_few body).1)) in
+    rw (low, named_again body) refl
+kind_again format body true rest within =
+    let high : ltb 16 (16 + kind_byte body) ≡ true = lt-ltb _ _ (omega (arith, (kind_few body).0)) in
+    let back : (16 + kind_byte body) - 16 ≡ kind_byte body = omega arith in
+    rw (high, has within, back, named_again body) refl
+  where
+    has : (has_tokens format ≡ false → true ≡ false) → has_tokens format ≡ true
+    has never = elim (cases_Bool (has_tokens format)) [ inl yes_it ↦ yes_it | inr none ↦ absurd (let broken = never none in let never_so : ⊥ = cc in never_so) ]
 
 -- what was read as content of a kind
 record Content (k : Kind) (bytes : List ℕ) (body : Body) (rest : List ℕ) : Type 0 where
@@ -116,65 +159,132 @@ body_again body fits =
     let read : content_at (kind_of body) (content_bytes body) ≡ Ok (body, []) = ap (content_at (kind_of body)) (sym (append-nil (content_bytes body))) ∙ content_again body [] fits in
     rw read refl
 
-head_takes : (bytes : List ℕ) (x : Head × List ℕ) → IsBytes bytes → head_at bytes ≡ Ok x → Takes bytes (tag_of x.0.kind ∷ (number_bytes w32 x.0.doc ++ id_bytes x.0.id)) x.1 × (x.0.doc < 2 ^ 32) × IsId x.0.id
+-- the bytes of a head
+abbrev head_bytes : Head → List ℕ
+head_bytes head = tagged head.has_token (tag_of head.kind) ∷ (number_bytes w32 head.doc ++ id_bytes head.id)
+
+-- what was read as a head
+record FrontHead (format : Format) (bytes : List ℕ) (head : Head) (rest : List ℕ) : Type 0 where
+  taken : Takes bytes (head_bytes head) rest
+  doc : head.doc < 2 ^ 32
+  id : IsId head.id
+  within : has_tokens format ≡ false → head.has_token ≡ false
+
+head_takes : (format : Format) (bytes : List ℕ) (x : Head × List ℕ) → IsBytes bytes → head_at format bytes ≡ Ok x → FrontHead format bytes x.0 x.1
 unfolding head_at
-head_takes bytes x fits e =
-    let a = bind_ok (kind_at bytes) (λ tag. number_at w32 tag.1 >>= λ doc. id_at doc.1 >>= λ id. Ok (record { kind = tag.0; doc = doc.0; id = id.0 }, id.1)) x e in
-    let b = bind_ok (number_at w32 a.0.1) (λ doc. id_at doc.1 >>= λ id. Ok (record { kind = a.0.0; doc = doc.0; id = id.0 }, id.1)) x a.2 in
-    let c = bind_ok (id_at b.0.1) (λ id. Ok (record { kind = a.0.0; doc = b.0.0; id = id.0 }, id.1)) x b.2 in
-    let t0 = kind_takes bytes a.0 fits a.1 in
-    let t1 = number_takes w32 (2 ^ 32) wide32 a.0.1 b.0 t0.rest_fits b.1 in
+head_takes format bytes x fits e =
+    let a = bind_ok (kind_at format bytes) (λ tag. number_at w32 tag.1 >>= λ doc. id_at doc.1 >>= λ id. Ok (record { kind = tag.0.0; has_token = tag.0.1; doc = doc.0; id = id.0 }, id.1)) x e in
+    let b = bind_ok (number_at w32 a.0.1) (λ doc. id_at doc.1 >>= λ id. Ok (record { kind = a.0.0.0; has_token = a.0.0.1; doc = doc.0; id = id.0 }, id.1)) x a.2 in
+    let c = bind_ok (id_at b.0.1) (λ id. Ok (record { kind = a.0.0.0; has_token = a.0.0.1; doc = b.0.0; id = id.0 }, id.1)) x b.2 in
+    let t0 = kind_takes format bytes a.0 fits a.1 in
+    let t1 = number_takes w32 (2 ^ 32) wide32 a.0.1 b.0 t0.taken.rest_fits b.1 in
     let t2 = id_takes b.0.1 c.0 t1.0.rest_fits c.1 in
     let e12 = Takes-then a.0.1 (number_bytes w32 b.0.0) b.0.1 (id_bytes c.0.0) c.0.1 t1.0 t2.0 in
-    let e02 = Takes-then bytes (tag_of a.0.0 ∷ []) a.0.1 (number_bytes w32 b.0.0 ++ id_bytes c.0.0) c.0.1 t0 e12 in
-    let made : Head × List ℕ = (record { kind = a.0.0; doc = b.0.0; id = c.0.0 }, c.0.1) in
-    subst (λ (y : Head × List ℕ). Takes bytes (tag_of y.0.kind ∷ (number_bytes w32 y.0.doc ++ id_bytes y.0.id)) y.1 × (y.0.doc < 2 ^ 32) × IsId y.0.id) (ok_is made x c.2) (e02, t1.1, t2.1)
+    let e02 = Takes-then bytes (tagged a.0.0.1 (tag_of a.0.0.0) ∷ []) a.0.1 (number_bytes w32 b.0.0 ++ id_bytes c.0.0) c.0.1 t0.taken e12 in
+    let made : Head × List ℕ = (record { kind = a.0.0.0; has_token = a.0.0.1; doc = b.0.0; id = c.0.0 }, c.0.1) in
+    subst (λ (y : Head × List ℕ). FrontHead format bytes y.0 y.1) (ok_is made x c.2) (record { taken = e02; doc = t1.1; id = t2.1; within = t0.within })
 
-pub op_takes : (bytes : List ℕ) (op : Op) → IsBytes bytes → op_at bytes ≡ Ok op → (bytes ≡ body_bytes op) × IsOperation op
+-- a token where there is one
+record FrontToken (bytes : List ℕ) (has_token : Bool) (token : Option ℕ) (rest : List ℕ) : Type 0 where
+  taken : Takes bytes (token_bytes token) rest
+  fits : IsToken token
+  has : has_token ≡ is_some token
+
+token_takes : (has_token : Bool) (bytes : List ℕ) (x : Option ℕ × List ℕ) → IsBytes bytes → token_at has_token bytes ≡ Ok x → FrontToken bytes has_token x.0 x.1
+unfolding token_at token_bytes
+token_takes false bytes x fits e =
+    subst (λ (y : Option ℕ × List ℕ). FrontToken bytes false y.0 y.1) (ok_is (None, bytes) x e) (record { taken = record { parts = refl; rest_fits = fits }; fits = tt; has = refl })
+token_takes true bytes x fits e =
+    let a = bind_ok (replica_at bytes) (λ token. Ok (Some token.0, token.1)) x e in
+    let t = replica_takes bytes a.0 fits a.1 in
+    subst (λ (y : Option ℕ × List ℕ). FrontToken bytes true y.0 y.1) (ok_is (Some a.0.0, a.0.1) x a.2) (record { taken = t.0; fits = (t.1, t.2); has = refl })
+
+token_again : (token : Option ℕ) (rest : List ℕ) → IsToken token → token_at (is_some token) (token_bytes token ++ rest) ≡ Ok (token, rest)
+unfolding token_at token_bytes
+token_again None rest fits = refl
+token_again (Some token) rest fits = rw (replica_again token rest fits.0 fits.1) refl
+
+-- what was read behind the deps
+record Remainder (bytes : List ℕ) (has_token : Bool) (k : Kind) (token : Option ℕ) (body : Body) : Type 0 where
+  taken : Takes bytes (token_bytes token ++ content_bytes body) []
+  token_fits : IsToken token
+  body_fits : IsContent body
+  has : has_token ≡ is_some token
+  tag : kind_byte body ≡ tag_of k
+
+rest_takes : (has_token : Bool) (k : Kind) (bytes : List ℕ) (x : Option ℕ × Body) → IsBytes bytes → rest_at has_token k bytes ≡ Ok x → Remainder bytes has_token k x.0 x.1
+rest_takes has_token k bytes x fits e =
+    let a = bind_ok (token_at has_token bytes) (λ token. body_at k token.1 >>= λ body. Ok (token.0, body)) x e in
+    let b = bind_ok (body_at k a.0.1) (λ body. Ok (a.0.0, body)) x a.2 in
+    let t0 = token_takes has_token bytes a.0 fits a.1 in
+    let t1 = body_takes k a.0.1 b.0 t0.taken.rest_fits b.1 in
+    let both = Takes-then bytes (token_bytes a.0.0) a.0.1 (content_bytes b.0) [] t0.taken t1.taken in
+    subst (λ (y : Option ℕ × Body). Remainder bytes has_token k y.0 y.1) (ok_is (a.0.0, b.0) x b.2)
+    (record { taken = both; token_fits = t0.fits; body_fits = t1.fits; has = t0.has; tag = t1.tag })
+
+rest_again : (token : Option ℕ) (body : Body) → IsToken token → IsContent body → rest_at (is_some token) (kind_of body) (token_bytes token ++ content_bytes body) ≡ Ok (token, body)
+rest_again token body fits content = rw (token_again token (content_bytes body) fits, body_again body content) refl
+
+-- no token where the head has none
+none_is : (token : Option ℕ) → false ≡ is_some token → token ≡ None
+none_is None e = refl
+none_is (Some token) e = absurd cc
+
+pub op_takes : (format : Format) (bytes : List ℕ) (op : Op) → IsBytes bytes → op_at format bytes ≡ Ok op → (bytes ≡ body_bytes op) × IsOperation op × IsOf format op
 unfolding op_at body_bytes
-op_takes bytes op fits e =
-    let a = bind_ok (head_at bytes) (λ head. deps_at head.1 >>= λ deps. body_at head.0.kind deps.1 >>= λ body. Ok (record { id = head.0.id; doc = head.0.doc; deps = deps.0; body = body })) op e in
-    let b = bind_ok (deps_at a.0.1) (λ deps. body_at a.0.0.kind deps.1 >>= λ body. Ok (record { id = a.0.0.id; doc = a.0.0.doc; deps = deps.0; body = body })) op a.2 in
-    let c = bind_ok (body_at a.0.0.kind b.0.1) (λ body. Ok (record { id = a.0.0.id; doc = a.0.0.doc; deps = b.0.0; body = body })) op b.2 in
+op_takes format bytes op fits e =
+    let a = bind_ok (head_at format bytes) (λ head. deps_at head.1 >>= λ deps. with_head head.0 deps.0 (rest_at head.0.has_token head.0.kind deps.1)) op e in
+    let b = bind_ok (deps_at a.0.1) (λ deps. with_head a.0.0 deps.0 (rest_at a.0.0.has_token a.0.0.kind deps.1)) op a.2 in
+    let c = bind_ok (rest_at a.0.0.has_token a.0.0.kind b.0.1) (λ x. Ok (record { id = a.0.0.id; doc = a.0.0.doc; token = x.0; deps = b.0.0; body = x.1 })) op b.2 in
     let head = a.0.0 in
-    let t0 = head_takes bytes a.0 fits a.1 in
-    let t1 = deps_take a.0.1 b.0 t0.0.rest_fits b.1 in
-    let t2 = body_takes head.kind b.0.1 c.0 t1.0.rest_fits c.1 in
-    let tail = Takes-then a.0.1 (deps_bytes b.0.0) b.0.1 (content_bytes c.0) [] t1.0 t2.taken in
-    let whole = Takes-then bytes (tag_of head.kind ∷ (number_bytes w32 head.doc ++ id_bytes head.id)) a.0.1 (deps_bytes b.0.0 ++ content_bytes c.0) [] t0.0 tail in
-    let made : Op = record { id = head.id; doc = head.doc; deps = b.0.0; body = c.0 } in
-    let grouped : bytes ≡ tag_of head.kind ∷ (number_bytes w32 head.doc ++ (id_bytes head.id ++ (deps_bytes b.0.0 ++ content_bytes c.0))) =
-    whole.parts ∙ append-nil ((tag_of head.kind ∷ (number_bytes w32 head.doc ++ id_bytes head.id)) ++ (deps_bytes b.0.0 ++ content_bytes c.0))
-    ∙ ap (λ (w : List ℕ). tag_of head.kind ∷ w) (append_assoc (number_bytes w32 head.doc) (id_bytes head.id) (deps_bytes b.0.0 ++ content_bytes c.0)) in
-    let spelled_so : bytes ≡ body_bytes made = grouped ∙ ap (λ (k : ℕ). k ∷ (number_bytes w32 head.doc ++ (id_bytes head.id ++ (deps_bytes b.0.0 ++ content_bytes c.0)))) (sym t2.tag) in
-    let valid : IsOperation made = record { id = t0.2; doc = t0.1; deps = t1.1; replicas = t1.2; body = t2.fits } in
-    subst (λ (o : Op). (bytes ≡ body_bytes o) × IsOperation o) (ok_is made op c.2) (spelled_so, valid)
+    let t0 = head_takes format bytes a.0 fits a.1 in
+    let t1 = deps_take a.0.1 b.0 t0.taken.rest_fits b.1 in
+    let t2 = rest_takes head.has_token head.kind b.0.1 c.0 t1.0.rest_fits c.1 in
+    let behind = token_bytes c.0.0 ++ content_bytes c.0.1 in
+    let tail = Takes-then a.0.1 (deps_bytes b.0.0) b.0.1 behind [] t1.0 t2.taken in
+    let whole = Takes-then bytes (head_bytes head) a.0.1 (deps_bytes b.0.0 ++ behind) [] t0.taken tail in
+    let made : Op = record { id = head.id; doc = head.doc; token = c.0.0; deps = b.0.0; body = c.0.1 } in
+    let fields = number_bytes w32 head.doc ++ (id_bytes head.id ++ (deps_bytes b.0.0 ++ behind)) in
+    let grouped : bytes ≡ tagged head.has_token (tag_of head.kind) ∷ fields =
+    whole.parts ∙ append-nil (head_bytes head ++ (deps_bytes b.0.0 ++ behind))
+    ∙ ap (λ (w : List ℕ). tagged head.has_token (tag_of head.kind) ∷ w) (append_assoc (number_bytes w32 head.doc) (id_bytes head.id) (deps_bytes b.0.0 ++ behind)) in
+    let spelled_so : bytes ≡ body_bytes made =
+    grouped ∙ ap (λ (k : ℕ). tagged head.has_token k ∷ fields) (sym t2.tag) ∙ ap (λ (has : Bool). tagged has (kind_byte c.0.1) ∷ fields) t2.has in
+    let valid : IsOperation made = record { id = t0.id; doc = t0.doc; token = t2.token_fits; deps = t1.1; replicas = t1.2; body = t2.body_fits } in
+    let of_format : IsOf format made = λ none. none_is c.0.0 (sym (t0.within none) ∙ t2.has) in
+    subst (λ (o : Op). (bytes ≡ body_bytes o) × IsOperation o × IsOf format o) (ok_is made op c.2) (spelled_so, valid, of_format)
 
-pub op_again : (op : Op) → IsOperation op → op_at (body_bytes op) ≡ Ok op
+-- a format that has no tokens has the operation without one
+within_of : (format : Format) (op : Op) → IsOf format op → has_tokens format ≡ false → is_some op.token ≡ false
+within_of format op of_format none = ap is_some (of_format none)
+
+pub op_again : (format : Format) (op : Op) → IsOf format op → IsOperation op → op_at format (body_bytes op) ≡ Ok op
 unfolding op_at head_at body_bytes
-op_again op fits =
+op_again format op of_format fits =
+    let behind = token_bytes op.token ++ content_bytes op.body in
     rw (
-      kind_again op.body (number_bytes w32 op.doc ++ (id_bytes op.id ++ (deps_bytes op.deps ++ content_bytes op.body))),
-      number_again w32 (2 ^ 32) wide32 op.doc (id_bytes op.id ++ (deps_bytes op.deps ++ content_bytes op.body)) fits.doc,
-      id_again op.id (deps_bytes op.deps ++ content_bytes op.body) fits.id,
-      deps_again op.deps (content_bytes op.body) fits.deps fits.replicas,
-      body_again op.body fits.body,
+      kind_again format op.body (is_some op.token) (number_bytes w32 op.doc ++ (id_bytes op.id ++ (deps_bytes op.deps ++ behind))) (within_of format op of_format),
+      number_again w32 (2 ^ 32) wide32 op.doc (id_bytes op.id ++ (deps_bytes op.deps ++ behind)) fits.doc,
+      id_again op.id (deps_bytes op.deps ++ behind) fits.id,
+      deps_again op.deps behind fits.deps fits.replicas,
+      rest_again op.token op.body fits.token fits.body,
     ) refl
 
--- what a body begins with, whatever follows it
+-- what a body begins with, whatever follows it, where records with tokens are read
 pub head_again : (op : Op) (rest : List ℕ) → IsOperation op
-    → head_at (body_bytes op ++ rest) ≡ Ok (head_of op, (deps_bytes op.deps ++ content_bytes op.body) ++ rest)
+    → head_at Third (body_bytes op ++ rest) ≡ Ok (head_of op, (deps_bytes op.deps ++ (token_bytes op.token ++ content_bytes op.body)) ++ rest)
 unfolding head_at body_bytes
 head_again op rest fits =
-    let tail = (deps_bytes op.deps ++ content_bytes op.body) ++ rest in
+    let behind = deps_bytes op.deps ++ (token_bytes op.token ++ content_bytes op.body) in
+    let tail = behind ++ rest in
     let doc = number_bytes w32 op.doc in
     let id = id_bytes op.id in
-    let regrouped : (doc ++ (id ++ (deps_bytes op.deps ++ content_bytes op.body))) ++ rest ≡ doc ++ (id ++ tail) =
-    append_assoc doc (id ++ (deps_bytes op.deps ++ content_bytes op.body)) rest
-    ∙ ap (λ (w : List ℕ). doc ++ w) (append_assoc id (deps_bytes op.deps ++ content_bytes op.body) rest) in
-    ap (λ (w : List ℕ). head_at (kind_byte op.body ∷ w)) regrouped
+    let regrouped : (doc ++ (id ++ behind)) ++ rest ≡ doc ++ (id ++ tail) =
+    append_assoc doc (id ++ behind) rest
+    ∙ ap (λ (w : List ℕ). doc ++ w) (append_assoc id behind rest) in
+    ap (λ (w : List ℕ). head_at Third (tagged (is_some op.token) (kind_byte op.body) ∷ w)) regrouped
     ∙ rw (
-      kind_again op.body (doc ++ (id ++ tail)),
+      kind_again Third op.body (is_some op.token) (doc ++ (id ++ tail)) (λ none. absurd (let broken : ⊥ = cc in broken)),
       number_again w32 (2 ^ 32) wide32 op.doc (id ++ tail) fits.doc,
       id_again op.id tail fits.id,
     ) refl

@@ -5,12 +5,15 @@ use Rattle.op_model.specs.declared.op.Op.{Op}
 use Rattle.op_model.specs.Records.{stream_length}
 use Rattle.change_codec.specs.declared.codec_error.CodecError.{CodecError}
 use Rattle.change_codec.specs.declared.codec_error.CodecError.TheVariants.{Memory}
+use Rattle.change_codec.specs.declared.format.Format.{Format}
+use Rattle.change_codec.specs.declared.format.Format.TheVariants.{Third}
 use Rattle.change_codec.specs.Fits.{IsOperation}
+use Rattle.change_codec.specs.Formats.{AreOf, IsOf}
 use Rattle.change_codec.specs.Spelling.{spelled}
 use Rattle.change_codec.specs.Record.{BeginsWithOp}
 use Rattle.change_codec.specs.Stream.{spelled_all, AreOperations, IsNoStream}
 use Rattle.change_codec.proofs.Lengths.{length_spelled}
-use Rattle.change_codec.proofs.RecordLaws.{begins_none}
+use Rattle.change_codec.proofs.RecordLaws.{begins_none, of_third}
 
 -- a record has some bytes
 spelled_some : (op : Op) → 0 < length (spelled op)
@@ -43,13 +46,13 @@ spelled_all-determines (x ∷ xs) (y ∷ ys) fits_a fits_b is =
     λ i. both.0 i ∷ others i
 
 -- bytes behind records are a stream, if all of them are
-pub no_stream_behind : (before : List Op) (rest : List ℕ) → AreOperations before → IsNoStream rest → IsNoStream (spelled_all before ++ rest)
-no_stream_behind [] rest fits none ops fits_b is = none ops fits_b is
-no_stream_behind (x ∷ xs) rest fits none [] fits_b is =
+pub no_stream_behind : (f : Format) (before : List Op) (rest : List ℕ) → AreOperations before → IsNoStream f rest → IsNoStream f (spelled_all before ++ rest)
+no_stream_behind f [] rest fits none ops fits_b of_b is = none ops fits_b of_b is
+no_stream_behind f (x ∷ xs) rest fits none [] fits_b of_b is =
     absurd (some_records x (spelled_all xs ++ rest) (sym (append_assoc (spelled x) (spelled_all xs) rest) ∙ sym is))
-no_stream_behind (x ∷ xs) rest fits none (y ∷ ys) fits_b is =
+no_stream_behind f (x ∷ xs) rest fits none (y ∷ ys) fits_b of_b is =
     let both = begins_none y x (spelled_all ys) (spelled_all xs ++ rest) fits_b.0 fits.0 (is ∙ append_assoc (spelled x) (spelled_all xs) rest) in
-    no_stream_behind xs rest fits.1 none ys fits_b.1 both.1
+    no_stream_behind f xs rest fits.1 none ys fits_b.1 of_b.1 both.1
 
 -- bytes begin with the first of the records that they are
 begins_first : (op : Op) (rest : List ℕ) → IsOperation op → BeginsWithOp (spelled op ++ rest) op (length (spelled op))
@@ -61,10 +64,20 @@ begins_first op rest fits =
     }
 
 -- some bytes that begin with no operation are no stream
-pub none_begins : (bytes : List ℕ) → 0 < length bytes → ((op : Op) (n : ℕ) → BeginsWithOp bytes op n → ⊥) → IsNoStream bytes
-none_begins bytes some none [] fits is = absurd (omega (arith, ap length is, some))
-none_begins bytes some none (op ∷ ops) fits is =
-    none op (length (spelled op)) (rw (← is) (begins_first op (spelled_all ops) fits.0))
+pub none_begins : (f : Format) (bytes : List ℕ) → 0 < length bytes → ((op : Op) (n : ℕ) → IsOf f op → BeginsWithOp bytes op n → ⊥) → IsNoStream f bytes
+none_begins f bytes some none [] fits of_ops is = absurd (omega (arith, ap length is, some))
+none_begins f bytes some none (op ∷ ops) fits of_ops is =
+    none op (length (spelled op)) of_ops.0 (rw (← is) (begins_first op (spelled_all ops) fits.0))
+
+-- the third format has all operations
+pub are_of_third : (ops : List Op) → AreOf Third ops
+are_of_third [] = tt
+are_of_third (op ∷ ops) = (of_third op, are_of_third ops)
+
+-- one operation more is of the format too
+pub are_of_more : (f : Format) (ops : List Op) (op : Op) → AreOf f ops → IsOf f op → AreOf f (ops ++ op ∷ [])
+are_of_more f [] op of_ops more = (more, tt)
+are_of_more f (x ∷ xs) op of_ops more = (of_ops.0, are_of_more f xs op of_ops.1 more)
 
 -- one operation more keeps its rules
 pub are_more : (ops : List Op) (op : Op) → AreOperations ops → IsOperation op → AreOperations (ops ++ op ∷ [])
@@ -84,10 +97,10 @@ pub begins_some : (bytes : List ℕ) (op : Op) (n : ℕ) → BeginsWithOp bytes 
 begins_some bytes op n begins = omega (arith, ap length begins.spelled_so, length-take n bytes, spelled_some op)
 
 -- some bytes of which a record can't be taken, for another cause than memory, are no stream
-pub no_begin : (bytes : List ℕ) (r : Result (Option (Op × ℕ)) CodecError) → 0 < length bytes
-    → ((op : Op) (n : ℕ) → BeginsWithOp bytes op n → (r ≡ Ok (Some (op, n))) ⊎ (r ≡ Err Memory)) → ((f : Op × ℕ) → r ≡ Ok (Some f) → ⊥) → (r ≡ Err Memory → ⊥) → IsNoStream bytes
-no_begin bytes r some only not_found not_memory =
-    none_begins bytes some (λ op n begins. elim (only op n begins) [
+pub no_begin : (f : Format) (bytes : List ℕ) (r : Result (Option (Op × ℕ)) CodecError) → 0 < length bytes
+    → ((op : Op) (n : ℕ) → IsOf f op → BeginsWithOp bytes op n → (r ≡ Ok (Some (op, n))) ⊎ (r ≡ Err Memory)) → ((x : Op × ℕ) → r ≡ Ok (Some x) → ⊥) → (r ≡ Err Memory → ⊥) → IsNoStream f bytes
+no_begin f bytes r some only not_found not_memory =
+    none_begins f bytes some (λ op n of_format begins. elim (only op n of_format begins) [
       | inl found ↦ not_found (op, n) found
       | inr memory ↦ not_memory memory
     ])

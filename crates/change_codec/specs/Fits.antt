@@ -78,10 +78,16 @@ abbrev pub HaveSixteen : List (ℕ × ℕ) → Type 0
 HaveSixteen [] = Unit {0}
 HaveSixteen (e ∷ es) = (e.0 < 2 ^ 128) × HaveSixteen es
 
+-- no token, or one that isn't nil, of sixteen bytes
+abbrev pub IsToken : Option ℕ → Type 0
+IsToken None = Unit {0}
+IsToken (Some token) = (0 < token) × (token < 2 ^ 128)
+
 -- an operation: each of its fields keeps its rule
 pub record IsOperation (op : Op) : Type 0 where
   pub id : IsId op.id
   pub doc : op.doc < 2 ^ 32
+  pub token : IsToken op.token
   pub deps : is_clock op.deps ≡ true
   pub replicas : HaveSixteen op.deps
   pub body : IsContent op.body

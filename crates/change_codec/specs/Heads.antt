@@ -1,4 +1,5 @@
 -- What each record begins with.
+use Rattle.std.specs.Prelude.{is_some}
 use Rattle.op_model.specs.declared.op.Op.{Op}
 use Rattle.op_model.specs.declared.op.Body.{Body}
 use Rattle.op_model.specs.declared.op.Body.TheVariants.{Insert, Remove, AddMark, RemoveMark}
@@ -13,6 +14,6 @@ kind_of (Remove target) = kind.Remove
 kind_of (AddMark mark from to) = kind.AddMark
 kind_of (RemoveMark mark from to) = kind.RemoveMark
 
--- the kind of an operation, its document and its id
+-- the kind of an operation, whether it has a token, its document and its id
 abbrev pub head_of : Op → Head
-head_of op = record { kind = kind_of op.body; doc = op.doc; id = op.id }
+head_of op = record { kind = kind_of op.body; has_token = is_some op.token; doc = op.doc; id = op.id }

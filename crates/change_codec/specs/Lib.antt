@@ -2,6 +2,7 @@ pub mod CodecError
 pub mod Spelling
 pub mod Writing
 pub mod Fits
+pub mod Formats
 pub mod Heads
 pub mod Reading
 pub mod Lent

@@ -1,6 +1,6 @@
 -- Reading the body of a record from left to right, up to the first broken rule. Each field is a value and the bytes
 -- after it.
-use Rattle.std.specs.Prelude.{◌≡◌, ℕ, zero, suc, List, [], ◌∷◌, length, take, drop, Option, Some, None, Result, Ok, Err, nat_lt, ◌==◌, if◌then◌else◌}
+use Rattle.std.specs.Prelude.{◌≡◌, ℕ, zero, suc, List, [], ◌∷◌, length, take, drop, Option, Some, None, Result, Ok, Err, ◌-◌, Bool, true, false, ◌&&◌, nat_lt, ◌==◌, if◌then◌else◌}
 use Rattle.std.specs.Int.{Width, w16, w32, w64, w128, byte_len, from_be_bytes, is_in_range}
 use lib.Utf8.{scalar}
 use Rattle.std.specs.Str.{is_utf8}
@@ -20,9 +20,11 @@ use Rattle.op_model.specs.declared.mark.MarkKey.{MarkKey}
 use Rattle.op_model.specs.declared.mark.MarkKey.TheVariants as key
 use Rattle.change_codec.specs.declared.codec_error.CodecError.{CodecError}
 use Rattle.change_codec.specs.declared.codec_error.CodecError.TheVariants as fault
+use Rattle.change_codec.specs.declared.format.Format.{Format}
 use Rattle.change_codec.specs.declared.head.Head.{Head}
 use Rattle.change_codec.specs.declared.content.Kind.{Kind}
 use Rattle.change_codec.specs.declared.content.Kind.TheVariants as kind
+use Rattle.change_codec.specs.Formats.{has_tokens}
 
 -- a step, and then what follows from its value; a fault ends the reading
 infixl 10 ◌>>=◌
@@ -182,14 +184,27 @@ span_at bytes = do
   Ok ((from.0, to.0), to.1)
 
 -- 1 insert, 2 remove, 3 add mark, 4 remove mark
-unfoldable pub kind_at : List ℕ → Result (Kind × List ℕ) CodecError
-kind_at [] = Err fault.Length
-kind_at (zero ∷ rest) = Err fault.Kind
-kind_at (suc zero ∷ rest) = Ok (kind.Insert, rest)
-kind_at (suc (suc zero) ∷ rest) = Ok (kind.Remove, rest)
-kind_at (suc (suc (suc zero)) ∷ rest) = Ok (kind.AddMark, rest)
-kind_at (suc (suc (suc (suc zero))) ∷ rest) = Ok (kind.RemoveMark, rest)
-kind_at (suc (suc (suc (suc (suc b)))) ∷ rest) = Err fault.Kind
+unfoldable pub kind_named : ℕ → Result Kind CodecError
+kind_named zero = Err fault.Kind
+kind_named (suc zero) = Ok kind.Insert
+kind_named (suc (suc zero)) = Ok kind.Remove
+kind_named (suc (suc (suc zero))) = Ok kind.AddMark
+kind_named (suc (suc (suc (suc zero)))) = Ok kind.RemoveMark
+kind_named (suc (suc (suc (suc (suc b))))) = Err fault.Kind
+
+-- the kind of a record, and whether it has a token: where a format has tokens, the kinds above 16 are those 16 below with one
+unfoldable pub kind_at : Format → List ℕ → Result ((Kind × Bool) × List ℕ) CodecError
+kind_at format [] = Err fault.Length
+kind_at format (b ∷ rest) =
+    if nat_lt 16 b && has_tokens format then (kind_named (b - 16) >>= λ k. Ok ((k, true), rest))
+    else (kind_named b >>= λ k. Ok ((k, false), rest))
+
+-- the token of a record that has one, which isn't nil
+unfoldable pub token_at : Bool → List ℕ → Result (Option ℕ × List ℕ) CodecError
+token_at false bytes = Ok (None, bytes)
+token_at true bytes = do
+  token ← replica_at bytes
+  Ok (Some token.0, token.1)
 
 -- what an operation of a kind does
 unfoldable pub content_at : Kind → List ℕ → Result (Body × List ℕ) CodecError
@@ -214,17 +229,27 @@ unfoldable pub body_at : Kind → List ℕ → Result Body CodecError
 body_at kind bytes = content_at kind bytes >>= λ content. if length content.1 == 0 then Ok content.0 else Err fault.Length
 
 -- the kind of a record, its document and its id
-unfoldable pub head_at : List ℕ → Result (Head × List ℕ) CodecError
-head_at bytes = do
-  kind ← kind_at bytes
+unfoldable pub head_at : Format → List ℕ → Result (Head × List ℕ) CodecError
+head_at format bytes = do
+  kind ← kind_at format bytes
   doc ← number_at w32 kind.1
   id ← id_at doc.1
-  Ok (record { kind = kind.0; doc = doc.0; id = id.0 }, id.1)
+  Ok (record { kind = kind.0.0; has_token = kind.0.1; doc = doc.0; id = id.0 }, id.1)
 
--- the operation that a whole body gives: its head, its deps and what it does
-unfoldable pub op_at : List ℕ → Result Op CodecError
-op_at bytes = do
-  head ← head_at bytes
+-- the token, if there is one, and what an operation of a kind does
+abbrev pub rest_at : Bool → Kind → List ℕ → Result (Option ℕ × Body) CodecError
+rest_at has_token kind bytes = do
+  token ← token_at has_token bytes
+  body ← body_at kind token.1
+  Ok (token.0, body)
+
+-- the operation with a head and deps, and what was read behind them
+abbrev pub with_head : Head → List (ℕ × ℕ) → Result (Option ℕ × Body) CodecError → Result Op CodecError
+with_head head deps rest = rest >>= λ x. Ok (record { id = head.id; doc = head.doc; token = x.0; deps = deps; body = x.1 })
+
+-- the operation that a whole body gives: its head, its deps, its token and what it does
+unfoldable pub op_at : Format → List ℕ → Result Op CodecError
+op_at format bytes = do
+  head ← head_at format bytes
   deps ← deps_at head.1
-  body ← body_at head.0.kind deps.1
-  Ok (record { id = head.0.id; doc = head.0.doc; deps = deps.0; body = body })
+  with_head head.0 deps.0 (rest_at head.0.has_token head.0.kind deps.1)

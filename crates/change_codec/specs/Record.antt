@@ -1,18 +1,20 @@
 -- A whole record at the front of a stream.
 use Rattle.std.specs.Prelude.{◌≡◌, ◌⊎◌, ℕ, ◌+◌, ◌<◌, ◌≤◌, List, length, take, drop, Option, Some, None, Result, Ok, Err, nat_lt, if◌then◌else◌}
 use Rattle.std.specs.Int.{w32, from_be_bytes, is_in_range}
-use Rattle.fixed_numbers.specs.declared.sizes.TheConstants.{MAX_RECORD, MIN_RECORD}
+use Rattle.fixed_numbers.specs.declared.sizes.TheConstants.{MIN_RECORD}
 use Rattle.op_model.specs.declared.op.Op.{Op}
 use Rattle.change_codec.specs.declared.codec_error.CodecError.{CodecError}
 use Rattle.change_codec.specs.declared.codec_error.CodecError.TheVariants.{Memory, Length}
+use Rattle.change_codec.specs.declared.format.Format.{Format}
+use Rattle.change_codec.specs.Formats.{longest, IsOf}
 use Rattle.change_codec.specs.Spelling.{Spells}
 use Rattle.change_codec.specs.Fits.{IsOperation}
 use Rattle.change_codec.specs.Reading.{◌>>=◌, op_at}
 
 -- with the length of the body, and the bytes after it: the operation and how many bytes it takes, or none yet
-abbrev pub record_at : ℕ → List ℕ → Result (Option (Op × ℕ)) CodecError
-record_at len rest =
-    if is_in_range MIN_RECORD MAX_RECORD len then (if nat_lt (length rest) len then Ok None else (op_at (take len rest) >>= λ op. Ok (Some (op, 4 + len))))
+abbrev pub record_at : Format → ℕ → List ℕ → Result (Option (Op × ℕ)) CodecError
+record_at format len rest =
+    if is_in_range MIN_RECORD (longest format) len then (if nat_lt (length rest) len then Ok None else (op_at format (take len rest) >>= λ op. Ok (Some (op, 4 + len))))
     else Err Length
 
 -- the length of the body, as the first four bytes give it
@@ -20,8 +22,8 @@ abbrev pub length_at : List ℕ → ℕ
 length_at bytes = from_be_bytes w32 (take 4 bytes)
 
 -- what stands at the front: nothing before its length is there
-unfoldable pub taken : List ℕ → Result (Option (Op × ℕ)) CodecError
-taken bytes = if nat_lt (length bytes) 4 then Ok None else record_at (length_at bytes) (drop 4 bytes)
+unfoldable pub taken : Format → List ℕ → Result (Option (Op × ℕ)) CodecError
+taken format bytes = if nat_lt (length bytes) 4 then Ok None else record_at format (length_at bytes) (drop 4 bytes)
 
 -- the fault of what is read, if there is one
 abbrev pub fault_of : {A : Type 0} → Result A CodecError → Option CodecError
@@ -29,12 +31,12 @@ fault_of (Ok x) = None
 fault_of (Err e) = Some e
 
 -- the first broken rule of the record at the front, in the order of its fields
-unfoldable pub first_fault : List ℕ → Option CodecError
-first_fault bytes = fault_of (taken bytes)
+unfoldable pub first_fault : Format → List ℕ → Option CodecError
+first_fault format bytes = fault_of (taken format bytes)
 
 -- no whole record yet: its length isn't there, or is in its range and reaches past the end
-abbrev pub IsPartial : List ℕ → Type 0
-IsPartial bytes = (length bytes < 4) ⊎ ((MIN_RECORD ≤ length_at bytes) × (length_at bytes ≤ MAX_RECORD) × (length bytes < 4 + length_at bytes))
+abbrev pub IsPartial : Format → List ℕ → Type 0
+IsPartial format bytes = (length bytes < 4) ⊎ ((MIN_RECORD ≤ length_at bytes) × (length_at bytes ≤ longest format) × (length bytes < 4 + length_at bytes))
 
 -- the first n bytes spell the operation
 pub record BeginsWithOp (bytes : List ℕ) (op : Op) (n : ℕ) : Type 0 where
@@ -45,6 +47,10 @@ pub record BeginsWithOp (bytes : List ℕ) (op : Op) (n : ℕ) : Type 0 where
 -- the bytes begin with some operation
 abbrev pub BeginsWithSome : List ℕ → Type 0
 BeginsWithSome bytes = (op : Op) × (n : ℕ) × BeginsWithOp bytes op n
+
+-- the bytes begin with some operation of the format
+abbrev pub BeginsWithOneOf : Format → List ℕ → Type 0
+BeginsWithOneOf format bytes = (op : Op) × (n : ℕ) × IsOf format op × BeginsWithOp bytes op n
 
 -- what a function returned is what is read; want of memory may stand in place of an operation
 abbrev pub Answers : Result (Option (Op × ℕ)) CodecError → Result (Option (Op × ℕ)) CodecError → Type 0

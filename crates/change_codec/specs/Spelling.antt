@@ -1,5 +1,5 @@
 -- The one spelling of each operation in bytes. Numbers have their highest byte first.
-use Rattle.std.specs.Prelude.{◌≡◌, ℕ, List, [], ◌∷◌, ◌++◌, length, Option, Some, None}
+use Rattle.std.specs.Prelude.{◌≡◌, ℕ, ◌+◌, Bool, true, false, List, [], ◌∷◌, ◌++◌, length, Option, Some, None, is_some}
 use Rattle.std.specs.Int.{Width, w16, w32, w64, w128, to_be_bytes}
 use Rattle.op_ids.specs.Id.{Id}
 use Rattle.op_model.specs.declared.op.Op.{Op}
@@ -82,6 +82,16 @@ kind_byte (Remove target) = 2
 kind_byte (AddMark mark start end) = 3
 kind_byte (RemoveMark key start end) = 4
 
+-- the sixteen bytes of a token, or nothing where there is none
+unfoldable pub token_bytes : Option ℕ → List ℕ
+token_bytes None = []
+token_bytes (Some token) = number_bytes w128 token
+
+-- a record with a token has the kind 16 above that of one without
+abbrev pub tagged : Bool → ℕ → ℕ
+tagged false kind = kind
+tagged true kind = 16 + kind
+
 -- what an operation does, by its kind
 unfoldable pub content_bytes : Body → List ℕ
 content_bytes (Insert origin value) = origin_bytes origin ++ number_bytes w32 value
@@ -89,9 +99,10 @@ content_bytes (Remove target) = id_bytes target
 content_bytes (AddMark mark start end) = mark_bytes mark ++ (start_bytes start ++ end_bytes end)
 content_bytes (RemoveMark key start end) = key_bytes key ++ (start_bytes start ++ end_bytes end)
 
--- the body of a record: its kind, the document, the id, the deps and what it does
+-- the body of a record: its kind, the document, the id, the deps, the token and what it does
 unfoldable pub body_bytes : Op → List ℕ
-body_bytes op = kind_byte op.body ∷ (number_bytes w32 op.doc ++ (id_bytes op.id ++ (deps_bytes op.deps ++ content_bytes op.body)))
+body_bytes op = tagged (is_some op.token) (kind_byte op.body)
+    ∷ (number_bytes w32 op.doc ++ (id_bytes op.id ++ (deps_bytes op.deps ++ (token_bytes op.token ++ content_bytes op.body))))
 
 -- four bytes for the length of the body, and the body
 unfoldable pub spelled : Op → List ℕ

@@ -1,19 +1,19 @@
 //! What an operation does, by the kind of its record.
-ghost use Rattle.std.specs.Prelude.{◌≡◌, Option, IfOk};
+ghost use Rattle.std.specs.Prelude.{◌≡◌, ◌≤◌, Option, IfOk, is_some};
 ghost use Rattle.op_ids.specs.Id.{Id};
-ghost use Rattle.change_codec.specs.Spelling.{content_bytes, origin_bytes, kind_byte};
+ghost use Rattle.change_codec.specs.Spelling.{content_bytes, origin_bytes, kind_byte, tagged};
 ghost use Rattle.change_codec.specs.Lent.{body_of, HasUrl};
-ghost use Rattle.change_codec.specs.Reading.{Reads, kind_at, body_at, content_at, origin_at, scalar_at};
+ghost use Rattle.change_codec.specs.Reading.{Reads, kind_at, kind_named, body_at, content_at, origin_at, scalar_at};
 ghost use Rattle.change_codec.specs.declared.content.Kind.TheVariants.{Insert, Remove, AddMark, RemoveMark};
 ghost use Rattle.change_codec.specs.Writing.{Appends, HasRoom};
 
-use crate::CodecError;
 use crate::anchor::{put_end, put_start, take_span};
 use crate::id::{put_id, take_id};
 use crate::mark::{LentMark, put_key, put_mark, take_key, take_mark};
 use crate::number::{put_byte, put_u32, take_u32};
+use crate::{CodecError, Format};
 use op_ids::OpId;
-use op_model::{Body, End, Start};
+use op_model::{Body, End, Op, Start};
 use std::alloc::{AllocError, Global};
 
 /// The kind of a record.
@@ -37,9 +37,18 @@ pub enum LentBody<'a> {
     },
 }
 
-/// The kind of a record, its first byte: 1 insert, 2 remove, 3 add mark, 4 remove mark.
-pub fn kind_byte(body: &Body) -> u8
-    ensures { result ≡ kind_byte body.now }
+/// The first byte of a record: 1 insert, 2 remove, 3 add mark, 4 remove mark, and 16 more where the
+/// operation has a token.
+pub fn record_byte(op: &Op) -> u8
+    ensures { result ≡ tagged (is_some op.now.token) (kind_byte op.now.body) }
+{
+    let kind = body_byte(&op.body);
+    if op.token.is_some() { 16 + kind } else { kind }
+}
+
+fn body_byte(body: &Body) -> u8
+    ensures value { result ≡ kind_byte body.now }
+    ensures few { result ≤ 4 }
 {
     match body {
         Body::Insert { .. } => 1,
@@ -88,18 +97,35 @@ fn put_origin(origin: Option<OpId>, out: &mut Vec<u8>)
     }
 }
 
-/// Takes the kind of a record from the front. `Kind` (31) for no kind.
+/// Takes the kind of a record from the front, and whether it has a token. `Kind` (31) for no kind
+/// of the format.
 #[tactic(auto, unfolding(crate::specs::Reading::kind_at))]
-pub fn take_kind(bytes: &[u8]) -> Result<(Kind, &[u8]), CodecError>
-    ensures { Reads (λ x. (x.0, x.1.now)) result (kind_at bytes.now) }
+pub fn take_kind(format: Format, bytes: &[u8]) -> Result<((Kind, bool), &[u8]), CodecError>
+    ensures { Reads (λ x. (x.0, x.1.now)) result (kind_at format bytes.now) }
 {
     match bytes {
         [] => Err(CodecError::Length),
-        [1, rest @ ..] => Ok((Kind::Insert, rest)),
-        [2, rest @ ..] => Ok((Kind::Remove, rest)),
-        [3, rest @ ..] => Ok((Kind::AddMark, rest)),
-        [4, rest @ ..] => Ok((Kind::RemoveMark, rest)),
-        [_, ..] => Err(CodecError::Kind),
+        [tag, rest @ ..] => {
+            if *tag > 16 && format.has_tokens() {
+                let kind = named(*tag - 16)?;
+                return Ok(((kind, true), rest));
+            }
+            let kind = named(*tag)?;
+            Ok(((kind, false), rest))
+        }
+    }
+}
+
+#[tactic(auto, unfolding(crate::specs::Reading::kind_named))]
+fn named(byte: u8) -> Result<Kind, CodecError>
+    ensures { Reads (λ k. k) result (kind_named byte) }
+{
+    match byte {
+        1 => Ok(Kind::Insert),
+        2 => Ok(Kind::Remove),
+        3 => Ok(Kind::AddMark),
+        4 => Ok(Kind::RemoveMark),
+        _ => Err(CodecError::Kind),
     }
 }
 

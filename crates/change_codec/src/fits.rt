@@ -1,9 +1,10 @@
 //! Every operation has a spelling: what the types keep is what the rules of the fields ask. The
 //! fields are read for the proof alone, which knows from that what their types keep.
 ghost use Rattle.std.specs.Prelude.{ℕ, ◌<◌, ◌^◌};
-ghost use Rattle.change_codec.specs.Fits.{IsId, IsOrigin, IsMark, IsKey, IsAnchor, IsStart, IsEnd, IsContent, HaveSixteen, IsOperation};
+ghost use Rattle.change_codec.specs.Fits.{IsId, IsOrigin, IsMark, IsKey, IsAnchor, IsStart, IsEnd, IsContent, IsToken, HaveSixteen, IsOperation};
 
-use op_ids::{Clock, OpId};
+use op_ids::laws::token_is_not_nil;
+use op_ids::{Clock, OpId, Token};
 use op_model::{Anchor, Body, End, Mark, MarkKey, Op, Start};
 
 /// Every operation has a spelling. It reads the fields and changes nothing.
@@ -12,6 +13,7 @@ pub fn every_op_has_a_spelling(op: &Op)
 {
     id_fits(&op.id);
     let _doc = op.doc;
+    token_fits(op.token);
     deps_fit(&op.deps);
     let _deps = op.deps.entries();
     body_fits(&op.body);
@@ -22,6 +24,14 @@ fn id_fits(id: &OpId)
 {
     let _counter = id.counter();
     let _replica = id.replica().number();
+}
+
+fn token_fits(token: Option<Token>)
+    ensures { IsToken token }
+{
+    if let Some(token) = token {
+        token_is_not_nil(token);
+    }
 }
 
 fn origin_fits(origin: &Option<OpId>)

@@ -3,7 +3,9 @@ ghost use Rattle.std.specs.Prelude.{◌≡◌, ◌++◌, ◌<◌, ℕ, List, len
 ghost use Rattle.op_model.specs.Records.{record_length, stream_length};
 ghost use Rattle.op_model.specs.declared.op.Op.{Op as Operation};
 ghost use Rattle.change_codec.specs.Spelling.{spelled, Spells};
+ghost use Rattle.change_codec.specs.declared.format.Format.{Format as StreamFormat};
 ghost use Rattle.change_codec.specs.Fits.{IsOperation};
+ghost use Rattle.change_codec.specs.Formats.{IsOf};
 ghost use Rattle.change_codec.specs.Record.{taken, BeginsWithOp};
 ghost use Rattle.change_codec.specs.Stream.{spelled_all, AreOperations};
 
@@ -19,16 +21,17 @@ pub fn no_spelling_begins_another()
         → spelled a ++ x ≡ spelled b ++ y → (a ≡ b) × (x ≡ y) }
 {}
 
-/// What is spelled is read, whatever follows it.
+/// What is spelled is read in each format that has it, whatever follows it.
 pub fn spelled_is_read()
-    ensures { (op : Operation) (rest : List ℕ) → IsOperation op
-        → taken (spelled op ++ rest) ≡ Ok (Some (op, length (spelled op))) }
+    ensures { (f : StreamFormat) (op : Operation) (rest : List ℕ) → IsOf f op → IsOperation op
+        → taken f (spelled op ++ rest) ≡ Ok (Some (op, length (spelled op))) }
 {}
 
-/// What is read is spelled so.
+/// What is read in a format is spelled so, and the format has it.
 pub fn read_is_spelled()
-    ensures { (bytes : List ℕ) (op : Operation) (n : ℕ) → ((i : ℕ) → slice_index bytes i < 256)
-        → taken bytes ≡ Ok (Some (op, n)) → BeginsWithOp bytes op n }
+    ensures { (f : StreamFormat) (bytes : List ℕ) (op : Operation) (n : ℕ)
+        → ((i : ℕ) → slice_index bytes i < 256)
+        → taken f bytes ≡ Ok (Some (op, n)) → IsOf f op × BeginsWithOp bytes op n }
 {}
 
 /// A spelling is as long as the limit on a store's stream counts it.

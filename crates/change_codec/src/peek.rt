@@ -1,56 +1,71 @@
 //! What a record says while no operation is made of it: nothing here takes memory.
 ghost use Rattle.std.specs.Prelude.{◌≡◌, ℕ, None, IfSome, is_ok};
+ghost use Rattle.change_codec.specs.Formats.{IsOf};
 ghost use Rattle.change_codec.specs.Heads.{head_of};
-ghost use Rattle.change_codec.specs.Reading.{op_at};
+ghost use Rattle.change_codec.specs.Reading.{op_at, rest_at};
 ghost use Rattle.change_codec.specs.Record.{taken, found_length, BeginsWithOp, BeginsWithSome};
 ghost use Rattle.op_model.specs.declared.op.Op.{Op as Operation};
 
+use crate::Format;
 use crate::content::take_whole_content;
 use crate::deps::skip_deps;
 use crate::head::{Head, take_head};
 use crate::number::take_u32;
-use fixed_numbers::sizes::{MAX_RECORD, MIN_RECORD};
+use crate::token::take_token;
+use fixed_numbers::sizes::MIN_RECORD;
 
-/// How many bytes the record takes that the bytes begin with, from 37 to 1,495. `None` where they
-/// begin with no whole record of an operation. One pass over the record; takes no memory.
-pub fn skip_op(bytes: &[u8]) -> Option<usize>
-    ensures some { IfSome result (λ n. (op : Operation) × BeginsWithOp bytes.now op n) }
-    ensures none { result ≡ None → (op : Operation) (n : ℕ) → BeginsWithOp bytes.now op n → ⊥ }
+/// How many bytes the record takes that the bytes begin with, from 37 to 1,495, and to 1,511 in the
+/// third format. `None` where they begin with no whole record of an operation of the format. One pass over the record; takes no memory.
+pub fn skip_op(format: Format, bytes: &[u8]) -> Option<usize>
+    ensures some { IfSome result (λ n. (op : Operation)
+        × IsOf format op × BeginsWithOp bytes.now op n) }
+    ensures none { result ≡ None → (op : Operation) (n : ℕ) → IsOf format op
+        → BeginsWithOp bytes.now op n → ⊥ }
 {
-    skip_record(bytes)
+    skip_record(format, bytes)
 }
 
 #[tactic(auto, unfolding(crate::specs::Record::taken, crate::specs::Reading::number_at))]
-fn skip_record(bytes: &[u8]) -> Option<usize>
-    ensures { result ≡ found_length (taken bytes.now) }
+fn skip_record(format: Format, bytes: &[u8]) -> Option<usize>
+    ensures { result ≡ found_length (taken format bytes.now) }
 {
     let Ok((len, rest)) = take_u32(bytes) else {
         return None;
     };
     let len = len as usize;
-    if len < MIN_RECORD || len > MAX_RECORD {
+    if len < MIN_RECORD || len > format.longest() {
         return None;
     }
     if rest.len() < len {
         return None;
     }
-    if is_body(&rest[..len]) {
+    if is_body(format, &rest[..len]) {
         Some(4 + len)
     } else {
         None
     }
 }
 
-// Whether bytes are the body of an operation's record.
+// Whether bytes are the body of the record of an operation of the format.
 #[tactic(auto, unfolding(crate::specs::Reading::op_at))]
-fn is_body(bytes: &[u8]) -> bool
-    ensures { result ≡ is_ok (op_at bytes.now) }
+fn is_body(format: Format, bytes: &[u8]) -> bool
+    ensures { result ≡ is_ok (op_at format bytes.now) }
 {
-    match take_head(bytes) {
+    match take_head(format, bytes) {
         Ok((head, deps)) => match skip_deps(deps) {
-            Ok(rest) => take_whole_content(head.kind, rest).is_ok(),
+            Ok(rest) => is_rest(head, rest),
             Err(_) => false,
         },
+        Err(_) => false,
+    }
+}
+
+// Whether bytes are what stands behind the deps of a record with this head.
+fn is_rest(head: Head, bytes: &[u8]) -> bool
+    ensures { result ≡ is_ok (rest_at head.has_token head.kind bytes.now) }
+{
+    match take_token(head.has_token, bytes) {
+        Ok((_, rest)) => take_whole_content(head.kind, rest).is_ok(),
         Err(_) => false,
     }
 }
@@ -62,7 +77,7 @@ pub fn record_head(bytes: &[u8]) -> Head
     ensures { (op : Operation) (n : ℕ) → BeginsWithOp bytes.now op n → result ≡ head_of op }
 {
     let (_, body) = bytes.split_at(4);
-    match take_head(body) {
+    match take_head(Format::Third, body) {
         Ok((head, _)) => head,
         Err(_) => unreachable!(),
     }

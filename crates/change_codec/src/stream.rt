@@ -4,11 +4,12 @@ ghost use Rattle.op_model.specs.Records.{stream_length as length_of};
 ghost use Rattle.change_codec.specs.declared.codec_error.CodecError.TheVariants.{Memory};
 ghost use Rattle.change_codec.specs.declared.stream_error.StreamError.TheVariants.{Stream};
 ghost use Rattle.change_codec.specs.Fits.{IsOperation};
+ghost use Rattle.change_codec.specs.Formats.{AreOf, IsOf};
 ghost use Rattle.change_codec.specs.Spelling.{spelled};
 ghost use Rattle.change_codec.specs.Stream.{spelled_all, AreOperations, IsNoStream};
 
 use crate::fits::every_op_has_a_spelling;
-use crate::{CodecError, StreamError, put_op, take_op};
+use crate::{CodecError, Format, StreamError, put_op, take_op};
 use op_model::Op;
 use std::alloc::{AllocError, Global};
 
@@ -42,18 +43,19 @@ fn put_each(ops: &[Op], out: &mut Vec<u8>) -> Result<(), AllocError>
     Ok(())
 }
 
-/// The operations whose records these bytes are. `Stream` (46) where the bytes aren't the records
-/// of operations, one after another; `Memory` (1) says nothing of the bytes. One pass; what
+/// The operations of a format whose records these bytes are. `Stream` (46) where the bytes aren't
+/// the records of such operations, one after another; `Memory` (1) says nothing of the bytes. One pass; what
 /// `take_op` takes for each.
-pub fn take_ops(alloc: Global, bytes: &[u8]) -> Result<Vec<Op>, StreamError>
+pub fn take_ops(alloc: Global, format: Format, bytes: &[u8]) -> Result<Vec<Op>, StreamError>
     ensures spelled_so { IfOk result (λ ops. spelled_all ops.items ≡ bytes.now) }
     ensures fits { IfOk result (λ ops. AreOperations ops.items) }
-    ensures none { IsErrOf result Stream → IsNoStream bytes.now }
+    ensures of_format { IfOk result (λ ops. AreOf format ops.items) }
+    ensures none { IsErrOf result Stream → IsNoStream format bytes.now }
 {
     let mut ops = Vec::new(alloc);
     let mut rest = bytes;
     while !rest.is_empty() {
-        match take_next(alloc, rest) {
+        match take_next(alloc, format, rest) {
             Ok((op, after)) => {
                 ops.push(op).map_err(AllocError::from)?;
                 rest = after;
@@ -65,14 +67,15 @@ pub fn take_ops(alloc: Global, bytes: &[u8]) -> Result<Vec<Op>, StreamError>
 }
 
 // Takes the operation at the front, and gives the bytes behind its record.
-fn take_next(alloc: Global, bytes: &[u8]) -> Result<(Op, &[u8]), StreamError>
+fn take_next(alloc: Global, format: Format, bytes: &[u8]) -> Result<(Op, &[u8]), StreamError>
     requires { 0 < length bytes.now }
     ensures spelled_so { IfOk result (λ x. bytes.now ≡ spelled x.0 ++ x.1.now) }
     ensures fits { IfOk result (λ x. IsOperation x.0) }
+    ensures of_format { IfOk result (λ x. IsOf format x.0) }
     ensures fewer { IfOk result (λ x. length x.1.now < length bytes.now) }
-    ensures none { IsErrOf result Stream → IsNoStream bytes.now }
+    ensures none { IsErrOf result Stream → IsNoStream format bytes.now }
 {
-    match take_op(alloc, bytes) {
+    match take_op(alloc, format, bytes) {
         Ok(Some((op, len))) => {
             let (_, rest) = bytes.split_at(len);
             Ok((op, rest))

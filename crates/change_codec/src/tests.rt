@@ -1,5 +1,5 @@
 use super::*;
-use op_ids::{Clock, OpId, ReplicaId};
+use op_ids::{Clock, OpId, ReplicaId, Token};
 use op_model::{Anchor, Body, CommentId, End, Mark, MarkKey, Op, Start, Url};
 use std::alloc::Global;
 use std::process::Abort;
@@ -38,10 +38,17 @@ fn push_digits(bytes: &mut Vec<u8>, digits: &str) -> Result<(), Fail> {
     Ok(())
 }
 
-/// Puts the bytes that pieces of hex say behind the others, where `A` stands for the replica.
+/// Puts the bytes that pieces of hex say behind the others, where `A` stands for the replica, `T` for
+/// the token and `N` for eight zeros.
 fn push_pieces(bytes: &mut Vec<u8>, pieces: &str) -> Result<(), Fail> {
     for piece in pieces.split_whitespace() {
-        push_digits(bytes, if piece == "A" { NAME } else { piece })?;
+        let digits = match piece {
+            "A" => NAME,
+            "T" => TOKEN,
+            "N" => "0000000000000000",
+            _ => piece,
+        };
+        push_digits(bytes, digits)?;
     }
     Ok(())
 }
@@ -80,6 +87,7 @@ fn op(alloc: Global, counter: u64, body: Body) -> Result<Box<Op>, Fail> {
     let op = Op {
         id,
         doc: 1,
+        token: None,
         deps,
         body,
     };
@@ -118,10 +126,10 @@ fn link(alloc: Global, url: &str) -> Result<Mark, Fail> {
     Ok(Mark::Link(Url::new(String::from_str(alloc, url)?).ok_or("url")?))
 }
 
-/// The number of the refusal of these bytes, or 0.
-fn refusal(alloc: Global, pieces: &str) -> Result<u8, Fail> {
+/// The number of the refusal of these bytes in a format, or 0.
+fn refusal(alloc: Global, format: Format, pieces: &str) -> Result<u8, Fail> {
     let bytes = bytes_of(alloc, pieces)?;
-    Ok(match take_op(alloc, &bytes) {
+    Ok(match take_op(alloc, format, &bytes) {
         Ok(_) => 0,
         Err(fault) => fault.number(),
     })
@@ -135,7 +143,7 @@ fn is_written(alloc: Global, op: &Op, bytes: &[u8]) -> bool {
 
 /// Whether these bytes are taken as an operation, to the last one.
 fn is_taken(alloc: Global, bytes: &[u8], expected: &Op) -> bool {
-    match take_op(alloc, bytes) {
+    match take_op(alloc, Format::Third, bytes) {
         Ok(Some((taken, len))) => len == bytes.len() && taken == *expected,
         Ok(None) => false,
         Err(_) => false,
@@ -144,7 +152,7 @@ fn is_taken(alloc: Global, bytes: &[u8], expected: &Op) -> bool {
 
 /// Whether these bytes may go on to a record, and aren't one.
 fn is_unfinished(alloc: Global, bytes: &[u8]) -> bool {
-    match take_op(alloc, bytes) {
+    match take_op(alloc, Format::Third, bytes) {
         Ok(None) => true,
         Ok(Some(_)) => false,
         Err(_) => false,
@@ -206,9 +214,12 @@ fn links_comments_and_removes_are_spelled(rt: HostRuntime) -> Result<(), Fail> {
 #[derive(Clone, Copy)]
 struct Row<'a>(&'a str, u8);
 
+/// Each is refused so in each format.
 fn are_refused(rt: &impl Abort, alloc: Global, rows: &[Row<'_>]) -> Result<(), Fail> {
     for row in rows {
-        assert_eq!(rt; refusal(alloc, row.0)?, row.1, "{}", row.0);
+        for format in [Format::First, Format::Third] {
+            assert_eq!(rt; refusal(alloc, format, row.0)?, row.1, "{}", row.0);
+        }
     }
     Ok(())
 }
@@ -217,10 +228,12 @@ fn are_refused(rt: &impl Abort, alloc: Global, rows: &[Row<'_>]) -> Result<(), F
 fn lengths_are_told_first(rt: HostRuntime) -> Result<(), Fail> {
     let alloc = rt.alloc();
     assert!(rt; is_unfinished(alloc, &[0, 0, 0]));
-    assert!(rt; is_unfinished(alloc, &[0, 0, 5, 0xd3]));
+    assert!(rt; is_unfinished(alloc, &[0, 0, 5, 0xe3]));
+    assert_eq!(rt; refusal(alloc, Format::Second, "000005d3")?, 0);
+    assert_eq!(rt; refusal(alloc, Format::Second, "000005d4")?, 30);
     let rows = [
         Row("00000020", 30),
-        Row("000005d4", 30),
+        Row("000005e4", 30),
         Row(
             "00000024 01 00000001 0000000000000001 A 00 00 00000061 00",
             30,
@@ -267,9 +280,36 @@ fn the_first_fault_decides(rt: HostRuntime) -> Result<(), Fail> {
     are_refused(&rt, rt.alloc(), &rows)
 }
 
+/// The token of these tests.
+const TOKEN: &str = "000000000000400080000000000000d1";
+
+/// The first insert with that token.
+const WITH_TOKEN: &str = "00000033 11 00000001 0000000000000001 A 00 T 00 00000061";
+
+#[test]
+fn the_third_format_has_tokens(rt: HostRuntime) -> Result<(), Fail> {
+    let alloc = rt.alloc();
+    let mut op = insert(alloc, 1, None, 'a')?;
+    let name = [0, 0, 0, 0, 0, 0, 0x40, 0, 0x80, 0, 0, 0, 0, 0, 0, 0xd1];
+    op.token = Token::read(name);
+    is_spelled(&rt, alloc, WITH_TOKEN, &op)?;
+    assert_eq!(rt; op.record_length(), 55);
+    for format in [Format::First, Format::Second] {
+        assert_eq!(rt; refusal(alloc, format, WITH_TOKEN)?, 31);
+    }
+    let nil = "00000033 11 00000001 0000000000000001 A 00 N N 00 00000061";
+    assert_eq!(rt; refusal(alloc, Format::Third, nil)?, 32);
+    for kind in ["10", "15"] {
+        let mut bytes = bytes_of(alloc, WITH_TOKEN)?;
+        bytes[4] = bytes_of(alloc, kind)?[0];
+        assert!(rt; matches!(take_op(alloc, Format::Third, &bytes), Err(CodecError::Kind)));
+    }
+    Ok(())
+}
+
 /// Whether a record that stands at the front of these bytes is written as it stands there.
 fn is_spelling_or_refused(alloc: Global, bytes: &[u8]) -> bool {
-    match take_op(alloc, bytes) {
+    match take_op(alloc, Format::Third, bytes) {
         Ok(Some((op, len))) => is_written(alloc, &op, &bytes[..len]),
         Ok(None) => true,
         Err(_) => true,
@@ -313,7 +353,7 @@ fn behind_the_first(alloc: Global, pieces: &str) -> Result<Vec<u8>, Fail> {
 
 /// How many operations a stream has, or none where it isn't one.
 fn count_of(alloc: Global, bytes: &[u8]) -> Option<usize> {
-    match take_ops(alloc, bytes) {
+    match take_ops(alloc, Format::Third, bytes) {
         Ok(ops) => Some(ops.len()),
         Err(_) => None,
     }
@@ -338,7 +378,7 @@ fn a_stream_is_written_and_read(rt: HostRuntime) -> Result<(), Fail> {
     let alloc = rt.alloc();
     let bytes = behind_the_first(alloc, SECOND_INSERT)?;
     assert!(rt; count_of(alloc, &bytes) == Some(2));
-    let ops = take_ops(alloc, &bytes)?;
+    let ops = take_ops(alloc, Format::First, &bytes)?;
     assert!(rt; have_lengths(&ops, 126, 39));
     assert!(rt; are_written(alloc, &ops, &bytes));
     assert!(rt; count_of(alloc, &[]) == Some(0));
@@ -347,7 +387,7 @@ fn a_stream_is_written_and_read(rt: HostRuntime) -> Result<(), Fail> {
 
 /// The number of the refusal of a stream, or 0.
 fn stream_refusal(alloc: Global, bytes: &[u8]) -> u8 {
-    match take_ops(alloc, bytes) {
+    match take_ops(alloc, Format::Third, bytes) {
         Ok(_) => 0,
         Err(fault) => fault.number(),
     }
@@ -369,17 +409,18 @@ fn what_is_no_stream_is_refused(rt: HostRuntime) -> Result<(), Fail> {
 #[test]
 fn a_record_is_passed_without_memory(rt: HostRuntime) -> Result<(), Fail> {
     let bytes = bytes_of(rt.alloc(), STRONG_TO_THE_END)?;
-    assert_eq!(rt; skip_op(&bytes), Some(85));
+    assert_eq!(rt; skip_op(Format::First, &bytes), Some(85));
     let head = head_of(&bytes)?;
     assert!(rt; head.kind == Kind::AddMark);
+    assert!(rt; !head.has_token);
     assert_eq!(rt; head.doc, 1);
     assert_eq!(rt; head.id, id(2)?);
-    assert!(rt; skip_op(&bytes[..bytes.len() / 2]).is_none());
+    assert!(rt; skip_op(Format::First, &bytes[..bytes.len() / 2]).is_none());
     Ok(())
 }
 
 /// What the record at the front begins with.
 fn head_of(bytes: &[u8]) -> Result<Head, Fail> {
-    skip_op(bytes).ok_or("no record")?;
+    skip_op(Format::Third, bytes).ok_or("no record")?;
     Ok(record_head(bytes))
 }

@@ -1,5 +1,5 @@
 -- Why an insert leaves the marks alone that end where it is.
-use Rattle.std.proofs.Common.{subst, ◌≡◌, ℕ, true, List, length, None, refl, sym}
+use Rattle.std.proofs.Common.{subst, ◌≡◌, ℕ, true, Option, List, length, None, refl, sym}
 use Rattle.op_model.specs.declared.edit.Change.{Change}
 use Rattle.op_model.specs.declared.edit.Edit.{Edit}
 use Rattle.op_model.specs.declared.op.Op.{Op}
@@ -15,9 +15,9 @@ abbrev pub LiesInside : Document → Change → Type 0
 LiesInside d change = (ops : List Op) → StandsFor d ops → is_inside (length (visible ops d.number)) change ≡ true
 
 -- the defined operations of a change do so
-pub made_leave : (d : Document) (replica counter : ℕ) (clock : List (ℕ × ℕ)) (change : Change) (found : List Op)
-    → LiesInside d change → AreMade d replica counter clock change found → LeaveEndedMarks d counter clock change found
-made_leave d replica counter clock change found inside made = λ ops at added stands next insert.
-    let edit : Edit = record { doc = d.number; rev = None; change = change } in
-    subst (λ xs. EndedMarksStay ops d.number at xs) (sym (made ops edit stands next refl refl))
+pub made_leave : (d : Document) (replica : ℕ) (token : Option ℕ) (counter : ℕ) (clock : List (ℕ × ℕ)) (change : Change) (found : List Op)
+    → LiesInside d change → AreMade d replica token counter clock change found → LeaveEndedMarks d counter clock change found
+made_leave d replica token counter clock change found inside made = λ ops at added stands next insert.
+    let edit : Edit = record { doc = d.number; rev = None; token = token; change = change } in
+    subst (λ xs. EndedMarksStay ops d.number at xs) (sym (made ops edit stands next refl refl refl))
     (orderly_not_covered ops replica edit at added stands.characters.orderly insert (inside ops stands))

@@ -1,5 +1,5 @@
 -- What follows a list fits its document, and other documents stay.
-use Rattle.std.proofs.Common.{◌≡◌, ℕ, ◌+◌, true, false, List, [], ◌∷◌, ◌++◌, refl, sym, ◌∙◌, ap, arith}
+use Rattle.std.proofs.Common.{◌≡◌, ℕ, ◌+◌, true, false, Option, List, [], ◌∷◌, ◌++◌, refl, sym, ◌∙◌, ap, arith}
 use Rattle.std.specs.Prelude.{◌==◌, ◌≢◌}
 use Rattle.std.proofs.lemmas.Bool.Decides.{nat_tests}
 use Rattle.op_ids.specs.Clock.{advanced}
@@ -19,17 +19,17 @@ use Rattle.doc_core.specs.Drafting.{Drafted, IsDraftOf}
 use Rattle.doc_core.specs.Standing.{counted, Document, StandsFor}
 
 -- what was numbered fits in turn
-numbered_fit : (ops : List Op) (replica doc counter : ℕ) (clock : List (ℕ × ℕ)) (bodies : List Body)
-    → FollowInTurn ops (numbered replica doc counter clock bodies) → FitAfter ops doc (numbered replica doc counter clock bodies)
-numbered_fit ops replica doc counter clock [] follow = tt
-numbered_fit ops replica doc counter clock (b ∷ bs) follow =
-    let op : Op = record { id = record { counter = counter; replica = replica }; doc = doc; deps = clock; body = b } in
-    (follows_fits ops doc op follow.0 refl, numbered_fit (ops ++ op ∷ []) replica doc (counter + 1) (advanced clock replica) bs follow.1)
+numbered_fit : (ops : List Op) (replica doc : ℕ) (token : Option ℕ) (counter : ℕ) (clock : List (ℕ × ℕ)) (bodies : List Body)
+    → FollowInTurn ops (numbered replica doc token counter clock bodies) → FitAfter ops doc (numbered replica doc token counter clock bodies)
+numbered_fit ops replica doc token counter clock [] follow = tt
+numbered_fit ops replica doc token counter clock (b ∷ bs) follow =
+    let op : Op = record { id = record { counter = counter; replica = replica }; doc = doc; token = token; deps = clock; body = b } in
+    (follows_fits ops doc op follow.0 refl, numbered_fit (ops ++ op ∷ []) replica doc token (counter + 1) (advanced clock replica) bs follow.1)
 
 pub made_fit : (ops : List Op) (replica : ℕ) (edit : Edit) → is_within_limits (ops ++ made ops replica edit) ≡ true
     → FitAfter ops edit.doc (made ops replica edit)
 made_fit ops replica edit limits =
-    numbered_fit ops replica edit.doc (greatest_counter ops + 1) (clock_of ops) (bodies_of ops replica edit.doc edit.change)
+    numbered_fit ops replica edit.doc edit.token (greatest_counter ops + 1) (clock_of ops) (bodies_of ops replica edit.doc edit.change)
     (made_follow ops replica edit limits)
 
 apart_from : (a b : ℕ) → a ≢ b → (a == b) ≡ false

@@ -82,11 +82,11 @@ pub before_past : (cs : List Character) (at : ℕ) → 0 < at → None ≡ id_at
 before_past cs at some none = omega (arith, at_past cs (at - 1) none)
 
 -- inserts by the definition's origin are those of the edit
-pub made_insert : (ops : List Op) (edit : Edit) (replica doc counter at : ℕ) (clock : List (ℕ × ℕ)) (text : List ℕ) (origin : Option Id)
-    → IsNext ops counter clock → edit.doc ≡ doc → edit.change ≡ change.Insert at text → origin ≡ origin_of ops doc at
-    → numbered replica doc counter clock (insert_bodies replica counter origin text) ≡ made ops replica edit
-made_insert ops edit replica doc counter at clock text origin next same_doc same_change is_origin =
-    rw (same_change, same_doc, next.counted, next.depends, is_origin) refl
+pub made_insert : (ops : List Op) (edit : Edit) (replica doc : ℕ) (token : Option ℕ) (counter at : ℕ) (clock : List (ℕ × ℕ)) (text : List ℕ) (origin : Option Id)
+    → IsNext ops counter clock → edit.doc ≡ doc → edit.token ≡ token → edit.change ≡ change.Insert at text → origin ≡ origin_of ops doc at
+    → numbered replica doc token counter clock (insert_bodies replica counter origin text) ≡ made ops replica edit
+made_insert ops edit replica doc token counter at clock text origin next same_doc same_token same_change is_origin =
+    rw (same_change, same_doc, same_token, next.counted, next.depends, is_origin) refl
 
 -- the tombstone that the definition hangs an insert from
 pub origin_there : (kept : Kept) (ops : List Op) (doc at : ℕ) (before origin : Option Id) → AreMarksOf kept ops doc
@@ -104,25 +104,25 @@ map_removes [] = refl
 map_removes (c ∷ cs) = ap (λ bodies. Remove c.id ∷ bodies) (map_removes cs)
 
 -- removes of the definition's characters are those of the edit
-pub made_removes : (ops : List Op) (edit : Edit) (replica doc counter at : ℕ) (count : NonZeroU32) (clock : List (ℕ × ℕ)) (targets ids : List Id) (bodies more : List Body)
-    → IsNext ops counter clock → edit.doc ≡ doc → edit.change ≡ change.Delete at count → more ≡ bodies → bodies ≡ map Remove ids → ids ≡ targets
+pub made_removes : (ops : List Op) (edit : Edit) (replica doc : ℕ) (token : Option ℕ) (counter at : ℕ) (count : NonZeroU32) (clock : List (ℕ × ℕ)) (targets ids : List Id) (bodies more : List Body)
+    → IsNext ops counter clock → edit.doc ≡ doc → edit.token ≡ token → edit.change ≡ change.Delete at count → more ≡ bodies → bodies ≡ map Remove ids → ids ≡ targets
     → targets ≡ map (λ c. c.id) (take count.value (drop at (visible ops doc)))
-    → numbered replica doc counter clock more ≡ made ops replica edit
-made_removes ops edit replica doc counter at count clock targets ids bodies more next same_doc same_change same_bodies are_removes same_ids are_seen =
-    rw (same_change, same_doc, same_bodies, are_removes, same_ids, are_seen, next.counted, next.depends)
-    (ap (numbered replica doc (greatest_counter ops + 1) (clock_of ops)) (map_removes (take count.value (drop at (visible ops doc)))))
+    → numbered replica doc token counter clock more ≡ made ops replica edit
+made_removes ops edit replica doc token counter at count clock targets ids bodies more next same_doc same_token same_change same_bodies are_removes same_ids are_seen =
+    rw (same_change, same_doc, same_token, same_bodies, are_removes, same_ids, are_seen, next.counted, next.depends)
+    (ap (numbered replica doc token (greatest_counter ops + 1) (clock_of ops)) (map_removes (take count.value (drop at (visible ops doc)))))
 
 -- numbered removes remove their characters
-pub removes_numbered : (replica doc counter : ℕ) (clock : List (ℕ × ℕ)) (ids : List Id) → AreRemoves ids (numbered replica doc counter clock (map Remove ids))
-removes_numbered replica doc counter clock [] = tt
-removes_numbered replica doc counter clock (id ∷ ids) = (refl, removes_numbered replica doc (counter + 1) (advanced clock replica) ids)
+pub removes_numbered : (replica doc : ℕ) (token : Option ℕ) (counter : ℕ) (clock : List (ℕ × ℕ)) (ids : List Id) → AreRemoves ids (numbered replica doc token counter clock (map Remove ids))
+removes_numbered replica doc token counter clock [] = tt
+removes_numbered replica doc token counter clock (id ∷ ids) = (refl, removes_numbered replica doc token (counter + 1) (advanced clock replica) ids)
 
 -- numbered inserts of a text are a run
-pub run_numbered : (replica doc counter : ℕ) (clock : List (ℕ × ℕ)) (origin : Option Id) (text : List ℕ)
-    → IsRun origin (run_from replica counter text) (numbered replica doc counter clock (insert_bodies replica counter origin text))
-run_numbered replica doc counter clock origin [] = tt
-run_numbered replica doc counter clock origin (c ∷ cs) =
-    (refl, refl, run_numbered replica doc (counter + 1) (advanced clock replica) (Some (record { counter = counter; replica = replica })) cs)
+pub run_numbered : (replica doc : ℕ) (token : Option ℕ) (counter : ℕ) (clock : List (ℕ × ℕ)) (origin : Option Id) (text : List ℕ)
+    → IsRun origin (run_from replica counter text) (numbered replica doc token counter clock (insert_bodies replica counter origin text))
+run_numbered replica doc token counter clock origin [] = tt
+run_numbered replica doc token counter clock origin (c ∷ cs) =
+    (refl, refl, run_numbered replica doc token (counter + 1) (advanced clock replica) (Some (record { counter = counter; replica = replica })) cs)
 
 -- one more target was found
 pub found_more : (cs : List Character) (at i : ℕ) (before after : List Id) (found : Option Id) → after ≡ before ++ optional found
@@ -148,16 +148,16 @@ pub last_there : (cs : List Character) (at : ℕ) (found : Option Id) → 0 < at
 last_there cs at found some is_it = is_it ∙ sym (id_before_at cs at some)
 
 -- the operation that a mark makes
-pub made_mark : (ops : List Op) (edit : Edit) (replica doc counter from to : ℕ) (clock : List (ℕ × ℕ)) (mark : Mark) (start : Start) (end : End)
-    → IsNext ops counter clock → edit.doc ≡ doc → edit.change ≡ change.Mark from to mark → start ≡ start_of (visible ops doc) from
+pub made_mark : (ops : List Op) (edit : Edit) (replica doc : ℕ) (token : Option ℕ) (counter from to : ℕ) (clock : List (ℕ × ℕ)) (mark : Mark) (start : Start) (end : End)
+    → IsNext ops counter clock → edit.doc ≡ doc → edit.token ≡ token → edit.change ≡ change.Mark from to mark → start ≡ start_of (visible ops doc) from
     → end ≡ end_of (visible ops doc) (key_of mark) to
-    → numbered replica doc counter clock (AddMark mark start end ∷ []) ≡ made ops replica edit
-made_mark ops edit replica doc counter from to clock mark start end next same_doc same_change is_start is_end =
-    rw (same_change, same_doc, next.counted, next.depends, is_start, is_end) refl
+    → numbered replica doc token counter clock (AddMark mark start end ∷ []) ≡ made ops replica edit
+made_mark ops edit replica doc token counter from to clock mark start end next same_doc same_token same_change is_start is_end =
+    rw (same_change, same_doc, same_token, next.counted, next.depends, is_start, is_end) refl
 
-pub made_unmark : (ops : List Op) (edit : Edit) (replica doc counter from to : ℕ) (clock : List (ℕ × ℕ)) (key : MarkKey) (start : Start) (end : End)
-    → IsNext ops counter clock → edit.doc ≡ doc → edit.change ≡ change.Unmark from to key → start ≡ start_of (visible ops doc) from
+pub made_unmark : (ops : List Op) (edit : Edit) (replica doc : ℕ) (token : Option ℕ) (counter from to : ℕ) (clock : List (ℕ × ℕ)) (key : MarkKey) (start : Start) (end : End)
+    → IsNext ops counter clock → edit.doc ≡ doc → edit.token ≡ token → edit.change ≡ change.Unmark from to key → start ≡ start_of (visible ops doc) from
     → end ≡ end_of (visible ops doc) key to
-    → numbered replica doc counter clock (RemoveMark key start end ∷ []) ≡ made ops replica edit
-made_unmark ops edit replica doc counter from to clock key start end next same_doc same_change is_start is_end =
-    rw (same_change, same_doc, next.counted, next.depends, is_start, is_end) refl
+    → numbered replica doc token counter clock (RemoveMark key start end ∷ []) ≡ made ops replica edit
+made_unmark ops edit replica doc token counter from to clock key start end next same_doc same_token same_change is_start is_end =
+    rw (same_change, same_doc, same_token, next.counted, next.depends, is_start, is_end) refl

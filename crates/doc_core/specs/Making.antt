@@ -1,5 +1,5 @@
 -- What the operations of an edit are made from, and what they are.
-use Rattle.std.specs.Prelude.{◌≡◌, ◌<◌, ◌+◌, ℕ, List, length}
+use Rattle.std.specs.Prelude.{◌≡◌, ◌<◌, ◌+◌, ℕ, Option, List, length}
 use Rattle.op_model.specs.declared.edit.Change.{Change}
 use Rattle.op_model.specs.declared.edit.Change.TheVariants.{Insert}
 use Rattle.op_model.specs.declared.edit.Edit.{Edit}
@@ -17,10 +17,10 @@ pub record IsNext (ops : List Op) (counter : ℕ) (clock : List (ℕ × ℕ)) : 
   pub counted : counter ≡ greatest_counter ops + 1
   pub depends : clock ≡ clock_of ops
 
--- these are the defined operations of a change of the document, whichever operations it stands for, where they are a replica's next ones
-abbrev pub AreMade : Document → ℕ → ℕ → List (ℕ × ℕ) → Change → List Op → Type 0
-AreMade d replica counter clock change found = (ops : List Op) (edit : Edit) → StandsFor d ops → IsNext ops counter clock
-    → edit.doc ≡ d.number → edit.change ≡ change → found ≡ made ops replica edit
+-- these are the defined operations of a change of the document with this token, whichever operations it stands for, where they are a replica's next ones
+abbrev pub AreMade : Document → ℕ → Option ℕ → ℕ → List (ℕ × ℕ) → Change → List Op → Type 0
+AreMade d replica token counter clock change found = (ops : List Op) (edit : Edit) → StandsFor d ops → IsNext ops counter clock
+    → edit.doc ≡ d.number → edit.token ≡ token → edit.change ≡ change → found ≡ made ops replica edit
 
 -- where the change is an insert, no mark that ends just before its index covers a character that these operations insert, whichever
 -- operations the document stands for, where these are a replica's next ones

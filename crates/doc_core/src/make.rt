@@ -13,15 +13,15 @@ use crate::doc::Doc;
 use crate::made::{Made, Part};
 use crate::make_error::MakeError;
 use crate::numbering::{keep_limits, remove_bodies, run};
-use op_ids::{Clock, OpId, ReplicaId};
+use op_ids::{Clock, OpId, ReplicaId, Token};
 use op_model::{EditText, insert_bodies, numbered};
 use std::alloc::{AllocError, Global};
 use std::num::NonZeroU32;
 
 impl Doc {
     /// Makes the inserts of a text before the visible character at an index, or at the end: a
-    /// replica's next operations, the first with this counter and depending on this clock. The
-    /// document stays as it is. The first one's origin is the last of the tombstones at that place
+    /// replica's next operations, the first with this counter and depending on this clock, each
+    /// with this token. The document stays as it is. The first one's origin is the last of the tombstones at that place
     /// that a mark ends just after, or else the visible character before it, or none at the
     /// beginning. So a mark that ends there, as a link, doesn't cover the text.
     ///
@@ -33,13 +33,14 @@ impl Doc {
         &self,
         alloc: Global,
         replica: ReplicaId,
+        token: Option<Token>,
         counter: u64,
         clock: &Clock,
         at: u32,
         text: &EditText,
     ) -> Result<Made, MakeError>
         ensures made { IfOk result
-            (AreMade self.now replica counter clock.now (change.Insert at text.now)) }
+            (AreMade self.now replica token counter clock.now (change.Insert at text.now)) }
         ensures not_covered { IfOk result
             (LeaveEndedMarks self.now counter clock.now (change.Insert at text.now)) }
         ensures range { (ops : List Op) → StandsFor self.now ops → (IsErrOf result MakeError.Range
@@ -55,12 +56,12 @@ impl Doc {
         if !keep_limits(replica, counter, clock, text.as_slice().len()) {
             return Err(MakeError::Limit);
         }
-        Ok(self.typed(alloc, replica, counter, clock, at as usize, text)?)
+        Ok(self.typed(alloc, replica, token, counter, clock, at as usize, text)?)
     }
 
     /// Makes the removes of `count` visible characters from an index on, in the order of the text:
-    /// a replica's next operations, the first with this counter and depending on this clock. The
-    /// document stays as it is.
+    /// a replica's next operations, the first with this counter and depending on this clock, each
+    /// with this token. The document stays as it is.
     ///
     /// Refuses, in this order: `Range` (5) exactly where they reach past the end of the text,
     /// `Limit` (7) exactly where they are more than 256, or a counter or the clock would pass its
@@ -70,13 +71,14 @@ impl Doc {
         &self,
         alloc: Global,
         replica: ReplicaId,
+        token: Option<Token>,
         counter: u64,
         clock: &Clock,
         at: u32,
         count: NonZeroU32,
     ) -> Result<Made, MakeError>
         ensures made { IfOk result
-            (AreMade self.now replica counter clock.now (change.Delete at count)) }
+            (AreMade self.now replica token counter clock.now (change.Delete at count)) }
         ensures range { (ops : List Op) → StandsFor self.now ops → (IsErrOf result MakeError.Range
             ↔ (is_inside (length (visible ops self.now.number)) (change.Delete at count)
             ≡ false)) }
@@ -90,7 +92,7 @@ impl Doc {
         if !keep_limits(replica, counter, clock, count.get() as usize) {
             return Err(MakeError::Limit);
         }
-        Ok(self.erased(alloc, replica, counter, clock, at as usize, count)?)
+        Ok(self.erased(alloc, replica, token, counter, clock, at as usize, count)?)
     }
 
     /// The inserts of a text at an index within the visible text. An error is want of memory (1).
@@ -98,6 +100,7 @@ impl Doc {
         &self,
         alloc: Global,
         replica: ReplicaId,
+        token: Option<Token>,
         counter: u64,
         clock: &Clock,
         at: usize,
@@ -106,12 +109,12 @@ impl Doc {
         requires valid { is_clock clock.now ≡ true }
         requires limit { keep_limits_of replica counter clock.now (length text.now) ≡ true }
         ensures { IfOk result
-            (AreMade self.now replica counter clock.now (change.Insert at text.now)) }
+            (AreMade self.now replica token counter clock.now (change.Insert at text.now)) }
     {
         let text = text.as_slice();
         let origin = &self.origin(at);
         let bodies = insert_bodies(alloc, replica, counter, *origin, text)?;
-        let ops = numbered(alloc, replica, self.doc, counter, clock, &bodies)?;
+        let ops = numbered(alloc, replica, self.doc, token, counter, clock, &bodies)?;
         let run = run(alloc, replica, counter, text)?;
         Ok(Made {
             ops,
@@ -128,6 +131,7 @@ impl Doc {
         &self,
         alloc: Global,
         replica: ReplicaId,
+        token: Option<Token>,
         counter: u64,
         clock: &Clock,
         at: usize,
@@ -136,11 +140,11 @@ impl Doc {
         requires valid { is_clock clock.now ≡ true }
         requires limit { keep_limits_of replica counter clock.now count.value ≡ true }
         ensures { IfOk result
-            (AreMade self.now replica counter clock.now (change.Delete at count)) }
+            (AreMade self.now replica token counter clock.now (change.Delete at count)) }
     {
         let targets = self.targets(at, count.get() as usize)?;
         let bodies = remove_bodies(alloc, &targets)?;
-        let ops = numbered(alloc, replica, self.doc, counter, clock, &bodies)?;
+        let ops = numbered(alloc, replica, self.doc, token, counter, clock, &bodies)?;
         Ok(Made {
             ops,
             part: Part::Removes { targets },

@@ -14,7 +14,7 @@ use crate::doc::Doc;
 use crate::made::{Made, Part};
 use crate::make_error::MakeError;
 use crate::numbering::keep_limits;
-use op_ids::{Clock, OpId, ReplicaId};
+use op_ids::{Clock, OpId, ReplicaId, Token};
 use op_model::{Anchor, Body, Change, End, Mark, MarkKey, Start, numbered};
 use std::alloc::{AllocError, Global};
 
@@ -32,6 +32,7 @@ impl Doc {
         &self,
         alloc: Global,
         replica: ReplicaId,
+        token: Option<Token>,
         counter: u64,
         clock: &Clock,
         from: u32,
@@ -39,7 +40,7 @@ impl Doc {
         mark: &Mark,
     ) -> Result<Made, MakeError>
         ensures made { IfOk result
-            (AreMade self.now replica counter clock.now (change.Mark from to mark.now)) }
+            (AreMade self.now replica token counter clock.now (change.Mark from to mark.now)) }
         ensures range { (ops : List Op) → StandsFor self.now ops → (IsErrOf result MakeError.Range
             ↔ (is_inside (length (visible ops self.now.number))
             (change.Mark from to mark.now) ≡ false)) }
@@ -54,7 +55,7 @@ impl Doc {
         if !keep_limits(replica, counter, clock, 1) {
             return Err(MakeError::Limit);
         }
-        Ok(self.marked(alloc, replica, counter, clock, from, to, mark)?)
+        Ok(self.marked(alloc, replica, token, counter, clock, from, to, mark)?)
     }
 
     /// Makes the operation that takes a mark from the visible characters from an index up to
@@ -63,6 +64,7 @@ impl Doc {
         &self,
         alloc: Global,
         replica: ReplicaId,
+        token: Option<Token>,
         counter: u64,
         clock: &Clock,
         from: u32,
@@ -70,7 +72,7 @@ impl Doc {
         key: &MarkKey,
     ) -> Result<Made, MakeError>
         ensures made { IfOk result
-            (AreMade self.now replica counter clock.now (change.Unmark from to key.now)) }
+            (AreMade self.now replica token counter clock.now (change.Unmark from to key.now)) }
         ensures range { (ops : List Op) → StandsFor self.now ops → (IsErrOf result MakeError.Range
             ↔ (is_inside (length (visible ops self.now.number))
             (change.Unmark from to key.now) ≡ false)) }
@@ -85,7 +87,7 @@ impl Doc {
         if !keep_limits(replica, counter, clock, 1) {
             return Err(MakeError::Limit);
         }
-        Ok(self.unmarked(alloc, replica, counter, clock, from, to, key)?)
+        Ok(self.unmarked(alloc, replica, token, counter, clock, from, to, key)?)
     }
 
     /// Makes the operations of a change: a replica's next operations, the first with this counter
@@ -94,11 +96,12 @@ impl Doc {
         &self,
         alloc: Global,
         replica: ReplicaId,
+        token: Option<Token>,
         counter: u64,
         clock: &Clock,
         change: &Change,
     ) -> Result<Made, MakeError>
-        ensures made { IfOk result (AreMade self.now replica counter clock.now change.now) }
+        ensures made { IfOk result (AreMade self.now replica token counter clock.now change.now) }
         ensures not_covered { IfOk result (LeaveEndedMarks self.now counter clock.now change.now) }
         ensures range { (ops : List Op) → StandsFor self.now ops → (IsErrOf result MakeError.Range
             ↔ (is_inside (length (visible ops self.now.number)) change.now ≡ false)) }
@@ -108,16 +111,16 @@ impl Doc {
     {
         match change {
             Change::Insert { at, text } => self.make_insert(
-                alloc, replica, counter, clock, *at, text,
+                alloc, replica, token, counter, clock, *at, text,
             ),
             Change::Delete { at, count } => self.make_remove(
-                alloc, replica, counter, clock, *at, *count,
+                alloc, replica, token, counter, clock, *at, *count,
             ),
             Change::Mark { from, to, mark } => self.make_mark(
-                alloc, replica, counter, clock, *from, *to, mark,
+                alloc, replica, token, counter, clock, *from, *to, mark,
             ),
             Change::Unmark { from, to, key } => self.make_unmark(
-                alloc, replica, counter, clock, *from, *to, key,
+                alloc, replica, token, counter, clock, *from, *to, key,
             ),
         }
     }
@@ -127,6 +130,7 @@ impl Doc {
         &self,
         alloc: Global,
         replica: ReplicaId,
+        token: Option<Token>,
         counter: u64,
         clock: &Clock,
         from: u32,
@@ -136,14 +140,14 @@ impl Doc {
         requires valid { is_clock clock.now ≡ true }
         requires limit { keep_limits_of replica counter clock.now 1 ≡ true }
         ensures { IfOk result
-            (AreMade self.now replica counter clock.now (change.Mark from to mark.now)) }
+            (AreMade self.now replica token counter clock.now (change.Mark from to mark.now)) }
     {
         let body = Body::AddMark {
             mark: mark.copy()?,
             start: self.start(from as usize),
             end: self.end(&mark.key(), to as usize),
         };
-        self.one(alloc, replica, counter, clock, body)
+        self.one(alloc, replica, token, counter, clock, body)
     }
 
     /// The operation that takes a mark from characters. An error is want of memory (1).
@@ -151,6 +155,7 @@ impl Doc {
         &self,
         alloc: Global,
         replica: ReplicaId,
+        token: Option<Token>,
         counter: u64,
         clock: &Clock,
         from: u32,
@@ -160,14 +165,14 @@ impl Doc {
         requires valid { is_clock clock.now ≡ true }
         requires limit { keep_limits_of replica counter clock.now 1 ≡ true }
         ensures { IfOk result
-            (AreMade self.now replica counter clock.now (change.Unmark from to key.now)) }
+            (AreMade self.now replica token counter clock.now (change.Unmark from to key.now)) }
     {
         let body = Body::RemoveMark {
             key: *key,
             start: self.start(from as usize),
             end: self.end(key, to as usize),
         };
-        self.one(alloc, replica, counter, clock, body)
+        self.one(alloc, replica, token, counter, clock, body)
     }
 
     /// The one operation that does this. An error is want of memory (1).
@@ -175,6 +180,7 @@ impl Doc {
         &self,
         alloc: Global,
         replica: ReplicaId,
+        token: Option<Token>,
         counter: u64,
         clock: &Clock,
         body: Body,
@@ -182,10 +188,10 @@ impl Doc {
         requires valid { is_clock clock.now ≡ true }
         requires limit { keep_limits_of replica counter clock.now 1 ≡ true }
         ensures { IfOk result (λ made.
-            made ≡ numbered_from replica self.now.number counter clock.now (body ∷ [])) }
+            made ≡ numbered_from replica self.now.number token counter clock.now (body ∷ [])) }
     {
         let bodies = only(alloc, body)?;
-        let ops = numbered(alloc, replica, self.doc, counter, clock, &bodies)?;
+        let ops = numbered(alloc, replica, self.doc, token, counter, clock, &bodies)?;
         Ok(Made {
             ops,
             part: Part::One,

@@ -42,19 +42,13 @@ impl Peer {
     pub fn make_insert(&self, at: u32, text: &str) -> Result<Made, Fail> {
         let text = EditText::new(text.chars().collect(self.alloc)?).ok_or("no text")?;
         let next = self.last.wrapping_add(1);
-        Ok(
-            self.doc
-                .make_insert(self.alloc, self.replica, next, &self.clock, at, &text)?,
-        )
+        Ok(self.doc.make_insert(self.alloc, self.replica, None, next, &self.clock, at, &text)?)
     }
 
     pub fn make_remove(&self, at: u32, count: u32) -> Result<Made, Fail> {
         let count = NonZeroU32::new(count).ok_or("zero")?;
         let next = self.last.wrapping_add(1);
-        Ok(
-            self.doc
-                .make_remove(self.alloc, self.replica, next, &self.clock, at, count)?,
-        )
+        Ok(self.doc.make_remove(self.alloc, self.replica, None, next, &self.clock, at, count)?)
     }
 
     pub fn keep(&mut self, op: Op) -> Result<(), Fail> {
@@ -87,7 +81,7 @@ impl Peer {
         let next = self.last.wrapping_add(1);
         let made = self
             .doc
-            .make(self.alloc, self.replica, next, &self.clock, change)?;
+            .make(self.alloc, self.replica, None, next, &self.clock, change)?;
         self.keep_edit(&made)
     }
 
@@ -126,6 +120,7 @@ impl Peer {
         let op = Op {
             id: OpId::try_new(next, self.replica).ok_or("counter")?,
             doc: 1,
+            token: None,
             deps: self.clock.copy()?,
             body: Body::AddMark {
                 mark: Mark::Link(url),
@@ -170,25 +165,37 @@ impl Peer {
         let text = self.many(size)?;
         let made = self
             .doc
-            .make_insert(self.alloc, self.replica, 1, &self.clock, at, &text)?;
+            .make_insert(self.alloc, self.replica, None, 1, &self.clock, at, &text)?;
         self.keep_edit(&made)
     }
 
     pub fn insert_refusal(&self, at: u32, size: usize) -> Result<u8, Fail> {
         let text = self.many(size)?;
         let next = self.last.wrapping_add(1);
-        let made = self
-            .doc
-            .make_insert(self.alloc, self.replica, next, &self.clock, at, &text);
+        let made = self.doc.make_insert(
+            self.alloc,
+            self.replica,
+            None,
+            next,
+            &self.clock,
+            at,
+            &text,
+        );
         Ok(made.err().map_or(0, |error| error.number()))
     }
 
     pub fn remove_refusal(&self, at: u32, count: u32) -> Result<u8, Fail> {
         let count = NonZeroU32::new(count).ok_or("zero")?;
         let next = self.last.wrapping_add(1);
-        let made = self
-            .doc
-            .make_remove(self.alloc, self.replica, next, &self.clock, at, count);
+        let made = self.doc.make_remove(
+            self.alloc,
+            self.replica,
+            None,
+            next,
+            &self.clock,
+            at,
+            count,
+        );
         Ok(made.err().map_or(0, |error| error.number()))
     }
 

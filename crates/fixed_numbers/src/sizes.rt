@@ -28,8 +28,11 @@ pub const BODY_LENGTH: usize = 4088;
 /// The fewest bytes of the body of an operation's record, which are those that its length counts.
 pub const MIN_RECORD: usize = 33;
 
-/// The most bytes of the body of an operation's record.
+/// The most bytes of the body of an operation's record without a token.
 pub const MAX_RECORD: usize = 1491;
+
+/// The most bytes of the body of an operation's record with a token, of which it has sixteen.
+pub const MAX_TOKEN_RECORD: usize = 1507;
 
 /// The most bytes of the content of a link's frame, which are those that its length counts.
 pub const MAX_CONTENT: usize = 131_068;

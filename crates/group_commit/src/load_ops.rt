@@ -6,7 +6,7 @@ ghost use Rattle.group_commit.specs.Loading.{HasNone};
 ghost use Rattle.group_commit.specs.declared.open_fault.OpenError.TheVariants.{Memory, BadStream};
 
 use crate::open_fault::OpenError;
-use change_codec::StreamError;
+use change_codec::{Format, StreamError};
 use op_list::OpList;
 use std::alloc::Global;
 
@@ -20,7 +20,8 @@ pub(crate) fn ops_of(alloc: Global, stream: Vec<u8>, count: u64) -> Result<OpLis
     ensures none { IfErr result (λ e. e ≢ Memory → HasNone stream.items count) }
     ensures refused { IfErr result (λ e. (e ≡ Memory) ⊎ (e ≡ BadStream)) }
 {
-    match OpList::read(alloc, stream) {
+    // Files have no formats yet: a record with a token is read as what it is.
+    match OpList::read(alloc, Format::Third, stream) {
         Ok(ops) => {
             if ops.len() as u64 == count {
                 Ok(ops)

@@ -28,6 +28,7 @@ fn op(alloc: Global, counter: u64, body: Body) -> Result<Op, Fail> {
     Ok(Op {
         id,
         doc: 1,
+        token: None,
         deps,
         body,
     })

@@ -4,7 +4,7 @@ use crate::test_files::{
 };
 use crate::test_store::{begin, file_of, finish, step, store, store_on};
 use crate::{Store, StoreError};
-use change_codec::take_ops;
+use change_codec::{Format, take_ops};
 use disk_trait::{Disk, FaultDisk, MemDisk};
 use op_model::Op;
 use std::alloc::Global;
@@ -13,7 +13,7 @@ use std::test::Fail;
 /// The operations of these records.
 fn ops(alloc: Global, records: &str) -> Result<Vec<Op>, Fail> {
     let bytes = bytes_of(alloc, records)?;
-    Ok(take_ops(alloc, &bytes)?)
+    Ok(take_ops(alloc, Format::First, &bytes)?)
 }
 
 /// Commits the operations of these records, and gives how many calls that takes.

@@ -64,6 +64,7 @@ impl Peer {
         let edit = Edit {
             doc: 1,
             rev: None,
+            token: None,
             change,
         };
         self.hub.edit(SESSION, &edit).ok()?;

@@ -27,6 +27,7 @@ impl Listed {
             ops.push(Op {
                 id: OpId::try_new(counter, replica).ok_or("counter")?,
                 doc: 1,
+                token: None,
                 deps: deps.copy()?,
                 body: Body::Insert {
                     origin: None,

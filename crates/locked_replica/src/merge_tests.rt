@@ -145,6 +145,7 @@ fn second(alloc: Global, counter: u64, doc: u32, origin: Option<OpId>) -> Result
     Ok(Op {
         id: OpId::try_new(counter, by).ok_or("counter")?,
         doc,
+        token: None,
         deps,
         body: Body::Insert { origin, value: 'q' },
     })

@@ -16,6 +16,7 @@ fn insert_many(alloc: Global, at: u32, count: usize) -> Result<Edit, Fail> {
     Ok(Edit {
         doc: 1,
         rev: None,
+        token: None,
         change: Change::Insert { at, text },
     })
 }

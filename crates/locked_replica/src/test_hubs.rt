@@ -50,6 +50,7 @@ pub(crate) fn insert(alloc: Global, at: u32, value: char) -> Result<Edit, Fail> 
     Ok(Edit {
         doc: 1,
         rev: None,
+        token: None,
         change: Change::Insert { at, text },
     })
 }
@@ -64,6 +65,7 @@ pub(crate) fn edit_of(alloc: Global, number: usize) -> Result<Edit, Fail> {
     Ok(Edit {
         doc: 1,
         rev: None,
+        token: None,
         change: Change::Delete { at: 0, count },
     })
 }

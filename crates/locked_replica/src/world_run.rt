@@ -148,6 +148,7 @@ fn edit(alloc: Global, hub: &mut Hub<MemDisk>, event: Event, number: u32) -> Res
             &Edit {
                 doc: 1,
                 rev: None,
+                token: None,
                 change,
             },
         );

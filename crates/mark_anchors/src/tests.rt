@@ -32,6 +32,7 @@ fn plain(alloc: Global, counter: u64, end: End) -> Result<Op, Fail> {
     Ok(Op {
         id: id(counter)?,
         doc: 1,
+        token: None,
         deps: Clock::new(alloc),
         body: Body::RemoveMark {
             key: MarkKey::Em,

@@ -137,6 +137,7 @@ fn insert(alloc: Global, replica: &mut Replica, at: u32, count: u32) -> Option<(
     let edit = Edit {
         doc: 1,
         rev: None,
+        token: None,
         change: Change::Insert { at, text },
     };
     replica.edit(1, &edit).ok()?;

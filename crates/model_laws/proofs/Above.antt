@@ -1,5 +1,5 @@
 -- The ids that an edit makes are above all before.
-use Rattle.std.proofs.Common.{◌≡◌, ℕ, ◌+◌, ◌<◌, true, List, [], ◌∷◌, refl, arith}
+use Rattle.std.proofs.Common.{◌≡◌, ℕ, ◌+◌, ◌<◌, true, Option, List, [], ◌∷◌, refl, arith}
 use Rattle.std.specs.List.{list_all}
 use Rattle.std.proofs.lemmas.Bool.Decides.{nat_tests}
 use Rattle.op_ids.specs.Id.{Id, is_below}
@@ -20,10 +20,10 @@ all_under (op ∷ ops) id above =
     let first = above_one op.id id (omega arith) in
     grind (arith, nat_tests)
 
-pub numbered_above : (ops : List Op) (replica doc counter : ℕ) (clock : List (ℕ × ℕ)) (bodies : List Body) → greatest_counter ops < counter
-    → list_all (λ op. list_all (λ earlier. is_below earlier.id op.id) ops) (numbered replica doc counter clock bodies) ≡ true
-numbered_above ops replica doc counter clock [] above = refl
-numbered_above ops replica doc counter clock (b ∷ bs) above =
+pub numbered_above : (ops : List Op) (replica doc : ℕ) (token : Option ℕ) (counter : ℕ) (clock : List (ℕ × ℕ)) (bodies : List Body) → greatest_counter ops < counter
+    → list_all (λ op. list_all (λ earlier. is_below earlier.id op.id) ops) (numbered replica doc token counter clock bodies) ≡ true
+numbered_above ops replica doc token counter clock [] above = refl
+numbered_above ops replica doc token counter clock (b ∷ bs) above =
     let first = all_under ops (record { counter = counter; replica = replica }) above in
-    let rest = numbered_above ops replica doc (counter + 1) (advanced clock replica) bs (omega arith) in
+    let rest = numbered_above ops replica doc token (counter + 1) (advanced clock replica) bs (omega arith) in
     grind (arith, nat_tests)

@@ -44,7 +44,7 @@ got_here : (p : Character → Bool) (c : Character) (cs : List Character) (n : �
 got_here p c cs zero x rest g = let h : c ≡ x = cc in let s : is_same c.id x.id ≡ true = equal_same c.id x.id (ap (λ y. y.id) h) in rw s (omega arith)
 got_here p c cs (suc n) x rest g = omega (arith, rest n g)
 
-got_counted : (p : Character → Bool) (cs : List Character) (j : ℕ) (x : Character)
+pub got_counted : (p : Character → Bool) (cs : List Character) (j : ℕ) (x : Character)
     → slice_get (filter p cs) j ≡ Some x → 1 ≤ times x.id cs
 got_counted p [] j x e = let f : ⊥ = cc in absurd f
 got_counted p (c ∷ cs) j x e =
@@ -102,18 +102,18 @@ module _ (hidden : Character → Bool) where
         | inr h ↦ rw h (shown_first y front c rest j x (t x.id) (λ m g. index_at front c rest m x g v (λ id. omega (arith, t id))) (rw h at e))
       ]
 
-got : (cs : List Character) (n : ℕ) → n < length cs → (x : Character) × (slice_get cs n ≡ Some x)
+pub got : (cs : List Character) (n : ℕ) → n < length cs → (x : Character) × (slice_get cs n ≡ Some x)
 got [] n l = absurd (omega arith)
 got (c ∷ cs) zero l = (c, refl)
 got (c ∷ cs) (suc n) l = got cs n (omega arith)
 
-got_none : (cs : List Character) (n : ℕ) → length cs ≤ n → slice_get cs n ≡ None
+pub got_none : (cs : List Character) (n : ℕ) → length cs ≤ n → slice_get cs n ≡ None
 got_none [] n l = refl
 got_none (c ∷ cs) zero l = absurd (omega arith)
 got_none (c ∷ cs) (suc n) l = got_none cs n (omega arith)
 
 -- tests of orders that go together are equal
-tests_equal : (a b c d : ℕ) → (a ≤ b → c ≤ d) → (c ≤ d → a ≤ b) → nat_le a b ≡ nat_le c d
+pub tests_equal : (a b c d : ℕ) → (a ≤ b → c ≤ d) → (c ≤ d → a ≤ b) → nat_le a b ≡ nat_le c d
 tests_equal a b c d f g =
     elim (cases_Bool (nat_le c d)) [
       | inl e ↦ le-leb a b (g (leb-true c d e)) ∙ sym e

@@ -24,14 +24,14 @@ use Rattle.model_laws.proofs.Overfull.{IsOverfull-advanced_by}
 use Rattle.model_laws.proofs.Ready.{clock-push}
 
 -- the clock behind an edit's operations
-pub clock_of-numbered : (ops : List Op) (replica doc counter : ℕ) (clock : List (ℕ × ℕ)) (bodies : List Body)
-    → clock_of (ops ++ numbered replica doc counter clock bodies) ≡ advanced_by (clock_of ops) replica (length bodies)
-clock_of-numbered ops replica doc counter clock [] = ap clock_of (append-nil ops)
-clock_of-numbered ops replica doc counter clock (b ∷ bs) =
-    let op : Op = record { id = record { counter = counter; replica = replica }; doc = doc; deps = clock; body = b } in
-    let rest = numbered replica doc (counter + 1) (advanced clock replica) bs in
+pub clock_of-numbered : (ops : List Op) (replica doc : ℕ) (token : Option ℕ) (counter : ℕ) (clock : List (ℕ × ℕ)) (bodies : List Body)
+    → clock_of (ops ++ numbered replica doc token counter clock bodies) ≡ advanced_by (clock_of ops) replica (length bodies)
+clock_of-numbered ops replica doc token counter clock [] = ap clock_of (append-nil ops)
+clock_of-numbered ops replica doc token counter clock (b ∷ bs) =
+    let op : Op = record { id = record { counter = counter; replica = replica }; doc = doc; token = token; deps = clock; body = b } in
+    let rest = numbered replica doc token (counter + 1) (advanced clock replica) bs in
     ap clock_of (sym (append_assoc ops (op ∷ []) rest))
-    ∙ (clock_of-numbered (ops ++ op ∷ []) replica doc (counter + 1) (advanced clock replica) bs
+    ∙ (clock_of-numbered (ops ++ op ∷ []) replica doc token (counter + 1) (advanced clock replica) bs
     ∙ ap (λ from. advanced_by from replica (length bs)) (clock-push ops op))
 
 -- a clock counts each operation once
@@ -52,19 +52,19 @@ is_within_limits-full ops full =
     (rw (total_of-clock_of ops) at full.over)
 
 -- an operation for each body
-pub length-numbered : (replica doc counter : ℕ) (clock : List (ℕ × ℕ)) (bodies : List Body)
-    → length (numbered replica doc counter clock bodies) ≡ length bodies
-length-numbered replica doc counter clock [] = refl
-length-numbered replica doc counter clock (b ∷ bs) =
-    let rest = length-numbered replica doc (counter + 1) (advanced clock replica) bs in omega arith
+pub length-numbered : (replica doc : ℕ) (token : Option ℕ) (counter : ℕ) (clock : List (ℕ × ℕ)) (bodies : List Body)
+    → length (numbered replica doc token counter clock bodies) ≡ length bodies
+length-numbered replica doc token counter clock [] = refl
+length-numbered replica doc token counter clock (b ∷ bs) =
+    let rest = length-numbered replica doc token (counter + 1) (advanced clock replica) bs in omega arith
 
 -- counters that pass the last one are out of range
-pub in_range-numbered : (replica doc counter : ℕ) (clock : List (ℕ × ℕ)) (bodies : List Body) → 0 < length bodies
-    → 281474976710656 < counter + length bodies → list_all is_in_range (numbered replica doc counter clock bodies) ≡ false
-in_range-numbered replica doc counter clock [] some over = elim some [ ]
-in_range-numbered replica doc counter clock (b ∷ []) some over = grind (arith, nat_tests)
-in_range-numbered replica doc counter clock (b ∷ d ∷ bs) some over =
-    let rest = in_range-numbered replica doc (counter + 1) (advanced clock replica) (d ∷ bs) (omega arith) (omega arith) in
+pub in_range-numbered : (replica doc : ℕ) (token : Option ℕ) (counter : ℕ) (clock : List (ℕ × ℕ)) (bodies : List Body) → 0 < length bodies
+    → 281474976710656 < counter + length bodies → list_all is_in_range (numbered replica doc token counter clock bodies) ≡ false
+in_range-numbered replica doc token counter clock [] some over = elim some [ ]
+in_range-numbered replica doc token counter clock (b ∷ []) some over = grind (arith, nat_tests)
+in_range-numbered replica doc token counter clock (b ∷ d ∷ bs) some over =
+    let rest = in_range-numbered replica doc token (counter + 1) (advanced clock replica) (d ∷ bs) (omega arith) (omega arith) in
     rw rest (grind (arith, nat_tests))
 
 -- a body for each character
@@ -89,7 +89,7 @@ pub is_within_limits-uncounted : (ops : List Op) (replica : ℕ) (edit : Edit)
     → is_within_limits (ops ++ made ops replica edit) ≡ false
 is_within_limits-uncounted ops replica edit full =
     is_within_limits-full (ops ++ made ops replica edit)
-    (rw (clock_of-numbered ops replica edit.doc (greatest_counter ops + 1) (clock_of ops) (bodies_of ops replica edit.doc edit.change)) full)
+    (rw (clock_of-numbered ops replica edit.doc edit.token (greatest_counter ops + 1) (clock_of ops) (bodies_of ops replica edit.doc edit.change)) full)
 
 -- so is one after a list that a clock can't count
 pub is_within_limits-uncounted_before : (ops : List Op) (replica : ℕ) (edit : Edit) → IsOverfull (clock_of ops)
@@ -108,6 +108,6 @@ pub is_within_limits-over : (ops : List Op) (replica : ℕ) (edit : Edit) → Is
 is_within_limits-over ops replica edit right some over =
     let bodies = bodies_of ops replica edit.doc edit.change in
     let many = length-bodies_of ops replica edit.doc edit.change right.inside in
-    let none = in_range-numbered replica edit.doc (greatest_counter ops + 1) (clock_of ops) bodies (omega arith) (omega arith) in
+    let none = in_range-numbered replica edit.doc edit.token (greatest_counter ops + 1) (clock_of ops) bodies (omega arith) (omega arith) in
     rw (list_all-append is_in_range ops (made ops replica edit))
     (out_of_range (list_all is_in_range ops) (list_all is_in_range (made ops replica edit)) (has_room (ops ++ made ops replica edit)) none)

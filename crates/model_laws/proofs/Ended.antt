@@ -64,7 +64,7 @@ ends_found (op ∷ ops) doc m id h e =
       | inr d ↦ or_right (op.doc == doc && is_marking_up_to id op.body) (ends_after ops doc id) (ends_found ops doc m id (rw d at h) e)
     ]
 
-index_in_front : (front rest : List Character) (id : Id) → has_id front id ≡ true
+pub index_in_front : (front rest : List Character) (id : Id) → has_id front id ≡ true
     → index_of id (front ++ rest) < length front
 index_in_front [] rest id h = absurd (false≢true h)
 index_in_front (c ∷ front) rest id h =
@@ -74,7 +74,7 @@ index_in_front (c ∷ front) rest id h =
     ]
 
 -- a character that isn't in a front stands behind it
-stands_behind : (f other front rest : List Character) (c : Character) → f ++ other ≡ front ++ c ∷ rest
+pub stands_behind : (f other front rest : List Character) (c : Character) → f ++ other ≡ front ++ c ∷ rest
     → has_id f c.id ≡ false → length f ≤ length front
 stands_behind [] other front rest c e n = omega arith
 stands_behind (x ∷ f) other [] rest c e n =
@@ -108,32 +108,32 @@ ended_in_front ops doc at front rest m id k h e (inl t) = k.ended id (ends_found
 ended_in_front ops doc at front rest m id k h e (inr v) = k.shown_last id v
 
 -- a mark that ends just before the place of an insert covers none of the new characters
-insert_not_covered : (ops : List Op) (replica doc at : ℕ) (added : List ℕ)
+insert_not_covered : (ops : List Op) (replica doc : ℕ) (token : Option ℕ) (at : ℕ) (added : List ℕ)
     → IsOrderly ops doc → at ≤ length (visible ops doc)
-    → FitInTurn ops doc (numbered replica doc (greatest_counter ops + 1) (clock_of ops) (bodies_of ops replica doc (change.Insert at added)))
-    → EndedMarksStay ops doc at (numbered replica doc (greatest_counter ops + 1) (clock_of ops) (bodies_of ops replica doc (change.Insert at added)))
-insert_not_covered ops replica doc at added h l f = λ m id front rest c k e b p n.
+    → FitInTurn ops doc (numbered replica doc token (greatest_counter ops + 1) (clock_of ops) (bodies_of ops replica doc (change.Insert at added)))
+    → EndedMarksStay ops doc at (numbered replica doc token (greatest_counter ops + 1) (clock_of ops) (bodies_of ops replica doc (change.Insert at added)))
+insert_not_covered ops replica doc token at added h l f = λ m id front rest c k e b p n.
     let (g, r, q) = cursor_of ops doc at l in
-    let (new, w) = walk_typed added ops replica doc (greatest_counter ops + 1) (clock_of ops) (origin_of ops doc at) g r h f (omega arith) q.whole q.last in
-    new_not_covered (walk (ops ++ numbered replica doc (greatest_counter ops + 1) (clock_of ops) (bodies_of ops replica doc (change.Insert at added))) doc) (walk ops doc)
+    let (new, w) = walk_typed added ops replica doc token (greatest_counter ops + 1) (clock_of ops) (origin_of ops doc at) g r h f (omega arith) q.whole q.last in
+    new_not_covered (walk (ops ++ numbered replica doc token (greatest_counter ops + 1) (clock_of ops) (bodies_of ops replica doc (change.Insert at added))) doc) (walk ops doc)
     g new r front rest c m id q.whole w p n (ended_in_front ops doc at g r m id q k e b) e
 
 -- the same of a change that is known to be an insert
-change_not_covered : (ops : List Op) (replica doc at : ℕ) (added : List ℕ) (x : Change)
+change_not_covered : (ops : List Op) (replica doc : ℕ) (token : Option ℕ) (at : ℕ) (added : List ℕ) (x : Change)
     → change.Insert at added ≡ x → IsOrderly ops doc → at ≤ length (visible ops doc)
-    → FitInTurn ops doc (numbered replica doc (greatest_counter ops + 1) (clock_of ops) (bodies_of ops replica doc x))
-    → EndedMarksStay ops doc at (numbered replica doc (greatest_counter ops + 1) (clock_of ops) (bodies_of ops replica doc x))
-change_not_covered ops replica doc at added x s h l = subst
-    (λ y. FitInTurn ops doc (numbered replica doc (greatest_counter ops + 1) (clock_of ops) (bodies_of ops replica doc y))
-    → EndedMarksStay ops doc at (numbered replica doc (greatest_counter ops + 1) (clock_of ops) (bodies_of ops replica doc y)))
-    s (insert_not_covered ops replica doc at added h l)
+    → FitInTurn ops doc (numbered replica doc token (greatest_counter ops + 1) (clock_of ops) (bodies_of ops replica doc x))
+    → EndedMarksStay ops doc at (numbered replica doc token (greatest_counter ops + 1) (clock_of ops) (bodies_of ops replica doc x))
+change_not_covered ops replica doc token at added x s h l = subst
+    (λ y. FitInTurn ops doc (numbered replica doc token (greatest_counter ops + 1) (clock_of ops) (bodies_of ops replica doc y))
+    → EndedMarksStay ops doc at (numbered replica doc token (greatest_counter ops + 1) (clock_of ops) (bodies_of ops replica doc y)))
+    s (insert_not_covered ops replica doc token at added h l)
 
 -- the same of an edit, in an orderly list
 pub orderly_not_covered : (ops : List Op) (replica : ℕ) (e : Edit) (at : ℕ) (added : List ℕ)
     → IsOrderly ops e.doc → e.change ≡ change.Insert at added → is_inside (length (visible ops e.doc)) e.change ≡ true
     → EndedMarksStay ops e.doc at (made ops replica e)
 orderly_not_covered ops replica e at added h s i =
-    change_not_covered ops replica e.doc at added e.change (sym s) h
+    change_not_covered ops replica e.doc e.token at added e.change (sym s) h
     (leb-true at (length (visible ops e.doc)) (ap (λ y. is_inside (length (visible ops e.doc)) y) (sym s) ∙ i))
     (made_fit_in_turn ops replica e)
 

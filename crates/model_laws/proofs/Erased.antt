@@ -1,6 +1,6 @@
 -- What deletes and marks do to the text.
 use Rattle.std.proofs.Common.{◌≡◌, ℕ, ◌+◌, ◌≤◌, Bool, true, false, not, ◌||◌, ◌&&◌, inl, inr, List}
-use Rattle.std.proofs.Common.{[], ◌∷◌, ◌++◌, length, take, drop, map, filter, None, arith, ap, refl}
+use Rattle.std.proofs.Common.{[], ◌∷◌, ◌++◌, length, take, drop, map, filter, Option, None, arith, ap, refl}
 use Rattle.std.proofs.Common.{◌∙◌, sym, append_assoc, append-nil}
 use Rattle.std.specs.Prelude.{◌==◌}
 use Rattle.std.proofs.lemmas.Bool.{cases_Bool, eq-eqb, leb-true, or_left}
@@ -39,29 +39,29 @@ plain_step ops doc op h f d e =
     ∙ ap (λ m. placed m (walk ops doc)) (character_here doc op d ∙ e)
 
 -- removes of these characters, made one after another
-abbrev removals : ℕ → ℕ → ℕ → List (ℕ × ℕ) → List Character → List Op
-removals replica doc counter clock cs = numbered replica doc counter clock (map (λ c. body.Remove c.id) cs)
+abbrev removals : ℕ → ℕ → Option ℕ → ℕ → List (ℕ × ℕ) → List Character → List Op
+removals replica doc token counter clock cs = numbered replica doc token counter clock (map (λ c. body.Remove c.id) cs)
 
-walk_after : (cs : List Character) (ops : List Op) (replica doc counter : ℕ) (clock : List (ℕ × ℕ))
-    → IsCausallyClosed ops → FollowInTurn ops (removals replica doc counter clock cs)
-    → walk (ops ++ removals replica doc counter clock cs) doc ≡ walk ops doc
-walk_after [] ops replica doc counter clock h f = ap (λ xs. walk xs doc) (append-nil ops)
-walk_after (c ∷ cs) ops replica doc counter clock h f =
-    let op : Op = record { id = record { counter = counter; replica = replica }; doc = doc; deps = clock; body = body.Remove c.id } in
-    ap (λ xs. walk xs doc) (sym (append_assoc ops (op ∷ []) (removals replica doc (counter + 1) (advanced clock replica) cs)))
-    ∙ walk_after cs (ops ++ op ∷ []) replica doc (counter + 1) (advanced clock replica) (closed_push ops op h f.0) f.1
+walk_after : (cs : List Character) (ops : List Op) (replica doc : ℕ) (token : Option ℕ) (counter : ℕ) (clock : List (ℕ × ℕ))
+    → IsCausallyClosed ops → FollowInTurn ops (removals replica doc token counter clock cs)
+    → walk (ops ++ removals replica doc token counter clock cs) doc ≡ walk ops doc
+walk_after [] ops replica doc token counter clock h f = ap (λ xs. walk xs doc) (append-nil ops)
+walk_after (c ∷ cs) ops replica doc token counter clock h f =
+    let op : Op = record { id = record { counter = counter; replica = replica }; doc = doc; token = token; deps = clock; body = body.Remove c.id } in
+    ap (λ xs. walk xs doc) (sym (append_assoc ops (op ∷ []) (removals replica doc token (counter + 1) (advanced clock replica) cs)))
+    ∙ walk_after cs (ops ++ op ∷ []) replica doc token (counter + 1) (advanced clock replica) (closed_push ops op h f.0) f.1
     ∙ plain_step ops doc op h f.0 refl refl
 
-removed_after : (cs : List Character) (ops : List Op) (replica doc counter : ℕ) (clock : List (ℕ × ℕ)) (x : Character)
-    → is_removed (ops ++ removals replica doc counter clock cs) doc x ≡ (is_removed ops doc x || has_id cs x.id)
-removed_after [] ops replica doc counter clock x =
+removed_after : (cs : List Character) (ops : List Op) (replica doc : ℕ) (token : Option ℕ) (counter : ℕ) (clock : List (ℕ × ℕ)) (x : Character)
+    → is_removed (ops ++ removals replica doc token counter clock cs) doc x ≡ (is_removed ops doc x || has_id cs x.id)
+removed_after [] ops replica doc token counter clock x =
     ap (λ xs. is_removed xs doc x) (append-nil ops)
     ∙ sym (or-false (is_removed ops doc x))
-removed_after (c ∷ cs) ops replica doc counter clock x =
-    let op : Op = record { id = record { counter = counter; replica = replica }; doc = doc; deps = clock; body = body.Remove c.id } in
+removed_after (c ∷ cs) ops replica doc token counter clock x =
+    let op : Op = record { id = record { counter = counter; replica = replica }; doc = doc; token = token; deps = clock; body = body.Remove c.id } in
     let here : (doc == doc && is_same c.id x.id) ≡ is_same c.id x.id = rw (eq-eqb doc doc refl) refl in
-    ap (λ xs. is_removed xs doc x) (sym (append_assoc ops (op ∷ []) (removals replica doc (counter + 1) (advanced clock replica) cs)))
-    ∙ removed_after cs (ops ++ op ∷ []) replica doc (counter + 1) (advanced clock replica) x
+    ap (λ xs. is_removed xs doc x) (sym (append_assoc ops (op ∷ []) (removals replica doc token (counter + 1) (advanced clock replica) cs)))
+    ∙ removed_after cs (ops ++ op ∷ []) replica doc token (counter + 1) (advanced clock replica) x
     ∙ ap (λ r. r || has_id cs x.id) (removed-push ops doc op x ∙ ap (λ r. is_removed ops doc x || r) here)
     ∙ or_assoc (is_removed ops doc x) (is_same c.id x.id) (has_id cs x.id)
 
@@ -114,16 +114,16 @@ pub visible_once : (ops : List Op) (doc : ℕ) → IsCausallyClosed ops → (id 
 visible_once ops doc h id = omega (arith, times_filtered (λ c. not (is_removed ops doc c)) id (walk ops doc), orderly_once ops doc id (closed_orderly ops doc h))
 
 -- a delete leaves out what it deletes
-text_deleted : (ops : List Op) (replica doc at count counter : ℕ) (clock : List (ℕ × ℕ)) → IsCausallyClosed ops
-    → FollowInTurn ops (removals replica doc counter clock (take count (drop at (visible ops doc))))
-    → text (ops ++ removals replica doc counter clock (take count (drop at (visible ops doc)))) doc ≡ take at (text ops doc) ++ drop (at + count) (text ops doc)
-text_deleted ops replica doc at count counter clock h f =
+text_deleted : (ops : List Op) (replica doc : ℕ) (token : Option ℕ) (at count counter : ℕ) (clock : List (ℕ × ℕ)) → IsCausallyClosed ops
+    → FollowInTurn ops (removals replica doc token counter clock (take count (drop at (visible ops doc))))
+    → text (ops ++ removals replica doc token counter clock (take count (drop at (visible ops doc)))) doc ≡ take at (text ops doc) ++ drop (at + count) (text ops doc)
+text_deleted ops replica doc token at count counter clock h f =
     let v : List Character = visible ops doc in
     let gone : List Character = take count (drop at v) in
     let parts : v ≡ take at v ++ (gone ++ drop count (drop at v)) = sym (take-append-drop at v) ∙ ap (λ xs. take at v ++ xs) (sym (take-append-drop count (drop at v))) in
     ap (λ xs. map (λ c. c.value) xs)
-    (ap (λ xs. filter (λ c. not (is_removed (ops ++ removals replica doc counter clock gone) doc c)) xs) (walk_after gone ops replica doc counter clock h f)
-    ∙ filter_agree (λ c. not (is_removed (ops ++ removals replica doc counter clock gone) doc c)) (λ c. not (is_removed ops doc c || has_id gone c.id)) (λ c. ap not (removed_after gone ops replica doc counter clock c)) (walk ops doc)
+    (ap (λ xs. filter (λ c. not (is_removed (ops ++ removals replica doc token counter clock gone) doc c)) xs) (walk_after gone ops replica doc token counter clock h f)
+    ∙ filter_agree (λ c. not (is_removed (ops ++ removals replica doc token counter clock gone) doc c)) (λ c. not (is_removed ops doc c || has_id gone c.id)) (λ c. ap not (removed_after gone ops replica doc token counter clock c)) (walk ops doc)
     ∙ filter_twice (is_removed ops doc) (λ c. has_id gone c.id) (walk ops doc)
     ∙ ap (λ xs. without gone xs) parts
     ∙ without_middle (take at v) gone (drop count (drop at v)) (λ id. rw (ap (λ xs. times id xs) parts) at (visible_once ops doc h id)))
@@ -140,19 +140,19 @@ text_marked ops doc op h f d e n =
     ap (λ cs. shown (ops ++ op ∷ []) doc cs) (plain_step ops doc op h f d e)
     ∙ shown_same (ops ++ op ∷ []) ops doc (removed_kept ops doc op n) (walk ops doc)
 
-change_text : (ops : List Op) (replica doc : ℕ) (c : Change) → IsCausallyClosed ops
+change_text : (ops : List Op) (replica doc : ℕ) (token : Option ℕ) (c : Change) → IsCausallyClosed ops
     → is_inside (length (visible ops doc)) c ≡ true
-    → FollowInTurn ops (numbered replica doc (greatest_counter ops + 1) (clock_of ops) (bodies_of ops replica doc c))
-    → text (ops ++ numbered replica doc (greatest_counter ops + 1) (clock_of ops) (bodies_of ops replica doc c)) doc ≡ changed (text ops doc) c
-change_text ops replica doc (change.Insert at added) h i f =
-    text_inserted ops replica doc at added h (leb-true at (length (visible ops doc)) i) f
+    → FollowInTurn ops (numbered replica doc token (greatest_counter ops + 1) (clock_of ops) (bodies_of ops replica doc c))
+    → text (ops ++ numbered replica doc token (greatest_counter ops + 1) (clock_of ops) (bodies_of ops replica doc c)) doc ≡ changed (text ops doc) c
+change_text ops replica doc token (change.Insert at added) h i f =
+    text_inserted ops replica doc token at added h (leb-true at (length (visible ops doc)) i) f
     ∙ sym (append_assoc (take at (text ops doc)) added (drop at (text ops doc)))
-change_text ops replica doc (change.Delete at count) h i f = text_deleted ops replica doc at count.value (greatest_counter ops + 1) (clock_of ops) h f
-change_text ops replica doc (change.Mark from to mark) h i f = text_marked ops doc _ h f.0 refl refl (λ id. refl)
-change_text ops replica doc (change.Unmark from to k) h i f = text_marked ops doc _ h f.0 refl refl (λ id. refl)
+change_text ops replica doc token (change.Delete at count) h i f = text_deleted ops replica doc token at count.value (greatest_counter ops + 1) (clock_of ops) h f
+change_text ops replica doc token (change.Mark from to mark) h i f = text_marked ops doc _ h f.0 refl refl (λ id. refl)
+change_text ops replica doc token (change.Unmark from to k) h i f = text_marked ops doc _ h f.0 refl refl (λ id. refl)
 
 -- the text after an edit is the text before it with the edit's change
 pub made_text : (ops : List Op) (replica : ℕ) (e : Edit) → IsCausallyClosed ops
     → is_inside (length (visible ops e.doc)) e.change ≡ true → is_within_limits (ops ++ made ops replica e) ≡ true
     → text (ops ++ made ops replica e) e.doc ≡ changed (text ops e.doc) e.change
-made_text ops replica e h i l = change_text ops replica e.doc e.change h i (made_follow ops replica e l)
+made_text ops replica e h i l = change_text ops replica e.doc e.token e.change h i (made_follow ops replica e l)

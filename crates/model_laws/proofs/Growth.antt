@@ -46,7 +46,7 @@ fit_front : (before ops more : List Op) (doc : ℕ) → FitInTurn before doc (op
 fit_front before [] more doc h = tt
 fit_front before (op ∷ ops) more doc h = (h.0, fit_front (before ++ op ∷ []) ops more doc h.1)
 
-fit_both : (before ops more : List Op) (doc : ℕ) → FitInTurn before doc ops → FitInTurn (before ++ ops) doc more
+pub fit_both : (before ops more : List Op) (doc : ℕ) → FitInTurn before doc ops → FitInTurn (before ++ ops) doc more
     → FitInTurn before doc (ops ++ more)
 fit_both before [] more doc h k = rw append-nil at k
 fit_both before (op ∷ ops) more doc h k = (h.0, fit_both (before ++ op ∷ []) ops more doc h.1 (rw append_assoc k))

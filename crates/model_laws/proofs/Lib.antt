@@ -30,3 +30,5 @@ pub mod Up
 pub mod Overfull
 pub mod Limits
 pub mod EditLimits
+pub mod Grown
+pub mod GrownEdits

@@ -30,26 +30,26 @@ use Rattle.model_laws.proofs.Growth.{closed_with}
 use Rattle.model_laws.proofs.Ready.{clock-push, greatest-push, found_insert, AreNamesKnown, follows_by_clock, fits_by_clock, limits_front}
 
 -- the operation of a body after these
-abbrev made_op : List Op → ℕ → ℕ → ℕ → Body → Op
-made_op before replica doc counter b = record { id = record { counter = counter; replica = replica }; doc = doc; deps = clock_of before; body = b }
+abbrev made_op : List Op → ℕ → ℕ → Option ℕ → ℕ → Body → Op
+made_op before replica doc token counter b = record { id = record { counter = counter; replica = replica }; doc = doc; token = token; deps = clock_of before; body = b }
 
 -- the names of each body are known when its turn comes
-abbrev AreBodiesKnown : List Op → ℕ → ℕ → ℕ → List Body → Type 0
-AreBodiesKnown before replica doc counter [] = Unit {0}
-AreBodiesKnown before replica doc counter (b ∷ bs) =
-    AreNamesKnown before doc b × AreBodiesKnown (before ++ made_op before replica doc counter b ∷ []) replica doc (counter + 1) bs
+abbrev AreBodiesKnown : List Op → ℕ → ℕ → Option ℕ → ℕ → List Body → Type 0
+AreBodiesKnown before replica doc token counter [] = Unit {0}
+AreBodiesKnown before replica doc token counter (b ∷ bs) =
+    AreNamesKnown before doc b × AreBodiesKnown (before ++ made_op before replica doc token counter b ∷ []) replica doc token (counter + 1) bs
 
-numbered_follow : (before : List Op) (replica doc counter : ℕ) (clock : List (ℕ × ℕ)) (bs : List Body)
-    → clock ≡ clock_of before → greatest_counter before < counter → AreBodiesKnown before replica doc counter bs
-    → is_within_limits (before ++ numbered replica doc counter clock bs) ≡ true
-    → FollowInTurn before (numbered replica doc counter clock bs)
-numbered_follow before replica doc counter clock [] c g k l = tt
-numbered_follow before replica doc counter clock (b ∷ bs) c g k l =
-    let op : Op = record { id = record { counter = counter; replica = replica }; doc = doc; deps = clock; body = b } in
-    let same : op ≡ made_op before replica doc counter b = ap (λ es. record { id = record { counter = counter; replica = replica }; doc = doc; deps = es; body = b }) c in
-    let limits : is_within_limits ((before ++ op ∷ []) ++ numbered replica doc (counter + 1) (advanced clock replica) bs) ≡ true = rw (append_assoc before (op ∷ []) (numbered replica doc (counter + 1) (advanced clock replica) bs)) l in (
-      follows_by_clock before op c g k.0 (limits_front (before ++ op ∷ []) (numbered replica doc (counter + 1) (advanced clock replica) bs) limits),
-      numbered_follow (before ++ op ∷ []) replica doc (counter + 1) (advanced clock replica) bs
+numbered_follow : (before : List Op) (replica doc : ℕ) (token : Option ℕ) (counter : ℕ) (clock : List (ℕ × ℕ)) (bs : List Body)
+    → clock ≡ clock_of before → greatest_counter before < counter → AreBodiesKnown before replica doc token counter bs
+    → is_within_limits (before ++ numbered replica doc token counter clock bs) ≡ true
+    → FollowInTurn before (numbered replica doc token counter clock bs)
+numbered_follow before replica doc token counter clock [] c g k l = tt
+numbered_follow before replica doc token counter clock (b ∷ bs) c g k l =
+    let op : Op = record { id = record { counter = counter; replica = replica }; doc = doc; token = token; deps = clock; body = b } in
+    let same : op ≡ made_op before replica doc token counter b = ap (λ es. record { id = record { counter = counter; replica = replica }; doc = doc; token = token; deps = es; body = b }) c in
+    let limits : is_within_limits ((before ++ op ∷ []) ++ numbered replica doc token (counter + 1) (advanced clock replica) bs) ≡ true = rw (append_assoc before (op ∷ []) (numbered replica doc token (counter + 1) (advanced clock replica) bs)) l in (
+      follows_by_clock before op c g k.0 (limits_front (before ++ op ∷ []) (numbered replica doc token (counter + 1) (advanced clock replica) bs) limits),
+      numbered_follow (before ++ op ∷ []) replica doc token (counter + 1) (advanced clock replica) bs
           (ap (λ es. advanced es replica) c ∙ sym (clock-push before op))
           (rw (greatest-push before op) (omega arith))
           (rw (← same) at k.1)
@@ -57,15 +57,15 @@ numbered_follow before replica doc counter clock (b ∷ bs) c g k l =
     )
 
 -- they fit the document in turn, whatever the limits say
-numbered_fit : (before : List Op) (replica doc counter : ℕ) (clock : List (ℕ × ℕ)) (bs : List Body)
-    → clock ≡ clock_of before → greatest_counter before < counter → AreBodiesKnown before replica doc counter bs
-    → FitInTurn before doc (numbered replica doc counter clock bs)
-numbered_fit before replica doc counter clock [] c g k = tt
-numbered_fit before replica doc counter clock (b ∷ bs) c g k =
-    let op : Op = record { id = record { counter = counter; replica = replica }; doc = doc; deps = clock; body = b } in
-    let same : op ≡ made_op before replica doc counter b = ap (λ es. record { id = record { counter = counter; replica = replica }; doc = doc; deps = es; body = b }) c in (
+numbered_fit : (before : List Op) (replica doc : ℕ) (token : Option ℕ) (counter : ℕ) (clock : List (ℕ × ℕ)) (bs : List Body)
+    → clock ≡ clock_of before → greatest_counter before < counter → AreBodiesKnown before replica doc token counter bs
+    → FitInTurn before doc (numbered replica doc token counter clock bs)
+numbered_fit before replica doc token counter clock [] c g k = tt
+numbered_fit before replica doc token counter clock (b ∷ bs) c g k =
+    let op : Op = record { id = record { counter = counter; replica = replica }; doc = doc; token = token; deps = clock; body = b } in
+    let same : op ≡ made_op before replica doc token counter b = ap (λ es. record { id = record { counter = counter; replica = replica }; doc = doc; token = token; deps = es; body = b }) c in (
       λ here. fits_by_clock before op c g k.0,
-      numbered_fit (before ++ op ∷ []) replica doc (counter + 1) (advanced clock replica) bs
+      numbered_fit (before ++ op ∷ []) replica doc token (counter + 1) (advanced clock replica) bs
           (ap (λ es. advanced es replica) c ∙ sym (clock-push before op))
           (rw (greatest-push before op) (omega arith))
           (rw (← same) at k.1),
@@ -96,32 +96,32 @@ all_known_still : (before : List Op) (op : Op) (doc : ℕ) (bs : List Body) → 
 all_known_still before op doc [] h = tt
 all_known_still before op doc (b ∷ bs) h = (all_still before op doc (named_by b) h.0, all_known_still before op doc bs h.1)
 
-bodies_known : (before : List Op) (replica doc counter : ℕ) (bs : List Body) → AreAllKnown before doc bs
-    → AreBodiesKnown before replica doc counter bs
-bodies_known before replica doc counter [] h = tt
-bodies_known before replica doc counter (b ∷ bs) h =
-    (h.0, bodies_known (before ++ made_op before replica doc counter b ∷ []) replica doc (counter + 1) bs (all_known_still before (made_op before replica doc counter b) doc bs h.1))
+bodies_known : (before : List Op) (replica doc : ℕ) (token : Option ℕ) (counter : ℕ) (bs : List Body) → AreAllKnown before doc bs
+    → AreBodiesKnown before replica doc token counter bs
+bodies_known before replica doc token counter [] h = tt
+bodies_known before replica doc token counter (b ∷ bs) h =
+    (h.0, bodies_known (before ++ made_op before replica doc token counter b ∷ []) replica doc token (counter + 1) bs (all_known_still before (made_op before replica doc token counter b) doc bs h.1))
 
 -- an origin, if there is one, is known
 abbrev IsOriginKnown : List Op → ℕ → Option Id → Type 0
 IsOriginKnown before doc origin = list_all (λ id. has_id (characters before doc) id) (optional origin) ≡ true
 
-just_inserted : (before : List Op) (replica doc counter : ℕ) (origin : Option Id) (value : ℕ) → has_id (characters (before ++ made_op before replica doc counter (body.Insert origin value) ∷ []) doc) (record { counter = counter; replica = replica }) ≡ true
-just_inserted before replica doc counter origin value =
+just_inserted : (before : List Op) (replica doc : ℕ) (token : Option ℕ) (counter : ℕ) (origin : Option Id) (value : ℕ) → has_id (characters (before ++ made_op before replica doc token counter (body.Insert origin value) ∷ []) doc) (record { counter = counter; replica = replica }) ≡ true
+just_inserted before replica doc token counter origin value =
     let id : Id = record { counter = counter; replica = replica } in
-    let op : Op = made_op before replica doc counter (body.Insert origin value) in
+    let op : Op = made_op before replica doc token counter (body.Insert origin value) in
     let last : is_insert_at doc id op ≡ true = and_from (is_same id id && doc == doc) true (and_from (is_same id id) (doc == doc) (same_itself id) (eq-eqb doc doc refl)) refl in
     insert_found (before ++ op ∷ []) doc id
     (list_any-append (is_insert_at doc id) before (op ∷ []) ∙ or_right (list_any (is_insert_at doc id) before) (list_any (is_insert_at doc id) (op ∷ [])) (or_left (is_insert_at doc id op) false last))
 
-inserts_known : (before : List Op) (replica doc counter : ℕ) (origin : Option Id) (values : List ℕ)
+inserts_known : (before : List Op) (replica doc : ℕ) (token : Option ℕ) (counter : ℕ) (origin : Option Id) (values : List ℕ)
     → IsOriginKnown before doc origin
-    → AreBodiesKnown before replica doc counter (insert_bodies replica counter origin values)
-inserts_known before replica doc counter origin [] h = tt
-inserts_known before replica doc counter origin (v ∷ vs) h = (
+    → AreBodiesKnown before replica doc token counter (insert_bodies replica counter origin values)
+inserts_known before replica doc token counter origin [] h = tt
+inserts_known before replica doc token counter origin (v ∷ vs) h = (
   h,
-  inserts_known (before ++ made_op before replica doc counter (body.Insert origin v) ∷ []) replica doc (counter + 1) (Some (record { counter = counter; replica = replica })) vs
-      (and_from _ true (just_inserted before replica doc counter origin v) refl),
+  inserts_known (before ++ made_op before replica doc token counter (body.Insert origin v) ∷ []) replica doc token (counter + 1) (Some (record { counter = counter; replica = replica })) vs
+      (and_from _ true (just_inserted before replica doc token counter origin v) refl),
 )
 
 -- the ids of these are among all of them
@@ -250,27 +250,27 @@ removes_known : (ops : List Op) (doc : ℕ) (cs : List Character) → AreAmong (
 removes_known ops doc [] h = tt
 removes_known ops doc (c ∷ cs) h = (and_from (has_id (characters ops doc) c.id) true h.0 refl, removes_known ops doc cs h.1)
 
-change_known : (ops : List Op) (replica doc : ℕ) (c : Change)
-    → AreBodiesKnown ops replica doc (greatest_counter ops + 1) (bodies_of ops replica doc c)
-change_known ops replica doc (change.Insert at text) =
-    inserts_known ops replica doc (greatest_counter ops + 1) (origin_of ops doc at) text (optional_known ops doc (origin_of ops doc at) (origin_of_known ops doc at))
-change_known ops replica doc (change.Delete at count) =
-    bodies_known ops replica doc (greatest_counter ops + 1) _
+change_known : (ops : List Op) (replica doc : ℕ) (token : Option ℕ) (c : Change)
+    → AreBodiesKnown ops replica doc token (greatest_counter ops + 1) (bodies_of ops replica doc c)
+change_known ops replica doc token (change.Insert at text) =
+    inserts_known ops replica doc token (greatest_counter ops + 1) (origin_of ops doc at) text (optional_known ops doc (origin_of ops doc at) (origin_of_known ops doc at))
+change_known ops replica doc token (change.Delete at count) =
+    bodies_known ops replica doc token (greatest_counter ops + 1) _
     (removes_known ops doc (take count.value (drop at (visible ops doc)))
     (AreAmong-take (characters ops doc) count.value (drop at (visible ops doc)) (AreAmong-drop (characters ops doc) at (visible ops doc) (visible_known ops doc))))
-change_known ops replica doc (change.Mark from to mark) = (anchors_known ops doc (key_of mark) from to, tt)
-change_known ops replica doc (change.Unmark from to k) = (anchors_known ops doc k from to, tt)
+change_known ops replica doc token (change.Mark from to mark) = (anchors_known ops doc (key_of mark) from to, tt)
+change_known ops replica doc token (change.Unmark from to k) = (anchors_known ops doc k from to, tt)
 
 -- the operations of an edit may follow the list one after another
 pub made_follow : (ops : List Op) (replica : ℕ) (e : Edit) → is_within_limits (ops ++ made ops replica e) ≡ true
     → FollowInTurn ops (made ops replica e)
 made_follow ops replica e l =
-    numbered_follow ops replica e.doc (greatest_counter ops + 1) (clock_of ops) (bodies_of ops replica e.doc e.change) refl (omega arith) (change_known ops replica e.doc e.change) l
+    numbered_follow ops replica e.doc e.token (greatest_counter ops + 1) (clock_of ops) (bodies_of ops replica e.doc e.change) refl (omega arith) (change_known ops replica e.doc e.token e.change) l
 
 -- they fit the document in turn, whatever the limits say
 pub made_fit_in_turn : (ops : List Op) (replica : ℕ) (e : Edit) → FitInTurn ops e.doc (made ops replica e)
 made_fit_in_turn ops replica e =
-    numbered_fit ops replica e.doc (greatest_counter ops + 1) (clock_of ops) (bodies_of ops replica e.doc e.change) refl (omega arith) (change_known ops replica e.doc e.change)
+    numbered_fit ops replica e.doc e.token (greatest_counter ops + 1) (clock_of ops) (bodies_of ops replica e.doc e.change) refl (omega arith) (change_known ops replica e.doc e.token e.change)
 
 pub closed_made : (ops : List Op) (replica : ℕ) (e : Edit) → IsCausallyClosed ops
     → is_within_limits (ops ++ made ops replica e) ≡ true → IsCausallyClosed (ops ++ made ops replica e)

@@ -1,6 +1,6 @@
 -- A mark edit decides its key for the characters that it is put on, and changes no other decision.
 use Rattle.std.proofs.Common.{◌≡◌, ℕ, ◌+◌, ◌≤◌, ◌<◌, true, false, not, cond, ◌&&◌, List, [], ◌∷◌}
-use Rattle.std.proofs.Common.{◌++◌, length, filter, Some, None, arith, ap, refl, ◌∙◌, sym, subst}
+use Rattle.std.proofs.Common.{◌++◌, length, filter, Option, Some, None, arith, ap, refl, ◌∙◌, sym, subst}
 use Rattle.std.specs.Prelude.{nat_lt, nat_le}
 use Rattle.std.proofs.lemmas.Bool.{and_parts, ltb-true, leb-true}
 use Rattle.op_ids.specs.Id.{Id}
@@ -48,59 +48,59 @@ marking_decides ops doc from to k key op m front rest c h f d n e l less within 
     ∙ ap (λ r. cond (is_key m.key key && r) m.mark (decided (walk ops doc) (markings ops doc) (length front) key))
     (ap (λ cs. covers cs (length front) m) w ∙ covered)
 
-inside_parts : (from to n : ℕ) → (nat_lt from to && nat_le to n) ≡ true → (from < to) × (to ≤ n)
+pub inside_parts : (from to n : ℕ) → (nat_lt from to && nat_le to n) ≡ true → (from < to) × (to ≤ n)
 inside_parts from to n e = let p = and_parts (nat_lt from to) (nat_le to n) e in (ltb-true from to p.0, leb-true to n p.1)
 
 -- the list with the operations of a change
-abbrev with_change : List Op → ℕ → ℕ → Change → List Op
-with_change ops replica doc x = ops ++ numbered replica doc (greatest_counter ops + 1) (clock_of ops) (bodies_of ops replica doc x)
+abbrev with_change : List Op → ℕ → ℕ → Option ℕ → Change → List Op
+with_change ops replica doc token x = ops ++ numbered replica doc token (greatest_counter ops + 1) (clock_of ops) (bodies_of ops replica doc x)
 
-module _ (ops : List Op) (replica doc from to : ℕ) (key : MarkKey) (front rest : List Character) (c : Character) (h : IsCausallyClosed ops)
+module _ (ops : List Op) (replica doc : ℕ) (token : Option ℕ) (from to : ℕ) (key : MarkKey) (front rest : List Character) (c : Character) (h : IsCausallyClosed ops)
     (w : walk ops doc ≡ front ++ c ∷ rest) (v : is_removed ops doc c ≡ false) where
   mark_decides : (mark : Mark) → is_inside (length (visible ops doc)) (change.Mark from to mark) ≡ true
-      → FollowInTurn ops (numbered replica doc (greatest_counter ops + 1) (clock_of ops) (bodies_of ops replica doc (change.Mark from to mark)))
-      → decided (walk (with_change ops replica doc (change.Mark from to mark)) doc) (markings (with_change ops replica doc (change.Mark from to mark)) doc) (length front) key
+      → FollowInTurn ops (numbered replica doc token (greatest_counter ops + 1) (clock_of ops) (bodies_of ops replica doc (change.Mark from to mark)))
+      → decided (walk (with_change ops replica doc token (change.Mark from to mark)) doc) (markings (with_change ops replica doc token (change.Mark from to mark)) doc) (length front) key
       ≡ cond (is_key (key_of mark) key && is_between from to (shown_before ops doc front)) (Some mark) (decided (walk ops doc) (markings ops doc) (length front) key)
   mark_decides mark i f =
       let p = inside_parts from to (length (visible ops doc)) i in
       let id : Id = record { counter = greatest_counter ops + 1; replica = replica } in
       let m : Marking = record { id = id; key = key_of mark; mark = Some mark; start = start_of (visible ops doc) from; end = end_of (visible ops doc) (key_of mark) to } in
       marking_decides ops doc from to (key_of mark) key
-      (record { id = id; doc = doc; deps = clock_of ops; body = body.AddMark mark (start_of (visible ops doc) from) (end_of (visible ops doc) (key_of mark) to) })
+      (record { id = id; doc = doc; token = token; deps = clock_of ops; body = body.AddMark mark (start_of (visible ops doc) from) (end_of (visible ops doc) (key_of mark) to) })
       m front rest c h f.0 refl refl refl (omega arith) p.0 p.1 refl refl w v
 
   unmark_decides : (k : MarkKey) → is_inside (length (visible ops doc)) (change.Unmark from to k) ≡ true
-      → FollowInTurn ops (numbered replica doc (greatest_counter ops + 1) (clock_of ops) (bodies_of ops replica doc (change.Unmark from to k)))
-      → decided (walk (with_change ops replica doc (change.Unmark from to k)) doc) (markings (with_change ops replica doc (change.Unmark from to k)) doc) (length front) key
+      → FollowInTurn ops (numbered replica doc token (greatest_counter ops + 1) (clock_of ops) (bodies_of ops replica doc (change.Unmark from to k)))
+      → decided (walk (with_change ops replica doc token (change.Unmark from to k)) doc) (markings (with_change ops replica doc token (change.Unmark from to k)) doc) (length front) key
       ≡ cond (is_key k key && is_between from to (shown_before ops doc front)) None (decided (walk ops doc) (markings ops doc) (length front) key)
   unmark_decides k i f =
       let p = inside_parts from to (length (visible ops doc)) i in
       let id : Id = record { counter = greatest_counter ops + 1; replica = replica } in
       let m : Marking = record { id = id; key = k; mark = None; start = start_of (visible ops doc) from; end = end_of (visible ops doc) k to } in
       marking_decides ops doc from to k key
-      (record { id = id; doc = doc; deps = clock_of ops; body = body.RemoveMark k (start_of (visible ops doc) from) (end_of (visible ops doc) k to) })
+      (record { id = id; doc = doc; token = token; deps = clock_of ops; body = body.RemoveMark k (start_of (visible ops doc) from) (end_of (visible ops doc) k to) })
       m front rest c h f.0 refl refl refl (omega arith) p.0 p.1 refl refl w v
 
   -- the same of a change that is known to be one of these
   change_marks : (x : Change) (mark : Mark) → x ≡ change.Mark from to mark
       → is_inside (length (visible ops doc)) x ≡ true
-      → FollowInTurn ops (numbered replica doc (greatest_counter ops + 1) (clock_of ops) (bodies_of ops replica doc x))
-      → decided (walk (with_change ops replica doc x) doc) (markings (with_change ops replica doc x) doc) (length front) key
+      → FollowInTurn ops (numbered replica doc token (greatest_counter ops + 1) (clock_of ops) (bodies_of ops replica doc x))
+      → decided (walk (with_change ops replica doc token x) doc) (markings (with_change ops replica doc token x) doc) (length front) key
       ≡ cond (is_key (key_of mark) key && is_between from to (shown_before ops doc front)) (Some mark) (decided (walk ops doc) (markings ops doc) (length front) key)
   change_marks x mark s i f =
-      ap (λ y. decided (walk (with_change ops replica doc y) doc) (markings (with_change ops replica doc y) doc) (length front) key) s
+      ap (λ y. decided (walk (with_change ops replica doc token y) doc) (markings (with_change ops replica doc token y) doc) (length front) key) s
       ∙ mark_decides mark (ap (λ y. is_inside (length (visible ops doc)) y) (sym s) ∙ i)
-      (subst (λ y. FollowInTurn ops (numbered replica doc (greatest_counter ops + 1) (clock_of ops) (bodies_of ops replica doc y))) s f)
+      (subst (λ y. FollowInTurn ops (numbered replica doc token (greatest_counter ops + 1) (clock_of ops) (bodies_of ops replica doc y))) s f)
 
   change_unmarks : (x : Change) (k : MarkKey) → x ≡ change.Unmark from to k
       → is_inside (length (visible ops doc)) x ≡ true
-      → FollowInTurn ops (numbered replica doc (greatest_counter ops + 1) (clock_of ops) (bodies_of ops replica doc x))
-      → decided (walk (with_change ops replica doc x) doc) (markings (with_change ops replica doc x) doc) (length front) key
+      → FollowInTurn ops (numbered replica doc token (greatest_counter ops + 1) (clock_of ops) (bodies_of ops replica doc x))
+      → decided (walk (with_change ops replica doc token x) doc) (markings (with_change ops replica doc token x) doc) (length front) key
       ≡ cond (is_key k key && is_between from to (shown_before ops doc front)) None (decided (walk ops doc) (markings ops doc) (length front) key)
   change_unmarks x k s i f =
-      ap (λ y. decided (walk (with_change ops replica doc y) doc) (markings (with_change ops replica doc y) doc) (length front) key) s
+      ap (λ y. decided (walk (with_change ops replica doc token y) doc) (markings (with_change ops replica doc token y) doc) (length front) key) s
       ∙ unmark_decides k (ap (λ y. is_inside (length (visible ops doc)) y) (sym s) ∙ i)
-      (subst (λ y. FollowInTurn ops (numbered replica doc (greatest_counter ops + 1) (clock_of ops) (bodies_of ops replica doc y))) s f)
+      (subst (λ y. FollowInTurn ops (numbered replica doc token (greatest_counter ops + 1) (clock_of ops) (bodies_of ops replica doc y))) s f)
 
 pub made_marks : (ops : List Op) (replica : ℕ) (e : Edit) (from to : ℕ) (mark : Mark) (key : MarkKey) (front rest : List Character) (c : Character)
     → IsCausallyClosed ops → e.change ≡ change.Mark from to mark → is_inside (length (visible ops e.doc)) e.change ≡ true
@@ -108,7 +108,7 @@ pub made_marks : (ops : List Op) (replica : ℕ) (e : Edit) (from to : ℕ) (mar
     → decided (walk (ops ++ made ops replica e) e.doc) (markings (ops ++ made ops replica e) e.doc) (length front) key
     ≡ cond (is_key (key_of mark) key && is_between from to (shown_before ops e.doc front)) (Some mark) (decided (walk ops e.doc) (markings ops e.doc) (length front) key)
 made_marks ops replica e from to mark key front rest c h s i l w v =
-    change_marks ops replica e.doc from to key front rest c h w v e.change mark s i (made_follow ops replica e l)
+    change_marks ops replica e.doc e.token from to key front rest c h w v e.change mark s i (made_follow ops replica e l)
 
 pub made_unmarks : (ops : List Op) (replica : ℕ) (e : Edit) (from to : ℕ) (k key : MarkKey) (front rest : List Character) (c : Character)
     → IsCausallyClosed ops → e.change ≡ change.Unmark from to k → is_inside (length (visible ops e.doc)) e.change ≡ true
@@ -116,4 +116,4 @@ pub made_unmarks : (ops : List Op) (replica : ℕ) (e : Edit) (from to : ℕ) (k
     → decided (walk (ops ++ made ops replica e) e.doc) (markings (ops ++ made ops replica e) e.doc) (length front) key
     ≡ cond (is_key k key && is_between from to (shown_before ops e.doc front)) None (decided (walk ops e.doc) (markings ops e.doc) (length front) key)
 made_unmarks ops replica e from to k key front rest c h s i l w v =
-    change_unmarks ops replica e.doc from to key front rest c h w v e.change k s i (made_follow ops replica e l)
+    change_unmarks ops replica e.doc e.token from to key front rest c h w v e.change k s i (made_follow ops replica e l)

@@ -50,8 +50,8 @@ shown_same a b doc h cs =
 pub record IsCursor (ops : List Op) (doc at : ℕ) (front rest : List Character) : Type 0 where
   pub whole : walk ops doc ≡ front ++ rest
   pub last : last_or None front ≡ origin_of ops doc at
-  pub before : shown ops doc front ≡ take at (text ops doc)
-  pub behind : shown ops doc rest ≡ drop at (text ops doc)
+  pub seen_before : filter (λ c. not (is_removed ops doc c)) front ≡ take at (visible ops doc)
+  pub seen_behind : filter (λ c. not (is_removed ops doc c)) rest ≡ drop at (visible ops doc)
   pub ended : (id : Id) → ends_after ops doc id ≡ true → has_id (tombstones_at ops doc at) id ≡ true
       → has_id front id ≡ true
   pub shown_last : (id : Id) → id_before (visible ops doc) at ≡ Some id → has_id front id ≡ true
@@ -77,10 +77,8 @@ cursor_from ops doc at p t r f k = record {
       last_or-append None p t
       ∙ k.last (last_or None p)
       ∙ ap (λ b. last_or b (filter (λ c. ends_after ops doc c.id) (tombstones_at ops doc at))) f.last;
-  before = ap (λ xs. map (λ c. c.value) xs) (filter-append (λ c. not (is_removed ops doc c)) p t ∙ ap (λ xs. filter (λ c. not (is_removed ops doc c)) p ++ xs) k.shown ∙ append-nil (filter (λ c. not (is_removed ops doc c)) p) ∙ f.shown)
-      ∙ sym (take-map (λ c. c.value) at (visible ops doc));
-  behind = ap (λ xs. map (λ c. c.value) xs) (sym (ap (λ xs. xs ++ filter (λ c. not (is_removed ops doc c)) r) k.shown) ∙ sym (filter-append (λ c. not (is_removed ops doc c)) t r) ∙ ap (λ xs. filter (λ c. not (is_removed ops doc c)) xs) (sym k.whole) ∙ f.left)
-      ∙ sym (drop-map (λ c. c.value) at (visible ops doc));
+  seen_before = filter-append (λ c. not (is_removed ops doc c)) p t ∙ ap (λ xs. filter (λ c. not (is_removed ops doc c)) p ++ xs) k.shown ∙ append-nil (filter (λ c. not (is_removed ops doc c)) p) ∙ f.shown;
+  seen_behind = sym (ap (λ xs. xs ++ filter (λ c. not (is_removed ops doc c)) r) k.shown) ∙ sym (filter-append (λ c. not (is_removed ops doc c)) t r) ∙ ap (λ xs. filter (λ c. not (is_removed ops doc c)) xs) (sym k.whole) ∙ f.left;
   ended = λ id e h. list_any-append (λ c. is_same c.id id) p t ∙ or_right (has_id p id) (has_id t id) (k.has id (filtered_present (λ i. ends_after ops doc i) (tombstones_at ops doc at) id h e));
   shown_last = λ id e. list_any-append (λ c. is_same c.id id) p t ∙ or_left (has_id p id) (has_id t id) (last_present p id (f.last ∙ e));
 }
@@ -160,21 +158,21 @@ shown_new : (ops : List Op) (doc : ℕ) (c : Character) → is_removed ops doc c
     → shown ops doc (c ∷ []) ≡ c.value ∷ []
 shown_new ops doc c e = rw e refl
 
-typed : (vs : List ℕ) (ops : List Op) (replica doc counter : ℕ) (clock : List (ℕ × ℕ)) (origin : Option Id) (front rest : List Character)
+typed : (vs : List ℕ) (ops : List Op) (replica doc : ℕ) (token : Option ℕ) (counter : ℕ) (clock : List (ℕ × ℕ)) (origin : Option Id) (front rest : List Character)
     → IsOrderly ops doc
-    → FitInTurn ops doc (numbered replica doc counter clock (insert_bodies replica counter origin vs))
+    → FitInTurn ops doc (numbered replica doc token counter clock (insert_bodies replica counter origin vs))
     → greatest_counter ops < counter → walk ops doc ≡ front ++ rest → last_or None front ≡ origin
-    → text (ops ++ numbered replica doc counter clock (insert_bodies replica counter origin vs)) doc ≡ shown ops doc front ++ (vs ++ shown ops doc rest)
-typed [] ops replica doc counter clock origin front rest h f l w o =
+    → text (ops ++ numbered replica doc token counter clock (insert_bodies replica counter origin vs)) doc ≡ shown ops doc front ++ (vs ++ shown ops doc rest)
+typed [] ops replica doc token counter clock origin front rest h f l w o =
     ap (λ xs. text xs doc) (append-nil ops) ∙ ap (λ xs. shown ops doc xs) w ∙ shown-append ops doc front rest
-typed (v ∷ vs) ops replica doc counter clock origin front rest h f l w o =
+typed (v ∷ vs) ops replica doc token counter clock origin front rest h f l w o =
     let id : Id = record { counter = counter; replica = replica } in
     let c : Character = record { id = id; origin = origin; value = v } in
-    let op : Op = record { id = id; doc = doc; deps = clock; body = body.Insert origin v } in
-    let more : List Op = numbered replica doc (counter + 1) (advanced clock replica) (insert_bodies replica (counter + 1) (Some id) vs) in
+    let op : Op = record { id = id; doc = doc; token = token; deps = clock; body = body.Insert origin v } in
+    let more : List Op = numbered replica doc token (counter + 1) (advanced clock replica) (insert_bodies replica (counter + 1) (Some id) vs) in
     let same = removed_kept ops doc op (λ i. refl) in
     ap (λ xs. text xs doc) (sym (append_assoc ops (op ∷ []) more))
-    ∙ typed vs (ops ++ op ∷ []) replica doc (counter + 1) (advanced clock replica) (Some id) (front ++ c ∷ []) rest
+    ∙ typed vs (ops ++ op ∷ []) replica doc token (counter + 1) (advanced clock replica) (Some id) (front ++ c ∷ []) rest
     (orderly_push ops doc op h f.0) f.1 (rw (greatest-push ops op) (omega arith))
     (insert_step ops doc op c front rest h f.0 (character_here doc op refl) l w o) (last_or-append None front (c ∷ []))
     ∙ ap (λ xs. xs ++ (vs ++ shown (ops ++ op ∷ []) doc rest)) (shown-append (ops ++ op ∷ []) doc front (c ∷ []) ∙ ap (λ xs. shown (ops ++ op ∷ []) doc front ++ xs) (shown_new (ops ++ op ∷ []) doc c (same c ∙ not_removed ops doc c h l)))
@@ -183,29 +181,29 @@ typed (v ∷ vs) ops replica doc counter clock origin front rest h f l w o =
     ∙ ap (λ xs. shown ops doc front ++ (v ∷ (vs ++ xs))) (shown_same (ops ++ op ∷ []) ops doc same rest)
 
 -- the walk with the new characters, in one piece behind their origin
-pub walk_typed : (vs : List ℕ) (ops : List Op) (replica doc counter : ℕ) (clock : List (ℕ × ℕ)) (origin : Option Id)
+pub walk_typed : (vs : List ℕ) (ops : List Op) (replica doc : ℕ) (token : Option ℕ) (counter : ℕ) (clock : List (ℕ × ℕ)) (origin : Option Id)
     (front rest : List Character) → IsOrderly ops doc
-    → FitInTurn ops doc (numbered replica doc counter clock (insert_bodies replica counter origin vs))
+    → FitInTurn ops doc (numbered replica doc token counter clock (insert_bodies replica counter origin vs))
     → greatest_counter ops < counter → walk ops doc ≡ front ++ rest → last_or None front ≡ origin
-    → (new : List Character) × (walk (ops ++ numbered replica doc counter clock (insert_bodies replica counter origin vs)) doc ≡ front ++ (new ++ rest))
-walk_typed [] ops replica doc counter clock origin front rest h f l w o = ([], ap (λ xs. walk xs doc) (append-nil ops) ∙ w)
-walk_typed (v ∷ vs) ops replica doc counter clock origin front rest h f l w o =
+    → (new : List Character) × (walk (ops ++ numbered replica doc token counter clock (insert_bodies replica counter origin vs)) doc ≡ front ++ (new ++ rest))
+walk_typed [] ops replica doc token counter clock origin front rest h f l w o = ([], ap (λ xs. walk xs doc) (append-nil ops) ∙ w)
+walk_typed (v ∷ vs) ops replica doc token counter clock origin front rest h f l w o =
     let id : Id = record { counter = counter; replica = replica } in
     let c : Character = record { id = id; origin = origin; value = v } in
-    let op : Op = record { id = id; doc = doc; deps = clock; body = body.Insert origin v } in
-    let more : List Op = numbered replica doc (counter + 1) (advanced clock replica) (insert_bodies replica (counter + 1) (Some id) vs) in
-    let (new, e) = walk_typed vs (ops ++ op ∷ []) replica doc (counter + 1) (advanced clock replica) (Some id) (front ++ c ∷ []) rest
+    let op : Op = record { id = id; doc = doc; token = token; deps = clock; body = body.Insert origin v } in
+    let more : List Op = numbered replica doc token (counter + 1) (advanced clock replica) (insert_bodies replica (counter + 1) (Some id) vs) in
+    let (new, e) = walk_typed vs (ops ++ op ∷ []) replica doc token (counter + 1) (advanced clock replica) (Some id) (front ++ c ∷ []) rest
     (orderly_push ops doc op h f.0) f.1 (rw (greatest-push ops op) (omega arith))
     (insert_step ops doc op c front rest h f.0 (character_here doc op refl) l w o) (last_or-append None front (c ∷ [])) in
     (c ∷ new, ap (λ xs. walk xs doc) (sym (append_assoc ops (op ∷ []) more)) ∙ e ∙ append_assoc front (c ∷ []) (new ++ rest))
 
 -- an insert at an index of the text puts its characters there
-pub text_inserted : (ops : List Op) (replica doc at : ℕ) (added : List ℕ) → IsCausallyClosed ops
+pub text_inserted : (ops : List Op) (replica doc : ℕ) (token : Option ℕ) (at : ℕ) (added : List ℕ) → IsCausallyClosed ops
     → at ≤ length (visible ops doc)
-    → FollowInTurn ops (numbered replica doc (greatest_counter ops + 1) (clock_of ops) (bodies_of ops replica doc (change.Insert at added)))
-    → text (ops ++ numbered replica doc (greatest_counter ops + 1) (clock_of ops) (bodies_of ops replica doc (change.Insert at added))) doc ≡ take at (text ops doc) ++ (added ++ drop at (text ops doc))
-text_inserted ops replica doc at added h l f =
+    → FollowInTurn ops (numbered replica doc token (greatest_counter ops + 1) (clock_of ops) (bodies_of ops replica doc (change.Insert at added)))
+    → text (ops ++ numbered replica doc token (greatest_counter ops + 1) (clock_of ops) (bodies_of ops replica doc (change.Insert at added))) doc ≡ take at (text ops doc) ++ (added ++ drop at (text ops doc))
+text_inserted ops replica doc token at added h l f =
     let (front, rest, k) = cursor_of ops doc at l in
-    typed added ops replica doc (greatest_counter ops + 1) (clock_of ops) (origin_of ops doc at) front rest (closed_orderly ops doc h) (fits_in_turn ops _ doc f) (omega arith) k.whole k.last
-    ∙ ap (λ xs. xs ++ (added ++ shown ops doc rest)) k.before
-    ∙ ap (λ xs. take at (text ops doc) ++ (added ++ xs)) k.behind
+    typed added ops replica doc token (greatest_counter ops + 1) (clock_of ops) (origin_of ops doc at) front rest (closed_orderly ops doc h) (fits_in_turn ops _ doc f) (omega arith) k.whole k.last
+    ∙ ap (λ xs. xs ++ (added ++ shown ops doc rest)) (ap (λ xs. map (λ c. c.value) xs) k.seen_before ∙ sym (take-map (λ c. c.value) at (visible ops doc)))
+    ∙ ap (λ xs. take at (text ops doc) ++ (added ++ xs)) (ap (λ xs. map (λ c. c.value) xs) k.seen_behind ∙ sym (drop-map (λ c. c.value) at (visible ops doc)))

@@ -1,5 +1,5 @@
 -- What an edit does to the text that a reader sees, and to the marks that end where it inserts.
-use Rattle.std.specs.Prelude.{◌≡◌, ◌⊎◌, ℕ, ◌+◌, Bool, true, false, not, ◌&&◌, nat_le, nat_lt, List, ◌∷◌, ◌++◌, length, take, drop, filter, Some, Contains}
+use Rattle.std.specs.Prelude.{◌≡◌, ◌⊎◌, ℕ, ◌+◌, Bool, true, false, not, if◌then◌else◌, ◌&&◌, nat_le, nat_lt, List, [], ◌∷◌, ◌++◌, length, take, drop, filter, Some, Contains}
 use Rattle.op_ids.specs.Id.{Id}
 use Rattle.op_model.specs.declared.op.Op.{Op}
 use Rattle.op_model.specs.declared.anchor.Anchor.TheVariants.{After}
@@ -9,8 +9,11 @@ use Rattle.op_model.specs.declared.edit.Change.{Change}
 use Rattle.op_model.specs.declared.edit.Change.TheVariants.{Insert, Delete, Mark, Unmark}
 use Rattle.op_model.specs.declared.character.Character.{Character}
 use Rattle.op_model.specs.Text.{is_removed, visible}
-use Rattle.op_model.specs.Made.{tombstones_at, id_before}
+use Rattle.op_model.specs.declared.edit.Edit.{Edit}
+use Rattle.op_model.specs.Made.{tombstones_at, id_before, made}
 use Rattle.op_model.specs.Placing.{has_id}
+use Rattle.op_model.specs.declared.mark.MarkKey.{MarkKey}
+use Rattle.op_model.specs.declared.mark.MarkKey.TheVariants as key
 use Rattle.op_model.specs.Marks.{markings}
 use Rattle.op_model.specs.Places.{covers}
 use Rattle.op_model.specs.Walk.{walk}
@@ -34,6 +37,28 @@ EndedMarksStay ops doc at more = (m : Marking) (id : Id) (front rest : List Char
     → Contains (markings ops doc) m → m.end ≡ To (After id) → IsJustBefore ops doc at id
     → walk (ops ++ more) doc ≡ front ++ c ∷ rest → has_id (walk ops doc) c.id ≡ false
     → covers (walk (ops ++ more) doc) (length front) m ≡ false
+
+-- strong and em grow at their end, links and comments don't
+abbrev pub grows : MarkKey → Bool
+grows key.Strong = true
+grows key.Em = true
+grows key.Link = false
+grows (key.Comment id) = false
+
+-- a mark on the characters from one index of the text to another covers what is inserted at an index: behind its first character and
+-- before its end, and right at its end where it grows
+abbrev pub takes_in : MarkKey → ℕ → ℕ → ℕ → Bool
+takes_in key from to at = nat_lt from at && (if grows key then nat_le at to else nat_lt at to)
+
+-- where an edit, whose one mark operation is on the characters from one index to another, is followed by an insert at an index, that
+-- operation covers each new character, or none
+abbrev pub GrowsSo : List Op → ℕ → Edit → ℕ → Edit → MarkKey → ℕ → ℕ → ℕ → Type 0
+GrowsSo ops replica edit other later key from to at =
+    (m : Marking) (front rest : List Character) (c : Character) → markings (made ops replica edit) edit.doc ≡ m ∷ []
+    → walk ((ops ++ made ops replica edit) ++ made (ops ++ made ops replica edit) other later) edit.doc ≡ front ++ c ∷ rest
+    → has_id (walk (ops ++ made ops replica edit) edit.doc) c.id ≡ false
+    → covers (walk ((ops ++ made ops replica edit) ++ made (ops ++ made ops replica edit) other later) edit.doc) (length front) m
+    ≡ takes_in key from to at
 
 -- how many characters the text has in front of what stands behind these
 abbrev pub shown_before : List Op → ℕ → List Character → ℕ

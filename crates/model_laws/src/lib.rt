@@ -14,7 +14,7 @@ pub use edits::{
     edits_change_the_text, edits_keep_lists_closed, ended_marks_dont_grow, made_ids_are_greater,
     made_operations_fit,
 };
-pub use marking_edits::edits_mark_what_they_say;
+pub use marking_edits::{edits_mark_what_they_say, marks_grow_at_their_end};
 pub use one_more::{
     closed_lists_grow, ids_are_used_once, orderly_lists_grow, other_documents_stay,
 };

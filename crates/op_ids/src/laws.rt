@@ -1,11 +1,11 @@
 //! Laws of ids and clocks: calls that do nothing, and whose contracts are the laws.
-ghost use Rattle.std.specs.Prelude.{◌≡◌, ◌≢◌, ℕ, ◌+◌, ◌<◌, ◌⊎◌, ◌↔◌, IsTrue, true, false};
+ghost use Rattle.std.specs.Prelude.{◌≡◌, ◌≢◌, ℕ, ◌+◌, ◌^◌, ◌<◌, ◌⊎◌, ◌↔◌, IsTrue, true, false};
 ghost use Rattle.std.specs.Int.{w128, from_be_bytes, to_be_bytes};
 ghost use Rattle.fixed_numbers.specs.declared.limits.TheConstants.{MAX_COUNT};
 ghost use Rattle.op_ids.specs.Id.{is_below, is_same};
 ghost use Rattle.op_ids.specs.Clock.{count_of, advanced, is_rising_above};
 
-use crate::{Clock, OpId, ReplicaId};
+use crate::{Clock, OpId, ReplicaId, Token};
 
 /// No id is below itself.
 pub fn below_is_irreflexive(a: OpId)
@@ -30,6 +30,12 @@ pub fn same_is_exact(a: OpId, b: OpId)
 /// The number of a replica isn't 0.
 pub fn replica_is_not_nil(replica: ReplicaId)
     ensures { 0 < replica }
+{}
+
+/// The number of a token isn't 0, and has sixteen bytes.
+pub fn token_is_not_nil(token: Token)
+    ensures above_zero { 0 < token }
+    ensures sixteen { token < 2 ^ 128 }
 {}
 
 /// Any sixteen bytes are those of the number that they are read as.

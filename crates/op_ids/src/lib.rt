@@ -1,4 +1,5 @@
-//! Names that are unique among all peers: replicas, operations, and clocks that count operations.
+//! Names that are unique among all peers: replicas, operations, tokens of edits, and clocks that
+//! count operations.
 #![tactic(auto)]
 
 mod clock;
@@ -7,8 +8,10 @@ pub mod laws;
 mod op_id;
 mod replica_id;
 mod several;
+mod token;
 
 pub use clock::Clock;
 pub use clock_error::ClockError;
 pub use op_id::OpId;
 pub use replica_id::ReplicaId;
+pub use token::Token;

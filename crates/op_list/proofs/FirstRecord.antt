@@ -6,13 +6,14 @@ use Rattle.op_model.specs.declared.op.Op.{Op}
 use Rattle.op_model.specs.declared.op.Body.{Body}
 use Rattle.op_model.specs.declared.op.Body.TheVariants.{Insert, Remove, AddMark, RemoveMark}
 use Rattle.change_codec.specs.declared.codec_error.CodecError.{CodecError}
+use Rattle.change_codec.specs.declared.format.Format.TheVariants.{Third}
 use Rattle.change_codec.specs.declared.head.Head.{Head}
 use Rattle.change_codec.specs.Fits.{IsOperation}
 use Rattle.change_codec.specs.Heads.{kind_of, head_of as codec_head_of}
 use Rattle.change_codec.specs.Record.{taken, BeginsWithOp}
 use Rattle.change_codec.specs.Spelling.{spelled}
 use Rattle.change_codec.specs.Stream.{spelled_all, AreOperations}
-use Rattle.change_codec.proofs.RecordLaws.{begins_taken}
+use Rattle.change_codec.proofs.RecordLaws.{begins_taken, of_third}
 use Rattle.op_list.specs.Heads.{head_of, heads, is_insert_kind, recorded}
 use Rattle.op_list.specs.declared.head.OpHead.{OpHead}
 
@@ -53,8 +54,8 @@ same_reading r f g a b = let c : Ok (Some f) ≡ r = sym a in let d = c ∙ b in
 -- bytes begin with one operation
 pub begins_one : (bytes : List ℕ) (a b : Op) (n m : ℕ) → BeginsWithOp bytes a n → BeginsWithOp bytes b m → a ≡ b
 begins_one bytes a b n m one two =
-    same_reading (taken bytes) (a, n) (b, m) (begins_taken bytes a n one)
-    (begins_taken bytes b m two)
+    same_reading (taken Third bytes) (a, n) (b, m) (begins_taken Third bytes a n (of_third a) one)
+    (begins_taken Third bytes b m (of_third b) two)
 
 -- what begins the records from the i-th on is the i-th
 pub is_at : (bytes : List ℕ) (ops : List Op) (i n : ℕ) (op d : Op) → First bytes ops i

@@ -6,9 +6,10 @@ use Rattle.std.proofs.lemmas.List.{append-nil, take_at, drop_at, take-append-dro
 use Rattle.op_model.specs.declared.op.Op.{Op}
 use Rattle.op_model.specs.Records.{stream_length}
 use Rattle.change_codec.specs.Spelling.{spelled}
+use Rattle.change_codec.specs.declared.format.Format.TheVariants.{Third}
 use Rattle.change_codec.specs.Record.{taken}
 use Rattle.change_codec.specs.Stream.{spelled_all, AreOperations}
-use Rattle.change_codec.proofs.RecordLaws.{spelled_taken}
+use Rattle.change_codec.proofs.RecordLaws.{spelled_taken, of_third}
 use Rattle.change_codec.proofs.StreamLaws.{spelled_all-append, length-spelled_all}
 use Rattle.op_list.specs.Held.{found_then, ops_in, held, ends_of, Holds, IsHeld}
 use Rattle.op_list.proofs.EndsOf.{end_at, length-ends_of, ends_of-take, ends_of-append, stream_length-append}
@@ -22,11 +23,11 @@ ops_in-spelled (op ∷ ops) rest fits =
     let tail = spelled_all ops ++ rest in
     let whole : (spelled op ++ spelled_all ops) ++ rest ≡ spelled op ++ tail =
     append_assoc (spelled op) (spelled_all ops) rest in
-    let read : taken (spelled op ++ tail) ≡ Ok (Some (op, length (spelled op))) =
-    spelled_taken op tail fits.0 in
+    let read : taken Third (spelled op ++ tail) ≡ Ok (Some (op, length (spelled op))) =
+    spelled_taken Third op tail (of_third op) fits.0 in
     let cut : drop (length (spelled op)) (spelled op ++ tail) ≡ tail =
     drop_at (spelled op) tail (length (spelled op)) refl in
-    ap (λ bytes. found_then (ops_in (length ops)) bytes (taken bytes)) whole
+    ap (λ bytes. found_then (ops_in (length ops)) bytes (taken Third bytes)) whole
     ∙ ap (found_then (ops_in (length ops)) (spelled op ++ tail)) read
     ∙ ap (λ bytes. op ∷ ops_in (length ops) bytes) cut
     ∙ ap (λ others. op ∷ others) (ops_in-spelled ops rest fits.1)

@@ -3,6 +3,8 @@ use Rattle.std.proofs.Common.{◌≡◌, ℕ, ◌+◌, ◌-◌, ◌<◌, ◌^◌
 use Rattle.std.proofs.lemmas.List.{append-nil, take-append-drop, length-append}
 use Rattle.op_model.specs.declared.op.Op.{Op}
 use Rattle.op_model.specs.Records.{record_length, stream_length}
+use Rattle.change_codec.specs.declared.format.Format.{Format}
+use Rattle.change_codec.specs.Formats.{IsOf}
 use Rattle.change_codec.specs.Spelling.{spelled}
 use Rattle.change_codec.specs.Record.{BeginsWithOp}
 use Rattle.change_codec.specs.Stream.{spelled_all, AreOperations, IsNoStream}
@@ -59,7 +61,7 @@ passed_all records rest ends ops passed none small =
     }
 
 -- no record stands behind those that were passed
-pub no_stream : (records rest ends : List ℕ) (ops : List Op) → Passed records rest ends ops
-    → 0 < length rest → ((op : Op) (n : ℕ) → BeginsWithOp rest op n → ⊥) → IsNoStream records
-no_stream records rest ends ops passed some none =
-    subst IsNoStream passed.all (no_stream_behind ops rest passed.fits (none_begins rest some none))
+pub no_stream : (format : Format) (records rest ends : List ℕ) (ops : List Op) → Passed records rest ends ops
+    → 0 < length rest → ((op : Op) (n : ℕ) → IsOf format op → BeginsWithOp rest op n → ⊥) → IsNoStream format records
+no_stream format records rest ends ops passed some none =
+    subst (IsNoStream format) passed.all (no_stream_behind format ops rest passed.fits (none_begins format rest some none))

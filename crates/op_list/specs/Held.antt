@@ -3,6 +3,7 @@ use Rattle.std.specs.Prelude.{◌≡◌, ℕ, zero, suc, ◌+◌, ◌<◌, ◌^�
 use Rattle.op_model.specs.declared.op.Op.{Op}
 use Rattle.op_model.specs.Records.{record_length}
 use Rattle.change_codec.specs.declared.codec_error.CodecError.{CodecError}
+use Rattle.change_codec.specs.declared.format.Format.TheVariants.{Third}
 use Rattle.change_codec.specs.Record.{taken}
 use Rattle.change_codec.specs.Stream.{spelled_all, AreOperations}
 
@@ -12,10 +13,10 @@ found_then behind bytes (Ok (Some found)) = found.0 ∷ behind (drop found.1 byt
 found_then behind bytes (Ok None) = []
 found_then behind bytes (Err e) = []
 
--- the first n operations that are read from bytes
+-- the first n operations that are read from bytes, with tokens where they have some
 unfoldable pub ops_in : ℕ → List ℕ → List Op
 ops_in zero bytes = []
-ops_in (suc n) bytes = found_then (ops_in n) bytes (taken bytes)
+ops_in (suc n) bytes = found_then (ops_in n) bytes (taken Third bytes)
 
 -- the operations of records, as many as there are ends
 abbrev pub held : List ℕ → List ℕ → List Op

@@ -1,26 +1,28 @@
 //! Where records end, in bytes from the beginning.
 ghost use Rattle.std.specs.Prelude.{◌≡◌, ◌+◌, ◌<◌, ◌≤◌, ◌^◌, ◌++◌, List, length, vec_len, vec_capacity, IfOk, IsErrOf};
 ghost use Rattle.change_codec.specs.declared.stream_error.StreamError.TheVariants.{Stream};
+ghost use Rattle.change_codec.specs.Formats.{AreOf};
 ghost use Rattle.change_codec.specs.Stream.{IsNoStream};
 ghost use Rattle.op_list.specs.Held.{ends_of, Holds};
 ghost use Rattle.op_model.specs.Records.{stream_length};
 ghost use Rattle.op_model.specs.declared.op.Op.{Op as Operation};
 
-use change_codec::{StreamError, skip_op};
+use change_codec::{Format, StreamError, skip_op};
 use op_model::Op;
 use std::alloc::{AllocError, Global};
 
-/// Where each of these records ends. `Stream` (46) where the bytes aren't the records of
-/// operations; `Memory` (1) says nothing of them. One pass.
-pub fn find_ends(alloc: Global, records: &[u8]) -> Result<Vec<u32>, StreamError>
+/// Where each of these records of a format ends. `Stream` (46) where the bytes aren't the records
+/// of its operations; `Memory` (1) says nothing of them. One pass.
+pub fn find_ends(alloc: Global, format: Format, records: &[u8]) -> Result<Vec<u32>, StreamError>
     requires { length records.now < 2 ^ 32 }
-    ensures ok { IfOk result (λ ends. (ops : List Operation) × Holds records.now ends.items ops) }
-    ensures none { IsErrOf result Stream → IsNoStream records.now }
+    ensures ok { IfOk result (λ ends. (ops : List Operation) × Holds records.now ends.items ops
+        × AreOf format ops) }
+    ensures none { IsErrOf result Stream → IsNoStream format records.now }
 {
     let mut ends = Vec::new(alloc);
     let mut rest = records;
     while !rest.is_empty() {
-        let Some(len) = skip_op(rest) else {
+        let Some(len) = skip_op(format, rest) else {
             return Err(StreamError::Stream);
         };
         rest = rest.split_at(len).1;

@@ -5,7 +5,7 @@ ghost use Rattle.op_model.specs.Records.{stream_length};
 ghost use Rattle.change_codec.specs.Stream.{spelled_all, AreOperations};
 
 use crate::head::OpHead;
-use change_codec::{CodecError, StreamError, record_head, take_op, take_ops};
+use change_codec::{CodecError, Format, StreamError, record_head, take_op, take_ops};
 use op_model::Op;
 use std::alloc::{AllocError, Global};
 use std::marker::Model;
@@ -70,7 +70,7 @@ impl<'a> OpSlice<'a> {
         requires { i < length self.now }
         ensures { IfOk result (λ op. op ≡ slice_index_or self.now i op) }
     {
-        match take_op(alloc, self.records_from(i)) {
+        match take_op(alloc, Format::Third, self.records_from(i)) {
             Ok(Some((op, _))) => Ok(op),
             Ok(None) => unreachable!(),
             Err(CodecError::Memory) => Err(AllocError),
@@ -84,7 +84,7 @@ impl<'a> OpSlice<'a> {
         requires { n ≤ length self.now }
         ensures { IfOk result (λ ops. ops.items ≡ drop n self.now) }
     {
-        match take_ops(alloc, self.records_from(n)) {
+        match take_ops(alloc, Format::Third, self.records_from(n)) {
             Ok(ops) => Ok(ops),
             Err(StreamError::Memory) => Err(AllocError),
             Err(StreamError::Stream) => unreachable!(),

@@ -1,5 +1,5 @@
 use super::*;
-use change_codec::{put_ops, stream_length};
+use change_codec::{Format, put_ops, stream_length};
 use op_ids::{Clock, OpId, ReplicaId};
 use op_model::{Anchor, Body, CommentId, End, Mark, MarkKey, Op, Start, Url};
 use std::alloc::Global;
@@ -20,6 +20,7 @@ fn op(alloc: Global, counter: u64, body: Body) -> Result<Op, Fail> {
     Ok(Op {
         id,
         doc: 7,
+        token: None,
         deps,
         body,
     })
@@ -82,7 +83,7 @@ fn read(alloc: Global, mut records: Vec<u8>, len: usize) -> Result<OpList, u8> {
     if records.as_slice().len() > 1_000 {
         return Err(0);
     }
-    OpList::read(alloc, records).map_err(|fault| fault.number())
+    OpList::read(alloc, Format::Third, records).map_err(|fault| fault.number())
 }
 
 #[test]

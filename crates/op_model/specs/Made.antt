@@ -111,12 +111,13 @@ abbrev pub greatest_counter : List Op → ℕ
 greatest_counter [] = 0
 greatest_counter (op ∷ ops) = max op.id.counter (greatest_counter ops)
 
--- an operation for each body, their counters rising by one: each counts those before it among what it depends on
-abbrev pub numbered : ℕ → ℕ → ℕ → List (ℕ × ℕ) → List Body → List Op
-numbered replica doc counter clock [] = []
-numbered replica doc counter clock (b ∷ bs) =
-    record { id = record { counter = counter; replica = replica }; doc = doc; deps = clock; body = b }
-    ∷ numbered replica doc (counter + 1) (advanced clock replica) bs
+-- an operation for each body, all with the same token, their counters rising by one: each counts those before it among what it
+-- depends on
+abbrev pub numbered : ℕ → ℕ → Option ℕ → ℕ → List (ℕ × ℕ) → List Body → List Op
+numbered replica doc token counter clock [] = []
+numbered replica doc token counter clock (b ∷ bs) =
+    record { id = record { counter = counter; replica = replica }; doc = doc; token = token; deps = clock; body = b }
+    ∷ numbered replica doc token (counter + 1) (advanced clock replica) bs
 
 -- inserts of characters, the first behind this origin, each later one behind the one before
 abbrev pub insert_bodies : ℕ → ℕ → Option Id → List ℕ → List Body
@@ -135,10 +136,10 @@ bodies_of ops replica doc (change.Unmark from to key) =
     body.RemoveMark key (start_of (visible ops doc) from) (end_of (visible ops doc) key to) ∷ []
 
 -- the operations that an edit adds to a replica's list: the first has the counter one above the greatest in the list and
--- depends on all of the list
+-- depends on all of the list, and all carry the edit's token
 abbrev pub made : List Op → ℕ → Edit → List Op
 made ops replica e =
-    numbered replica e.doc (greatest_counter ops + 1) (clock_of ops) (bodies_of ops replica e.doc e.change)
+    numbered replica e.doc e.token (greatest_counter ops + 1) (clock_of ops) (bodies_of ops replica e.doc e.change)
 
 -- the document has this number of operations, where one is asked for
 abbrev pub is_at_rev : ℕ → Option ℕ → Bool

@@ -53,9 +53,14 @@ body_length (RemoveMark key start end) = key_length key + start_length start + e
 abbrev pub head_length : ℕ → ℕ
 head_length deps = 34 + 24 * deps
 
--- the head, for as many deps as the operation has, and the content
+-- 16 bytes for a token, if there is one
+abbrev pub token_length : Option ℕ → ℕ
+token_length None = 0
+token_length (Some token) = 16
+
+-- the head, for as many deps as the operation has, the token and the content
 abbrev pub record_length : Op → ℕ
-record_length op = head_length (length op.deps) + body_length op.body
+record_length op = head_length (length op.deps) + token_length op.token + body_length op.body
 
 -- the records of all operations, one after another
 abbrev pub stream_length : List Op → ℕ

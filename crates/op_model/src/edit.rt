@@ -6,6 +6,7 @@ ghost use lib.Pointwise.{pointwise};
 
 use crate::mark::{Mark, MarkKey};
 use crate::text::Text;
+use op_ids::Token;
 use std::alloc::AllocError;
 use std::marker::Model;
 use std::num::NonZeroU32;
@@ -76,6 +77,8 @@ pub struct Edit {
     /// Where it is there, the edit is refused unless the document has just this number of
     /// operations.
     pub rev: Option<u32>,
+    /// The name by which the edit acts once, if it has one: all its operations carry it.
+    pub token: Option<Token>,
     pub change: Change,
 }
 
@@ -128,6 +131,7 @@ impl Edit {
         Ok(Edit {
             doc: self.doc,
             rev: self.rev,
+            token: self.token,
             change: self.change.copy()?,
         })
     }

@@ -24,6 +24,13 @@ pub fn head_length(deps: usize) -> u64
     34 + ID_LENGTH * deps as u64
 }
 
+/// How many bytes a token takes: sixteen, or none where there is none. Constant.
+pub fn token_length(has_token: bool) -> u64
+    ensures { result ≡ (if has_token then 16 else 0) }
+{
+    if has_token { 16 } else { 0 }
+}
+
 /// How many bytes an origin, a start or an end takes: a tag, and an id where it names a character.
 /// Constant.
 pub fn place_length(has_id: bool) -> u64
@@ -40,12 +47,14 @@ pub fn insert_length(has_origin: bool) -> u64
 }
 
 impl Op {
-    /// How many bytes the operation's record takes: at most 1,495. Constant.
+    /// How many bytes the operation's record takes: at most 1,511. Constant.
     pub fn record_length(&self) -> u64
         ensures value { result ≡ length_of self.now }
-        ensures within { result ≤ 1495 }
+        ensures within { result ≤ 1511 }
     {
-        head_length(self.deps.len()) + self.body.record_length()
+        head_length(self.deps.len())
+            + token_length(self.token.is_some())
+            + self.body.record_length()
     }
 }
 

@@ -23,7 +23,7 @@ pub use anchor::{Anchor, End, Start};
 pub use character::Character;
 pub use comment_id::{CommentId, CommentIds};
 pub use edit::{Change, Edit, EditText};
-pub use lengths::{ID_LENGTH, head_length, insert_length, place_length};
+pub use lengths::{ID_LENGTH, head_length, insert_length, place_length, token_length};
 pub use mark::{Mark, MarkKey, Marks};
 pub use marking::Marking;
 pub use numbering::{insert_bodies, numbered};

@@ -5,7 +5,7 @@ ghost use Rattle.op_ids.specs.Clock.{advanced_by, is_clock};
 ghost use Rattle.op_model.specs.Made.{numbered as numbered_from, insert_bodies as insert_bodies_of};
 
 use crate::op::{Body, Op};
-use op_ids::{Clock, ClockError, OpId, ReplicaId};
+use op_ids::{Clock, ClockError, OpId, ReplicaId, Token};
 use std::alloc::{AllocError, Global};
 
 /// Inserts of characters, the first behind this origin, or at the beginning where there is none,
@@ -37,13 +37,14 @@ pub fn insert_bodies(
     Ok(bodies)
 }
 
-/// An operation of a document for each body, their counters rising by one from this one on. The
-/// first depends on this clock, each later one also on those before it. An error is want of memory
-/// (1).
+/// An operation of a document for each body, their counters rising by one from this one on, each
+/// with this token, if there is one. The first depends on this clock, each later one also on those
+/// before it. An error is want of memory (1).
 pub fn numbered(
     alloc: Global,
     replica: ReplicaId,
     doc: u32,
+    token: Option<Token>,
     counter: u64,
     clock: &Clock,
     bodies: &[Body],
@@ -53,7 +54,7 @@ pub fn numbered(
     requires valid { is_clock clock.now ≡ true }
     requires room { is_clock (advanced_by clock.now replica (length bodies.now)) ≡ true }
     ensures { IfOk result (λ made. made.items
-        ≡ numbered_from replica doc counter clock.now bodies.now) }
+        ≡ numbered_from replica doc token counter clock.now bodies.now) }
 {
     let mut ops = Vec::with_capacity(alloc, bodies.len())?;
     let mut clock = clock.copy()?;
@@ -63,6 +64,7 @@ pub fn numbered(
         ops.push(Op {
             id,
             doc,
+            token,
             deps: clock.copy()?,
             body: body.copy()?,
         })?;

@@ -6,7 +6,7 @@ use crate::anchor::{End, Start};
 use crate::character::Character;
 use crate::mark::{Mark, MarkKey};
 use crate::marking::Marking;
-use op_ids::{Clock, OpId};
+use op_ids::{Clock, OpId, Token};
 use std::alloc::AllocError;
 
 /// An operation, as one replica makes it and all others apply it.
@@ -16,6 +16,8 @@ pub struct Op {
     /// The number of its document, from 1 on. A document of number 0 is refused when the operation
     /// is merged.
     pub doc: u32,
+    /// The token of the edit that it was made for, if that had one.
+    pub token: Option<Token>,
     /// The clock of its replica just before it was made, over all documents.
     pub deps: Clock,
     pub body: Body,
@@ -81,6 +83,7 @@ impl Op {
         Ok(Op {
             id: self.id,
             doc: self.doc,
+            token: self.token,
             deps: self.deps.copy()?,
             body: self.body.copy()?,
         })

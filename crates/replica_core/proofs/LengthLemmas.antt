@@ -20,7 +20,7 @@ use Rattle.op_model.specs.declared.character.Character.{Character}
 use Rattle.op_model.specs.Causality.{clock_of}
 use Rattle.op_model.specs.Made.{tombstones_at, is_inside, end_of, ends_after, last_or, id_at, id_before, origin_of, start_before, end_before}
 use Rattle.op_model.specs.Made.{end_after, greatest_counter, numbered, insert_bodies, bodies_of, made, size_of}
-use Rattle.op_model.specs.Records.{origin_length, head_length, start_length, end_length, mark_length, key_length, stream_length}
+use Rattle.op_model.specs.Records.{origin_length, head_length, start_length, end_length, mark_length, key_length, token_length, stream_length}
 use Rattle.op_model.specs.Text.{visible}
 use Rattle.model_laws.specs.Asking.{IsAskedRight}
 use Rattle.model_laws.proofs.EditLimits.{length-bodies_of}
@@ -127,18 +127,19 @@ pub length-advanced_old : (es : List (ℕ × ℕ)) (r : ℕ) → is_clock es ≡
 length-advanced_old es r is_it some = let more = length-advanced es r is_it in grind (arith, nat_tests)
 
 -- the records of operations of a replica that their clock counts
-stream_length-later : (replica doc counter : ℕ) (clock : List (ℕ × ℕ)) (bs : List Body) → length (advanced clock replica) ≡ length clock
-    → stream_length (numbered replica doc counter clock bs) ≡ head_length (length clock) * length bs + lengths bs
-stream_length-later replica doc counter clock [] same = omega arith
-stream_length-later replica doc counter clock (b ∷ bs) same =
-    let rest = stream_length-later replica doc (counter + 1) (advanced clock replica) bs (length-advanced_twice clock replica) in
+stream_length-later : (replica doc : ℕ) (token : Option ℕ) (counter : ℕ) (clock : List (ℕ × ℕ)) (bs : List Body) → length (advanced clock replica) ≡ length clock
+    → stream_length (numbered replica doc token counter clock bs) ≡ head_length (length clock) * length bs + token_length token * length bs + lengths bs
+stream_length-later replica doc token counter clock [] same = omega arith
+stream_length-later replica doc token counter clock (b ∷ bs) same =
+    let rest = stream_length-later replica doc token (counter + 1) (advanced clock replica) bs (length-advanced_twice clock replica) in
     rw (rest, same) (omega arith)
 
-stream_length-numbered : (replica doc counter : ℕ) (clock : List (ℕ × ℕ)) (bs : List Body) (later : ℕ) → 0 < length bs → later ≡ length (advanced clock replica)
-    → stream_length (numbered replica doc counter clock bs) ≡ (head_length (length clock) + head_length later * (length bs - 1)) + lengths bs
-stream_length-numbered replica doc counter clock [] later some is_it = absurd (omega arith)
-stream_length-numbered replica doc counter clock (b ∷ bs) later some is_it =
-    let rest = stream_length-later replica doc (counter + 1) (advanced clock replica) bs (length-advanced_twice clock replica) in
+stream_length-numbered : (replica doc : ℕ) (token : Option ℕ) (counter : ℕ) (clock : List (ℕ × ℕ)) (bs : List Body) (later : ℕ) → 0 < length bs → later ≡ length (advanced clock replica)
+    → stream_length (numbered replica doc token counter clock bs)
+    ≡ (head_length (length clock) + head_length later * (length bs - 1)) + token_length token * length bs + lengths bs
+stream_length-numbered replica doc token counter clock [] later some is_it = absurd (omega arith)
+stream_length-numbered replica doc token counter clock (b ∷ bs) later some is_it =
+    let rest = stream_length-later replica doc token (counter + 1) (advanced clock replica) bs (length-advanced_twice clock replica) in
     let one : suc (length bs) - 1 ≡ length bs = omega arith in
     rw (rest, ← is_it, one) (omega arith)
 
@@ -146,10 +147,10 @@ stream_length-numbered replica doc counter clock (b ∷ bs) later some is_it =
 pub stream_length-made : (ops : List Op) (replica : ℕ) (e : Edit) (later : ℕ) → IsAskedRight ops e → 0 < size_of e.change
     → later ≡ length (advanced (clock_of ops) replica)
     → stream_length (made ops replica e)
-    ≡ (head_length (length (clock_of ops)) + head_length later * (size_of e.change - 1)) + lengths (bodies_of ops replica e.doc e.change)
+    ≡ (head_length (length (clock_of ops)) + head_length later * (size_of e.change - 1)) + token_length e.token * size_of e.change + lengths (bodies_of ops replica e.doc e.change)
 stream_length-made ops replica e later right some is_it =
     let many = length-bodies_of ops replica e.doc e.change right.inside in
-    let all = stream_length-numbered replica e.doc (greatest_counter ops + 1) (clock_of ops) (bodies_of ops replica e.doc e.change) later (omega arith) is_it in
+    let all = stream_length-numbered replica e.doc e.token (greatest_counter ops + 1) (clock_of ops) (bodies_of ops replica e.doc e.change) later (omega arith) is_it in
     all ∙ (rw many refl)
 
 -- the contents of an insert's records

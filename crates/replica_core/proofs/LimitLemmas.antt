@@ -1,5 +1,5 @@
 -- The limits of a store behind an edit.
-use Rattle.std.proofs.Common.{◌≡◌, ℕ, ◌+◌, ◌≤◌, ◌<◌, Bool, true, false, ◌&&◌, nat_le, nat_lt, List, [], ◌∷◌, ◌++◌, length, refl, sym, ◌∙◌, ap}
+use Rattle.std.proofs.Common.{◌≡◌, ℕ, ◌+◌, ◌≤◌, ◌<◌, Bool, true, false, ◌&&◌, nat_le, nat_lt, Option, List, [], ◌∷◌, ◌++◌, length, refl, sym, ◌∙◌, ap}
 use Rattle.std.proofs.Common.{append_assoc, append-nil, arith}
 use Rattle.std.specs.List.{list_all}
 use Rattle.std.proofs.lemmas.Bool.{false≢true, lt-ltb, le-leb}
@@ -38,10 +38,10 @@ second_false : (first second room : Bool) → second ≡ false → ((first && se
 second_false first second room none = grind (arith, nat_tests)
 
 -- an operation of document 0 is out of range
-in_range-no_document : (replica doc counter : ℕ) (clock : List (ℕ × ℕ)) (bs : List Body) → doc ≡ 0 → 0 < length bs
-    → list_all is_in_range (numbered replica doc counter clock bs) ≡ false
-in_range-no_document replica doc counter clock [] none some = absurd (omega arith)
-in_range-no_document replica doc counter clock (b ∷ bs) none some =
+in_range-no_document : (replica doc : ℕ) (token : Option ℕ) (counter : ℕ) (clock : List (ℕ × ℕ)) (bs : List Body) → doc ≡ 0 → 0 < length bs
+    → list_all is_in_range (numbered replica doc token counter clock bs) ≡ false
+in_range-no_document replica doc token counter clock [] none some = absurd (omega arith)
+in_range-no_document replica doc token counter clock (b ∷ bs) none some =
     third_false (nat_lt 0 counter) (nat_lt counter 281474976710656) (nat_lt 0 doc) (nat_lt doc 4294967296) _ (rw none refl)
 
 -- an edit that asks right makes some operation
@@ -52,7 +52,7 @@ some_body ops replica e right some = let many = length-bodies_of ops replica e.d
 pub is_within_limits-no_document : (ops : List Op) (replica : ℕ) (e : Edit) → IsAskedRight ops e → 0 < size_of e.change → e.doc ≡ 0
     → is_within_limits (ops ++ made ops replica e) ≡ false
 is_within_limits-no_document ops replica e right some none =
-    let out = in_range-no_document replica e.doc (greatest_counter ops + 1) (clock_of ops) (bodies_of ops replica e.doc e.change) none (some_body ops replica e right some) in
+    let out = in_range-no_document replica e.doc e.token (greatest_counter ops + 1) (clock_of ops) (bodies_of ops replica e.doc e.change) none (some_body ops replica e right some) in
     rw (list_all-append is_in_range ops (made ops replica e))
     (second_false (list_all is_in_range ops) (list_all is_in_range (made ops replica e)) (has_room (ops ++ made ops replica e)) out)
 
@@ -71,13 +71,13 @@ is_within_limits-overfull ops replica e right some full =
 four_true : (a b c d rest : Bool) → a ≡ true → b ≡ true → c ≡ true → d ≡ true → rest ≡ true → ((a && b && c && d) && rest) ≡ true
 four_true a b c d rest e f g h k = grind (arith, nat_tests)
 
-in_range-numbered : (replica doc counter last : ℕ) (clock : List (ℕ × ℕ)) (bs : List Body) → 0 < counter → counter + length bs ≤ last → last ≡ 281474976710656
-    → nat_lt 0 doc ≡ true → nat_lt doc 4294967296 ≡ true → list_all is_in_range (numbered replica doc counter clock bs) ≡ true
-in_range-numbered replica doc counter last clock [] above below is_last some small = refl
-in_range-numbered replica doc counter last clock (b ∷ bs) above below is_last some small =
+in_range-numbered : (replica doc : ℕ) (token : Option ℕ) (counter last : ℕ) (clock : List (ℕ × ℕ)) (bs : List Body) → 0 < counter → counter + length bs ≤ last → last ≡ 281474976710656
+    → nat_lt 0 doc ≡ true → nat_lt doc 4294967296 ≡ true → list_all is_in_range (numbered replica doc token counter clock bs) ≡ true
+in_range-numbered replica doc token counter last clock [] above below is_last some small = refl
+in_range-numbered replica doc token counter last clock (b ∷ bs) above below is_last some small =
     four_true (nat_lt 0 counter) (nat_lt counter 281474976710656) (nat_lt 0 doc) (nat_lt doc 4294967296) _
     (lt-ltb 0 counter above) (rw is_last at (lt-ltb counter last (omega arith))) some small
-    (in_range-numbered replica doc (counter + 1) last (advanced clock replica) bs (omega arith) (omega arith) is_last some small)
+    (in_range-numbered replica doc token (counter + 1) last (advanced clock replica) bs (omega arith) (omega arith) is_last some small)
 
 -- how long the clock is behind operations of one replica
 length-advanced_by : (clock : List (ℕ × ℕ)) (replica : ℕ) (bs : List Body) → length (advanced clock replica) ≡ length clock
@@ -101,27 +101,27 @@ number_twice : (n : ℕ) (ns : List ℕ) → with_number n (with_number n ns) �
 number_twice n [] = grind (arith, nat_tests)
 number_twice n (x ∷ ns) = let rest = number_twice n ns in grind (arith, nat_tests)
 
-documents-numbered : (ops : List Op) (replica doc counter : ℕ) (clock : List (ℕ × ℕ)) (bs : List Body) → 0 < length bs
-    → documents (ops ++ numbered replica doc counter clock bs) ≡ with_number doc (documents ops)
-documents-numbered ops replica doc counter clock [] some = absurd (omega arith)
-documents-numbered ops replica doc counter clock (b ∷ []) some = documents-push ops _
-documents-numbered ops replica doc counter clock (b ∷ d ∷ bs) some =
-    let op : Op = record { id = record { counter = counter; replica = replica }; doc = doc; deps = clock; body = b } in
-    let rest = numbered replica doc (counter + 1) (advanced clock replica) (d ∷ bs) in
+documents-numbered : (ops : List Op) (replica doc : ℕ) (token : Option ℕ) (counter : ℕ) (clock : List (ℕ × ℕ)) (bs : List Body) → 0 < length bs
+    → documents (ops ++ numbered replica doc token counter clock bs) ≡ with_number doc (documents ops)
+documents-numbered ops replica doc token counter clock [] some = absurd (omega arith)
+documents-numbered ops replica doc token counter clock (b ∷ []) some = documents-push ops _
+documents-numbered ops replica doc token counter clock (b ∷ d ∷ bs) some =
+    let op : Op = record { id = record { counter = counter; replica = replica }; doc = doc; token = token; deps = clock; body = b } in
+    let rest = numbered replica doc token (counter + 1) (advanced clock replica) (d ∷ bs) in
     ap documents (sym (append_assoc ops (op ∷ []) rest))
-    ∙ (documents-numbered (ops ++ op ∷ []) replica doc (counter + 1) (advanced clock replica) (d ∷ bs) (omega arith)
+    ∙ (documents-numbered (ops ++ op ∷ []) replica doc token (counter + 1) (advanced clock replica) (d ∷ bs) (omega arith)
     ∙ (ap (with_number doc) (documents-push ops op) ∙ number_twice doc (documents ops)))
 
 -- the documents with those of an edit
 pub documents-made : (ops : List Op) (replica : ℕ) (e : Edit) → IsAskedRight ops e → 0 < size_of e.change
     → documents (ops ++ made ops replica e) ≡ with_number e.doc (documents ops)
 documents-made ops replica e right some =
-    documents-numbered ops replica e.doc (greatest_counter ops + 1) (clock_of ops) (bodies_of ops replica e.doc e.change) (some_body ops replica e right some)
+    documents-numbered ops replica e.doc e.token (greatest_counter ops + 1) (clock_of ops) (bodies_of ops replica e.doc e.change) (some_body ops replica e right some)
 
 -- as many operations as the change makes
 pub length-made : (ops : List Op) (replica : ℕ) (e : Edit) → IsAskedRight ops e → length (made ops replica e) ≡ size_of e.change
 length-made ops replica e right =
-    length-numbered replica e.doc (greatest_counter ops + 1) (clock_of ops) (bodies_of ops replica e.doc e.change)
+    length-numbered replica e.doc e.token (greatest_counter ops + 1) (clock_of ops) (bodies_of ops replica e.doc e.change)
     ∙ length-bodies_of ops replica e.doc e.change right.inside
 
 and_first : (a b : Bool) → (a && b) ≡ true → a ≡ true
@@ -139,11 +139,11 @@ pub is_within_limits-made : (ops : List Op) (replica : ℕ) (e : Edit) (last : �
 is_within_limits-made ops replica e last closed right some below is_last there small fits =
     let bodies = bodies_of ops replica e.doc e.change in
     let many = length-bodies_of ops replica e.doc e.change right.inside in
-    let counters = in_range-numbered replica e.doc (greatest_counter ops + 1) last (clock_of ops) bodies (omega arith) (omega arith) is_last there small in
+    let counters = in_range-numbered replica e.doc e.token (greatest_counter ops + 1) last (clock_of ops) bodies (omega arith) (omega arith) is_last there small in
     let all : (list_all is_in_range ops && has_room ops) ≡ true = closed_within ops closed in
     let first : list_all is_in_range ops ≡ true = and_first (list_all is_in_range ops) (has_room ops) all in
     let long : length (clock_of (ops ++ made ops replica e)) ≡ length (advanced (clock_of ops) replica) =
-    ap length (clock_of-numbered ops replica e.doc (greatest_counter ops + 1) (clock_of ops) bodies) ∙ length-advanced_by_some (clock_of ops) replica bodies (some_body ops replica e right some) in
+    ap length (clock_of-numbered ops replica e.doc e.token (greatest_counter ops + 1) (clock_of ops) bodies) ∙ length-advanced_by_some (clock_of ops) replica bodies (some_body ops replica e right some) in
     let clocks : nat_le (length (clock_of (ops ++ made ops replica e))) 16 ≡ true = rw long (le-leb (length (advanced (clock_of ops) replica)) 16 (is_clock_parts (advanced (clock_of ops) replica) fits).1) in
     within-append ops (made ops replica e)
     ∙ (three_left (list_all is_in_range ops) (list_all is_in_range (made ops replica e)) (nat_le (length (clock_of (ops ++ made ops replica e))) 16) _ _ _ first counters clocks

@@ -78,32 +78,32 @@ list_fits ops more limits =
 pub due_fits : (ops : List Op) (replica : ℕ) (e : Edit) → edit_refusal ops replica e ≡ None → length ops + length (made ops replica e) ≤ 16777216
 due_fits ops replica e due = list_fits ops (made ops replica e) (due_within ops replica e due)
 
-numbered_own : (replica doc counter : ℕ) (clock : List (ℕ × ℕ)) (bs : List Body)
-    → made_by replica (numbered replica doc counter clock bs) ≡ numbered replica doc counter clock bs
-numbered_own replica doc counter clock [] = refl
-numbered_own replica doc counter clock (b ∷ bs) =
-    let op : Op = record { id = record { counter = counter; replica = replica }; doc = doc; deps = clock; body = b } in
-    rw (eq-eqb replica replica refl) (ap (λ rest. op ∷ rest) (numbered_own replica doc (counter + 1) (advanced clock replica) bs))
+numbered_own : (replica doc : ℕ) (token : Option ℕ) (counter : ℕ) (clock : List (ℕ × ℕ)) (bs : List Body)
+    → made_by replica (numbered replica doc token counter clock bs) ≡ numbered replica doc token counter clock bs
+numbered_own replica doc token counter clock [] = refl
+numbered_own replica doc token counter clock (b ∷ bs) =
+    let op : Op = record { id = record { counter = counter; replica = replica }; doc = doc; token = token; deps = clock; body = b } in
+    rw (eq-eqb replica replica refl) (ap (λ rest. op ∷ rest) (numbered_own replica doc token (counter + 1) (advanced clock replica) bs))
 
 -- what an edit makes is its replica's
 pub made_own : (ops : List Op) (replica : ℕ) (e : Edit) → made_by replica (made ops replica e) ≡ made ops replica e
-made_own ops replica e = numbered_own replica e.doc (greatest_counter ops + 1) (clock_of ops) (bodies_of ops replica e.doc e.change)
+made_own ops replica e = numbered_own replica e.doc e.token (greatest_counter ops + 1) (clock_of ops) (bodies_of ops replica e.doc e.change)
 
-rev-numbered : (replica doc counter : ℕ) (clock : List (ℕ × ℕ)) (bs : List Body)
-    → rev (numbered replica doc counter clock bs) doc ≡ length (numbered replica doc counter clock bs)
-rev-numbered replica doc counter clock [] = refl
-rev-numbered replica doc counter clock (b ∷ bs) =
-    let op : Op = record { id = record { counter = counter; replica = replica }; doc = doc; deps = clock; body = b } in
-    let more : List Op = numbered replica doc (counter + 1) (advanced clock replica) bs in
+rev-numbered : (replica doc : ℕ) (token : Option ℕ) (counter : ℕ) (clock : List (ℕ × ℕ)) (bs : List Body)
+    → rev (numbered replica doc token counter clock bs) doc ≡ length (numbered replica doc token counter clock bs)
+rev-numbered replica doc token counter clock [] = refl
+rev-numbered replica doc token counter clock (b ∷ bs) =
+    let op : Op = record { id = record { counter = counter; replica = replica }; doc = doc; token = token; deps = clock; body = b } in
+    let more : List Op = numbered replica doc token (counter + 1) (advanced clock replica) bs in
     let first : (doc == doc) ≡ true = eq-eqb doc doc refl in
-    let rest : sum_by (λ (o : Op). cond (o.doc == doc) 1 0) more ≡ length more = rev-numbered replica doc (counter + 1) (advanced clock replica) bs in
+    let rest : sum_by (λ (o : Op). cond (o.doc == doc) 1 0) more ≡ length more = rev-numbered replica doc token (counter + 1) (advanced clock replica) bs in
     sum_by-cons (λ (o : Op). cond (o.doc == doc) 1 0) op more ∙ (rw (first, rest) (omega arith))
 
 -- the number of its document's operations rises by the size of the change
 pub rev-made : (ops : List Op) (replica : ℕ) (e : Edit) → edit_refusal ops replica e ≡ None
     → rev (ops ++ made ops replica e) e.doc ≡ rev ops e.doc + size_of e.change
 rev-made ops replica e due =
-    let more = rev-numbered replica e.doc (greatest_counter ops + 1) (clock_of ops) (bodies_of ops replica e.doc e.change) in
+    let more = rev-numbered replica e.doc e.token (greatest_counter ops + 1) (clock_of ops) (bodies_of ops replica e.doc e.change) in
     let many = length-made ops replica e (due_asks_right ops replica e due) in
     sum_by-append (λ (o : Op). cond (o.doc == e.doc) 1 0) ops (made ops replica e) ∙ ap (λ n. rev ops e.doc + n) (more ∙ many)
 

@@ -7,13 +7,16 @@ ghost use Rattle.op_model.specs.declared.op.Op.{Op};
 ghost use Rattle.op_model.specs.Causality.{clock_of};
 ghost use Rattle.op_model.specs.Made.{bodies_of, end_of, is_inside, is_small, made as made_of, origin_of};
 ghost use Rattle.op_model.specs.Records.{end_length, head_length as head_length_of, origin_length, stream_length};
+ghost use Rattle.op_model.specs.Records.{token_length as token_length_of};
 ghost use Rattle.op_model.specs.Text.{visible};
 ghost use Rattle.replica_core.specs.Deciding.{lengths};
 ghost use Rattle.model_laws.specs.Asking.{IsAskedRight};
 
 use doc_core::Doc;
-use op_ids::{Clock, ReplicaId};
-use op_model::{Change, Edit, ID_LENGTH, MarkKey, head_length, insert_length, place_length};
+use op_ids::{Clock, ReplicaId, Token};
+use op_model::{
+    Change, Edit, ID_LENGTH, MarkKey, head_length, insert_length, place_length, token_length,
+};
 
 /// How many bytes the records take that a small edit of a document makes. Takes no memory.
 pub fn made_length(doc: &Doc, clock: &Clock, replica: ReplicaId, edit: &Edit) -> u64
@@ -28,10 +31,22 @@ pub fn made_length(doc: &Doc, clock: &Clock, replica: ReplicaId, edit: &Edit) ->
     } else {
         first
     };
-    heads_length(first, later, edit.change.size() as u64) + bodies_length(doc, &edit.change)
+    let count = edit.change.size() as u64;
+    heads_length(first, later, count)
+        + tokens_length(edit.token, count)
+        + bodies_length(doc, &edit.change)
 }
 
-/// How many bytes `count` records take without their contents, where the first has `first` deps,
+/// How many bytes the tokens of `count` records take.
+fn tokens_length(token: Option<Token>, count: u64) -> u64
+    requires small { count ≤ MAX_EDIT }
+    ensures value { result ≡ token_length_of token * count }
+    ensures small { result < 1000000 }
+{
+    token_length(token.is_some()) * count
+}
+
+/// How many bytes `count` records take without their tokens and contents, where the first has `first` deps,
 /// and each later one has `later`.
 fn heads_length(first: usize, later: usize, count: u64) -> u64
     requires first { first ≤ MAX_REPLICAS }

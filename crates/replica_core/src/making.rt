@@ -36,7 +36,7 @@ pub fn made(
     // From these the proof has that the clock's counts are in range, and the replica isn't nil.
     let _entries = clock.entries();
     replica_is_not_nil(replica);
-    match doc.make(alloc, replica, next, clock, &edit.change) {
+    match doc.make(alloc, replica, edit.token, next, clock, &edit.change) {
         Ok(made) => Ok(made),
         Err(MakeError::Memory) => Err(Refusal::Memory),
         Err(MakeError::Range) => unreachable!(),

@@ -203,6 +203,7 @@ fn removal(alloc: Global, replica: &Replica) -> Option<Op> {
     Some(Op {
         id: id_of(9, 3)?,
         doc: 1,
+        token: None,
         deps: Clock::new(alloc),
         body: Body::Remove { target },
     })
@@ -222,6 +223,7 @@ fn second(replica: &Replica, counter: u64, doc: u32, origin: Option<OpId>) -> Op
     Some(Op {
         id,
         doc,
+        token: None,
         deps: clock_of(replica)?,
         body: Body::Insert { origin, value },
     })

@@ -26,7 +26,15 @@ pub fn id_of(counter: u64, last: u8) -> Option<OpId> {
 /// The number of the refusal of an edit, or 0.
 pub fn refusal(replica: &mut Replica, doc: u32, rev: Option<u32>, change: Option<Change>) -> usize {
     match change {
-        Some(change) => refusal_of(replica, &Edit { doc, rev, change }),
+        Some(change) => refusal_of(
+            replica,
+            &Edit {
+                doc,
+                rev,
+                token: None,
+                change,
+            },
+        ),
         None => NOTHING,
     }
 }
@@ -43,6 +51,7 @@ fn first_edit(change: Change) -> Edit {
     Edit {
         doc: 1,
         rev: None,
+        token: None,
         change,
     }
 }

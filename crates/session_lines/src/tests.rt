@@ -132,6 +132,7 @@ fn inserts_and_deletes_are_served(rt: HostRuntime) -> Result<(), Fail> {
         Command::Edit(Edit {
             doc: 1,
             rev: Some(7),
+            token: None,
             change,
         }),
     );
@@ -144,6 +145,7 @@ fn inserts_and_deletes_are_served(rt: HostRuntime) -> Result<(), Fail> {
         Command::Edit(Edit {
             doc: 9,
             rev: None,
+            token: None,
             change,
         }),
     );
@@ -166,6 +168,7 @@ fn marks_are_served(rt: HostRuntime) -> Result<(), Fail> {
         Command::Edit(Edit {
             doc: 1,
             rev: None,
+            token: None,
             change,
         }),
     );
@@ -181,6 +184,7 @@ fn marks_are_served(rt: HostRuntime) -> Result<(), Fail> {
         Command::Edit(Edit {
             doc: 1,
             rev: None,
+            token: None,
             change,
         }),
     );

@@ -27,6 +27,7 @@ fn insert(alloc: Global) -> Option<Edit> {
     Some(Edit {
         doc: 1,
         rev: None,
+        token: None,
         change: Change::Insert {
             at: 0,
             text: EditText::new(text)?,

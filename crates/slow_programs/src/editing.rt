@@ -193,7 +193,7 @@ fn made_within(
     let before = clock_of(alloc, ops)?;
     let mut clock = before.copy()?;
     clock.advance_by(replica, count)?;
-    let made = numbered(alloc, replica, edit.doc, next, &before, &bodies)?;
+    let made = numbered(alloc, replica, edit.doc, edit.token, next, &before, &bodies)?;
     if !is_within_limits(alloc, ops, &made, &clock)? {
         return Err(EditError::Limit);
     }

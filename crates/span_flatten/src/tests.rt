@@ -45,6 +45,7 @@ fn strong(alloc: Global, from: OpId, end: End) -> Result<Op, Fail> {
     Ok(Op {
         id: id(100_000)?,
         doc: 1,
+        token: None,
         deps: Clock::new(alloc),
         body: Body::AddMark {
             mark: Mark::Strong,

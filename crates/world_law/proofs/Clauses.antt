@@ -88,7 +88,7 @@ module _ (w : World) (sound : IsSoundWorld w) where
       let (n, i, r, l) = told_home told t in
       let one = one_machine w.machines n m sound.apart i h (r ∙ ap (λ id. id.replica) (sym e) ∙ own) in
       let there : HasOp m.held.list told = rw one at l in
-      let greater = numbered_above m.held.list m.held.replica edit.doc (greatest_counter m.held.list + 1) (clock_of m.held.list)
+      let greater = numbered_above m.held.list m.held.replica edit.doc edit.token (greatest_counter m.held.list + 1) (clock_of m.held.list)
       (bodies_of m.held.list m.held.replica edit.doc edit.change) (omega arith) in
       let above = all_at (λ o. list_all (λ earlier. is_below earlier.id o.id) m.held.list) (made m.held.list m.held.replica edit) op greater k in
       let below = all_at (λ earlier. is_below earlier.id op.id) m.held.list told above there in

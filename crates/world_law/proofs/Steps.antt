@@ -33,14 +33,14 @@ use Rattle.world_law.proofs.Members.{HasOp-cases, HasOp-take, HasOp-take_more, H
 use Rattle.world_law.proofs.Sound.{IsWithin, IsSound, Goes, goes_same}
 
 -- an edit's operations are its replica's
-numbered_own : (replica doc counter : ℕ) (deps : List (ℕ × ℕ)) (bodies : List Body) (op : Op)
-    → HasOp (numbered replica doc counter deps bodies) op → op.id.replica ≡ replica
-numbered_own replica doc counter deps [] op h = absurd h
-numbered_own replica doc counter deps (b ∷ bs) op (inl e) = ap (λ o. o.id.replica) (sym e)
-numbered_own replica doc counter deps (b ∷ bs) op (inr h) = numbered_own replica doc (counter + 1) (advanced deps replica) bs op h
+numbered_own : (replica doc : ℕ) (token : Option ℕ) (counter : ℕ) (deps : List (ℕ × ℕ)) (bodies : List Body) (op : Op)
+    → HasOp (numbered replica doc token counter deps bodies) op → op.id.replica ≡ replica
+numbered_own replica doc token counter deps [] op h = absurd h
+numbered_own replica doc token counter deps (b ∷ bs) op (inl e) = ap (λ o. o.id.replica) (sym e)
+numbered_own replica doc token counter deps (b ∷ bs) op (inr h) = numbered_own replica doc token (counter + 1) (advanced deps replica) bs op h
 
 pub made_own : (ops : List Op) (replica : ℕ) (e : Edit) (op : Op) → HasOp (made ops replica e) op → op.id.replica ≡ replica
-made_own ops replica e op h = numbered_own replica e.doc (greatest_counter ops + 1) (clock_of ops) (bodies_of ops replica e.doc e.change) op h
+made_own ops replica e op h = numbered_own replica e.doc e.token (greatest_counter ops + 1) (clock_of ops) (bodies_of ops replica e.doc e.change) op h
 
 -- operations more, behind the list: a commit keeps its place
 within_more : (low high more : ℕ) (c : Option Commit) → high ≤ more → IsWithin low high c → IsWithin low more c

@@ -13,7 +13,7 @@ use Rattle.world_law.specs.Histories.{Happening, step, crash}
 
 -- the edit that inserts one character into document 1
 abbrev pub insert_of : ℕ → ℕ → Edit
-insert_of at value = record { doc = 1; rev = None; change = change.Insert at (value ∷ []) }
+insert_of at value = record { doc = 1; rev = None; token = None; change = change.Insert at (value ∷ []) }
 
 -- a replica that is new
 abbrev pub new_one : ℕ → State
@@ -25,13 +25,14 @@ both_new = record { machines = new_one 1 ∷ new_one 2 ∷ []; bag = [] }
 
 -- the first operation of replica 1: it inserts "a"
 abbrev pub first_op : Op
-first_op = record { id = record { counter = 1; replica = 1 }; doc = 1; deps = []; body = body.Insert None 97 }
+first_op = record { id = record { counter = 1; replica = 1 }; doc = 1; token = None; deps = []; body = body.Insert None 97 }
 
 -- its second one, "b" or "c" behind the "a"
 abbrev pub second_op : ℕ → Op
 second_op value = record {
   id = record { counter = 2; replica = 1 };
   doc = 1;
+  token = None;
   deps = (1, 1) ∷ [];
   body = body.Insert (Some (record { counter = 1; replica = 1 })) value;
 }

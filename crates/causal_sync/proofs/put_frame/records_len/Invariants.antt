@@ -7,5 +7,5 @@ abbrev pub invariant-loop-op : goal.invariant-loop-op
 invariant-loop-op l =
     record {
       all : l.total + stream_length (drop l.op-index l.ops) ≡ stream_length l.ops;
-      within : l.total ≤ 1495 * l.op-index;
+      within : l.total ≤ 1511 * l.op-index;
     }

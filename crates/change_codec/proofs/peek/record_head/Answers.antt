@@ -1,4 +1,5 @@
 use Rattle.std.proofs.Common.{◌∙◌, ap, sym}
+use Rattle.change_codec.specs.declared.format.Format.TheVariants.{Third}
 use Rattle.change_codec.specs.Reading.{head_at}
 use Rattle.change_codec.proofs.RecordLaws.{begins_four, read_head, some_head}
 use Rattle.change_codec.proofs.peek.record_head.Goals as goal
@@ -8,8 +9,8 @@ split_at-requires c = begins_four c.args.bytes.now c.requires.0 c.requires.1 c.r
 
 pub unreachable-requires : goal.unreachable-requires
 unreachable-requires c =
-    some_head c.args.bytes.now c.requires.0 c.requires.1 c.in-Err.field-0 c.requires.2 (ap head_at (sym c.split_at.ensures.back) ∙ c.in-Err.ensures)
+    some_head c.args.bytes.now c.requires.0 c.requires.1 c.in-Err.field-0 c.requires.2 (ap (head_at Third) (sym c.split_at.ensures.back) ∙ c.in-Err.ensures)
 
 pub returns : goal.returns
 returns c = λ op n begins.
-    read_head c.args.bytes.now op n c.in-Ok.head c.in-Ok.field-0-1.now begins (ap head_at (sym c.split_at.ensures.back) ∙ c.in-Ok.ensures)
+    read_head c.args.bytes.now op n c.in-Ok.head c.in-Ok.field-0-1.now begins (ap (head_at Third) (sym c.split_at.ensures.back) ∙ c.in-Ok.ensures)

@@ -14,11 +14,11 @@ returns-in-Ok-Some-clause-fewer c =
 pub returns-in-Ok-None-clause-none : goal.returns-in-Ok-None-clause-none
 returns-in-Ok-None-clause-none c = λ is.
     let nothing = c.in-Ok-None.field-0-is in
-    no_begin c.args.bytes.now (Ok c.in-Ok-None.field-0) c.requires c.in-Ok-None.ensures.only (λ f e. absurd cc) (λ e. absurd cc)
+    no_begin c.args.format c.args.bytes.now (Ok c.in-Ok-None.field-0) c.requires c.in-Ok-None.ensures.only (λ x e. absurd cc) (λ e. absurd cc)
 
 pub returns-in-Err-clause-none : goal.returns-in-Err-clause-none
 returns-in-Err-clause-none c = λ is.
     let is_stream : c.stream_error.result ≡ Stream = cc in
-    no_begin c.args.bytes.now (Err c.in-Err.fault) c.requires c.in-Err.ensures.only (λ f e. absurd cc) (λ e.
+    no_begin c.args.format c.args.bytes.now (Err c.in-Err.fault) c.requires c.in-Err.ensures.only (λ x e. absurd cc) (λ e.
     let was_memory : c.in-Err.fault ≡ Memory = cc in
     c.stream_error.ensures is_stream was_memory)

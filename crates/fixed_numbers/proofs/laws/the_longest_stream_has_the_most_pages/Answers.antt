@@ -12,3 +12,7 @@ returns-clause-tables c = refl
 -- by computing
 pub returns-clause-live : goal.returns-clause-live
 returns-clause-live c = refl
+
+-- by computing
+pub returns-clause-asked : goal.returns-clause-asked
+returns-clause-asked c = refl

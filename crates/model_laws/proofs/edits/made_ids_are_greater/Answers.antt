@@ -6,4 +6,4 @@ use Rattle.model_laws.proofs.edits.made_ids_are_greater.Goals as goal
 
 pub returns : goal.returns
 returns c = λ ops replica edit.
-    numbered_above ops replica edit.doc (greatest_counter ops + 1) (clock_of ops) (bodies_of ops replica edit.doc edit.change) (omega arith)
+    numbered_above ops replica edit.doc edit.token (greatest_counter ops + 1) (clock_of ops) (bodies_of ops replica edit.doc edit.change) (omega arith)

@@ -18,9 +18,9 @@ returns c = λ ops stands number clock right.
       | then-get-eq0 w ↦ w.later-is ∙ omega (arith, length-advanced_new (clock_of ops) c.args.replica is_it (omega arith))
       | else-get-eq0 w ↦ w.later-is ∙ omega (arith, length-advanced_old (clock_of ops) c.args.replica is_it (omega arith))
     ] in
-    let some : 0 < size_of c.args.edit.now.change = rw c.size.ensures.value at c.size.ensures.some in
+    let some : 0 < size_of c.args.edit.now.change = rw c.size-count.ensures.value at c.size-count.ensures.some in
     let all = stream_length-made ops c.args.replica c.args.edit.now c.if-get-eq0.later right some later in
     let inside : is_inside (length (visible ops (doc_number c.args.doc.now))) c.args.edit.now.change ≡ true = rw number right.inside in
     let bodies = c.bodies_length.ensures.value ops c.args.replica stands inside
     ∙ ap (λ n. lengths (bodies_of ops c.args.replica n c.args.edit.now.change)) number in
-    rw (all, ← c.size.ensures.value, ← first, c.heads_length.ensures.value, bodies) refl
+    rw (all, ← c.size-count.ensures.value, ← first, c.heads_length.ensures.value, c.tokens_length.ensures.value, bodies) refl

@@ -27,13 +27,13 @@ numbered-requires-clause-room c =
 pub invariant_of-result : goal.invariant_of-result
 invariant_of-result c =
     rw (c.in_ok-ops.ensures, c.deref-2.ensures.value, c.in_ok-bodies.ensures, c.deref.ensures.value)
-    (removes_numbered c.args.replica _ c.args.counter c.args.clock.now c.in_ok-targets.targets.items)
+    (removes_numbered c.args.replica _ c.args.token c.args.counter c.args.clock.now c.in_ok-targets.targets.items)
 
 pub returns : goal.returns
-returns c = λ ops edit stands next same_doc same_change.
+returns c = λ ops edit stands next same_doc same_token same_change.
     let number = ap (λ d. d.number) c.self.view_is in
     let got : c.get.result ≡ c.args.count.value = c.get.ensures.value in
     rw c.in_ok-ops.ensures
-    (made_removes ops edit c.args.replica _ c.args.counter c.args.at _ c.args.clock.now
-    c.in_ok-targets.targets.items c.deref.result.now c.in_ok-bodies.bodies.items c.deref-2.result.now next (same_doc ∙ sym number) same_change
+    (made_removes ops edit c.args.replica _ c.args.token c.args.counter c.args.at _ c.args.clock.now
+    c.in_ok-targets.targets.items c.deref.result.now c.in_ok-bodies.bodies.items c.deref-2.result.now next (same_doc ∙ sym number) same_token same_change
     c.deref-2.ensures.value c.in_ok-bodies.ensures c.deref.ensures.value (rw (number, ← got) (c.in_ok-targets.ensures.all ops stands)))

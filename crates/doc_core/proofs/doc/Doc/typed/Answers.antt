@@ -26,7 +26,7 @@ invariant_of-result c =
     let some = c.as_slice-text.ensures.some in
     let text = ap length c.as_slice-text.ensures.same in
     let many = ap length bodies ∙ length-insert_bodies c.args.replica c.args.counter _ c.as_slice-text.result.now in
-    let long = ap length ops ∙ length-numbered c.args.replica c.self.inside.doc c.args.counter c.args.clock.now c.deref.result.now in (
-      rw (c.in_ok-run.ensures, ops, bodies) (run_numbered c.args.replica c.self.inside.doc c.args.counter c.args.clock.now _ c.as_slice-text.result.now),
+    let long = ap length ops ∙ length-numbered c.args.replica c.self.inside.doc c.args.token c.args.counter c.args.clock.now c.deref.result.now in (
+      rw (c.in_ok-run.ensures, ops, bodies) (run_numbered c.args.replica c.self.inside.doc c.args.token c.args.counter c.args.clock.now _ c.as_slice-text.result.now),
       omega arith,
     )

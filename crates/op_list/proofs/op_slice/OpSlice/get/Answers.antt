@@ -1,5 +1,6 @@
 use Rattle.std.proofs.Common.{inl, inr, rules}
 use Rattle.change_codec.specs.Record.{BeginsWithOp}
+use Rattle.change_codec.proofs.RecordLaws.{of_third}
 use Rattle.op_list.proofs.FirstRecord.{first_of, is_at}
 use Rattle.op_list.proofs.op_slice.OpSlice.get.Goals as goal
 
@@ -9,7 +10,7 @@ unreachable-requires c =
     first_of c.records_from.result.now c.args.self.now c.args.i c.requires
     c.records_from.ensures.fits c.records_from.ensures.spelled_so in
     let none = c.in-Ok-None.field-0-is in
-    elim (c.take_op.ensures.only first.op first.len first.begins) [
+    elim (c.take_op.ensures.only first.op first.len (of_third first.op) first.begins) [
       | inl found ↦ absurd cc
       | inr memory ↦ absurd cc
     ]
@@ -19,7 +20,7 @@ unreachable-requires-in-Err c =
     let first =
     first_of c.records_from.result.now c.args.self.now c.args.i c.requires
     c.records_from.ensures.fits c.records_from.ensures.spelled_so in
-    elim (c.in-Err.ensures.only first.op first.len first.begins) [
+    elim (c.in-Err.ensures.only first.op first.len (of_third first.op) first.begins) [
       | inl found ↦ absurd cc
       | inr memory ↦ absurd (search rules)
     ]
