@@ -28,6 +28,13 @@ number_of (refusal.Store e) = number_of_store e
 number_of refusal.Full = BUSY
 number_of refusal.Failed = FAILED
 
+-- it is no refusal of the store
+abbrev pub IsNotOfStore : HubRefusal → Type 0
+IsNotOfStore (refusal.Store e) = ⊥
+IsNotOfStore (refusal.Replica e) = Unit {0}
+IsNotOfStore refusal.Full = Unit {0}
+IsNotOfStore refusal.Failed = Unit {0}
+
 -- the machine's answer to an edit
 abbrev pub edited : Result Ticket HubRefusal → Answer
 edited (Ok t) = ticket t

@@ -26,11 +26,13 @@ pub enum HubRefusal {
 
 impl HubRefusal {
     ghost use Rattle.hub_parts.specs.Refusal.{number_of as number_of_locked};
-    ghost use Rattle.locked_replica.specs.Steps.{number_of};
+    ghost use Rattle.locked_replica.specs.Steps.{IsNotOfStore, number_of};
 
-    /// Why the hub refuses a call that its locked part refuses so: with the same number.
+    /// Why the hub refuses a call that its locked part refuses so: with the same number, and not as
+    /// its store.
     pub(crate) fn of(refusal: LockedRefusal) -> HubRefusal
-        ensures { number_of result ≡ number_of_locked refusal }
+        ensures number { number_of result ≡ number_of_locked refusal }
+        ensures kind { IsNotOfStore result }
     {
         match refusal {
             LockedRefusal::Replica(refusal) => HubRefusal::Replica(refusal),

@@ -1,10 +1,10 @@
 //! The calls of a hub that its replica answers.
-ghost use Rattle.std.specs.Prelude.{◌≡◌};
+ghost use Rattle.std.specs.Prelude.{◌≡◌, IfErr};
 ghost use Rattle.op_model.specs.Machine.{edit as edit_event, merge as merge_event};
 ghost use Rattle.op_model.specs.Machine.{ack as ack_event, tell as tell_event, have as have_event};
 ghost use Rattle.op_model.specs.Machine.{acknowledged};
 ghost use Rattle.locked_replica.specs.Calls.{IsCall};
-ghost use Rattle.locked_replica.specs.Steps.{edited, merge_answered, told, had};
+ghost use Rattle.locked_replica.specs.Steps.{edited, merge_answered, told, had, IsNotOfStore};
 
 use crate::hub::Hub;
 use crate::refusal::HubRefusal;
@@ -22,6 +22,7 @@ impl<D: Disk> Hub<D> {
     pub fn edit(&mut self, session: u64, edit: &Edit) -> Result<Ticket, HubRefusal>
         ensures call { IsCall D.DiskFacts (edit_event session edit.now) (edited result)
             self.old self.new }
+        ensures kind { IfErr result IsNotOfStore }
         ensures store { self.new.store ≡ self.old.store }
     {
         self.locked.kept();
@@ -42,6 +43,7 @@ impl<D: Disk> Hub<D> {
     pub fn merge(&mut self, peer: u64, op: Op) -> Result<Merged, HubRefusal>
         ensures call { IsCall D.DiskFacts (merge_event peer op) (merge_answered result)
             self.old self.new }
+        ensures kind { IfErr result IsNotOfStore }
         ensures store { self.new.store ≡ self.old.store }
     {
         self.locked.kept();
@@ -73,6 +75,7 @@ impl<D: Disk> Hub<D> {
     /// `Replica::tell` does.
     pub fn tell(&mut self, clock: &Clock) -> Result<Vec<Op>, HubRefusal>
         ensures call { IsCall D.DiskFacts (tell_event clock.now) (told result) self.old self.new }
+        ensures kind { IfErr result IsNotOfStore }
         ensures store { self.new.store ≡ self.old.store }
     {
         self.locked.kept();
@@ -89,6 +92,7 @@ impl<D: Disk> Hub<D> {
     /// want of memory (1), and changes nothing. Costs what `Replica::have` does.
     pub fn have(&mut self) -> Result<Clock, HubRefusal>
         ensures call { IsCall D.DiskFacts have_event (had result) self.old self.new }
+        ensures kind { IfErr result IsNotOfStore }
         ensures store { self.new.store ≡ self.old.store }
     {
         self.locked.kept();

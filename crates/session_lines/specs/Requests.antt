@@ -100,12 +100,12 @@ unmark_change d =
     whole (codes "to") 0 d >>= λ to.
     Ok (change.Unmark from to key)
 
--- the edit with this change
+-- the edit with this change, without a token
 abbrev pub edit_with : Change → Data → Result Command Refusal
 edit_with change d =
     whole (codes "doc") 1 d >>= λ doc.
     rev_of d >>= λ rev.
-    Ok (command.Edit (record { doc = doc; rev = rev; change = change }))
+    Ok (command.Edit (record { doc = doc; rev = rev; token = None; change = change }))
 
 -- the command of each request
 abbrev pub command_of : Verb → Data → Result Command Refusal

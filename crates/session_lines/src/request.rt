@@ -62,7 +62,12 @@ fn edit(value: &Value, change: Change) -> Result<Command, Refusal>
 {
     let doc = whole(value, "doc", 1)?;
     let rev = rev(value)?;
-    Ok(Command::Edit(Edit { doc, rev, token: None, change }))
+    Ok(Command::Edit(Edit {
+        doc,
+        rev,
+        token: None,
+        change,
+    }))
 }
 
 /// The change of an insert.

@@ -10,6 +10,12 @@ returns-clause-call g c = elim c.match-answer.branch [
       rw (w.result-is, sym c.self.view_is) (call_tell g.D.DiskFacts c.self.inside.locked c.self.inside.flusher (λ told. g.met.D.Disk.lawful c.self.inside.flusher.store.disk told) c.kept.ensures c.kept-2.ensures c.self.invariant
       c.args.clock.now w.in-Ok.ops.items c.tell-answer.new.self c.kept-3.ensures (c.tell-answer.ensures.fits (side_of c.self.inside.flusher) c.self.invariant) w.in-Ok.ensures.call w.in-Ok.ensures.made)
   | in-Err w ↦
-      rw (w.result-is, w.of.ensures, sym c.self.view_is) (call_tell_refused g.D.DiskFacts c.self.inside.locked c.self.inside.flusher (λ told. g.met.D.Disk.lawful c.self.inside.flusher.store.disk told) c.kept.ensures c.kept-2.ensures c.self.invariant
+      rw (w.result-is, w.of.ensures.number, sym c.self.view_is) (call_tell_refused g.D.DiskFacts c.self.inside.locked c.self.inside.flusher (λ told. g.met.D.Disk.lawful c.self.inside.flusher.store.disk told) c.kept.ensures c.kept-2.ensures c.self.invariant
       c.args.clock.now _ c.tell-answer.new.self w.in-Err.ensures.call w.in-Err.ensures.same)
+]
+
+pub returns-clause-kind : goal.returns-clause-kind
+returns-clause-kind g c = elim c.match-answer.branch [
+  | in-Ok w ↦ rw w.result-is tt
+  | in-Err w ↦ rw w.result-is w.of.ensures.kind
 ]
