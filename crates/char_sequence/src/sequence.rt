@@ -119,6 +119,7 @@ impl Sequence {
             → result ≡ id_at (seen ops doc) k }
         ensures ticks { ticks.new
             ≤ ticks.old + (1 + length (cells_of self.now) / MIN_CHUNK + MAX_CHUNK) }
+        ensures rising { ticks.old ≤ ticks.new }
     {
         shown(&self.chunks, k, ticks)
     }

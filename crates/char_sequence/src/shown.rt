@@ -19,6 +19,7 @@ pub fn shown(chunks: &Chunks, k: usize, ticks: &mut Ticks) -> Option<OpId>
     ensures found { result ≡ shown_at (cells_of chunks.now) k }
     ensures ticks { ticks.new
         ≤ ticks.old + (1 + length (cells_of chunks.now) / MIN_CHUNK + MAX_CHUNK) }
+    ensures rising { ticks.old ≤ ticks.new }
 {
     chunks.are_sized();
     let mut left = k;
@@ -38,6 +39,7 @@ fn shown_in(chunks: &Chunks, i: usize, cells: usize, k: usize, ticks: &mut Ticks
     requires { cells ≡ length (get_or chunks.now i []) }
     ensures found { result ≡ shown_at (get_or chunks.now i []) k }
     ensures ticks { ticks.new ≤ ticks.old + cells }
+    ensures rising { ticks.old ≤ ticks.new }
 {
     let mut left = k;
     for j in 0..cells {

@@ -1,5 +1,5 @@
 -- What the operations of an edit name, and one operation as an edit.
-use Rattle.std.proofs.Common.{◌≡◌, ℕ, ◌<◌, Bool, ◌&&◌, true, false, List, [], ◌∷◌, length, get_or, Option, Some, None, refl, ap, append-nil, arith}
+use Rattle.std.proofs.Common.{◌≡◌, ℕ, ◌<◌, Bool, ◌&&◌, true, false, List, [], ◌∷◌, length, get_or, Option, Some, None, refl, sym, ◌∙◌, ap, append-nil, arith}
 use Rattle.std.specs.Prelude.{not, filter}
 use Rattle.std.specs.List.{list_any}
 use Rattle.std.proofs.lemmas.Bool.{or_left}
@@ -12,7 +12,7 @@ use Rattle.model_laws.proofs.Ids.{same_itself}
 use Rattle.char_sequence.specs.Content.{AreRemoves, IsRun, is_there}
 use Rattle.char_sequence.specs.Chunks.{ChunkCells}
 use Rattle.mark_anchors.specs.Keeping.{Kept}
-use Rattle.doc_core.specs.Standing.{are_there, named_outside}
+use Rattle.doc_core.specs.Standing.{are_removes, are_there, is_remove, named_outside}
 use Rattle.doc_core.specs.Taking.{TakesIn, TakesAllIn}
 
 -- whatever is named, nothing of one's own is left out where there is none
@@ -72,3 +72,16 @@ one_taken (x ∷ []) op old new marks kept one is_it takes = λ before doc holds
     let same : op ≡ x = is_it in
     rw same at (takes before doc holds are (rw same fit.0))
 one_taken (x ∷ y ∷ ops) op old new marks kept one is_it takes = absurd (omega arith)
+
+-- a run of inserts removes nothing
+pub run_adds : (origin : Option Id) (run : List (Id × ℕ)) (ops : List Op) → 0 < length ops → IsRun origin run ops → are_removes ops ≡ false
+run_adds origin [] [] some is_run = absurd (omega arith)
+run_adds origin [] (op ∷ ops) some is_run = absurd is_run
+run_adds origin (x ∷ xs) [] some is_run = absurd is_run
+run_adds origin (x ∷ xs) (op ∷ ops) some is_run = ap (λ b. is_remove b && are_removes ops) is_run.1
+
+-- one operation that removes nothing
+pub one_adds : (ops : List Op) (op : Op) → length ops ≡ 1 → op ≡ get_or ops 0 op → is_remove op.body ≡ false → are_removes ops ≡ false
+one_adds [] op one is_it adds = absurd (omega arith)
+one_adds (x ∷ []) op one is_it adds = let same : op ≡ x = is_it in ap (λ o. is_remove o.body && true) (sym same) ∙ ap (λ r. r && true) adds
+one_adds (x ∷ y ∷ ops) op one is_it adds = absurd (omega arith)

@@ -1,5 +1,5 @@
 -- What a document stands for.
-use Rattle.std.specs.Prelude.{◌≡◌, ℕ, Bool, not, List, [], ◌∷◌, ◌++◌, filter, min}
+use Rattle.std.specs.Prelude.{◌≡◌, ℕ, Bool, true, false, not, List, [], ◌∷◌, ◌++◌, filter, min}
 use Rattle.std.specs.List.{list_all, list_any}
 use Rattle.op_ids.specs.Id.{Id, is_same}
 use Rattle.op_model.specs.declared.op.Op.{Op}
@@ -38,6 +38,17 @@ Takes op old new = (ops : List Op) → StandsFor old ops → Fits ops old.number
 -- From standing for any operations that these fit, one after another, the call leads to standing for all.
 abbrev pub TakesAll : List Op → Document → Document → Type 0
 TakesAll edit old new = (ops : List Op) → StandsFor old ops → FitAfter ops old.number edit → StandsFor new (ops ++ edit)
+
+-- removes a character
+abbrev pub is_remove : Body → Bool
+is_remove (Remove target) = true
+is_remove (Insert origin value) = false
+is_remove (AddMark mark start end) = false
+is_remove (RemoveMark key start end) = false
+
+-- each of them removes a character
+abbrev pub are_removes : List Op → Bool
+are_removes ops = list_all (λ op. is_remove op.body) ops
 
 -- these characters are all there
 abbrev pub are_there : List Op → ℕ → List Id → Bool

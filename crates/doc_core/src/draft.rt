@@ -1,7 +1,7 @@
 ghost use Rattle.std.specs.Prelude.{◌≡◌, ◌↔◌, ℕ, List, [], false, IfOk, OnOk, OnErr, IsErrOf};
 ghost use Rattle.char_sequence.specs.Woven.{IsWovenOf};
 ghost use Rattle.doc_core.specs.Drafting.{IsDraftOf, TakesDraft};
-ghost use Rattle.doc_core.specs.Standing.{are_there, StandsFor};
+ghost use Rattle.doc_core.specs.Standing.{are_there, is_remove, StandsFor};
 ghost use Rattle.doc_core.specs.Taking.{TakesWoven};
 ghost use Rattle.op_model.specs.declared.op.Op.{Op};
 ghost use Rattle.op_model.specs.Causality.{named_by};
@@ -60,7 +60,8 @@ impl Draft {
     }
 
     /// Takes an operation of the document. `UnknownId` (60) exactly where a character that it names
-    /// isn't there, `Memory` (1) where a growth was refused; both leave the draft as it was. A
+    /// isn't there, `Memory` (1) where a growth was refused, for which no remove asks; both
+    /// leave the draft as it was. A
     /// binary search for each character that it names, and for an insert a step for each greater id
     /// that follows its origin.
     pub fn apply(&mut self, op: &Op) -> Result<(), SequenceError>
@@ -68,6 +69,7 @@ impl Draft {
         ensures unknown { (ops : List Op) → IsDraftOf self.old ops
             → (IsErrOf result SequenceError.UnknownId
             ↔ (are_there ops self.old.number (named_by op.now.body) ≡ false)) }
+        ensures memory { IsErrOf result SequenceError.Memory → is_remove op.now.body ≡ false }
         ensures number { self.new.number ≡ self.old.number }
         ensures err { OnErr result (self.new ≡ self.old) }
     {
@@ -86,7 +88,7 @@ impl Draft {
         let mut sequence = self.weave.sequence(alloc)?;
         drop(self.weave);
         sequence.note_all();
-        let anchors = self.gathering.anchors(&sequence)?;
+        let anchors = self.gathering.anchors()?;
         Ok(Doc {
             doc: self.doc,
             sequence,
@@ -103,6 +105,7 @@ fn take(weave: &mut Weave, gathering: &mut Gathering, op: &Op) -> Result<(), Seq
     ensures unknown { (ops : List Op) (doc : ℕ) → IsWovenOf weave.old ops doc
         → (IsErrOf result SequenceError.UnknownId
         ↔ (are_there ops doc (named_by op.now.body) ≡ false)) }
+    ensures memory { IsErrOf result SequenceError.Memory → is_remove op.now.body ≡ false }
     ensures characters { OnErr result (weave.new ≡ weave.old) }
     ensures marks { OnErr result (gathering.new ≡ gathering.old) }
 {

@@ -1,4 +1,4 @@
-ghost use Rattle.std.specs.Prelude.{◌≡◌, ◌↔◌, ℕ, List, [], ◌∷◌, ◌++◌, false, IfOk, OnOk, OnErr};
+ghost use Rattle.std.specs.Prelude.{◌≡◌, ◌↔◌, ℕ, List, [], ◌∷◌, ◌++◌, false, IfOk, IfErr, IsSome, OnOk, OnErr};
 ghost use Rattle.std.specs.Prelude.{filter, map, IsErrOf};
 ghost use Rattle.std.specs.List.{list_all};
 ghost use Rattle.char_sequence.specs.Content.{Holds};
@@ -9,7 +9,7 @@ ghost use Rattle.op_ids.specs.Id.{is_same};
 ghost use Rattle.mark_anchors.specs.Naming.{named_by_marking};
 ghost use Rattle.op_model.specs.declared.op.Op.{Op};
 ghost use Rattle.op_model.specs.Characters.{characters};
-ghost use Rattle.op_model.specs.Marks.{markings as markings_of};
+ghost use Rattle.op_model.specs.Marks.{marking_of, markings as markings_of};
 ghost use Rattle.op_model.specs.Placing.{has_id, Fits};
 ghost use Rattle.op_model.specs.Walk.{walk};
 
@@ -54,21 +54,20 @@ impl Anchors {
         }
     }
 
-    /// Those of a document whose mark operations are given in the order in which they came, and
-    /// whose characters are given too. An error is want of memory (1). Their edges are sorted: as
+    /// Those of a document whose mark operations are given in the order in which they came. An error
+    /// is want of memory (1). Their edges are sorted: as
     /// many steps as there are mark operations, times their logarithm.
-    pub fn from_markings(markings: Vec<Marking>, sequence: &Sequence) -> Result<Anchors, AllocError>
-        ensures { IfOk result (λ a. (ops : List Op) (doc : ℕ) → Holds sequence.now ops doc
+    pub fn from_markings(markings: Vec<Marking>) -> Result<Anchors, AllocError>
+        ensures { IfOk result (λ a. (ops : List Op) (doc : ℕ)
             → markings.items ≡ markings_of ops doc → AreMarksOf a ops doc) }
     {
-        let _ = sequence;
         let edges = edges_of(*markings.allocator(), &markings)?;
         Ok(Anchors { markings, edges })
     }
 
     /// Takes an operation of the document, whose characters are given: a mark operation is kept,
     /// another one adds nothing. `UnknownId` (60) exactly where a mark operation names a character
-    /// that isn't there, `Memory` (1) where a growth was refused; both leave the anchors as they
+    /// that isn't there, `Memory` (1) where a growth for a mark operation was refused; both leave the anchors as they
     /// were. It costs the search of both characters, as `Sequence::find` does it, and moves the
     /// edges behind its own.
     pub fn apply_mark(&mut self, op: &Op, sequence: &Sequence) -> Result<(), SequenceError>
@@ -79,6 +78,8 @@ impl Anchors {
             → (IsErrOf result SequenceError.UnknownId
             ↔ (list_all (λ id. has_id (characters ops doc) id) (named_by_marking op.now.body)
             ≡ false)) }
+        ensures memory { IsErrOf result SequenceError.Memory
+            → IsSome (marking_of op.now.id op.now.body) }
         ensures err { OnErr result (self.new ≡ self.old) }
     {
         check_names(sequence, &op.body)?;
@@ -145,6 +146,7 @@ fn keep(markings: &mut Vec<Marking>, edges: &mut Vec<Edge>, op: &Op) -> Result<(
     ensures taken { OnOk result (markings.new.items
         ≡ markings.old.items ++ markings_of (op.now ∷ []) op.now.doc) }
     ensures kept { AreKept markings.new.items edges.new.items }
+    ensures memory { IfErr result (λ _. IsSome (marking_of op.now.id op.now.body)) }
     ensures err { OnErr result ((markings.new.items ≡ markings.old.items)
         × (edges.new.items ≡ edges.old.items)) }
 {

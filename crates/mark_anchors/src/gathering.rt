@@ -1,18 +1,17 @@
-ghost use Rattle.std.specs.Prelude.{◌≡◌, ◌↔◌, ℕ, List, [], ◌∷◌, ◌++◌, false, IfOk, OnOk, OnErr, IsErrOf};
+ghost use Rattle.std.specs.Prelude.{◌≡◌, ◌↔◌, ℕ, List, [], ◌∷◌, ◌++◌, false, IfOk, IfErr, IsSome, OnOk, OnErr, IsErrOf};
 ghost use Rattle.std.specs.List.{list_all};
-ghost use Rattle.char_sequence.specs.Content.{Holds};
 ghost use Rattle.char_sequence.specs.Woven.{IsWovenOf};
 ghost use Rattle.mark_anchors.specs.Gathered.{AreGathered};
 ghost use Rattle.mark_anchors.specs.Keeping.{AreMarksOf};
 ghost use Rattle.mark_anchors.specs.Naming.{named_by_marking};
 ghost use Rattle.op_model.specs.declared.op.Op.{Op};
 ghost use Rattle.op_model.specs.Characters.{characters};
-ghost use Rattle.op_model.specs.Marks.{markings as markings_of};
+ghost use Rattle.op_model.specs.Marks.{marking_of, markings as markings_of};
 ghost use Rattle.op_model.specs.Placing.{has_id, Fits};
 
 use crate::anchors::Anchors;
 use crate::naming::check_names;
-use char_sequence::{Sequence, SequenceError, Weave};
+use char_sequence::{SequenceError, Weave};
 use op_model::{Marking, Op};
 use std::alloc::{AllocError, Global};
 use std::marker::Model;
@@ -46,7 +45,7 @@ impl Gathering {
 
     /// Takes an operation of the document, whose characters are given: a mark operation is kept,
     /// another one adds nothing. `UnknownId` (60) exactly where a mark operation names a character
-    /// that isn't there, `Memory` (1) where a growth was refused; both leave what is gathered as it
+    /// that isn't there, `Memory` (1) where a growth for a mark operation was refused; both leave what is gathered as it
     /// was. It costs the search of both characters, as `Weave::has` does it.
     pub fn apply_mark(&mut self, op: &Op, weave: &Weave) -> Result<(), SequenceError>
         ensures taken { OnOk result ((ops : List Op) (doc : ℕ) → AreGathered self.old ops doc
@@ -55,6 +54,8 @@ impl Gathering {
             → (IsErrOf result SequenceError.UnknownId
             ↔ (list_all (λ id. has_id (characters ops doc) id) (named_by_marking op.now.body)
             ≡ false)) }
+        ensures memory { IsErrOf result SequenceError.Memory
+            → IsSome (marking_of op.now.id op.now.body) }
         ensures err { OnErr result (self.new ≡ self.old) }
     {
         check_names(weave, &op.body)?;
@@ -62,14 +63,13 @@ impl Gathering {
         Ok(())
     }
 
-    /// The anchors of a document whose mark operations these are, and whose characters are given.
-    /// An error is want of memory (1). Their edges are sorted: as many steps as there are mark
+    /// The anchors of a document whose mark operations these are. An error is want of memory (1). Their edges are sorted: as many steps as there are mark
     /// operations, times their logarithm.
-    pub fn anchors(self, sequence: &Sequence) -> Result<Anchors, AllocError>
-        ensures { IfOk result (λ a. (ops : List Op) (doc : ℕ) → Holds sequence.now ops doc
+    pub fn anchors(self) -> Result<Anchors, AllocError>
+        ensures { IfOk result (λ a. (ops : List Op) (doc : ℕ)
             → AreGathered self ops doc → AreMarksOf a ops doc) }
     {
-        Anchors::from_markings(self.markings, sequence)
+        Anchors::from_markings(self.markings)
     }
 }
 
@@ -78,6 +78,7 @@ impl Gathering {
 fn keep(markings: &mut Vec<Marking>, op: &Op) -> Result<(), AllocError>
     ensures taken { OnOk result (markings.new.items
         ≡ markings.old.items ++ markings_of (op.now ∷ []) op.now.doc) }
+    ensures memory { IfErr result (λ _. IsSome (marking_of op.now.id op.now.body)) }
     ensures err { OnErr result (markings.new.items ≡ markings.old.items) }
 {
     match op.marking()? {

@@ -52,11 +52,11 @@ fn applied(alloc: Global, sequence: &Sequence, ends: &[(u64, End)]) -> Result<An
 }
 
 /// The anchors of a mark operation up to behind the character 2, which is given.
-fn given(alloc: Global, sequence: &Sequence) -> Result<Anchors, Fail> {
+fn given(alloc: Global) -> Result<Anchors, Fail> {
     let op = plain(alloc, 3, End::To(Anchor::After(id(2)?)))?;
     let marking = op.marking()?.ok_or("no mark")?;
     let markings: Vec<Marking> = vec![in alloc; marking]?;
-    Ok(Anchors::from_markings(markings, sequence)?)
+    Ok(Anchors::from_markings(markings)?)
 }
 
 fn look(anchors: &Anchors) -> Result<View, Fail> {
@@ -79,7 +79,7 @@ fn seen(alloc: Global, ends: &[(u64, End)]) -> Result<View, Fail> {
 /// What is seen of a mark operation that is given.
 fn seen_given(alloc: Global) -> Result<View, Fail> {
     let sequence = two(alloc)?;
-    let anchors = given(alloc, &sequence)?;
+    let anchors = given(alloc)?;
     look(&anchors)
 }
 

@@ -1,4 +1,4 @@
-ghost use Rattle.std.specs.Prelude.{◌≡◌, IfOk};
+ghost use Rattle.std.specs.Prelude.{◌≡◌, IfOk, IfErr, IsSome};
 ghost use Rattle.op_model.specs.Characters.{character_of};
 ghost use Rattle.op_model.specs.Marks.{marking_of};
 
@@ -103,9 +103,11 @@ impl Op {
         }
     }
 
-    /// What the operation does as a mark operation, if it is one. An error is want of memory (1).
+    /// What the operation does as a mark operation, if it is one. An error is want of memory (1), which
+    /// only a mark operation takes.
     pub fn marking(&self) -> Result<Option<Marking>, AllocError>
-        ensures { IfOk result (λ marking. marking ≡ marking_of self.now.id self.now.body) }
+        ensures same { IfOk result (λ marking. marking ≡ marking_of self.now.id self.now.body) }
+        ensures memory { IfErr result (λ _. IsSome (marking_of self.now.id self.now.body)) }
     {
         Ok(match &self.body {
             Body::AddMark { mark, start, end } => Some(Marking {

@@ -47,6 +47,7 @@ pub fn spans_in(
         → AreMarksOf anchors.now ops doc → found.items ≡ spans_of_ops ops doc) }
     ensures few { IfOk result (λ found. listed found.items ≤ MAX_LISTED) }
     ensures ticks { ticks.new ≤ ticks.old + (2 * count_of sequence.now + 1) }
+    ensures rising { ticks.old ≤ ticks.new }
 {
     let alloc = sequence.allocator();
     let mut sweep = Sweep::new(alloc, anchors.in_order())?;

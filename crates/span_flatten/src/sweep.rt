@@ -64,6 +64,7 @@ impl Sweep {
         ensures swept { OnOk result (IsSwept self.new (cells_of sequence.now)
             (in_order anchors.now) (offset sequence.now (i + 1))) }
         ensures ticks { ticks.new ≤ ticks.old + size.cells }
+        ensures rising { ticks.old ≤ ticks.new }
     {
         let alloc = sequence.allocator();
         for j in 0..size.cells {

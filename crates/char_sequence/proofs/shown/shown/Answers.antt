@@ -49,6 +49,7 @@ loop-size-preserved c =
           ∙ ap (λ n. shown_at (cells_of (drop (c.loop-size.i + 1) c.args.chunks.now)) (c.loop-size.left - n)) (sym read.2));
       here = let here = read.0 in omega arith;
       ticks = let tick = c.chunk.ensures.tick in let so_far = c.loop-size.invariant.ticks in omega arith;
+      rising = let tick = c.chunk.ensures.tick in let so_far = c.loop-size.invariant.rising in omega arith;
     }
 
 pub returns-clause-found : goal.returns-clause-found

@@ -8,6 +8,7 @@ invariant-loop-size l = record {
   found : shown_at (cells_of l.chunks) l.k ≡ shown_at (cells_of (drop l.i l.chunks)) l.left;
   here : l.i ≤ length l.chunks;
   ticks : l.ticks ≤ l.fn.ticks + l.i;
+  rising : l.fn.ticks ≤ l.ticks;
 }
 
 abbrev pub decreases-loop-size : goal.decreases-loop-size

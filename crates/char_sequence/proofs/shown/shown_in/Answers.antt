@@ -28,4 +28,5 @@ loop-j-preserved c = record {
         absurd (omega arith)
   ];
   ticks = let tick = c.cell.ensures.tick in let so_far = c.loop-j.invariant.ticks in omega arith;
+  rising = let tick = c.cell.ensures.tick in let so_far = c.loop-j.invariant.rising in omega arith;
 }

@@ -1,6 +1,6 @@
 use Rattle.std.proofs.lemmas.Result.{on_ok_weaker}
 use Rattle.mark_anchors.proofs.KeepLemmas.{kept_with, removes_mark_none, run_marks_none}
-use Rattle.doc_core.proofs.TakingLemmas.{origin_there, removes_name, run_names}
+use Rattle.doc_core.proofs.TakingLemmas.{origin_there, removes_name, run_adds, run_names}
 use Rattle.doc_core.proofs.apply.take_edit.Goals as goal
 
 pub returns-in-Run-clause-taken : goal.returns-in-Run-clause-taken
@@ -32,3 +32,8 @@ returns-in-Removes-clause-unknown c = λ ops doc holds.
     let are = rw c.in-Removes.is at c.edit.invariant in
     rw (← c.edit.view_is, removes_name _ c.edit.inside.ops.items are, ← c.deref-in-Removes.ensures.value)
     (c.apply_removes.ensures.unknown ops doc holds)
+
+pub returns-in-Run-clause-memory : goal.returns-in-Run-clause-memory
+returns-in-Run-clause-memory c = λ _.
+    let is_run = rw c.in-Run.is at c.edit.invariant in
+    rw (← c.edit.view_is) (run_adds c.in-Run.origin _ c.edit.inside.ops.items is_run.1 is_run.0)

@@ -17,6 +17,7 @@ loop-size-init c = record {
   within = omega arith;
   swept = rw c.in_order.ensures at (c.in_ok-sweep.ensures (cells_of c.args.sequence.now));
   ticks = omega arith;
+  rising = omega arith;
 }
 
 pub returns-in_err-pass_chunk-clause-ticks : goal.returns-in_err-pass_chunk-clause-ticks
@@ -47,6 +48,7 @@ loop-size-preserved c =
       within = omega (arith, there);
       swept = c.in_ok-pass_chunk.ensures.swept;
       ticks = omega (arith, more, c.pass_chunk.ensures.ticks, c.chunk.ensures.tick, c.loop-size.invariant.ticks);
+      rising = omega (arith, c.pass_chunk.ensures.rising, c.chunk.ensures.tick, c.loop-size.invariant.rising);
     }
 
 pub returns-clause-spans : goal.returns-clause-spans

@@ -11,6 +11,7 @@ invariant-loop-size l = record {
   within : l.i ≤ length l.sequence;
   swept : IsSwept l.sweep (cells_of l.sequence) (in_order l.anchors) (offset l.sequence l.i);
   ticks : l.ticks ≤ l.fn.ticks + (l.i + offset l.sequence l.i);
+  rising : l.fn.ticks ≤ l.ticks;
 }
 
 abbrev pub decreases-loop-size : goal.decreases-loop-size

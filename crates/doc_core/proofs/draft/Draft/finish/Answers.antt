@@ -10,6 +10,6 @@ returns-clause-stands c = λ ops draft.
     let same = c.note_all.ensures in
     record {
       characters = rw same holds;
-      marks = c.in_ok-anchors.ensures ops c.self.inside.doc (rw same holds) mine.marks;
+      marks = c.in_ok-anchors.ensures ops c.self.inside.doc mine.marks;
       rev = mine.rev;
     }

@@ -12,6 +12,7 @@ loop-j-preserved c =
       swept = rw next at (c.in_ok-pass-in-Some.ensures (cells_of c.args.sequence.now) (offset c.args.sequence.now c.args.i + c.loop-j.j) there
           c.loop-j.invariant.swept);
       ticks = omega arith;
+      rising = omega arith;
     }
 
 pub returns-clause-swept : goal.returns-clause-swept

@@ -10,4 +10,5 @@ abbrev pub invariant-loop-j : goal.invariant-loop-j
 invariant-loop-j l = record {
   swept : IsSwept l.self (cells_of l.sequence) (in_order l.anchors) (offset l.sequence l.i + l.j);
   ticks : l.ticks ≤ l.fn.ticks + l.j;
+  rising : l.fn.ticks ≤ l.ticks;
 }
