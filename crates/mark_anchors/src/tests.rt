@@ -78,9 +78,7 @@ fn seen(alloc: Global, ends: &[(u64, End)]) -> Result<View, Fail> {
 
 /// What is seen of a mark operation that is given.
 fn seen_given(alloc: Global) -> Result<View, Fail> {
-    let sequence = two(alloc)?;
-    let anchors = given(alloc)?;
-    look(&anchors)
+    look(&given(alloc)?)
 }
 
 /// The mark operations in force at a place, after one up to the character 2 and one up to the end.
