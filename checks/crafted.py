@@ -67,9 +67,9 @@ STRONG = bytes.fromhex("00000051" "03" "00000001" "0000000000000002") + NAME + b
 
 def check_a_mark(checks, program):
     """The record of a mark that a session puts on a text, to the byte."""
-    run(program, "init", "marked", "--replica", REPLICA)
-    run(program, "edit", "marked", lines=insert(0, "a") + line(op="mark", doc=1, **{"from": 0, "to": 1}, kind="strong"))
-    with open("marked", "rb") as file:
+    run(program, "init", "one_mark", "--replica", REPLICA)
+    run(program, "edit", "one_mark", lines=insert(0, "a") + line(op="mark", doc=1, **{"from": 0, "to": 1}, kind="strong"))
+    with open("one_mark", "rb") as file:
         checks.same("the record of a mark", page_file.stream(file.read())[1].hex(), (FIRST + STRONG).hex())
 
 

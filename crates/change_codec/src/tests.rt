@@ -286,24 +286,43 @@ const TOKEN: &str = "000000000000400080000000000000d1";
 /// The first insert with that token.
 const WITH_TOKEN: &str = "00000033 11 00000001 0000000000000001 A 00 T 00 00000061";
 
-#[test]
-fn the_third_format_has_tokens(rt: HostRuntime) -> Result<(), Fail> {
-    let alloc = rt.alloc();
-    let mut op = insert(alloc, 1, None, 'a')?;
+/// The first insert with the token.
+fn with_token(alloc: Global) -> Result<Box<Op>, Fail> {
+    let (id, deps) = place(alloc, 1)?;
     let name = [0, 0, 0, 0, 0, 0, 0x40, 0, 0x80, 0, 0, 0, 0, 0, 0, 0xd1];
-    op.token = Token::read(name);
+    let op = Op {
+        id,
+        doc: 1,
+        token: Token::read(name),
+        deps,
+        body: Body::Insert {
+            origin: None,
+            value: 'a',
+        },
+    };
+    Ok(Box::new(alloc, op)?)
+}
+
+#[test]
+fn a_token_is_spelled(rt: HostRuntime) -> Result<(), Fail> {
+    let alloc = rt.alloc();
+    let op = with_token(alloc)?;
     is_spelled(&rt, alloc, WITH_TOKEN, &op)?;
     assert_eq!(rt; op.record_length(), 55);
-    for format in [Format::First, Format::Second] {
-        assert_eq!(rt; refusal(alloc, format, WITH_TOKEN)?, 31);
-    }
+    Ok(())
+}
+
+#[test]
+fn the_third_format_alone_has_tokens(rt: HostRuntime) -> Result<(), Fail> {
+    let alloc = rt.alloc();
+    assert_eq!(rt; refusal(alloc, Format::First, WITH_TOKEN)?, 31);
+    assert_eq!(rt; refusal(alloc, Format::Second, WITH_TOKEN)?, 31);
     let nil = "00000033 11 00000001 0000000000000001 A 00 N N 00 00000061";
     assert_eq!(rt; refusal(alloc, Format::Third, nil)?, 32);
-    for kind in ["10", "15"] {
-        let mut bytes = bytes_of(alloc, WITH_TOKEN)?;
-        bytes[4] = bytes_of(alloc, kind)?[0];
-        assert!(rt; matches!(take_op(alloc, Format::Third, &bytes), Err(CodecError::Kind)));
-    }
+    let sixteen = "00000033 10 00000001 0000000000000001 A 00 T 00 00000061";
+    assert_eq!(rt; refusal(alloc, Format::Third, sixteen)?, 31);
+    let twenty_one = "00000033 15 00000001 0000000000000001 A 00 T 00 00000061";
+    assert_eq!(rt; refusal(alloc, Format::Third, twenty_one)?, 31);
     Ok(())
 }
 

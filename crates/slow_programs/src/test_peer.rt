@@ -161,7 +161,12 @@ fn copies(alloc: Global, ops: &[Op], from: usize) -> Result<Vec<Op>, AllocError>
 }
 
 pub(crate) fn asked(doc: u32, rev: Option<u32>, change: Change) -> Edit {
-    Edit { doc, rev, token: None, change }
+    Edit {
+        doc,
+        rev,
+        token: None,
+        change,
+    }
 }
 
 pub(crate) fn edit_text(alloc: Global, text: &str) -> Result<EditText, EditError> {
