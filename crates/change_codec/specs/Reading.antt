@@ -1,6 +1,7 @@
 -- Reading the body of a record from left to right, up to the first broken rule. Each field is a value and the bytes
 -- after it.
-use Rattle.std.specs.Prelude.{◌≡◌, ℕ, zero, suc, List, [], ◌∷◌, length, take, drop, Option, Some, None, Result, Ok, Err, ◌-◌, Bool, true, false, ◌&&◌, nat_lt, ◌==◌, if◌then◌else◌}
+use Rattle.std.specs.Prelude.{◌≡◌, ℕ, zero, suc, List, [], ◌∷◌, length, take, drop, Option, Some, None, Result, Ok, Err, ◌-◌, Bool, true, false}
+use Rattle.std.specs.Prelude.{◌&&◌, nat_lt, ◌==◌, if◌then◌else◌}
 use Rattle.std.specs.Int.{Width, w16, w32, w64, w128, byte_len, from_be_bytes, is_in_range}
 use lib.Utf8.{scalar}
 use Rattle.std.specs.Str.{is_utf8}

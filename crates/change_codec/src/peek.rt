@@ -15,7 +15,8 @@ use crate::token::take_token;
 use fixed_numbers::sizes::MIN_RECORD;
 
 /// How many bytes the record takes that the bytes begin with, from 37 to 1,495, and to 1,511 in the
-/// third format. `None` where they begin with no whole record of an operation of the format. One pass over the record; takes no memory.
+/// third format. `None` where they begin with no whole record of an operation of the format. One
+/// pass over the record; takes no memory.
 pub fn skip_op(format: Format, bytes: &[u8]) -> Option<usize>
     ensures some { IfSome result (λ n. (op : Operation)
         × IsOf format op × BeginsWithOp bytes.now op n) }

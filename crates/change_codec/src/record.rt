@@ -49,17 +49,18 @@ fn put_body(op: &Op, out: &mut Vec<u8>)
 }
 
 /// Takes the operation of a format whose record the bytes begin with, and the number of bytes that
-/// it takes: at least 37. `None` where fewer than four bytes are there, or fewer than the record has.
+/// it takes: at least 37. `None` where fewer than four bytes are there, or fewer than the record
+/// has.
 ///
-/// A length that isn't from 33 to 1,491, or to 1,507 in the third format, is `Length` (30). In a whole record the first field that
-/// breaks its rule decides, in their order: `Length` where it reaches past the end of the body, and
-/// also where bytes are left behind the last one; `Kind` (31) for no kind of record of the
-/// format, of origin or of mark; `Number` (32) for a counter that isn't from 1 to 2^48 - 1, a nil replica or token, more than 16
-/// deps, a count that isn't from 1 to 2^24, or a URL that isn't of 1 to 1,024 bytes; `Scalar` (33)
-/// for no Unicode scalar value; `Utf8` (34) for a URL that isn't UTF-8; `Order` (35) where the
-/// replicas of the deps don't rise; `Anchor` (36) for no anchor, a start at the end of the text, or
-/// an end at its start. `Memory` (1) may only stand in place of an operation. Nothing is consumed
-/// by a refusal.
+/// A length that isn't from 33 to 1,491, or to 1,507 in the third format, is `Length` (30). In a
+/// whole record the first field that breaks its rule decides, in their order: `Length` where it
+/// reaches past the end of the body, and also where bytes are left behind the last one; `Kind` (31)
+/// for no kind of record of the format, of origin or of mark; `Number` (32) for a counter that
+/// isn't from 1 to 2^48 - 1, a nil replica or token, more than 16 deps, a count that isn't from 1
+/// to 2^24, or a URL that isn't of 1 to 1,024 bytes; `Scalar` (33) for no Unicode scalar value;
+/// `Utf8` (34) for a URL that isn't UTF-8; `Order` (35) where the replicas of the deps don't rise;
+/// `Anchor` (36) for no anchor, a start at the end of the text, or an end at its start. `Memory`
+/// (1) may only stand in place of an operation. Nothing is consumed by a refusal.
 ///
 /// One pass over the record; the entries of its deps, and a URL, are then read again as they are
 /// copied, into one allocation each.
@@ -125,7 +126,8 @@ fn take_body(alloc: Global, format: Format, bytes: &[u8]) -> Result<Op, CodecErr
 /// Takes what stands behind the deps of a record.
 fn take_rest(alloc: Global, head: Head, deps: &[u8], bytes: &[u8]) -> Result<Op, CodecError>
     requires tested { IsOk (deps_at deps.now) }
-    ensures { Gives (λ op. op) result (with_head head (deps_of deps.now) (rest_at head.has_token head.kind bytes.now)) }
+    ensures { Gives (λ op. op) result (with_head head (deps_of deps.now)
+        (rest_at head.has_token head.kind bytes.now)) }
 {
     match take_token(head.has_token, bytes) {
         Ok((token, rest)) => match take_whole_content(head.kind, rest) {

@@ -44,8 +44,8 @@ fn put_each(ops: &[Op], out: &mut Vec<u8>) -> Result<(), AllocError>
 }
 
 /// The operations of a format whose records these bytes are. `Stream` (46) where the bytes aren't
-/// the records of such operations, one after another; `Memory` (1) says nothing of the bytes. One pass; what
-/// `take_op` takes for each.
+/// the records of such operations, one after another; `Memory` (1) says nothing of the bytes. One
+/// pass; what `take_op` takes for each.
 pub fn take_ops(alloc: Global, format: Format, bytes: &[u8]) -> Result<Vec<Op>, StreamError>
     ensures spelled_so { IfOk result (λ ops. spelled_all ops.items ≡ bytes.now) }
     ensures fits { IfOk result (λ ops. AreOperations ops.items) }

@@ -38,8 +38,8 @@ fn push_digits(bytes: &mut Vec<u8>, digits: &str) -> Result<(), Fail> {
     Ok(())
 }
 
-/// Puts the bytes that pieces of hex say behind the others, where `A` stands for the replica, `T` for
-/// the token and `N` for eight zeros.
+/// Puts the bytes that pieces of hex say behind the others, where `A` stands for the replica, `T`
+/// for the token and `N` for eight zeros.
 fn push_pieces(bytes: &mut Vec<u8>, pieces: &str) -> Result<(), Fail> {
     for piece in pieces.split_whitespace() {
         let digits = match piece {

@@ -1,5 +1,6 @@
 //! Tokens of edits.
-ghost use Rattle.change_codec.specs.Spelling.{token_bytes};
+ghost use Rattle.std.specs.Int.{w128};
+ghost use Rattle.change_codec.specs.Spelling.{number_bytes, token_bytes};
 ghost use Rattle.change_codec.specs.Reading.{Reads, token_at};
 ghost use Rattle.change_codec.specs.Writing.{Appends, HasRoom};
 
@@ -7,14 +8,23 @@ use crate::CodecError;
 use crate::number::{put_bytes, take_sixteen};
 use op_ids::Token;
 
+/// Puts the sixteen bytes of a token.
+#[tactic(auto, unfolding(crate::specs::Spelling::number_bytes))]
+fn put_sixteen(token: Token, out: &mut Vec<u8>)
+    requires { HasRoom out.old (number_bytes w128 token) }
+    ensures { Appends out.old out.new (number_bytes w128 token) }
+{
+    put_bytes(&token.bytes(), out);
+}
+
 /// Puts the sixteen bytes of a token, or nothing where there is none.
-#[tactic(auto, unfolding(crate::specs::Spelling::token_bytes, crate::specs::Spelling::number_bytes))]
+#[tactic(auto, unfolding(crate::specs::Spelling::token_bytes))]
 pub fn put_token(token: Option<Token>, out: &mut Vec<u8>)
     requires { HasRoom out.old (token_bytes token) }
     ensures { Appends out.old out.new (token_bytes token) }
 {
     if let Some(token) = token {
-        put_bytes(&token.bytes(), out);
+        put_sixteen(token, out);
     }
 }
 

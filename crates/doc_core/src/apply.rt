@@ -14,8 +14,9 @@ use op_model::{Body, Op};
 impl Doc {
     /// Takes an operation of the document: an insert, a remove that leaves a tombstone, or a mark
     /// operation, which is kept and leaves the characters as they are. `UnknownId` (60) exactly
-    /// where a character that it names isn't there, `Memory` (1) where a growth was refused, for which
-    /// no remove asks; both leave the document as it was. Linear in the characters, tombstones counted.
+    /// where a character that it names isn't there, `Memory` (1) where a growth was refused, for
+    /// which no remove asks; both leave the document as it was. Linear in the characters,
+    /// tombstones counted.
     pub fn apply(&mut self, op: &Op) -> Result<(), SequenceError>
         ensures taken { OnOk result (Takes op.now self.old self.new) }
         ensures unknown { (ops : List Op) → StandsFor self.old ops
@@ -32,8 +33,8 @@ impl Doc {
 
     /// Takes the operations of an edit, whole or not at all. `UnknownId` (60) exactly where a
     /// character that they name isn't there, nor inserted by one of them before, `Memory` (1) where
-    /// a growth was refused, for which no removes ask; both leave the document as it was. Linear in the characters for each
-    /// operation.
+    /// a growth was refused, for which no removes ask; both leave the document as it was. Linear in
+    /// the characters for each operation.
     pub fn apply_edit(&mut self, edit: &Made) -> Result<(), SequenceError>
         ensures taken { OnOk result (TakesAll edit.now self.old self.new) }
         ensures unknown { (ops : List Op) → StandsFor self.old ops

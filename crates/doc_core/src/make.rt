@@ -21,9 +21,9 @@ use std::num::NonZeroU32;
 impl Doc {
     /// Makes the inserts of a text before the visible character at an index, or at the end: a
     /// replica's next operations, the first with this counter and depending on this clock, each
-    /// with this token. The document stays as it is. The first one's origin is the last of the tombstones at that place
-    /// that a mark ends just after, or else the visible character before it, or none at the
-    /// beginning. So a mark that ends there, as a link, doesn't cover the text.
+    /// with this token. The document stays as it is. The first one's origin is the last of the
+    /// tombstones at that place that a mark ends just after, or else the visible character before
+    /// it, or none at the beginning. So a mark that ends there, as a link, doesn't cover the text.
     ///
     /// Refuses, in this order: `Range` (5) exactly where the index is above the length of the
     /// text, `Limit` (7) exactly where there are more than 256 characters, or a counter or the

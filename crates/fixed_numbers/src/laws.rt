@@ -1,5 +1,5 @@
-//! Laws of the fixed numbers: calls that do nothing, and whose contracts are the laws. Each number is
-//! said by its value here, so that none is changed by a slip.
+//! Laws of the fixed numbers: calls that do nothing, and whose contracts are the laws. Each number
+//! is said by its value here, so that none is changed by a slip.
 ghost use Rattle.std.specs.Prelude.{◌≡◌, ◌+◌, ◌*◌, ◌^◌, [], ◌∷◌};
 ghost use Rattle.fixed_numbers.specs.Refusals.{of_sessions, of_merges, of_links, of_records};
 ghost use Rattle.fixed_numbers.specs.Refusals.{of_files, of_devices, of_the_rest};

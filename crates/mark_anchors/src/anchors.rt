@@ -1,16 +1,14 @@
-ghost use Rattle.std.specs.Prelude.{◌≡◌, ◌↔◌, ℕ, List, [], ◌∷◌, ◌++◌, false, IfOk, IfErr, IsSome, OnOk, OnErr};
+ghost use Rattle.std.specs.Prelude.{◌≡◌, ◌↔◌, ℕ, List, [], ◌∷◌, ◌++◌, IfOk, IfErr, IsSome, OnOk, OnErr};
 ghost use Rattle.std.specs.Prelude.{filter, map, IsErrOf};
-ghost use Rattle.std.specs.List.{list_all};
 ghost use Rattle.char_sequence.specs.Content.{Holds};
 ghost use Rattle.mark_anchors.specs.Edges.{AreEdges, AreKept};
 ghost use Rattle.mark_anchors.specs.Force.{in_force as in_force_of, number};
 ghost use Rattle.mark_anchors.specs.Keeping.{in_order, AreMarksOf};
 ghost use Rattle.op_ids.specs.Id.{is_same};
-ghost use Rattle.mark_anchors.specs.Naming.{named_by_marking};
+ghost use Rattle.mark_anchors.specs.Naming.{NamesUnknown};
 ghost use Rattle.op_model.specs.declared.op.Op.{Op};
-ghost use Rattle.op_model.specs.Characters.{characters};
 ghost use Rattle.op_model.specs.Marks.{marking_of, markings as markings_of};
-ghost use Rattle.op_model.specs.Placing.{has_id, Fits};
+ghost use Rattle.op_model.specs.Placing.{Fits};
 ghost use Rattle.op_model.specs.Walk.{walk};
 
 use crate::edge::{Edge, end_edge, start_edge};
@@ -54,9 +52,9 @@ impl Anchors {
         }
     }
 
-    /// Those of a document whose mark operations are given in the order in which they came. An error
-    /// is want of memory (1). Their edges are sorted: as
-    /// many steps as there are mark operations, times their logarithm.
+    /// Those of a document whose mark operations are given in the order in which they came. An
+    /// error is want of memory (1). Their edges are sorted: as many steps as there are mark
+    /// operations, times their logarithm.
     pub fn from_markings(markings: Vec<Marking>) -> Result<Anchors, AllocError>
         ensures { IfOk result (λ a. (ops : List Op) (doc : ℕ)
             → markings.items ≡ markings_of ops doc → AreMarksOf a ops doc) }
@@ -67,17 +65,15 @@ impl Anchors {
 
     /// Takes an operation of the document, whose characters are given: a mark operation is kept,
     /// another one adds nothing. `UnknownId` (60) exactly where a mark operation names a character
-    /// that isn't there, `Memory` (1) where a growth for a mark operation was refused; both leave the anchors as they
-    /// were. It costs the search of both characters, as `Sequence::find` does it, and moves the
-    /// edges behind its own.
+    /// that isn't there, `Memory` (1) where a growth for a mark operation was refused; both leave
+    /// the anchors as they were. It costs the search of both characters, as `Sequence::find` does
+    /// it, and moves the edges behind its own.
     pub fn apply_mark(&mut self, op: &Op, sequence: &Sequence) -> Result<(), SequenceError>
         ensures taken { OnOk result ((ops : List Op) (doc : ℕ) → Holds sequence.now ops doc
             → AreMarksOf self.old ops doc → Fits ops doc op.now
             → AreMarksOf self.new (ops ++ op.now ∷ []) doc) }
         ensures unknown { (ops : List Op) (doc : ℕ) → Holds sequence.now ops doc
-            → (IsErrOf result SequenceError.UnknownId
-            ↔ (list_all (λ id. has_id (characters ops doc) id) (named_by_marking op.now.body)
-            ≡ false)) }
+            → (IsErrOf result SequenceError.UnknownId ↔ NamesUnknown ops doc op.now.body) }
         ensures memory { IsErrOf result SequenceError.Memory
             → IsSome (marking_of op.now.id op.now.body) }
         ensures err { OnErr result (self.new ≡ self.old) }

@@ -1,13 +1,11 @@
-ghost use Rattle.std.specs.Prelude.{◌≡◌, ◌↔◌, ℕ, List, [], ◌∷◌, ◌++◌, false, IfOk, IfErr, IsSome, OnOk, OnErr, IsErrOf};
-ghost use Rattle.std.specs.List.{list_all};
+ghost use Rattle.std.specs.Prelude.{◌≡◌, ◌↔◌, ℕ, List, [], ◌∷◌, ◌++◌, IfOk, IfErr, IsSome, OnOk, OnErr, IsErrOf};
 ghost use Rattle.char_sequence.specs.Woven.{IsWovenOf};
 ghost use Rattle.mark_anchors.specs.Gathered.{AreGathered};
 ghost use Rattle.mark_anchors.specs.Keeping.{AreMarksOf};
-ghost use Rattle.mark_anchors.specs.Naming.{named_by_marking};
+ghost use Rattle.mark_anchors.specs.Naming.{NamesUnknown};
 ghost use Rattle.op_model.specs.declared.op.Op.{Op};
-ghost use Rattle.op_model.specs.Characters.{characters};
 ghost use Rattle.op_model.specs.Marks.{marking_of, markings as markings_of};
-ghost use Rattle.op_model.specs.Placing.{has_id, Fits};
+ghost use Rattle.op_model.specs.Placing.{Fits};
 
 use crate::anchors::Anchors;
 use crate::naming::check_names;
@@ -45,15 +43,13 @@ impl Gathering {
 
     /// Takes an operation of the document, whose characters are given: a mark operation is kept,
     /// another one adds nothing. `UnknownId` (60) exactly where a mark operation names a character
-    /// that isn't there, `Memory` (1) where a growth for a mark operation was refused; both leave what is gathered as it
-    /// was. It costs the search of both characters, as `Weave::has` does it.
+    /// that isn't there, `Memory` (1) where a growth for a mark operation was refused; both leave
+    /// what is gathered as it was. It costs the search of both characters, as `Weave::has` does it.
     pub fn apply_mark(&mut self, op: &Op, weave: &Weave) -> Result<(), SequenceError>
         ensures taken { OnOk result ((ops : List Op) (doc : ℕ) → AreGathered self.old ops doc
             → Fits ops doc op.now → AreGathered self.new (ops ++ op.now ∷ []) doc) }
         ensures unknown { (ops : List Op) (doc : ℕ) → IsWovenOf weave.now ops doc
-            → (IsErrOf result SequenceError.UnknownId
-            ↔ (list_all (λ id. has_id (characters ops doc) id) (named_by_marking op.now.body)
-            ≡ false)) }
+            → (IsErrOf result SequenceError.UnknownId ↔ NamesUnknown ops doc op.now.body) }
         ensures memory { IsErrOf result SequenceError.Memory
             → IsSome (marking_of op.now.id op.now.body) }
         ensures err { OnErr result (self.new ≡ self.old) }
@@ -63,8 +59,8 @@ impl Gathering {
         Ok(())
     }
 
-    /// The anchors of a document whose mark operations these are. An error is want of memory (1). Their edges are sorted: as many steps as there are mark
-    /// operations, times their logarithm.
+    /// The anchors of a document whose mark operations these are. An error is want of memory (1).
+    /// Their edges are sorted: as many steps as there are mark operations, times their logarithm.
     pub fn anchors(self) -> Result<Anchors, AllocError>
         ensures { IfOk result (λ a. (ops : List Op) (doc : ℕ)
             → AreGathered self ops doc → AreMarksOf a ops doc) }

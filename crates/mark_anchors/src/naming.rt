@@ -1,7 +1,7 @@
 ghost use Rattle.std.specs.Prelude.{◌≡◌, ◌↔◌, ℕ, List, ◌++◌, false, IsErrOf, Some};
 ghost use Rattle.std.specs.List.{list_all};
 ghost use Rattle.char_sequence.specs.Content.{is_there};
-ghost use Rattle.mark_anchors.specs.Naming.{named_by_marking};
+ghost use Rattle.mark_anchors.specs.Naming.{NamesUnknown};
 ghost use Rattle.op_model.specs.declared.op.Op.{Op};
 ghost use Rattle.op_model.specs.Causality.{optional, named_by_start, named_by_end};
 ghost use Rattle.op_model.specs.Characters.{characters};
@@ -48,8 +48,7 @@ impl Characters for Weave {
 /// Refuses a mark operation that names a character that isn't there. Takes no memory.
 pub fn check_names<C: Characters>(text: &C, body: &Body) -> Result<(), SequenceError>
     ensures unknown { (ops : List Op) (doc : ℕ) → C.are_of text.now ops doc
-        → (IsErrOf result SequenceError.UnknownId
-        ↔ (list_all (λ id. has_id (characters ops doc) id) (named_by_marking body.now) ≡ false)) }
+        → (IsErrOf result SequenceError.UnknownId ↔ NamesUnknown ops doc body.now) }
     ensures memory { IsErrOf result SequenceError.Memory → ⊥ }
 {
     match body {

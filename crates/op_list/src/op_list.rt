@@ -45,8 +45,8 @@ impl OpList {
     }
 
     /// The operations of a format whose records these bytes are. `Stream` (46) where the bytes
-    /// aren't the records of its operations, one after another; `Memory` (1) says nothing of the bytes. One pass.
-    /// The bytes stay where they are.
+    /// aren't the records of its operations, one after another; `Memory` (1) says nothing of the
+    /// bytes. One pass. The bytes stay where they are.
     pub fn read(alloc: Global, format: Format, records: Vec<u8>) -> Result<OpList, StreamError>
         requires { length records.items < 2 ^ 32 }
         ensures spelled_so { IfOk result (λ ops. spelled_all ops ≡ records.items) }

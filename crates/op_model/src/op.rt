@@ -103,8 +103,8 @@ impl Op {
         }
     }
 
-    /// What the operation does as a mark operation, if it is one. An error is want of memory (1), which
-    /// only a mark operation takes.
+    /// What the operation does as a mark operation, if it is one. An error is want of memory (1),
+    /// which only a mark operation takes.
     pub fn marking(&self) -> Result<Option<Marking>, AllocError>
         ensures same { IfOk result (λ marking. marking ≡ marking_of self.now.id self.now.body) }
         ensures memory { IfErr result (λ _. IsSome (marking_of self.now.id self.now.body)) }

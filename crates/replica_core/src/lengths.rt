@@ -46,8 +46,8 @@ fn tokens_length(token: Option<Token>, count: u64) -> u64
     token_length(token.is_some()) * count
 }
 
-/// How many bytes `count` records take without their tokens and contents, where the first has `first` deps,
-/// and each later one has `later`.
+/// How many bytes `count` records take without their tokens and contents, where the first has
+/// `first` deps, and each later one has `later`.
 fn heads_length(first: usize, later: usize, count: u64) -> u64
     requires first { first ≤ MAX_REPLICAS }
     requires later { later ≤ MAX_REPLICAS + 1 }
