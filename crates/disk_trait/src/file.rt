@@ -3,9 +3,10 @@ ghost use Rattle.std.specs.Prelude.{◌≡◌, ◌⊎◌, [], IfErr};
 ghost use Rattle.disk_trait.specs.declared.error.DiskError.TheVariants.{OpenFailed};
 
 use crate::opening::{make_alone, open_alone, open_shared, remove_made};
+use crate::size_limit::most_bytes;
 use crate::{Disk, DiskError, DiskFacts};
 use std::fs::File;
-use std::os::unix::fs::FileExt;
+use std::os::unix::fs::{FileExt, MetadataExt};
 use std::rt::Files;
 
 /// A disk over a file. It doesn't tell, since no contract can say what a real file does, so that
@@ -20,11 +21,19 @@ use std::rt::Files;
 /// It keeps programs that lock alike to the last rule: the file is locked as long as it is open,
 /// for one program that writes or for several that read. Only a plain file is opened, and never on
 /// the descriptor of a standard stream.
+///
+/// A lock keeps nobody from removing, cutting or replacing the file. So before the first write
+/// after each sync it looks at the open file: one that has no name any more, or is smaller than it
+/// was, is a failed call, since what was written there would be lost.
 #[derive(Drop)]
 pub struct FileDisk {
     file: File,
     // The file has at least `inside` bytes: as many as were seen, since nobody else writes it.
     inside: u64,
+    // The system ends a process by a signal that writes past so many bytes.
+    most: u64,
+    // Since the last sync the file was seen, with a name and no smaller than it was.
+    is_seen: bool,
     // `create` made the file, and no other program has filled it.
     is_made: bool,
 }
@@ -35,8 +44,9 @@ impl FileDisk {
     pub fn open<R: Files<File = File>>(rt: &R, path: &str) -> Result<FileDisk, DiskError>
         ensures { IfErr result (λ e. e ≡ OpenFailed) }
     {
+        let most = most_bytes(rt);
         match open_alone(rt, path) {
-            Ok(file) => Ok(FileDisk::over(file, false)),
+            Ok(file) => Ok(FileDisk::over(file, most, false)),
             Err(_) => Err(DiskError::OpenFailed),
         }
     }
@@ -47,8 +57,9 @@ impl FileDisk {
     pub fn open_to_read<R: Files<File = File>>(rt: &R, path: &str) -> Result<FileDisk, DiskError>
         ensures { IfErr result (λ e. e ≡ OpenFailed) }
     {
+        let most = most_bytes(rt);
         match open_shared(rt, path) {
-            Ok(file) => Ok(FileDisk::over(file, false)),
+            Ok(file) => Ok(FileDisk::over(file, most, false)),
             Err(_) => Err(DiskError::OpenFailed),
         }
     }
@@ -59,8 +70,9 @@ impl FileDisk {
     pub fn create<R: Files<File = File>>(rt: &R, path: &str) -> Result<FileDisk, DiskError>
         ensures { IfErr result (λ e. e ≡ OpenFailed) }
     {
+        let most = most_bytes(rt);
         match make_alone(rt, path) {
-            Ok((file, is_made)) => Ok(FileDisk::over(file, is_made)),
+            Ok((file, is_made)) => Ok(FileDisk::over(file, most, is_made)),
             Err(_) => Err(DiskError::OpenFailed),
         }
     }
@@ -73,12 +85,26 @@ impl FileDisk {
         }
     }
 
-    fn over(file: File, is_made: bool) -> FileDisk {
+    fn over(file: File, most: u64, is_made: bool) -> FileDisk {
         FileDisk {
             file,
             inside: 0,
+            most,
+            is_seen: false,
             is_made,
         }
+    }
+
+    /// Whether the file has a name and is no smaller than it was. It is asked once between two
+    /// syncs: a file without a name is gone once it is closed, whatever was written to it.
+    fn is_there(&mut self) -> bool {
+        if !self.is_seen {
+            self.is_seen = match self.file.metadata() {
+                Ok(found) => found.nlink() > 0 && found.len() >= self.inside,
+                Err(_) => false,
+            };
+        }
+        self.is_seen
     }
 
     /// Whether the file has at least `end` bytes. It is asked only where that isn't known. Refuses
@@ -109,11 +135,12 @@ impl DiskFacts for FileDisk {
 impl Disk for FileDisk {
     fn size(&mut self) -> Result<u64, DiskError> {
         match self.file.metadata() {
-            Ok(found) => {
+            // One that is smaller than it was has lost bytes.
+            Ok(found) if found.len() >= self.inside => {
                 self.inside = found.len();
                 Ok(self.inside)
             }
-            Err(_) => Err(DiskError::ReadFailed),
+            _ => Err(DiskError::ReadFailed),
         }
     }
 
@@ -130,6 +157,10 @@ impl Disk for FileDisk {
     }
 
     fn write_at(&mut self, pos: u64, bytes: &[u8]) -> Result<(), DiskError> {
+        let end = pos.saturating_add(bytes.len() as u64);
+        if end > self.most || !self.is_there() {
+            return Err(DiskError::WriteFailed);
+        }
         match self.reaches(pos) {
             Ok(true) => {}
             Ok(false) => return Err(DiskError::PastEnd),
@@ -137,7 +168,7 @@ impl Disk for FileDisk {
         }
         match self.file.write_all_at(bytes, pos) {
             Ok(()) => {
-                self.inside = self.inside.max(pos.saturating_add(bytes.len() as u64));
+                self.inside = self.inside.max(end);
                 Ok(())
             }
             Err(_) => Err(DiskError::WriteFailed),
@@ -145,6 +176,7 @@ impl Disk for FileDisk {
     }
 
     fn sync(&mut self) -> Result<(), DiskError> {
+        self.is_seen = false;
         match self.file.sync_data() {
             Ok(()) => Ok(()),
             Err(_) => Err(DiskError::SyncFailed),

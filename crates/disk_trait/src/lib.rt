@@ -6,12 +6,15 @@ mod error;
 mod facts;
 mod fault;
 mod file;
+#[cfg(test)]
+mod file_tests;
 mod inside;
 mod laws;
 mod log;
 mod medium;
 mod memory;
 mod opening;
+mod size_limit;
 #[cfg(test)]
 mod tests;
 

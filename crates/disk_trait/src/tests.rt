@@ -3,9 +3,8 @@ ghost use Rattle.disk_trait.specs.File.{overwritten, Torn};
 ghost use Rattle.disk_trait.specs.Calls.{LeavesOnly};
 ghost use Rattle.disk_trait.specs.declared.error.DiskError.TheVariants.{PastEnd};
 
-use crate::{Disk, DiskError, DiskFacts, Fate, FaultDisk, FileDisk, MemDisk};
+use crate::{Disk, DiskError, DiskFacts, Fate, FaultDisk, MemDisk};
 use std::alloc::{AllocError, Global};
-use std::fs;
 use std::test::Fail;
 
 // What a layer above can say of any disk, by the trait alone.
@@ -43,7 +42,7 @@ fn settle<D: Disk>(mut disk: D) -> Result<Settled<D>, D>
 const PAGE: usize = 4096;
 
 // The file as the disk reads it.
-fn file_of<D: Disk>(alloc: Global, disk: &mut D) -> Result<Vec<u8>, Fail> {
+pub(crate) fn file_of<D: Disk>(alloc: Global, disk: &mut D) -> Result<Vec<u8>, Fail> {
     let size = disk.size()?;
     let mut file = Vec::from_elem(alloc, 0, usize::try_from(size)?)?;
     disk.read_at(0, &mut file)?;
@@ -51,7 +50,7 @@ fn file_of<D: Disk>(alloc: Global, disk: &mut D) -> Result<Vec<u8>, Fail> {
 }
 
 // A file of `count` ones, and these bytes behind them.
-fn ones(alloc: Global, count: usize, behind: &[u8]) -> Result<Vec<u8>, AllocError> {
+pub(crate) fn ones(alloc: Global, count: usize, behind: &[u8]) -> Result<Vec<u8>, AllocError> {
     let mut file = Vec::from_elem(alloc, 1, count)?;
     file.extend_from_slice(behind)?;
     Ok(file)
@@ -141,7 +140,7 @@ fn memory_has_its_limits(rt: HostRuntime) -> Result<(), Fail> {
 }
 
 // What each call of a short script answers: 0, or the number of its refusal.
-fn script<D: Disk>(disk: &mut D) -> [u8; 6] {
+pub(crate) fn script<D: Disk>(disk: &mut D) -> [u8; 6] {
     let mut bytes = [0; 4];
     [
         number_of(disk.write_at(0, &[1; PAGE])),
@@ -153,7 +152,7 @@ fn script<D: Disk>(disk: &mut D) -> [u8; 6] {
     ]
 }
 
-fn number_of<T: Drop>(answer: Result<T, DiskError>) -> u8 {
+pub(crate) fn number_of<T: Drop>(answer: Result<T, DiskError>) -> u8 {
     match answer {
         Ok(_) => 0,
         Err(error) => error.number(),
@@ -228,85 +227,6 @@ fn a_generic_caller_writes_and_syncs(rt: HostRuntime) -> Result<(), Fail> {
         file_of(alloc, &mut memory)?.as_slice(),
         [7, 8, 6].as_slice()
     );
-    Ok(())
-}
-
-#[test]
-fn a_real_file_reads_back(rt: HostRuntime) -> Result<(), Fail> {
-    let alloc = rt.alloc();
-    let mut disk = FileDisk::create(&rt, "made.disk")?;
-    assert_eq!(rt; script(&mut disk), [0, 0, 0, 0, 0, 0]);
-    assert_eq!(rt; disk.write_at(4100, &[1]), Err(DiskError::PastEnd));
-    assert_eq!(rt; disk.read_at(4096, &mut [0; 4]), Err(DiskError::PastEnd));
-    drop(disk);
-    let mut again = FileDisk::open(&rt, "./made.disk")?;
-    let read = file_of(alloc, &mut again)?;
-    assert_eq!(rt;
-        read.as_slice(),
-        ones(alloc, 4094, &[2, 3, 4, 5, 6])?.as_slice()
-    );
-    drop(again);
-    let mut kept = FileDisk::create(&rt, "made.disk")?;
-    assert_eq!(rt; kept.size(), Ok(4099));
-    kept.discard(&rt, "made.disk");
-    let mut shared = FileDisk::open_to_read(&rt, "made.disk")?;
-    assert_eq!(rt; shared.size(), Ok(4099));
-    fs::remove_file(&rt, "made.disk")?;
-    Ok(())
-}
-
-#[test]
-fn a_real_file_has_one_writer_or_readers(rt: HostRuntime) -> Result<(), Fail> {
-    let path = "locked.disk";
-    let writer = FileDisk::create(&rt, path)?;
-    assert_eq!(rt; number_of(FileDisk::open(&rt, path)), 54);
-    assert_eq!(rt; number_of(FileDisk::create(&rt, path)), 54);
-    assert_eq!(rt; number_of(FileDisk::open_to_read(&rt, path)), 54);
-    drop(writer);
-    let reader = FileDisk::open_to_read(&rt, path)?;
-    let other = FileDisk::open_to_read(&rt, path)?;
-    assert_eq!(rt; number_of(FileDisk::open(&rt, path)), 54);
-    drop(reader);
-    drop(other);
-    assert_eq!(rt; number_of(FileDisk::open(&rt, path)), 0);
-    fs::remove_file(&rt, path)?;
-    Ok(())
-}
-
-#[test]
-fn a_file_that_was_made_is_discarded(rt: HostRuntime) -> Result<(), Fail> {
-    let path = "discarded.disk";
-    let mut disk = FileDisk::create(&rt, path)?;
-    assert_eq!(rt; disk.write_at(0, &[1]), Ok(()));
-    disk.discard(&rt, path);
-    assert_eq!(rt; number_of(FileDisk::open(&rt, path)), 54);
-    let lost = FileDisk::create(&rt, path)?;
-    fs::remove_file(&rt, path)?;
-    let other = FileDisk::create(&rt, path)?;
-    lost.discard(&rt, path);
-    drop(other);
-    assert_eq!(rt; number_of(FileDisk::open(&rt, path)), 0);
-    fs::remove_file(&rt, path)?;
-    Ok(())
-}
-
-#[test]
-fn a_real_file_refuses(rt: HostRuntime) -> Result<(), Fail> {
-    for path in ["missing.disk", ".", "", "/dev/null"] {
-        assert_eq!(rt; number_of(FileDisk::open(&rt, path)), 54, "at {path}");
-        assert_eq!(rt;
-            number_of(FileDisk::open_to_read(&rt, path)),
-            54,
-            "at {path}"
-        );
-    }
-    for path in [".", "missing/made.disk", "", "/dev/null"] {
-        assert_eq!(rt; number_of(FileDisk::create(&rt, path)), 54, "at {path}");
-    }
-    // A file of the system's own, which has no bytes of its own to write or to sync.
-    let mut unwritten = FileDisk::open_to_read(&rt, "/proc/self/stat")?;
-    assert_eq!(rt; unwritten.write_at(0, &[1]), Err(DiskError::WriteFailed));
-    assert_eq!(rt; unwritten.sync(), Err(DiskError::SyncFailed));
     Ok(())
 }
 
