@@ -1,6 +1,6 @@
 -- Which refusal names which fault.
-use Rattle.std.proofs.Common.{◌≡◌, ◌≢◌, ◌⊎◌, ℕ, List, refl, sym, ◌∙◌, inl, inr, Result, Ok, Err}
-use Rattle.group_commit.specs.Loading.{Names, IsFirstFault, HasNone, failures_of, of_roots, of_pages}
+use Rattle.std.proofs.Common.{◌≡◌, ◌≢◌, ◌⊎◌, ℕ, false, List, refl, sym, ◌∙◌, inl, inr, Result, Ok, Err}
+use Rattle.group_commit.specs.Loading.{Names, IsReadFault, IsFirstFault, HasNone, failures_of, is_of_sync, of_roots, of_pages}
 use Rattle.page_file.specs.PageError.{failures_of as failures_of_pages}
 use Rattle.page_file.specs.declared.error.PageError.{PageError}
 use Rattle.page_file.specs.declared.error.PageError.TheVariants.{Memory as PagesMemory, BadTable as PagesBad, ReadFailed as PagesReadFailed}
@@ -25,7 +25,7 @@ names_on BadRoot r s on named = on 43 named
 names_on BadTable r s on named = on 45 named
 names_on BadStream r s on named = on 46 named
 names_on ReadFailed r s on named = tt
-names_on SyncFailed r s on named = tt
+names_on SyncFailed r s on named = absurd named
 
 -- want of memory and the device say nothing of the file
 pub names_nothing : {A : Type 0} (e : OpenError) (r : Result A ℕ) → (e ≡ Memory) ⊎ (e ≡ ReadFailed) → Names e r
@@ -52,7 +52,7 @@ quiet_ops e (inr is) = rw is refl
 
 -- a fault of the stream's records is the file's
 pub fault_of_ops : (file body bytes : List ℕ) (e : OpenError) → (e ≡ Memory) ⊎ (e ≡ BadStream) → stored file ≡ Ok (body, bytes)
-    → (e ≢ Memory → HasNone bytes (count_of body)) → IsFirstFault e file
+    → (e ≢ Memory → HasNone bytes (count_of body)) → IsReadFault e file
 fault_of_ops file body bytes e (inl is) holds none = rw is (inl tt)
 fault_of_ops file body bytes e (inr is) holds none =
     rw is (inr (refl, record { body = body; bytes = bytes; holds = holds; none = none (λ memory. other (sym is ∙ memory)) }))
@@ -71,3 +71,24 @@ pub failures_pages : (e : PageError) → (e ≡ PagesMemory) ⊎ ((e ≡ PagesBa
 failures_pages e (inl is) = rw is refl
 failures_pages e (inr (inl is)) = rw is refl
 failures_pages e (inr (inr is)) = rw is refl
+
+-- a refusal of a read isn't one of the sync
+pub read_failed : (e : OpenError) (file : List ℕ) → IsReadFault e file → is_of_sync e ≡ false
+read_failed Memory file fault = refl
+read_failed NoRoot file fault = refl
+read_failed BadRoot file fault = refl
+read_failed BadTable file fault = refl
+read_failed BadStream file fault = refl
+read_failed ReadFailed file fault = refl
+read_failed SyncFailed file (inl named) = absurd named
+read_failed SyncFailed file (inr (is, lacks)) = absurd (cc)
+
+-- so it is the file's
+pub first_fault : (e : OpenError) (file : List ℕ) → IsReadFault e file → IsFirstFault e file
+first_fault Memory file fault = fault
+first_fault NoRoot file fault = fault
+first_fault BadRoot file fault = fault
+first_fault BadTable file fault = fault
+first_fault BadStream file fault = fault
+first_fault ReadFailed file fault = fault
+first_fault SyncFailed file fault = tt

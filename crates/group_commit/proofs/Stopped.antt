@@ -1,16 +1,18 @@
 -- Where the making of a file stopped, and what is left.
-use Rattle.std.proofs.Common.{◌≡◌, ◌⊎◌, ℕ, ◌+◌, true, false, List, [], ◌∷◌, ◌++◌, length, take, drop, refl, sym, ap, ◌∙◌, inl, inr, arith, Result, Ok, Err}
+use Rattle.std.proofs.Common.{◌≡◌, ◌≢◌, ◌⊎◌, ℕ, ◌+◌, true, false, List, [], ◌∷◌, ◌++◌, length, take, drop, refl, sym, ap, ◌∙◌, inl, inr, arith, Result, Ok, Err}
 use Rattle.std.specs.Prelude.{replicate, OnOk, OnErr}
 use Rattle.std.proofs.lemmas.List.{take_all}
-use Rattle.disk_trait.specs.Calls.{IsOneCall, Keeps}
+use Rattle.disk_trait.specs.Calls.{IsOneCall, Keeps, IsLawful}
+use Rattle.disk_trait.proofs.Moments.{moments_of_none, moments_of_call, moments_then}
 use Rattle.disk_trait.specs.File.{overwritten}
 use Rattle.disk_trait.specs.Writing.{Writes, failures_in}
 use Rattle.disk_trait.specs.declared.facts.DiskFacts.{Ghosts}
 use Rattle.root_slots.specs.Body.{root_of}
 use Rattle.root_slots.specs.Slots.{gate}
-use Rattle.group_commit.specs.NewFile.{slot_page, first_root, failures_of, is_unwritten, Raises, IsUpTo, HasSlots, Stops, Refuses, PutsPartly, OpensPartly}
+use Rattle.group_commit.specs.NewFile.{slot_page, first_root, failures_of, is_unwritten, Raises, IsUntouched, IsUpTo, HasSlots, Stops, Refuses}
+use Rattle.group_commit.specs.NewFile.{PutsPartly, OpensPartly}
 use Rattle.group_commit.specs.declared.init_fault.InitError.{InitError}
-use Rattle.group_commit.specs.declared.init_fault.InitError.TheVariants.{Memory, NotEmpty, WriteFailed, SyncFailed}
+use Rattle.group_commit.specs.declared.init_fault.InitError.TheVariants.{Memory, NotEmpty, ReadFailed, WriteFailed, SyncFailed}
 use Rattle.group_commit.proofs.NewFileLemmas.{put_at_end}
 
 module _ {D : Type 0} (facts : Ghosts D) where
@@ -36,6 +38,30 @@ module _ {D : Type 0} (facts : Ghosts D) where
   keeps_same : (disk : D) → Keeps facts disk disk
   keeps_same disk = record { same = refl; no_more = λ c left. left; no_fewer = λ c left. left }
 
+  -- no call leaves the disk as it was
+  pub untouched_by_none : (disk : D) → IsLawful facts disk → IsUntouched facts disk disk
+  untouched_by_none disk lawful = record { keeps = keeps_same disk; moments = moments_of_none facts (facts.survives disk) disk lawful (λ c left. left) }
+
+  -- nor does one that keeps all
+  pub untouched_by_call : (failures : ℕ) (old new : D) → IsLawful facts old → IsOneCall facts failures 0 0 old new → Keeps facts old new
+      → IsUntouched facts old new
+  untouched_by_call failures old new lawful call keeps = record {
+    keeps = keeps;
+    moments = moments_of_call facts (facts.survives old) old new lawful call (λ c left. left) (λ c left. keeps.no_more c left);
+  }
+
+  -- nor do two such ones
+  untouched_then : (old mid new : D) → IsUntouched facts old mid → IsUntouched facts mid new → IsUntouched facts old new
+  untouched_then old mid new first rest = record {
+    keeps = keeps_then old mid new first.keeps rest.keeps;
+    moments = moments_then facts (facts.survives old) old mid new first.moments (record {
+      later = rest.moments.later;
+      each = λ c left. first.keeps.no_more c (rest.moments.each c left);
+      before = λ t c le left.
+          elim (rest.moments.before t c le left) [ inl earlier ↦ inl earlier | inr has ↦ inr (first.keeps.no_more c has) ];
+    });
+  }
+
   -- nothing was written
   untouched : (replica : ℕ) (cause : InitError) (old new : D) → IsUpTo cause 0 0 → Raises facts (failures_of cause) 0 0 old new
       → Stops facts replica cause old new
@@ -48,21 +74,36 @@ module _ {D : Type 0} (facts : Ghosts D) where
     slots = λ is. absurd (omega (arith, is));
   }
 
-  pub refuses_memory : (replica : ℕ) (disk : D) → facts.content disk ≡ [] → Refuses facts replica Memory disk disk
-  refuses_memory replica disk empty = record {
+  pub refuses_memory : (replica : ℕ) (disk : D) → IsLawful facts disk → facts.content disk ≡ [] → Refuses facts replica Memory disk disk
+  refuses_memory replica disk lawful empty = record {
     not_empty = λ is. absurd cc;
     occupied = λ some. absurd (some empty);
-    kept = λ is. keeps_same disk;
+    kept = λ is. untouched_by_none disk lawful;
     stops = untouched replica Memory disk disk (refl, refl) (record { failures = omega arith; writes = omega arith; syncs = omega arith });
   }
 
+  -- the file has bytes, or its size wasn't told
+  pub refuses_at_once : (replica : ℕ) (cause : InitError) (old new : D) → (cause ≡ NotEmpty) ⊎ (cause ≡ ReadFailed)
+      → (cause ≡ NotEmpty → facts.content old ≢ []) → Raises facts (failures_of cause) 0 0 old new → IsUntouched facts old new
+      → Refuses facts replica cause old new
+  refuses_at_once replica cause old new is some counts kept = record {
+    not_empty = some;
+    occupied = λ other. is;
+    kept = λ none. kept;
+    stops = untouched replica cause old new (up_to is) counts;
+  }
+    where
+      up_to : (cause ≡ NotEmpty) ⊎ (cause ≡ ReadFailed) → IsUpTo cause 0 0
+      up_to (inl is) = rw is (refl, refl)
+      up_to (inr is) = rw is (refl, refl)
+
   -- the file was looked at before
-  pub refuses_then : (replica : ℕ) (cause : InitError) (old mid new : D) → facts.content old ≡ [] → Raises facts 0 0 0 old mid → Keeps facts old mid
+  pub refuses_then : (replica : ℕ) (cause : InitError) (old mid new : D) → facts.content old ≡ [] → Raises facts 0 0 0 old mid → IsUntouched facts old mid
       → Refuses facts replica cause mid new → Refuses facts replica cause old new
   refuses_then replica cause old mid new empty looked keeps refused = record {
-    not_empty = λ is. absurd (refused.not_empty is (keeps.same ∙ empty));
+    not_empty = λ is. absurd (refused.not_empty is (keeps.keeps.same ∙ empty));
     occupied = λ some. absurd (some empty);
-    kept = λ is. keeps_then old mid new keeps (refused.kept is);
+    kept = λ is. untouched_then old mid new keeps (refused.kept is);
     stops = record {
       writes = refused.stops.writes;
       syncs = refused.stops.syncs;

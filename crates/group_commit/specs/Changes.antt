@@ -40,6 +40,7 @@ changed_data current next = changed (parts PAGE_SIZE current.stream) (parts PAGE
 unfoldable pub changed_tables : Saved → Saved → List ℕ
 changed_tables current next = changed (parts TABLE_ENTRIES (data_of current)) (parts TABLE_ENTRIES (data_of next)) (tables_of next.body)
 
--- the pages that a commit of the next root writes
+-- The pages that a commit of the next root writes. The next root's own numbers stand in it, so this alone says which places change;
+-- that a changed page has a number which the current root doesn't reach is said by `KeepsPages` (with an example) and the store.
 abbrev pub changed_pages : Saved → Saved → List ℕ
 changed_pages current next = changed_data current next ++ changed_tables current next

@@ -1,5 +1,6 @@
 -- What a file is loaded as, what a refusal to load it says, and what loading does to the disk.
-use Rattle.std.specs.Prelude.{◌≡◌, ◌≢◌, ◌⊎◌, ℕ, ◌+◌, ◌*◌, nat_le, Bool, true, not, ◌&&◌, List, [], ◌∷◌, length, take, drop, Result, Ok, Err, ⊤, if◌then◌else◌}
+use Rattle.std.specs.Prelude.{◌≡◌, ◌≢◌, ◌⊎◌, ℕ, ◌+◌, ◌*◌, nat_le, Bool, true, false, not, ◌&&◌, List, [], ◌∷◌, length, take, drop, Result, Ok, Err}
+use Rattle.std.specs.Prelude.{⊤, if◌then◌else◌}
 use Rattle.fixed_numbers.specs.declared.refusals.TheConstants.{BAD_ROOT, BAD_STREAM, BAD_TABLE, NO_ROOT, MEMORY, READ_FAILED, SYNC_FAILED}
 use Rattle.fixed_numbers.specs.declared.sizes.TheConstants.{PAGE_SIZE}
 use Rattle.op_model.specs.declared.op.Op.{Op}
@@ -41,6 +42,11 @@ failures_of ReadFailed = 1
 failures_of SyncFailed = 1
 failures_of error = 0
 
+-- the device failed in the sync, or not
+abbrev pub is_of_sync : OpenError → Bool
+is_of_sync SyncFailed = true
+is_of_sync error = false
+
 -- a refusal of the root slots is one of the file
 abbrev pub of_roots : RootsError → OpenError
 of_roots RootsMemory = Memory
@@ -80,7 +86,7 @@ pub record HasNoHistory (file : List ℕ) : Type 0 where
   pub holds : stored file ≡ Ok (body, bytes)
   pub none : HasNone bytes (count_of body)
 
--- this refusal names the first fault of what was sought in a file; one of memory or of the device says nothing of it
+-- this refusal of a read names the first fault of what was sought in a file; one of memory or of the device says nothing of it
 abbrev pub Names : {T : Type 0} → OpenError → Result T ℕ → Type 0
 Names Memory found = ⊤
 Names NoRoot found = found ≡ Err NO_ROOT
@@ -88,11 +94,16 @@ Names BadRoot found = found ≡ Err BAD_ROOT
 Names BadTable found = found ≡ Err BAD_TABLE
 Names BadStream found = found ≡ Err BAD_STREAM
 Names ReadFailed found = ⊤
-Names SyncFailed found = ⊤
+Names SyncFailed found = ⊥
 
--- this refusal names the first fault of the file
+-- this refusal of a read names the first fault of the file
+abbrev pub IsReadFault : OpenError → List ℕ → Type 0
+IsReadFault error file = Names error (stored file) ⊎ ((error ≡ BadStream) × HasNoHistory file)
+
+-- this refusal names the first fault of the file; one of the sync says nothing of it
 abbrev pub IsFirstFault : OpenError → List ℕ → Type 0
-IsFirstFault error file = Names error (stored file) ⊎ ((error ≡ BadStream) × HasNoHistory file)
+IsFirstFault SyncFailed file = ⊤
+IsFirstFault error file = IsReadFault error file
 
 -- all of these pages lie whole in a file of this size
 abbrev pub are_within : ℕ → List ℕ → Bool

@@ -2,7 +2,7 @@
 use Rattle.std.specs.Prelude.{◌≡◌, ◌≢◌, ◌⊎◌, ◌↔◌, ◌≤◌, ℕ, ◌+◌, Bool, true, false, List, [], ◌∷◌, ◌++◌, take, drop, replicate}
 use Rattle.fixed_numbers.specs.declared.refusals.TheConstants.{MEMORY, NOT_EMPTY, READ_FAILED, SYNC_FAILED, WRITE_FAILED}
 use Rattle.fixed_numbers.specs.declared.sizes.TheConstants.{PAGE_SIZE}
-use Rattle.disk_trait.specs.Calls.{Keeps}
+use Rattle.disk_trait.specs.Calls.{Keeps, LeavesOnly}
 use Rattle.disk_trait.specs.declared.facts.DiskFacts.{Ghosts}
 use Rattle.page_file.specs.Index.{Index}
 use Rattle.root_slots.specs.Body.{Root, root_of}
@@ -57,6 +57,11 @@ pub record Raises {D : Type 0} (facts : Ghosts D) (more_failures more_writes mor
 pub record IsMade {D : Type 0} (facts : Ghosts D) (file : List ℕ) (writes syncs : ℕ) (old new : D) : Type 0 where
   pub made : facts.content new ≡ file
   pub counts : Raises facts 0 writes syncs old new
+
+-- nothing was written: reads give the same, and a crash at any moment of it leaves what one before it could
+pub record IsUntouched {D : Type 0} (facts : Ghosts D) (old new : D) : Type 0 where
+  pub keeps : Keeps facts old new
+  pub moments : LeavesOnly facts old new (facts.survives old)
 
 -- the roots of a new store: its first one, an empty one in the place of a commit's, and an index of no pages
 pub record AreFirst (replica : ℕ) (current next : Paged) (index : Index) : Type 0 where
@@ -125,8 +130,8 @@ pub record Refuses {D : Type 0} (facts : Ghosts D) (replica : ℕ) (cause : Init
   -- 48 is of a file that has bytes; and where it has some, it is 48, or 50 where the device failed
   pub not_empty : cause ≡ NotEmpty → facts.content old ≢ []
   pub occupied : facts.content old ≢ [] → (cause ≡ NotEmpty) ⊎ (cause ≡ ReadFailed)
-  -- these two and want of memory leave the disk as it was
-  pub kept : is_unwritten cause ≡ true → Keeps facts old new
+  -- these two and want of memory leave the disk as it was, at every moment
+  pub kept : is_unwritten cause ≡ true → IsUntouched facts old new
   pub stops : Stops facts replica cause old new
 
 -- of two writes of slots the first failed, or the second behind it

@@ -1,5 +1,5 @@
 -- What the opening of a file gives.
-use Rattle.std.specs.Prelude.{◌≡◌, ◌<◌, ℕ, false, List, [], ◌++◌, length, Ok}
+use Rattle.std.specs.Prelude.{◌≡◌, ◌<◌, ℕ, ◌+◌, Bool, true, false, List, [], ◌++◌, length, Ok}
 use Rattle.disk_trait.specs.declared.facts.DiskFacts.{Ghosts}
 use Rattle.op_model.specs.declared.op.Op.{Op}
 pub use Rattle.page_file.specs.DiskCalls.{IsLookedAt}
@@ -33,6 +33,15 @@ pub record IsLoaded {D : Type 0} (facts : Ghosts D) (disk : D) (store : StoreHel
   pub settled : facts.tells disk → (c : List ℕ) → facts.survives store.disk c → c ≡ facts.content disk
   -- which has that root
   pub left : facts.tells disk → (c : List ℕ) → facts.survives store.disk c → IsLeft store.phase store.current store.next c
+
+-- What a refused opening leaves: it made a sync, and then reads alone.
+pub record HandsBack {D : Type 0} (facts : Ghosts D) (failures : ℕ) (in_sync : Bool) (old new : D) : Type 0 where
+  -- the disk was only looked at
+  pub looked : IsLookedAt facts failures 1 old new
+  -- a sync that failed was the only call
+  pub alone : facts.tells old → in_sync ≡ true → facts.time new ≡ facts.time old + 1
+  -- behind one that didn't fail, a crash leaves what reads give
+  pub settled : facts.tells old → in_sync ≡ false → (c : List ℕ) → facts.survives new c → c ≡ facts.content new
 
 -- the pages of a root are in memory
 pub record IsIndexed (head : Root) (index : Index) : Type 0 where

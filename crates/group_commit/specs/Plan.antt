@@ -21,6 +21,10 @@ kept_of long records =
 
 -- Which pages the root behind this one reaches: the data pages that stay and those that are written, and the table pages that name
 -- pages that stay alone and those that are written. Both have as many data pages as their streams take.
+-- For example, one data page, 3, is half full, and is named by the table page 2. A commit appends records of ten bytes. They come into
+-- the rest of page 3, which is live and so isn't written over: no page stays (`kept_of` is 0). The next stream fits one page, whose
+-- bytes differ, so `changed_data` is that page under a free number, say 4; its table page names 4 in place of 3, so `changed_tables`
+-- is a new table page, say 5. The next root reaches 5 and 4, and the commit writes just these (`changed_pages`).
 pub record KeepsPages (current : Saved) (records : List ℕ) (next : Saved) : Type 0 where
   pub had : HasDataPages current (data_of current)
   pub has : HasDataPages next (data_of next)

@@ -1,5 +1,5 @@
 -- What a store keeps while a commit goes from phase to phase. Only its invariants and their proofs read this.
-use Rattle.std.specs.Prelude.{◌≡◌, ◌≢◌, ℕ, ◌+◌, ◌-◌, ◌*◌, ◌<◌, ◌≤◌, Bool, true, false, List, ◌++◌, length, get_or, ⊤}
+use Rattle.std.specs.Prelude.{◌≡◌, ◌≢◌, ℕ, ◌-◌, ◌*◌, ◌<◌, ◌≤◌, Bool, true, false, List, ◌++◌, length, get_or, ⊤}
 use Rattle.fixed_numbers.specs.declared.sizes.TheConstants.{BODY_LENGTH, PAGE_SIZE, SLOTS_SIZE}
 use Rattle.disk_trait.specs.File.{part}
 use Rattle.disk_trait.specs.declared.facts.DiskFacts.{Ghosts}

@@ -1,9 +1,9 @@
 //! The beginning of a commit.
-ghost use Rattle.std.specs.Prelude.{◌≡◌, ◌≢◌, ℕ, ◌+◌, ◌<◌, ◌≤◌, true, List, length, Ok, Err, Some};
+ghost use Rattle.std.specs.Prelude.{◌≡◌, ◌≢◌, ℕ, ◌+◌, ◌<◌, List, length, Ok, Err, Some};
 ghost use Rattle.op_list.specs.Records.{AreRecords};
 ghost use Rattle.op_model.specs.declared.op.Op.{Op as Operation};
 ghost use Rattle.op_model.specs.Records.{stream_length};
-ghost use Rattle.root_slots.specs.Root.{version_of, count_of, stream_length_of};
+ghost use Rattle.root_slots.specs.Root.{count_of, stream_length_of};
 ghost use Rattle.group_commit.specs.Begin.{begin_due, has_room_for, Begins, IsAnswer};
 ghost use Rattle.group_commit.specs.Saved.{with_stream};
 

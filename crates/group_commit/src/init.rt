@@ -7,7 +7,7 @@ ghost use Rattle.page_file.specs.DiskCalls.{IsWrite};
 ghost use Rattle.disk_trait.specs.Calls.{IsOneCall, Keeps, Settles};
 ghost use Rattle.disk_trait.specs.File.{overwritten};
 ghost use Rattle.root_slots.specs.Body.{root_of};
-ghost use Rattle.group_commit.specs.NewFile.{slot_page, new_file, first_root, Raises, Refuses};
+ghost use Rattle.group_commit.specs.NewFile.{slot_page, new_file, first_root, Raises, Refuses, IsUntouched};
 ghost use Rattle.group_commit.specs.NewFile.{IsMade, AreFirst, IsNew, PutsPartly, OpensPartly};
 ghost use Rattle.group_commit.specs.declared.init_fault.InitError.TheVariants.{WriteFailed};
 ghost use Rattle.group_commit.specs.declared.init_fault.InitError.TheVariants.{SyncFailed};
@@ -44,7 +44,7 @@ fn check_empty<D: Disk>(disk: &mut D) -> Result<(), InitError>
     ensures refused { D.tells disk.old → IfErr result
         (λ e. (replica : ℕ) → Refuses D.DiskFacts replica e disk.old disk.new) }
     ensures counts { D.tells disk.old → OnOk result (Raises D.DiskFacts 0 0 0 disk.old disk.new) }
-    ensures keeps { D.tells disk.old → Keeps D.DiskFacts disk.old disk.new }
+    ensures keeps { D.tells disk.old → IsUntouched D.DiskFacts disk.old disk.new }
     ensures tells { D.tells disk.new ↔ D.tells disk.old }
 {
     match disk.size() {
@@ -191,9 +191,9 @@ impl<D: Disk> Store<D> {
     ///
     /// Refuses with 48 where the file has bytes, then with 1 where a growth was refused, and with
     /// 50, 51 or 52 where the device failed. The disk comes back either way: after 48, 50 and 1 as
-    /// it was. After 51 and 52 the file, which had no bytes, may hold anything in its two slots up
-    /// to the first sync; the gate is written behind that, and then the slots are whole but for
-    /// the gate.
+    /// it was, and at every moment until then. After 51 and 52 the file, which had no bytes, may
+    /// hold anything in its two slots up to the first sync; the gate is written behind that, and
+    /// then the slots are whole but for the gate.
     pub fn init(alloc: Global, disk: D, replica: ReplicaId) -> Result<Store<D>, InitFault<D>>
         // It is made of a file without bytes alone; one that has some is left as it was.
         ensures made { IfOk result (λ store. IsNew D.DiskFacts replica disk store) }

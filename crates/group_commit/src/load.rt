@@ -1,7 +1,7 @@
 //! The opening of a file.
 ghost use Rattle.std.specs.Prelude.{IfOk, IfErr};
-ghost use Rattle.group_commit.specs.Loading.{IsFirstFault, failures_of};
-ghost use Rattle.group_commit.specs.Opening.{IsLoaded, IsLookedAt};
+ghost use Rattle.group_commit.specs.Loading.{IsFirstFault, failures_of, is_of_sync};
+ghost use Rattle.group_commit.specs.Opening.{IsLoaded, IsLookedAt, HandsBack};
 
 use crate::load_image::settle_and_read;
 use crate::open_fault::OpenFault;
@@ -41,10 +41,10 @@ impl<D: Disk> Store<D> {
             (λ it. IsLoaded D.DiskFacts disk it.store it.replica it.ops) }
         ensures fault { D.tells disk
             → IfErr result (λ fault. IsFirstFault fault.cause (D.content disk)) }
-        // It writes nothing.
+        // It writes nothing, and tells a sync that failed from a read that did.
         ensures looks { IfOk result (λ it. IsLookedAt D.DiskFacts 0 1 disk it.store.disk) }
-        ensures looks_refused { IfErr result
-            (λ fault. IsLookedAt D.DiskFacts (failures_of fault.cause) 1 disk fault.disk) }
+        ensures looks_refused { IfErr result (λ fault. HandsBack D.DiskFacts
+            (failures_of fault.cause) (is_of_sync fault.cause) disk fault.disk) }
     {
         match settle_and_read(alloc, &mut disk) {
             Ok(image) => {

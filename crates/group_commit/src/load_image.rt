@@ -5,8 +5,9 @@ ghost use Rattle.root_slots.specs.Root.{stream_length_of};
 ghost use Rattle.root_slots.specs.Body.{IsRoot, Spells, root_of};
 ghost use Rattle.group_commit.specs.Saved.{IsInMemory};
 ghost use Rattle.group_commit.specs.Image.{stored};
-ghost use Rattle.group_commit.specs.Loading.{Names, failed_in, IsFirstFault};
-ghost use Rattle.group_commit.specs.Opening.{IsLookedAt, IsImageOf};
+ghost use Rattle.group_commit.specs.Loading.{Names, failed_in, failures_of, is_of_sync};
+ghost use Rattle.group_commit.specs.Loading.{IsReadFault, IsFirstFault};
+ghost use Rattle.group_commit.specs.Opening.{IsLookedAt, IsImageOf, HandsBack};
 
 use crate::load_ops::ops_of;
 use crate::load_stream::{Stream, read_stream};
@@ -94,7 +95,7 @@ fn roots_on(alloc: Global, head: RootBody, pages: &Pages) -> Result<(Root, Root)
 /// What a file stands for. It refuses as [`Store::load`](crate::Store::load) does.
 pub(crate) fn read_image<D: Disk>(alloc: Global, disk: &mut D) -> Result<Image, OpenError>
     ensures read { IfOk result (λ it. IsImageOf D.DiskFacts disk.old it) }
-    ensures fault { D.tells disk.old → IfErr result (λ e. IsFirstFault e (D.content disk.old)) }
+    ensures fault { D.tells disk.old → IfErr result (λ e. IsReadFault e (D.content disk.old)) }
     ensures looks { IsLookedAt D.DiskFacts (failed_in result) 0 disk.old disk.new }
 {
     let LoadedRoots {
@@ -123,7 +124,9 @@ pub(crate) fn settle_and_read<D: Disk>(alloc: Global, disk: &mut D) -> Result<Im
     ensures settled { D.tells disk.old → IfOk result
         (λ it. (c : List ℕ) → D.survives disk.new c → c ≡ D.content disk.old) }
     ensures fault { D.tells disk.old → IfErr result (λ e. IsFirstFault e (D.content disk.old)) }
-    ensures looks { IsLookedAt D.DiskFacts (failed_in result) 1 disk.old disk.new }
+    ensures looks { IfOk result (λ it. IsLookedAt D.DiskFacts 0 1 disk.old disk.new) }
+    ensures refused { IfErr result
+        (λ e. HandsBack D.DiskFacts (failures_of e) (is_of_sync e) disk.old disk.new) }
 {
     settle_file(disk)?;
     read_image(alloc, disk)

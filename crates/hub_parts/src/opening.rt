@@ -1,8 +1,8 @@
 //! The opening of a hub's two parts.
 ghost use Rattle.std.specs.Prelude.{IfOk, IfErr};
 ghost use Rattle.root_slots.specs.Root.{version_of};
-ghost use Rattle.group_commit.specs.Opening.{IsLoaded, IsLookedAt};
-ghost use Rattle.recovery.specs.Faults.{IsFault, failures_of};
+ghost use Rattle.group_commit.specs.Opening.{IsLoaded, IsLookedAt, HandsBack};
+ghost use Rattle.recovery.specs.Faults.{IsFault, failures_of, is_of_sync};
 ghost use Rattle.recovery.specs.Image.{IsImage};
 ghost use Rattle.hub_parts.specs.Opening.{IsOpened};
 
@@ -34,10 +34,10 @@ pub fn open<D: Disk>(alloc: Global, disk: D) -> Result<Parts<D>, OpenFault<D>>
     ensures loaded { IfOk result (λ it. IsLoaded D.DiskFacts disk it.flusher.store
         it.locked.replica.replica it.locked.replica.list) }
     ensures fault { D.tells disk → IfErr result (λ fault. IsFault fault.cause (D.content disk)) }
-    // It writes nothing.
+    // It writes nothing, and tells a sync that failed from a read that did.
     ensures looks { IfOk result (λ it. IsLookedAt D.DiskFacts 0 1 disk it.flusher.store.disk) }
-    ensures looks_refused { IfErr result
-        (λ fault. IsLookedAt D.DiskFacts (failures_of fault.cause) 1 disk fault.disk) }
+    ensures looks_refused { IfErr result (λ fault. HandsBack D.DiskFacts
+        (failures_of fault.cause) (is_of_sync fault.cause) disk fault.disk) }
 {
     let Opened { replica, store } = recovery::open(alloc, disk)?;
     let ops = replica.list();

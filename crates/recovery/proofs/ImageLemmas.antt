@@ -1,5 +1,5 @@
 -- What an opened file has, and why one isn't opened.
-use Rattle.std.proofs.Common.{◌≡◌, ◌≢◌, ℕ, List, [], Result, Ok, Err, refl, sym, ap, ◌∙◌, ◌⊎◌, inl, inr}
+use Rattle.std.proofs.Common.{◌≡◌, ◌≢◌, ℕ, false, List, [], Result, Ok, Err, refl, sym, ap, ◌∙◌, ◌⊎◌, inl, inr}
 use Rattle.op_model.specs.declared.op.Op.{Op}
 use Rattle.op_model.specs.Causality.{IsCausallyClosed}
 use Rattle.change_codec.proofs.StreamLaws.{spelled_all-determines}
@@ -11,7 +11,7 @@ use Rattle.group_commit.specs.Saved.{Saved}
 use Rattle.group_commit.specs.declared.open_fault.OpenError.TheVariants.{Memory as LoadMemory}
 use Rattle.replica_core.specs.declared.refusal.Refusal.{Refusal}
 use Rattle.replica_core.specs.declared.refusal.Refusal.TheVariants as refusal
-use Rattle.recovery.specs.Faults.{IsFault, HasBadOperation, failures_of}
+use Rattle.recovery.specs.Faults.{IsFault, HasBadOperation, failures_of, is_of_sync}
 use Rattle.recovery.specs.Image.{IsImage}
 use Rattle.recovery.specs.declared.open_fault.OpenError.{OpenError}
 use Rattle.recovery.specs.declared.open_fault.OpenError.TheVariants.{Load, BadOperation}
@@ -71,6 +71,15 @@ pub no_failure : (e : Refusal) (cause : OpenError) → (e ≡ refusal.Memory →
 no_failure e cause memory other = by_cause (is_memory e)
   where
     by_cause : (e ≡ refusal.Memory) ⊎ (e ≢ refusal.Memory) → failures_of cause ≡ 0
+    by_cause (inl is) = rw (memory is) refl
+    by_cause (inr unlike) = rw (other unlike) refl
+
+-- nor of the sync
+pub no_sync : (e : Refusal) (cause : OpenError) → (e ≡ refusal.Memory → cause ≡ Load LoadMemory) → (e ≢ refusal.Memory → cause ≡ BadOperation)
+    → is_of_sync cause ≡ false
+no_sync e cause memory other = by_cause (is_memory e)
+  where
+    by_cause : (e ≡ refusal.Memory) ⊎ (e ≢ refusal.Memory) → is_of_sync cause ≡ false
     by_cause (inl is) = rw (memory is) refl
     by_cause (inr unlike) = rw (other unlike) refl
 

@@ -1,12 +1,12 @@
 -- Why a file has no image.
-use Rattle.std.specs.Prelude.{◌≡◌, ℕ, List, length, Ok}
+use Rattle.std.specs.Prelude.{◌≡◌, ℕ, Bool, false, List, length, Ok}
 use Rattle.fixed_numbers.specs.declared.refusals.TheConstants.{BAD_OPERATION}
 use Rattle.op_model.specs.declared.op.Op.{Op}
 use Rattle.op_model.specs.Causality.{IsCausallyClosed}
 use Rattle.change_codec.specs.Stream.{spelled_all, AreOperations}
 use Rattle.root_slots.specs.Root.{count_of}
 use Rattle.group_commit.specs.Image.{stored}
-use Rattle.group_commit.specs.Loading.{IsFirstFault, number_of as number_of_load, failures_of as failures_of_load}
+use Rattle.group_commit.specs.Loading.{IsFirstFault, number_of as number_of_load, failures_of as failures_of_load, is_of_sync as is_of_load_sync}
 use Rattle.recovery.specs.declared.open_fault.OpenError.{OpenError}
 use Rattle.recovery.specs.declared.open_fault.OpenError.TheVariants.{Load, BadOperation}
 
@@ -19,6 +19,11 @@ number_of BadOperation = BAD_OPERATION
 abbrev pub failures_of : OpenError → ℕ
 failures_of (Load error) = failures_of_load error
 failures_of BadOperation = 0
+
+-- the device failed in the sync, or not
+abbrev pub is_of_sync : OpenError → Bool
+is_of_sync (Load error) = is_of_load_sync error
+is_of_sync BadOperation = false
 
 -- the file's stream is the records of as many operations as its root says, and these aren't causally closed
 pub record HasBadOperation (file : List ℕ) : Type 0 where

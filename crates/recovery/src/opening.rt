@@ -1,10 +1,10 @@
 //! The opening of a file.
 ghost use Rattle.std.specs.Prelude.{◌≡◌, ◌≢◌, IfOk, IfErr};
 ghost use Rattle.root_slots.specs.Root.{version_of};
-ghost use Rattle.group_commit.specs.Opening.{IsLoaded, IsLookedAt};
+ghost use Rattle.group_commit.specs.Opening.{IsLoaded, IsLookedAt, HandsBack};
 ghost use Rattle.group_commit.specs.declared.open_fault.OpenError.TheVariants.{Memory as LoadMemory};
 ghost use Rattle.op_model.specs.Held.{opened_with};
-ghost use Rattle.recovery.specs.Faults.{IsFault, failures_of};
+ghost use Rattle.recovery.specs.Faults.{IsFault, failures_of, is_of_sync};
 ghost use Rattle.recovery.specs.Image.{IsImage};
 
 use crate::open_fault::{OpenError, OpenFault};
@@ -39,10 +39,10 @@ pub fn open<D: Disk>(alloc: Global, disk: D) -> Result<Opened<D>, OpenFault<D>>
     ensures loaded { IfOk result (λ it. IsLoaded D.DiskFacts disk it.store
         it.replica.replica it.replica.list) }
     ensures fault { D.tells disk → IfErr result (λ fault. IsFault fault.cause (D.content disk)) }
-    // It writes nothing.
+    // It writes nothing, and tells a sync that failed from a read that did.
     ensures looks { IfOk result (λ it. IsLookedAt D.DiskFacts 0 1 disk it.store.disk) }
-    ensures looks_refused { IfErr result
-        (λ fault. IsLookedAt D.DiskFacts (failures_of fault.cause) 1 disk fault.disk) }
+    ensures looks_refused { IfErr result (λ fault. HandsBack D.DiskFacts
+        (failures_of fault.cause) (is_of_sync fault.cause) disk fault.disk) }
 {
     match Store::load(alloc, disk) {
         Ok(

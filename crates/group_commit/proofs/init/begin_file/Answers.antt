@@ -1,5 +1,4 @@
 use Rattle.std.proofs.lemmas.Result.{IfOk-weaker}
-use Rattle.group_commit.specs.NewFile.{IsMade, new_file}
 use Rattle.group_commit.proofs.Stopped.{counts_then}
 use Rattle.group_commit.proofs.init.begin_file.Goals as goal
 

@@ -21,7 +21,7 @@ returns-clause-made g c = λ told.
 pub returns-in_err-first-clause-refused : goal.returns-in_err-first-clause-refused
 returns-in_err-first-clause-refused g c = λ told.
     let p = err_from_is_err_and c.from_residual.result c.from_residual.ensures.1 in
-    rw (p.1, p.2) (λ replica root. refuses_memory g.D.DiskFacts replica c.args.disk.now (c.requires.empty told))
+    rw (p.1, p.2) (λ replica root. refuses_memory g.D.DiskFacts replica c.args.disk.now (g.met.D.Disk.lawful c.args.disk.now told) (c.requires.empty told))
 
 pub returns-clause-refused : goal.returns-clause-refused
 returns-clause-refused g c = λ told.

@@ -1,4 +1,4 @@
-use Rattle.std.proofs.Common.{◌≡◌, ◌++◌, length, ap, ◌∙◌}
+use Rattle.std.proofs.Common.{◌≡◌, ◌++◌, length, ap, sym, ◌∙◌}
 use Rattle.op_list.specs.Records.{AreRecords}
 use Rattle.hub_parts.proofs.OpenedParts.{opened_records, opened_so, keeps_opened, flusher_opened, meet_opened, when_ok}
 use Rattle.hub_parts.proofs.opening.open.Goals as goal
@@ -28,3 +28,10 @@ returns-clause-opened g c =
       works = c.in_ok-replica.ensures.loaded.works;
       fits = meet_opened c.in_ok-replica.field-0.replica c.len-begun.result c.in_ok-replica.field-0.store c.append.new.self c.in_ok-replica.ensures.replica (c.len-begun.ensures ∙ ap length c.list-ops.ensures.list) c.in_ok-replica.ensures.loaded.history same;
     }
+
+pub returns-then-is_err-clause-looks_refused : goal.returns-then-is_err-clause-looks_refused
+returns-then-is_err-clause-looks_refused g c = rw c.into_disk.ensures (record {
+  looked = c.in_ok-replica.ensures.looks;
+  alone = λ told is. absurd (cc);
+  settled = λ told is file left. c.in_ok-replica.ensures.loaded.settled told file left ∙ sym ((c.in_ok-replica.ensures.looks.looks told).same);
+})

@@ -1,4 +1,5 @@
-use Rattle.recovery.proofs.ImageLemmas.{image_of, bad_of, fault_of, no_failure}
+use Rattle.std.proofs.Common.{sym, ◌∙◌}
+use Rattle.recovery.proofs.ImageLemmas.{image_of, bad_of, fault_of, no_failure, no_sync}
 use Rattle.recovery.proofs.opening.open.Goals as goal
 
 pub returns-in-Ok-from_list-clause-image : goal.returns-in-Ok-from_list-clause-image
@@ -14,4 +15,13 @@ returns-in-Err-from_list-clause-fault g c = λ told.
 
 pub returns-in-Err-from_list-clause-looks_refused : goal.returns-in-Err-from_list-clause-looks_refused
 returns-in-Err-from_list-clause-looks_refused g c =
-    rw (no_failure c.in-Err-from_list.refusal c.cause_of.result c.cause_of.ensures.memory c.cause_of.ensures.other, c.into_disk.ensures) c.in-Ok.ensures.looks
+    let refusal = c.in-Err-from_list.refusal in
+    rw (
+      no_failure refusal c.cause_of.result c.cause_of.ensures.memory c.cause_of.ensures.other,
+      no_sync refusal c.cause_of.result c.cause_of.ensures.memory c.cause_of.ensures.other,
+      c.into_disk.ensures,
+    ) (record {
+      looked = c.in-Ok.ensures.looks;
+      alone = λ told is. absurd (cc);
+      settled = λ told is file left. c.in-Ok.ensures.loaded.settled told file left ∙ sym ((c.in-Ok.ensures.looks.looks told).same);
+    })

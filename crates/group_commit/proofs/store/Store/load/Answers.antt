@@ -13,7 +13,7 @@ invariant_of-store g c = (
     room = rw (c.new.ensures.items, c.new-in-Ok.ensures.items) refl;
     plan = λ busy. absurd (busy refl);
     stands = λ told file left.
-        let before = c.settle_and_read.ensures.looks.tells.0 told in
+        let before = c.in-Ok.ensures.looks.tells.0 told in
         rw (c.in-Ok.ensures.settled before file left, (front_all (stream_length_of c.in-Ok.image.current.body) c.in-Ok.image.stream c.in-Ok.ensures.read.long)) (c.in-Ok.ensures.read.stands before);
     reads = λ told works. tt;
   },
