@@ -10,6 +10,7 @@ pub mod MetCalls
 pub mod PartsFit
 pub mod PartsOf
 pub mod PhaseLemmas
+pub mod Promises
 pub mod QuietCalls
 pub mod Recovering
 pub mod Reopened

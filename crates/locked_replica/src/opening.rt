@@ -3,8 +3,8 @@ ghost use Rattle.std.specs.Prelude.{◌≡◌, List, ℕ, IfOk, IfErr};
 ghost use Rattle.root_slots.specs.Root.{version_of};
 ghost use Rattle.op_model.specs.Machine.{opened};
 ghost use Rattle.group_commit.specs.Commit.{IsLeft};
-ghost use Rattle.group_commit.specs.Opening.{IsLoaded, IsLookedAt};
-ghost use Rattle.recovery.specs.Faults.{IsFault, failures_of};
+ghost use Rattle.group_commit.specs.Opening.{IsLoaded, IsLookedAt, HandsBack};
+ghost use Rattle.recovery.specs.Faults.{IsFault, failures_of, is_of_sync};
 ghost use Rattle.recovery.specs.Image.{IsImage};
 ghost use Rattle.locked_replica.specs.Hub.{state_of};
 ghost use Rattle.locked_replica.specs.Recovery.{HasAtLeast, IsCrash, Recovers};
@@ -31,10 +31,10 @@ impl<D: Disk> Hub<D> {
             hub.replica.replica hub.replica.list) }
         ensures fault { D.tells disk
             → IfErr result (λ fault. IsFault fault.cause (D.content disk)) }
-        // It writes nothing.
+        // It writes nothing, and tells a sync that failed from a read that did.
         ensures looks { IfOk result (λ hub. IsLookedAt D.DiskFacts 0 1 disk hub.store.disk) }
-        ensures looks_refused { IfErr result
-            (λ fault. IsLookedAt D.DiskFacts (failures_of fault.cause) 1 disk fault.disk) }
+        ensures looks_refused { IfErr result (λ fault. HandsBack D.DiskFacts
+            (failures_of fault.cause) (is_of_sync fault.cause) disk fault.disk) }
     {
         let Parts { locked, flusher } = hub_parts::open(alloc, disk)?;
         flusher.kept();

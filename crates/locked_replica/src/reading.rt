@@ -1,10 +1,9 @@
 //! What a hub tells of itself.
-ghost use Rattle.std.specs.Prelude.{◌≡◌, List, ℕ, IfOk};
+ghost use Rattle.std.specs.Prelude.{◌≡◌, IfOk};
 ghost use Rattle.op_model.specs.Causality.{clock_of};
 ghost use Rattle.op_model.specs.Spans.{spans as spans_of};
 ghost use Rattle.op_model.specs.Text.{text as text_of, rev as rev_of};
 ghost use Rattle.replica_core.specs.Held.{IsSound};
-ghost use Rattle.locked_replica.specs.Hub.{is_through};
 
 use crate::hub::Hub;
 use disk_trait::Disk;

@@ -1,8 +1,8 @@
 //! The opening of a hub's file anew.
 ghost use Rattle.std.specs.Prelude.{◌≡◌, ◌⊎◌, IfOk, IfErr};
 ghost use Rattle.fixed_numbers.specs.declared.refusals.TheConstants.{MEMORY};
-ghost use Rattle.group_commit.specs.Opening.{IsLookedAt};
-ghost use Rattle.recovery.specs.Faults.{number_of, failures_of};
+ghost use Rattle.group_commit.specs.Opening.{IsLookedAt, HandsBack};
+ghost use Rattle.recovery.specs.Faults.{number_of, failures_of, is_of_sync};
 ghost use Rattle.locked_replica.specs.Reopening.{IsReopened};
 
 use crate::hub::Hub;
@@ -21,11 +21,11 @@ impl<D: Disk> Hub<D> {
             → IfOk result (λ hub. IsReopened D.DiskFacts self hub) }
         ensures fault { D.tells self.store.disk → IfErr result
             (λ fault. (number_of fault.cause ≡ MEMORY) ⊎ (failures_of fault.cause ≡ 1)) }
-        // It writes nothing.
+        // It writes nothing, and tells a sync that failed from a read that did.
         ensures looks { IfOk result
             (λ hub. IsLookedAt D.DiskFacts 0 1 self.store.disk hub.store.disk) }
-        ensures looks_refused { IfErr result (λ fault. IsLookedAt D.DiskFacts
-            (failures_of fault.cause) 1 self.store.disk fault.disk) }
+        ensures looks_refused { IfErr result (λ fault. HandsBack D.DiskFacts
+            (failures_of fault.cause) (is_of_sync fault.cause) self.store.disk fault.disk) }
     {
         self.survivors();
         Hub::open(alloc, self.into_disk())

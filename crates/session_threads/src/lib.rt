@@ -15,8 +15,6 @@ mod laws;
 mod pieces;
 mod room;
 mod session;
-#[cfg(test)]
-mod tests;
 
 pub use desk::Desk;
 pub use fault::SessionFault;

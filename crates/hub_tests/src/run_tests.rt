@@ -1,7 +1,7 @@
 use crate::test_hubs::{edit_of, insert, open, peer};
-use crate::{Hub, HubReply, HubStep, run};
 use disk_trait::{Fate, MemDisk};
 use group_commit::Phase;
+use locked_replica::{Hub, HubReply, HubStep, run};
 use op_ids::Clock;
 use replica_core::{Merged, Ticket};
 use std::alloc::Global;

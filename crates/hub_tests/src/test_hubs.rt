@@ -1,7 +1,7 @@
 //! Hubs for the tests, and what the tests do with them.
-use crate::Hub;
 use disk_trait::{Disk, MemDisk};
 use group_commit::{Phase, Store};
+use locked_replica::Hub;
 use op_ids::ReplicaId;
 use op_model::{Change, Edit, EditText};
 use std::alloc::Global;
@@ -46,6 +46,11 @@ pub(crate) fn peer(alloc: Global, last: u8) -> Result<Box<Hub<MemDisk>>, Fail> {
 pub(crate) fn insert(alloc: Global, at: u32, value: char) -> Result<Edit, Fail> {
     let mut text = Vec::new(alloc);
     text.push(value)?;
+    typed(at, text)
+}
+
+// The insert of these characters into document 1.
+pub(crate) fn typed(at: u32, text: Vec<char>) -> Result<Edit, Fail> {
     let text = EditText::new(text).ok_or("a text")?;
     Ok(Edit {
         doc: 1,

@@ -1,9 +1,9 @@
 //! What three replicas have when nobody has anything more to tell.
-use crate::Hub;
 use crate::test_hubs::commit;
 use crate::world_run::{World, merge, new_world, run_events, tell};
 use disk_trait::MemDisk;
 use group_commit::Phase;
+use locked_replica::Hub;
 use op_model::Op;
 use std::alloc::Global;
 use std::test::Fail;

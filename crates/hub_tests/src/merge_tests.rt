@@ -1,6 +1,6 @@
-use crate::Hub;
 use crate::test_hubs::{commit, insert, merge, peer, replica};
 use disk_trait::MemDisk;
+use locked_replica::Hub;
 use op_ids::{Clock, OpId};
 use op_model::{Body, Edit, Op};
 use replica_core::Merged;

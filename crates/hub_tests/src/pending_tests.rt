@@ -1,8 +1,8 @@
-use crate::Hub;
-use crate::test_hubs::{commit, insert, peer};
+use crate::test_hubs::{commit, insert, peer, typed};
 use disk_trait::MemDisk;
+use locked_replica::Hub;
 use op_ids::Clock;
-use op_model::{Change, Edit, EditText};
+use op_model::Edit;
 use std::alloc::Global;
 use std::test::Fail;
 
@@ -12,13 +12,7 @@ fn insert_many(alloc: Global, at: u32, count: usize) -> Result<Edit, Fail> {
     for _ in 0..count {
         text.push('a')?;
     }
-    let text = EditText::new(text).ok_or("a text")?;
-    Ok(Edit {
-        doc: 1,
-        rev: None,
-        token: None,
-        change: Change::Insert { at, text },
-    })
+    typed(at, text)
 }
 
 /// The number with which such an insert is refused, or 0.
@@ -64,8 +58,8 @@ fn fill(alloc: Global, hub: &mut Hub<MemDisk>) -> Result<(), Fail> {
     Ok(())
 }
 
-/// What is answered to inserts behind them of 256, 22, 21 and one characters, to a merge, and once a
-/// commit has begun to one of 256 characters.
+/// What is answered to inserts behind them of 256, 22, 21 and one characters, to a merge, and once
+/// a commit has begun to one of 256 characters.
 fn answers(alloc: Global, hub: &mut Hub<MemDisk>) -> Result<[u8; 6], Fail> {
     fill(alloc, hub)?;
     let before = [

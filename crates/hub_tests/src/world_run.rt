@@ -1,8 +1,8 @@
 //! The world in one process: three replicas over disks in memory, whose messages are lost, repeated
 //! and late, with crashes between.
-use crate::Hub;
 use crate::test_hubs::{new_disk, open};
 use disk_trait::{Fate, MemDisk};
+use locked_replica::Hub;
 use op_model::{Change, Edit, EditText, Mark, Op, Url};
 use std::alloc::Global;
 use std::num::NonZeroU32;

@@ -1,8 +1,8 @@
 //! Device calls that fail, and what is there when the file is opened anew.
-use crate::Hub;
 use crate::test_hubs::{edit_of, insert, new_disk, open};
 use disk_trait::{Disk, Fate, FaultDisk, MemDisk};
 use group_commit::Phase;
+use locked_replica::Hub;
 use op_model::Edit;
 use std::alloc::Global;
 use std::test::Fail;

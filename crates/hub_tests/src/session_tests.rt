@@ -1,6 +1,6 @@
 //! Sessions over bytes in memory, cut in many ways.
-use crate::{Desk, Session, SessionFault};
 use session_lines::{Answer, Command, Refusal};
+use session_threads::{Desk, Session, SessionFault};
 use std::alloc::{AllocError, Global};
 use std::io;
 use std::io::{ErrorKind, Read, Write};
@@ -84,7 +84,8 @@ impl Write for Sink {
     }
 }
 
-/// How a session ended: the number of its fault or 0, what it wrote, and how often its desk was asked.
+/// How a session ended: the number of its fault or 0, what it wrote, and how often its desk was
+/// asked.
 #[derive(Drop)]
 struct End {
     number: u8,

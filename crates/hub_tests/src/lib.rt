@@ -1,0 +1,19 @@
+//! Tests of hubs held alone, over disks in memory, and of sessions.
+#![tactic(auto)]
+
+#[cfg(test)]
+mod failing_tests;
+#[cfg(test)]
+mod merge_tests;
+#[cfg(test)]
+mod pending_tests;
+#[cfg(test)]
+mod run_tests;
+#[cfg(test)]
+mod session_tests;
+#[cfg(test)]
+mod test_hubs;
+#[cfg(test)]
+mod world_run;
+#[cfg(test)]
+mod world_tests;
