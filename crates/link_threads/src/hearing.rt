@@ -1,7 +1,9 @@
 //! The thread of a link that hears.
 
 use crate::link_end::{LinkEnd, Said};
-use fixed_numbers::refusals::{BUSY, FAILED, MEMORY, STEPS};
+use crate::patience::Patience;
+use causal_sync::Ops;
+use fixed_numbers::refusals::{BUSY, FAILED, MEMORY, STEPS, STOPPING};
 use op_model::Op;
 use pass_books::{Desks, Pass};
 use replica_core::Merged;
@@ -23,6 +25,21 @@ const MANY_HAVES: u32 = 64;
 /// The pause after them, in milliseconds.
 const PAUSE: u64 = 3;
 
+/// What became of operations that were heard.
+#[derive(Clone, Copy, Debug, PartialEq, Eq)]
+enum Merging {
+    /// They are in the list, or are asked for again at once: the link goes on.
+    GoesOn,
+    /// One can't be taken for now, for want of memory (1), or since too much waits for a commit
+    /// (8).
+    CantTake,
+    /// One is refused for good: nothing more is heard, and the link ends once all that is due is
+    /// told.
+    Refused,
+    /// None is taken before the file is opened again: the link ends.
+    Ends,
+}
+
 /// What the thread of a link that hears works with.
 #[derive(Drop)]
 pub(crate) struct Hearing<'a, R: Wait + Clock, J: Desks, G: Gate> {
@@ -37,6 +54,12 @@ pub(crate) struct Hearing<'a, R: Wait + Clock, J: Desks, G: Gate> {
     pub is_due: bool,
     /// How many HAVEs were heard since the last operations, or the last pause.
     pub haves: u32,
+    /// The most operations of this replica that a HAVE counted.
+    pub counted: u64,
+    /// Whether an operation was applied.
+    pub has_taken: bool,
+    /// The pauses while none can be.
+    pub patience: Patience,
     /// Whether an operation found no steps left (10), so that none can be taken any more.
     pub is_out_of_steps: bool,
 }
@@ -60,12 +83,16 @@ impl<'a, R: Wait + Clock, J: Desks, G: Gate> Hearing<'a, R, J, G> {
             notes,
             is_due: false,
             haves: 0,
+            counted: 0,
+            has_taken: false,
+            patience: Patience::new(),
             is_out_of_steps: false,
         }
     }
 
     /// Hears what the other end says, and merges its operations, until the stream ends, breaks its
-    /// rules or says BYE, or an operation is refused for good or for want of steps (10).
+    /// rules or says BYE; an operation is refused for good, for want of steps (10) or since the
+    /// device failed (9); or the other end has operations of this replica that aren't here.
     pub fn run<S: Read>(&mut self, stream: &mut S) {
         let mut piece = [0; PIECE];
         for _ in self.rt.forever() {
@@ -90,47 +117,85 @@ impl<'a, R: Wait + Clock, J: Desks, G: Gate> Hearing<'a, R, J, G> {
                 return true;
             };
             self.gate.pass(Point::FrameRead);
-            match said {
-                Said::Hello => {}
-                Said::Have { is_news } => {
-                    self.is_due |= is_news;
-                    if !self.count_have() {
-                        return false;
-                    }
-                }
-                Said::Ops(ops) => {
-                    self.haves = 0;
-                    if !self.merge_all(ops.into_vec()) {
-                        let _ = self.end.say_bye(self.rt);
-                        return false;
-                    }
-                }
-                Said::Bye => return false,
+            let goes_on = match said {
+                Said::Hello => true,
+                Said::Have { is_news, own } => self.hear_have(is_news, own),
+                Said::Ops(ops) => self.hear_ops(ops),
+                Said::Bye => false,
+            };
+            if !goes_on {
+                return false;
             }
         }
         unreachable!()
     }
 
-    /// Merges operations, and answers whether the link goes on.
-    fn merge_all(&mut self, ops: Vec<Op>) -> bool {
-        let mut is_have_due = false;
+    /// Hears a HAVE, which counts so many operations of this replica, and answers whether the link
+    /// goes on. It ends if they are more than there are here.
+    fn hear_have(&mut self, is_news: bool, own: u64) -> bool {
+        self.is_due |= is_news;
+        if self.counted < own {
+            self.counted = own;
+            if self.shared.stop_if_put_back(self.rt, own) {
+                return false;
+            }
+        }
+        self.count_have()
+    }
+
+    /// Hears operations, and answers whether the link goes on. If one can't be taken for now,
+    /// nothing more is taken for a while, and then they are asked for again.
+    fn hear_ops(&mut self, ops: Ops) -> bool {
+        self.haves = 0;
+        match self.merge_all(ops.into_vec()) {
+            Merging::GoesOn => true,
+            Merging::CantTake => {
+                self.wake_telling();
+                if !self.patience.pause(self.rt, self.end) {
+                    return false;
+                }
+                self.ask_again();
+                true
+            }
+            Merging::Refused => {
+                self.end.end_hearing(self.rt);
+                false
+            }
+            Merging::Ends => {
+                let _ = self.end.say_bye(self.rt);
+                false
+            }
+        }
+    }
+
+    /// Merges operations, up to the first one that can't be taken.
+    fn merge_all(&mut self, ops: Vec<Op>) -> Merging {
+        let mut is_early = false;
         for op in ops {
             match self.shared.merge(self.rt, self.pass, op) {
-                Ok(Merged::Applied | Merged::Known) => {}
-                Ok(Merged::Early) => is_have_due = true,
-                Err(refusal) if may_come_again(refusal) => is_have_due = true,
+                Ok(Merged::Applied) => {
+                    self.has_taken = true;
+                    self.patience.end();
+                }
+                Ok(Merged::Known) => {}
+                Ok(Merged::Early) => is_early = true,
                 Err(refusal) => {
                     self.is_out_of_steps = refusal.number() == STEPS;
-                    return false;
+                    return behind(refusal);
                 }
             }
         }
-        if is_have_due {
-            // Where the ring is full, a note is there already.
-            let _ = self.notes.push(0);
-            self.is_due = true;
+        if is_early {
+            self.ask_again();
         }
-        true
+        Merging::GoesOn
+    }
+
+    /// Has the thread that tells ask for operations again, by a HAVE.
+    fn ask_again(&mut self) {
+        // If the ring is full, a note is there already.
+        let _ = self.notes.push(0);
+        self.is_due = true;
     }
 
     /// Counts a HAVE. After many there is a pause, so that an end that says them as fast as they
@@ -156,7 +221,11 @@ impl<'a, R: Wait + Clock, J: Desks, G: Gate> Hearing<'a, R, J, G> {
     }
 }
 
-/// Whether the other end may say an operation again over this link that was refused so: 1, 8, 9.
-fn may_come_again(refusal: SharedRefusal) -> bool {
-    matches!(refusal.number(), MEMORY | BUSY | FAILED)
+/// What becomes of a link on which an operation is refused so.
+fn behind(refusal: SharedRefusal) -> Merging {
+    match refusal.number() {
+        MEMORY | BUSY => Merging::CantTake,
+        FAILED | STEPS | STOPPING => Merging::Ends,
+        _ => Merging::Refused,
+    }
 }

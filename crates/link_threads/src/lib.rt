@@ -7,12 +7,14 @@ mod link_end;
 mod link_line;
 mod link_thread;
 mod locked_line;
+mod patience;
 mod peer;
 mod shared_peer;
 mod speak_error;
 mod speak_ops;
 mod speaker;
 mod telling;
+mod told;
 mod write_out;
 
 pub use line::Line;
@@ -20,6 +22,3 @@ pub use link_thread::{Parted, serve_link};
 pub use peer::Peer;
 pub use speak_error::SpeakError;
 pub use speaker::Speaker;
-
-#[cfg(test)]
-mod tests;

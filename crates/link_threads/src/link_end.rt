@@ -2,6 +2,7 @@
 ghost use Rattle.std.specs.Prelude.{◌≤◌, length};
 ghost use Rattle.fixed_numbers.specs.declared.limits.TheConstants.{MAX_TOLD};
 
+use crate::told::Told;
 use causal_sync::{Heard, Link, LinkError, Ops};
 use op_ids::{Clock, ReplicaId};
 use op_model::Op;
@@ -22,6 +23,8 @@ pub(crate) enum Said {
     Have {
         /// Whether it may change the base, so that other operations are due.
         is_news: bool,
+        /// How many operations of this replica it counts.
+        own: u64,
     },
     Ops(Ops),
     Bye,
@@ -29,14 +32,16 @@ pub(crate) enum Said {
 
 #[derive(Drop)]
 struct EndState {
+    own: ReplicaId,
     link: Link,
     /// The clock of the last HAVE.
     heard: Option<Clock>,
-    /// Whether operations were said since, which the base counts too.
-    has_told: bool,
+    /// What was told since, which the base counts too.
+    told: Told,
     /// Whether a HAVE counted no more than the one before it.
     is_asked_again: bool,
-    has_heard_more: bool,
+    /// Whether nothing more is heard, though all that is due is to be told yet.
+    has_heard_all: bool,
     is_over: bool,
 }
 
@@ -46,11 +51,12 @@ impl LinkEnd {
         let link = Link::start(alloc, own)?;
         Ok(LinkEnd {
             held: Mutex::new(EndState {
+                own,
                 link,
                 heard: None,
-                has_told: false,
+                told: Told::nothing(),
                 is_asked_again: false,
-                has_heard_more: false,
+                has_heard_all: false,
                 is_over: false,
             }),
         })
@@ -66,6 +72,23 @@ impl LinkEnd {
         self.held.lock(rt).next()
     }
 
+    /// Marks that nothing more is heard: once all that is due is told, the link ends.
+    pub fn end_hearing<R: Wait>(&self, rt: &R) {
+        self.held.lock(rt).has_heard_all = true;
+    }
+
+    /// Whether nothing more is heard, though all that is due is to be told yet.
+    pub fn has_heard_all<R: Wait>(&self, rt: &R) -> bool {
+        self.held.lock(rt).has_heard_all
+    }
+
+    /// Marks that the thread that hears has ended. If all that is due is to be told yet, the other
+    /// one goes on until it is.
+    pub fn end_unless_due<R: Wait>(&self, rt: &R) {
+        let mut held = self.held.lock(rt);
+        held.is_over |= !held.has_heard_all;
+    }
+
     /// Marks that one of the two threads has ended.
     pub fn end<R: Wait>(&self, rt: &R) {
         self.held.lock(rt).is_over = true;
@@ -76,9 +99,9 @@ impl LinkEnd {
         self.held.lock(rt).is_over
     }
 
-    /// Whether the other end said a HAVE or operations.
-    pub fn has_heard_more<R: Wait>(&self, rt: &R) -> bool {
-        self.held.lock(rt).has_heard_more
+    /// Whether the other end took something of what was told, as a HAVE of it says.
+    pub fn was_taken<R: Wait>(&self, rt: &R) -> bool {
+        self.held.lock(rt).told.was_taken()
     }
 
     /// Whether a HAVE since the last call counted no more than the one before it, so that what was
@@ -87,7 +110,8 @@ impl LinkEnd {
         mem::take(&mut self.held.lock(rt).is_asked_again)
     }
 
-    /// The clock of what the other end has or was told; `None` before a HAVE was heard.
+    /// The clock of what the other end has or was told; `None` before a HAVE was heard, and as
+    /// long as nothing more is to be told before the next one.
     pub fn base<R: Wait>(&self, rt: &R) -> Result<Option<Clock>, AllocError> {
         self.held.lock(rt).base()
     }
@@ -119,14 +143,14 @@ impl LinkEnd {
 impl EndState {
     fn next(&mut self) -> Option<Said> {
         let said = match self.link.next()? {
-            Heard::Hello(_) => return Some(Said::Hello),
-            Heard::Bye => return Some(Said::Bye),
+            Heard::Hello(_) => Said::Hello,
+            Heard::Bye => Said::Bye,
             Heard::Have(clock) => Said::Have {
+                own: clock.get(self.own),
                 is_news: self.hear_have(clock),
             },
             Heard::Ops(ops) => Said::Ops(ops),
         };
-        self.has_heard_more = true;
         Some(said)
     }
 
@@ -135,11 +159,11 @@ impl EndState {
         let mut is_news = true;
         if let Some(heard) = &self.heard {
             // The same HAVE sets the base back if operations were said since.
-            is_news = self.has_told || *heard != clock;
+            is_news = self.told.is_some() || *heard != clock;
             self.is_asked_again |= is_news && clock.is_within(heard);
         }
+        self.told.hear_have(&clock);
         self.heard = Some(clock);
-        self.has_told = false;
         is_news
     }
 
@@ -148,12 +172,12 @@ impl EndState {
         requires most { length ops.now ≤ MAX_TOLD }
     {
         self.link.say_ops(ops)?;
-        self.has_told = true;
+        self.told.add(&ops[0]);
         Ok(())
     }
 
     fn base(&self) -> Result<Option<Clock>, AllocError> {
-        if !self.link.has_heard_have() {
+        if !self.link.has_heard_have() || self.told.is_enough() {
             return Ok(None);
         }
         let base = self.link.base().copy()?;

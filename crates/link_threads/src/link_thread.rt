@@ -21,7 +21,8 @@ const NOTES: usize = 64;
 /// What became of a link that has ended.
 #[derive(Clone, Copy, Debug, Drop, PartialEq, Eq)]
 pub struct Parted {
-    /// Whether the other end said a HAVE or operations: a link that only greets is of no use.
+    /// Whether one of both ends took operations of the other: a link over which neither does is of
+    /// no use.
     pub was_of_use: bool,
     /// Whether an operation found no steps left (10): none can be taken before the file was opened
     /// anew.
@@ -29,7 +30,7 @@ pub struct Parted {
 }
 
 impl Parted {
-    /// A link that there was no memory for.
+    /// A link that there was no memory for, or that isn't begun.
     const AT_ONCE: Parted = Parted {
         was_of_use: false,
         is_out_of_steps: false,
@@ -37,7 +38,7 @@ impl Parted {
 }
 
 /// Serves a link of this replica to its end: this thread hears, and another one tells. Tells what
-/// became of it.
+/// became of it. It isn't begun once the hub's links are over.
 pub fn serve_link<R: Wait + Clock + Threads + Sync, J: Desks + Send + Sync, G: Gate + Sync>(
     rt: &R,
     alloc: Global,
@@ -47,13 +48,16 @@ pub fn serve_link<R: Wait + Clock + Threads + Sync, J: Desks + Send + Sync, G: G
     stream: &TcpStream,
     gate: &G,
 ) -> Parted {
+    if shared.are_links_over(rt) {
+        return Parted::AT_ONCE;
+    }
     let Ok(end) = LinkEnd::start(alloc, own) else {
         return Parted::AT_ONCE;
     };
     let Ok((producer, consumer)) = RingBuffer::new(alloc, NOTES) else {
         return Parted::AT_ONCE;
     };
-    let is_out_of_steps = hear_and_tell(
+    let parted = hear_and_tell(
         rt,
         alloc,
         shared,
@@ -64,13 +68,13 @@ pub fn serve_link<R: Wait + Clock + Threads + Sync, J: Desks + Send + Sync, G: G
         gate,
     );
     Parted {
-        was_of_use: end.has_heard_more(rt),
-        is_out_of_steps,
+        was_of_use: parted.was_of_use || end.was_taken(rt),
+        is_out_of_steps: parted.is_out_of_steps,
     }
 }
 
-/// This thread hears, and another one tells, until the link ends. Answers whether an operation
-/// found no steps left.
+/// This thread hears, and another one tells, until the link ends. Tells what became of it, as far
+/// as this end took operations of the other.
 fn hear_and_tell<'a, R: Wait + Clock + Threads + Sync, J: Desks + Send + Sync, G: Gate + Sync>(
     rt: &'a R,
     alloc: Global,
@@ -80,7 +84,7 @@ fn hear_and_tell<'a, R: Wait + Clock + Threads + Sync, J: Desks + Send + Sync, G
     (producer, consumer): (Producer<u8>, Consumer<u8>),
     stream: &'a TcpStream,
     gate: &'a G,
-) -> bool {
+) -> Parted {
     let link = pass.number();
     let mut hearing = Hearing::new(rt, shared, end, gate, pass, producer);
     let telling = Telling {
@@ -104,8 +108,11 @@ fn hear_and_tell<'a, R: Wait + Clock + Threads + Sync, J: Desks + Send + Sync, G
             let mut reader = stream;
             hearing.run(&mut reader);
         }
-        end.end(rt);
+        end.end_unless_due(rt);
         shared.call(rt, link);
     });
-    hearing.is_out_of_steps
+    Parted {
+        was_of_use: hearing.has_taken,
+        is_out_of_steps: hearing.is_out_of_steps,
+    }
 }

@@ -61,8 +61,9 @@ impl<'a, R: Wait + Clock, J: Desks> Telling<'a, R, J> {
         }
     }
 
-    /// Says what is due, each time that there is something, until nothing more is heard or the
-    /// daemon ends. Answers whether the stream still works.
+    /// Says what is due, each time that there is something, until the other thread has ended or the
+    /// daemon ends; if just nothing more is heard, until all that is due was said. Answers whether
+    /// the stream still works.
     fn say_all<S: Write>(
         &mut self,
         alloc: Global,
@@ -79,14 +80,15 @@ impl<'a, R: Wait + Clock, J: Desks> Telling<'a, R, J> {
             self.pause_if_asked_again();
             // A HAVE that found no memory stays due.
             is_have_due = is_have_due || self.has_notes();
+            let is_last = self.end.has_heard_all(self.rt);
             match self.speaker.speak(alloc, peer, line, stream, is_have_due) {
-                Ok(has_told) => {
+                Ok(true) => is_have_due = false,
+                Ok(false) if is_last => return true,
+                Ok(false) => {
                     is_have_due = false;
-                    if !has_told {
-                        seen = self.shared.wait_for_news(self.rt, self.link, seen);
-                    }
+                    seen = self.shared.wait_for_news(self.rt, self.link, seen);
                 }
-                Err(SpeakError::Memory) => match write_out(line, stream) {
+                Err(SpeakError::Memory) if !is_last => match write_out(line, stream) {
                     // What waits is the HAVE: it was the operations that found no memory.
                     Ok(is_have_said) => {
                         is_have_due &= !is_have_said;

@@ -6,7 +6,7 @@ use crate::gate::{Gate, Point};
 use crate::shared::Shared;
 use disk_trait::Disk;
 use group_commit::{Phase, StoreError};
-use hub_parts::{BEGIN_TRIES, Flusher, Met};
+use hub_parts::{Flusher, Met};
 use pass_books::Desks;
 use std::io;
 use std::rt::Clock;
@@ -58,11 +58,11 @@ fn commit_each<R: Wait + Clock, D: Disk, J: Desks, G: Gate>(
 {
     let mut patience = Duration::ZERO;
     for _ in rt.forever() {
-        if !shared.wait_for_work(rt, patience) {
+        let Some(tries) = shared.wait_for_work(rt, patience) else {
             return;
-        }
+        };
         let start = Instant::now(rt);
-        if !commit(rt, shared, flusher, gate) {
+        if !commit(rt, shared, flusher, gate, tries) {
             return;
         }
         patience = patience_since(rt, start);
@@ -88,10 +88,11 @@ fn commit<R: Wait, D: Disk, J: Desks, G: Gate>(
     shared: &Shared<J>,
     flusher: &mut Flusher<D>,
     gate: &G,
+    tries: u32,
 ) -> bool
     ensures { Goes D.DiskFacts flusher.old flusher.new }
 {
-    match begin(rt, shared, flusher) {
+    match begin(rt, shared, flusher, tries) {
         Begun::UnderWay => {}
         Begun::Without => return true,
         Begun::Failed => return false,
@@ -105,12 +106,17 @@ fn commit<R: Wait, D: Disk, J: Desks, G: Gate>(
     true
 }
 
-/// Begins a commit. A begin that finds no memory is made again, at most 1,000 times in a row; after
-/// that, and where the store has no room, it is given up.
-fn begin<R: Wait, D: Disk, J: Desks>(rt: &R, shared: &Shared<J>, flusher: &mut Flusher<D>) -> Begun
+/// Begins a commit. A begin that finds no memory is made again, at most so many times in a row;
+/// after that, and where the store has no room, it is given up.
+fn begin<R: Wait, D: Disk, J: Desks>(
+    rt: &R,
+    shared: &Shared<J>,
+    flusher: &mut Flusher<D>,
+    tries: u32,
+) -> Begun
     ensures { Goes D.DiskFacts flusher.old flusher.new }
 {
-    for _ in 0..BEGIN_TRIES {
+    for _ in 0..tries {
         match try_once(rt, shared, flusher) {
             Ok(Met::Begun(_)) => return Begun::UnderWay,
             Ok(_) => return Begun::Without,

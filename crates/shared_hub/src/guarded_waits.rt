@@ -8,6 +8,7 @@ use crate::awaited::{Awaited, Parity};
 use crate::guarded::Guarded;
 use crate::news::News;
 use crate::rooms::ROOMS;
+use hub_parts::BEGIN_TRIES;
 use pass_books::{Desks, Pass};
 use replica_core::Ticket;
 use std::time::Duration;
@@ -97,6 +98,26 @@ impl<J: Desks> Guarded<J> {
             && self.turns.given_up < length
     }
 
+    /// Whether operations wait for a commit that was given up.
+    pub(crate) fn has_given_up(&self) -> bool {
+        let length = self.locked.list().len();
+        !self.locked.is_failure_told()
+            && self.locked.begun() < length
+            && length <= self.turns.given_up
+    }
+
+    /// Has a commit that was given up tried anew, once: each try may cost as much as a commit.
+    /// Gives how often the next commit is to be tried.
+    pub(crate) fn try_anew(&mut self) -> u32
+        ensures { self.new ≡ self.old }
+    {
+        if !self.has_given_up() {
+            return BEGIN_TRIES;
+        }
+        self.turns.given_up = 0;
+        1
+    }
+
     /// Whether fewer edits have come than the flusher waits for. Behind a stop and a close it waits
     /// for none.
     pub(crate) fn lacks_edits(&self) -> bool {
@@ -161,7 +182,7 @@ impl<J: Desks> Guarded<J> {
     }
 
     /// Gives up the commit that was tried last, until another operation comes: one that came behind
-    /// that try, or comes yet.
+    /// that try, or comes yet; or until it is tried anew.
     pub(crate) fn give_up(&mut self)
         ensures { self.new ≡ self.old }
     {
@@ -180,7 +201,7 @@ impl<J: Desks> Guarded<J> {
         News {
             settled: self.locked.settled(),
             calls: self.turns.calls[link % ROOMS],
-            is_closing: self.turns.is_closing,
+            is_closing: self.turns.is_closing || self.are_links_over(),
         }
     }
 

@@ -7,6 +7,7 @@ mod flushing;
 mod gate;
 mod guarded;
 mod guarded_edits;
+mod guarded_links;
 mod guarded_reads;
 mod guarded_tells;
 mod guarded_waits;
@@ -16,13 +17,12 @@ mod opening;
 mod refusal;
 mod rooms;
 mod shared;
+mod shared_links;
 mod shared_reads;
 mod shared_tells;
 mod shared_waits;
 mod shown;
 mod status;
-#[cfg(test)]
-mod tests;
 mod turns;
 
 pub use flushing::flush;

@@ -7,7 +7,7 @@ pub struct News {
     pub settled: usize,
     /// How often the thread had been called.
     pub calls: u64,
-    /// Whether the threads were asked to end.
+    /// Whether the threads were asked to end, or the links are over.
     pub is_closing: bool,
 }
 

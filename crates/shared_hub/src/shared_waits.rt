@@ -7,11 +7,16 @@ use crate::awaited::Awaited;
 use crate::guarded::Guarded;
 use crate::news::News;
 use crate::shared::Shared;
+use hub_parts::BEGIN_TRIES;
 use pass_books::{Desks, Pass};
 use replica_core::Ticket;
 use std::rt::Clock;
 use std::sync::{MutexGuard, Wait};
 use std::time::Duration;
+
+/// How many milliseconds after it was given up a commit is tried anew: there may be memory again,
+/// and a peer that waits for it to be settled tells nothing else.
+const ANEW: u64 = 2_000;
 
 impl<J: Desks> Shared<J> {
     /// Waits until the operations of a ticket are settled, and acknowledges them; else the device
@@ -80,23 +85,43 @@ impl<J: Desks> Shared<J> {
         self.news.wake_all();
     }
 
-    /// Waits until operations wait for a commit, which is tried then; not so where the threads were
-    /// asked to end. Before that it waits, for so long at most, for the next edits of those who
-    /// were answered last, so that one commit serves them all.
-    pub(crate) fn wait_for_work<R: Wait + Clock>(&self, rt: &R, patience: Duration) -> bool {
+    /// Waits until operations wait for a commit, and gives how often that is to be tried, once
+    /// where it was given up before; `None` where the threads were asked to end. Before that it
+    /// waits, for so long at most, for the next edits of those who were answered last, so that one
+    /// commit serves them all.
+    pub(crate) fn wait_for_work<R: Wait + Clock>(&self, rt: &R, patience: Duration) -> Option<u32> {
         let mut guard = self.gather(rt, patience);
+        let mut tries = BEGIN_TRIES;
         for _ in rt.forever() {
             if guard.has_work() {
                 guard.note_try();
-                return true;
+                return Some(tries);
             }
             if guard.is_closing() {
-                return false;
+                return None;
             }
-            guard.sleep_flusher();
-            guard = self.work.wait(rt, guard);
+            (guard, tries) = self.sleep(rt, guard);
         }
         unreachable!()
+    }
+
+    /// Has the flusher sleep until it is woken; if a commit was given up, no longer than until that
+    /// is to be tried anew. Gives what stands under the lock then, and how often the next commit is
+    /// to be tried.
+    fn sleep<'a, R: Wait + Clock>(
+        &'a self,
+        rt: &R,
+        guard: MutexGuard<'a, Guarded<J>>,
+    ) -> (MutexGuard<'a, Guarded<J>>, u32) {
+        let mut guard = guard;
+        guard.sleep_flusher();
+        if !guard.has_given_up() {
+            return (self.work.wait(rt, guard), BEGIN_TRIES);
+        }
+        let time = Duration::from_millis(ANEW);
+        let (mut woken, _) = self.work.wait_timeout(rt, guard, time);
+        let tries = woken.try_anew();
+        (woken, tries)
     }
 
     /// Waits until no edit is missing of those who are at work, for so long at most, where their

@@ -24,6 +24,8 @@ pub(crate) struct Turns {
     pub is_closing: bool,
     /// Whether the flusher has ended, so that nothing more is settled.
     pub has_ended: bool,
+    /// Whether a peer has operations of this replica that the list hasn't.
+    pub was_put_back: bool,
 }
 
 impl Turns {
@@ -39,6 +41,7 @@ impl Turns {
             calls: [0; ROOMS],
             is_closing: false,
             has_ended: false,
+            was_put_back: false,
         }
     }
 }

@@ -1,4 +1,4 @@
-use Rattle.shared_hub.proofs.tests.four_threads_edit.Given as goal
+use Rattle.thread_tests.proofs.shared_tests.four_threads_edit.Given as goal
 
 -- the books have the names of those that were opened
 abbrev pub ghosts-four_edit : goal.ghosts-four_edit

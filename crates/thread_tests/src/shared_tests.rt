@@ -1,15 +1,12 @@
 ghost use Rattle.std.specs.Prelude.{◌≡◌, [], IfSome};
 
-use crate::flushing::flush;
-use crate::gate::NoGate;
-use crate::opening::{Named, Opened};
-use crate::shared::Shared;
 use disk_trait::MemDisk;
 use group_commit::Store;
 use hub_parts::{Flusher, Parts, open};
 use op_ids::ReplicaId;
 use op_model::{Change, Edit, EditText};
 use pass_books::{Desks, Pass};
+use shared_hub::{Named, NoGate, Opened, Shared, flush};
 use std::alloc::Global;
 use std::marker::Brand;
 use std::rt::Clock;

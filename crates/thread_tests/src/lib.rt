@@ -1,0 +1,7 @@
+//! Tests of hubs that threads share, and of what the two threads of a link say.
+#![tactic(auto)]
+
+#[cfg(test)]
+mod link_tests;
+#[cfg(test)]
+mod shared_tests;
