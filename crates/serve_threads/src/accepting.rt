@@ -3,6 +3,7 @@
 use crate::busy::say_busy;
 use crate::doors::Doors;
 use crate::ending::End;
+use crate::entry::Entry;
 use crate::hall::Hall;
 use crate::lobby::Lobby;
 use crate::session_thread::serve_session;
@@ -75,7 +76,7 @@ fn serve<R: Wait + Clock + Threads + Sync, J: Desks + Send + Sync, G: Gate + Syn
     hall: &Hall<J>,
     gate: &G,
     kind: Kind,
-    entry: u64,
+    entry: Entry,
     stream: &TcpStream,
 ) {
     match kind {
@@ -95,7 +96,7 @@ pub(crate) fn link<R: Wait + Clock + Threads + Sync, J: Desks + Send + Sync, G: 
     hall: &Hall<J>,
     gate: &G,
     lobby: &Lobby<J>,
-    entry: u64,
+    entry: Entry,
     stream: &TcpStream,
 ) -> bool {
     let _ = stream.set_nodelay(true);

@@ -9,6 +9,8 @@ use std::time::Duration;
 pub(crate) enum End {
     /// A session asked for a stop, or not all threads could be started.
     Stop,
+    /// The device failed, and the daemon is to end then.
+    Failure,
     /// The hub has no steps left (10), so the file is to be opened anew.
     Renewal,
 }
@@ -29,10 +31,10 @@ impl Ending {
         }
     }
 
-    /// Asks them to end. A stop outweighs a renewal, whichever is asked for first.
+    /// Asks them to end. A stop and a failure outweigh a renewal, whichever is asked for first.
     pub fn ask<R: Wait>(&self, rt: &R, end: End) {
         let mut asked = self.asked.lock(rt);
-        if *asked != Some(End::Stop) {
+        if matches!(*asked, None | Some(End::Renewal)) {
             *asked = Some(end);
         }
         drop(asked);

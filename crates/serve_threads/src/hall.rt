@@ -29,6 +29,8 @@ pub(crate) struct Hall<J: Desks> {
     /// Whoever has it may read a text or spans: so an edit waits for few of those who read.
     pub read_turn: Mutex<()>,
     pub ending: Ending,
+    /// Whether the threads are to end once the device failed.
+    pub ends_on_failure: bool,
 }
 
 impl<J: Desks> Hall<J> {
@@ -39,6 +41,7 @@ impl<J: Desks> Hall<J> {
         own: ReplicaId,
         named: Named<J>,
         joins: bool,
+        ends_on_failure: bool,
     ) -> Result<Hall<J>, AllocError> {
         let Named { shared, passes } = named;
         let mut sessions = passes;
@@ -53,6 +56,7 @@ impl<J: Desks> Hall<J> {
             own_link: Lobby::new(alloc, own_link)?,
             read_turn: Mutex::new(()),
             ending: Ending::new(),
+            ends_on_failure,
         })
     }
 

@@ -32,7 +32,7 @@ pub(crate) fn send_last_words(stream: &TcpStream) {
 }
 
 /// Whether nothing came in time, or the wait was cut short.
-fn has_to_wait(kind: ErrorKind) -> bool {
+pub(crate) fn has_to_wait(kind: ErrorKind) -> bool {
     matches!(
         kind,
         ErrorKind::WouldBlock | ErrorKind::TimedOut | ErrorKind::Interrupted

@@ -10,11 +10,16 @@ mod desk_serving;
 mod door;
 mod doors;
 mod ending;
+mod entry;
+#[cfg(test)]
+mod failure_tests;
+mod first_line;
 mod first_look;
 mod front;
 mod hall;
 mod last_words;
 mod lobby;
+mod pauses;
 mod rejoining;
 mod renewing;
 mod serving;

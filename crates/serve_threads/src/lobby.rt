@@ -2,6 +2,7 @@
 
 use crate::accepting::Kind;
 use crate::busy::say_busy;
+use crate::entry::Entry;
 use pass_books::{Desks, Pass};
 use std::alloc::{AllocError, Global};
 use std::net::{Shutdown, TcpStream};
@@ -31,8 +32,7 @@ struct Inside<J: Desks> {
 /// One that is connected.
 #[derive(Drop)]
 struct Connected {
-    /// The number of its entry.
-    entry: u64,
+    entry: Entry,
     socket: TcpStream,
     /// Whether a thread reads from it.
     is_reading: bool,
@@ -55,8 +55,8 @@ impl<J: Desks> Lobby<J> {
         })
     }
 
-    /// Lets a connection in, and gives the number of its entry; not where all places are taken.
-    pub fn enter<R: Wait>(&self, rt: &R, socket: &TcpStream) -> Option<u64> {
+    /// Lets a connection in, and gives its entry; not where all places are taken.
+    pub fn enter<R: Wait>(&self, rt: &R, socket: &TcpStream) -> Option<Entry> {
         let socket = socket.try_clone().ok()?;
         self.inside.lock(rt).enter(socket)
     }
@@ -67,14 +67,14 @@ impl<J: Desks> Lobby<J> {
     }
 
     /// Shuts a connection, and gives its place and its pass back.
-    pub fn leave<R: Wait>(&self, rt: &R, entry: u64, pass: Option<Pass<J>>) {
+    pub fn leave<R: Wait>(&self, rt: &R, entry: Entry, pass: Option<Pass<J>>) {
         self.inside.lock(rt).leave(entry, pass);
         self.left.notify_all();
     }
 
     /// Shuts a connection for which there is no thread, a session with the answer 8, and gives its
     /// place back.
-    pub fn turn_away<R: Wait>(&self, rt: &R, entry: u64, kind: Kind) {
+    pub fn turn_away<R: Wait>(&self, rt: &R, entry: Entry, kind: Kind) {
         if kind == Kind::Session {
             self.inside.lock(rt).refuse(entry);
         }
@@ -83,14 +83,14 @@ impl<J: Desks> Lobby<J> {
 
     /// Notes that a thread reads from a connection, unless nobody is served any more: answers
     /// whether it may.
-    pub fn begin_reading<R: Wait>(&self, rt: &R, entry: u64) -> bool {
+    pub fn begin_reading<R: Wait>(&self, rt: &R, entry: Entry) -> bool {
         let mut inside = self.inside.lock(rt);
         inside.note_reading(entry, true);
         !inside.is_closed
     }
 
     /// Notes that a thread has read from a connection.
-    pub fn end_reading<R: Wait>(&self, rt: &R, entry: u64) {
+    pub fn end_reading<R: Wait>(&self, rt: &R, entry: Entry) {
         self.inside.lock(rt).note_reading(entry, false);
     }
 
@@ -120,11 +120,14 @@ impl<J: Desks> Lobby<J> {
 }
 
 impl<J: Desks> Inside<J> {
-    fn enter(&mut self, socket: TcpStream) -> Option<u64> {
+    fn enter(&mut self, socket: TcpStream) -> Option<Entry> {
         if self.is_closed || self.places == 0 {
             return None;
         }
-        let entry = self.entered;
+        let entry = Entry {
+            number: self.entered,
+            has_last: self.places == 1,
+        };
         let connected = Connected {
             entry,
             socket,
@@ -132,11 +135,11 @@ impl<J: Desks> Inside<J> {
         };
         self.connected.push(connected).ok()?;
         self.places -= 1;
-        self.entered = entry.wrapping_add(1);
+        self.entered = self.entered.wrapping_add(1);
         Some(entry)
     }
 
-    fn refuse(&self, entry: u64) {
+    fn refuse(&self, entry: Entry) {
         for it in self.connected.iter() {
             if it.entry == entry {
                 say_busy(&it.socket);
@@ -144,7 +147,7 @@ impl<J: Desks> Inside<J> {
         }
     }
 
-    fn note_reading(&mut self, entry: u64, is_reading: bool) {
+    fn note_reading(&mut self, entry: Entry, is_reading: bool) {
         for it in self.connected.iter_mut() {
             if it.entry == entry {
                 it.is_reading = is_reading;
@@ -152,7 +155,7 @@ impl<J: Desks> Inside<J> {
         }
     }
 
-    fn leave(&mut self, entry: u64, pass: Option<Pass<J>>) {
+    fn leave(&mut self, entry: Entry, pass: Option<Pass<J>>) {
         if let Some(pass) = pass {
             let _ = self.passes.push(pass);
         }

@@ -2,6 +2,7 @@
 
 use crate::accepting::link;
 use crate::hall::Hall;
+use crate::pauses::{Outcome, Pauses};
 use pass_books::Desks;
 use shared_hub::Gate;
 use std::alloc::Global;
@@ -11,12 +12,6 @@ use std::rt::Clock;
 use std::sync::Wait;
 use std::thread::Threads;
 use std::time::{Duration, Instant};
-
-/// The pauses before a peer is joined again, in milliseconds: the first, which doubles up to the
-/// longest.
-const PAUSE: u64 = 100;
-
-const LONGEST_PAUSE: u64 = 5_000;
 
 /// How long a peer has to take the connection, in milliseconds. One that listens and takes none
 /// would hold up the daemon's end.
@@ -50,31 +45,28 @@ impl Joined {
     }
 }
 
-/// Serves the link to a peer that was joined. Where that ends, the peer is joined again, with
-/// pauses that double from 100 milliseconds to 5 seconds, until the daemon is asked to end. The
-/// pauses begin anew after a link that lasted a minute, or on which the peer said more than HELLO
-/// and BYE.
+/// Serves the link to a peer that was joined. If that ends, the peer is joined again after a pause,
+/// as `Pauses` says, until the daemon is asked to end or its links are over.
 pub(crate) fn keep_joined<
     R: Wait + Clock + Threads + Net<Listener = TcpListener, Stream = TcpStream> + Sync,
     J: Desks + Send + Sync,
     G: Gate + Sync,
 >(rt: &R, alloc: Global, hall: &Hall<J>, gate: &G, joined: Joined) {
     let Joined { stream, port } = joined;
-    let mut pause = PAUSE;
+    let mut pauses = Pauses::new();
     let mut stream = match stream {
         Some(stream) => Some(stream),
         None => connect(rt, port).ok(),
     };
     for _ in rt.forever() {
-        if let Some(stream) = stream {
-            if is_of_use(rt, alloc, hall, gate, &stream) {
-                pause = PAUSE;
-            }
-        }
-        if hall.ending.wait_at_most(rt, Duration::from_millis(pause)) {
+        let outcome = match stream {
+            Some(stream) => serve_joined(rt, alloc, hall, gate, &stream),
+            None => Outcome::NotThere,
+        };
+        let pause = Duration::from_millis(pauses.behind(outcome));
+        if hall.shared.are_links_over(rt) || hall.ending.wait_at_most(rt, pause) {
             return;
         }
-        pause = LONGEST_PAUSE.min(pause.saturating_mul(2));
         stream = connect(rt, port).ok();
     }
 }
@@ -88,20 +80,24 @@ fn connect<R: Net<Listener = TcpListener, Stream = TcpStream>>(
     TcpStream::connect_timeout(rt, &place, Duration::from_millis(PATIENCE))
 }
 
-/// Serves the link over a stream to its end, where there is a place for it, and answers whether it
-/// was of use: it lasted a minute, or the peer said more than HELLO and BYE.
-fn is_of_use<R: Wait + Clock + Threads + Sync, J: Desks + Send + Sync, G: Gate + Sync>(
+/// Serves the link over a stream to its end, if there is a place for it, and tells what became of
+/// it.
+fn serve_joined<R: Wait + Clock + Threads + Sync, J: Desks + Send + Sync, G: Gate + Sync>(
     rt: &R,
     alloc: Global,
     hall: &Hall<J>,
     gate: &G,
     stream: &TcpStream,
-) -> bool {
+) -> Outcome {
     let Some(entry) = hall.own_link.enter(rt, stream) else {
-        return false;
+        return Outcome::OfNoUse;
     };
     let start = Instant::now(rt);
-    link(rt, alloc, hall, gate, &hall.own_link, entry, stream) || has_lasted(rt, start)
+    if link(rt, alloc, hall, gate, &hall.own_link, entry, stream) || has_lasted(rt, start) {
+        Outcome::OfUse
+    } else {
+        Outcome::OfNoUse
+    }
 }
 
 /// Whether a minute has passed since a time; not where the clock can't be read.

@@ -5,13 +5,13 @@ ghost use Rattle.shared_hub.specs.Going.{Goes, ComesBack};
 
 use crate::accepting::{Kind, accept};
 use crate::doors::Doors;
-use crate::ending::End;
+use crate::ending::{End, Ending};
 use crate::hall::Hall;
 use crate::rejoining::{Joined, keep_joined};
 use disk_trait::Disk;
 use hub_parts::{Flusher, Parts};
 use pass_books::Desks;
-use shared_hub::{Gate, Opened, flush};
+use shared_hub::{Gate, Opened, Shared, flush};
 use std::alloc::{AllocError, Global};
 use std::marker::Brand;
 use std::net::{Net, TcpListener, TcpStream};
@@ -28,12 +28,15 @@ const SESSION_WORDS: u64 = 3_000;
 /// How long links have for theirs.
 const LINK_WORDS: u64 = 1_000;
 
-/// Where the daemon listens, and the peer that it joined.
+/// Where the daemon listens, the peer that it joined, and when it ends by itself.
 #[derive(Drop)]
 pub struct Sockets {
     pub sessions: TcpListener,
     pub peers: TcpListener,
     pub joined: Option<Joined>,
+    /// Whether the daemon ends once the device failed. Otherwise it serves on, refuses edits (9)
+    /// and shows what it has, until a session asks for a stop.
+    pub ends_on_failure: bool,
 }
 
 /// How the daemon ended.
@@ -52,7 +55,8 @@ pub struct Served<D: Disk> {
 
 /// Serves sessions and links over a hub that was just opened, until a session asked for a stop, or
 /// an edit or a merge found no steps left (10), and what was applied is settled; then hands back
-/// the disk, and in the second case the sockets.
+/// the disk, and in the second case the sockets. Where the sockets say so, it ends when the device
+/// failed, too: those who wait are answered 9 before.
 ///
 /// At most 32 sessions and 8 links are served at once, one of which is the joined peer's, where
 /// there is one: a further session is answered 8 and closed, a further link is closed. A session
@@ -106,8 +110,9 @@ fn serve_named<
         sessions,
         peers,
         joined,
+        ends_on_failure,
     } = sockets;
-    let Ok(hall) = Hall::new(alloc, own, named, joined.is_some()) else {
+    let Ok(hall) = Hall::new(alloc, own, named, joined.is_some(), ends_on_failure) else {
         return without_memory(flusher);
     };
     let Ok(doors) = Doors::new(sessions, peers) else {
@@ -116,10 +121,7 @@ fn serve_named<
     let port = joined.as_ref().map(|joined| joined.port);
     let (has_begun, flusher) = run(rt, alloc, &hall, flusher, &doors, joined, gate);
     let Hall { shared, ending, .. } = hall;
-    let renewal = match ending.asked(rt) {
-        Some(End::Renewal) => Some(anew(doors, port)),
-        _ => None,
-    };
+    let renewal = next_turn(rt, &shared, &ending, doors, port, ends_on_failure);
     let locked = shared.end().into_locked();
     Served {
         has_failed: flusher.has_failed() || locked.settled() < locked.list().len(),
@@ -129,15 +131,27 @@ fn serve_named<
     }
 }
 
-/// The sockets for the next turn, whose peer is joined anew.
-fn anew(doors: Doors, port: Option<u16>) -> Sockets {
+/// The sockets for the next turn, whose peer is joined anew, if the file is to be opened anew. One
+/// that was put back isn't: it takes no edit in this process any more.
+fn next_turn<R: Wait, J: Desks>(
+    rt: &R,
+    shared: &Shared<J>,
+    ending: &Ending,
+    doors: Doors,
+    port: Option<u16>,
+    ends_on_failure: bool,
+) -> Option<Sockets> {
+    if ending.asked(rt) != Some(End::Renewal) || shared.are_links_over(rt) {
+        return None;
+    }
     let (sessions, peers) = doors.into_listeners();
     let joined = port.map(Joined::anew);
-    Sockets {
+    Some(Sockets {
         sessions,
         peers,
         joined,
-    }
+        ends_on_failure,
+    })
 }
 
 /// Starts the threads, waits until one asks to end, and ends them all. Answers whether all could be
@@ -185,10 +199,28 @@ fn run<
                 hall.ending.ask(rt, End::Stop);
             }
             // This thread is the flusher's.
-            flush(rt, &hall.shared, &mut flusher, gate);
+            flush_to_the_end(rt, hall, &mut flusher, gate);
             (has_begun, flusher)
         },
     )
+}
+
+/// Commits what the threads make, to their end or until the device fails. Then the daemon is asked
+/// to end, where it is to end for that: those who wait for a settlement were told before.
+fn flush_to_the_end<J: Desks, D: Disk, R: Wait + Clock, G: Gate>(
+    rt: &R,
+    hall: &Hall<J>,
+    flusher: &mut Flusher<D>,
+    gate: &G,
+)
+    ensures kept { IsFlusher D.DiskFacts flusher.new }
+    ensures goes { Goes D.DiskFacts flusher.old flusher.new }
+{
+    flush(rt, &hall.shared, flusher, gate);
+    flusher.kept();
+    if hall.ends_on_failure && flusher.has_failed() {
+        hall.ending.ask(rt, End::Failure);
+    }
 }
 
 /// Asks the daemon to end, and ends all threads.

@@ -1,6 +1,8 @@
 //! A session's thread.
 
 use crate::busy::say_busy;
+use crate::entry::Entry;
+use crate::first_line::FirstLine;
 use crate::first_look::FirstLook;
 use crate::hall::Hall;
 use crate::last_words::send_last_words;
@@ -10,36 +12,74 @@ use pass_books::{Desks, Pass};
 use session_threads::{Session, SessionFault};
 use shared_hub::Gate;
 use std::alloc::Global;
+use std::io::Read;
 use std::net::TcpStream;
 use std::sync::Wait;
+use std::time::Duration;
+
+/// How long a read of a session that has the last place waits for its first line, in milliseconds.
+const TURN: u64 = 10;
 
 /// Serves a session whose connection is in the lobby, to its end, and gives its place back. One for
-/// which there is no memory is answered 8.
+/// which there is no memory is answered 8, and so is one that has the last place and asks first for
+/// anything but the status or a stop.
 pub(crate) fn serve_session<R: Wait, J: Desks, G: Gate>(
     rt: &R,
     alloc: Global,
     hall: &Hall<J>,
     gate: &G,
-    entry: u64,
+    entry: Entry,
     stream: &TcpStream,
 ) {
-    let pass = match hall.sessions.take_pass(rt) {
-        Some(pass) => Some(serve(rt, alloc, hall, gate, entry, stream, pass)),
-        None => {
-            say_busy(stream);
-            None
+    let mut first = FirstLine::new();
+    let pass = if entry.has_last && !may_have_last(alloc, stream, &mut first) {
+        refuse(stream);
+        None
+    } else {
+        match hall.sessions.take_pass(rt) {
+            Some(pass) => {
+                let rest = UntilClosed {
+                    rt,
+                    lobby: &hall.sessions,
+                    entry,
+                    reader: stream,
+                };
+                let reader = first.as_slice().chain(rest);
+                Some(serve(rt, alloc, hall, gate, reader, stream, pass))
+            }
+            None => {
+                refuse(stream);
+                None
+            }
         }
     };
     hall.sessions.leave(rt, entry, pass);
 }
 
+/// Reads the first line of a session, for which it has a second, and answers whether it may have
+/// the last place: it asks for the status or a stop. Else whoever is to see what the daemon does,
+/// or to end it, would be kept out.
+fn may_have_last(alloc: Global, stream: &TcpStream, first: &mut FirstLine) -> bool {
+    let _ = stream.set_read_timeout(Some(Duration::from_millis(TURN)));
+    let mut reader = stream;
+    first.read_from(&mut reader);
+    let _ = stream.set_read_timeout(None);
+    first.asks_for_status_or_stop(alloc)
+}
+
+/// Answers a session 8 that isn't served, so that the answer arrives.
+fn refuse(stream: &TcpStream) {
+    say_busy(stream);
+    send_last_words(stream);
+}
+
 /// Serves a session with this pass, and gives that back.
-fn serve<R: Wait, J: Desks, G: Gate>(
+fn serve<R: Wait, J: Desks, G: Gate, S: Read + Drop>(
     rt: &R,
     alloc: Global,
     hall: &Hall<J>,
     gate: &G,
-    entry: u64,
+    reader: S,
     stream: &TcpStream,
     pass: Pass<J>,
 ) -> Pass<J> {
@@ -53,17 +93,10 @@ fn serve<R: Wait, J: Desks, G: Gate>(
         gate,
         pass,
     };
-    let reader = UntilClosed {
-        rt,
-        lobby: &hall.sessions,
-        entry,
-        reader: stream,
-    };
     let served = Session::new(FirstLook::new(reader), stream).serve(alloc, &mut desk);
     if let Err(SessionFault::Memory) = served {
-        say_busy(stream);
-    }
-    if hall.ending.is_asked(rt) {
+        refuse(stream);
+    } else if hall.ending.is_asked(rt) {
         send_last_words(stream);
     }
     desk.into_pass()

@@ -74,6 +74,7 @@ pub fn sockets<R: Net<Listener = TcpListener, Stream = TcpStream>>(
         sessions,
         peers,
         joined: None,
+        ends_on_failure: false,
     };
     Some((sockets, at_sessions, at_peers))
 }

@@ -2,9 +2,9 @@
 use crate::asking_gate::AskingGate;
 use crate::rejoining::Joined;
 use crate::serving::Served;
-use crate::test_daemons::{TURNS, Talk, count_settled, new_disk, serve_disk, sockets};
+use crate::test_daemons::{TURNS, Talk, new_disk, serve_disk, sockets};
 use crate::waiting_disk::{Meeting, WaitingDisk};
-use disk_trait::{FaultDisk, MemDisk};
+use disk_trait::MemDisk;
 use shared_hub::NoGate;
 use std::alloc::Global;
 use std::net::{Net, TcpListener, TcpStream};
@@ -15,17 +15,17 @@ use std::thread;
 use std::thread::Threads;
 use std::time::Duration;
 
-const INSERT_A: &str = "{\"op\":\"insert\",\"doc\":1,\"at\":0,\"text\":\"a\"}";
+pub(crate) const INSERT_A: &str = "{\"op\":\"insert\",\"doc\":1,\"at\":0,\"text\":\"a\"}";
 
-const INSERT_B: &str = "{\"op\":\"insert\",\"doc\":1,\"at\":0,\"text\":\"b\"}";
+pub(crate) const INSERT_B: &str = "{\"op\":\"insert\",\"doc\":1,\"at\":0,\"text\":\"b\"}";
 
-const TEXT: &str = "{\"op\":\"text\",\"doc\":1}";
+pub(crate) const TEXT: &str = "{\"op\":\"text\",\"doc\":1}";
 
 const SPANS: &str = "{\"op\":\"spans\",\"doc\":1}";
 
-const STATUS: &str = "{\"op\":\"status\"}";
+pub(crate) const STATUS: &str = "{\"op\":\"status\"}";
 
-const STOP: &str = "{\"op\":\"stop\"}";
+pub(crate) const STOP: &str = "{\"op\":\"stop\"}";
 
 const REV_1: &str = "{\"ok\":true,\"rev\":1}";
 
@@ -40,7 +40,7 @@ const STOP_AND_INSERT: &str =
 const STOPPED_AND_STOPPING: &str =
     "{\"ok\":true}\n{\"code\":12,\"error\":\"stopping\",\"ok\":false}";
 
-const FAILED: &str = "{\"code\":9,\"error\":\"failed\",\"ok\":false}";
+pub(crate) const FAILED: &str = "{\"code\":9,\"error\":\"failed\",\"ok\":false}";
 
 const A_APPLIED: &str = "{\"applied\":1,\"ok\":true,\"settled\":0,\"state\":\"open\"}";
 
@@ -84,7 +84,7 @@ fn count_right<R: Net<Listener = TcpListener, Stream = TcpStream>>(
 }
 
 /// Asks a session these requests, and adds how many have the answer beside them.
-fn add_right<R: Wait + Net<Listener = TcpListener, Stream = TcpStream>>(
+pub(crate) fn add_right<R: Wait + Net<Listener = TcpListener, Stream = TcpStream>>(
     rt: &R,
     alloc: Global,
     port: u16,
@@ -249,51 +249,5 @@ fn link_two<R: Wait + Clock + Threads + Net<Listener = TcpListener, Stream = Tcp
 #[test]
 fn two_daemons_bring_each_other_up_to_date(rt: HostRuntime) -> Result<(), Fail> {
     assert_eq!(rt; link_two(&rt, rt.alloc()).ok_or("no daemon")?, 2);
-    Ok(())
-}
-
-/// What a session is told by a daemon whose disk fails in the first sync of a commit.
-const OVER_A_FAILED_DISK: [(&str, &str); 5] = [
-    (INSERT_A, FAILED),
-    (INSERT_B, FAILED),
-    (TEXT, "{\"ok\":true,\"rev\":1,\"text\":\"a\"}"),
-    (
-        STATUS,
-        "{\"applied\":1,\"ok\":true,\"settled\":0,\"state\":\"failed\"}",
-    ),
-    (STOP, FAILED),
-];
-
-/// Serves a session over a disk that fails in a commit. Gives how many answers were right, whether
-/// the daemon tells the failure, and how many operations are there when the file is opened again.
-fn edit_over_a_failing_disk<
-    R: Wait + Clock + Threads + Net<Listener = TcpListener, Stream = TcpStream> + Sync,
->(rt: &R, alloc: Global) -> Option<(usize, bool, usize)> {
-    // The calls of opening are a sync, a size and a read; the sixth one is the commit's first sync.
-    let disk = FaultDisk::new(new_disk(alloc, 1)?, 6);
-    let (sockets, port, _) = sockets(rt)?;
-    let right = Mutex::new(0);
-    let counted = &right;
-    let served = thread::scope(thread::scope_env(), rt, |scope| {
-        let _ = scope.spawn(move || add_right(rt, alloc, port, &OVER_A_FAILED_DISK, counted));
-        serve_disk(rt, alloc, disk, sockets, &NoGate)
-    });
-    let Served {
-        disk,
-        has_failed,
-        ..
-    } = served?;
-    let settled = count_settled(alloc, disk.into_inner())?;
-    Some((right.into_inner(), has_failed, settled))
-}
-
-#[test]
-fn a_failed_device_is_told_to_those_who_wait(rt: HostRuntime) -> Result<(), Fail> {
-    let (right, has_failed, settled) = edit_over_a_failing_disk(&rt, rt.alloc()).ok_or(
-        "no daemon",
-    )?;
-    assert_eq!(rt; right, OVER_A_FAILED_DISK.len());
-    assert!(rt; has_failed);
-    assert_eq!(rt; settled, 0);
     Ok(())
 }

@@ -1,5 +1,6 @@
 //! A reader that ends once nobody is served any more.
 
+use crate::entry::Entry;
 use crate::lobby::Lobby;
 use pass_books::Desks;
 use std::io;
@@ -11,7 +12,7 @@ use std::sync::Wait;
 pub(crate) struct UntilClosed<'a, R: Wait, J: Desks, S: Read> {
     pub rt: &'a R,
     pub lobby: &'a Lobby<J>,
-    pub entry: u64,
+    pub entry: Entry,
     pub reader: S,
 }
 
