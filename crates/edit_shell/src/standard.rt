@@ -1,15 +1,8 @@
 //! The program over its command line, files and standard streams.
 
-use crate::bad_port::BadPort;
-use crate::command_line::order;
-use crate::ended::status;
-use crate::fault::Fault;
 use crate::held::hold_closed_streams;
-use crate::order::Order;
-use crate::order_fault::OrderFault;
-use crate::perform::{Performed, perform};
-use crate::serve_order::ServeOrder;
-use crate::store_order::StoreOrder;
+use command_syntax::{BadPort, Order, ServeOrder, StoreOrder};
+use command_words::{OrderFault, order};
 use disk_trait::{Disk, DiskError, FileDisk, MemDisk};
 use hub_parts::open;
 use serve_threads::{Joined, Sockets, serve_on};
@@ -21,6 +14,7 @@ use std::rt::{Clock, Env, Files};
 use std::sync::Wait;
 use std::thread::Threads;
 use std::{env, io};
+use store_orders::{Fault, Performed, dump, perform, status};
 
 /// The bytes of a store in memory.
 const ROOM: usize = 1_048_576;
@@ -150,6 +144,7 @@ fn run_held<
 >(rt: &R, order: &Order<'_>, output: &mut W, faults: &mut F) -> u8 {
     match order {
         Order::Store(order) => run_on_disk(rt, order, output, faults),
+        Order::Dump(order) => status(rt.alloc(), dump(rt, *order, output), faults),
         Order::Serve(order) => status(rt.alloc(), serve(rt, order), faults),
     }
 }
@@ -209,6 +204,7 @@ fn open_sockets<R: Net<Listener = TcpListener, Stream = TcpStream>>(
         sessions,
         peers,
         joined,
+        ends_on_failure: order.ends_on_failure,
     })
 }
 
@@ -232,9 +228,6 @@ fn run_on_disk<R: Files<File = File> + Input + AllocGlobal, W: Write, F: Write>(
             output,
             faults,
         ),
-        StoreOrder::Dump { file, .. } => {
-            run_on_file(rt, order, FileDisk::open_to_read(rt, file), output, faults)
-        }
     }
 }
 

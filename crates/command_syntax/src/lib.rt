@@ -1,0 +1,16 @@
+//! The words of a command line: what they may ask for, and the values that aren't taken as written.
+#![tactic(auto)]
+
+mod bad_port;
+mod dump_order;
+mod order;
+mod serve_order;
+mod store_order;
+mod values;
+
+pub use bad_port::BadPort;
+pub use dump_order::DumpOrder;
+pub use order::Order;
+pub use serve_order::ServeOrder;
+pub use store_order::StoreOrder;
+pub use values::{doc, optional_port, port, replica};

@@ -1,0 +1,14 @@
+use crate::dump_order::DumpOrder;
+use crate::serve_order::ServeOrder;
+use crate::store_order::StoreOrder;
+
+/// What a command line asks for. Files are named as they were written.
+#[derive(Clone, Copy, Debug, PartialEq, Eq)]
+pub enum Order<'a> {
+    /// What is done over one disk, a reader and writers.
+    Store(StoreOrder<'a>),
+    /// What is shown of a file, which is let go of before that.
+    Dump(DumpOrder<'a>),
+    /// What is done over a file and sockets.
+    Serve(ServeOrder<'a>),
+}

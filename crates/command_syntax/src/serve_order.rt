@@ -1,0 +1,13 @@
+/// The sessions and the peers of a store, over sockets of 127.0.0.1.
+#[derive(Clone, Copy, Debug, PartialEq, Eq)]
+pub struct ServeOrder<'a> {
+    pub file: &'a str,
+    /// Where sessions come in.
+    pub sessions: u16,
+    /// Where peers come in.
+    pub peers: u16,
+    /// Where the peer listens that is joined.
+    pub link: Option<u16>,
+    /// Whether the program ends once the device failed.
+    pub ends_on_failure: bool,
+}

@@ -1,0 +1,66 @@
+//! The values of a command line that aren't taken as written.
+ghost use Rattle.std.specs.Prelude.{◌≡◌, option_map};
+ghost use Rattle.std.specs.List.{list_all};
+ghost use Rattle.std.specs.Char.{is_ascii_digit};
+ghost use Rattle.command_syntax.specs.Values.{decimal_of, doc_of, port_of, optional_port_of, replica_of};
+
+use op_ids::ReplicaId;
+use uuid::Uuid;
+
+/// The number of a document in decimal digits, from 1 to 2^32 - 1.
+pub fn doc(text: &str) -> Option<u32>
+    ensures { result ≡ doc_of text.now }
+{
+    match number(text) {
+        Some(0) | None => None,
+        Some(doc) => Some(doc),
+    }
+}
+
+/// A port in decimal digits, from 1 to 65,535.
+pub fn port(text: &str) -> Option<u16>
+    ensures { result ≡ port_of text.now }
+{
+    let port = u16::try_from(number(text)?).ok()?;
+    if port == 0 { None } else { Some(port) }
+}
+
+/// A port that may be left out: where it is, there is none.
+pub fn optional_port(text: Option<&str>) -> Option<Option<u16>>
+    ensures { result ≡ optional_port_of (option_map (λ text. text.now) text.entry) }
+{
+    match text {
+        None => Some(None),
+        Some(text) => match port(text) {
+            Some(port) => Some(Some(port)),
+            None => None,
+        },
+    }
+}
+
+/// A number in decimal digits, up to 2^32 - 1.
+fn number(text: &str) -> Option<u32>
+    ensures { result ≡ decimal_of text.now }
+{
+    if !is_decimal(text) {
+        return None;
+    }
+    text.parse::<u32>().ok()
+}
+
+/// Whether all characters are decimal digits.
+fn is_decimal(text: &str) -> bool
+    ensures { result ≡ list_all is_ascii_digit text.now }
+{
+    text.bytes().all(|byte| byte.is_ascii_digit())
+}
+
+/// The replica that a UUID names, in any of its text forms but nil.
+pub fn replica(text: &str) -> Option<ReplicaId>
+    ensures { result ≡ replica_of text.now }
+{
+    match Uuid::parse_str(text) {
+        Ok(id) => ReplicaId::from_uuid(id),
+        Err(_) => None,
+    }
+}

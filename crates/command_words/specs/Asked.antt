@@ -1,0 +1,125 @@
+-- What a command line asks for.
+use Rattle.std.specs.Prelude.{ℕ, Bool, false, List, map, Option, Some, None}
+use Rattle.std.specs.Prelude.{is_some, option_map, option_and_then, codes, if◌then◌else◌}
+use Rattle.std.specs.Option.{option_or, option_map_or}
+use Rattle.std.specs.Str.{bytes_eq}
+use Rattle.std.specs.Borrow.{Bor}
+use Rattle.clap.specs.Walk.{Row, first_of}
+use Rattle.clap.specs.Simple.{subcommand_of}
+use Rattle.command_syntax.specs.Values.{replica_of, doc_of, port_of, optional_port_of}
+use Rattle.command_words.specs.Program.{program}
+use Rattle.command_syntax.specs.declared.order.Order.{Order}
+use Rattle.command_syntax.specs.declared.order.Order.TheVariants as order
+use Rattle.command_syntax.specs.declared.store_order.StoreOrder.{StoreOrder}
+use Rattle.command_syntax.specs.declared.store_order.StoreOrder.TheVariants as store
+use Rattle.command_syntax.specs.declared.bad_port.BadPort.{BadPort}
+
+-- a session in memory, a new store of a replica, a session over a store, a document of a store, or a store
+-- served at a port for sessions and one for peers, with the port of a peer to join where one is named, to its end or until
+-- the device failed
+pub data Asked : Type 0 where
+  in_memory : Asked
+  init : List ℕ → ℕ → Asked
+  edit : List ℕ → Asked
+  dump : List ℕ → ℕ → Asked
+  serve : List ℕ → ℕ → ℕ → Option ℕ → Bool → Asked
+
+-- what an order over one disk asks for
+abbrev pub meant_of_store : StoreOrder → Asked
+meant_of_store store.InMemory = in_memory
+meant_of_store (store.Init file replica) = init file.now replica
+meant_of_store (store.Edit file) = edit file.now
+
+-- what an order asks for
+abbrev pub meant : Order → Asked
+meant (order.Store order) = meant_of_store order
+meant (order.Dump order) = dump order.file.now order.doc
+meant (order.Serve order) = serve order.file.now order.sessions order.peers order.link order.ends_on_failure
+
+-- an `init` with the values of its arguments
+abbrev pub init_of : List Row → Option Asked
+init_of rows =
+    option_and_then (λ file. option_map (init file) (option_and_then replica_of (first_of (codes "UUID") rows)))
+    (first_of (codes "FILE") rows)
+
+-- an `edit` with the value of its argument
+abbrev pub edit_of : List Row → Option Asked
+edit_of rows = option_map edit (first_of (codes "FILE") rows)
+
+-- a `dump` with the values of its arguments
+abbrev pub dump_of : List Row → Option Asked
+dump_of rows =
+    option_and_then (λ file. option_map (dump file) (option_and_then doc_of (first_of (codes "DOC") rows)))
+    (first_of (codes "FILE") rows)
+
+-- the port that an option names
+abbrev pub port_at : List ℕ → List Row → Option ℕ
+port_at option rows = option_and_then port_of (first_of option rows)
+
+-- the value that a given flag has
+abbrev pub is_true : Option (List ℕ) → Bool
+is_true None = false
+is_true (Some text) = bytes_eq text (codes "true")
+
+-- a flag is given
+abbrev pub is_flag_given : List ℕ → List Row → Bool
+is_flag_given flag rows = is_true (first_of flag rows)
+
+-- a `serve` with the values of its arguments
+abbrev pub serve_of : List Row → Option Asked
+serve_of rows =
+    option_and_then (λ file. option_and_then (λ sessions. option_and_then (λ peers.
+    option_map (λ link. serve file sessions peers link (is_flag_given (codes "end-on-failure") rows))
+    (optional_port_of (first_of (codes "link") rows)))
+    (port_at (codes "peers") rows))
+    (port_at (codes "sessions") rows))
+    (first_of (codes "FILE") rows)
+
+-- the command of this name, with the values of its arguments
+abbrev pub asked_of : List ℕ → List Row → Option Asked
+asked_of name rows =
+    if bytes_eq name (codes "init") then init_of rows
+    else if bytes_eq name (codes "edit") then edit_of rows
+    else if bytes_eq name (codes "dump") then dump_of rows
+    else if bytes_eq name (codes "serve") then serve_of rows
+    else None
+
+-- what a command asks for, and no command: a session in memory
+abbrev pub asked_by : Option (List ℕ × List Row) → Option Asked
+asked_by None = Some in_memory
+asked_by (Some command) = asked_of command.0 command.1
+
+-- the words of a command line
+abbrev pub texts : List (Bor (List ℕ)) → List (List ℕ)
+texts words = map (λ word. word.now) words
+
+-- what the words of a command line ask for, of which the first is the program's name; none where a value breaks its rule
+abbrev pub asked : List (List ℕ) → Option Asked
+asked words = asked_by (subcommand_of program words)
+
+-- what is told of a word that is no port: its option and the word
+abbrev pub told : BadPort → List ℕ × List ℕ
+told port = (port.option.now, port.word.now)
+
+-- an option and its word, where that is no port
+abbrev pub bad_word : List ℕ → List ℕ → Option (List ℕ × List ℕ)
+bad_word option word = if is_some (port_of word) then None else Some (option, word)
+
+-- an option whose word is no port, and that word
+abbrev pub bad_port_at : List ℕ → List Row → Option (List ℕ × List ℕ)
+bad_port_at option rows = option_and_then (bad_word option) (first_of option rows)
+
+-- the first option whose word is no port, and that word
+abbrev pub bad_port_of : List Row → Option (List ℕ × List ℕ)
+bad_port_of rows =
+    option_or (bad_port_at (codes "sessions") rows)
+    (option_or (bad_port_at (codes "peers") rows) (bad_port_at (codes "link") rows))
+
+-- the first port of a command that breaks its rule
+abbrev pub bad_port_by : Option (List ℕ × List Row) → Option (List ℕ × List ℕ)
+bad_port_by None = None
+bad_port_by (Some command) = bad_port_of command.1
+
+-- the first port of a command line that breaks its rule, and its option; none where each keeps it
+abbrev pub bad_port : List (List ℕ) → Option (List ℕ × List ℕ)
+bad_port words = bad_port_by (subcommand_of program words)

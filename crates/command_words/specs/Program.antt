@@ -1,0 +1,59 @@
+-- The commands of the program, as `clap` reads them.
+use Rattle.std.specs.Prelude.{List, ℕ, true, Some, codes}
+use Rattle.clap.specs.Walk.{Rule}
+use Rattle.clap.specs.declared.builder.action.ArgAction.TheVariants.{SetTrue}
+use Rattle.clap.specs.Simple.{App, Shape, new_app, new_rule, on_top, with_rule, with_subcommand}
+
+-- an argument that has to be given
+abbrev pub needed : List ℕ → Rule
+needed id = record (new_rule id) { required = true }
+
+-- `init FILE --replica UUID`
+abbrev pub init_app : App
+init_app =
+    with_rule (with_rule (new_app (codes "init")) (needed (codes "FILE")))
+    (record (needed (codes "UUID")) { long = Some (codes "replica") })
+
+-- `edit FILE`
+abbrev pub edit_app : App
+edit_app = with_rule (new_app (codes "edit")) (needed (codes "FILE"))
+
+-- `dump FILE DOC`
+abbrev pub dump_app : App
+dump_app = with_rule (with_rule (new_app (codes "dump")) (needed (codes "FILE"))) (needed (codes "DOC"))
+
+-- an option with the value PORT
+abbrev pub port_option : List ℕ → Rule
+port_option name = record (new_rule name) { long = Some name; value_names = 1 }
+
+-- an option with the value PORT that has to be given
+abbrev pub needed_port : List ℕ → Rule
+needed_port name = record (port_option name) { required = true }
+
+-- an option without a value
+abbrev pub flag_option : List ℕ → Rule
+flag_option name = record (new_rule name) { long = Some name; action = Some SetTrue }
+
+-- `serve FILE --sessions PORT --peers PORT [--link PORT] [--end-on-failure]`
+abbrev pub serve_app : App
+serve_app =
+    with_rule
+    (with_rule
+    (with_rule (with_rule (with_rule (new_app (codes "serve")) (needed (codes "FILE"))) (needed_port (codes "sessions")))
+    (needed_port (codes "peers")))
+    (port_option (codes "link")))
+    (flag_option (codes "end-on-failure"))
+
+-- a command that tells its version
+abbrev pub versioned : Shape → Shape
+versioned command = record command { has_version = true }
+
+-- the program without its commands: it tells its version
+abbrev pub bare_program : App
+bare_program = on_top versioned (new_app (codes "peritext"))
+
+-- all commands of the program
+abbrev pub program : App
+program =
+    with_subcommand (with_subcommand (with_subcommand (with_subcommand bare_program init_app.top) edit_app.top) dump_app.top)
+    serve_app.top

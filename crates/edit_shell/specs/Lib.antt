@@ -1,4 +1,0 @@
-pub mod Program
-pub mod Asked
-pub mod Faults
-pub mod Ends

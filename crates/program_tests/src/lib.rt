@@ -1,0 +1,15 @@
+//! Tests of the program in memory: its command lines, and orders over disks.
+#![tactic(auto)]
+
+#[cfg(test)]
+mod device_tests;
+#[cfg(test)]
+mod mark_tests;
+#[cfg(test)]
+mod page_tests;
+#[cfg(test)]
+mod perform_tests;
+#[cfg(test)]
+mod test_runs;
+#[cfg(test)]
+mod word_tests;

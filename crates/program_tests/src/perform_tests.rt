@@ -1,0 +1,131 @@
+//! Orders over disks in memory.
+use crate::test_runs::{EDIT, dumped, fresh, made, replica, run, session, written};
+use command_syntax::StoreOrder;
+use disk_trait::Disk;
+use std::test::Fail;
+use store_orders::Fault;
+
+#[test]
+fn without_a_file_a_new_store_is_edited(rt: HostRuntime) -> Result<(), Fail> {
+    let input = "{\"op\":\"insert\",\"doc\":1,\"at\":0,\"text\":\"a\"}\n";
+    let done = run(rt.alloc(), &StoreOrder::InMemory, fresh(rt.alloc())?, input);
+    written(&rt, done, 0, "{\"ok\":true}\n{\"ok\":true,\"rev\":1}\n", "");
+    Ok(())
+}
+
+#[test]
+fn a_fresh_store_is_empty(rt: HostRuntime) -> Result<(), Fail> {
+    session(
+        &rt,
+        "{\"op\":\"text\",\"doc\":9}\n{\"op\":\"status\"}\n",
+        "{\"ok\":true,\"rev\":0,\"text\":\"\"}\n{\"applied\":0,\"ok\":true,\"settled\":0,\"state\":\"open\"}\n",
+    )?;
+    Ok(())
+}
+
+#[test]
+fn an_edit_is_seen_and_settled(rt: HostRuntime) -> Result<(), Fail> {
+    session(
+        &rt,
+        "{\"op\":\"insert\",\"doc\":1,\"at\":0,\"text\":\"abc\"}\n{\"op\":\"text\",\"doc\":1}\n{\"op\":\"status\"}\n",
+        "{\"ok\":true,\"rev\":3}\n{\"ok\":true,\"rev\":3,\"text\":\"abc\"}\n{\"applied\":3,\"ok\":true,\"settled\":3,\"state\":\"open\"}\n",
+    )?;
+    Ok(())
+}
+
+#[test]
+fn an_edit_is_refused_by_its_first_cause(rt: HostRuntime) -> Result<(), Fail> {
+    session(
+        &rt,
+        "{\"op\":\"insert\",\"doc\":1,\"at\":0,\"text\":\"abc\"}\n{\"op\":\"delete\",\"doc\":1,\"at\":3,\"count\":1}\n{\"op\":\"delete\",\"doc\":1,\"at\":2,\"count\":300}\n{\"op\":\"insert\",\"doc\":1,\"at\":4,\"text\":\"d\",\"rev\":2}\n{\"op\":\"delete\",\"doc\":1,\"at\":2,\"count\":1,\"rev\":3}\n",
+        "{\"ok\":true,\"rev\":3}\n{\"code\":5,\"error\":\"range\",\"ok\":false}\n{\"code\":5,\"error\":\"range\",\"ok\":false}\n{\"code\":6,\"error\":\"stale\",\"ok\":false}\n{\"ok\":true,\"rev\":4}\n",
+    )?;
+    Ok(())
+}
+
+#[test]
+fn lines_that_ask_for_nothing_are_refused(rt: HostRuntime) -> Result<(), Fail> {
+    session(
+        &rt,
+        "[\n\n{\"op\":\"fly\"}\n7\n{\"op\":\"insert\",\"doc\":0,\"at\":0,\"text\":\"a\"}\n{\"op\":\"status\"}\n",
+        "{\"code\":2,\"error\":\"syntax\",\"ok\":false}\n{\"code\":2,\"error\":\"syntax\",\"ok\":false}\n{\"code\":3,\"error\":\"request\",\"ok\":false}\n{\"code\":3,\"error\":\"request\",\"ok\":false}\n{\"code\":4,\"error\":\"field\",\"ok\":false}\n{\"applied\":0,\"ok\":true,\"settled\":0,\"state\":\"open\"}\n",
+    )?;
+    Ok(())
+}
+
+#[test]
+fn after_a_stop_edits_are_refused(rt: HostRuntime) -> Result<(), Fail> {
+    session(
+        &rt,
+        "{\"op\":\"insert\",\"doc\":1,\"at\":0,\"text\":\"a\"}\n{\"op\":\"stop\"}\n{\"op\":\"insert\",\"doc\":1,\"at\":9,\"text\":\"b\"}\n{\"op\":\"text\",\"doc\":1}\n{\"op\":\"status\"}\n{\"op\":\"stop\"}\n",
+        "{\"ok\":true,\"rev\":1}\n{\"ok\":true}\n{\"code\":12,\"error\":\"stopping\",\"ok\":false}\n{\"ok\":true,\"rev\":1,\"text\":\"a\"}\n{\"applied\":1,\"ok\":true,\"settled\":1,\"state\":\"stopping\"}\n{\"ok\":true}\n",
+    )?;
+    Ok(())
+}
+
+#[test]
+fn what_was_edited_is_there_after_opening_again(rt: HostRuntime) -> Result<(), Fail> {
+    let alloc = rt.alloc();
+    let disk = session(
+        &rt,
+        "{\"op\":\"insert\",\"doc\":1,\"at\":0,\"text\":\"a\"}\n",
+        "{\"ok\":true,\"rev\":1}\n",
+    )?;
+    let shown = dumped(alloc, 1, disk);
+    let text =
+        "{\"ok\":true,\"rev\":1,\"text\":\"a\"}\n{\"ok\":true,\"rev\":1,\"spans\":[{\"text\":\"a\"}]}\n";
+    let disk = written(&rt, shown, 0, text, "");
+    let shown = dumped(alloc, 9, disk);
+    let text = "{\"ok\":true,\"rev\":0,\"text\":\"\"}\n{\"ok\":true,\"rev\":0,\"spans\":[]}\n";
+    let disk = written(&rt, shown, 0, text, "");
+    let input =
+        "{\"op\":\"insert\",\"doc\":1,\"at\":1,\"text\":\"b\"}\n{\"op\":\"text\",\"doc\":1}\n";
+    let edited = run(alloc, &EDIT, disk, input);
+    let text = "{\"ok\":true,\"rev\":2}\n{\"ok\":true,\"rev\":2,\"text\":\"ab\"}\n";
+    let mut disk = written(&rt, edited, 0, text, "");
+    assert!(rt; disk.size() == Ok(24_576));
+    Ok(())
+}
+
+#[test]
+fn a_file_that_is_no_store_is_refused(rt: HostRuntime) -> Result<(), Fail> {
+    let alloc = rt.alloc();
+    let opened = run(alloc, &EDIT, fresh(alloc)?, "{\"op\":\"status\"}\n");
+    written(&rt, opened, 1, "", "peritext: 42 no root\n");
+    let order = StoreOrder::Init {
+        file: "",
+        replica: replica()?,
+    };
+    let again = run(alloc, &order, made(&rt)?, "");
+    let mut disk = written(&rt, again, 1, "", "peritext: 48 not empty\n");
+    assert!(rt; disk.write_at(15, b"2").is_ok());
+    let shown = dumped(alloc, 1, disk);
+    written(&rt, shown, 1, "", "peritext: 43 bad root\n");
+    Ok(())
+}
+
+#[test]
+fn a_fault_has_its_word(rt: HostRuntime) -> Result<(), Fail> {
+    let alloc = rt.alloc();
+    for (fault, number, word) in [
+        (Fault::Memory, 1, "memory"),
+        (Fault::Field, 4, "field"),
+        (Fault::Failed, 9, "failed"),
+        (Fault::NoRoot, 42, "no root"),
+        (Fault::BadRoot, 43, "bad root"),
+        (Fault::BadTable, 45, "bad table"),
+        (Fault::BadStream, 46, "bad stream"),
+        (Fault::BadOperation, 47, "bad operation"),
+        (Fault::NotEmpty, 48, "not empty"),
+        (Fault::ReadFailed, 50, "read failed"),
+        (Fault::WriteFailed, 51, "write failed"),
+        (Fault::SyncFailed, 52, "sync failed"),
+        (Fault::OpenFailed, 54, "open failed"),
+        (Fault::Socket, 70, "socket"),
+        (Fault::Stream, 71, "stream"),
+    ] {
+        assert_eq!(rt; fault.number(), number);
+        assert_eq!(rt; fault.to_string(alloc)?.as_str(), word);
+    }
+    Ok(())
+}

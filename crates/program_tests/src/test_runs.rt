@@ -1,0 +1,99 @@
+//! Runs of orders over disks in memory, for tests.
+use command_syntax::StoreOrder;
+use disk_trait::{Disk, MemDisk};
+use op_ids::ReplicaId;
+use std::alloc::{AllocError, Global};
+use std::process::Abort;
+use std::test::Fail;
+use store_orders::{Performed, Shown, perform, print, show, status};
+
+/// What a run leaves: its disk, its exit status, and what it wrote.
+#[derive(Drop)]
+pub struct Ran<D: Disk> {
+    pub disk: D,
+    pub status: u8,
+    pub output: Vec<u8>,
+    pub faults: Vec<u8>,
+}
+
+pub fn run<D: Disk>(alloc: Global, order: &StoreOrder<'_>, disk: D, input: &str) -> Ran<D> {
+    let mut output = Vec::new(alloc);
+    let mut faults = Vec::new(alloc);
+    let Performed { disk, status } = perform(
+        alloc,
+        order,
+        disk,
+        input.as_bytes(),
+        &mut output,
+        &mut faults,
+    );
+    Ran {
+        disk,
+        status,
+        output,
+        faults,
+    }
+}
+
+/// A dump of a document.
+pub fn dumped<D: Disk>(alloc: Global, doc: u32, disk: D) -> Ran<D> {
+    let mut output = Vec::new(alloc);
+    let mut faults = Vec::new(alloc);
+    let Shown { disk, lines } = show(alloc, disk, doc);
+    let end = match lines {
+        Ok(lines) => print(&lines, &mut output),
+        Err(fault) => Err(fault),
+    };
+    Ran {
+        disk,
+        status: status(alloc, end, &mut faults),
+        output,
+        faults,
+    }
+}
+
+pub fn replica() -> Result<ReplicaId, Fail> {
+    let bytes = [0, 0, 0, 0, 0, 0, 0x40, 0, 0x80, 0, 0, 0, 0, 0, 0, 1];
+    Ok(ReplicaId::read(bytes).ok_or("nil")?)
+}
+
+pub const EDIT: StoreOrder<'static> = StoreOrder::Edit { file: "" };
+
+pub fn written<D: Disk>(rt: &impl Abort, run: Ran<D>, status: u8, output: &str, faults: &str) -> D {
+    assert!(rt;
+        run.output.as_slice() == output.as_bytes(),
+        "{:?}",
+        run.output
+    );
+    assert!(rt;
+        run.faults.as_slice() == faults.as_bytes(),
+        "{:?}",
+        run.faults
+    );
+    assert_eq!(rt; run.status, status);
+    run.disk
+}
+
+pub fn fresh(alloc: Global) -> Result<MemDisk, AllocError> {
+    MemDisk::new(alloc, 1_048_576, 1_024)
+}
+
+/// A fresh store, made by an `init`.
+pub fn made(rt: &(impl Abort + AllocGlobal)) -> Result<MemDisk, Fail> {
+    let order = StoreOrder::Init {
+        file: "",
+        replica: replica()?,
+    };
+    let made = run(rt.alloc(), &order, fresh(rt.alloc())?, "");
+    Ok(written(rt, made, 0, "{\"ok\":true}\n", ""))
+}
+
+/// A session over a fresh store that reads and writes these lines.
+pub fn session(
+    rt: &(impl Abort + AllocGlobal),
+    input: &str,
+    output: &str,
+) -> Result<MemDisk, Fail> {
+    let edited = run(rt.alloc(), &EDIT, made(rt)?, input);
+    Ok(written(rt, edited, 0, output, ""))
+}

@@ -1,0 +1,14 @@
+//! What an order over one disk does, and how a run of the program ends.
+#![tactic(auto)]
+
+mod ended;
+mod fault;
+mod performing;
+mod printing;
+mod showing;
+
+pub use ended::status;
+pub use fault::Fault;
+pub use performing::{Performed, perform};
+pub use printing::print;
+pub use showing::{Shown, dump, show};
