@@ -25,17 +25,21 @@
 
 enum { PAGE = 4096, ROOM = 4096, MOST = 64 };
 
-/* What a client sends, with the number of its connection; how an answer begins, and how many line feeds it has. */
+/* What a client sends, with the number of its connection; how an answer begins, and how many line feeds it has; and what it asks once before,
+   if it does: the last of the daemon's places is given only to a session that asks for the status first. */
 struct protocol {
     const char *name, *request, *begins;
     int feeds;
+    const char *first;
 };
 
+#define STATUS "{\"op\":\"status\"}\n"
+
 static const struct protocol protocols[] = {
-    {"edits", "{\"op\":\"insert\",\"doc\":%d,\"at\":0,\"text\":\"x\"}\n", "{\"ok\":true", 1},
-    {"texts", "{\"op\":\"text\",\"doc\":1000}\n", "{\"ok\":true", 1},
-    {"pushes", "*3\r\n$5\r\nRPUSH\r\n$7\r\nlist%03d\r\n$1\r\nx\r\n", ":", 1},
-    {"gets", "*2\r\n$3\r\nGET\r\n$4\r\ntext\r\n", "$", 2},
+    {"edits", "{\"op\":\"insert\",\"doc\":%d,\"at\":0,\"text\":\"x\"}\n", "{\"ok\":true", 1, STATUS},
+    {"texts", "{\"op\":\"text\",\"doc\":1000}\n", "{\"ok\":true", 1, STATUS},
+    {"pushes", "*3\r\n$5\r\nRPUSH\r\n$7\r\nlist%03d\r\n$1\r\nx\r\n", ":", 1, NULL},
+    {"gets", "*2\r\n$3\r\nGET\r\n$4\r\ntext\r\n", "$", 2, NULL},
 };
 
 struct times {
@@ -92,6 +96,15 @@ static int connected(int port) {
     setsockopt(made, IPPROTO_TCP, TCP_NODELAY, &one, sizeof one);
     setsockopt(made, SOL_SOCKET, SO_RCVTIMEO, &patience, sizeof patience);
     return made;
+}
+
+/* Asks what is asked once before, and drops the answer, a line. */
+static void begin(const struct connection *at) {
+    char byte = 0;
+    size_t length = strlen(protocol->first);
+    if (send(at->socket, protocol->first, length, MSG_NOSIGNAL) != (ssize_t)length) end_with("send");
+    while (byte != '\n')
+        if (recv(at->socket, &byte, 1, 0) != 1) end_with("a first answer");
 }
 
 static void ask(struct connection *at) {
@@ -174,6 +187,7 @@ static void load(int port, int count, int threads, int milliseconds) {
     if (!connections || !workers) end_with("memory");
     for (int i = 0; i < count; i++) {
         connections[i].socket = connected(port);
+        if (protocol->first) begin(&connections[i]);
         connections[i].length = snprintf(connections[i].request, sizeof connections[i].request, protocol->request, i + 1);
     }
     uint64_t started = passed();

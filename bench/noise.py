@@ -21,16 +21,18 @@ ROUNDS = 5
 SECONDS = 1.0
 SESSIONS, LINKS = 8, 8
 CHUNK = 65_536
-# A count that no replica comes beyond: a HAVE of it lacks nothing of what its replica has made.
-MOST = 2**24
+# What the replica has made before: a peer that counted more would say that its file was put back from an older copy.
+BEFORE = b'{"op":"insert","doc":1,"at":0,"text":"ab"}\n'
+MADE = 2
 OWN = bytes.fromhex(REPLICAS[0].replace("-", ""))
 NOTHING = frame(HAVE, b"\0")
-EVERYTHING = frame(HAVE, b"\1" + OWN + MOST.to_bytes(8, "big"))
+ALL_BEFORE = frame(HAVE, b"\1" + OWN + MADE.to_bytes(8, "big"))
+ONE_LESS = frame(HAVE, b"\1" + OWN + (MADE - 1).to_bytes(8, "big"))
 # What a peer says again and again, and whether it reads what it is told.
 NOISES = {
     "nothing is said": (b"", True),
-    "HAVEs that lack nothing": (EVERYTHING, True),
-    "HAVEs that lack nothing, every other one another": (EVERYTHING + frame(HAVE, b"\1" + OWN + (MOST - 1).to_bytes(8, "big")), True),
+    "HAVEs that lack what is new": (ALL_BEFORE, True),
+    "HAVEs that lack what is new, every other one another": (ALL_BEFORE + ONE_LESS, True),
     "HAVEs that lack all": (NOTHING, True),
     "HAVEs that lack all, deaf": (NOTHING, False),
 }
@@ -46,7 +48,7 @@ class Noise(threading.Thread):
 
     def greeted(self, port, number):
         link = connection(port)
-        link.sendall(frame(HELLO, (1).to_bytes(2, "big") + replica(number)) + EVERYTHING)
+        link.sendall(frame(HELLO, (1).to_bytes(2, "big") + replica(number)) + ALL_BEFORE)
         link.recv(1)
         link.setblocking(False)
         return link
@@ -84,6 +86,9 @@ def measured(program, path, loader, noise):
     """The output of a load beside a noise, and how many bytes of that were taken a second."""
     daemon = Daemon(program, path).start()
     try:
+        with connection(daemon.sessions) as session:
+            session.sendall(BEFORE)
+            session.recv(CHUNK)
         beside = Noise(daemon.peers, *noise)
         beside.start()
         begun = time.perf_counter()

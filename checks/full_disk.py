@@ -4,7 +4,6 @@ import json
 import os
 import resource
 import shutil
-import signal
 import subprocess
 import sys
 
@@ -15,10 +14,9 @@ EDITS = 40
 
 
 def limited(size):
-    """How a run is started in which no file grows past so many bytes."""
+    """How a run is started in which no file grows past so many bytes: a write past them ends it by a signal (SIGXFSZ)."""
 
     def limit():
-        signal.signal(signal.SIGXFSZ, signal.SIG_IGN)
         resource.setrlimit(resource.RLIMIT_FSIZE, (size, size))
 
     return {"preexec_fn": limit}
@@ -166,9 +164,12 @@ def check(checks, program, _until):
 
 
 def main():
+    # It takes from this file, so it is brought in only where this file is run.
+    import ending
+
     program, folder = sys.argv[1:]
     checks = Checks()
-    for check_mount in (check_small_disk, check_no_device):
+    for check_mount in (check_small_disk, ending.check_on_a_small_disk, check_no_device):
         try:
             check_mount(checks, program, folder)
         except subprocess.CalledProcessError as error:

@@ -203,17 +203,18 @@ def long_file(name):
 
 
 def check_slow_reader(checks, program):
-    """A dump whose reader waits: others may read meanwhile, and none may write."""
+    """A dump whose reader waits has let go of the file: others read and write it meanwhile, and the dump shows what was there before."""
     long_file("long")
     slow = subprocess.Popen([program, "dump", "long", "1"], stdout=subprocess.PIPE, stderr=subprocess.PIPE, bufsize=0)
     first = slow.stdout.read(10)
     checks.same("a dump beside a dump", run(program, "dump", "long", "2"), (0, texts(0, ""), b""))
-    checks.same("an edit beside a dump", run(program, "edit", "long", lines=insert(0, "z")), fault(54))
-    checks.same("an init beside a dump", run(program, "init", "long", "--replica", REPLICA), fault(54))
+    answer = b'{"ok":true,"rev":%d}\n' % (LONG + 1)
+    checks.same("an edit beside a dump that is read slowly", run(program, "edit", "long", lines=insert(0, "z")), (0, answer, b""))
+    checks.same("an init beside it", run(program, "init", "long", "--replica", REPLICA), fault(48))
     rest, faults = slow.communicate(timeout=60)
     found = slow.returncode, first + rest, faults
     checks.holds("the slow dump", found == (0, texts(LONG, "y" * LONG), b""))
-    checks.same("an edit after it", run(program, "edit", "long", lines=line(op="status"))[0], 0)
+    checks.same("the text after it", text_of(program, "long"), "z" + "y" * LONG)
 
 
 def check_other_files(checks, program):

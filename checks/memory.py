@@ -25,6 +25,7 @@ ROWS = (1, 3, 40)
 SECONDS, LEAST = 6, 5
 LONGEST = 7_200
 REFUSED = line(code=1, error="memory", ok=False)
+BUSY = line(code=8, error="busy", ok=False)
 FAILED = {"code": 9, "error": "failed", "ok": False}
 MEGABYTE = 1_000_000
 # How often a begin is tried that finds no memory.
@@ -219,7 +220,8 @@ class Pair:
             raise Wrong(f"no answer to {request[:60]}") from None
         except OSError:
             answer = b""
-        if not answer.endswith(b"\n"):
+        # A session for which there is no memory is answered 8, and closed.
+        if not answer.endswith(b"\n") or answer == BUSY:
             self.talk = None
             return None
         return answer

@@ -17,16 +17,20 @@ SECONDS, TURNS = 1.0, 3
 PART = 1 / 4
 CHUNK = 65_536
 FIRST_DOC = 300
-# HAVEs that lack nothing, ones that rise and fall, and ones that lack all, so that all is told again.
-LACK_NOTHING, LACK_ONE, LACK_ALL = have((NAME, 2**24)), have((NAME, 2**24 - 1)), have()
-NOISES = {"HAVEs that lack nothing": LACK_NOTHING, "HAVEs in turn": LACK_NOTHING + LACK_ONE, "HAVEs that lack all": LACK_ALL}
+# HAVEs that lack all, so that all is told again; others count what there is as they begin, for more of a daemon's own operations would
+# say that its file was put back from an older copy.
+LACK_ALL = have()
+NOISES = {
+    "HAVEs that lack the newest": lambda count: have((NAME, count)), "HAVEs in turn": lambda count: have((NAME, count)) + have((NAME, count - 1)),
+    "HAVEs that lack all": lambda _count: LACK_ALL,
+}
 
 
 class Noise:
-    """Peers that say this as fast as it is taken, and take what they are told; nothing, if it is empty."""
+    """Peers that say this as fast as it is taken, and take what they are told; nothing, if it is empty. First they say what they have."""
 
-    def __init__(self, daemon, said):
-        self.data = said * (CHUNK // len(said)) if said else b""
+    def __init__(self, daemon, count, said):
+        self.has, self.data = have((NAME, count)), said * (CHUNK // len(said)) if said else b""
         self.peers = [link(daemon, replica(90 + number)) for number in range(LINKS)]
         self.over, self.wrong = threading.Event(), []
         calls = [self.hear] + ([self.say] if said else [])
@@ -34,7 +38,7 @@ class Noise:
 
     def __enter__(self):
         for peer in self.peers:
-            peer.say(LACK_NOTHING)
+            peer.say(self.has)
             peer.socket.settimeout(0.2)
         for thread in self.threads:
             thread.start()
@@ -78,6 +82,10 @@ class Sessions:
         self.talks = [seat(daemon) for _ in range(SESSIONS)]
         self.edits, self.wrong = [0] * SESSIONS, []
 
+    def count(self):
+        """How many edits were made so far."""
+        return sum(self.edits)
+
     def edit_for(self, seconds):
         """How many edits were made in this time."""
         before, until = sum(self.edits), time.monotonic() + seconds
@@ -104,9 +112,10 @@ def check_noise(checks, daemon, sessions, what, said):
     """In turns with silence, since a machine isn't always as fast."""
     silent = noisy = 0
     for _ in range(TURNS):
-        with Noise(daemon, b"") as silence:
+        with Noise(daemon, sessions.count(), b"") as silence:
             silent += sessions.edit_for(SECONDS / 2)
-        with Noise(daemon, said) as noise:
+        count = sessions.count()
+        with Noise(daemon, count, said(count)) as noise:
             noisy += sessions.edit_for(SECONDS / 2)
         checks.same(f"{what}: the links", silence.wrong + noise.wrong, [])
     checks.holds(f"{what}: {noisy} edits beside them, {silent} without", noisy >= PART * silent)
@@ -116,6 +125,7 @@ def check(checks, program, _until):
     daemon = new_daemon(program, "noise")
     try:
         sessions = Sessions(daemon)
+        sessions.edit_for(SECONDS / 2)
         for what, said in NOISES.items():
             check_noise(checks, daemon, sessions, what, said)
         checks.same("answers beside noise", sessions.wrong, [])

@@ -1,4 +1,4 @@
-"""How sessions and links of a daemon part from it: what was answered arrives at a stop, a peer that only greets is joined seldom, the peer
+"""How sessions and links of a daemon part from it: what was answered arrives at a stop, a peer that is of no use is joined seldom, the peer
 of `--link` has a place of its own, and a session for which there is no thread is answered 8.
 """
 
@@ -9,7 +9,7 @@ import time
 
 from beside import link
 from daemon import HOST, PATIENCE, Daemon, new_daemon, within
-from frames import BYE, frame, have, hello, replica
+from frames import BYE, frame, have, hello, ops, replica, typed
 from program import REPLICA, insert, line
 
 STATUS, STOP, TEXT = line(op="status"), line(op="stop"), line(op="text", doc=1)
@@ -19,8 +19,8 @@ ASKED = 300
 # A text so long that its answers fill the sockets.
 LONG = 40
 LINKS = 8
-# A peer that greets and goes is joined at once, and then with pauses of 0.1, 0.2, 0.4, 0.8, 1.6 seconds.
-WATCHED, JOINS = 3, 7
+# A peer that takes and tells nothing is joined at once, and then with pauses of 2 and 8 seconds; one that tells something new, every 0.1 seconds.
+WATCHED, JOINS, MANY = 3, 2, 7
 # Room for a few stacks of threads, and tries.
 ROOM, SESSIONS = 40_000_000, 16
 
@@ -49,14 +49,21 @@ def check_answers_arrive(checks, program):
 
 
 def greet(server, joins, more, over):
-    """A peer that says HELLO, and perhaps more, and ends each link."""
+    """A peer that says HELLO, and what is given for each link, and ends each link."""
     while not over.is_set():
         try:
             made, _ = server.accept()
         except OSError:
             return
         joins.append(time.monotonic())
-        made.sendall(hello(replica(9)) + more)
+        try:
+            made.sendall(hello(replica(9)) + more(len(joins)))
+            made.shutdown(socket.SHUT_WR)
+            made.settimeout(PATIENCE)
+            while made.recv(65_536):
+                pass
+        except OSError:
+            pass  # It ended the link first.
         made.close()
 
 
@@ -76,13 +83,20 @@ def count_joins(program, more):
     return len(joins), ended
 
 
+def told(number):
+    """The operation of a peer that comes next, the first one with number 1."""
+    return have() + ops(typed(replica(9), number)[-1])
+
+
 def check_joins(checks, program):
-    for what, more in (("HELLO", b""), ("HELLO and BYE", frame(BYE))):
-        count, ended = count_joins(program, more)
-        checks.holds(f"a peer that says {what} is joined {count} times in {WATCHED} s", count <= JOINS)
+    idle = {"HELLO": b"", "HELLO and BYE": frame(BYE), "a HAVE": have(), "the same operation again": told(1)}
+    for what, more in idle.items():
+        count, ended = count_joins(program, lambda _number, more=more: more)
+        # The first time an operation is new.
+        checks.holds(f"a peer that says {what} is joined {count} times in {WATCHED} s", count <= JOINS + (more == told(1)))
         checks.same("the end", ended, (STOPPED, (0, b"", b"")))
-    count, _ = count_joins(program, have())
-    checks.holds(f"a peer that says a HAVE is joined {count} times in {WATCHED} s", count > JOINS)
+    count, _ = count_joins(program, told)
+    checks.holds(f"a peer that tells something new each time is joined {count} times in {WATCHED} s", count > MANY)
 
 
 def check_own_place(checks, program):

@@ -8,14 +8,20 @@ import time
 import crafted
 import damage
 import each_byte
+import ending
 import examples
 import full_disk
+import idle_links
 import kills
+import last_place
 import locks
 import long_texts
+import lost_files
 import memory
 import noise
+import parted_files
 import parting
+import put_back
 import renewal
 import rude
 import served_limits
@@ -29,8 +35,8 @@ from program import Checks
 
 LIMIT = 600
 GROUPS = (
-    words, examples, long_texts, streams, locks, full_disk, crafted, damage, each_byte, kills, memory, serving, served_limits, web_pages,
-    parting, rude, noise, worst, session_memory, renewal,
+    words, examples, long_texts, streams, locks, lost_files, full_disk, ending, crafted, damage, each_byte, kills, memory, serving, served_limits, web_pages,
+    last_place, parting, put_back, parted_files, idle_links, rude, noise, worst, session_memory, renewal,
 )
 
 
