@@ -1,6 +1,6 @@
 """Edits and merges a second on documents of 10^3 to 10^6 characters: at the end, at the front and at random places; pastes and deletes of
-256 characters; and merges of three replicas that type at once at distant places. Beside each case Yjs in memory on the same edits, where
-Debian's node-yjs is there.
+256 characters; edits beside up to 10^6 tombstones; and merges of three replicas that type at once at distant places. Beside each case but
+those with tombstones Yjs in memory on the same edits, where Debian's node-yjs is there.
 
 python3 bench/edits.py PROGRAM [MERGES], where MERGES is the program of crates/merge_bench. Edits go through sessions over files in
 memory (/dev/shm), so that the disk costs little. Merges are made in one process without a disk, the least time of three runs.
@@ -62,6 +62,26 @@ def measure_pastes(program):
                 yjs.told("pastes", count, place, PASTES)
 
 
+def measure_tombstones(program):
+    """Deletes of the character behind tombstones, and inserts before them: of the text the middle was removed. The first case has few."""
+    with tempfile.TemporaryDirectory(dir="/dev/shm") as room:
+        for count in (2,) + COUNTS:
+            name = os.path.join(room, "store")
+            store_file.make(name, count)
+            session, inserts, deletes = Session(program, name), [], []
+            session.insert(count, "y" * EDITS)
+            for left in range(count - 1, 0, -PASTED):
+                session.delete(1, min(left, PASTED))
+            for _ in range(EDITS):
+                deletes.append(session.delete(1, 1))
+            for _ in range(EDITS):
+                inserts.append(session.insert(1, "y"))
+                session.delete(1, 1)
+            session.end()
+            told(f"{count - 1} tombstones, deletes behind", deletes)
+            told(f"{count - 1} tombstones, inserts before", inserts)
+
+
 def merging(program, count, place):
     """The least time of three runs from the line `ready` to the next one: merges alone, all before them is done by then."""
     times = []
@@ -89,6 +109,7 @@ def measure_merges(program):
 def main():
     measure_edits(os.path.abspath(sys.argv[1]))
     measure_pastes(os.path.abspath(sys.argv[1]))
+    measure_tombstones(os.path.abspath(sys.argv[1]))
     if len(sys.argv) > 2:
         measure_merges(os.path.abspath(sys.argv[2]))
 

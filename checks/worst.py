@@ -15,10 +15,12 @@ from rude import MEGABYTE, SOON, check_end
 
 PATIENCE = 60
 HIGH, LOW, DEEP, MARKS = (replica(number) for number in (71, 70, 72, 73))
-PLACED, CHAINED, MARKED, BOUNDED, BESIDE = 1, 2, 3, 4, 50
+PLACED, CHAINED, MARKED, BOUNDED, SAVED, BESIDE = 1, 2, 3, 4, 5, 50
 RISING, FALLING, CHAIN, OVER = 6_000, 300, 6_000, 250
 # So many comments, each from another character to the end, are in the spans half the square of that many times: more than 1,048,576 times.
 BEYOND = 1_448
+# So often a tool makes a text strong that marks all of it at each save.
+SAVES = 30_000
 DOCUMENTS, REPLICAS = 1_024, 16
 # Readers of each document, for so many seconds, each with so many requests under way.
 READERS, READING, AHEAD = 6, 2, 4
@@ -100,6 +102,17 @@ def check_bound(checks, daemon, talk):
     checks.same("an edit of that document", talk.ask(insert(0, "x", BOUNDED)), {"ok": True, "rev": 2 * BEYOND + 1})
 
 
+def check_saves(checks, daemon, talk):
+    """Strong over the same text, again and again: its spans are shown."""
+    first = 3 * OVER + 2 * BEYOND + 1
+    records = typed(MARKS, 2, SAVED, first=first, known=first - 1)
+    for _ in range(SAVES):
+        known = first - 1 + len(records)
+        records.append(record(ADD_MARK, MARKS, known + 1, bytes([STRONG]) + b"\0" + END, [(MARKS, known)], SAVED))
+    tell(daemon, talk, MARKS, records, SAVED, SAVES + 2)
+    checks.same("spans of a text that was made strong at each save", talk.ask(line(op="spans", doc=SAVED))["spans"], [{"strong": True, "text": "ab"}])
+
+
 def read_on(daemon, request):
     """Asks for something large again and again, four times ahead, and reads the answers."""
     talk, until = seat(daemon), time.monotonic() + READING
@@ -128,7 +141,7 @@ def check_replicas(checks, daemon, talk):
 
 def check_documents(checks, daemon, talk):
     """As many documents as there may be, and one more, by a peer and by a session."""
-    there = 5
+    there = 6
     known = RISING
     records = [
         record(INSERT, HIGH, 2_000_000 + k, inserted("d"), [(HIGH, known + k)], 1_000 + k) for k in range(DOCUMENTS - there)
@@ -151,6 +164,7 @@ def check(checks, program, _until):
             check_chain(checks, daemon, talk)
             check_marks(checks, daemon, talk)
             check_bound(checks, daemon, talk)
+            check_saves(checks, daemon, talk)
             check_readers(daemon)
             check_replicas(checks, daemon, talk)
             check_documents(checks, daemon, talk)

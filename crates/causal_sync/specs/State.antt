@@ -61,7 +61,7 @@ pub record Gave (old new : Incoming) (frame : Heard) : Type 0 where
 
 -- these bytes were taken: the stream has them at its end, further frames wait, and there may be a fault; nothing else
 -- has changed
-pub record Takes (old new : Incoming) (bytes : List ℕ) : Type 0 where
+pub record TakesBytes (old new : Incoming) (bytes : List ℕ) : Type 0 where
   pub own : new.own ≡ old.own
   pub stream : new.stream ≡ old.stream ++ bytes
   pub given : new.given ≡ old.given

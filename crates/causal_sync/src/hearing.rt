@@ -4,7 +4,7 @@ ghost use Rattle.fixed_numbers.specs.declared.sizes.TheConstants.{MAX_CONTENT};
 ghost use Rattle.causal_sync.specs.declared.link_error.LinkError.TheVariants.{Memory, Closed};
 ghost use Rattle.causal_sync.specs.Frames.{frames_bytes};
 ghost use Rattle.causal_sync.specs.Hearing.{Hears};
-ghost use Rattle.causal_sync.specs.State.{answer_of, has_ended, is_fault, Gave, Starts, Takes};
+ghost use Rattle.causal_sync.specs.State.{answer_of, has_ended, is_fault, Gave, Starts, TakesBytes};
 ghost use Rattle.causal_sync.specs.Buffer.{clock_in};
 
 use crate::heard::Heard;
@@ -82,7 +82,7 @@ impl Hearing {
             → (result ≡ Err Closed) × (self.new ≡ self.old) }
         ensures memory { IsErrOf result Memory → self.new ≡ self.old }
         ensures taken { has_ended self.old ≡ false → (result ≡ Err Memory)
-            ⊎ (Takes self.old self.new bytes.now × (result ≡ answer_of self.new.fault)) }
+            ⊎ (TakesBytes self.old self.new bytes.now × (result ≡ answer_of self.new.fault)) }
         ensures hears { Hears self.new.own self.new.stream (self.new.given ++ self.new.waiting)
             self.new.fault }
     {

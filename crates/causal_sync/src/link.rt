@@ -9,7 +9,7 @@ ghost use Rattle.causal_sync.specs.Frames.{frames_bytes};
 ghost use Rattle.causal_sync.specs.Hearing.{Hears};
 ghost use Rattle.causal_sync.specs.Sent.{sent};
 ghost use Rattle.causal_sync.specs.State.{answer_of, has_ended, is_silent, said, without_out};
-ghost use Rattle.causal_sync.specs.State.{Gives, IsStart, Keeps, Sends, Takes};
+ghost use Rattle.causal_sync.specs.State.{Gives, IsStart, Keeps, Sends, TakesBytes};
 
 use crate::heard::Heard;
 use crate::hearing::Hearing;
@@ -72,7 +72,7 @@ impl Link {
             → (result ≡ Err Closed) × (self.new ≡ self.old) }
         ensures memory { IsErrOf result Memory → self.new ≡ self.old }
         ensures taken { has_ended self.old.heard ≡ false → (result ≡ Err Memory)
-            ⊎ (Takes self.old.heard self.new.heard bytes.now
+            ⊎ (TakesBytes self.old.heard self.new.heard bytes.now
             × (result ≡ answer_of self.new.heard.fault)) }
         ensures hears { Hears self.new.heard.own self.new.heard.stream
             (self.new.heard.given ++ self.new.heard.waiting) self.new.heard.fault }

@@ -20,7 +20,7 @@ use Rattle.change_codec.specs.Spelling.{number_bytes, id_bytes, deps_bytes, orig
 use Rattle.change_codec.specs.Spelling.{mark_bytes, key_bytes, start_bytes, end_bytes, kind_byte}
 use Rattle.change_codec.specs.Spelling.{token_bytes, tagged, content_bytes, body_bytes}
 use Rattle.change_codec.specs.Reading.{◌>>=◌, number_at, id_at, deps_at, origin_at, scalar_at}
-use Rattle.change_codec.specs.Reading.{replica_at, mark_at, key_at, span_at, kind_named, kind_at, token_at, content_at, body_at}
+use Rattle.change_codec.specs.Reading.{replica_at, mark_at, key_at, span_at, kind_named, kind_at, token_at, content_at, body_at, named_at}
 use Rattle.change_codec.specs.Reading.{head_at, rest_at, with_head, op_at}
 use Rattle.change_codec.specs.Formats.{has_tokens, IsOf}
 use Rattle.change_codec.specs.Fits.{IsId, IsContent, IsToken, IsOperation}
@@ -288,4 +288,19 @@ head_again op rest fits =
       kind_again Third op.body (is_some op.token) (doc ++ (id ++ tail)) (λ none. absurd (let broken : ⊥ = cc in broken)),
       number_again w32 (2 ^ 32) wide32 op.doc (id ++ tail) fits.doc,
       id_again op.id tail fits.id,
+    ) refl
+
+-- what was written behind head and deps as a token is read again
+pub token_is_read : (op : Op) (rest : List ℕ) → IsOperation op → named_at (body_bytes op ++ rest) ≡ Ok op.token
+unfolding named_at
+token_is_read op rest fits =
+    let content = token_bytes op.token ++ content_bytes op.body in
+    let regrouped : (deps_bytes op.deps ++ content) ++ rest ≡ deps_bytes op.deps ++ (token_bytes op.token ++ (content_bytes op.body ++ rest)) =
+    append_assoc (deps_bytes op.deps) content rest
+    ∙ ap (λ (w : List ℕ). deps_bytes op.deps ++ w) (append_assoc (token_bytes op.token) (content_bytes op.body) rest) in
+    rw (
+      head_again op rest fits,
+      regrouped,
+      deps_again op.deps (token_bytes op.token ++ (content_bytes op.body ++ rest)) fits.deps fits.replicas,
+      token_again op.token (content_bytes op.body ++ rest) fits.token,
     ) refl

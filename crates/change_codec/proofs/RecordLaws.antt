@@ -30,12 +30,12 @@ use Rattle.change_codec.specs.declared.head.Head.{Head}
 use Rattle.change_codec.specs.Formats.{has_tokens, longest, IsOf}
 use Rattle.change_codec.specs.Heads.{head_of}
 use Rattle.change_codec.specs.Fits.{IsMark, IsContent, IsOperation}
-use Rattle.change_codec.specs.Reading.{◌>>=◌, head_at, op_at}
+use Rattle.change_codec.specs.Reading.{◌>>=◌, head_at, named_at, op_at}
 use Rattle.change_codec.specs.Record.{record_at, length_at, taken, found_length, first_fault, fault_of, IsPartial, BeginsWithOp, BeginsWithOneOf, Answers}
-use Rattle.change_codec.proofs.Steps.{IsBytes, IsBytes-take, IsBytes-drop, bind_ok, done}
+use Rattle.change_codec.proofs.Steps.{IsBytes, IsBytes-take, IsBytes-drop, bind_ok, done, ok_is}
 use Rattle.change_codec.proofs.Numbers.{wide32}
 use Rattle.change_codec.proofs.Lengths.{length_body, length_spelled}
-use Rattle.change_codec.proofs.OpLaws.{op_takes, op_again, head_again}
+use Rattle.change_codec.proofs.OpLaws.{op_takes, op_again, head_again, token_is_read}
 use Rattle.change_codec.proofs.Clean.{no_memory}
 
 -- ---- how long a body is
@@ -335,15 +335,22 @@ none_skipped f bytes op n none of_format begins =
     let found : found_length (taken f bytes) ≡ Some n = ap found_length (begins_taken f bytes op n of_format begins) in
     cc
 
--- the head stands behind the length
-pub head_behind : (bytes : List ℕ) (op : Op) (n : ℕ) → BeginsWithOp bytes op n → (rest : List ℕ) × (head_at Third (drop 4 bytes) ≡ Ok (head_of op, rest))
+-- the body stands behind the length
+body_behind : (bytes : List ℕ) (op : Op) (n : ℕ) → BeginsWithOp bytes op n → drop 4 bytes ≡ body_bytes op ++ drop n bytes
 unfolding spelled number_bytes
-head_behind bytes op n b =
+body_behind bytes op n b =
     let front : List ℕ = to_be_bytes w32 (length (body_bytes op)) in
     let rest = drop n bytes in
     let whole : (front ++ body_bytes op) ++ rest ≡ bytes = ap (λ (w : List ℕ). w ++ rest) (sym b.spelled_so) ∙ take-append-drop n bytes in
-    let behind : drop 4 bytes ≡ body_bytes op ++ rest = ap (drop 4) (sym whole ∙ append_assoc front (body_bytes op) rest) ∙ drop_at front (body_bytes op ++ rest) 4 refl in
-    (_, ap (head_at Third) behind ∙ head_again op rest b.fits)
+    ap (drop 4) (sym whole ∙ append_assoc front (body_bytes op) rest) ∙ drop_at front (body_bytes op ++ rest) 4 refl
+
+-- it begins with the head
+pub head_behind : (bytes : List ℕ) (op : Op) (n : ℕ) → BeginsWithOp bytes op n → (rest : List ℕ) × (head_at Third (drop 4 bytes) ≡ Ok (head_of op, rest))
+head_behind bytes op n b = (_, ap (head_at Third) (body_behind bytes op n b) ∙ head_again op (drop n bytes) b.fits)
+
+-- and has the token
+pub token_behind : (bytes : List ℕ) (op : Op) (n : ℕ) → BeginsWithOp bytes op n → named_at (drop 4 bytes) ≡ Ok op.token
+token_behind bytes op n b = ap named_at (body_behind bytes op n b) ∙ token_is_read op (drop n bytes) b.fits
 
 -- a record begins with four bytes
 pub begins_four : (bytes : List ℕ) (op : Op) (n : ℕ) → BeginsWithOp bytes op n → 4 ≤ length bytes
@@ -362,3 +369,11 @@ read_head bytes op n head rest b read = let same = head_is (head, rest) (head_of
 -- a head can be read
 pub some_head : (bytes : List ℕ) (op : Op) (n : ℕ) (e : CodecError) → BeginsWithOp bytes op n → head_at Third (drop 4 bytes) ≡ Err e → ⊥
 some_head bytes op n e b read = let behind = head_behind bytes op n b in let found = behind.1 in cc
+
+-- what was read as a token is the operation's
+pub read_token : (bytes : List ℕ) (op : Op) (n : ℕ) (token : Option ℕ) → BeginsWithOp bytes op n → named_at (drop 4 bytes) ≡ Ok token → token ≡ op.token
+read_token bytes op n token b read = ok_is token op.token (sym read ∙ token_behind bytes op n b)
+
+-- a token can be read
+pub some_token : (bytes : List ℕ) (op : Op) (n : ℕ) (e : CodecError) → BeginsWithOp bytes op n → named_at (drop 4 bytes) ≡ Err e → ⊥
+some_token bytes op n e b read = let found = token_behind bytes op n b in cc

@@ -22,6 +22,7 @@ use Rattle.op_model.specs.declared.mark.MarkKey.TheVariants as key
 use Rattle.change_codec.specs.declared.codec_error.CodecError.{CodecError}
 use Rattle.change_codec.specs.declared.codec_error.CodecError.TheVariants as fault
 use Rattle.change_codec.specs.declared.format.Format.{Format}
+use Rattle.change_codec.specs.declared.format.Format.TheVariants.{Third}
 use Rattle.change_codec.specs.declared.head.Head.{Head}
 use Rattle.change_codec.specs.declared.content.Kind.{Kind}
 use Rattle.change_codec.specs.declared.content.Kind.TheVariants as kind
@@ -254,3 +255,11 @@ op_at format bytes = do
   head ← head_at format bytes
   deps ← deps_at head.1
   with_head head.0 deps.0 (rest_at head.0.has_token head.0.kind deps.1)
+
+-- the token that stands in a whole body, if it has one
+unfoldable pub named_at : List ℕ → Result (Option ℕ) CodecError
+named_at bytes = do
+  head ← head_at Third bytes
+  deps ← deps_at head.1
+  token ← token_at head.0.has_token deps.1
+  Ok token.0

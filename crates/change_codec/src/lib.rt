@@ -25,7 +25,7 @@ pub use content::Kind;
 pub use fits::every_op_has_a_spelling;
 pub use format::Format;
 pub use head::Head;
-pub use peek::{record_head, skip_op};
+pub use peek::{record_head, record_token, skip_op};
 pub use record::{put_op, take_op};
 pub use stream::{put_ops, stream_length, take_ops};
 pub use stream_error::StreamError;

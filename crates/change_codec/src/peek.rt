@@ -2,17 +2,18 @@
 ghost use Rattle.std.specs.Prelude.{◌≡◌, ℕ, None, IfSome, is_ok};
 ghost use Rattle.change_codec.specs.Formats.{IsOf};
 ghost use Rattle.change_codec.specs.Heads.{head_of};
-ghost use Rattle.change_codec.specs.Reading.{op_at, rest_at};
+ghost use Rattle.change_codec.specs.Reading.{named_at, op_at, rest_at, Reads};
 ghost use Rattle.change_codec.specs.Record.{taken, found_length, BeginsWithOp, BeginsWithSome};
 ghost use Rattle.op_model.specs.declared.op.Op.{Op as Operation};
 
-use crate::Format;
 use crate::content::take_whole_content;
 use crate::deps::skip_deps;
 use crate::head::{Head, take_head};
 use crate::number::take_u32;
 use crate::token::take_token;
+use crate::{CodecError, Format};
 use fixed_numbers::sizes::MIN_RECORD;
+use op_ids::Token;
 
 /// How many bytes the record takes that the bytes begin with, from 37 to 1,495, and to 1,511 in the
 /// third format. `None` where they begin with no whole record of an operation of the format. One
@@ -81,5 +82,35 @@ pub fn record_head(bytes: &[u8]) -> Head
     match take_head(Format::Third, body) {
         Ok((head, _)) => head,
         Err(_) => unreachable!(),
+    }
+}
+
+/// The token of the operation whose record the bytes begin with, if it has one. Passes over its
+/// deps, at most 16; takes no memory.
+pub fn record_token(bytes: &[u8]) -> Option<Token>
+    requires { BeginsWithSome bytes.now }
+    ensures { (op : Operation) (n : ℕ) → BeginsWithOp bytes.now op n → result ≡ op.token }
+{
+    let (_, body) = bytes.split_at(4);
+    match token_of_body(body) {
+        Ok(token) => token,
+        Err(_) => unreachable!(),
+    }
+}
+
+/// The token that stands in a whole body, if it has one.
+#[tactic(auto, unfolding(crate::specs::Reading::named_at))]
+fn token_of_body(bytes: &[u8]) -> Result<Option<Token>, CodecError>
+    ensures { Reads (λ token. token) result (named_at bytes.now) }
+{
+    match take_head(Format::Third, bytes) {
+        Ok((head, deps)) => {
+            let rest = skip_deps(deps)?;
+            match take_token(head.has_token, rest) {
+                Ok((token, _)) => Ok(token),
+                Err(fault) => Err(fault),
+            }
+        }
+        Err(fault) => Err(fault),
     }
 }

@@ -11,7 +11,7 @@ use Rattle.char_sequence.specs.declared.cell.Cell.{Cell}
 use Rattle.char_sequence.specs.declared.place.Place.{Place}
 use Rattle.char_sequence.specs.Cells.{cell_of_insert, has_cell, inserted, past_greater, removed, removed_all}
 use Rattle.char_sequence.specs.Chunks.{ChunkCells, IsPlaceOf, before, cell_at, cells_of, from}
-use Rattle.char_sequence.specs.Content.{AreContent, FitAfter, IsRun, Takes, TakesRemoves, TakesRun}
+use Rattle.char_sequence.specs.Content.{AreContent, FitAfter, IsRun, TakesOperation, TakesRemoves, TakesRun}
 use Rattle.char_sequence.specs.Landing.{Lands, Stops}
 use Rattle.char_sequence.specs.Weave.{AreOnce}
 use Rattle.char_sequence.proofs.HoldsLemmas.{content_insert, takes_insert, takes_remove, takes_removes}
@@ -23,7 +23,7 @@ use Rattle.char_sequence.proofs.OnceLemmas.{behind_there, once_content}
 pub takes_landed : (id : Id) (origin : Option Id) (value : ℕ) (old new : ChunkCells) (at : Place)
     → Lands old origin (record { id = id; value = value; is_removed = false }) at
     → cells_of new ≡ before old at.chunk at.at ++ record { id = id; value = value; is_removed = false } ∷ from old at.chunk at.at
-    → Takes id (Insert origin value) old new
+    → TakesOperation id (Insert origin value) old new
 takes_landed id origin value old new at lands put ops doc op fits same_id same_body holds =
     let once = once_content (cells_of old) ops doc holds in
     takes_insert id origin value (cells_of old) (cells_of new) (put ∙ sym (lands.placed once)) ops doc op fits same_id same_body holds
@@ -31,7 +31,7 @@ takes_landed id origin value old new at lands put ops doc op fits same_id same_b
 -- what a call that makes the cell at its place a tombstone owes
 pub takes_removed : (id : Id) (old new : ChunkCells) (i j : ℕ) → IsPlaceOf old id i j
     → ((c : Cell) → cell_at old i j ≡ Some c → cells_of new ≡ before old i j ++ record c { is_removed = true } ∷ from old i (j + 1))
-    → (by : Id) → Takes by (Remove id) old new
+    → (by : Id) → TakesOperation by (Remove id) old new
 takes_removed id old new i j there gone by ops doc op fits same_id same_body holds =
     let once = once_content (cells_of old) ops doc holds in
     takes_remove id (cells_of old) (cells_of new) (removed_at old id i j (cells_of new) there once gone) by ops doc op fits same_id same_body holds

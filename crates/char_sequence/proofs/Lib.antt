@@ -7,6 +7,9 @@ pub mod ShownLemmas
 pub mod SizeLemmas
 pub mod BehindLemmas
 pub mod FindLemmas
+pub mod GapLemmas
+pub mod HiddenLemmas
+pub mod EndedLemmas
 pub mod OnceLemmas
 pub mod LandingLemmas
 pub mod IndexLemmas

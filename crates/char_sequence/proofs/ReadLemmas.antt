@@ -1,9 +1,10 @@
 -- What a reader sees of a document's content is what a reader sees of the document.
 use Rattle.std.proofs.Common.{◌≡◌, ℕ, zero, suc, ◌-◌, ◌==◌, Bool, true, false, not, if◌then◌else◌, List, [], ◌∷◌, length, take, drop, map, filter}
-use Rattle.std.proofs.Common.{◌<◌, ◌≤◌, Some}
+use Rattle.std.proofs.Common.{◌<◌, ◌≤◌, Some, None}
 use Rattle.std.proofs.Common.{refl, sym, ◌∙◌, ap, append_assoc, arith, ◌++◌}
 use Rattle.std.specs.List.{take-map, drop-map}
 use Rattle.std.proofs.lemmas.Bool.Decides.{nat_tests}
+use Rattle.op_ids.specs.Id.{Id}
 use Rattle.op_model.specs.declared.op.Op.{Op}
 use Rattle.op_model.specs.declared.character.Character.{Character}
 use Rattle.op_model.specs.Walk.{walk}
@@ -116,7 +117,7 @@ values_more all here rest found now c are first more =
     ∙ (sym (append_assoc found (shown_values (c ∷ [])) (shown_values rest)) ∙ ap (λ vs. vs ++ shown_values rest) (sym more))))
 
 -- what a reader sees of cells and of those behind them
-shown_append : (k cs : List Cell) → shown (k ++ cs) ≡ shown k ++ shown cs
+pub shown_append : (k cs : List Cell) → shown (k ++ cs) ≡ shown k ++ shown cs
 shown_append [] cs = refl
 shown_append (c ∷ k) cs = go c.is_removed (shown_append k cs)
   where
@@ -125,23 +126,7 @@ shown_append (c ∷ k) cs = go c.is_removed (shown_append k cs)
     go true rest = rest
     go false rest = ap (λ r. c ∷ r) rest
 
--- the n-th that a reader sees is among the first cells, where a reader sees more than n of those
-pub shown_here : (k cs : List Cell) (n : ℕ) → n < length (shown k) → shown_at (k ++ cs) n ≡ shown_at k n
-shown_here [] cs n few = absurd (omega arith)
-shown_here (c ∷ k) cs n few = go c.is_removed n (λ m. shown_here k cs m) few
-  where
-    go : (hidden : Bool) (n : ℕ) → ((m : ℕ) → m < length (shown k) → shown_at (k ++ cs) m ≡ shown_at k m)
-        → n < length (if not hidden then c ∷ shown k else shown k)
-        → (if hidden then shown_at (k ++ cs) n else if n == 0 then Some c.id else shown_at (k ++ cs) (n - 1))
-        ≡ (if hidden then shown_at k n else if n == 0 then Some c.id else shown_at k (n - 1))
-    go true n rest few = rest n few
-    go false zero rest few = refl
-    go false (suc n) rest few =
-        let some : (suc n == 0) ≡ false = grind (arith, nat_tests) in
-        let back : suc n - 1 ≡ n = omega arith in
-        rw (some, back) (rest n (omega arith))
-
--- else it is behind them
+-- where a reader sees at most n of the first cells, the n-th is behind them
 pub shown_past : (k cs : List Cell) (n : ℕ) → length (shown k) ≤ n → shown_at (k ++ cs) n ≡ shown_at cs (n - length (shown k))
 shown_past [] cs n past = ap (shown_at cs) (omega arith)
 shown_past (c ∷ k) cs n past = go c.is_removed n (λ m. shown_past k cs m) past
@@ -167,3 +152,35 @@ shown_next c cs n seen some = rw (seen, some) refl
 
 pub shown_skip : (c : Cell) (cs : List Cell) (n : ℕ) → c.is_removed ≡ true → shown_at (c ∷ cs) n ≡ shown_at cs n
 shown_skip c cs n gone = rw gone refl
+
+-- there are more cells that a reader sees than stand before one
+pub seen_few : (cs : List Cell) (n : ℕ) (id : Id) → shown_at cs n ≡ Some id → n < length (shown cs)
+seen_few [] n id is = absurd (cc)
+seen_few (c ∷ cs) n id is = go c.is_removed n (λ m here. seen_few cs m id here) is
+  where
+    go : (hidden : Bool) (n : ℕ) → ((m : ℕ) → shown_at cs m ≡ Some id → m < length (shown cs))
+        → (if hidden then shown_at cs n else if n == 0 then Some c.id else shown_at cs (n - 1)) ≡ Some id
+        → n < length (if not hidden then c ∷ shown cs else shown cs)
+    go true n rest here = rest n here
+    go false zero rest here = omega arith
+    go false (suc n) rest here =
+        let some : (suc n == 0) ≡ false = grind (arith, nat_tests) in
+        let back : suc n - 1 ≡ n = omega arith in
+        let less = rest n (rw (some, back) at here) in
+        omega arith
+
+-- and no more, where there is none
+pub seen_none : (cs : List Cell) (n : ℕ) → shown_at cs n ≡ None → length (shown cs) ≤ n
+seen_none [] n none = omega arith
+seen_none (c ∷ cs) n none = go c.is_removed n (λ m here. seen_none cs m here) none
+  where
+    go : (hidden : Bool) (n : ℕ) → ((m : ℕ) → shown_at cs m ≡ None → length (shown cs) ≤ m)
+        → (if hidden then shown_at cs n else if n == 0 then Some c.id else shown_at cs (n - 1)) ≡ None
+        → length (if not hidden then c ∷ shown cs else shown cs) ≤ n
+    go true n rest here = rest n here
+    go false zero rest here = absurd (cc)
+    go false (suc n) rest here =
+        let some : (suc n == 0) ≡ false = grind (arith, nat_tests) in
+        let back : suc n - 1 ≡ n = omega arith in
+        let less = rest n (rw (some, back) at here) in
+        omega arith

@@ -1,12 +1,19 @@
 -- Cells of a chunk that are read one after another.
 use Rattle.std.proofs.lemmas.Bool.{true≢false}
 use Rattle.std.proofs.lemmas.Bool.Decides.{nat_tests}
-use Rattle.std.proofs.Common.{◌≡◌, refl, sym, arith, Bool, not, ℕ, ◌+◌, ◌-◌, ◌==◌, true, false, [], ◌∷◌, drop, get_or, Some, ◌∙◌, ap}
+use Rattle.std.proofs.Common.{◌≡◌, ◌≤◌, ◌<◌, refl, sym, arith, Bool, not, if◌then◌else◌, ℕ, ◌+◌, ◌-◌, ◌==◌, true, false, List, [], ◌∷◌, length, drop, get_or}
+use Rattle.std.proofs.Common.{Option, Some, None, ◌∙◌, ap}
+use Rattle.std.specs.Option.{MatchOption}
+use Rattle.std.proofs.Math.ListN.{drop_of_length-le}
 use Rattle.char_sequence.specs.declared.cell.Cell.{Cell}
-use Rattle.char_sequence.specs.Cells.{shown_at}
-use Rattle.char_sequence.specs.Chunks.{ChunkCells, cell_at}
-use Rattle.char_sequence.proofs.PlaceLemmas.{cut_behind, in_its_chunk}
+use Rattle.char_sequence.specs.declared.gap.Seen.{Seen}
+use Rattle.char_sequence.specs.Cells.{behind_shown, shown, shown_at}
+use Rattle.char_sequence.specs.Chunks.{ChunkCells, cell_at, cells_of, from}
+use Rattle.char_sequence.specs.Gaps.{IsSeen}
+use Rattle.char_sequence.proofs.BehindLemmas.{behind_none}
+use Rattle.char_sequence.proofs.PlaceLemmas.{chunks_from, cut_behind, from_cell, in_its_chunk, place_behind}
 use Rattle.char_sequence.proofs.ReadLemmas.{shown_first, shown_next, shown_skip}
+use Rattle.char_sequence.proofs.StartLemmas.{from_start}
 
 -- the cells of a chunk from one on begin with it
 pub from_here : (held : ChunkCells) (i j : ℕ) (c : Cell) → cell_at held i j ≡ Some c
@@ -17,30 +24,95 @@ is_seen : (hidden : Bool) → (not hidden) ≡ true → hidden ≡ false
 is_seen true seen = absurd (true≢false (sym seen))
 is_seen false seen = refl
 
-is_gone : (hidden : Bool) → (not hidden) ≡ false → hidden ≡ true
+pub is_gone : (hidden : Bool) → (not hidden) ≡ false → hidden ≡ true
 is_gone true gone = refl
 is_gone false gone = absurd (true≢false gone)
 
-some_left : (left : ℕ) → (left ≡ 0 → ⊥) → (left == 0) ≡ false
-some_left left some = grind (arith, nat_tests)
+-- behind the first n + 1 cells that a reader sees: a tombstone is none of them
+behind_skip : (c : Cell) (cs : List Cell) (n : ℕ) → c.is_removed ≡ true → behind_shown (c ∷ cs) (n + 1) ≡ behind_shown cs (n + 1)
+behind_skip c cs n gone = let some : (n + 1 == 0) ≡ false = grind (arith, nat_tests) in rw (some, gone) refl
+
+-- another one is
+behind_next : (c : Cell) (cs : List Cell) (n : ℕ) → c.is_removed ≡ false → behind_shown (c ∷ cs) (n + 1) ≡ behind_shown cs n
+behind_next c cs n seen =
+    let some : (n + 1 == 0) ≡ false = grind (arith, nat_tests) in
+    let back : n + 1 - 1 ≡ n = omega arith in
+    rw (some, seen, back) refl
+
+-- the k-th cell that a reader sees from a chunk on is the one with `left` before it from a place on, and stands in the chunk
+pub record SoFar (held : ChunkCells) (i j k left : ℕ) : Type 0 where
+  pub found : shown_at (from held i 0) k ≡ shown_at (from held i j) left
+  pub rest : behind_shown (from held i 0) (k + 1) ≡ behind_shown (from held i j) (left + 1)
+  pub few : left < length (shown (drop j (get_or held i [])))
 
 -- with a cell that a reader sees one fewer is left
-pub found_next : (held : ChunkCells) (i j k left : ℕ) (c : Cell) → shown_at (get_or held i []) k ≡ shown_at (drop j (get_or held i [])) left
-    → cell_at held i j ≡ Some c → (not c.is_removed) ≡ true → (left ≡ 0 → ⊥)
-    → shown_at (get_or held i []) k ≡ shown_at (drop (j + 1) (get_or held i [])) (left - 1)
+pub found_next : (held : ChunkCells) (i j k left : ℕ) (c : Cell) → SoFar held i j k left → cell_at held i j ≡ Some c → (not c.is_removed) ≡ true
+    → (left ≡ 0 → ⊥) → SoFar held i (j + 1) k (left - 1)
 found_next held i j k left c so_far is seen some =
-    so_far ∙ (ap (λ cs. shown_at cs left) (from_here held i j c is) ∙ shown_next c (drop (j + 1) (get_or held i [])) left (is_seen c.is_removed seen) (some_left left some))
+    let here = is_seen c.is_removed seen in
+    let first = from_cell held i j c is in
+    let more : (left == 0) ≡ false = grind (arith, nat_tests) in
+    let back : left ≡ left - 1 + 1 = omega arith in
+    let one : length (shown (drop j (get_or held i []))) ≡ 1 + length (shown (drop (j + 1) (get_or held i []))) =
+    ap (λ cs. length (shown cs)) (from_here held i j c is)
+    ∙ ap (λ gone. length (if not gone then c ∷ shown (drop (j + 1) (get_or held i [])) else shown (drop (j + 1) (get_or held i [])))) here
+    ∙ omega arith in
+    let few = so_far.few in
+    record {
+      found = so_far.found ∙ (ap (λ cs. shown_at cs left) first ∙ shown_next c (from held i (j + 1)) left here more);
+      rest = so_far.rest ∙ (ap (λ cs. behind_shown cs (left + 1)) first ∙ (behind_next c (from held i (j + 1)) left here
+          ∙ ap (behind_shown (from held i (j + 1))) back));
+      few = omega arith;
+    }
 
 -- with a tombstone as many
-pub found_skip : (held : ChunkCells) (i j k left : ℕ) (c : Cell) → shown_at (get_or held i []) k ≡ shown_at (drop j (get_or held i [])) left
-    → cell_at held i j ≡ Some c → (not c.is_removed) ≡ false
-    → shown_at (get_or held i []) k ≡ shown_at (drop (j + 1) (get_or held i [])) left
+pub found_skip : (held : ChunkCells) (i j k left : ℕ) (c : Cell) → SoFar held i j k left → cell_at held i j ≡ Some c → (not c.is_removed) ≡ false
+    → SoFar held i (j + 1) k left
 found_skip held i j k left c so_far is gone =
-    so_far ∙ (ap (λ cs. shown_at cs left) (from_here held i j c is) ∙ shown_skip c (drop (j + 1) (get_or held i [])) left (is_gone c.is_removed gone))
+    let here = is_gone c.is_removed gone in
+    let first = from_cell held i j c is in
+    let same : length (shown (drop j (get_or held i []))) ≡ length (shown (drop (j + 1) (get_or held i []))) =
+    ap (λ cs. length (shown cs)) (from_here held i j c is)
+    ∙ ap (λ hidden. length (if not hidden then c ∷ shown (drop (j + 1) (get_or held i [])) else shown (drop (j + 1) (get_or held i [])))) here in
+    let few = so_far.few in
+    record {
+      found = so_far.found ∙ (ap (λ cs. shown_at cs left) first ∙ shown_skip c (from held i (j + 1)) left here);
+      rest = so_far.rest ∙ (ap (λ cs. behind_shown cs (left + 1)) first ∙ behind_skip c (from held i (j + 1)) left here);
+      few = omega arith;
+    }
 
 -- where none is left, it is this one
-pub found_here : (held : ChunkCells) (i j k left : ℕ) (c : Cell) → shown_at (get_or held i []) k ≡ shown_at (drop j (get_or held i [])) left
-    → cell_at held i j ≡ Some c → (not c.is_removed) ≡ true → left ≡ 0 → shown_at (get_or held i []) k ≡ Some c.id
-found_here held i j k left c so_far is seen none =
-    so_far ∙ (ap (λ n. shown_at (drop j (get_or held i [])) n) none ∙ (ap (λ cs. shown_at cs 0) (from_here held i j c is)
-    ∙ shown_first c (drop (j + 1) (get_or held i [])) (is_seen c.is_removed seen)))
+pub found_here : (held : ChunkCells) (i j k left : ℕ) (c : Cell) (seen : Seen) → SoFar held i j k left → cell_at held i j ≡ Some c
+    → (not c.is_removed) ≡ true → left ≡ 0 → seen ≡ record { id = c.id; behind = record { chunk = i; at = j + 1 } } → IsSeen held i 0 k seen
+found_here held i j k left c seen so_far is shows none is_it =
+    let here = is_seen c.is_removed shows in
+    let first = from_cell held i j c is in
+    let rest = from held i (j + 1) in
+    rw is_it (record {
+      id = so_far.found ∙ (ap (λ n. shown_at (from held i j) n) none ∙ (ap (λ cs. shown_at cs 0) first ∙ shown_first c rest here));
+      place = place_behind held i j c is;
+      rest = sym (so_far.rest ∙ (ap (λ n. behind_shown (from held i j) (n + 1)) none ∙ (ap (λ cs. behind_shown cs (0 + 1)) first
+          ∙ (behind_next c rest 0 here ∙ behind_none rest))));
+    })
+
+-- at the end of the chunk none can be left
+pub found_past : (held : ChunkCells) (i j k left : ℕ) → SoFar held i j k left → length (get_or held i []) ≤ j → ⊥
+found_past held i j k left so_far end =
+    let none : length (shown (drop j (get_or held i []))) ≡ 0 = ap (λ cs. length (shown cs)) (drop_of_length-le (get_or held i []) end) in
+    let few = so_far.few in
+    omega arith
+
+-- what is seen from a chunk on is seen from the beginning on
+seen_from : (held : ChunkCells) (i k left : ℕ) (seen : Seen) → shown_at (cells_of held) k ≡ shown_at (cells_of (drop i held)) left
+    → behind_shown (cells_of held) (k + 1) ≡ behind_shown (cells_of (drop i held)) (left + 1) → IsSeen held i 0 left seen → IsSeen held 0 0 k seen
+seen_from held i k left seen found rest is = record {
+  id = ap (λ cs. shown_at cs k) (from_start held) ∙ (found ∙ (ap (λ cs. shown_at cs left) (chunks_from held i) ∙ is.id));
+  place = is.place;
+  rest = is.rest ∙ (ap (λ cs. behind_shown cs (left + 1)) (sym (chunks_from held i)) ∙ (sym rest ∙ ap (λ cs. behind_shown cs (k + 1)) (sym (from_start held))));
+}
+
+pub seen_of : (held : ChunkCells) (i k left : ℕ) (found : Option Seen) → shown_at (cells_of held) k ≡ shown_at (cells_of (drop i held)) left
+    → behind_shown (cells_of held) (k + 1) ≡ behind_shown (cells_of (drop i held)) (left + 1) → MatchOption found ⊥ (IsSeen held i 0 left)
+    → MatchOption found (shown_at (cells_of held) k ≡ None) (IsSeen held 0 0 k)
+seen_of held i k left None found rest is = absurd is
+seen_of held i k left (Some seen) found rest is = seen_from held i k left seen found rest is

@@ -8,7 +8,7 @@ use Rattle.char_sequence.specs.declared.chunk_size.ChunkSize.{ChunkSize}
 use Rattle.char_sequence.specs.Cells.{shown, shown_at}
 use Rattle.char_sequence.specs.Chunks.{AreChunks, AreSized, ChunkCells, IsPlace, before, cells_of, size_at}
 use Rattle.char_sequence.proofs.PlaceLemmas.{chunks_from, chunks_to}
-use Rattle.char_sequence.proofs.ReadLemmas.{shown_here, shown_past}
+use Rattle.char_sequence.proofs.ReadLemmas.{shown_past}
 
 -- a size that is read is that of its chunk
 pub size_read : (held : ChunkCells) (i : ℕ) (size : ChunkSize) → size_at held i ≡ Some size
@@ -44,12 +44,7 @@ few_chunks held chunks = elim (cases_lt 1 (length held)) [
   | inr one ↦ omega arith
 ]
 
--- the n-th from a chunk on is in it, where a reader sees more than n of its cells
-pub in_chunk : (held : ChunkCells) (i n : ℕ) → n < length (shown (get_or held i [])) → shown_at (cells_of (drop i held)) n ≡ shown_at (get_or held i []) n
-in_chunk held i n few =
-    ap (λ cs. shown_at cs n) (chunks_from held i) ∙ shown_here (get_or held i []) (cells_of (drop (i + 1) held)) n few
-
--- else behind it
+-- where a reader sees at most n cells of a chunk, the n-th from there on is behind it
 pub past_chunk : (held : ChunkCells) (i n : ℕ) → length (shown (get_or held i [])) ≤ n
     → shown_at (cells_of (drop i held)) n ≡ shown_at (cells_of (drop (i + 1) held)) (n - length (shown (get_or held i [])))
 past_chunk held i n past =

@@ -49,8 +49,8 @@ TakesCell id does old new = (ops : List Op) (doc : ℕ) (op : Op) → Fits ops d
     → AreContent old ops doc → AreContent new (ops ++ op ∷ []) doc
 
 -- Where old holds any operations that an operation of this id and body fits, new holds them and it.
-abbrev pub Takes : Id → Body → ChunkCells → ChunkCells → Type 0
-Takes id does old new = TakesCell id does (cells_of old) (cells_of new)
+abbrev pub TakesOperation : Id → Body → ChunkCells → ChunkCells → Type 0
+TakesOperation id does old new = TakesCell id does (cells_of old) (cells_of new)
 
 -- these operations are a run of inserts, each behind the one before
 abbrev pub IsRun : Option Id → List (Id × ℕ) → List Op → Type 0

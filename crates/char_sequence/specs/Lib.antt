@@ -1,6 +1,7 @@
 pub mod Cells
 pub mod Chunks
 pub mod Finding
+pub mod Gaps
 pub mod Landing
 pub mod Links
 pub mod Reading

@@ -4,7 +4,7 @@ ghost use Rattle.std.specs.List.{list_all};
 ghost use Rattle.char_sequence.specs.Cells.{cell_of_insert, has_cell, removed, removed_all};
 ghost use Rattle.char_sequence.specs.Chunks.{cells_of};
 ghost use Rattle.char_sequence.specs.Weave.{AreOnce};
-ghost use Rattle.char_sequence.specs.Content.{is_there, Holds, Takes, TakesRemoves, TakesRun};
+ghost use Rattle.char_sequence.specs.Content.{is_there, Holds, TakesOperation, TakesRemoves, TakesRun};
 ghost use Rattle.op_ids.specs.Id.{Id};
 ghost use Rattle.op_model.specs.declared.op.Op.{Op};
 ghost use Rattle.op_model.specs.declared.op.Body.TheVariants.{Insert, Remove};
@@ -31,7 +31,7 @@ impl Sequence {
         origin: Option<OpId>,
         value: char,
     ) -> Result<(), SequenceError>
-        ensures taken { OnOk result (Takes id (Insert origin value) self.old self.new) }
+        ensures taken { OnOk result (TakesOperation id (Insert origin value) self.old self.new) }
         ensures unknown { (ops : List Op) (doc : ℕ) → Holds self.old ops doc
             → (IsErrOf result SequenceError.UnknownId ↔ (is_there ops doc origin ≡ false)) }
         ensures err { OnErr result (self.new ≡ self.old) }
@@ -87,7 +87,7 @@ impl Sequence {
     /// there, which leaves the sequence as it was. Takes no memory. A search of the character, of
     /// all only where the hint is wrong.
     pub fn apply_remove(&mut self, id: OpId) -> Result<(), SequenceError>
-        ensures taken { OnOk result ((by : Id) → Takes by (Remove id) self.old self.new) }
+        ensures taken { OnOk result ((by : Id) → TakesOperation by (Remove id) self.old self.new) }
         ensures unknown { (ops : List Op) (doc : ℕ) → Holds self.old ops doc
             → (IsErrOf result SequenceError.UnknownId ↔ (is_there ops doc (Some id) ≡ false)) }
         ensures memory { IsErrOf result SequenceError.Memory → ⊥ }

@@ -146,7 +146,7 @@ impl Chunks {
     }
 
     /// The place behind all cells. Constant.
-    fn end(&self) -> Place
+    pub fn end(&self) -> Place
         ensures place { IsPlace self.now result.chunk result.at }
         ensures before { before self.now result.chunk result.at ≡ cells_of self.now }
         ensures from { from self.now result.chunk result.at ≡ [] }

@@ -1,5 +1,6 @@
 ghost use Rattle.std.specs.Prelude.{◌≡◌, Bool};
-ghost use Rattle.op_ids.specs.Id.{Id};
+ghost use Rattle.std.specs.List.{list_any};
+ghost use Rattle.op_ids.specs.Id.{is_same, Id};
 
 use op_ids::OpId;
 
@@ -12,4 +13,8 @@ pub trait EndsAfter {
     /// Whether some mark operation ends just after this character.
     fn ends_after(&self, id: OpId) -> bool
         ensures { result ≡ ends_after self.now id };
+
+    /// All characters that some mark operation ends just after, in any order.
+    fn ended(&self) -> &[OpId]
+        ensures { (id : Id) → ends_after self.now id ≡ list_any (λ e. is_same e id) result.now };
 }

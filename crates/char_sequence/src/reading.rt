@@ -2,12 +2,10 @@
 ghost use Rattle.std.specs.Prelude.{◌≡◌, ◌++◌, ◌∷◌, [], MatchOption, IfOk, OnOk};
 ghost use Rattle.char_sequence.specs.Cells.{first_removed, shown_values};
 ghost use Rattle.char_sequence.specs.Chunks.{cells_of, from as from_of, IsPlace};
-ghost use Rattle.char_sequence.specs.Content.{last_ended as last_ended_of};
 ghost use Rattle.char_sequence.specs.Reading.{Passes};
 
 use crate::cell::Cell;
 use crate::chunks::Chunks;
-use crate::ends_after::EndsAfter;
 use crate::place::Place;
 use op_ids::OpId;
 use op_model::Ticks;
@@ -56,32 +54,6 @@ pub fn tombstones(chunks: &Chunks, from: &Place) -> Result<Vec<OpId>, AllocError
         at = behind;
     }
     Ok(found)
-}
-
-/// Of the tombstones from a place on the last one that a mark ends just after, or else the
-/// character before them.
-pub fn last_ended<M: EndsAfter>(
-    chunks: &Chunks,
-    from: &Place,
-    before: Option<OpId>,
-    marks: &M,
-) -> Option<OpId>
-    requires { IsPlace chunks.now from.now.chunk from.now.at }
-    ensures { result ≡ last_ended_of (M.ends_after marks.now) before
-        (first_removed (from_of chunks.now from.now.chunk from.now.at)) }
-{
-    let mut last = before;
-    let mut at = *from;
-    while let Some((cell, behind)) = next(chunks, &at) {
-        if !cell.is_removed {
-            return last;
-        }
-        if marks.ends_after(cell.id) {
-            last = Some(cell.id);
-        }
-        at = behind;
-    }
-    last
 }
 
 /// The values of the cells that a reader sees. An error is want of memory (1).

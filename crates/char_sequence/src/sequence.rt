@@ -1,23 +1,26 @@
 ghost use Rattle.std.specs.Prelude.{◌≡◌, ◌+◌, ◌≤◌, ◌<◌, ◌/◌, ◌^◌, ℕ, List, Some, map, length, take, drop, false, true};
-ghost use Rattle.std.specs.Prelude.{MatchOption, IfOk};
+ghost use Rattle.std.specs.Prelude.{is_some, nat_le, MatchOption, IfOk, IfSome};
 ghost use Rattle.char_sequence.specs.Chunks.{cells_of, cell_at, size_at, AreChunks};
 ghost use Rattle.char_sequence.specs.Content.{empty, is_there, Holds};
 ghost use Rattle.char_sequence.specs.Content.{last_ended as last_ended_of};
+ghost use Rattle.char_sequence.specs.Gaps.{IsGap};
 ghost use Rattle.op_model.specs.Places.{index_of};
 ghost use Rattle.op_model.specs.Walk.{walk};
 ghost use Rattle.op_model.specs.declared.op.Op.{Op};
 ghost use Rattle.op_model.specs.Text.{visible as seen, text as text_of};
-ghost use Rattle.op_model.specs.Made.{id_at, tombstones_at};
+ghost use Rattle.op_model.specs.Made.{id_at, id_before, tombstones_at};
 ghost use Rattle.char_sequence.specs.declared.chunk.TheConstants.{MAX_CHUNK, MIN_CHUNK};
 
 use crate::cell::Cell;
 use crate::chunk_size::ChunkSize;
 use crate::chunks::Chunks;
+use crate::ended::last_ended;
 use crate::ends_after::EndsAfter;
 use crate::finding::{index, place};
+use crate::gap::Gap;
 use crate::hints::Hints;
-use crate::reading::{last_ended, tombstones, values};
-use crate::shown::{behind, shown, shown_from};
+use crate::reading::{tombstones, values};
+use crate::shown::{behind, gap, shown, shown_from};
 use op_ids::OpId;
 use op_model::{Text, Ticks};
 use std::alloc::{AllocError, Global};
@@ -121,12 +124,25 @@ impl Sequence {
             ≤ ticks.old + (1 + length (cells_of self.now) / MIN_CHUNK + MAX_CHUNK) }
         ensures rising { ticks.old ≤ ticks.new }
     {
-        shown(&self.chunks, k, ticks)
+        match shown(&self.chunks, k, ticks) {
+            Some(seen) => Some(seen.id),
+            None => None,
+        }
+    }
+
+    /// The place behind the first `count` characters that a reader sees, or `None` where there are
+    /// fewer. Takes no memory. Costs what `visible` does.
+    pub fn gap(&self, count: usize) -> Option<Gap>
+        ensures there { (ops : List Op) (doc : ℕ) → Holds self.now ops doc
+            → is_some result ≡ nat_le count (length (seen ops doc)) }
+        ensures gap { IfSome result (λ gap. (gap.count ≡ count) × IsGap self.now gap) }
+    {
+        gap(&self.chunks, count)
     }
 
     /// The ids of `count` characters that a reader sees, from the k-th on, counted from 0, or of as
     /// many as there are. An error is want of memory (1). Costs what `visible` does, and a step for
-    /// each character up to the last one.
+    /// each character up to the last one, but for chunks of tombstones alone one step each.
     pub fn visible_range(&self, k: usize, count: usize) -> Result<Vec<OpId>, AllocError>
         ensures range { IfOk result (λ ids. (ops : List Op) (doc : ℕ) → Holds self.now ops doc
             → ids.items ≡ map (λ c. c.id) (take count (drop k (seen ops doc)))) }
@@ -146,7 +162,9 @@ impl Sequence {
 
     /// Of the tombstones between the first `count` characters that a reader sees and the next one
     /// the last that a mark ends just after, or else the character before them, which is given.
-    /// Takes no memory. Costs what `visible` does, and a question to the marks for each tombstone.
+    /// Takes no memory. Costs what `visible` does; and where some mark ends just after a character,
+    /// a step for each chunk of these tombstones, and about the less of a question to the marks for
+    /// each tombstone and a search for each character that a mark ends just after.
     pub fn last_ended<M: EndsAfter>(
         &self,
         count: usize,
@@ -157,7 +175,20 @@ impl Sequence {
             → result ≡ last_ended_of (M.ends_after marks.now) before
             (map (λ c. c.id) (tombstones_at ops doc count)) }
     {
-        last_ended(&self.chunks, &behind(&self.chunks, count), before, marks)
+        let from = behind(&self.chunks, count);
+        last_ended(&self.chunks, &self.hints, &from, before, marks)
+    }
+
+    /// The same of the tombstones at a place that was found before, and of the character before it.
+    /// Costs the same, but nothing for the search of the place.
+    pub fn last_ended_at<M: EndsAfter>(&self, gap: &Gap, marks: &M) -> Option<OpId>
+        requires { IsGap self.now gap.now }
+        ensures { (ops : List Op) (doc : ℕ) → Holds self.now ops doc
+            → result ≡ last_ended_of (M.ends_after marks.now)
+            (id_before (seen ops doc) gap.now.count)
+            (map (λ c. c.id) (tombstones_at ops doc gap.now.count)) }
+    {
+        last_ended(&self.chunks, &self.hints, &gap.place, gap.before, marks)
     }
 
     /// The text that a reader sees. An error is want of memory (1). Linear.

@@ -1,22 +1,27 @@
 //! Cells that a reader sees.
-ghost use Rattle.std.specs.Prelude.{◌≡◌, ◌+◌, ◌≤◌, ◌/◌, ◌++◌, ◌∷◌, [], length, map, take, drop, IfOk, OnOk};
+ghost use Rattle.std.specs.Prelude.{◌≡◌, ◌+◌, ◌≤◌, ◌<◌, ◌/◌, ◌++◌, ◌∷◌, [], length, map, take, drop};
+ghost use Rattle.std.specs.Prelude.{None, IfOk, OnOk, MatchOption};
 ghost use Rattle.std.proofs.Common.{get_or};
 ghost use Rattle.char_sequence.specs.Cells.{behind_shown, shown as shown_of, shown_at};
 ghost use Rattle.char_sequence.specs.Chunks.{cells_of, from as from_of, IsPlace};
+ghost use Rattle.char_sequence.specs.Gaps.{IsGap, IsSeen};
 ghost use Rattle.char_sequence.specs.declared.chunk.TheConstants.{MAX_CHUNK, MIN_CHUNK};
 
 use crate::cell::Cell;
 use crate::chunks::Chunks;
+use crate::gap::{Gap, Seen};
+use crate::hidden::past_hidden;
 use crate::place::Place;
 use crate::reading::next;
 use op_ids::OpId;
 use op_model::Ticks;
 use std::alloc::AllocError;
 
-/// The id of the k-th cell that a reader sees, counted from 0: a tick for each chunk up to its own,
-/// and for each cell of that one.
-pub fn shown(chunks: &Chunks, k: usize, ticks: &mut Ticks) -> Option<OpId>
-    ensures found { result ≡ shown_at (cells_of chunks.now) k }
+/// The k-th cell that a reader sees, counted from 0: a tick for each chunk up to its own, and for
+/// each cell of that one.
+pub fn shown(chunks: &Chunks, k: usize, ticks: &mut Ticks) -> Option<Seen>
+    ensures found { MatchOption result (shown_at (cells_of chunks.now) k ≡ None)
+        (IsSeen chunks.now 0 0 k) }
     ensures ticks { ticks.new
         ≤ ticks.old + (1 + length (cells_of chunks.now) / MIN_CHUNK + MAX_CHUNK) }
     ensures rising { ticks.old ≤ ticks.new }
@@ -34,19 +39,27 @@ pub fn shown(chunks: &Chunks, k: usize, ticks: &mut Ticks) -> Option<OpId>
     None
 }
 
-/// The id of the k-th cell of a chunk that a reader sees.
-fn shown_in(chunks: &Chunks, i: usize, cells: usize, k: usize, ticks: &mut Ticks) -> Option<OpId>
-    requires { cells ≡ length (get_or chunks.now i []) }
-    ensures found { result ≡ shown_at (get_or chunks.now i []) k }
+/// The k-th cell that a reader sees from a chunk on, which is one of that chunk.
+fn shown_in(chunks: &Chunks, i: usize, cells: usize, k: usize, ticks: &mut Ticks) -> Option<Seen>
+    requires cells { cells ≡ length (get_or chunks.now i []) }
+    requires here { k < length (shown_of (get_or chunks.now i [])) }
+    ensures found { MatchOption result ⊥ (IsSeen chunks.now i 0 k) }
     ensures ticks { ticks.new ≤ ticks.old + cells }
     ensures rising { ticks.old ≤ ticks.new }
 {
+    chunks.are_sized();
     let mut left = k;
     for j in 0..cells {
         if let Some(cell) = chunks.cell(i, j, ticks) {
             if !cell.is_removed {
                 if left == 0 {
-                    return Some(cell.id);
+                    return Some(Seen {
+                        id: cell.id,
+                        behind: Place {
+                            chunk: i,
+                            at: j + 1,
+                        },
+                    });
                 }
                 left -= 1;
             }
@@ -55,52 +68,45 @@ fn shown_in(chunks: &Chunks, i: usize, cells: usize, k: usize, ticks: &mut Ticks
     None
 }
 
-/// The place behind the first `count` cells that a reader sees; the end where there are fewer. A
-/// step for each chunk up to its own, and for each cell of that one up to there; for each cell
-/// where there are fewer.
+/// The place behind the first `count` cells that a reader sees, or `None` where there are fewer.
+/// Costs what `shown` does.
+pub fn gap(chunks: &Chunks, count: usize) -> Option<Gap>
+    ensures { MatchOption result (length (shown_of (cells_of chunks.now)) < count)
+        (λ gap. (count ≤ length (shown_of (cells_of chunks.now))) × (gap.count ≡ count)
+        × IsGap chunks.now gap) }
+{
+    if count == 0 {
+        return Some(Gap {
+            count,
+            before: None,
+            place: Place { chunk: 0, at: 0 },
+        });
+    }
+    match shown(chunks, count - 1, &mut Ticks::new()) {
+        Some(seen) => Some(Gap {
+            count,
+            before: Some(seen.id),
+            place: seen.behind,
+        }),
+        None => None,
+    }
+}
+
+/// The place behind the first `count` cells that a reader sees; the end where there are fewer.
+/// Costs what `shown` does.
 pub fn behind(chunks: &Chunks, count: usize) -> Place
     ensures place { IsPlace chunks.now result.chunk result.at }
     ensures rest { from_of chunks.now result.chunk result.at
         ≡ behind_shown (cells_of chunks.now) count }
 {
-    chunks.are_sized();
-    let ticks = &mut Ticks::new();
-    let mut left = count;
-    let mut i = 0;
-    while let Some(size) = chunks.chunk(i, ticks) {
-        if left <= size.shown {
-            return passed(chunks, &Place { chunk: i, at: 0 }, left);
-        }
-        left -= size.shown;
-        i += 1;
+    match gap(chunks, count) {
+        Some(gap) => gap.place,
+        None => chunks.end(),
     }
-    passed(chunks, &Place { chunk: 0, at: 0 }, count)
-}
-
-/// The place behind the first `count` cells that a reader sees from a place on; the end where there
-/// are fewer.
-fn passed(chunks: &Chunks, from: &Place, count: usize) -> Place
-    requires { IsPlace chunks.now from.now.chunk from.now.at }
-    ensures place { IsPlace chunks.now result.chunk result.at }
-    ensures rest { from_of chunks.now result.chunk result.at
-        ≡ behind_shown (from_of chunks.now from.now.chunk from.now.at) count }
-{
-    let mut left = count;
-    let mut at = *from;
-    while left > 0 {
-        let (cell, behind) = match next(chunks, &at) {
-            None => return at,
-            Some(found) => found,
-        };
-        if !cell.is_removed {
-            left -= 1;
-        }
-        at = behind;
-    }
-    at
 }
 
 /// The ids of `count` cells that a reader sees, from the k-th on, or of as many as there are.
+/// Chunks that show nothing are passed in one step each.
 pub fn shown_from(chunks: &Chunks, k: usize, count: usize) -> Result<Vec<OpId>, AllocError>
     ensures range { IfOk result (λ ids. ids.items
         ≡ map (λ c. c.id) (take count (drop k (shown_of (cells_of chunks.now))))) }
@@ -109,7 +115,8 @@ pub fn shown_from(chunks: &Chunks, k: usize, count: usize) -> Result<Vec<OpId>, 
     let mut ids = Vec::new(chunks.allocator());
     let mut at = behind(chunks, k);
     while ids.len() < count {
-        let (cell, behind) = match next(chunks, &at) {
+        let from = past_hidden(chunks, &at);
+        let (cell, behind) = match next(chunks, &from) {
             None => return Ok(ids),
             Some(found) => found,
         };

@@ -2,6 +2,7 @@ use super::*;
 use op_ids::{OpId, ReplicaId};
 use op_model::{Text, Ticks};
 use std::alloc::AllocError;
+use std::slice;
 use std::test::Fail;
 
 // While a test holds a sequence it returns nowhere, since each early return would drop it: so the
@@ -170,6 +171,10 @@ impl EndsAfter for NoMarks {
     fn ends_after(&self, _id: OpId) -> bool {
         false
     }
+
+    fn ended(&self) -> &[OpId] {
+        &[]
+    }
 }
 
 /// A mark operation that ends just after this character.
@@ -183,6 +188,10 @@ impl EndsAfter for EndsAfterOne {
 
     fn ends_after(&self, id: OpId) -> bool {
         self.0.is_same(id)
+    }
+
+    fn ended(&self) -> &[OpId] {
+        slice::from_ref(&self.0)
     }
 }
 

@@ -7,7 +7,7 @@ use Rattle.std.specs.Borrow.{Bor}
 use Rattle.clap.specs.Walk.{Row, first_of}
 use Rattle.clap.specs.Simple.{subcommand_of}
 use Rattle.command_syntax.specs.Values.{replica_of, doc_of, port_of, optional_port_of}
-use Rattle.command_words.specs.Program.{program}
+use Rattle.program_commands.specs.Program.{program}
 use Rattle.command_syntax.specs.declared.order.Order.{Order}
 use Rattle.command_syntax.specs.declared.order.Order.TheVariants as order
 use Rattle.command_syntax.specs.declared.store_order.StoreOrder.{StoreOrder}

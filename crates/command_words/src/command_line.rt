@@ -3,18 +3,18 @@ ghost use Rattle.std.specs.Prelude.{◌≡◌, ◌≢◌, [], Some, None, IfOk, 
 ghost use Rattle.clap.specs.Words.{fault_of, first_of, found_of, rows_of};
 ghost use Rattle.clap.specs.Words.{subcommand_of, subcommand_rows_of};
 ghost use Rattle.command_words.specs.declared.order_fault.OrderFault.TheVariants.{Field, Port};
-ghost use Rattle.command_words.specs.Program.{program};
+ghost use Rattle.program_commands.specs.Program.{program};
 ghost use Rattle.command_words.specs.Asked.{texts, meant, asked, asked_of, init_of, edit_of, dump_of, serve_of};
 ghost use Rattle.command_words.specs.Asked.{told, bad_port_of, bad_port_at, is_flag_given};
 ghost use Rattle.command_words.specs.Faults.{RefusedBy, BreaksRule, TellsOf};
 
-use crate::commands::commands;
 use crate::order_fault::OrderFault;
 use clap::ArgMatches;
 use clap::error::ErrorKind;
 use command_syntax::{
     BadPort, DumpOrder, Order, ServeOrder, StoreOrder, doc, optional_port, port, replica,
 };
+use program_commands::commands;
 use std::alloc::Global;
 
 /// What the words of a command line ask for, of which the first is the program's name. `Usage`

@@ -2,7 +2,6 @@
 #![tactic(auto)]
 
 mod command_line;
-mod commands;
 mod order_fault;
 
 pub use command_line::order;

@@ -18,7 +18,7 @@ use Rattle.comment_marks.proofs.Members.{Has, contains_from_has, filtered_has, h
 abbrev is_about : ℕ → Marking → Bool
 is_about id m = is_key m.key (key.Comment id)
 
-key_from_test : (k : MarkKey) (id : ℕ) → is_key k (key.Comment id) ≡ true → k ≡ key.Comment id
+pub key_from_test : (k : MarkKey) (id : ℕ) → is_key k (key.Comment id) ≡ true → k ≡ key.Comment id
 key_from_test key.Strong id e = absurd (both_ways false refl e)
 key_from_test key.Em id e = absurd (both_ways false refl e)
 key_from_test key.Link id e = absurd (both_ways false refl e)
@@ -51,11 +51,11 @@ not_below_chain : (a b c : Id) → is_below a b ≡ false → is_below b c ≡ f
 unfolding is_below
 not_below_chain a b c e f = grind (arith, nat_tests)
 
-greater_is_one : (m : Marking) (o : Option Marking) (r : Marking) → greater m o ≡ r → (m ≡ r) ⊎ (o ≡ Some r)
+pub greater_is_one : (m : Marking) (o : Option Marking) (r : Marking) → greater m o ≡ r → (m ≡ r) ⊎ (o ≡ Some r)
 greater_is_one m None r e = inl e
 greater_is_one m (Some n) r e = elim (cases_Bool (is_below m.id n.id)) [ inl f ↦ inr (ap Some (rw f at e)) | inr f ↦ inl (rw f at e) ]
 
-greatest_has : (ms : List Marking) (r : Marking) → greatest ms ≡ Some r → Has ms r
+pub greatest_has : (ms : List Marking) (r : Marking) → greatest ms ≡ Some r → Has ms r
 greatest_has [] r e = let f : ⊥ = cc in f
 greatest_has (m ∷ ms) r e =
     elim (greater_is_one m (greatest ms) r (let f : greater m (greatest ms) ≡ r = cc in f)) [ inl f ↦ inl f | inr f ↦ inr (greatest_has ms r f) ]

@@ -1,6 +1,7 @@
 -- Why an insert leaves the marks alone that end where it is.
 use Rattle.std.proofs.Common.{subst, ◌≡◌, ℕ, true, Option, List, length, None, refl, sym}
 use Rattle.op_model.specs.declared.edit.Change.{Change}
+use Rattle.op_model.specs.declared.edit.Change.TheVariants.{Insert}
 use Rattle.op_model.specs.declared.edit.Edit.{Edit}
 use Rattle.op_model.specs.declared.op.Op.{Op}
 use Rattle.op_model.specs.Made.{is_inside}
@@ -21,3 +22,11 @@ made_leave d replica token counter clock change found inside made = λ ops at ad
     let edit : Edit = record { doc = d.number; rev = None; token = token; change = change } in
     subst (λ xs. EndedMarksStay ops d.number at xs) (sym (made ops edit stands next refl refl refl))
     (orderly_not_covered ops replica edit at added stands.characters.orderly insert (inside ops stands))
+
+-- those of an insert do, which were made behind as many characters
+pub made_leave_at : (d : Document) (replica : ℕ) (token : Option ℕ) (counter at count : ℕ) (clock : List (ℕ × ℕ)) (text : List ℕ) (found : List Op)
+    → LiesInside d (Insert at text) → count ≡ at → AreMade d replica token counter clock (Insert count text) found
+    → LeaveEndedMarks d counter clock (Insert at text) found
+made_leave_at d replica token counter at count clock text found inside same made =
+    made_leave d replica token counter clock (Insert at text) found inside
+    (subst (λ n. AreMade d replica token counter clock (Insert n text) found) same made)

@@ -26,7 +26,7 @@ use Rattle.char_sequence.specs.Content.{last_ended, AreRemoves, IsRun}
 use Rattle.mark_anchors.specs.Keeping.{kept_end_after, AreMarksOf, Kept}
 use Rattle.mark_anchors.proofs.EndLemmas.{kept_say_ends}
 use Rattle.op_model.specs.Marks.{key_of}
-use Rattle.doc_core.specs.Making.{IsNext}
+use Rattle.doc_core.specs.Making.{AreNextNumbers}
 use Rattle.doc_core.specs.Typing.{run_from}
 
 -- one more of the ids from an index on
@@ -83,7 +83,7 @@ before_past cs at some none = omega (arith, at_past cs (at - 1) none)
 
 -- inserts by the definition's origin are those of the edit
 pub made_insert : (ops : List Op) (edit : Edit) (replica doc : ℕ) (token : Option ℕ) (counter at : ℕ) (clock : List (ℕ × ℕ)) (text : List ℕ) (origin : Option Id)
-    → IsNext ops counter clock → edit.doc ≡ doc → edit.token ≡ token → edit.change ≡ change.Insert at text → origin ≡ origin_of ops doc at
+    → AreNextNumbers ops counter clock → edit.doc ≡ doc → edit.token ≡ token → edit.change ≡ change.Insert at text → origin ≡ origin_of ops doc at
     → numbered replica doc token counter clock (insert_bodies replica counter origin text) ≡ made ops replica edit
 made_insert ops edit replica doc token counter at clock text origin next same_doc same_token same_change is_origin =
     rw (same_change, same_doc, same_token, next.counted, next.depends, is_origin) refl
@@ -105,7 +105,7 @@ map_removes (c ∷ cs) = ap (λ bodies. Remove c.id ∷ bodies) (map_removes cs)
 
 -- removes of the definition's characters are those of the edit
 pub made_removes : (ops : List Op) (edit : Edit) (replica doc : ℕ) (token : Option ℕ) (counter at : ℕ) (count : NonZeroU32) (clock : List (ℕ × ℕ)) (targets ids : List Id) (bodies more : List Body)
-    → IsNext ops counter clock → edit.doc ≡ doc → edit.token ≡ token → edit.change ≡ change.Delete at count → more ≡ bodies → bodies ≡ map Remove ids → ids ≡ targets
+    → AreNextNumbers ops counter clock → edit.doc ≡ doc → edit.token ≡ token → edit.change ≡ change.Delete at count → more ≡ bodies → bodies ≡ map Remove ids → ids ≡ targets
     → targets ≡ map (λ c. c.id) (take count.value (drop at (visible ops doc)))
     → numbered replica doc token counter clock more ≡ made ops replica edit
 made_removes ops edit replica doc token counter at count clock targets ids bodies more next same_doc same_token same_change same_bodies are_removes same_ids are_seen =
@@ -149,14 +149,14 @@ last_there cs at found some is_it = is_it ∙ sym (id_before_at cs at some)
 
 -- the operation that a mark makes
 pub made_mark : (ops : List Op) (edit : Edit) (replica doc : ℕ) (token : Option ℕ) (counter from to : ℕ) (clock : List (ℕ × ℕ)) (mark : Mark) (start : Start) (end : End)
-    → IsNext ops counter clock → edit.doc ≡ doc → edit.token ≡ token → edit.change ≡ change.Mark from to mark → start ≡ start_of (visible ops doc) from
+    → AreNextNumbers ops counter clock → edit.doc ≡ doc → edit.token ≡ token → edit.change ≡ change.Mark from to mark → start ≡ start_of (visible ops doc) from
     → end ≡ end_of (visible ops doc) (key_of mark) to
     → numbered replica doc token counter clock (AddMark mark start end ∷ []) ≡ made ops replica edit
 made_mark ops edit replica doc token counter from to clock mark start end next same_doc same_token same_change is_start is_end =
     rw (same_change, same_doc, same_token, next.counted, next.depends, is_start, is_end) refl
 
 pub made_unmark : (ops : List Op) (edit : Edit) (replica doc : ℕ) (token : Option ℕ) (counter from to : ℕ) (clock : List (ℕ × ℕ)) (key : MarkKey) (start : Start) (end : End)
-    → IsNext ops counter clock → edit.doc ≡ doc → edit.token ≡ token → edit.change ≡ change.Unmark from to key → start ≡ start_of (visible ops doc) from
+    → AreNextNumbers ops counter clock → edit.doc ≡ doc → edit.token ≡ token → edit.change ≡ change.Unmark from to key → start ≡ start_of (visible ops doc) from
     → end ≡ end_of (visible ops doc) key to
     → numbered replica doc token counter clock (RemoveMark key start end ∷ []) ≡ made ops replica edit
 made_unmark ops edit replica doc token counter from to clock key start end next same_doc same_token same_change is_start is_end =

@@ -13,19 +13,19 @@ use Rattle.doc_core.specs.declared.made.Part.{Part}
 use Rattle.doc_core.specs.declared.made.Part.TheVariants.{Run, Removes, One}
 
 -- the next operation after these has this counter, and depends on this clock
-pub record IsNext (ops : List Op) (counter : ℕ) (clock : List (ℕ × ℕ)) : Type 0 where
+pub record AreNextNumbers (ops : List Op) (counter : ℕ) (clock : List (ℕ × ℕ)) : Type 0 where
   pub counted : counter ≡ greatest_counter ops + 1
   pub depends : clock ≡ clock_of ops
 
 -- these are the defined operations of a change of the document with this token, whichever operations it stands for, where they are a replica's next ones
 abbrev pub AreMade : Document → ℕ → Option ℕ → ℕ → List (ℕ × ℕ) → Change → List Op → Type 0
-AreMade d replica token counter clock change found = (ops : List Op) (edit : Edit) → StandsFor d ops → IsNext ops counter clock
+AreMade d replica token counter clock change found = (ops : List Op) (edit : Edit) → StandsFor d ops → AreNextNumbers ops counter clock
     → edit.doc ≡ d.number → edit.token ≡ token → edit.change ≡ change → found ≡ made ops replica edit
 
 -- where the change is an insert, no mark that ends just before its index covers a character that these operations insert, whichever
 -- operations the document stands for, where these are a replica's next ones
 abbrev pub LeaveEndedMarks : Document → ℕ → List (ℕ × ℕ) → Change → List Op → Type 0
-LeaveEndedMarks d counter clock change found = (ops : List Op) (at : ℕ) (added : List ℕ) → StandsFor d ops → IsNext ops counter clock
+LeaveEndedMarks d counter clock change found = (ops : List Op) (at : ℕ) (added : List ℕ) → StandsFor d ops → AreNextNumbers ops counter clock
     → change ≡ Insert at added → EndedMarksStay ops d.number at found
 
 -- what is known of an edit's operations is so: they are a run of inserts, or removes of these characters, or there is one alone

@@ -1,4 +1,5 @@
-ghost use Rattle.std.specs.Prelude.{◌≡◌, ◌≤◌, ◌<◌, ◌^◌, List, [], IfOk, length, nat_le};
+ghost use Rattle.std.specs.Prelude.{◌≡◌, ◌≤◌, ◌<◌, ◌^◌, List, [], IfOk, IfSome, is_some, length, nat_le};
+ghost use Rattle.char_sequence.specs.Gaps.{IsGap};
 ghost use Rattle.fixed_numbers.specs.declared.limits.TheConstants.{MAX_LISTED};
 ghost use Rattle.op_model.specs.declared.op.Op.{Op};
 ghost use Rattle.op_model.specs.Made.{id_before, is_inside as is_inside_of, origin_of};
@@ -7,7 +8,7 @@ ghost use Rattle.op_model.specs.Text.{text as text_of, rev as rev_of, visible};
 ghost use Rattle.doc_core.specs.Standing.{StandsFor};
 ghost use Rattle.span_flatten.specs.Listing.{listed};
 
-use char_sequence::Sequence;
+use char_sequence::{Gap, Sequence};
 use mark_anchors::Anchors;
 use op_ids::OpId;
 use op_model::{Change, Span, Text};
@@ -88,7 +89,8 @@ impl Doc {
         self.rev
     }
 
-    /// Whether at least `count` characters are visible. Takes no memory. Linear in the characters.
+    /// Whether at least `count` characters are visible. Takes no memory. Costs what
+    /// `Sequence::visible` does.
     pub fn shows(&self, count: usize) -> bool
         ensures { (ops : List Op) → StandsFor self.now ops
             → result ≡ nat_le count (length (visible ops self.now.number)) }
@@ -102,7 +104,7 @@ impl Doc {
         }
     }
 
-    /// Whether a change lies within the text. Takes no memory. Linear in the characters.
+    /// Whether a change lies within the text. Takes no memory. Costs what `Sequence::visible` does.
     pub fn is_inside(&self, change: &Change) -> bool
         ensures { (ops : List Op) → StandsFor self.now ops
             → result ≡ is_inside_of (length (visible ops self.now.number)) change.now }
@@ -116,7 +118,7 @@ impl Doc {
     }
 
     /// The visible character before an index, or none at the beginning and past the end. Takes no
-    /// memory. Linear in the characters.
+    /// memory. Costs what `Sequence::visible` does.
     pub(crate) fn last_before(&self, at: usize) -> Option<OpId>
         ensures { (ops : List Op) → StandsFor self.now ops
             → result ≡ id_before (visible ops self.now.number) at }
@@ -127,13 +129,32 @@ impl Doc {
         self.sequence.visible(at - 1)
     }
 
-    /// Where an insert behind `at` visible characters hangs. Takes no memory. Linear in the
-    /// characters, and for each tombstone there in the mark operations.
+    /// Where an insert behind `at` visible characters hangs. Takes no memory. Costs what
+    /// `Sequence::last_ended` does.
     pub fn origin(&self, at: usize) -> Option<OpId>
         ensures { (ops : List Op) → StandsFor self.now ops
             → result ≡ origin_of ops self.now.number at }
     {
         let before = self.last_before(at);
         self.sequence.last_ended(at, before, &self.anchors)
+    }
+
+    /// The place behind `at` visible characters, or none where there are fewer. Takes no memory.
+    /// Costs what `Sequence::visible` does.
+    pub(crate) fn gap(&self, at: usize) -> Option<Gap>
+        ensures there { (ops : List Op) → StandsFor self.now ops
+            → is_some result ≡ nat_le at (length (visible ops self.now.number)) }
+        ensures gap { IfSome result (λ gap. (gap.count ≡ at) × IsGap self.now.characters gap) }
+    {
+        self.sequence.gap(at)
+    }
+
+    /// Where an insert at such a place hangs. Costs what `Sequence::last_ended_at` does.
+    pub(crate) fn origin_at(&self, gap: &Gap) -> Option<OpId>
+        requires { IsGap self.now.characters gap.now }
+        ensures { (ops : List Op) → StandsFor self.now ops
+            → result ≡ origin_of ops self.now.number gap.now.count }
+    {
+        self.sequence.last_ended_at(gap, &self.anchors)
     }
 }

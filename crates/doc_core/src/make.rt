@@ -5,6 +5,7 @@ ghost use Rattle.op_model.specs.declared.op.Op.{Op};
 ghost use Rattle.op_model.specs.Made.{is_inside};
 ghost use Rattle.op_model.specs.Text.{visible};
 ghost use Rattle.op_ids.specs.Clock.{is_clock};
+ghost use Rattle.char_sequence.specs.Gaps.{IsGap};
 ghost use Rattle.doc_core.specs.Limits.{keep_limits as keep_limits_of};
 ghost use Rattle.doc_core.specs.Making.{AreMade, LeaveEndedMarks};
 ghost use Rattle.doc_core.specs.Standing.{StandsFor};
@@ -13,6 +14,7 @@ use crate::doc::Doc;
 use crate::made::{Made, Part};
 use crate::make_error::MakeError;
 use crate::numbering::{keep_limits, remove_bodies, run};
+use char_sequence::Gap;
 use op_ids::{Clock, OpId, ReplicaId, Token};
 use op_model::{EditText, insert_bodies, numbered};
 use std::alloc::{AllocError, Global};
@@ -27,8 +29,9 @@ impl Doc {
     ///
     /// Refuses, in this order: `Range` (5) exactly where the index is above the length of the
     /// text, `Limit` (7) exactly where there are more than 256 characters, or a counter or the
-    /// clock would pass its limit; then `Memory` (1) where a growth was refused. Linear in the
-    /// characters, tombstones counted.
+    /// clock would pass its limit; then `Memory` (1) where a growth was refused. Costs one search
+    /// of the place, as `Sequence::gap` does it, what `Sequence::last_ended_at` does, and a few
+    /// steps for each character of the text.
     pub fn make_insert(
         &self,
         alloc: Global,
@@ -50,13 +53,14 @@ impl Doc {
             ↔ ((is_inside (length (visible ops self.now.number)) (change.Insert at text.now)
             ≡ true) × (keep_limits_of replica counter clock.now (length text.now) ≡ false))) }
     {
-        if !self.shows(at as usize) {
-            return Err(MakeError::Range);
-        }
+        let gap = match self.gap(at as usize) {
+            Some(gap) => gap,
+            None => return Err(MakeError::Range),
+        };
         if !keep_limits(replica, counter, clock, text.as_slice().len()) {
             return Err(MakeError::Limit);
         }
-        Ok(self.typed(alloc, replica, token, counter, clock, at as usize, text)?)
+        Ok(self.typed(alloc, replica, token, counter, clock, &gap, text)?)
     }
 
     /// Makes the removes of `count` visible characters from an index on, in the order of the text:
@@ -65,8 +69,8 @@ impl Doc {
     ///
     /// Refuses, in this order: `Range` (5) exactly where they reach past the end of the text,
     /// `Limit` (7) exactly where they are more than 256, or a counter or the clock would pass its
-    /// limit; then `Memory` (1) where a growth was refused. Linear in the characters, tombstones
-    /// counted, for each removed one.
+    /// limit; then `Memory` (1) where a growth was refused. Costs what `Sequence::visible` and
+    /// `Sequence::visible_range` do.
     pub fn make_remove(
         &self,
         alloc: Global,
@@ -95,7 +99,7 @@ impl Doc {
         Ok(self.erased(alloc, replica, token, counter, clock, at as usize, count)?)
     }
 
-    /// The inserts of a text at an index within the visible text. An error is want of memory (1).
+    /// The inserts of a text at a place in it. An error is want of memory (1).
     fn typed(
         &self,
         alloc: Global,
@@ -103,16 +107,17 @@ impl Doc {
         token: Option<Token>,
         counter: u64,
         clock: &Clock,
-        at: usize,
+        gap: &Gap,
         text: &EditText,
     ) -> Result<Made, AllocError>
+        requires gap { IsGap self.now.characters gap.now }
         requires valid { is_clock clock.now ≡ true }
         requires limit { keep_limits_of replica counter clock.now (length text.now) ≡ true }
-        ensures { IfOk result
-            (AreMade self.now replica token counter clock.now (change.Insert at text.now)) }
+        ensures { IfOk result (AreMade self.now replica token counter clock.now
+            (change.Insert gap.now.count text.now)) }
     {
         let text = text.as_slice();
-        let origin = &self.origin(at);
+        let origin = &self.origin_at(gap);
         let bodies = insert_bodies(alloc, replica, counter, *origin, text)?;
         let ops = numbered(alloc, replica, self.doc, token, counter, clock, &bodies)?;
         let run = run(alloc, replica, counter, text)?;

@@ -1,13 +1,13 @@
 -- Which refusal names which fault.
 use Rattle.std.proofs.Common.{◌≡◌, ◌≢◌, ◌⊎◌, ℕ, false, List, refl, sym, ◌∙◌, inl, inr, Result, Ok, Err}
-use Rattle.group_commit.specs.Loading.{Names, IsReadFault, IsFirstFault, HasNone, failures_of, is_of_sync, of_roots, of_pages}
+use Rattle.group_commit.specs.Loading.{NamesLoadFault, IsReadFault, IsFirstFault, HasNone, failures_of, is_of_sync, of_roots, of_pages}
 use Rattle.page_file.specs.PageError.{failures_of as failures_of_pages}
 use Rattle.page_file.specs.declared.error.PageError.{PageError}
 use Rattle.page_file.specs.declared.error.PageError.TheVariants.{Memory as PagesMemory, BadTable as PagesBad, ReadFailed as PagesReadFailed}
 use Rattle.group_commit.specs.Image.{stored}
 use Rattle.root_slots.specs.Root.{count_of}
 use Rattle.root_slots.specs.Live.{live_root}
-use Rattle.root_slots.specs.Faults.{Names as NamesRoot, failures_of as failures_of_roots}
+use Rattle.root_slots.specs.Faults.{NamesRootFault as NamesRoot, failures_of as failures_of_roots}
 use Rattle.root_slots.specs.declared.error.RootsError.{RootsError}
 use Rattle.root_slots.specs.declared.error.RootsError.TheVariants.{Memory as RootsMemory}
 use Rattle.root_slots.specs.declared.error.RootsError.TheVariants.{NoRoot as RootsNone}
@@ -18,7 +18,7 @@ use Rattle.group_commit.specs.declared.open_fault.OpenError.{OpenError}
 use Rattle.group_commit.specs.declared.open_fault.OpenError.TheVariants.{Memory, NoRoot, BadRoot, BadTable, BadStream, ReadFailed, SyncFailed}
 
 -- what the search behind another one meets first
-pub names_on : {A B : Type 0} (e : OpenError) (r : Result A ℕ) (s : Result B ℕ) → ((n : ℕ) → r ≡ Err n → s ≡ Err n) → Names e r → Names e s
+pub names_on : {A B : Type 0} (e : OpenError) (r : Result A ℕ) (s : Result B ℕ) → ((n : ℕ) → r ≡ Err n → s ≡ Err n) → NamesLoadFault e r → NamesLoadFault e s
 names_on Memory r s on named = tt
 names_on NoRoot r s on named = on 42 named
 names_on BadRoot r s on named = on 43 named
@@ -28,12 +28,12 @@ names_on ReadFailed r s on named = tt
 names_on SyncFailed r s on named = absurd named
 
 -- want of memory and the device say nothing of the file
-pub names_nothing : {A : Type 0} (e : OpenError) (r : Result A ℕ) → (e ≡ Memory) ⊎ (e ≡ ReadFailed) → Names e r
+pub names_nothing : {A : Type 0} (e : OpenError) (r : Result A ℕ) → (e ≡ Memory) ⊎ (e ≡ ReadFailed) → NamesLoadFault e r
 names_nothing e r (inl is) = rw is tt
 names_nothing e r (inr is) = rw is tt
 
 -- a refusal of the root slots names the file's first fault, and meets as many failures
-pub names_stored : (e : RootsError) (file : List ℕ) → NamesRoot e (live_root file) → Names (of_roots e) (stored file)
+pub names_stored : (e : RootsError) (file : List ℕ) → NamesRoot e (live_root file) → NamesLoadFault (of_roots e) (stored file)
 names_stored RootsMemory file named = tt
 names_stored RootsNone file named = no_root_stored file 42 named
 names_stored RootsBad file named = no_root_stored file 43 named
@@ -62,7 +62,7 @@ fault_of_ops file body bytes e (inr is) holds none =
 
 -- a refusal of the pages names the file's fault, and meets as many failures
 pub names_pages : {A : Type 0} (e : PageError) (r : Result A ℕ) → (e ≡ PagesMemory) ⊎ ((e ≡ PagesBad) ⊎ (e ≡ PagesReadFailed)) → (e ≡ PagesBad → r ≡ Err 45)
-    → Names (of_pages e) r
+    → NamesLoadFault (of_pages e) r
 names_pages e r (inl is) bad = rw is tt
 names_pages e r (inr (inl is)) bad = rw is (bad is)
 names_pages e r (inr (inr is)) bad = rw is tt

@@ -17,8 +17,8 @@ use Rattle.root_slots.proofs.SpellingLemmas.{all_words}
 use Rattle.group_commit.specs.Saved.{Saved, HasDataPages}
 use Rattle.group_commit.specs.Changes.{cut, changed, parts, data_of, changed_data, changed_tables}
 use Rattle.group_commit.specs.Standing.{Makes}
-use Rattle.group_commit.specs.Plan.{IsNext, KeepsPages, kept_of}
-use Rattle.group_commit.specs.Planning.{Plans, filled}
+use Rattle.group_commit.specs.Plan.{IsNextRoot, KeepsPages, kept_of}
+use Rattle.group_commit.specs.Planning.{Plans, padded}
 use Rattle.group_commit.specs.declared.phase.Phase.TheVariants.{Pages}
 use Rattle.group_commit.proofs.CutLemmas.{cut_changed}
 use Rattle.group_commit.proofs.KeptLemmas.{kept_is, more_pages, data_front, data_stays, tables_stay, pages_hold}
@@ -34,7 +34,7 @@ data_is root data_pages has_data =
 -- the next root: its stream goes on, the first pages stay and the others are these
 pub record Follows (current next : Saved) (records : List ℕ) (more kept : ℕ) (olds new_data new_tables : List ℕ) : Type 0 where
   pub had : HasDataPages current olds
-  pub is_next : IsNext current records more next
+  pub is_next : IsNextRoot current records more next
   pub has_data : HasDataPages next (take kept olds ++ new_data)
   pub tables : tables_of next.body ≡ take (kept / 1024) (tables_of current.body) ++ new_tables
   pub kept_so : kept ≡ kept_of (length current.stream) records
@@ -137,10 +137,10 @@ module _ (current next : Saved) (records : List ℕ) (more kept : ℕ) (olds new
 
   -- the bytes of the new pages
   abbrev data_bytes : List ℕ
-  data_bytes = filled (4096 * length new_data) (drop (4096 * kept) next.stream)
+  data_bytes = padded (4096 * length new_data) (drop (4096 * kept) next.stream)
 
   abbrev table_bytes : List ℕ
-  table_bytes = filled (4096 * length new_tables) (number_bytes (drop (1024 * (kept / 1024)) (take kept olds ++ new_data)))
+  table_bytes = padded (4096 * length new_tables) (number_bytes (drop (1024 * (kept / 1024)) (take kept olds ++ new_data)))
 
   data_room : length (drop (4096 * kept) next.stream) ≤ 4096 * length new_data
   data_room = omega (arith, length-drop (4096 * kept) next.stream, all_count, pages_hold (length next.stream))
@@ -154,7 +154,7 @@ module _ (current next : Saved) (records : List ℕ) (more kept : ℕ) (olds new
   table_room : length (number_bytes (drop (1024 * (kept / 1024)) (take kept olds ++ new_data))) ≤ 4096 * length new_tables
   table_room = omega (arith, named_more, length-number_bytes (drop (1024 * (kept / 1024)) (take kept olds ++ new_data)))
 
-  length-filled : (size : ℕ) (bytes : List ℕ) → length bytes ≤ size → length (filled size bytes) ≡ size
+  length-filled : (size : ℕ) (bytes : List ℕ) → length bytes ≤ size → length (padded size bytes) ≡ size
   length-filled size bytes fits = omega (arith, length-append bytes (replicate (size - length bytes) 0), length-replicate {A = ℕ} (size - length bytes) 0, fits)
 
   renews : (y z : ℕ) → 4096 * pages_for 4096 (length current.stream) ≤ length current.stream + z → ((i : ℕ) → get_or (take kept olds ++ new_data) i 0 < 2 ^ 32)
@@ -213,8 +213,8 @@ module _ (current next : Saved) (records : List ℕ) (more kept : ℕ) (olds new
 
   pub plan_of : AreLowest current.pages (new_data ++ new_tables) → ((i : ℕ) → get_or (take kept olds ++ new_data) i 0 < 2 ^ 32)
       → Plans current records more next (new_data ++ new_tables)
-      (filled (4096 * length new_data) (drop (4096 * kept) next.stream)
-      ++ filled (4096 * length new_tables) (number_bytes (drop (1024 * (kept / 1024)) (take kept olds ++ new_data))))
+      (padded (4096 * length new_data) (drop (4096 * kept) next.stream)
+      ++ padded (4096 * length new_tables) (number_bytes (drop (1024 * (kept / 1024)) (take kept olds ++ new_data))))
   plan_of lowest small = record {
     follows = f.is_next;
     plan = record {

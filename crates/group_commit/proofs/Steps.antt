@@ -9,7 +9,7 @@ use Rattle.root_slots.specs.Root.{version_of}
 use Rattle.root_slots.specs.Slots.{gate, body, live}
 use Rattle.group_commit.specs.Image.{in_slot, root_and_stream, stream, tables_in, data_pages_in}
 use Rattle.group_commit.specs.Saved.{Saved}
-use Rattle.group_commit.specs.Commit.{Is, IsLeft}
+use Rattle.group_commit.specs.Commit.{IsRootOf, IsLeft}
 use Rattle.group_commit.specs.Standing.{HasPages, IsOlder, Stands, ReadAs, Reads, Makes}
 use Rattle.group_commit.specs.declared.phase.Phase.{Phase}
 use Rattle.group_commit.specs.declared.phase.Phase.TheVariants.{Idle, Pages, Close, Sync1, Body, Sync2, Gate, Sync3}
@@ -161,7 +161,7 @@ stands_sync3 slot stale_open current next other file below newer is s =
     }
 
 -- the image of a file whose live slot is this
-stored_in : (file : List ℕ) (slot : ℕ) (root : Saved) → live file ≡ Ok slot → body slot file ≡ root.body → HasPages root file → Is root file
+stored_in : (file : List ℕ) (slot : ℕ) (root : Saved) → live file ≡ Ok slot → body slot file ≡ root.body → HasPages root file → IsRootOf root file
 stored_in file slot root is holds has_pages =
     record {
       holds =
@@ -171,7 +171,7 @@ stored_in file slot root is holds has_pages =
 
 -- with the stale slot older or closed, the image is the committed root
 is_by_older : (phase : Phase) (slot : ℕ) (stale_open : Bool) (current next : Saved) (file : List ℕ) → slot < 2 → IsOlder slot current file
-    → Stands phase slot stale_open current next file → Is current file
+    → Stands phase slot stale_open current next file → IsRootOf current file
 is_by_older phase slot stale_open current next file below older s = elim (cases_eq (gate (1 - slot) file) 1) [
   | inl is ↦ stored_in file slot current (live_greater file slot below s.whole s.is_open is (rw (s.holds) (older is))) s.holds s.keeps
   | inr shut ↦ stored_in file slot current (live_alone file slot below s.whole s.is_open shut) s.holds s.keeps
@@ -185,7 +185,7 @@ live_by_older slot stale_open current next file below s = elim (cases_eq (gate (
 ]
 
 is_by_shut : (phase : Phase) (slot : ℕ) (stale_open : Bool) (current next : Saved) (file : List ℕ) → slot < 2 → gate (1 - slot) file ≢ 1
-    → Stands phase slot stale_open current next file → Is current file
+    → Stands phase slot stale_open current next file → IsRootOf current file
 is_by_shut phase slot stale_open current next file below shut s =
     stored_in file slot current (live_alone file slot below s.whole s.is_open shut) s.holds s.keeps
 
@@ -209,7 +209,7 @@ is_left Sync3 slot stale_open current next file below newer s = elim (cases_eq (
 ]
 
 -- between two commits, too
-pub is_idle : (slot : ℕ) (stale_open : Bool) (current next : Saved) (file : List ℕ) → slot < 2 → Stands Idle slot stale_open current next file → Is current file
+pub is_idle : (slot : ℕ) (stale_open : Bool) (current next : Saved) (file : List ℕ) → slot < 2 → Stands Idle slot stale_open current next file → IsRootOf current file
 is_idle slot stale_open current next file below s = is_by_older Idle slot stale_open current next file below s.stale_slot.0 s
 
 -- the next page reads as it was written, and those before it

@@ -9,7 +9,7 @@ use Rattle.disk_trait.specs.Writing.{Writes, failures_in}
 use Rattle.disk_trait.specs.declared.facts.DiskFacts.{Ghosts}
 use Rattle.root_slots.specs.Body.{root_of}
 use Rattle.root_slots.specs.Slots.{gate}
-use Rattle.group_commit.specs.NewFile.{slot_page, first_root, failures_of, is_unwritten, Raises, IsUntouched, IsUpTo, HasSlots, Stops, Refuses}
+use Rattle.group_commit.specs.NewFile.{slot_page, first_root, failures_of, is_unwritten, Raises, IsUntouched, IsUpTo, HasSlots, Stops, RefusesInit}
 use Rattle.group_commit.specs.NewFile.{PutsPartly, OpensPartly}
 use Rattle.group_commit.specs.declared.init_fault.InitError.{InitError}
 use Rattle.group_commit.specs.declared.init_fault.InitError.TheVariants.{Memory, NotEmpty, ReadFailed, WriteFailed, SyncFailed}
@@ -74,7 +74,7 @@ module _ {D : Type 0} (facts : Ghosts D) where
     slots = λ is. absurd (omega (arith, is));
   }
 
-  pub refuses_memory : (replica : ℕ) (disk : D) → IsLawful facts disk → facts.content disk ≡ [] → Refuses facts replica Memory disk disk
+  pub refuses_memory : (replica : ℕ) (disk : D) → IsLawful facts disk → facts.content disk ≡ [] → RefusesInit facts replica Memory disk disk
   refuses_memory replica disk lawful empty = record {
     not_empty = λ is. absurd cc;
     occupied = λ some. absurd (some empty);
@@ -85,7 +85,7 @@ module _ {D : Type 0} (facts : Ghosts D) where
   -- the file has bytes, or its size wasn't told
   pub refuses_at_once : (replica : ℕ) (cause : InitError) (old new : D) → (cause ≡ NotEmpty) ⊎ (cause ≡ ReadFailed)
       → (cause ≡ NotEmpty → facts.content old ≢ []) → Raises facts (failures_of cause) 0 0 old new → IsUntouched facts old new
-      → Refuses facts replica cause old new
+      → RefusesInit facts replica cause old new
   refuses_at_once replica cause old new is some counts kept = record {
     not_empty = some;
     occupied = λ other. is;
@@ -99,7 +99,7 @@ module _ {D : Type 0} (facts : Ghosts D) where
 
   -- the file was looked at before
   pub refuses_then : (replica : ℕ) (cause : InitError) (old mid new : D) → facts.content old ≡ [] → Raises facts 0 0 0 old mid → IsUntouched facts old mid
-      → Refuses facts replica cause mid new → Refuses facts replica cause old new
+      → RefusesInit facts replica cause mid new → RefusesInit facts replica cause old new
   refuses_then replica cause old mid new empty looked keeps refused = record {
     not_empty = λ is. absurd (refused.not_empty is (keeps.keeps.same ∙ empty));
     occupied = λ some. absurd (some empty);
@@ -137,7 +137,7 @@ module _ {D : Type 0} (facts : Ghosts D) where
 
   -- of a file without bytes, a refusal that the device gave in a write or a sync
   refuses_failed : (replica : ℕ) (cause : InitError) (old new : D) → facts.content old ≡ [] → (cause ≡ WriteFailed) ⊎ (cause ≡ SyncFailed)
-      → Stops facts replica cause old new → Refuses facts replica cause old new
+      → Stops facts replica cause old new → RefusesInit facts replica cause old new
   refuses_failed replica cause old new empty (inl is) stops = record {
     not_empty = λ other. absurd (unlike (sym is ∙ other));
     occupied = λ some. absurd (some empty);
@@ -188,14 +188,14 @@ module _ {D : Type 0} (facts : Ghosts D) where
 
   -- the write of a slot failed
   pub refuses_slots : (replica : ℕ) (body first : List ℕ) (cause : InitError) (old new : D) → facts.content old ≡ [] → first ≡ slot_page 0 body
-      → cause ≡ WriteFailed → PutsPartly facts first old new → Refuses facts replica cause old new
+      → cause ≡ WriteFailed → PutsPartly facts first old new → RefusesInit facts replica cause old new
   refuses_slots replica body first cause old new empty is_first is partly =
       rw is (refuses_failed replica WriteFailed old new empty (inl refl) (stops_in_slots replica body first old new is_first partly))
 
   -- a sync or the write of the gate failed
   pub refuses_opening : (replica : ℕ) (body first : List ℕ) (cause : InitError) (old mid new : D) → facts.content old ≡ []
       → root_of body ≡ first_root replica → first ≡ slot_page 0 body → facts.content mid ≡ first ++ replicate 4096 0 → Raises facts 0 2 0 old mid
-      → OpensPartly facts cause mid new → Refuses facts replica cause old new
+      → OpensPartly facts cause mid new → RefusesInit facts replica cause old new
   refuses_opening replica body first cause old mid new empty root is_first slots before partly = by_call partly
     where
       file : facts.content mid ≡ slot_page 0 body ++ replicate 4096 0
@@ -204,7 +204,7 @@ module _ {D : Type 0} (facts : Ghosts D) where
       has_slots : (c : List ℕ) → drop 1 c ≡ drop 1 (facts.content mid) → HasSlots replica c
       has_slots c same = record { body = body; root = root; rest = same ∙ ap (drop 1) file }
 
-      by_call : OpensPartly facts cause mid new → Refuses facts replica cause old new
+      by_call : OpensPartly facts cause mid new → RefusesInit facts replica cause old new
       by_call (inl first_sync) = rw first_sync.0 (refuses_failed replica SyncFailed old new empty (inr refl) (record {
         writes = 2;
         syncs = 1;

@@ -15,7 +15,7 @@ use Rattle.group_commit.specs.Changes.{changed_pages}
 use Rattle.group_commit.specs.Saved.{Saved}
 use Rattle.group_commit.specs.Commit.{IsLeft}
 use Rattle.group_commit.specs.Held.{StoreHeld}
-use Rattle.group_commit.specs.Plan.{IsNext, KeepsPages}
+use Rattle.group_commit.specs.Plan.{IsNextRoot, KeepsPages}
 use Rattle.group_commit.specs.declared.error.StoreError.{StoreError}
 use Rattle.group_commit.specs.declared.error.StoreError.TheVariants.{Memory, Limit, Busy, Failed}
 use Rattle.group_commit.specs.declared.phase.Phase.{Phase}
@@ -72,7 +72,7 @@ pub record Begins {D : Type 0} (facts : Ghosts D) (old : StoreHeld D) (ops : Lis
   -- behind the slots, none of them twice, none of them live, and each the lowest that is free
   pub free : are_pages (new.numbers ++ old.current.pages) ≡ true
   pub lowest : AreLowest old.current.pages new.numbers
-  pub follows : IsNext old.current (spelled_all ops) (length ops) new.next
+  pub follows : IsNextRoot old.current (spelled_all ops) (length ops) new.next
   pub fits : AreOperations ops
   -- it reaches these and the live root's that stay
   pub pages : KeepsPages old.current (spelled_all ops) new.next

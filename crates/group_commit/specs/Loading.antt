@@ -87,18 +87,18 @@ pub record HasNoHistory (file : List ℕ) : Type 0 where
   pub none : HasNone bytes (count_of body)
 
 -- this refusal of a read names the first fault of what was sought in a file; one of memory or of the device says nothing of it
-abbrev pub Names : {T : Type 0} → OpenError → Result T ℕ → Type 0
-Names Memory found = ⊤
-Names NoRoot found = found ≡ Err NO_ROOT
-Names BadRoot found = found ≡ Err BAD_ROOT
-Names BadTable found = found ≡ Err BAD_TABLE
-Names BadStream found = found ≡ Err BAD_STREAM
-Names ReadFailed found = ⊤
-Names SyncFailed found = ⊥
+abbrev pub NamesLoadFault : {T : Type 0} → OpenError → Result T ℕ → Type 0
+NamesLoadFault Memory found = ⊤
+NamesLoadFault NoRoot found = found ≡ Err NO_ROOT
+NamesLoadFault BadRoot found = found ≡ Err BAD_ROOT
+NamesLoadFault BadTable found = found ≡ Err BAD_TABLE
+NamesLoadFault BadStream found = found ≡ Err BAD_STREAM
+NamesLoadFault ReadFailed found = ⊤
+NamesLoadFault SyncFailed found = ⊥
 
 -- this refusal of a read names the first fault of the file
 abbrev pub IsReadFault : OpenError → List ℕ → Type 0
-IsReadFault error file = Names error (stored file) ⊎ ((error ≡ BadStream) × HasNoHistory file)
+IsReadFault error file = NamesLoadFault error (stored file) ⊎ ((error ≡ BadStream) × HasNoHistory file)
 
 -- this refusal names the first fault of the file; one of the sync says nothing of it
 abbrev pub IsFirstFault : OpenError → List ℕ → Type 0

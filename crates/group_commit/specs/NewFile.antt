@@ -126,7 +126,7 @@ pub record Stops {D : Type 0} (facts : Ghosts D) (replica : ℕ) (cause : InitEr
   pub slots : writes ≡ 3 → (c : List ℕ) → facts.survives new c → HasSlots replica c
 
 -- why a file wasn't made, and what that leaves
-pub record Refuses {D : Type 0} (facts : Ghosts D) (replica : ℕ) (cause : InitError) (old new : D) : Type 0 where
+pub record RefusesInit {D : Type 0} (facts : Ghosts D) (replica : ℕ) (cause : InitError) (old new : D) : Type 0 where
   -- 48 is of a file that has bytes; and where it has some, it is 48, or 50 where the device failed
   pub not_empty : cause ≡ NotEmpty → facts.content old ≢ []
   pub occupied : facts.content old ≢ [] → (cause ≡ NotEmpty) ⊎ (cause ≡ ReadFailed)

@@ -7,7 +7,7 @@ use Rattle.page_file.specs.Index.{Index}
 use Rattle.root_slots.specs.Body.{Root}
 use Rattle.root_slots.specs.Root.{replica_of, stream_length_of}
 use Rattle.root_slots.specs.Slots.{live}
-use Rattle.group_commit.specs.Commit.{Is, IsLeft}
+use Rattle.group_commit.specs.Commit.{IsRootOf, IsLeft}
 use Rattle.group_commit.specs.Standing.{Stands}
 use Rattle.group_commit.specs.Held.{StoreHeld}
 use Rattle.group_commit.specs.Loading.{IsHistory, reached_of, stream_at}
@@ -20,7 +20,7 @@ use Rattle.group_commit.specs.declared.phase.Phase.TheVariants.{Idle}
 -- What an opened file is: its store between two commits, the replica that it belongs to, and its operations.
 pub record IsLoaded {D : Type 0} (facts : Ghosts D) (disk : D) (store : StoreHeld D) (replica : ℕ) (ops : List Op) : Type 0 where
   -- the store's root is the live one of the file
-  pub root : facts.tells disk → Is store.current (facts.content disk)
+  pub root : facts.tells disk → IsRootOf store.current (facts.content disk)
   -- and stands in its live slot
   pub slot : facts.tells disk → live (facts.content disk) ≡ Ok store.slot
   -- its stream is the records of the operations

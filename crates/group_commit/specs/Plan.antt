@@ -7,7 +7,7 @@ use Rattle.group_commit.specs.Changes.{data_of, changed_data, changed_tables}
 use Rattle.group_commit.specs.Saved.{Saved, HasDataPages}
 
 -- the root behind this one: its stream has more records at its end, and as many more operations
-pub record IsNext (current : Saved) (records : List ℕ) (more : ℕ) (next : Saved) : Type 0 where
+pub record IsNextRoot (current : Saved) (records : List ℕ) (more : ℕ) (next : Saved) : Type 0 where
   pub stream : next.stream ≡ current.stream ++ records
   pub version : version_of next.body ≡ version_of current.body + 1
   pub replica : replica_of next.body ≡ replica_of current.body

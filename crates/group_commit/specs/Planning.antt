@@ -7,14 +7,14 @@ use Rattle.page_file.specs.Pages.{is_zero, are_pages}
 use Rattle.root_slots.specs.Root.{version_of, replica_of, count_of, stream_length_of, tables_of, pages_for}
 use Rattle.group_commit.specs.Changes.{changed_pages}
 use Rattle.group_commit.specs.Paging.{IsIndexOf}
-use Rattle.group_commit.specs.Plan.{IsNext, KeepsPages}
+use Rattle.group_commit.specs.Plan.{IsNextRoot, KeepsPages}
 use Rattle.group_commit.specs.Saved.{Saved, Paged, HasDataPages}
 use Rattle.group_commit.specs.Standing.{IsPlan}
 use Rattle.group_commit.specs.declared.phase.Phase.TheVariants.{Pages}
 
 -- a plan for these records, with 4,096 bytes for each new page: those that change or are new
 pub record Plans (current : Saved) (records : List ℕ) (more : ℕ) (next : Saved) (numbers fresh : List ℕ) : Type 0 where
-  pub follows : IsNext current records more next
+  pub follows : IsNextRoot current records more next
   pub plan : IsPlan (Pages 0) current next numbers fresh
   pub room : length fresh ≡ PAGE_SIZE * length numbers
   pub changes : numbers ≡ changed_pages current next
@@ -29,8 +29,8 @@ pub record IsGrown (body : List ℕ) (more : ℕ) (data_pages tables : List ℕ)
   pub count : count_of next.body ≡ count_of body + more
 
 -- with zeros behind, up to a size
-abbrev pub filled : ℕ → List ℕ → List ℕ
-filled size bytes = bytes ++ replicate (size - length bytes) 0
+abbrev pub padded : ℕ → List ℕ → List ℕ
+padded size bytes = bytes ++ replicate (size - length bytes) 0
 
 -- Records of more operations may come behind the live root's stream: its pages are in memory and none is taken for a commit, and
 -- there is a further version, and room.

@@ -7,7 +7,7 @@ ghost use Rattle.page_file.specs.DiskCalls.{IsWrite};
 ghost use Rattle.disk_trait.specs.Calls.{IsOneCall, Keeps, Settles};
 ghost use Rattle.disk_trait.specs.File.{overwritten};
 ghost use Rattle.root_slots.specs.Body.{root_of};
-ghost use Rattle.group_commit.specs.NewFile.{slot_page, new_file, first_root, Raises, Refuses, IsUntouched};
+ghost use Rattle.group_commit.specs.NewFile.{slot_page, new_file, first_root, Raises, RefusesInit, IsUntouched};
 ghost use Rattle.group_commit.specs.NewFile.{IsMade, AreFirst, IsNew, PutsPartly, OpensPartly};
 ghost use Rattle.group_commit.specs.declared.init_fault.InitError.TheVariants.{WriteFailed};
 ghost use Rattle.group_commit.specs.declared.init_fault.InitError.TheVariants.{SyncFailed};
@@ -42,7 +42,7 @@ fn check_empty<D: Disk>(disk: &mut D) -> Result<(), InitError>
     ensures taken { D.tells disk.old → OnOk result (D.content disk.old ≡ []) }
     ensures empty { D.tells disk.old → OnOk result (D.content disk.new ≡ []) }
     ensures refused { D.tells disk.old → IfErr result
-        (λ e. (replica : ℕ) → Refuses D.DiskFacts replica e disk.old disk.new) }
+        (λ e. (replica : ℕ) → RefusesInit D.DiskFacts replica e disk.old disk.new) }
     ensures counts { D.tells disk.old → OnOk result (Raises D.DiskFacts 0 0 0 disk.old disk.new) }
     ensures keeps { D.tells disk.old → IsUntouched D.DiskFacts disk.old disk.new }
     ensures tells { D.tells disk.new ↔ D.tells disk.old }
@@ -123,7 +123,7 @@ fn make_file<D: Disk>(alloc: Global, disk: &mut D, body: &[u8]) -> Result<(), In
         ((c : List ℕ) → D.survives disk.new c → c ≡ D.content disk.new) }
     ensures refused { D.tells disk.old → IfErr result
         (λ e. (replica : ℕ) → root_of body.now ≡ first_root replica
-        → Refuses D.DiskFacts replica e disk.old disk.new) }
+        → RefusesInit D.DiskFacts replica e disk.old disk.new) }
     ensures tells { D.tells disk.new ↔ D.tells disk.old }
 {
     let first = closed_slot(alloc, body)?;
@@ -155,7 +155,7 @@ fn format<D: Disk>(
     ensures left { D.tells disk.old → IfOk result
         (λ roots. (c : List ℕ) → D.survives disk.new c → c ≡ new_file roots.0.body) }
     ensures refused { D.tells disk.old → IfErr result
-        (λ e. Refuses D.DiskFacts replica e disk.old disk.new) }
+        (λ e. RefusesInit D.DiskFacts replica e disk.old disk.new) }
     ensures tells { D.tells disk.new ↔ D.tells disk.old }
 {
     let roots = empty_roots(alloc, replica)?;
@@ -174,7 +174,7 @@ fn begin_file<D: Disk>(
     ensures roots { IfOk result (λ roots. AreFirst replica roots.0 roots.1 roots.2) }
     ensures taken { D.tells disk.old → OnOk result (D.content disk.old ≡ []) }
     ensures refused { D.tells disk.old → IfErr result
-        (λ e. Refuses D.DiskFacts replica e disk.old disk.new) }
+        (λ e. RefusesInit D.DiskFacts replica e disk.old disk.new) }
     ensures made { D.tells disk.old → IfOk result
         (λ roots. IsMade D.DiskFacts (new_file roots.0.body) 3 2 disk.old disk.new) }
     ensures left { D.tells disk.old → IfOk result
@@ -198,7 +198,7 @@ impl<D: Disk> Store<D> {
         // It is made of a file without bytes alone; one that has some is left as it was.
         ensures made { IfOk result (λ store. IsNew D.DiskFacts replica disk store) }
         ensures refused { D.tells disk → IfErr result
-            (λ fault. Refuses D.DiskFacts replica fault.cause disk fault.disk) }
+            (λ fault. RefusesInit D.DiskFacts replica fault.cause disk fault.disk) }
         ensures tells_refused { IfErr result (λ fault. D.tells fault.disk ↔ D.tells disk) }
     {
         let mut disk = disk;

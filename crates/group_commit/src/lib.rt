@@ -27,16 +27,3 @@ pub use load::Loaded;
 pub use open_fault::{OpenError, OpenFault};
 pub use phase::Phase;
 pub use store::Store;
-
-#[cfg(test)]
-mod load_tests;
-#[cfg(test)]
-mod mute_tests;
-#[cfg(test)]
-mod page_tests;
-#[cfg(test)]
-mod test_files;
-#[cfg(test)]
-mod test_store;
-#[cfg(test)]
-mod tests;

@@ -5,7 +5,7 @@ ghost use Rattle.root_slots.specs.Root.{stream_length_of};
 ghost use Rattle.root_slots.specs.Body.{IsRoot, Spells, root_of};
 ghost use Rattle.group_commit.specs.Saved.{IsInMemory};
 ghost use Rattle.group_commit.specs.Image.{stored};
-ghost use Rattle.group_commit.specs.Loading.{Names, failed_in, failures_of, is_of_sync};
+ghost use Rattle.group_commit.specs.Loading.{NamesLoadFault, failed_in, failures_of, is_of_sync};
 ghost use Rattle.group_commit.specs.Loading.{IsReadFault, IsFirstFault};
 ghost use Rattle.group_commit.specs.Opening.{IsLookedAt, IsImageOf, HandsBack};
 
@@ -44,7 +44,8 @@ fn load_roots<D: Disk>(alloc: Global, disk: &mut D) -> Result<LoadedRoots, OpenE
         (λ it. IsLive (D.content disk.old) it.roots.slot it.roots.stale_open it.root) }
     ensures below { IfOk result (λ it. it.roots.slot < 2) }
     ensures valid { IfOk result (λ it. IsRoot it.root) }
-    ensures fault { D.tells disk.old → IfErr result (λ e. Names e (stored (D.content disk.old))) }
+    ensures fault { D.tells disk.old
+        → IfErr result (λ e. NamesLoadFault e (stored (D.content disk.old))) }
     ensures looks { IsLookedAt D.DiskFacts (failed_in result) 0 disk.old disk.new }
 {
     match Roots::load(alloc, disk) {

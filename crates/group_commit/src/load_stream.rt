@@ -3,7 +3,7 @@ ghost use Rattle.std.specs.Prelude.{◌≡◌, ◌+◌, ◌*◌, ◌≤◌, ◌+
 ghost use Rattle.fixed_numbers.specs.declared.sizes.TheConstants.{PAGE_SIZE};
 ghost use Rattle.page_file.specs.Pages.{pages};
 ghost use Rattle.root_slots.specs.Body.{IsRoot};
-ghost use Rattle.group_commit.specs.Loading.{Names, failed_in, reached_of, stream_of, stream_at};
+ghost use Rattle.group_commit.specs.Loading.{NamesLoadFault, failed_in, reached_of, stream_of, stream_at};
 ghost use Rattle.group_commit.specs.Opening.{IsLookedAt, IsIndexed, IsStreamOf};
 
 use crate::load_pages::{are_within, data_pages};
@@ -35,7 +35,7 @@ fn read_tables<D: Disk>(
         ≡ Ok (head.now.tables ++ it.data_pages)) }
     ensures index { IfOk result (λ it. IsIndexed head.now it) }
     ensures fault { D.tells disk.old
-        → IfErr result (λ e. Names e (reached_of head.now (D.content disk.old))) }
+        → IfErr result (λ e. NamesLoadFault e (reached_of head.now (D.content disk.old))) }
     ensures looks { IsLookedAt D.DiskFacts (failed_in result) 0 disk.old disk.new }
 {
     let tables = head.tables();
@@ -65,7 +65,7 @@ fn read_data<D: Disk>(
         ≡ Ok bytes.items) }
     ensures long { IfOk result (λ bytes. length bytes.items ≡ stream_length) }
     ensures fault { D.tells disk.old → IfErr result
-        (λ e. Names e (stream_of stream_length (pages numbers.now (D.content disk.old)))) }
+        (λ e. NamesLoadFault e (stream_of stream_length (pages numbers.now (D.content disk.old)))) }
     ensures looks { IsLookedAt D.DiskFacts (failed_in result) 0 disk.old disk.new }
 {
     if !are_within(numbers, size) {
@@ -93,7 +93,7 @@ pub(crate) fn read_stream<D: Disk>(
     requires valid { IsRoot head.now }
     ensures read { IfOk result (λ it. IsStreamOf D.DiskFacts head.now disk.old it) }
     ensures fault { D.tells disk.old
-        → IfErr result (λ e. Names e (stream_at head.now (D.content disk.old))) }
+        → IfErr result (λ e. NamesLoadFault e (stream_at head.now (D.content disk.old))) }
     ensures looks { IsLookedAt D.DiskFacts (failed_in result) 0 disk.old disk.new }
 {
     let pages = read_tables(alloc, disk, size, head)?;

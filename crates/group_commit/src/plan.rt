@@ -10,7 +10,7 @@ ghost use Rattle.group_commit.specs.Paging.{IsIndexOf, IsRenewed};
 ghost use Rattle.group_commit.specs.Saved.{HasDataPages, with_stream};
 ghost use Rattle.group_commit.specs.Planning.{Plans, IsGrown, TakesRecords, HasPagesFor};
 ghost use Rattle.group_commit.specs.Plan.{kept_of};
-ghost use Rattle.group_commit.specs.Planning.{filled};
+ghost use Rattle.group_commit.specs.Planning.{padded};
 
 use crate::load_pages::data_pages;
 use crate::root::Root;
@@ -202,8 +202,8 @@ fn new_pages(
     requires data_room { length old_bytes.now + length new_bytes.now ≤ PAGE_SIZE * data_count }
     requires table_room { length numbers.now ≤ TABLE_ENTRIES * table_count }
     ensures { IfOk result (λ fresh. fresh.items
-        ≡ filled (PAGE_SIZE * data_count) (old_bytes.now ++ new_bytes.now)
-        ++ filled (PAGE_SIZE * table_count) (number_bytes numbers.now)) }
+        ≡ padded (PAGE_SIZE * data_count) (old_bytes.now ++ new_bytes.now)
+        ++ padded (PAGE_SIZE * table_count) (number_bytes numbers.now)) }
 {
     let mut fresh = Vec::new(alloc);
     fresh.extend_from_slice(old_bytes)?;

@@ -16,7 +16,7 @@ use Rattle.group_commit.specs.declared.error.StoreError.{StoreError}
 use Rattle.group_commit.specs.declared.error.StoreError.TheVariants.{Memory, Limit}
 use Rattle.hub_parts.specs.Flusher.{FlusherHeld}
 use Rattle.hub_parts.specs.Locked.{has_commit, IsLocked, LockedHeld}
-use Rattle.hub_parts.specs.Meet.{Meet, side_of}
+use Rattle.hub_parts.specs.Meet.{FitTogether, side_of}
 use Rattle.hub_parts.specs.Meeting.{pending, due_without, IsMet}
 use Rattle.hub_parts.specs.declared.met.Met.TheVariants.{Begun}
 
@@ -108,8 +108,8 @@ met_limit l f test = inl (rw (test.some, test.room) refl)
 -- two parts that fit, behind a begin
 pub meet_begun : {D : Type 0} (facts : Ghosts D) (l : LockedHeld) (s new : StoreHeld D) (list more : List Op) (due due' : Bool) → IsLocked l → has_commit l ≡ false → due ≡ false
     → is_none (pending l) ≡ false → Begins facts s (pending l) new → more ≡ list ++ pending l → due' ≡ true
-    → Meet l (side_of (record { store = s; list = list; due = due }))
-    → Meet (record l { begun = length l.replica.list }) (side_of (record { store = new; list = more; due = due' }))
+    → FitTogether l (side_of (record { store = s; list = list; due = due }))
+    → FitTogether (record l { begun = length l.replica.list }) (side_of (record { store = new; list = more; due = due' }))
 meet_begun facts l s new list more due due' locked none rests some begun is begins meet =
     let settled = locked.keeps.settled in
     let long = some_long (pending l) some in

@@ -7,7 +7,7 @@ use Rattle.root_slots.specs.Root.{count_of}
 use Rattle.group_commit.specs.Held.{StoreHeld}
 use Rattle.hub_parts.specs.Flusher.{IsFlusher, IsUnderWay}
 use Rattle.hub_parts.specs.Locked.{IsLocked, LockedHeld}
-use Rattle.hub_parts.specs.Meet.{Meet, side_of}
+use Rattle.hub_parts.specs.Meet.{FitTogether, side_of}
 use Rattle.hub_parts.proofs.FlusherSteps.{GoesThrough, Outcome}
 
 -- the flusher's list has as many operations as were taken
@@ -17,7 +17,7 @@ front_length l list within front = ap length front ∙ length-take-le l.begun l.
 -- two parts that fit, where the commit is through
 meet_through : {D : Type 0} (facts : Ghosts D) (s new : StoreHeld D) (list : List Op) (due : Bool) (l : LockedHeld)
     → IsFlusher facts (record { store = s; list = list; due = due }) → GoesThrough facts s new → IsLocked l
-    → Meet l (side_of (record { store = s; list = list; due = due })) → Meet l (side_of (record { store = new; list = list; due = due }))
+    → FitTogether l (side_of (record { store = s; list = list; due = due })) → FitTogether l (side_of (record { store = new; list = list; due = due }))
 meet_through facts s new list due l kept through locked meet =
     let way : IsUnderWay (record { store = s; list = list; due = due }) = rw through.was_busy at kept.commit in
     let all : count_of s.next.body ≡ length list = way.all in
@@ -34,7 +34,7 @@ meet_through facts s new list due l kept through locked meet =
 -- a step keeps that two parts fit
 pub meet_stepped : {D : Type 0} (facts : Ghosts D) (s new : StoreHeld D) (list : List Op) (due : Bool)
     → IsFlusher facts (record { store = s; list = list; due = due }) → Outcome facts s new → (l : LockedHeld) → IsLocked l
-    → Meet l (side_of (record { store = s; list = list; due = due })) → Meet l (side_of (record { store = new; list = list; due = due }))
+    → FitTogether l (side_of (record { store = s; list = list; due = due })) → FitTogether l (side_of (record { store = new; list = list; due = due }))
 meet_stepped facts s new list due kept (inl same) l locked meet = rw same meet
 meet_stepped facts s new list due kept (inr (inl goes)) l locked meet = rw (goes.current, goes.busy, ← goes.was_busy) meet
 meet_stepped facts s new list due kept (inr (inr through)) l locked meet = meet_through facts s new list due l kept through locked meet

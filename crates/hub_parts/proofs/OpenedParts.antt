@@ -15,7 +15,7 @@ use Rattle.group_commit.specs.Loading.{IsHistory}
 use Rattle.group_commit.specs.declared.phase.Phase.TheVariants.{Idle}
 use Rattle.hub_parts.specs.Flusher.{IsFlusher}
 use Rattle.hub_parts.specs.Locked.{due_behind, Keeps, LockedHeld}
-use Rattle.hub_parts.specs.Meet.{Meet, side_of}
+use Rattle.hub_parts.specs.Meet.{FitTogether, side_of}
 use Rattle.hub_parts.proofs.FlusherSteps.{CrashLeaves}
 
 -- what is copied are the records of the whole list
@@ -68,7 +68,7 @@ flusher_opened facts s replica ops list history idle left is =
 -- the two fit
 pub meet_opened : {D : Type 0} (h : ReplicaHeld) (begun : ℕ) (s : StoreHeld D) (list : List Op) → h ≡ opened_with h.replica h.list → begun ≡ length h.list
     → IsHistory s.current h.replica h.list → list ≡ h.list
-    → Meet (record { replica = h; begun = begun; failure_told = false }) (side_of (record { store = s; list = list; due = false }))
+    → FitTogether (record { replica = h; begun = begun; failure_told = false }) (side_of (record { store = s; list = list; due = false }))
 meet_opened h begun s list opened is history same =
     let settled : h.settled ≡ length h.list = ap (λ x. x.settled) opened in
     record {

@@ -8,15 +8,15 @@ use Rattle.group_commit.specs.Begin.{is_idle}
 use Rattle.group_commit.specs.Held.{StoreHeld}
 use Rattle.hub_parts.specs.Flusher.{IsFlusher}
 use Rattle.hub_parts.specs.Locked.{IsLocked, LockedHeld}
-use Rattle.hub_parts.specs.Meet.{Meet, side_of}
+use Rattle.hub_parts.specs.Meet.{FitTogether, side_of}
 use Rattle.hub_parts.proofs.Fronts.{whole_list}
 use Rattle.hub_parts.proofs.MeetSteps.{front_length}
 
 -- two parts that fit, behind a settlement
 pub meet_settled : {D : Type 0} (facts : Ghosts D) (l : LockedHeld) (s : StoreHeld D) (list : List Op) (due : Bool)
     → IsFlusher facts (record { store = s; list = list; due = due }) → IsLocked l → is_idle s.phase ≡ true
-    → Meet l (side_of (record { store = s; list = list; due = due }))
-    → Meet (record l { replica = with_settled l.replica l.begun }) (side_of (record { store = s; list = list; due = false }))
+    → FitTogether l (side_of (record { store = s; list = list; due = due }))
+    → FitTogether (record l { replica = with_settled l.replica l.begun }) (side_of (record { store = s; list = list; due = false }))
 meet_settled facts l s list due kept locked idle meet = record {
   owner = meet.owner;
   both = sym (le-ltb l.begun l.begun (omega arith));

@@ -26,7 +26,7 @@ side_of f = record {
 
 -- The two fit: they are of one replica, both have a commit or neither has, the flusher's list is the operations that were taken,
 -- and those of the live root are the settled ones, or where the commit is through at least these.
-pub record Meet (l : LockedHeld) (side : Side) : Type 0 where
+pub record FitTogether (l : LockedHeld) (side : Side) : Type 0 where
   pub owner : side.owner ≡ l.replica.replica
   pub both : side.due ≡ has_commit l
   pub front : side.list ≡ take l.begun l.replica.list

@@ -67,24 +67,24 @@ pub record TakesAll {D : Type 0} (facts : Ghosts D) (l : LockedHeld) (f : Flushe
   pub due : f'.due ≡ true
 
 -- the operations that were taken are settled
-pub record Settles {D : Type 0} (l : LockedHeld) (f : FlusherHeld D) (l' : LockedHeld) (f' : FlusherHeld D) : Type 0 where
+pub record SettlesTaken {D : Type 0} (l : LockedHeld) (f : FlusherHeld D) (l' : LockedHeld) (f' : FlusherHeld D) : Type 0 where
   pub locked : l' ≡ record l { replica = with_settled l.replica l.begun }
   pub flusher : f' ≡ record f { due = false }
 
 -- both parts are as before, but that a failure of the device is told
-pub record Refuses {D : Type 0} (l : LockedHeld) (f : FlusherHeld D) (l' : LockedHeld) (f' : FlusherHeld D) : Type 0 where
+pub record TellsFailure {D : Type 0} (l : LockedHeld) (f : FlusherHeld D) (l' : LockedHeld) (f' : FlusherHeld D) : Type 0 where
   pub locked : l' ≡ (if f.store.failed then record l { failure_told = true } else l)
   pub flusher : f' ≡ f
 
 -- what is left behind a meeting with this answer
-abbrev pub Leaves : {D : Type 0} → Ghosts D → LockedHeld → FlusherHeld D → Result Met StoreError → LockedHeld → FlusherHeld D → Type 0
-Leaves facts l f (Ok (Begun n)) l' f' = TakesAll facts l f l' f'
-Leaves facts l f (Ok (Settled n)) l' f' = Settles l f l' f'
-Leaves facts l f (Ok Nothing) l' f' = (l' ≡ l) × (f' ≡ f)
-Leaves facts l f (Err e) l' f' = Refuses l f l' f'
+abbrev pub LeavesBoth : {D : Type 0} → Ghosts D → LockedHeld → FlusherHeld D → Result Met StoreError → LockedHeld → FlusherHeld D → Type 0
+LeavesBoth facts l f (Ok (Begun n)) l' f' = TakesAll facts l f l' f'
+LeavesBoth facts l f (Ok (Settled n)) l' f' = SettlesTaken l f l' f'
+LeavesBoth facts l f (Ok Nothing) l' f' = (l' ≡ l) × (f' ≡ f)
+LeavesBoth facts l f (Err e) l' f' = TellsFailure l f l' f'
 
 -- a meeting of any two parts: its answer, and what is left of both
 pub record Meets {D : Type 0} (facts : Ghosts D) (l : LockedHeld) (f : FlusherHeld D) (result : Result Met StoreError) (l' : LockedHeld)
     (f' : FlusherHeld D) : Type 0 where
   pub answer : IsMet (meeting_due l f) result
-  pub leaves : Leaves facts l f result l' f'
+  pub leaves : LeavesBoth facts l f result l' f'

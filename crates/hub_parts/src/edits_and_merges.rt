@@ -1,12 +1,11 @@
 //! Edits and merges of the locked part.
-ghost use Rattle.std.specs.Prelude.{◌≡◌, List, IfOk, OnOk, OnErr};
+ghost use Rattle.std.specs.Prelude.{◌≡◌, List, IfOk, OnErr};
 ghost use Rattle.op_model.specs.declared.op.Op.{Op as Operation};
-ghost use Rattle.op_model.specs.Machine.{has_record_room, EditStep, MergeStep};
+ghost use Rattle.op_model.specs.Machine.{after_edit, has_record_room, EditStep, MergeStep};
 ghost use Rattle.op_model.specs.Records.{stream_length};
-ghost use Rattle.op_model.specs.Held.{with_edit};
 ghost use Rattle.replica_core.specs.Merging.{after_merge};
 ghost use Rattle.hub_parts.specs.Locked.{state_of};
-ghost use Rattle.hub_parts.specs.Meet.{Meet, Side};
+ghost use Rattle.hub_parts.specs.Meet.{FitTogether, Side};
 ghost use Rattle.hub_parts.specs.Refusal.{edited, merged};
 
 use crate::locked::Locked;
@@ -17,18 +16,22 @@ use replica_core::{Merged, Ticket};
 
 impl Locked {
     /// Makes the operations of a session's edit and puts them behind the list; they aren't settled
-    /// yet. Refuses, in this order, with 9 where a meeting has told a failure of the device, as
-    /// `Replica::edit` does (6, 5, 7, 10), with 8 where the records have no room behind those that
-    /// wait for a commit (1,048,576 bytes), and with 1 for want of memory. A refused edit changes
-    /// nothing. Costs what `Replica::edit` does.
+    /// yet. An edit that was made before, under its token, has the ticket that it had then, and
+    /// changes nothing. Refuses another one, in this order, with 9 where a meeting has told a
+    /// failure of the device, as `Replica::edit` does (6, 5, 7, 10), with 8 where the records have
+    /// no room behind those that wait for a commit (1,048,576 bytes), and with 1 for want of
+    /// memory. A refused edit changes nothing. Costs what `Replica::edit` does.
     pub fn edit(&mut self, session: u64, edit: &Edit) -> Result<Ticket, LockedRefusal>
         ensures call { EditStep (state_of self.old) session edit.now (edited result)
             (state_of self.new) }
-        ensures made { OnOk result (self.new
-            ≡ record self.old { replica = with_edit self.old.replica session edit.now }) }
+        ensures made { IfOk result (λ t. self.new
+            ≡ record self.old { replica = after_edit t self.old.replica session edit.now }) }
         ensures same { OnErr result (self.new ≡ self.old) }
-        ensures fits { (side : Side) → Meet self.old side → Meet self.new side }
+        ensures fits { (side : Side) → FitTogether self.old side → FitTogether self.new side }
     {
+        if let Some(ticket) = self.replica.known(edit) {
+            return Ok(ticket);
+        }
         if self.failure_told {
             return Err(LockedRefusal::Failed);
         }
@@ -56,7 +59,7 @@ impl Locked {
         ensures made { IfOk result (λ m. self.new
             ≡ record self.old { replica = after_merge m self.old.replica peer op }) }
         ensures same { OnErr result (self.new ≡ self.old) }
-        ensures fits { (side : Side) → Meet self.old side → Meet self.new side }
+        ensures fits { (side : Side) → FitTogether self.old side → FitTogether self.new side }
     {
         if self.failure_told {
             return Err(LockedRefusal::Failed);

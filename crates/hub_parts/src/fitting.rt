@@ -1,6 +1,6 @@
 //! Whether two parts are those of one hub.
 ghost use Rattle.std.specs.Prelude.{◌↔◌, IsTrue};
-ghost use Rattle.hub_parts.specs.Meet.{Meet, side_of};
+ghost use Rattle.hub_parts.specs.Meet.{FitTogether, side_of};
 
 use crate::flusher::Flusher;
 use crate::locked::Locked;
@@ -11,7 +11,7 @@ impl Locked {
     /// flusher's list is the operations that were taken, and those of the live root are the settled
     /// ones, or where the commit is through at least these. Takes no memory. Linear in the records.
     pub fn fits<D: Disk>(&self, flusher: &Flusher<D>) -> bool
-        ensures { IsTrue result ↔ Meet self.now (side_of flusher.now) }
+        ensures { IsTrue result ↔ FitTogether self.now (side_of flusher.now) }
     {
         if flusher.store.replica() != self.replica() || flusher.due != self.has_commit() {
             return false;

@@ -2,7 +2,7 @@
 ghost use Rattle.std.specs.Prelude.{◌≡◌};
 ghost use Rattle.hub_parts.specs.Flusher.{IsFlusher, IsStoreStep};
 ghost use Rattle.hub_parts.specs.Locked.{IsLocked, LockedHeld};
-ghost use Rattle.hub_parts.specs.Meet.{Meet, side_of};
+ghost use Rattle.hub_parts.specs.Meet.{FitTogether, side_of};
 
 use disk_trait::Disk;
 use fixed_numbers::limits::MAX_PENDING;
@@ -57,8 +57,8 @@ impl<D: Disk> Flusher<D> {
     pub fn device_step(&mut self) -> Result<Phase, StoreError>
         ensures step { IsStoreStep D.DiskFacts self.old.store result self.new.store }
         ensures same { self.new ≡ record self.old { store = self.new.store } }
-        ensures fits { (locked : LockedHeld) → IsLocked locked → Meet locked (side_of self.old)
-            → Meet locked (side_of self.new) }
+        ensures fits { (locked : LockedHeld) → IsLocked locked
+            → FitTogether locked (side_of self.old) → FitTogether locked (side_of self.new) }
     {
         self.store.step()
     }

@@ -7,8 +7,8 @@ ghost use Rattle.root_slots.specs.Root.{count_of};
 ghost use Rattle.group_commit.specs.Begin.{Begins};
 ghost use Rattle.group_commit.specs.declared.error.StoreError.TheVariants.{Memory};
 ghost use Rattle.hub_parts.specs.Locked.{has_commit};
-ghost use Rattle.hub_parts.specs.Meet.{Meet, side_of};
-ghost use Rattle.hub_parts.specs.Meeting.{due_without, CanCommit, IsMet, Leaves, Meets};
+ghost use Rattle.hub_parts.specs.Meet.{FitTogether, side_of};
+ghost use Rattle.hub_parts.specs.Meeting.{due_without, CanCommit, IsMet, LeavesBoth, Meets};
 
 use crate::flusher::Flusher;
 use crate::locked::Locked;
@@ -34,7 +34,8 @@ impl<D: Disk> Flusher<D> {
     /// else of either list is read, copied or spelled; where `reserve` made room, nothing moves.
     pub fn meet(&mut self, locked: &mut Locked) -> Result<Met, StoreError>
         ensures met { Meets D.DiskFacts locked.old self.old result locked.new self.new }
-        ensures fits { Meet locked.old (side_of self.old) → Meet locked.new (side_of self.new) }
+        ensures fits { FitTogether locked.old (side_of self.old)
+            → FitTogether locked.new (side_of self.new) }
     {
         if self.store.has_failed() {
             locked.tell_failure();
@@ -60,8 +61,9 @@ impl<D: Disk> Flusher<D> {
         requires rests { self.old.due ≡ false }
         requires settled { has_commit locked.old ≡ false }
         ensures answer { IsMet (due_without locked.old self.old) result }
-        ensures leaves { Leaves D.DiskFacts locked.old self.old result locked.new self.new }
-        ensures fits { Meet locked.old (side_of self.old) → Meet locked.new (side_of self.new) }
+        ensures leaves { LeavesBoth D.DiskFacts locked.old self.old result locked.new self.new }
+        ensures fits { FitTogether locked.old (side_of self.old)
+            → FitTogether locked.new (side_of self.new) }
     {
         locked.kept();
         let list = locked.list();

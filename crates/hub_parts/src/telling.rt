@@ -4,7 +4,7 @@ ghost use Rattle.op_model.specs.Telling.{reach};
 ghost use Rattle.op_model.specs.Machine.{acknowledged, AckStep, TellStep, HaveStep};
 ghost use Rattle.op_model.specs.Held.{settled_list, with_acked, with_told};
 ghost use Rattle.hub_parts.specs.Locked.{state_of};
-ghost use Rattle.hub_parts.specs.Meet.{Meet, Side};
+ghost use Rattle.hub_parts.specs.Meet.{FitTogether, Side};
 ghost use Rattle.hub_parts.specs.Refusal.{told, had};
 
 use crate::locked::Locked;
@@ -22,7 +22,7 @@ impl Locked {
         ensures acked { self.new ≡ (if result
             then record self.old { replica = with_acked self.old.replica ticket.end }
             else self.old) }
-        ensures fits { (side : Side) → Meet self.old side → Meet self.new side }
+        ensures fits { (side : Side) → FitTogether self.old side → FitTogether self.new side }
     {
         self.replica.ack(ticket)
     }
@@ -38,7 +38,7 @@ impl Locked {
               = with_told self.old.replica (reach clock.now (settled_list self.old.replica));
         }) }
         ensures same { OnErr result (self.new ≡ self.old) }
-        ensures fits { (side : Side) → Meet self.old side → Meet self.new side }
+        ensures fits { (side : Side) → FitTogether self.old side → FitTogether self.new side }
     {
         match self.replica.tell(clock) {
             Ok(ops) => Ok(ops),
@@ -55,7 +55,7 @@ impl Locked {
               = with_told self.old.replica self.old.replica.settled;
         }) }
         ensures same { OnErr result (self.new ≡ self.old) }
-        ensures fits { (side : Side) → Meet self.old side → Meet self.new side }
+        ensures fits { (side : Side) → FitTogether self.old side → FitTogether self.new side }
     {
         match self.replica.have() {
             Ok(clock) => Ok(clock),

@@ -76,7 +76,11 @@ fn crashed(
 fn first_commit(alloc: Global) -> Result<Vec<HubStep>, Fail> {
     let mut steps = commit_of(alloc, 0, 'a', 8)?;
     steps.push(HubStep::Settle)?;
-    steps.push(HubStep::Ack(Ticket { end: 1, rev: 1 }))?;
+    steps.push(HubStep::Ack(Ticket {
+        end: 1,
+        rev: 1,
+        known: false,
+    }))?;
     Ok(steps)
 }
 

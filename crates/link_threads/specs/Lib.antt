@@ -1,5 +1,1 @@
-pub mod Errors
-pub mod LinkLine
-pub mod Outcomes
-pub mod Speaking
 pub mod Telling

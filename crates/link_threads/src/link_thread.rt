@@ -2,8 +2,8 @@
 
 use crate::hearing::Hearing;
 use crate::link_end::LinkEnd;
-use crate::speaker::Speaker;
 use crate::telling::{PAUSE, Telling};
+use link_speaker::Speaker;
 use op_ids::ReplicaId;
 use pass_books::{Desks, Pass};
 use rtrb::{Consumer, Producer, RingBuffer};

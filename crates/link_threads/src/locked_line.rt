@@ -1,8 +1,8 @@
 //! A link that two threads share, as a line.
 
-use crate::line::Line;
 use crate::link_end::LinkEnd;
 use causal_sync::LinkError;
+use link_speaker::Line;
 use op_ids::Clock;
 use op_model::Op;
 use std::alloc::{AllocError, Global};

@@ -1,6 +1,6 @@
 //! A shared hub, as a peer that tells.
 
-use crate::peer::Peer;
+use link_speaker::Peer;
 use op_ids::Clock;
 use op_model::Op;
 use pass_books::Desks;

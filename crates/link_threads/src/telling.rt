@@ -1,12 +1,9 @@
 //! The thread of a link that tells.
 
-use crate::line::Line;
 use crate::link_end::LinkEnd;
 use crate::locked_line::LockedLine;
 use crate::shared_peer::SharedPeer;
-use crate::speak_error::SpeakError;
-use crate::speaker::Speaker;
-use crate::write_out::write_out;
+use link_speaker::{Line, SpeakError, Speaker, write_out};
 use pass_books::Desks;
 use rtrb::Consumer;
 use shared_hub::{News, Shared};

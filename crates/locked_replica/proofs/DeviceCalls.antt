@@ -48,7 +48,7 @@ device_call {failure_told = failure_told} facts h s new made result answer fits 
       moments = λ told. moments_of facts s.disk new.disk (IsLeftAround s new) (IsLeftIn (parts h s failure_told) (parts h new failure_told)) around
           (call.moments told);
       left = λ told file survives. survivor_has_settled facts (parts h new failure_told) file after told survives;
-      is_left = λ told file survives. survivor_is_left facts (parts h new failure_told) file after told survives;
+      recovers = λ told file survives. survivor_is_left facts (parts h new failure_told) file after told survives;
       counts = counts;
     }
   where

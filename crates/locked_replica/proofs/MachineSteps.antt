@@ -1,14 +1,15 @@
 -- What a step of the machine leaves of what a replica holds.
 use Rattle.std.proofs.Common.{◌≡◌, ℕ, ◌≤◌, Bool, true, false, nat_lt, List, [], ◌∷◌, ◌++◌, refl, sym, ◌∙◌, arith, append-nil, if◌then◌else◌}
 use Rattle.std.proofs.Common.{inl, inr, None, Some}
+use Rattle.std.proofs.lemmas.Bool.{cases_Bool}
 use Rattle.std.proofs.lemmas.Bool.Decides.{nat_tests}
 use Rattle.op_model.specs.declared.op.Op.{Op}
 use Rattle.op_model.specs.declared.edit.Edit.{Edit}
-use Rattle.op_model.specs.Held.{ReplicaHeld}
+use Rattle.op_model.specs.Held.{ReplicaHeld, with_edit}
 use Rattle.op_model.specs.Made.{made}
 use Rattle.op_model.specs.Machine.{State, Ticket, Event, edit, merge, begin, device_step, settle, ack, tell, have, Answer, ticket, applied, known, early}
 use Rattle.op_model.specs.Machine.{begun, nothing_new, idle, goes_on, goes_through, settled_to, acknowledged, operations, clock, refused}
-use Rattle.op_model.specs.Machine.{through_of, EditStep, MergeStep, BeginStep, DeviceStep, SettleStep, AckStep, TellStep, HaveStep, Step}
+use Rattle.op_model.specs.Machine.{holding, through_of, EditStep, MergeStep, BeginStep, DeviceStep, SettleStep, AckStep, TellStep, HaveStep, Step}
 use Rattle.group_commit.specs.Begin.{is_idle}
 use Rattle.root_slots.specs.Root.{count_of}
 use Rattle.locked_replica.specs.Hub.{Parts, commit_in, committed, state_of}
@@ -29,7 +30,12 @@ goes_alike answer old new owner list settled =
 
 edit_goes : (s : State) (session : ℕ) (e : Edit) (answer : Answer) (next : State) → EditStep s session e answer next → Goes answer s.held next.held
 edit_goes s session e (ticket t) next (due, is) =
-    rw is (record { owner = refl; more = made s.held.list s.held.replica e; grows = refl; settled = refl })
+    elim (cases_Bool t.known) [
+      | inl before ↦ let same : next ≡ s = rw before at is in rw same (goes_alike (ticket t) s.held s.held refl refl refl)
+      | inr new ↦
+          let made_is : next ≡ holding s (with_edit s.held session e) = rw new at is in
+          rw made_is (record { owner = refl; more = made s.held.list s.held.replica e; grows = refl; settled = refl })
+    ]
 edit_goes s session e (refused n) next (due, is) = rw is (goes_alike (refused n) s.held s.held refl refl refl)
 edit_goes s session e _ next step = absurd step
 

@@ -14,8 +14,8 @@ use Rattle.group_commit.specs.declared.error.StoreError.{StoreError}
 use Rattle.group_commit.specs.declared.error.StoreError.TheVariants.{Limit, Failed}
 use Rattle.hub_parts.specs.Locked.{has_commit, IsLocked, LockedHeld}
 use Rattle.hub_parts.specs.Flusher.{RestsOrCommits, IsAtRest, IsFlusher, FlusherHeld}
-use Rattle.hub_parts.specs.Meet.{Meet, side_of}
-use Rattle.hub_parts.specs.Meeting.{differ, due_without, meeting_due, pending, IsMet, Leaves, Meets}
+use Rattle.hub_parts.specs.Meet.{FitTogether, side_of}
+use Rattle.hub_parts.specs.Meeting.{differ, due_without, meeting_due, pending, IsMet, LeavesBoth, Meets}
 use Rattle.hub_parts.specs.declared.met.Met.{Met}
 use Rattle.hub_parts.specs.declared.met.Met.TheVariants.{Begun, Settled, Nothing}
 use Rattle.locked_replica.specs.Calls.{IsCall}
@@ -77,7 +77,7 @@ failed_alone e answer (inl same) = same
 failed_alone e answer (inr (want, begins)) = absurd begins
 
 module _ {D : Type 0} (facts : Ghosts D) (l : LockedHeld) (f : FlusherHeld D) (lawful : (disk : D) → facts.tells disk → IsLawful facts disk)
-    (locked : IsLocked l) (flusher : IsFlusher facts f) (meet : Meet l (side_of f)) where
+    (locked : IsLocked l) (flusher : IsFlusher facts f) (meet : FitTogether l (side_of f)) where
   -- there is a commit where the flusher has one
   due_is_some : is_some (commit_of l.replica f.store) ≡ f.due
   due_is_some = by_phase (is_idle f.store.phase) flusher.commit
@@ -132,13 +132,13 @@ module _ {D : Type 0} (facts : Ghosts D) (l : LockedHeld) (f : FlusherHeld D) (l
       → (answer ≡ Err Failed) × (hub_of l' f' ≡ parts l.replica f.store true)
   met_failed answer l' f' failed met =
       let is = failed_alone Failed answer (rw failed at met.answer) in
-      let refuses = subst (λ a. Leaves facts l f a l' f') is met.leaves in
+      let refuses = subst (λ a. LeavesBoth facts l f a l' f') is met.leaves in
       let told : l' ≡ record l { failure_told = true } = rw failed at refuses.locked in
       (is, rw (told, refuses.flusher) refl)
 
   -- a meeting of a begin
   pub begin_met : (answer : Result Met StoreError) (l' : LockedHeld) (f' : FlusherHeld D) → (not f.store.failed && f.due) ≡ false
-      → IsLocked l' → IsFlusher facts f' → Meet l' (side_of f') → Meets facts l f answer l' f'
+      → IsLocked l' → IsFlusher facts f' → FitTogether l' (side_of f') → Meets facts l f answer l' f'
       → IsCall facts begin (answer_due (as_begun answer)) (hub_of l f) (hub_of l' f')
   begin_met answer l' f' none locked' flusher' meet' met = by_test f.store.failed refl
     where
@@ -164,21 +164,21 @@ module _ {D : Type 0} (facts : Ghosts D) (l : LockedHeld) (f : FlusherHeld D) (l
           (rw same at (hub_fits facts l' f' locked' flusher' meet')) works (rw (sym through_is, rests) refl) is_answer
           (begins answer met.leaves) (stays answer met.leaves))
         where
-          same_parts : (a : Result Met StoreError) → Leaves facts l f a l' f' → ((n : ℕ) → a ≢ Ok (Settled n))
+          same_parts : (a : Result Met StoreError) → LeavesBoth facts l f a l' f' → ((n : ℕ) → a ≢ Ok (Settled n))
               → hub_of l' f' ≡ parts l.replica f'.store l.failure_told
           same_parts (Ok (Begun n)) left never = rw left.locked refl
           same_parts (Ok (Settled n)) left never = absurd (never n refl)
           same_parts (Ok Nothing) left never = rw left.0 refl
           same_parts (Err e) left never = let stays : l' ≡ l = rw works at left.locked in rw stays refl
 
-          begins : (a : Result Met StoreError) → Leaves facts l f a l' f' → (n : ℕ) → as_begun a ≡ Ok (Some n)
+          begins : (a : Result Met StoreError) → LeavesBoth facts l f a l' f' → (n : ℕ) → as_begun a ≡ Ok (Some n)
               → Begins facts f.store (drop l.replica.settled l.replica.list) f'.store
           begins (Ok (Begun m)) left n is = rw (nothing_due (rw works at none)).0 left.begins
           begins (Ok (Settled m)) left n is = let never : ⊥ = cc in absurd never
           begins (Ok Nothing) left n is = let never : ⊥ = cc in absurd never
           begins (Err e) left n is = let never : ⊥ = cc in absurd never
 
-          stays : (a : Result Met StoreError) → Leaves facts l f a l' f' → ((n : ℕ) → as_begun a ≢ Ok (Some n)) → f'.store ≡ f.store
+          stays : (a : Result Met StoreError) → LeavesBoth facts l f a l' f' → ((n : ℕ) → as_begun a ≢ Ok (Some n)) → f'.store ≡ f.store
           stays (Ok (Begun m)) left other = absurd (other m refl)
           stays (Ok (Settled m)) left other = ap (λ g. g.store) left.flusher
           stays (Ok Nothing) left other = ap (λ g. g.store) left.1
@@ -187,7 +187,7 @@ module _ {D : Type 0} (facts : Ghosts D) (l : LockedHeld) (f : FlusherHeld D) (l
   -- a meeting of a settlement
   pub settle_met : (answer : Result Met StoreError) (l' : LockedHeld) (f' : FlusherHeld D)
       → (not f.store.failed && not (f.due && is_idle f.store.phase)) ≡ false
-      → IsLocked l' → IsFlusher facts f' → Meet l' (side_of f') → Meets facts l f answer l' f'
+      → IsLocked l' → IsFlusher facts f' → FitTogether l' (side_of f') → Meets facts l f answer l' f'
       → IsCall facts settle (as_settled answer) (hub_of l f) (hub_of l' f')
   settle_met answer l' f' none locked' flusher' meet' met = by_test f.store.failed refl
     where
@@ -207,7 +207,7 @@ module _ {D : Type 0} (facts : Ghosts D) (l : LockedHeld) (f : FlusherHeld D) (l
           let (due, idle) = both_true f.due (is_idle f.store.phase) (rw works at none) in
           let due_is : meeting_due l f ≡ Ok (Settled l.begun) = rw (works, never_differ f.due (has_commit l) meet.both, due, idle) refl in
           let is = settled_alone l.begun answer (rw due_is at met.answer) in
-          let left = subst (λ a. Leaves facts l f a l' f') is met.leaves in
+          let left = subst (λ a. LeavesBoth facts l f a l' f') is met.leaves in
           let rest : IsAtRest f = rw idle at flusher.commit in
           let all : l.begun ≡ committed f.store = sym (rest.all ∙ taken_all facts l f locked flusher meet) in
           let less : l.replica.settled < committed f.store = rw all at (ltb-true l.replica.settled l.begun (sym meet.both ∙ due)) in

@@ -11,7 +11,7 @@ use Rattle.group_commit.specs.Saved.{Saved}
 use Rattle.hub_parts.specs.Locked.{IsLocked, has_commit, LockedHeld}
 use Rattle.hub_parts.specs.Locked.{commit_of as locked_commit}
 use Rattle.hub_parts.specs.Flusher.{RestsOrCommits, HasFront, IsFlusher, FlusherHeld}
-use Rattle.hub_parts.specs.Meet.{Meet, side_of}
+use Rattle.hub_parts.specs.Meet.{FitTogether, side_of}
 use Rattle.locked_replica.specs.Hub.{Parts, commit_in, commit_of, committed}
 use Rattle.locked_replica.proofs.Fits.{CommitFits, Fits, IsFront}
 use Rattle.locked_replica.proofs.PartsOf.{parts}
@@ -21,7 +21,7 @@ abbrev pub hub_of : {D : Type 0} → LockedHeld → FlusherHeld D → Parts D
 hub_of l f = parts l.replica f.store l.failure_told
 
 module _ {D : Type 0} (facts : Ghosts D) (l : LockedHeld) (f : FlusherHeld D) (locked : IsLocked l) (flusher : IsFlusher facts f)
-    (meet : Meet l (side_of f)) where
+    (meet : FitTogether l (side_of f)) where
   -- the flusher's list has as many operations as were taken
   pub taken_all : length f.list ≡ l.begun
   taken_all = ap length meet.front ∙ length-take-le l.begun l.replica.list locked.keeps.within

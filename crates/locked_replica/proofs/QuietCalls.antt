@@ -53,7 +53,7 @@ quiet_call {D} facts event answer old new same lawful fits step rises none count
       failures = λ told. let few = few_failures event answer in rw same (omega (arith, few, none));
       moments = λ told. subst (λ disk. LeavesOnly facts disk new.store.disk (IsLeftIn old new)) same (moments (rw same told));
       left = λ told file survives. survivor_has_settled facts new file fits told survives;
-      is_left = λ told file survives. survivor_is_left facts new file fits told survives;
+      recovers = λ told file survives. survivor_is_left facts new file fits told survives;
       counts = counts;
     }
   where

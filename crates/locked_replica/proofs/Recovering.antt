@@ -14,22 +14,21 @@ use Rattle.root_slots.specs.Root.{version_of, count_of}
 use Rattle.op_model.specs.Held.{ReplicaHeld}
 use Rattle.replica_core.specs.Held.{IsSound}
 use Rattle.group_commit.specs.Begin.{is_idle}
-use Rattle.group_commit.specs.Commit.{Is, IsLeft}
+use Rattle.group_commit.specs.Commit.{IsRootOf, IsLeft}
 use Rattle.group_commit.specs.Saved.{Saved}
 use Rattle.group_commit.specs.declared.phase.Phase.{Phase}
 use Rattle.group_commit.specs.declared.phase.Phase.TheVariants.{Idle, Pages, Close, Sync1, Body, Sync2, Gate, Sync3}
 use Rattle.locked_replica.specs.Hub.{Parts, commit_in, commit_of}
 use Rattle.locked_replica.proofs.Fits.{Fits, IsFront, IsUnderWay, CommitFits}
-use Rattle.locked_replica.specs.Recovery.{HasFront, is_gated, RecoversWith, RecoversIn, Recovers, IsCrash, HasAtLeast}
-use Rattle.locked_replica.specs.Calls.{IsLeftOf}
+use Rattle.locked_replica.specs.Recovery.{HasImageOfFront, is_gated, RecoversWith, RecoversIn, Recovers, IsCrash, HasAtLeast}
 
 -- a front of a causally closed list is closed
 closed_take : (n : ℕ) (ops : List Op) → IsCausallyClosed ops → IsCausallyClosed (take n ops)
 closed_take n ops closed = closed_front (take n ops) (drop n ops) (rw (take-append-drop n ops) closed)
 
 -- a file with a root that is a front has the front as its image
-image_of : (h : ReplicaHeld) (root : Saved) (file : List ℕ) → IsSound h → IsFront h root → Is root file
-    → HasFront h (version_of root.body) (count_of root.body) file
+image_of : (h : ReplicaHeld) (root : Saved) (file : List ℕ) → IsSound h → IsFront h root → IsRootOf root file
+    → HasImageOfFront h (version_of root.body) (count_of root.body) file
 image_of h root file sound front is =
     record {
       body = root.body;
@@ -42,7 +41,7 @@ image_of h root file sound front is =
     }
 
 -- at rest the live root's operations are settled, or those of a commit that is through
-recovers_at_rest : (gated : Bool) (h : ReplicaHeld) (live version next : ℕ) (file : List ℕ) → h.settled ≤ live → HasFront h version live file
+recovers_at_rest : (gated : Bool) (h : ReplicaHeld) (live version next : ℕ) (file : List ℕ) → h.settled ≤ live → HasImageOfFront h version live file
     → RecoversIn gated h version (commit_in true h.settled live next) file
 recovers_at_rest gated h live version next file settled image = by_test (nat_lt h.settled live) refl
   where
@@ -55,13 +54,13 @@ recovers_at_rest gated h live version next file settled image = by_test (nat_lt 
 
 -- under way the live root's are settled, and those of the next one are the commit's
 recovers_settled : (gated : Bool) (h : ReplicaHeld) (current next : Saved) (file : List ℕ) → IsUnderWay h current next
-    → HasFront h (version_of current.body) (count_of current.body) file
+    → HasImageOfFront h (version_of current.body) (count_of current.body) file
     → RecoversIn gated h (version_of current.body) (commit_in false h.settled (count_of current.body) (count_of next.body)) file
 recovers_settled true h current next file commit image = inl (rw (commit.settled) image)
 recovers_settled false h current next file commit image = rw (commit.settled) image
 
 recovers_next : (h : ReplicaHeld) (current next : Saved) (file : List ℕ) → IsUnderWay h current next
-    → HasFront h (version_of next.body) (count_of next.body) file
+    → HasImageOfFront h (version_of next.body) (count_of next.body) file
     → RecoversIn true h (version_of current.body) (commit_in false h.settled (count_of current.body) (count_of next.body)) file
 recovers_next h current next file commit image = inr (rw (sym commit.version) image)
 
@@ -72,7 +71,7 @@ pub recovers : (phase : Phase) (h : ReplicaHeld) (current next : Saved) (file : 
     (commit_in (is_idle phase) h.settled (count_of current.body) (count_of next.body)) file
 recovers phase h current next file sound live commit left = by_phase phase commit left
   where
-    settled : (gated : Bool) → IsUnderWay h current next → Is current file
+    settled : (gated : Bool) → IsUnderWay h current next → IsRootOf current file
         → RecoversIn gated h (version_of current.body) (commit_in false h.settled (count_of current.body) (count_of next.body)) file
     settled gated commit is = recovers_settled gated h current next file commit (image_of h current file sound live is)
 
@@ -151,39 +150,33 @@ state_at h failed failure_told version commit = record {
 -- what is opened from a file with such an image is what the machine's crash leaves
 opened_from : (gated : Bool) (h : ReplicaHeld) (failed failure_told : Bool) (version : ℕ) (commit : Option Commit) (file : List ℕ)
     → RecoversIn gated h version commit file
-    → (v n : ℕ) × HasFront h v n file × CrashLeaves (state_at h failed failure_told version commit) (opened h.replica (take n h.list) v)
+    → (v n : ℕ) × HasImageOfFront h v n file × CrashLeaves (state_at h failed failure_told version commit) (opened h.replica (take n h.list) v)
 opened_from gated h failed failure_told version None file image = (version, h.settled, image, refl)
 opened_from gated h failed failure_told version (Some c) file image = by_kind c.through gated image
   where
     by_kind : (through gated : Bool) → RecoversWith through gated h version c.count file
-        → (v n : ℕ) × HasFront h v n file
+        → (v n : ℕ) × HasImageOfFront h v n file
         × CrashLeavesOf (state_at h failed failure_told version (Some c)) (record { count = c.count; through = through }) (opened h.replica (take n h.list) v)
     by_kind true gated image = (version, c.count, image, refl)
     by_kind false true (inl image) = (version, h.settled, image, inl refl)
     by_kind false true (inr image) = (version + 1, c.count, image, inr refl)
     by_kind false false image = (version, h.settled, image, inl refl)
 
-crash_recovered : {D : Type 0} (hub : Parts D) (file : List ℕ) → Recovers hub file → IsCrash hub file
+pub crash_recovered : {D : Type 0} (hub : Parts D) (file : List ℕ) → Recovers hub file → IsCrash hub file
 crash_recovered hub file recovered =
     let from = opened_from (is_gated hub.store.phase) hub.replica hub.store.failed hub.failure_told (version_of hub.store.current.body)
     (commit_of hub.replica hub.store) file recovered in
     record { version = from.0; count = from.1; image = from.2; leaves = from.3 }
 
-pub crash_of : {D : Type 0} (facts : Ghosts D) (hub : Parts D) (file : List ℕ) → Fits facts hub → facts.tells hub.store.disk → facts.survives hub.store.disk file
-    → IsCrash hub file
-crash_of facts hub file fits told survives = crash_recovered hub file (survivor_has facts hub file fits told survives)
-
 -- what the store says of a file that a crash leaves is so of the hub
 pub left_of : {D : Type 0} (facts : Ghosts D) (hub : Parts D) (file : List ℕ) → Fits facts hub → IsLeft hub.store.phase hub.store.current hub.store.next file
-    → IsLeftOf hub file
-left_of facts hub file fits is =
-    let recovered : Recovers hub file = recovers hub.store.phase hub.replica hub.store.current hub.store.next file fits.sound fits.live fits.commit is in
-    record { recovers = recovered; crash = crash_recovered hub file recovered }
+    → Recovers hub file
+left_of facts hub file fits is = recovers hub.store.phase hub.replica hub.store.current hub.store.next file fits.sound fits.live fits.commit is
 
-pub left_has : {D : Type 0} (facts : Ghosts D) (hub : Parts D) (file : List ℕ) → Fits facts hub → IsLeftOf hub file
+pub left_has : {D : Type 0} (facts : Ghosts D) (hub : Parts D) (file : List ℕ) → Fits facts hub → Recovers hub file
     → HasAtLeast hub.replica.settled hub.replica file
-left_has facts hub file fits left = recovered_has facts hub file fits left.recovers
+left_has facts hub file fits left = recovered_has facts hub file fits left
 
 pub survivor_is_left : {D : Type 0} (facts : Ghosts D) (hub : Parts D) (file : List ℕ) → Fits facts hub → facts.tells hub.store.disk
-    → facts.survives hub.store.disk file → IsLeftOf hub file
+    → facts.survives hub.store.disk file → Recovers hub file
 survivor_is_left facts hub file fits told survives = left_of facts hub file fits (fits.left told file survives)

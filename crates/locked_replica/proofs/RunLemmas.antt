@@ -10,8 +10,8 @@ use Rattle.op_model.specs.declared.op.Op.{Op}
 use Rattle.op_model.specs.Machine.{State, Event, Answer, refused, Step, Run}
 use Rattle.op_model.specs.Held.{ReplicaHeld}
 use Rattle.locked_replica.specs.Hub.{Parts, state_of}
-use Rattle.locked_replica.specs.Calls.{IsCall, IsLeftIn, IsLeftOf, calls_in, writes_begun, syncs_begun, NoWriteFails}
-use Rattle.locked_replica.specs.Recovery.{HasAtLeast, IsCrash, Recovers}
+use Rattle.locked_replica.specs.Calls.{IsCall, IsLeftIn, calls_in, writes_begun, syncs_begun, NoWriteFails}
+use Rattle.locked_replica.specs.Recovery.{HasAtLeast, Recovers}
 use Rattle.locked_replica.specs.Run.{Ran, Calls, CrashesIn, FrontsStand, NoneFailed, NamePhases}
 use Rattle.locked_replica.specs.Run.{settled_by, settled_behind, calls_made, writes_planned, syncs_planned}
 use Rattle.locked_replica.specs.Steps.{NamesPhase}
@@ -74,7 +74,7 @@ crashes_more facts old mid new (e ∷ es) event answer calls call file (inr is) 
 
 -- and what it leaves in the last one
 crashes_last : {D : Type 0} (facts : Ghosts D) (old mid new : Parts D) (es : List (Event × Answer)) (event : Event) (answer : Answer) (calls : Calls facts old es mid)
-    (call : IsCall facts event answer mid new) (file : List ℕ) → IsLeftOf mid file ⊎ IsLeftOf new file
+    (call : IsCall facts event answer mid new) (file : List ℕ) → Recovers mid file ⊎ Recovers new file
     → CrashesIn facts old (es ++ (event, answer) ∷ []) new (calls_chain facts old mid new es event answer calls call) file
 crashes_last facts old mid new [] event answer calls call file (inl is) = inl (rw (sym calls) is)
 crashes_last facts old mid new [] event answer calls call file (inr is) = inr is
@@ -97,9 +97,8 @@ syncs_more (e ∷ es) event answer = let rest = syncs_more es event answer in om
 pub ran_none : {D : Type 0} (facts : Ghosts D) (hub : Parts D) → (facts.tells hub.store.disk → IsLawful facts hub.store.disk)
     → (facts.tells hub.store.disk → (file : List ℕ) → facts.survives hub.store.disk file → HasAtLeast hub.replica.settled hub.replica file)
     → (facts.tells hub.store.disk → (file : List ℕ) → facts.survives hub.store.disk file → Recovers hub file)
-    → (facts.tells hub.store.disk → (file : List ℕ) → facts.survives hub.store.disk file → IsCrash hub file)
     → Ran facts hub [] hub
-ran_none facts hub lawful left recovered crash =
+ran_none facts hub lawful left recovered =
     record {
       machine = refl;
       settled = refl;
@@ -107,8 +106,7 @@ ran_none facts hub lawful left recovered crash =
       tells = ((λ told. told), (λ told. told));
       time = λ told. omega arith;
       calls = refl;
-      crashes = λ told file since.
-          let now = (lawful told).only_now file since in record { recovers = recovered told file now; crash = crash told file now };
+      crashes = λ told file since. recovered told file ((lawful told).only_now file since);
       writes = λ told works. omega arith;
       syncs = λ told works. omega arith;
       fronts = λ told k file within left_now. rw (take_none {A = Event × Answer} k) (stands told file (now k left_now));

@@ -1,13 +1,15 @@
 -- Calls of the locked part are calls of the hub.
 use Rattle.std.proofs.Common.{◌≡◌, ℕ, ◌+◌, Bool, true, false, nat_le, List, [], ◌∷◌, drop, refl, sym, ap, ◌∙◌, arith, if◌then◌else◌}
-use Rattle.std.proofs.Common.{Option}
+use Rattle.std.proofs.Common.{Option, inl, inr}
+use Rattle.std.proofs.lemmas.Bool.{cases_Bool}
 use Rattle.disk_trait.specs.Calls.{IsLawful}
 use Rattle.disk_trait.specs.declared.facts.DiskFacts.{Ghosts}
 use Rattle.op_model.specs.declared.op.Op.{Op}
 use Rattle.op_model.specs.declared.edit.Edit.{Edit}
 use Rattle.op_model.specs.Machine.{Commit, State, edit, merge, ack, tell, have, Ticket, ticket, applied, known, early, acknowledged, operations, clock}
 use Rattle.op_model.specs.Telling.{reach}
-use Rattle.op_model.specs.Machine.{refused, has_record_room, with_room, edit_answer, edit_alone, merge_answer, merge_alone, taken_in, IsRefusal}
+use Rattle.op_model.specs.Machine.{refused, has_record_room, with_room, edit_answer, new_edit_alone, known_ticket, unless_known, after_edit}
+use Rattle.op_model.specs.Machine.{merge_answer, merge_alone, taken_in, IsRefusal}
 use Rattle.op_model.specs.Machine.{EditStep, MergeStep, AckStep, TellStep, HaveStep}
 use Rattle.op_model.specs.Made.{made}
 use Rattle.op_model.specs.Records.{stream_length}
@@ -18,7 +20,7 @@ use Rattle.replica_core.specs.declared.merged.Merged.TheVariants as merged_as
 use Rattle.hub_parts.specs.Locked.{IsLocked, LockedHeld}
 use Rattle.hub_parts.specs.Locked.{commit_of as locked_commit, state_of as locked_state}
 use Rattle.hub_parts.specs.Flusher.{IsFlusher, FlusherHeld}
-use Rattle.hub_parts.specs.Meet.{Meet, side_of}
+use Rattle.hub_parts.specs.Meet.{FitTogether, side_of}
 use Rattle.root_slots.specs.Root.{version_of}
 use Rattle.locked_replica.specs.Calls.{IsCall}
 use Rattle.locked_replica.specs.Hub.{commit_of, state_of}
@@ -44,7 +46,7 @@ same_room h told f f' v v' c c' ops same = ap (λ n. nat_le (stream_length (drop
 same_edit : (h : ReplicaHeld) (told f f' : Bool) (v v' : ℕ) (c c' : Option Commit) (e : Edit) → taken_in c h.settled ≡ taken_in c' h.settled
     → edit_answer (at h told f v c) e ≡ edit_answer (at h told f' v' c') e
 same_edit h told f f' v v' c c' e same =
-    ap (λ room. if told then refused 9 else with_room room (edit_alone h e))
+    ap (λ room. unless_known (known_ticket h e) (if told then refused 9 else with_room room (new_edit_alone h e)))
     (same_room h told f f' v v' c c' (made h.list h.replica e) same)
 
 same_merge : (h : ReplicaHeld) (told f f' : Bool) (v v' : ℕ) (c c' : Option Commit) (op : Op) → taken_in c h.settled ≡ taken_in c' h.settled
@@ -54,7 +56,7 @@ same_merge h told f f' v v' c c' op same =
     (same_room h told f f' v v' c c' (op ∷ []) same)
 
 module _ {D : Type 0} (facts : Ghosts D) (l : LockedHeld) (f : FlusherHeld D) (lawful : facts.tells f.store.disk → IsLawful facts f.store.disk)
-    (locked : IsLocked l) (flusher : IsFlusher facts f) (meet : Meet l (side_of f)) where
+    (locked : IsLocked l) (flusher : IsFlusher facts f) (meet : FitTogether l (side_of f)) where
   taken : taken_in (commit_of l.replica f.store) l.replica.settled ≡ taken_in (locked_commit l) l.replica.settled
   taken = taken_begun facts l f locked flusher meet ∙ sym (locked_taken l locked)
 
@@ -68,15 +70,23 @@ module _ {D : Type 0} (facts : Ghosts D) (l : LockedHeld) (f : FlusherHeld D) (l
       same_merge l.replica l.failure_told f.store.failed false (version_of f.store.current.body) 0 (commit_of l.replica f.store) (locked_commit l) op taken
 
   -- an edit that is answered with a ticket
-  pub call_edit : (session : ℕ) (e : Edit) (t : Ticket) (next : LockedHeld) → IsLocked next → Meet next (side_of f)
+  pub call_edit : (session : ℕ) (e : Edit) (t : Ticket) (next : LockedHeld) → IsLocked next → FitTogether next (side_of f)
       → EditStep (locked_state l) session e (ticket t) (locked_state next)
-      → next ≡ record l { replica = with_edit l.replica session e } → IsCall facts (edit session e) (ticket t) (hub_of l f) (hub_of next f)
+      → next ≡ record l { replica = after_edit t l.replica session e } → IsCall facts (edit session e) (ticket t) (hub_of l f) (hub_of next f)
   call_edit session e t next locked' meet' (answer, left) is =
-      let next' : LockedHeld = record l { replica = with_edit l.replica session e } in
-      let fits = hub_fits facts next' f (rw is at locked') flusher (rw is at meet') in
       let due = edit_due e ∙ answer in
-      rw is (quiet_call facts (edit session e) (ticket t) (hub_of l f) (hub_of next' f) refl lawful fits (due, refl)
-      (omega arith) refl (counts_same facts _ f.store refl refl) refl)
+      elim (cases_Bool t.known) [
+        | inl before ↦
+            let same : next ≡ l = rw before at is in
+            rw same (quiet_call facts (edit session e) (ticket t) (hub_of l f) (hub_of l f) refl lawful (hub_fits facts l f locked flusher meet)
+            (due, rw before refl) (omega arith) refl (counts_same facts _ f.store refl refl) refl)
+        | inr new ↦
+            let next' : LockedHeld = record l { replica = with_edit l.replica session e } in
+            let made_is : next ≡ next' = rw new at is in
+            let fits = hub_fits facts next' f (rw made_is at locked') flusher (rw made_is at meet') in
+            rw made_is (quiet_call facts (edit session e) (ticket t) (hub_of l f) (hub_of next' f) refl lawful fits (due, rw new refl)
+            (omega arith) refl (counts_same facts _ f.store refl refl) refl)
+      ]
 
   -- an edit that is refused
   pub call_edit_refused : (session : ℕ) (e : Edit) (n : ℕ) (next : LockedHeld) → EditStep (locked_state l) session e (refused n) (locked_state next)
@@ -87,7 +97,7 @@ module _ {D : Type 0} (facts : Ghosts D) (l : LockedHeld) (f : FlusherHeld D) (l
       (omega arith) refl (counts_same facts _ f.store refl refl) refl)
 
   -- a merge that isn't refused
-  pub call_merge : (peer : ℕ) (op : Op) (m : Merged) (next : LockedHeld) → IsLocked next → Meet next (side_of f)
+  pub call_merge : (peer : ℕ) (op : Op) (m : Merged) (next : LockedHeld) → IsLocked next → FitTogether next (side_of f)
       → MergeStep (locked_state l) peer op (answer_of m) (locked_state next)
       → next ≡ record l { replica = after_merge m l.replica peer op } → IsCall facts (merge peer op) (answer_of m) (hub_of l f) (hub_of next f)
   call_merge peer op merged_as.Applied next locked' meet' (answer, left) is =
@@ -114,7 +124,7 @@ module _ {D : Type 0} (facts : Ghosts D) (l : LockedHeld) (f : FlusherHeld D) (l
       (omega arith) refl (counts_same facts _ f.store refl refl) refl)
 
   -- an acknowledgement, also of a hub whose device failed
-  pub call_ack : (t : Ticket) (b : Bool) (next : LockedHeld) → IsLocked next → Meet next (side_of f)
+  pub call_ack : (t : Ticket) (b : Bool) (next : LockedHeld) → IsLocked next → FitTogether next (side_of f)
       → AckStep (locked_state l) t (acknowledged b) (locked_state next)
       → next ≡ (if b then record l { replica = with_acked l.replica t.end } else l) → IsCall facts (ack t) (acknowledged b) (hub_of l f) (hub_of next f)
   call_ack t true next locked' meet' (settled, left) is =
@@ -127,7 +137,7 @@ module _ {D : Type 0} (facts : Ghosts D) (l : LockedHeld) (f : FlusherHeld D) (l
       (omega arith) refl (counts_same facts _ f.store refl refl) refl)
 
   -- a telling of operations
-  pub call_tell : (c : List (ℕ × ℕ)) (ops : List Op) (next : LockedHeld) → IsLocked next → Meet next (side_of f)
+  pub call_tell : (c : List (ℕ × ℕ)) (ops : List Op) (next : LockedHeld) → IsLocked next → FitTogether next (side_of f)
       → TellStep (locked_state l) c (operations ops) (locked_state next)
       → next ≡ record l { replica = with_told l.replica (reach c (settled_list l.replica)) }
       → IsCall facts (tell c) (operations ops) (hub_of l f) (hub_of next f)
@@ -145,7 +155,7 @@ module _ {D : Type 0} (facts : Ghosts D) (l : LockedHeld) (f : FlusherHeld D) (l
       (omega arith) refl (counts_same facts _ f.store refl refl) refl)
 
   -- a telling of the clock
-  pub call_have : (c : List (ℕ × ℕ)) (next : LockedHeld) → IsLocked next → Meet next (side_of f)
+  pub call_have : (c : List (ℕ × ℕ)) (next : LockedHeld) → IsLocked next → FitTogether next (side_of f)
       → HaveStep (locked_state l) (clock c) (locked_state next) → next ≡ record l { replica = with_told l.replica l.replica.settled }
       → IsCall facts have (clock c) (hub_of l f) (hub_of next f)
   call_have c next locked' meet' (is_clock, left) is =

@@ -13,7 +13,7 @@ use Rattle.group_commit.specs.Step.{call_in, error_of, writes_of, syncs_of, Does
 use Rattle.group_commit.specs.declared.phase.Phase.{Phase}
 use Rattle.replica_core.specs.Held.{IsSound}
 use Rattle.locked_replica.specs.Hub.{Parts, state_of}
-use Rattle.locked_replica.specs.Recovery.{HasAtLeast, IsCrash, Recovers}
+use Rattle.locked_replica.specs.Recovery.{HasAtLeast, Recovers}
 
 -- how many device calls the answer to a device step shows: 44 is answered without one
 abbrev pub device_calls : Answer → ℕ
@@ -97,17 +97,11 @@ StoreGoes facts begin a old new = StoreBegins facts a old new
 StoreGoes facts device_step a old new = StoreSteps facts a old.store new
 StoreGoes facts event a old new = new ≡ old.store
 
--- The file is one that a crash leaves of this hub: the committed list, in the last phase of a commit that or the commit's, and what
--- the machine's crash leaves.
-pub record IsLeftOf {D : Type 0} (hub : Parts D) (file : List ℕ) : Type 0 where
-  pub recovers : Recovers hub file
-  pub crash : IsCrash hub file
-
--- What a crash leaves at a moment of a call: a beginning of the list with all that was settled before the call, and what a crash
--- leaves of the hub before the call or after it.
+-- What a crash leaves at a moment of a call: a beginning of the list with all that was settled before the call, and the image that a
+-- crash leaves of the hub before the call or after it.
 pub record IsLeftIn {D : Type 0} (old new : Parts D) (file : List ℕ) : Type 0 where
   pub has : HasAtLeast old.replica.settled new.replica file
-  pub around : IsLeftOf old file ⊎ IsLeftOf new file
+  pub around : Recovers old file ⊎ Recovers new file
 
 -- A call is one step of the machine, with its answer. The list stays causally closed, and what is acknowledged and told is settled. The
 -- disk's time goes on by the device calls that the answer shows.
@@ -123,5 +117,5 @@ pub record IsCall {D : Type 0} (facts : Ghosts D) (event : Event) (answer : Answ
   -- a crash right after it, which leaves all that is settled then
   pub left : facts.tells new.store.disk → (file : List ℕ) → facts.survives new.store.disk file
       → HasAtLeast new.replica.settled new.replica file
-  pub is_left : facts.tells new.store.disk → (file : List ℕ) → facts.survives new.store.disk file → IsLeftOf new file
+  pub recovers : facts.tells new.store.disk → (file : List ℕ) → facts.survives new.store.disk file → Recovers new file
   pub counts : Counts facts answer old.store new.store

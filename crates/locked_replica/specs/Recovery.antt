@@ -9,8 +9,8 @@ use Rattle.group_commit.specs.declared.phase.Phase.TheVariants.{Sync3}
 use Rattle.locked_replica.specs.Hub.{Parts, commit_of, state_of}
 
 -- the file's image is the first count operations of the list, in this version
-abbrev pub HasFront : ReplicaHeld → ℕ → ℕ → List ℕ → Type 0
-HasFront h version count file = IsImage file h.replica version (take count h.list)
+abbrev pub HasImageOfFront : ReplicaHeld → ℕ → ℕ → List ℕ → Type 0
+HasImageOfFront h version count file = IsImage file h.replica version (take count h.list)
 
 -- the gate of a commit under way is written, and may be on the disk or not
 abbrev pub is_gated : Phase → Bool
@@ -20,13 +20,13 @@ is_gated phase = false
 -- With a commit of count operations, through or not, and gated or not: one that is through is what the image has; one that isn't
 -- leaves the settled list, or where its gate is written either one.
 abbrev pub RecoversWith : Bool → Bool → ReplicaHeld → ℕ → ℕ → List ℕ → Type 0
-RecoversWith true gated h version count file = HasFront h version count file
-RecoversWith false true h version count file = HasFront h version h.settled file ⊎ HasFront h (version + 1) count file
-RecoversWith false false h version count file = HasFront h version h.settled file
+RecoversWith true gated h version count file = HasImageOfFront h version count file
+RecoversWith false true h version count file = HasImageOfFront h version h.settled file ⊎ HasImageOfFront h (version + 1) count file
+RecoversWith false false h version count file = HasImageOfFront h version h.settled file
 
 -- without a commit it is the settled list
 abbrev pub RecoversIn : Bool → ReplicaHeld → ℕ → Option Commit → List ℕ → Type 0
-RecoversIn gated h version None file = HasFront h version h.settled file
+RecoversIn gated h version None file = HasImageOfFront h version h.settled file
 RecoversIn gated h version (Some c) file = RecoversWith c.through gated h version c.count file
 
 -- The image of a file that a crash leaves of a hub: the settled list, or that of the commit.

@@ -4,9 +4,9 @@ use Rattle.fixed_numbers.specs.declared.refusals.TheConstants.{WRITE_FAILED}
 use Rattle.disk_trait.specs.declared.facts.DiskFacts.{Ghosts}
 use Rattle.group_commit.specs.Counts.{writes_left, syncs_left}
 use Rattle.op_model.specs.Machine.{Event, Answer, refused, settled_to, Run}
-use Rattle.locked_replica.specs.Calls.{IsCall, IsLeftOf, calls_in, writes_begun, syncs_begun}
+use Rattle.locked_replica.specs.Calls.{IsCall, calls_in, writes_begun, syncs_begun}
 use Rattle.locked_replica.specs.Hub.{Parts, state_of}
-use Rattle.locked_replica.specs.Recovery.{HasAtLeast}
+use Rattle.locked_replica.specs.Recovery.{HasAtLeast, Recovers}
 use Rattle.locked_replica.specs.Steps.{events_of, AreRepliesTo, NamesPhase}
 use Rattle.locked_replica.specs.declared.hub_step.HubStep.{HubStep}
 use Rattle.locked_replica.specs.declared.hub_reply.HubReply.{HubReply}
@@ -41,8 +41,8 @@ Calls {D} facts old (e ∷ es) new = (mid : Parts D) × IsCall facts e.0 e.1 old
 
 -- the file is one that a crash leaves before some of these calls, or after all of them
 abbrev pub CrashesIn : {D : Type 0} (facts : Ghosts D) (old : Parts D) (events : List (Event × Answer)) (new : Parts D) → Calls facts old events new → List ℕ → Type 0
-CrashesIn facts old [] new calls file = IsLeftOf new file
-CrashesIn facts old (e ∷ es) new calls file = IsLeftOf old file ⊎ CrashesIn facts calls.0 es new calls.2 file
+CrashesIn facts old [] new calls file = Recovers new file
+CrashesIn facts old (e ∷ es) new calls file = Recovers old file ⊎ CrashesIn facts calls.0 es new calls.2 file
 
 -- the writes that the commits make which began in these calls
 abbrev pub writes_planned : {D : Type 0} (facts : Ghosts D) (old : Parts D) (events : List (Event × Answer)) (new : Parts D) → Calls facts old events new → ℕ

@@ -62,7 +62,6 @@ impl<D: Disk> Hub<D> {
         // The store goes on to the next phase.
         ensures went_on { self.old.store.failed ≡ false → OnOk result (self.new.store
             ≡ gone_on self.old.store.phase self.old.store self.new.store.disk) }
-        ensures replica { self.new.replica ≡ self.old.replica }
     {
         self.locked.kept();
         self.flusher.kept();

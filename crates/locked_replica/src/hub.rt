@@ -17,7 +17,7 @@ pub struct Hub<D: Disk> {
 }
 
 impl<D: Disk> Model for Hub<D> {
-    ghost use Rattle.hub_parts.specs.Meet.{Meet, side_of};
+    ghost use Rattle.hub_parts.specs.Meet.{FitTogether, side_of};
     ghost use Rattle.locked_replica.specs.Hub.{Parts};
 
     ghost Value = { Parts D };
@@ -28,5 +28,5 @@ impl<D: Disk> Model for Hub<D> {
       failure_told = hub.locked.failure_told;
     } };
 
-    ghost invariant = { λ hub. Meet hub.locked (side_of hub.flusher) };
+    ghost invariant = { λ hub. FitTogether hub.locked (side_of hub.flusher) };
 }

@@ -8,9 +8,16 @@ ghost use Rattle.recovery.specs.Image.{IsImage};
 ghost use Rattle.recovery.specs.declared.open_fault.OpenError.{OpenError};
 ghost use Rattle.locked_replica.specs.Hub.{Parts};
 ghost use Rattle.locked_replica.specs.Promises.{Crashes, IsRecovered};
+ghost use Rattle.locked_replica.specs.Recovery.{IsCrash, Recovers};
 ghost use Rattle.locked_replica.specs.Run.{settled_behind};
 
 use disk_trait::Disk;
+
+/// What is opened from a file with an image that a crash leaves of a hub is what the machine's
+/// crash leaves.
+pub fn what_recovers_is_what_a_crash_leaves<D: Disk>()
+    ensures { (hub : Parts D) (file : List ℕ) → Recovers hub file → IsCrash hub file }
+{}
 
 /// Crash safety in one law. A crash at some moment since the first `k` calls of a run (`run`,
 /// `Ran`) may have left a file. Who opens it (`Hub::open`: the image of the file, or its fault) has

@@ -17,6 +17,6 @@ mod running;
 pub use hub::Hub;
 pub use hub_reply::HubReply;
 pub use hub_step::HubStep;
-pub use laws::a_crash_keeps_what_was_promised;
+pub use laws::{a_crash_keeps_what_was_promised, what_recovers_is_what_a_crash_leaves};
 pub use refusal::HubRefusal;
 pub use running::run;

@@ -7,7 +7,7 @@ ghost use Rattle.group_commit.specs.Opening.{IsLoaded, IsLookedAt, HandsBack};
 ghost use Rattle.recovery.specs.Faults.{IsFault, failures_of, is_of_sync};
 ghost use Rattle.recovery.specs.Image.{IsImage};
 ghost use Rattle.locked_replica.specs.Hub.{state_of};
-ghost use Rattle.locked_replica.specs.Recovery.{HasAtLeast, IsCrash, Recovers};
+ghost use Rattle.locked_replica.specs.Recovery.{HasAtLeast, Recovers};
 
 use crate::hub::Hub;
 use disk_trait::Disk;
@@ -43,14 +43,11 @@ impl<D: Disk> Hub<D> {
 
     /// Tells what the type keeps: every file that a crash now may leave has the image of the
     /// settled list; of a commit's where that is through, and of either one once its gate is
-    /// written. What is opened from it is what the machine's crash leaves, and has all that is
-    /// settled. And it has the live root or the commit's, on the pages that contracts see. Costs
-    /// nothing.
+    /// written. So it has all that is settled. And it has the live root or the commit's, on the
+    /// pages that contracts see. Costs nothing.
     pub fn survivors(&self)
         ensures image { D.tells self.now.store.disk → (file : List ℕ)
             → D.survives self.now.store.disk file → Recovers self.now file }
-        ensures crash { D.tells self.now.store.disk → (file : List ℕ)
-            → D.survives self.now.store.disk file → IsCrash self.now file }
         ensures settled { D.tells self.now.store.disk → (file : List ℕ)
             → D.survives self.now.store.disk file
             → HasAtLeast self.now.replica.settled self.now.replica file }

@@ -15,15 +15,15 @@ use replica_core::{Merged, Ticket};
 
 impl<D: Disk> Hub<D> {
     /// Makes the operations of a session's edit and puts them behind the list; they aren't settled
-    /// yet. Refuses, in this order, with 9 where a refused `begin` or `settle` has told that the
-    /// device failed, as `Replica::edit` does (6, 5, 7, 10), with 8 where the records have no room
-    /// behind those that wait for a commit (1,048,576 bytes), and with 1 for want of memory. A
-    /// refused edit changes nothing. Costs what `Replica::edit` does.
+    /// yet. An edit that was made before, under its token, has the ticket that it had then, and
+    /// changes nothing. Refuses another one, in this order, with 9 where a refused `begin` or
+    /// `settle` has told that the device failed, as `Replica::edit` does (6, 5, 7, 10), with 8
+    /// where the records have no room behind those that wait for a commit (1,048,576 bytes), and
+    /// with 1 for want of memory. A refused edit changes nothing. Costs what `Replica::edit` does.
     pub fn edit(&mut self, session: u64, edit: &Edit) -> Result<Ticket, HubRefusal>
         ensures call { IsCall D.DiskFacts (edit_event session edit.now) (edited result)
             self.old self.new }
         ensures kind { IfErr result IsNotOfStore }
-        ensures store { self.new.store ≡ self.old.store }
     {
         self.locked.kept();
         self.flusher.kept();
@@ -44,7 +44,6 @@ impl<D: Disk> Hub<D> {
         ensures call { IsCall D.DiskFacts (merge_event peer op) (merge_answered result)
             self.old self.new }
         ensures kind { IfErr result IsNotOfStore }
-        ensures store { self.new.store ≡ self.old.store }
     {
         self.locked.kept();
         self.flusher.kept();
@@ -76,7 +75,6 @@ impl<D: Disk> Hub<D> {
     pub fn tell(&mut self, clock: &Clock) -> Result<Vec<Op>, HubRefusal>
         ensures call { IsCall D.DiskFacts (tell_event clock.now) (told result) self.old self.new }
         ensures kind { IfErr result IsNotOfStore }
-        ensures store { self.new.store ≡ self.old.store }
     {
         self.locked.kept();
         self.flusher.kept();
@@ -93,7 +91,6 @@ impl<D: Disk> Hub<D> {
     pub fn have(&mut self) -> Result<Clock, HubRefusal>
         ensures call { IsCall D.DiskFacts have_event (had result) self.old self.new }
         ensures kind { IfErr result IsNotOfStore }
-        ensures store { self.new.store ≡ self.old.store }
     {
         self.locked.kept();
         self.flusher.kept();

@@ -2,3 +2,4 @@ pub mod CountLemmas
 pub mod EdgeLemmas
 pub mod EndLemmas
 pub mod KeepLemmas
+pub mod EndedLemmas

@@ -1,4 +1,5 @@
 pub mod Edges
+pub mod Ended
 pub mod Force
 pub mod Gathered
 pub mod Intervals

@@ -1,7 +1,8 @@
 ghost use Rattle.std.specs.Prelude.{◌≡◌, ◌↔◌, ℕ, List, [], ◌∷◌, ◌++◌, IfOk, IfErr, IsSome, OnOk, OnErr};
 ghost use Rattle.std.specs.Prelude.{filter, map, IsErrOf};
 ghost use Rattle.char_sequence.specs.Content.{Holds};
-ghost use Rattle.mark_anchors.specs.Edges.{AreEdges, AreKept};
+ghost use Rattle.mark_anchors.specs.Edges.{AreEdges};
+ghost use Rattle.mark_anchors.specs.Ended.{AreAllKept};
 ghost use Rattle.mark_anchors.specs.Force.{in_force as in_force_of, number};
 ghost use Rattle.mark_anchors.specs.Keeping.{in_order, AreMarksOf};
 ghost use Rattle.op_ids.specs.Id.{is_same};
@@ -13,6 +14,7 @@ ghost use Rattle.op_model.specs.Walk.{walk};
 
 use crate::edge::{Edge, end_edge, start_edge};
 use crate::edges::{at, edges_of, has_end_after, put};
+use crate::ended::{listed, note};
 use crate::force::in_force;
 use crate::naming::check_names;
 use crate::place::Place;
@@ -28,17 +30,19 @@ use std::marker::Model;
 pub struct Anchors {
     markings: Vec<Marking>,
     edges: Vec<Edge>,
+    /// The characters that they end just after, in their order.
+    ended: Vec<OpId>,
 }
 
 impl Model for Anchors {
     ghost use Rattle.mark_anchors.specs.Keeping.{Kept};
-    ghost use Rattle.mark_anchors.specs.Edges.{AreKept};
+    ghost use Rattle.mark_anchors.specs.Ended.{AreAllKept};
 
     ghost Value = { Kept };
 
     ghost view = { λ a. record { markings = a.markings.items; edges = a.edges.items } };
 
-    ghost invariant = { λ a. AreKept a.markings.items a.edges.items };
+    ghost invariant = { λ a. AreAllKept a.markings.items a.edges.items a.ended.items };
 }
 
 impl Anchors {
@@ -49,6 +53,7 @@ impl Anchors {
         Anchors {
             markings: Vec::new(alloc),
             edges: Vec::new(alloc),
+            ended: Vec::new(alloc),
         }
     }
 
@@ -60,7 +65,12 @@ impl Anchors {
             → markings.items ≡ markings_of ops doc → AreMarksOf a ops doc) }
     {
         let edges = edges_of(*markings.allocator(), &markings)?;
-        Ok(Anchors { markings, edges })
+        let ended = listed(*markings.allocator(), &markings)?;
+        Ok(Anchors {
+            markings,
+            edges,
+            ended,
+        })
     }
 
     /// Takes an operation of the document, whose characters are given: a mark operation is kept,
@@ -79,7 +89,7 @@ impl Anchors {
         ensures err { OnErr result (self.new ≡ self.old) }
     {
         check_names(sequence, &op.body)?;
-        keep(&mut self.markings, &mut self.edges, op)?;
+        keep(&mut self.markings, &mut self.edges, &mut self.ended, op)?;
         Ok(())
     }
 
@@ -133,21 +143,32 @@ impl EndsAfter for Anchors {
         self.are_edges();
         has_end_after(self.edges_at(id))
     }
+
+    /// Constant. One that several mark operations end just after stands there as often.
+    fn ended(&self) -> &[OpId] {
+        let _ = &self.markings;
+        &self.ended
+    }
 }
 
 /// Keeps a mark operation and its edges; another operation adds nothing. An error is want of memory
 /// (1), and leaves those that are kept as they were.
-fn keep(markings: &mut Vec<Marking>, edges: &mut Vec<Edge>, op: &Op) -> Result<(), AllocError>
-    requires { AreKept markings.old.items edges.old.items }
+fn keep(
+    markings: &mut Vec<Marking>,
+    edges: &mut Vec<Edge>,
+    ended: &mut Vec<OpId>,
+    op: &Op,
+) -> Result<(), AllocError>
+    requires { AreAllKept markings.old.items edges.old.items ended.old.items }
     ensures taken { OnOk result (markings.new.items
         ≡ markings.old.items ++ markings_of (op.now ∷ []) op.now.doc) }
-    ensures kept { AreKept markings.new.items edges.new.items }
+    ensures kept { AreAllKept markings.new.items edges.new.items ended.new.items }
     ensures memory { IfErr result (λ _. IsSome (marking_of op.now.id op.now.body)) }
     ensures err { OnErr result ((markings.new.items ≡ markings.old.items)
         × (edges.new.items ≡ edges.old.items)) }
 {
     match op.marking()? {
-        Some(marking) => add(markings, edges, marking),
+        Some(marking) => add(markings, edges, ended, marking),
         None => Ok(()),
     }
 }
@@ -157,19 +178,22 @@ fn keep(markings: &mut Vec<Marking>, edges: &mut Vec<Edge>, op: &Op) -> Result<(
 fn add(
     markings: &mut Vec<Marking>,
     edges: &mut Vec<Edge>,
+    ended: &mut Vec<OpId>,
     marking: Marking,
 ) -> Result<(), AllocError>
-    requires { AreKept markings.old.items edges.old.items }
+    requires { AreAllKept markings.old.items edges.old.items ended.old.items }
     ensures taken { OnOk result (markings.new.items ≡ markings.old.items ++ marking ∷ []) }
-    ensures kept { AreKept markings.new.items edges.new.items }
+    ensures kept { AreAllKept markings.new.items edges.new.items ended.new.items }
     ensures err { OnErr result ((markings.new.items ≡ markings.old.items)
         × (edges.new.items ≡ edges.old.items)) }
 {
     markings.reserve(1)?;
     edges.reserve(2)?;
+    ended.reserve(1)?;
     let i = markings.len();
     put(edges, start_edge(&marking.start, i));
     put(edges, end_edge(&marking.end, i));
+    note(ended, &marking.end);
     match markings.push(marking) {
         Ok(()) => Ok(()),
         Err(_) => unreachable!(),

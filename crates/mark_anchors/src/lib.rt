@@ -4,6 +4,7 @@
 mod anchors;
 mod edge;
 mod edges;
+mod ended;
 mod force;
 mod gathering;
 mod laws;

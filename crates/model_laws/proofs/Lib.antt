@@ -32,3 +32,5 @@ pub mod Limits
 pub mod EditLimits
 pub mod Grown
 pub mod GrownEdits
+pub mod LastOf
+pub mod Tickets

@@ -1,5 +1,5 @@
 -- The record that stands first.
-use Rattle.std.proofs.Common.{◌≡◌, ℕ, zero, suc, ◌<◌, Bool, List, [], ◌∷◌, ◌++◌, length, get_or, drop, Ok, Some, Result, Option, refl, sym, ap, ◌∙◌, arith}
+use Rattle.std.proofs.Common.{◌≡◌, ℕ, zero, suc, ◌<◌, Bool, List, [], ◌∷◌, ◌++◌, length, map, get_or, drop, Ok, Some, Result, Option, refl, sym, ap, ◌∙◌, arith}
 use Rattle.std.proofs.lemmas.List.{take_at, length-append, get_or-map}
 use Rattle.op_model.specs.Causality.{is_insert}
 use Rattle.op_model.specs.declared.op.Op.{Op}
@@ -10,7 +10,7 @@ use Rattle.change_codec.specs.declared.format.Format.TheVariants.{Third}
 use Rattle.change_codec.specs.declared.head.Head.{Head}
 use Rattle.change_codec.specs.Fits.{IsOperation}
 use Rattle.change_codec.specs.Heads.{kind_of, head_of as codec_head_of}
-use Rattle.change_codec.specs.Record.{taken, BeginsWithOp}
+use Rattle.change_codec.specs.Record.{taken, BeginsWithOp, BeginsWithSome}
 use Rattle.change_codec.specs.Spelling.{spelled}
 use Rattle.change_codec.specs.Stream.{spelled_all, AreOperations}
 use Rattle.change_codec.proofs.RecordLaws.{begins_taken, of_third}
@@ -81,3 +81,17 @@ pub head_at : (bytes : List ℕ) (ops : List Op) (i : ℕ) (head d : OpHead) (fi
     → i < length ops → head ≡ head_of first.op → head ≡ get_or (heads ops) i d
 head_at bytes ops i head d first lt is =
     is ∙ sym (ap head_of (first.at first.op)) ∙ sym (get_or-map head_of ops i first.op d lt)
+
+-- the records from the i-th on begin with some operation
+pub begins_some : (bytes : List ℕ) (ops : List Op) (i : ℕ) → i < length ops → AreOperations (drop i ops) → bytes ≡ spelled_all (drop i ops)
+    → BeginsWithSome bytes
+begins_some bytes ops i lt fits is = let first = first_of bytes ops i lt fits is in (first.op, first.len, first.begins)
+
+-- the token of the record is that of the i-th
+pub token_at : (bytes : List ℕ) (ops : List Op) (i : ℕ) (token d : Option ℕ) → i < length ops → AreOperations (drop i ops)
+    → bytes ≡ spelled_all (drop i ops) → ((op : Op) (n : ℕ) → BeginsWithOp bytes op n → token ≡ op.token)
+    → token ≡ get_or (map (λ op. op.token) ops) i d
+token_at bytes ops i token d lt fits is says =
+    let first = first_of bytes ops i lt fits is in
+    says first.op first.len first.begins
+    ∙ sym (ap (λ op. op.token) (first.at first.op)) ∙ sym (get_or-map (λ op. op.token) ops i first.op d lt)

@@ -11,7 +11,7 @@ use Rattle.change_codec.specs.Record.{taken}
 use Rattle.change_codec.specs.Stream.{spelled_all, AreOperations}
 use Rattle.change_codec.proofs.RecordLaws.{spelled_taken, of_third}
 use Rattle.change_codec.proofs.StreamLaws.{spelled_all-append, length-spelled_all}
-use Rattle.op_list.specs.Held.{found_then, ops_in, held, ends_of, Holds, IsHeld}
+use Rattle.op_list.specs.Held.{found_then, ops_in, held, ends_of, HoldsRecords, IsHeld}
 use Rattle.op_list.proofs.EndsOf.{end_at, length-ends_of, ends_of-take, ends_of-append, stream_length-append}
 
 -- what is spelled is read, whatever follows it
@@ -33,7 +33,7 @@ ops_in-spelled (op ∷ ops) rest fits =
     ∙ ap (λ others. op ∷ others) (ops_in-spelled ops rest fits.1)
 
 -- what is held is what is read
-pub held_is : (records ends : List ℕ) (ops : List Op) → Holds records ends ops
+pub held_is : (records ends : List ℕ) (ops : List Op) → HoldsRecords records ends ops
     → held records ends ≡ ops
 held_is records ends ops holds =
     let count : length ends ≡ length ops = ap length holds.ends_so ∙ length-ends_of 0 ops in
@@ -42,17 +42,17 @@ held_is records ends ops holds =
     ap (λ n. ops_in n records) count ∙ ap (ops_in (length ops)) bytes
     ∙ ops_in-spelled ops [] holds.fits
 
-pub is_held : (records ends : List ℕ) (ops : List Op) → Holds records ends ops → IsHeld records ends
+pub is_held : (records ends : List ℕ) (ops : List Op) → HoldsRecords records ends ops → IsHeld records ends
 is_held records ends ops holds =
-    subst (λ (read : List Op). Holds records ends read) (sym (held_is records ends ops holds)) holds
+    subst (λ (read : List Op). HoldsRecords records ends read) (sym (held_is records ends ops holds)) holds
 
 -- as many ends as operations
-pub ends_count : (records ends : List ℕ) (ops : List Op) → Holds records ends ops
+pub ends_count : (records ends : List ℕ) (ops : List Op) → HoldsRecords records ends ops
     → length ends ≡ length ops
 ends_count records ends ops holds = ap length holds.ends_so ∙ length-ends_of 0 ops
 
 -- the records are as long as the limit on a stream counts them
-pub records_length : (records ends : List ℕ) (ops : List Op) → Holds records ends ops
+pub records_length : (records ends : List ℕ) (ops : List Op) → HoldsRecords records ends ops
     → length records ≡ stream_length ops
 records_length records ends ops holds = ap length (sym holds.spelled_so) ∙ length-spelled_all ops
 
@@ -102,8 +102,8 @@ front_length n ops =
     )
 
 -- the first operations, held
-pub holds_front : (n : ℕ) (records ends : List ℕ) (ops : List Op) → Holds records ends ops
-    → Holds (take (stream_length (take n ops)) records) (take n ends) (take n ops)
+pub holds_front : (n : ℕ) (records ends : List ℕ) (ops : List Op) → HoldsRecords records ends ops
+    → HoldsRecords (take (stream_length (take n ops)) records) (take n ends) (take n ops)
 holds_front n records ends ops holds =
     let cut : spelled_all (take n ops) ≡ take (stream_length (take n ops)) records =
     sym (front_records n ops) ∙ ap (take (stream_length (take n ops))) holds.spelled_so in
@@ -123,15 +123,15 @@ holds_front n records ends ops holds =
     }
 
 -- the records of the others
-pub records_behind : (n : ℕ) (records ends : List ℕ) (ops : List Op) → Holds records ends ops
+pub records_behind : (n : ℕ) (records ends : List ℕ) (ops : List Op) → HoldsRecords records ends ops
     → drop (stream_length (take n ops)) records ≡ spelled_all (drop n ops)
 records_behind n records ends ops holds =
     ap (drop (stream_length (take n ops))) (sym holds.spelled_so) ∙ back_records n ops
 
 -- operations behind the others
-pub holds_more : (records ends : List ℕ) (ops more : List Op) → Holds records ends ops
+pub holds_more : (records ends : List ℕ) (ops more : List Op) → HoldsRecords records ends ops
     → AreOperations more → stream_length ops + stream_length more < 2 ^ 32
-    → Holds (records ++ spelled_all more) (ends ++ ends_of (length records) more) (ops ++ more)
+    → HoldsRecords (records ++ spelled_all more) (ends ++ ends_of (length records) more) (ops ++ more)
 holds_more records ends ops more holds fits small =
     let size = records_length records ends ops holds in
     let from_zero : stream_length ops ≡ 0 + stream_length ops = omega arith in
@@ -149,33 +149,33 @@ holds_more records ends ops more holds fits small =
     }
 
 -- nothing, held
-pub holds_none : Holds [] [] []
+pub holds_none : HoldsRecords [] [] []
 holds_none = record { spelled_so = refl; fits = tt; ends_so = refl; within = omega arith }
 
 -- the list that a value shows is held
 pub shown : (records ends : List ℕ) (ops : List Op) → IsHeld records ends
-    → held records ends ≡ ops → Holds records ends ops
-shown records ends ops is_held is = subst (λ (read : List Op). Holds records ends read) is is_held
+    → held records ends ≡ ops → HoldsRecords records ends ops
+shown records ends ops is_held is = subst (λ (read : List Op). HoldsRecords records ends read) is is_held
 
 -- a cut of the records and of the ends, held
 pub held_front : (n start : ℕ) (records ends front_records front_ends : List ℕ) (ops : List Op)
-    → Holds records ends ops
+    → HoldsRecords records ends ops
     → start ≡ stream_length (take n ops) → front_records ≡ take start records → front_ends ≡ take n
-    ends → Holds front_records front_ends (take n ops)
+    ends → HoldsRecords front_records front_ends (take n ops)
 held_front n start records ends front_records front_ends ops holds start_is records_are ends_are =
     let cut : front_records ≡ take (stream_length (take n ops)) records =
     records_are ∙ ap (λ k. take k records) start_is in
     let front = holds_front n records ends ops holds in
     let len = stream_length (take n ops) in
-    subst (λ (r : List ℕ). Holds r front_ends (take n ops)) (sym cut)
-    (subst (λ (e : List ℕ). Holds (take len records) e (take n ops)) (sym ends_are) front)
+    subst (λ (r : List ℕ). HoldsRecords r front_ends (take n ops)) (sym cut)
+    (subst (λ (e : List ℕ). HoldsRecords (take len records) e (take n ops)) (sym ends_are) front)
 
 -- no operation takes no bytes
 pub few_ops : (ops : List Op) → length ops ≤ stream_length ops
 few_ops [] = omega arith
 few_ops (op ∷ ops) = omega (arith, few_ops ops)
 
-pub few_ends : (records ends : List ℕ) (ops : List Op) → Holds records ends ops
+pub few_ends : (records ends : List ℕ) (ops : List Op) → HoldsRecords records ends ops
     → length ends < 2 ^ 32
 few_ends records ends ops holds =
     omega (
@@ -187,7 +187,7 @@ few_ends records ends ops holds =
     )
 
 -- where the n-th record begins, the end before it
-pub end_before : (n : ℕ) (records ends : List ℕ) (ops : List Op) → Holds records ends ops
+pub end_before : (n : ℕ) (records ends : List ℕ) (ops : List Op) → HoldsRecords records ends ops
     → 0 < n → n ≤ length ops → get_or ends (n - 1) 0 ≡ stream_length (take n ops)
 end_before n records ends ops holds some most =
     let back : suc (n - 1) ≡ n = omega (arith, some) in
@@ -200,11 +200,11 @@ end_before n records ends ops holds some most =
 
 -- records and ends behind the others, held
 pub held_more : (records ends more_records more_ends : List ℕ) (ops more : List Op)
-    → Holds records ends ops → AreOperations more
+    → HoldsRecords records ends ops → AreOperations more
     → stream_length ops + stream_length more < 2 ^ 32 → more_records ≡ records ++ spelled_all more
-    → more_ends ≡ ends ++ ends_of (length records) more → Holds more_records more_ends (ops ++ more)
+    → more_ends ≡ ends ++ ends_of (length records) more → HoldsRecords more_records more_ends (ops ++ more)
 held_more records ends more_records more_ends ops more holds fits small records_are ends_are =
     let whole = holds_more records ends ops more holds fits small in
-    subst (λ (r : List ℕ). Holds r more_ends (ops ++ more)) (sym records_are)
-    (subst (λ (e : List ℕ). Holds (records ++ spelled_all more) e (ops ++ more)) (sym ends_are)
+    subst (λ (r : List ℕ). HoldsRecords r more_ends (ops ++ more)) (sym records_are)
+    (subst (λ (e : List ℕ). HoldsRecords (records ++ spelled_all more) e (ops ++ more)) (sym ends_are)
     whole)

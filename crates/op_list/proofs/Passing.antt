@@ -10,7 +10,7 @@ use Rattle.change_codec.specs.Record.{BeginsWithOp}
 use Rattle.change_codec.specs.Stream.{spelled_all, AreOperations, IsNoStream}
 use Rattle.change_codec.proofs.Lengths.{length_spelled}
 use Rattle.change_codec.proofs.StreamLaws.{spelled_more, are_more, length-spelled_all, no_stream_behind, none_begins}
-use Rattle.op_list.specs.Held.{ends_of, Holds}
+use Rattle.op_list.specs.Held.{ends_of, HoldsRecords}
 use Rattle.op_list.proofs.EndsOf.{ends_of-append}
 
 -- the records of these operations stand before the rest, and end there
@@ -49,7 +49,7 @@ passed_more records rest after ends ops op n end passed begins after_is end_is =
 
 -- all were passed
 pub passed_all : (records rest ends : List ℕ) (ops : List Op) → Passed records rest ends ops
-    → rest ≡ [] → length records < 2 ^ 32 → Holds records ends ops
+    → rest ≡ [] → length records < 2 ^ 32 → HoldsRecords records ends ops
 passed_all records rest ends ops passed none small =
     record {
       spelled_so =

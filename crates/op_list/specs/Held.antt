@@ -28,7 +28,7 @@ ends_of start [] = []
 ends_of start (op ∷ ops) = (start + record_length op) ∷ ends_of (start + record_length op) ops
 
 -- these are the records of the list, and where each of them ends
-pub record Holds (records ends : List ℕ) (ops : List Op) : Type 0 where
+pub record HoldsRecords (records ends : List ℕ) (ops : List Op) : Type 0 where
   pub spelled_so : spelled_all ops ≡ records
   pub fits : AreOperations ops
   pub ends_so : ends ≡ ends_of 0 ops
@@ -36,4 +36,4 @@ pub record Holds (records ends : List ℕ) (ops : List Op) : Type 0 where
 
 -- the records are those of the operations that are read from them
 abbrev pub IsHeld : List ℕ → List ℕ → Type 0
-IsHeld records ends = Holds records ends (held records ends)
+IsHeld records ends = HoldsRecords records ends (held records ends)

@@ -3,7 +3,7 @@ ghost use Rattle.std.specs.Prelude.{◌≡◌, ◌+◌, ◌<◌, ◌≤◌, ◌^
 ghost use Rattle.change_codec.specs.declared.stream_error.StreamError.TheVariants.{Stream};
 ghost use Rattle.change_codec.specs.Formats.{AreOf};
 ghost use Rattle.change_codec.specs.Stream.{IsNoStream};
-ghost use Rattle.op_list.specs.Held.{ends_of, Holds};
+ghost use Rattle.op_list.specs.Held.{ends_of, HoldsRecords};
 ghost use Rattle.op_model.specs.Records.{stream_length};
 ghost use Rattle.op_model.specs.declared.op.Op.{Op as Operation};
 
@@ -15,8 +15,8 @@ use std::alloc::{AllocError, Global};
 /// of its operations; `Memory` (1) says nothing of them. One pass.
 pub fn find_ends(alloc: Global, format: Format, records: &[u8]) -> Result<Vec<u32>, StreamError>
     requires { length records.now < 2 ^ 32 }
-    ensures ok { IfOk result (λ ends. (ops : List Operation) × Holds records.now ends.items ops
-        × AreOf format ops) }
+    ensures ok { IfOk result (λ ends. (ops : List Operation)
+        × HoldsRecords records.now ends.items ops × AreOf format ops) }
     ensures none { IsErrOf result Stream → IsNoStream format records.now }
 {
     let mut ends = Vec::new(alloc);

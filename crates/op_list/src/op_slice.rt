@@ -1,11 +1,12 @@
-ghost use Rattle.std.specs.Prelude.{◌≡◌, ◌<◌, ◌≤◌, length, take, drop, slice_index_or, IfOk};
+ghost use Rattle.std.specs.Prelude.{◌≡◌, ◌<◌, ◌≤◌, length, map, take, drop, slice_index_or, IfOk};
 ghost use Rattle.op_list.specs.Heads.{heads};
 ghost use Rattle.op_list.specs.Held.{held, IsHeld};
 ghost use Rattle.op_model.specs.Records.{stream_length};
 ghost use Rattle.change_codec.specs.Stream.{spelled_all, AreOperations};
 
 use crate::head::OpHead;
-use change_codec::{CodecError, Format, StreamError, record_head, take_op, take_ops};
+use change_codec::{CodecError, Format, StreamError, record_head, record_token, take_op, take_ops};
+use op_ids::Token;
 use op_model::Op;
 use std::alloc::{AllocError, Global};
 use std::marker::Model;
@@ -63,6 +64,15 @@ impl<'a> OpSlice<'a> {
         ensures { result ≡ slice_index_or (heads self.now) i result }
     {
         OpHead::of_record(record_head(self.records_from(i)))
+    }
+
+    /// The token of the i-th operation, counted from 0, if it has one. Passes over its deps, at
+    /// most 16; takes no memory.
+    pub fn token(&self, i: usize) -> Option<Token>
+        requires { i < length self.now }
+        ensures { result ≡ slice_index_or (map (λ op. op.token) self.now) i result }
+    {
+        record_token(self.records_from(i))
     }
 
     /// The i-th operation, counted from 0. An error is want of memory (1). Linear in its record.

@@ -11,4 +11,6 @@ pub mod Placing
 pub mod Replay
 pub mod Held
 pub mod Telling
+pub mod Tokens
+pub mod Tickets
 pub mod Machine

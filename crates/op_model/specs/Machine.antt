@@ -2,18 +2,20 @@
 use Rattle.std.specs.Prelude.{◌≡◌, ◌⊎◌, ℕ, ◌+◌, ◌≤◌, ◌<◌, Bool, true, false, not, ◌||◌, ◌==◌}
 use Rattle.std.specs.Prelude.{nat_le, if◌then◌else◌, List, [], ◌∷◌, ◌++◌, length, take, drop}
 use Rattle.std.specs.Prelude.{Option, Some, None, is_some}
+use Rattle.std.specs.Option.{option_map, option_and_then}
 use Rattle.fixed_numbers.specs.declared.limits.TheConstants.{MAX_PENDING, MAX_STEPS, MAX_VERSION}
 use Rattle.fixed_numbers.specs.declared.refusals.TheConstants.{BUSY, FAILED, LIMIT, MEMORY, OWN_UNKNOWN, STEPS, STORE_FAILED}
 use Rattle.fixed_numbers.specs.declared.refusals.TheConstants.{SYNC_FAILED, WRITE_FAILED}
 use Rattle.op_model.specs.declared.op.Op.{Op}
 use Rattle.op_model.specs.declared.edit.Edit.{Edit}
 use Rattle.op_ids.specs.Clock.{is_ready}
-use Rattle.op_model.specs.Text.{rev}
 use Rattle.op_model.specs.Causality.{clock_of, is_known, first_failed}
 use Rattle.op_model.specs.Made.{made, edit_refusal}
 use Rattle.op_model.specs.Records.{stream_length}
 use Rattle.op_model.specs.Held.{ReplicaHeld, opened_with, settled_list, with_edit, with_merge, with_settled, with_acked, with_told}
 use Rattle.op_model.specs.Telling.{untold, reach}
+use Rattle.op_model.specs.Tokens.{carries, last_of}
+pub use Rattle.op_model.specs.Tickets.{Ticket, ticket_of, ticket_behind}
 
 -- a commit: of the first count operations of the list, and whether it is through
 pub record Commit : Type 0 where
@@ -28,11 +30,6 @@ pub record State : Type 0 where
   pub failed : Bool
   pub failure_told : Bool
   pub commit : Option Commit
-
--- what an edit's maker gets: the length of the list right after the edit, and the number of operations of its document
-pub record Ticket : Type 0 where
-  pub end : ℕ
-  pub rev : ℕ
 
 pub data Event : Type 0 where
   edit : ℕ → Edit → Event
@@ -72,9 +69,6 @@ pub data Answer : Type 0 where
 abbrev pub with_failure_told : State → State
 with_failure_told s = record s { failure_told = s.failed || s.failure_told }
 
-abbrev pub ticket_of : List Op → ℕ → Ticket
-ticket_of list doc = record { end = length list; rev = rev list doc }
-
 -- a step leaves two places behind it: for the settlements of the commit under way and of the one after it
 abbrev pub has_places : ReplicaHeld → Bool
 has_places h = nat_le (length h.steps + 3) MAX_STEPS
@@ -105,15 +99,36 @@ edit_answer_unless h e (Some n) = refused n
 edit_answer_unless h e None =
     if has_places h then ticket (ticket_of (h.list ++ made h.list h.replica e) e.doc) else refused STEPS
 
--- the answer to an edit of a replica without a store: its own refusals, steps 10
-abbrev pub edit_alone : ReplicaHeld → Edit → Answer
-edit_alone h e = edit_answer_unless h e (edit_refusal h.list h.replica e)
+-- the ticket of the edit that was made with this token, if one was
+abbrev pub token_ticket : ReplicaHeld → ℕ → Option Ticket
+token_ticket h token = option_map ticket_behind (last_of (carries h.replica token) h.list)
 
--- the answers to an edit, in the order of test: a failure that is told 9, those of the replica alone, no room for the records 8
-abbrev pub edit_answer : State → Edit → Answer
-edit_answer s e =
+-- the ticket that an edit had when it was made, if it has a token and was made
+abbrev pub known_ticket : ReplicaHeld → Edit → Option Ticket
+known_ticket h e = option_and_then (token_ticket h) e.token
+
+-- an edit that was made is answered as it was
+abbrev pub unless_known : Option Ticket → Answer → Answer
+unless_known None a = a
+unless_known (Some t) a = ticket t
+
+-- the answer to a new edit of a replica without a store: its own refusals, steps 10
+abbrev pub new_edit_alone : ReplicaHeld → Edit → Answer
+new_edit_alone h e = edit_answer_unless h e (edit_refusal h.list h.replica e)
+
+-- the answer to an edit of a replica without a store
+abbrev pub edit_alone : ReplicaHeld → Edit → Answer
+edit_alone h e = unless_known (known_ticket h e) (new_edit_alone h e)
+
+-- the answers to a new edit, in the order of test: a failure that is told 9, those of the replica alone, no room for the records 8
+abbrev pub new_edit_answer : State → Edit → Answer
+new_edit_answer s e =
     if s.failure_told then refused FAILED
-    else with_room (has_record_room s (made s.held.list s.held.replica e)) (edit_alone s.held e)
+    else with_room (has_record_room s (made s.held.list s.held.replica e)) (new_edit_alone s.held e)
+
+-- the answers to an edit: where it was made before, its ticket, even behind a failure
+abbrev pub edit_answer : State → Edit → Answer
+edit_answer s e = unless_known (known_ticket s.held e) (new_edit_answer s e)
 
 -- the answer to a merge that a check may refuse: steps 10
 abbrev pub merge_answer_unless : ReplicaHeld → Option ℕ → Answer
@@ -164,7 +179,7 @@ with_through s = record s { version = s.version + 1; commit = through s.commit }
 -- something
 abbrev pub IsRefusal : ℕ → Answer → Type 0
 IsRefusal n (refused m) = n ≡ m
-IsRefusal n (ticket t) = n ≡ MEMORY
+IsRefusal n (ticket t) = (t.known ≡ false) × (n ≡ MEMORY)
 IsRefusal n applied = n ≡ MEMORY
 IsRefusal n (begun m) = n ≡ MEMORY
 IsRefusal n _ = ⊥
@@ -173,8 +188,12 @@ IsRefusal n _ = ⊥
 abbrev pub holding : State → ReplicaHeld → State
 holding s h = record s { held = h }
 
+-- what the replica holds behind an edit with this ticket: one that was made before adds nothing
+abbrev pub after_edit : Ticket → ReplicaHeld → ℕ → Edit → ReplicaHeld
+after_edit t h session e = if t.known then h else with_edit h session e
+
 abbrev pub EditStep : State → ℕ → Edit → Answer → State → Type 0
-EditStep s session e (ticket t) next = (edit_answer s e ≡ ticket t) × (next ≡ holding s (with_edit s.held session e))
+EditStep s session e (ticket t) next = (edit_answer s e ≡ ticket t) × (next ≡ holding s (after_edit t s.held session e))
 EditStep s session e (refused n) next = IsRefusal n (edit_answer s e) × (next ≡ s)
 EditStep s session e _ next = ⊥
 

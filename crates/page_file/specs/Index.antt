@@ -60,7 +60,7 @@ pub record IsAtRest (tables : List ℕ) (count : ℕ) (index : Index) : Type 0 w
 
 -- Lists of tables, data pages, taken pages and ranges, of these lengths, fit their memory, and so will those of the next root; room is
 -- the number of its further pages.
-pub record HasRoom (room tables data_pages taken gaps tables_most data_most taken_most gaps_most : ℕ) : Type 0 where
+pub record HasRoomForPages (room tables data_pages taken gaps tables_most data_most taken_most gaps_most : ℕ) : Type 0 where
   pub for_tables : tables + (taken + room) ≤ tables_most
   pub for_data : data_pages + (taken + room) ≤ data_most
   pub for_taken : taken + room ≤ taken_most

@@ -19,8 +19,3 @@ pub use error::PageError;
 pub use page_numbers::{put_numbers, take_numbers};
 pub use pages::Pages;
 pub use reading::read_pages;
-
-#[cfg(test)]
-mod page_tests;
-#[cfg(test)]
-mod tests;

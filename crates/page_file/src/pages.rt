@@ -29,7 +29,7 @@ pub struct Pages {
 
 impl Model for Pages {
     ghost use Rattle.std.specs.Prelude.{◌+◌, ◌≤◌, ◌++◌, length, vec_len, vec_capacity};
-    ghost use Rattle.page_file.specs.Index.{Index, AreOthers, HasRoom};
+    ghost use Rattle.page_file.specs.Index.{Index, AreOthers, HasRoomForPages};
 
     ghost Value = { Index };
 
@@ -42,7 +42,7 @@ impl Model for Pages {
 
     ghost invariant = { λ p.
         AreOthers (p.taken.items ++ (p.tables.items ++ p.data_pages.items)) p.gaps.items
-        × HasRoom p.room
+        × HasRoomForPages p.room
         (vec_len p.tables) (vec_len p.data_pages) (vec_len p.taken) (vec_len p.gaps)
         (vec_capacity p.tables) (vec_capacity p.data_pages)
         (vec_capacity p.taken) (vec_capacity p.gaps) };

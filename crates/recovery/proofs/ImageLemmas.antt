@@ -5,7 +5,7 @@ use Rattle.op_model.specs.Causality.{IsCausallyClosed}
 use Rattle.change_codec.proofs.StreamLaws.{spelled_all-determines}
 use Rattle.root_slots.specs.Body.{root_of}
 use Rattle.root_slots.specs.Root.{version_of, replica_of}
-use Rattle.group_commit.specs.Commit.{Is}
+use Rattle.group_commit.specs.Commit.{IsRootOf}
 use Rattle.group_commit.specs.Loading.{IsHistory}
 use Rattle.group_commit.specs.Saved.{Saved}
 use Rattle.group_commit.specs.declared.open_fault.OpenError.TheVariants.{Memory as LoadMemory}
@@ -17,7 +17,7 @@ use Rattle.recovery.specs.declared.open_fault.OpenError.{OpenError}
 use Rattle.recovery.specs.declared.open_fault.OpenError.TheVariants.{Load, BadOperation}
 
 -- a file with a root, of which the stream is causally closed operations
-pub image_of : (root : Saved) (file : List ℕ) (replica : ℕ) (ops : List Op) → Is root file → IsHistory root replica ops → IsCausallyClosed ops
+pub image_of : (root : Saved) (file : List ℕ) (replica : ℕ) (ops : List Op) → IsRootOf root file → IsHistory root replica ops → IsCausallyClosed ops
     → IsImage file replica (version_of root.body) ops
 image_of root file replica ops is history closed =
     record {
@@ -31,7 +31,7 @@ image_of root file replica ops is history closed =
     }
 
 -- a file of which they aren't
-pub bad_of : (root : Saved) (file : List ℕ) (replica : ℕ) (ops : List Op) → Is root file → IsHistory root replica ops → (IsCausallyClosed ops → ⊥)
+pub bad_of : (root : Saved) (file : List ℕ) (replica : ℕ) (ops : List Op) → IsRootOf root file → IsHistory root replica ops → (IsCausallyClosed ops → ⊥)
     → HasBadOperation file
 bad_of root file replica ops is history broken =
     record {
@@ -85,7 +85,7 @@ no_sync e cause memory other = by_cause (is_memory e)
 
 -- a new store stands for the empty list of its replica
 pub empty_image : (root : Saved) (replica : ℕ) (file : List ℕ)
-    → root_of root.body ≡ record { version = 1; replica = replica; stream_length = 0; operations = 0; tables = [] } → root.stream ≡ [] → Is root file
+    → root_of root.body ≡ record { version = 1; replica = replica; stream_length = 0; operations = 0; tables = [] } → root.stream ≡ [] → IsRootOf root file
     → IsImage file replica 1 []
 empty_image root replica file says none is =
     record {

@@ -3,7 +3,7 @@ ghost use Rattle.std.specs.Prelude.{◌≡◌, ◌⊎◌, ℕ, List, []};
 ghost use Rattle.fixed_numbers.specs.declared.refusals.TheConstants.{MEMORY};
 ghost use Rattle.op_model.specs.declared.op.Op.{Op};
 ghost use Rattle.root_slots.specs.Body.{root_of};
-ghost use Rattle.group_commit.specs.Commit.{Is};
+ghost use Rattle.group_commit.specs.Commit.{IsRootOf};
 ghost use Rattle.group_commit.specs.Saved.{Saved};
 ghost use Rattle.recovery.specs.declared.open_fault.OpenError.{OpenError};
 ghost use Rattle.recovery.specs.Faults.{number_of, failures_of, IsFault};
@@ -17,7 +17,7 @@ pub fn a_new_store_is_empty()
       stream_length = 0;
       operations = 0;
       tables = [];
-    } → root.stream ≡ [] → Is root file → IsImage file replica 1 [] }
+    } → root.stream ≡ [] → IsRootOf root file → IsImage file replica 1 [] }
 {}
 
 /// A file has one image at most.

@@ -1,5 +1,5 @@
 //! The world: any number of replicas that tell one another their operations.
-ghost use Rattle.world_law.specs.Laws.{Always, EachFrontIsOne, HoldsOneOperation, KeepsWhatWasTold};
+ghost use Rattle.world_law.specs.Laws.{Always, AnsweredForever, EachFrontIsOne, HoldsOneOperation, KeepsWhatWasTold};
 ghost use Rattle.world_law.specs.Laws.{NeverMadeAgain, ShowsTheSame, TellsOneOperation};
 
 /// No id names two things, anywhere, ever: for any number of replicas with numbers of their own,
@@ -16,6 +16,8 @@ pub fn world()
     ensures same_shown { Always ShowsTheSame }
     // What was told is among its maker's settled operations, across all its crashes.
     ensures settled { Always KeepsWhatWasTold }
+    // Once an edit is settled, its token has the same ticket, across all its replica's crashes.
+    ensures answered { AnsweredForever }
     // So it is at each moment of a history, and not behind it alone.
     ensures moments { EachFrontIsOne }
 {}

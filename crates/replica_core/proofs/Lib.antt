@@ -19,3 +19,4 @@ pub mod DraftLemmas
 pub mod CountLemmas
 pub mod EditLemmas
 pub mod RevLemmas
+pub mod KnownLemmas

@@ -11,7 +11,7 @@ use Rattle.op_model.specs.declared.op.Op.{Op}
 use Rattle.op_model.specs.Causality.{clock_of, made_by, is_known, IsCausallyClosed}
 use Rattle.model_laws.proofs.Ready.{count_made}
 use Rattle.replica_core.specs.Makers.{places_from}
-use Rattle.replica_core.specs.Telling.{IsNext}
+use Rattle.replica_core.specs.Telling.{IsNextUntold}
 use Rattle.replica_core.proofs.FollowLemmas.{follows_front}
 use Rattle.replica_core.proofs.OwnLemmas.{count_rises, count_within, count_passes, counted_below, place_at, place_kept}
 
@@ -54,7 +54,7 @@ known_unless clock op never = elim (cases_Bool (is_known clock op)) [ inl known 
 
 -- the index of the first one behind those is the next one
 pub next_there : (clock : List (ℕ × ℕ)) (ops : List Op) (r from at p : ℕ) → ArePassed clock ops r from at → at < length (places_from 0 ops r)
-    → p ≡ get_or (places_from 0 ops r) at 0 → IsNext clock (λ op. op.id.replica == r) ops from p
+    → p ≡ get_or (places_from 0 ops r) at 0 → IsNextUntold clock (λ op. op.id.replica == r) ops from p
 next_there clock ops r from at p passed there is_p =
     let place = place_at ops r at p there is_p in
     let before = place.before in
@@ -79,7 +79,7 @@ next_there clock ops r from at p passed there is_p =
 
 -- where there is none behind those, there is no next one
 pub next_none : (clock : List (ℕ × ℕ)) (ops : List Op) (r from at : ℕ) → ArePassed clock ops r from at → length (places_from 0 ops r) ≤ at
-    → IsNext clock (λ op. op.id.replica == r) ops from (length ops)
+    → IsNextUntold clock (λ op. op.id.replica == r) ops from (length ops)
 next_none clock ops r from at passed none = record {
   within = omega arith;
   known = λ k op behind less is_it asked.
@@ -93,8 +93,8 @@ next_none clock ops r from at passed none = record {
 }
 
 -- of two next ones the lesser is that of all that are asked for
-pub next_of_both : (clock : List (ℕ × ℕ)) (one two both : Op → Bool) (ops : List Op) (from a b n : ℕ) → IsNext clock one ops from a → IsNext clock two ops from b
-    → n ≡ min a b → ((op : Op) → both op ≡ true → (one op ≡ true) ⊎ (two op ≡ true)) → IsNext clock both ops from n
+pub next_of_both : (clock : List (ℕ × ℕ)) (one two both : Op → Bool) (ops : List Op) (from a b n : ℕ) → IsNextUntold clock one ops from a → IsNextUntold clock two ops from b
+    → n ≡ min a b → ((op : Op) → both op ≡ true → (one op ≡ true) ⊎ (two op ≡ true)) → IsNextUntold clock both ops from n
 next_of_both clock one two both ops from a b n first second is_n asked = record {
   within = let x = first.within in omega arith;
   known = λ k op behind less is_it ask. elim (asked op ask) [
@@ -118,7 +118,7 @@ next_of_both clock one two both ops from a b n first second is_n asked = record 
     ]
 
 -- none is asked for
-pub next_at_first : (clock : List (ℕ × ℕ)) (ops : List Op) (from : ℕ) → IsNext clock (λ op. nat_lt 0 (count_of [] op.id.replica)) ops from (length ops)
+pub next_at_first : (clock : List (ℕ × ℕ)) (ops : List Op) (from : ℕ) → IsNextUntold clock (λ op. nat_lt 0 (count_of [] op.id.replica)) ops from (length ops)
 next_at_first clock ops from = record {
   within = omega arith;
   known = λ k op behind less is_it asked. absurd (false≢true asked);
@@ -156,7 +156,7 @@ all_asked ops k op there is_it =
     lt-ltb 0 (count_of (clock_of ops) op.id.replica) (omega arith)
 
 pub next_of_all : (clock : List (ℕ × ℕ)) (ops : List Op) (counts : List (ℕ × ℕ)) (from next : ℕ) → counts ≡ clock_of ops
-    → IsNext clock (λ op. nat_lt 0 (count_of counts op.id.replica)) ops from next → IsNext clock (λ op. true) ops from next
+    → IsNextUntold clock (λ op. nat_lt 0 (count_of counts op.id.replica)) ops from next → IsNextUntold clock (λ op. true) ops from next
 next_of_all clock ops counts from next is_counts among = record {
   within = among.within;
   known = λ k op behind less is_it asked.
@@ -176,7 +176,7 @@ passed_by clock ops r from at below known places closed are within point counted
 
 -- where none of a replica's are kept, there is no next one
 pub next_of_none : (clock : List (ℕ × ℕ)) (ops : List Op) (r from : ℕ) → IsCausallyClosed ops → places_from 0 ops r ≡ []
-    → IsNext clock (λ op. op.id.replica == r) ops from (length ops)
+    → IsNextUntold clock (λ op. op.id.replica == r) ops from (length ops)
 next_of_none clock ops r from closed none =
     let empty = ap length none in
     next_none clock ops r from _ (record { closed = closed; passed = refl }) (omega arith)

@@ -16,7 +16,7 @@ use Rattle.op_model.specs.Causality.{clock_of, documents, made_by, first_failed,
 use Rattle.op_model.specs.Causality.{names_inserts, MayFollow}
 use Rattle.op_model.specs.Made.{is_at_rev, is_inside, is_small, made, numbered, bodies_of, greatest_counter, edit_refusal, size_of}
 use Rattle.op_model.specs.Records.{stream_length}
-use Rattle.op_model.specs.Machine.{Ticket, edit_alone, merge_alone, applied, ticket}
+use Rattle.op_model.specs.Machine.{new_edit_alone, merge_alone, applied, ticket}
 use Rattle.op_model.specs.Replay.{Kept, edited, merged, Joins, Replays}
 use Rattle.op_model.specs.Spans.{with_number}
 use Rattle.op_model.specs.Text.{rev, visible}
@@ -116,16 +116,16 @@ due_counts ops replica e due =
     let within = count_by-le-length (λ (op : Op). op.doc == e.doc) ops in
     (omega arith, omega arith)
 
--- what is answered to an edit that nothing refuses
-pub edit_alone-due : (h : ReplicaHeld) (e : Edit) (t : Ticket) → CanEdit h e
-    → t.end ≡ length h.list + size_of e.change → t.rev ≡ rev h.list e.doc + size_of e.change
-    → edit_alone h e ≡ ticket t
-edit_alone-due h e t can end revs =
+-- what is answered to a new edit that nothing refuses
+pub new_edit_alone-due : (h : ReplicaHeld) (e : Edit) (end revs : ℕ) → CanEdit h e
+    → end ≡ length h.list + size_of e.change → revs ≡ rev h.list e.doc + size_of e.change
+    → new_edit_alone h e ≡ ticket (record { end = end; rev = revs; known = false })
+new_edit_alone-due h e end revs can ends counts =
     let fits : nat_le (length h.steps + 3) 1048576 ≡ true = le-leb (length h.steps + 3) 1048576 can.places in
     let right = due_asks_right h.list h.replica e can.due in
-    let long : length (h.list ++ made h.list h.replica e) ≡ t.end =
-    length-append h.list (made h.list h.replica e) ∙ (ap (λ n. length h.list + n) (length-made h.list h.replica e right) ∙ sym end) in
-    let number : rev (h.list ++ made h.list h.replica e) e.doc ≡ t.rev = rev-made h.list h.replica e can.due ∙ sym revs in
+    let long : length (h.list ++ made h.list h.replica e) ≡ end =
+    length-append h.list (made h.list h.replica e) ∙ (ap (λ n. length h.list + n) (length-made h.list h.replica e right) ∙ sym ends) in
+    let number : rev (h.list ++ made h.list h.replica e) e.doc ≡ revs = rev-made h.list h.replica e can.due ∙ sym counts in
     rw (can.due, fits, long, number) refl
 
 -- what a replica keeps is kept by an edit

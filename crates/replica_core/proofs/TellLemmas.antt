@@ -7,7 +7,7 @@ use Rattle.std.proofs.Math.Seq.{take-nil}
 use Rattle.op_model.specs.declared.op.Op.{Op}
 use Rattle.op_model.specs.Causality.{is_known}
 use Rattle.op_model.specs.Telling.{due, last_number, reach, untold}
-use Rattle.replica_core.specs.Telling.{IsNext}
+use Rattle.replica_core.specs.Telling.{IsNextUntold}
 
 -- those of the operations from an index on that a clock doesn't count, each with its number
 abbrev pub new_from : List (ℕ × ℕ) → List Op → ℕ → List (ℕ × Op)
@@ -53,7 +53,7 @@ from_between c ops from next behind within counted =
     rw (many.1) (from_over c ops from many.0 (rw (many.1) at within) (rw (many.1) at counted))
 
 -- what is known of the front of a list, from what is next in the list
-pub known_in_front : (c : List (ℕ × ℕ)) (ops : List Op) (from next to settled : ℕ) → IsNext c (λ op. true) ops from next → to ≤ next → to ≤ settled
+pub known_in_front : (c : List (ℕ × ℕ)) (ops : List Op) (from next to settled : ℕ) → IsNextUntold c (λ op. true) ops from next → to ≤ next → to ≤ settled
     → AreKnown c (take settled ops) from to
 known_in_front c ops from next to settled is_next first second = λ k op behind less is_it.
     is_next.known k op behind (omega arith) (is_it ∙ get_or-take settled ops k op (omega arith)) refl

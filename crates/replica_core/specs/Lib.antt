@@ -10,3 +10,4 @@ pub mod Makers
 pub mod Indexes
 pub mod Docs
 pub mod Telling
+pub mod Known

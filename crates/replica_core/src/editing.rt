@@ -1,5 +1,5 @@
 ghost use Rattle.std.specs.Prelude.{◌≡◌, IfOk, IfErr, OnOk, OnErr};
-ghost use Rattle.op_model.specs.Machine.{edit_alone, IsRefusal, ticket, refused};
+ghost use Rattle.op_model.specs.Machine.{after_edit, edit_alone, new_edit_alone, IsRefusal, ticket, refused};
 ghost use Rattle.op_model.specs.Held.{with_edit};
 ghost use Rattle.replica_core.specs.Decided.{IsDecided};
 ghost use Rattle.replica_core.specs.Refusal.{number_of};
@@ -18,30 +18,35 @@ use ghost_lists::Seen;
 use op_model::Edit;
 
 impl Replica {
-    /// Makes the operations of a session's edit and puts them behind the list. It is refused by the
-    /// first cause, in this order: `Stale` (6), `Range` (5), `Limit` (7), `Steps` (10); `Memory`
-    /// (1) stands only in place of success. A refused edit changes nothing. Costs what
-    /// `decide_edit` and `put_edit` do.
+    /// Makes the operations of a session's edit and puts them behind the list. An edit that was
+    /// made before, under its token, has the ticket that it had then, and changes nothing. Another
+    /// one is refused by the first cause, in this order: `Stale` (6), `Range` (5), `Limit` (7),
+    /// `Steps` (10); `Memory` (1) stands only in place of success. A refused edit changes nothing.
+    /// Costs what `known`, `decide_edit` and `put_edit` do.
     pub fn edit(&mut self, session: u64, edit: &Edit) -> Result<Ticket, Refusal>
-        ensures made { OnOk result (self.new ≡ with_edit self.old session edit.now) }
+        ensures made { IfOk result (λ t.
+            self.new ≡ after_edit t self.old session edit.now) }
         ensures ticket { IfOk result (λ t.
             edit_alone self.old edit.now ≡ ticket t) }
         ensures refused { IfErr result (λ e.
             IsRefusal (number_of e) (edit_alone self.old edit.now)) }
         ensures err { OnErr result (self.new ≡ self.old) }
     {
+        if let Some(ticket) = self.known(edit) {
+            return Ok(ticket);
+        }
         let decided = self.decide_edit(edit)?;
         self.put_edit(session, edit, decided)
     }
 
-    /// How many bytes the records take of the operations that an edit would put behind the list,
+    /// How many bytes the records take of the operations that a new edit would put behind the list,
     /// and the place of its document, or why it is refused, by the first cause: `Stale` (6),
     /// `Range` (5), `Limit` (7), `Steps` (10). Takes no memory. A few steps for clocks, a search by
     /// halves for the document, and linear in it.
     pub fn decide_edit(&self, edit: &Edit) -> Result<Decided, Refusal>
         ensures decided { IfOk result (IsDecided self.now edit.now) }
         ensures refused { IfErr result (λ e.
-            edit_alone self.now edit.now ≡ refused (number_of e)) }
+            new_edit_alone self.now edit.now ≡ refused (number_of e)) }
     {
         let log = &self.log;
         let ops = log.list.as_slice();
@@ -56,9 +61,9 @@ impl Replica {
         Ok(Decided { bytes, place })
     }
 
-    /// Makes the operations of a session's edit that nothing refuses, as `decide_edit` tells, and
-    /// puts them behind the list. An error is want of memory (1), and changes nothing. A few steps
-    /// for clocks, and what the document takes for it, which isn't searched again.
+    /// Makes the operations of a session's new edit that nothing refuses, as `decide_edit` tells,
+    /// and puts them behind the list. An error is want of memory (1), and changes nothing. A few
+    /// steps for clocks, and what the document takes for it, which isn't searched again.
     pub fn put_edit(
         &mut self,
         session: u64,
@@ -68,7 +73,7 @@ impl Replica {
         requires { IsDecided self.old edit.now decided }
         ensures made { OnOk result (self.new ≡ with_edit self.old session edit.now) }
         ensures ticket { IfOk result (λ t.
-            edit_alone self.old edit.now ≡ ticket t) }
+            new_edit_alone self.old edit.now ≡ ticket t) }
         ensures memory { IfErr result (λ e. e ≡ Refusal.Memory) }
         ensures err { OnErr result (self.new ≡ self.old) }
     {
@@ -98,6 +103,7 @@ impl Replica {
         Ok(Ticket {
             end: first + count,
             rev: rev + count,
+            known: false,
         })
     }
 }

@@ -10,6 +10,7 @@ mod drafts;
 mod editing;
 mod following;
 mod index;
+mod known;
 mod lengths;
 mod log;
 mod maker;
@@ -30,16 +31,3 @@ pub use merged::Merged;
 pub use refusal::Refusal;
 pub use replica::Replica;
 pub use ticket::Ticket;
-
-#[cfg(test)]
-mod edit_tests;
-#[cfg(test)]
-mod merge_tests;
-#[cfg(test)]
-mod tell_tests;
-#[cfg(test)]
-mod test_asks;
-#[cfg(test)]
-mod test_exchange;
-#[cfg(test)]
-mod test_peers;

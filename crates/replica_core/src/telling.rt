@@ -3,7 +3,7 @@ ghost use Rattle.op_model.specs.Causality.{IsCausallyClosed};
 ghost use Rattle.op_model.specs.Telling.{reach, untold as untold_of};
 ghost use Rattle.replica_core.specs.Deciding.{AreCounted};
 ghost use Rattle.replica_core.specs.Indexes.{IsIndexOf};
-ghost use Rattle.replica_core.specs.Telling.{IsNext};
+ghost use Rattle.replica_core.specs.Telling.{IsNextUntold};
 
 use crate::index::Index;
 use crate::maker::count_below;
@@ -50,7 +50,7 @@ pub fn untold(
 /// length of the list. For each replica a search by halves.
 fn next_untold(peer: &Clock, ops: &OpSlice<'_>, clock: &Clock, index: &Index, from: usize) -> usize
     requires { AreCounted ops.now clock.now index.now }
-    ensures { IsNext peer.now (λ op. true) ops.now from result }
+    ensures { IsNextUntold peer.now (λ op. true) ops.now from result }
 {
     let mut next = ops.len();
     for entry in clock.entries() {
@@ -64,7 +64,7 @@ fn next_untold(peer: &Clock, ops: &OpSlice<'_>, clock: &Clock, index: &Index, fr
 fn next_of(peer: &Clock, ops: &OpSlice<'_>, index: &Index, replica: ReplicaId, from: usize) -> usize
     requires closed { IsCausallyClosed ops.now }
     requires index { IsIndexOf index.now ops.now }
-    ensures { IsNext peer.now (λ op. op.id.replica == replica) ops.now from result }
+    ensures { IsNextUntold peer.now (λ op. op.id.replica == replica) ops.now from result }
 {
     match index.places_of(replica) {
         Some(places) => {

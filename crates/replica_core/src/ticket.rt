@@ -1,12 +1,13 @@
 use std::marker::Model;
 
-/// What the maker of an edit gets: the length of the list right after the edit, and how many
-/// operations the edit's document had then. It is plain data that anybody may write out. Contracts
-/// see the machine's ticket.
+/// What the maker of an edit gets: the length of the list right after the edit, how many operations
+/// the edit's document had then, and whether the edit was made before, under its token. It is plain
+/// data that anybody may write out. Contracts see the machine's ticket.
 #[derive(Clone, Copy, Debug, PartialEq, Eq)]
 pub struct Ticket {
     pub end: usize,
     pub rev: usize,
+    pub known: bool,
 }
 
 impl Model for Ticket {
@@ -14,7 +15,7 @@ impl Model for Ticket {
 
     ghost Value = { TicketValue };
 
-    ghost view = { λ t. record { end = t.end; rev = t.rev } };
+    ghost view = { λ t. record { end = t.end; rev = t.rev; known = t.known } };
 
-    ghost inverse = { λ t. record { end = t.end; rev = t.rev } };
+    ghost inverse = { λ t. record { end = t.end; rev = t.rev; known = t.known } };
 }

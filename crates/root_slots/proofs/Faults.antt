@@ -1,11 +1,11 @@
 -- Which refusal names which fault.
 use Rattle.std.proofs.Common.{◌≡◌, ◌⊎◌, ℕ, refl, inl, inr, Result, Ok, Err, IsOk}
-use Rattle.root_slots.specs.Faults.{Names, failures_of}
+use Rattle.root_slots.specs.Faults.{NamesRootFault, failures_of}
 use Rattle.root_slots.specs.declared.error.RootsError.{RootsError}
 use Rattle.root_slots.specs.declared.error.RootsError.TheVariants.{Memory, NoRoot, BadRoot, ReadFailed}
 
 -- what the search behind another one meets first
-pub names_on : {A B : Type 0} (e : RootsError) (r : Result A ℕ) (s : Result B ℕ) → ((n : ℕ) → r ≡ Err n → s ≡ Err n) → Names e r → Names e s
+pub names_on : {A B : Type 0} (e : RootsError) (r : Result A ℕ) (s : Result B ℕ) → ((n : ℕ) → r ≡ Err n → s ≡ Err n) → NamesRootFault e r → NamesRootFault e s
 names_on Memory r s on named = tt
 names_on NoRoot r s on named = on 42 named
 names_on BadRoot r s on named = on 43 named

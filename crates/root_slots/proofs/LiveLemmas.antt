@@ -10,7 +10,7 @@ use Rattle.disk_trait.specs.declared.facts.DiskFacts.{Ghosts}
 use Rattle.page_file.proofs.Parts.{part_written}
 use Rattle.root_slots.specs.Root.{version_of}
 use Rattle.root_slots.specs.Slots.{gate, body, picked, live}
-use Rattle.root_slots.specs.Survivors.{Leaves, IsNewer, Lives, LivesOverOpen, LivesAlone, LivesBeforeNewer, LivesOrOther}
+use Rattle.root_slots.specs.Survivors.{EachSurvivorIs, IsNewer, Lives, LivesOverOpen, LivesAlone, LivesBeforeNewer, LivesOrOther}
 use Rattle.root_slots.proofs.SlotReads.{live_below}
 use Rattle.root_slots.proofs.SlotWrites.{slot_beside, body_behind_gate, gate_before_body, gate_written}
 
@@ -178,7 +178,7 @@ opened_other slot d c torn is it =
 
 -- what a torn write makes of each file that a crash could leave, a crash may leave behind it
 pub leaves_torn : {D : Type 0} (facts : Ghosts D) (at n : ℕ) (old new : D) (Before Behind : List ℕ → Type 0) → Tears facts at n old new
-    → ((d c : List ℕ) → Torn at n d c → Before d → Behind c) → Leaves facts old Before → Leaves facts new Behind
+    → ((d c : List ℕ) → Torn at n d c → Before d → Behind c) → EachSurvivorIs facts old Before → EachSurvivorIs facts new Behind
 leaves_torn facts at n old new Before Behind tears step before = λ c left.
     let from = tears.no_more c left in
     step from.0 c from.2 (before from.0 from.1)

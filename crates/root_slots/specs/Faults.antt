@@ -24,8 +24,8 @@ failed_in (Ok x) = 0
 failed_in (Err e) = failures_of e
 
 -- this refusal names the first fault of what was sought in a file; one of memory or of the device says nothing of it
-abbrev pub Names : {T : Type 0} → RootsError → Result T ℕ → Type 0
-Names Memory found = ⊤
-Names NoRoot found = found ≡ Err NO_ROOT
-Names BadRoot found = found ≡ Err BAD_ROOT
-Names ReadFailed found = ⊤
+abbrev pub NamesRootFault : {T : Type 0} → RootsError → Result T ℕ → Type 0
+NamesRootFault Memory found = ⊤
+NamesRootFault NoRoot found = found ≡ Err NO_ROOT
+NamesRootFault BadRoot found = found ≡ Err BAD_ROOT
+NamesRootFault ReadFailed found = ⊤

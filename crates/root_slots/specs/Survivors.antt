@@ -5,8 +5,8 @@ use Rattle.root_slots.specs.Root.{version_of}
 use Rattle.root_slots.specs.Slots.{gate, body, live}
 
 -- every file that a crash now may leave is so
-abbrev pub Leaves : {D : Type 0} → Ghosts D → D → (List ℕ → Type 0) → Type 0
-Leaves facts disk Is_so = (c : List ℕ) → facts.survives disk c → Is_so c
+abbrev pub EachSurvivorIs : {D : Type 0} → Ghosts D → D → (List ℕ → Type 0) → Type 0
+EachSurvivorIs facts disk Is_so = (c : List ℕ) → facts.survives disk c → Is_so c
 
 -- this slot of the file is live
 abbrev pub Lives : ℕ → List ℕ → Type 0

@@ -16,8 +16,3 @@ pub use error::RootsError;
 pub use fields::tables_for;
 pub use root_body::RootBody;
 pub use roots::{LoadedRoots, Roots};
-
-#[cfg(test)]
-mod roots_tests;
-#[cfg(test)]
-mod tests;

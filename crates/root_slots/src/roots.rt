@@ -6,8 +6,8 @@ ghost use Rattle.disk_trait.specs.declared.error.DiskError.TheVariants.{WriteFai
 ghost use Rattle.page_file.specs.DiskCalls.{IsLookedAt, IsWrite};
 ghost use Rattle.root_slots.specs.Slots.{gate, gate_place, body_place, live};
 ghost use Rattle.root_slots.specs.Live.{AreRead, live_root};
-ghost use Rattle.root_slots.specs.Faults.{Names, failed_in};
-ghost use Rattle.root_slots.specs.Survivors.{Leaves, IsNewer, Lives, LivesAlone, LivesOrOther};
+ghost use Rattle.root_slots.specs.Faults.{NamesRootFault, failed_in};
+ghost use Rattle.root_slots.specs.Survivors.{EachSurvivorIs, IsNewer, Lives, LivesAlone, LivesOrOther};
 ghost use Rattle.root_slots.specs.Survivors.{LivesOverOpen, LivesBeforeNewer};
 ghost use Rattle.root_slots.specs.declared.error.RootsError.TheVariants.{Memory};
 
@@ -81,7 +81,7 @@ impl Roots {
         ensures read { IfOk result
             (λ it. AreRead D.DiskFacts disk.old it.roots it.root it.file_size) }
         ensures fault { D.tells disk.old
-            → IfErr result (λ e. Names e (live_root (D.content disk.old))) }
+            → IfErr result (λ e. NamesRootFault e (live_root (D.content disk.old))) }
         ensures memory { D.tells disk.old
             → IfErr result (λ e. e ≡ Memory → IsOk (live (D.content disk.old))) }
         ensures looks { IsLookedAt D.DiskFacts (failed_in result) 0 disk.old disk.new }
@@ -132,10 +132,10 @@ impl Roots {
         ensures writes { IsWrite D.DiskFacts result (gate_place (1 - self.now.slot)) (0 ∷ [])
             disk.old disk.new }
         ensures live { D.tells disk.old
-            → Leaves D.DiskFacts disk.old (LivesOverOpen self.now.slot)
-            → Leaves D.DiskFacts disk.new (Lives self.now.slot) }
+            → EachSurvivorIs D.DiskFacts disk.old (LivesOverOpen self.now.slot)
+            → EachSurvivorIs D.DiskFacts disk.new (Lives self.now.slot) }
         ensures closed { D.tells disk.old
-            → Leaves D.DiskFacts disk.old (LivesOverOpen self.now.slot)
+            → EachSurvivorIs D.DiskFacts disk.old (LivesOverOpen self.now.slot)
             → OnOk result (LivesAlone self.now.slot (D.content disk.new)) }
         ensures refused { IfErr result (λ e. e ≡ WriteFailed) }
     {
@@ -151,10 +151,10 @@ impl Roots {
         ensures writes { IsWrite D.DiskFacts result (body_place (1 - self.now.slot)) body.now
             disk.old disk.new }
         ensures live { D.tells disk.old
-            → Leaves D.DiskFacts disk.old (LivesAlone self.now.slot)
-            → Leaves D.DiskFacts disk.new (LivesAlone self.now.slot) }
+            → EachSurvivorIs D.DiskFacts disk.old (LivesAlone self.now.slot)
+            → EachSurvivorIs D.DiskFacts disk.new (LivesAlone self.now.slot) }
         ensures put { D.tells disk.old
-            → Leaves D.DiskFacts disk.old (LivesAlone self.now.slot)
+            → EachSurvivorIs D.DiskFacts disk.old (LivesAlone self.now.slot)
             → IsNewer self.now.slot (D.content disk.old) body.now
             → OnOk result (LivesBeforeNewer self.now.slot (D.content disk.new)) }
         ensures refused { IfErr result (λ e. e ≡ WriteFailed) }
@@ -169,10 +169,10 @@ impl Roots {
         ensures writes { IsWrite D.DiskFacts result (gate_place (1 - self.now.slot)) (1 ∷ [])
             disk.old disk.new }
         ensures live { D.tells disk.old
-            → Leaves D.DiskFacts disk.old (LivesBeforeNewer self.now.slot)
-            → Leaves D.DiskFacts disk.new (LivesOrOther self.now.slot) }
+            → EachSurvivorIs D.DiskFacts disk.old (LivesBeforeNewer self.now.slot)
+            → EachSurvivorIs D.DiskFacts disk.new (LivesOrOther self.now.slot) }
         ensures opened { D.tells disk.old
-            → Leaves D.DiskFacts disk.old (LivesBeforeNewer self.now.slot)
+            → EachSurvivorIs D.DiskFacts disk.old (LivesBeforeNewer self.now.slot)
             → OnOk result (Lives (1 - self.now.slot) (D.content disk.new)) }
         ensures refused { IfErr result (λ e. e ≡ WriteFailed) }
     {

@@ -5,7 +5,7 @@ ghost use Rattle.root_slots.specs.Body.{IsRoot, Spells};
 ghost use Rattle.root_slots.specs.Root.{version_of};
 ghost use Rattle.root_slots.specs.Slots.{gate, body, greater, live};
 ghost use Rattle.root_slots.specs.Live.{IsLive, rooted, live_root};
-ghost use Rattle.root_slots.specs.Faults.{Names};
+ghost use Rattle.root_slots.specs.Faults.{NamesRootFault};
 ghost use Rattle.root_slots.specs.declared.error.RootsError.TheVariants.{Memory, NoRoot, BadRoot};
 
 use crate::error::RootsError;
@@ -56,7 +56,7 @@ fn version_at(body: &[u8]) -> u64
 fn greater(version0: u64, version1: u64) -> Result<u64, RootsError>
     ensures slot { IfOk result (λ slot. greater version0 version1 ≡ Ok slot) }
     ensures below { IfOk result (λ slot. slot < 2) }
-    ensures fault { IfErr result (λ e. Names e (greater version0 version1)) }
+    ensures fault { IfErr result (λ e. NamesRootFault e (greater version0 version1)) }
     ensures refused { IfErr result (λ e. e ≡ BadRoot) }
 {
     if version1 < version0 {
@@ -74,7 +74,7 @@ fn live_slot(slots: &[u8]) -> Result<u64, RootsError>
     requires { length slots.now ≡ SLOTS_SIZE }
     ensures slot { IfOk result (λ slot. live slots.now ≡ Ok slot) }
     ensures below { IfOk result (λ slot. slot < 2) }
-    ensures fault { IfErr result (λ e. Names e (live slots.now)) }
+    ensures fault { IfErr result (λ e. NamesRootFault e (live slots.now)) }
     ensures refused { IfErr result (λ e. (e ≡ NoRoot) ⊎ (e ≡ BadRoot)) }
 {
     let open0 = is_open(slots, 0);
@@ -94,7 +94,7 @@ fn live_slot(slots: &[u8]) -> Result<u64, RootsError>
 fn root_of(alloc: Global, body: &[u8]) -> Result<RootBody, RootsError>
     ensures says { IfOk result (λ root. Spells body.now root) }
     ensures valid { IfOk result (λ root. IsRoot root) }
-    ensures fault { IfErr result (λ e. Names e (rooted body.now)) }
+    ensures fault { IfErr result (λ e. NamesRootFault e (rooted body.now)) }
     ensures refused { IfErr result (λ e. (e ≡ Memory) ⊎ (e ≡ BadRoot)) }
 {
     match RootBody::read(alloc, body) {
@@ -110,7 +110,7 @@ pub fn live_root(alloc: Global, slots: &[u8]) -> Result<Live, RootsError>
     requires { length slots.now ≡ SLOTS_SIZE }
     ensures found { IfOk result (λ it. IsLive slots.now it.slot it.stale_open it.root) }
     ensures valid { IfOk result (λ it. IsRoot it.root) }
-    ensures fault { IfErr result (λ e. Names e (live_root slots.now)) }
+    ensures fault { IfErr result (λ e. NamesRootFault e (live_root slots.now)) }
     ensures memory { IfErr result (λ e. e ≡ Memory → IsOk (live slots.now)) }
     ensures refused { IfErr result (λ e. (e ≡ Memory) ⊎ (e ≡ NoRoot) ⊎ (e ≡ BadRoot)) }
 {

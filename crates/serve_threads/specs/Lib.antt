@@ -1,3 +1,1 @@
-pub mod RequestLine
-pub mod Serving
 pub mod Turns

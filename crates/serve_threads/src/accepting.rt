@@ -2,13 +2,13 @@
 
 use crate::busy::say_busy;
 use crate::doors::Doors;
-use crate::ending::End;
 use crate::entry::Entry;
 use crate::hall::Hall;
 use crate::lobby::Lobby;
 use crate::session_thread::serve_session;
 use link_threads::serve_link;
 use pass_books::Desks;
+use shared_desk::End;
 use shared_hub::Gate;
 use std::alloc::Global;
 use std::net::TcpStream;

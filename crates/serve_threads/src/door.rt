@@ -1,6 +1,6 @@
 //! One socket at which the daemon listens.
 
-use crate::ending::{End, Ending};
+use shared_desk::{End, Ending};
 use std::net::{Ipv4Addr, Net, Shutdown, SocketAddr, TcpListener, TcpStream};
 use std::os::fd::OwnedFd;
 use std::rt::Clock;

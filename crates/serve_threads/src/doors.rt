@@ -2,7 +2,7 @@
 
 use crate::accepting::Kind;
 use crate::door::Door;
-use crate::ending::Ending;
+use shared_desk::Ending;
 use std::io;
 use std::net::{Net, TcpListener, TcpStream};
 use std::rt::Clock;

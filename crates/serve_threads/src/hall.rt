@@ -1,10 +1,10 @@
 //! What the daemon's threads share.
 
 use crate::accepting::Kind;
-use crate::ending::Ending;
 use crate::lobby::Lobby;
 use op_ids::ReplicaId;
 use pass_books::Desks;
+use shared_desk::Ending;
 use shared_hub::{Named, Shared};
 use std::alloc::{AllocError, Global};
 use std::sync::Mutex;

@@ -1,6 +1,7 @@
 //! What was answered comes to the other end.
 
-use std::io::{ErrorKind, Read};
+use first_bytes::has_to_wait;
+use std::io::Read;
 use std::net::{Shutdown, TcpStream};
 use std::time::Duration;
 
@@ -29,12 +30,4 @@ pub(crate) fn send_last_words(stream: &TcpStream) {
             Err(_) => return,
         }
     }
-}
-
-/// Whether nothing came in time, or the wait was cut short.
-pub(crate) fn has_to_wait(kind: ErrorKind) -> bool {
-    matches!(
-        kind,
-        ErrorKind::WouldBlock | ErrorKind::TimedOut | ErrorKind::Interrupted
-    )
 }

@@ -5,12 +5,12 @@ ghost use Rattle.shared_hub.specs.Going.{Goes, ComesBack};
 
 use crate::accepting::{Kind, accept};
 use crate::doors::Doors;
-use crate::ending::{End, Ending};
 use crate::hall::Hall;
 use crate::rejoining::{Joined, keep_joined};
 use disk_trait::Disk;
 use hub_parts::{Flusher, Parts};
 use pass_books::Desks;
+use shared_desk::{End, Ending};
 use shared_hub::{Gate, Opened, Shared, flush};
 use std::alloc::{AllocError, Global};
 use std::marker::Brand;

@@ -2,14 +2,13 @@
 
 use crate::busy::say_busy;
 use crate::entry::Entry;
-use crate::first_line::FirstLine;
-use crate::first_look::FirstLook;
 use crate::hall::Hall;
 use crate::last_words::send_last_words;
-use crate::shared_desk::SharedDesk;
 use crate::until_closed::UntilClosed;
+use first_bytes::{FirstLine, FirstLook};
 use pass_books::{Desks, Pass};
 use session_threads::{Session, SessionFault};
+use shared_desk::SharedDesk;
 use shared_hub::Gate;
 use std::alloc::Global;
 use std::io::Read;
@@ -85,14 +84,7 @@ fn serve<R: Wait, J: Desks, G: Gate, S: Read + Drop>(
 ) -> Pass<J> {
     // Each answer goes out at once: its sender waits for nothing behind it.
     let _ = stream.set_nodelay(true);
-    let mut desk = SharedDesk {
-        rt,
-        shared: &hall.shared,
-        read_turn: &hall.read_turn,
-        ending: &hall.ending,
-        gate,
-        pass,
-    };
+    let mut desk = SharedDesk::new(rt, &hall.shared, &hall.read_turn, &hall.ending, gate, pass);
     let served = Session::new(FirstLook::new(reader), stream).serve(alloc, &mut desk);
     if let Err(SessionFault::Memory) = served {
         refuse(stream);

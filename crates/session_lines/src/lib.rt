@@ -10,13 +10,9 @@ mod line;
 mod quoted;
 mod refusal;
 mod request;
-#[cfg(test)]
-mod saying_tests;
 mod short_line;
 mod span_list;
 mod spans;
-#[cfg(test)]
-mod tests;
 mod verb;
 
 pub use answer::{Answer, State};

@@ -7,8 +7,9 @@ use Rattle.op_model.specs.declared.edit.Edit.{Edit}
 use Rattle.op_model.specs.Made.{made, edit_refusal, is_at_rev, is_inside, is_small}
 use Rattle.op_model.specs.Held.{ReplicaHeld}
 use Rattle.op_model.specs.Machine.{State, Answer, Ticket, ticket, ticket_of, applied, refused}
-use Rattle.op_model.specs.Machine.{acknowledged, EditStep, AckStep, IsRefusal, edit_alone}
+use Rattle.op_model.specs.Machine.{acknowledged, EditStep, AckStep, IsRefusal, known_ticket, unless_known, new_edit_alone, new_edit_answer}
 use Rattle.op_model.specs.Machine.{edit_answer_unless, has_record_room, with_room, has_places}
+use Rattle.model_laws.proofs.Tickets.{edit_cases, known_is, was_made, is_new}
 use Rattle.session_threads.specs.HubCalls.{IsQuiet, is_edit_refusal}
 
 -- ---- a refusal
@@ -21,7 +22,7 @@ of_tests false false true = refl
 of_tests false false false = tt
 
 by_places : (places : Bool) (t : Ticket) (n : ℕ) → IsRefusal n (if places then ticket t else refused 10) → IsTrue (is_edit_refusal n)
-by_places true t n is = rw is refl
+by_places true t n is = rw is.1 refl
 by_places false t n is = rw is refl
 
 by_cause : (h : ReplicaHeld) (e : Edit) (cause : Option ℕ) (n : ℕ) → IfSome cause (λ m. IsTrue (is_edit_refusal m))
@@ -41,12 +42,18 @@ by_telling : (told room : Bool) (answer : Answer) (n : ℕ) → (IsRefusal n ans
 by_telling true room answer n other is = rw is refl
 by_telling false room answer n other is = by_room room answer n other is
 
+by_known : (found : Option Ticket) (answer : Answer) (n : ℕ) → (IsRefusal n answer → IsTrue (is_edit_refusal n))
+    → IsRefusal n (unless_known found answer) → IsTrue (is_edit_refusal n)
+by_known None answer n other is = other is
+by_known (Some t) answer n other is = rw is.1 refl
+
 -- the machine refuses an edit with one of these numbers
 pub edit_refusals : (s next : State) (session : ℕ) (e : Edit) (n : ℕ)
     → EditStep s session e (refused n) next → IsTrue (is_edit_refusal n)
 edit_refusals s next session e n (is, same) =
-    by_telling s.failure_told (has_record_room s (made s.held.list s.held.replica e)) (edit_alone s.held e) n
-    (by_cause s.held e (edit_refusal s.held.list s.held.replica e) n (of_tests _ _ _)) is
+    by_known (known_ticket s.held e) (new_edit_answer s e) n
+    (by_telling s.failure_told (has_record_room s (made s.held.list s.held.replica e)) (new_edit_alone s.held e) n
+    (by_cause s.held e (edit_refusal s.held.list s.held.replica e) n (of_tests _ _ _))) is
 
 -- ---- what stays quiet
 
@@ -59,13 +66,25 @@ pub refused_is_quiet : (s next : State) (session : ℕ) (e : Edit) (n : ℕ) →
     → EditStep s session e (refused n) next → IsQuiet next
 refused_is_quiet s next session e n quiet (due, is) = subst IsQuiet (sym is) quiet
 
--- a quiet state whose device failed answers each edit so, and stays
+-- an edit that was made before is no refusal
+refused_by : (h : ReplicaHeld) (e : Edit) (n : ℕ) (found : Option Ticket) → known_ticket h e ≡ found
+    → IsRefusal n (unless_known found (refused 9)) → refused n ≡ unless_known found (refused 9)
+refused_by h e n None k is = ap refused is
+refused_by h e n (Some t) k is = let known = (known_is h e t k).known in let new = is.0 in let never : ⊥ = cc in absurd never
+
+-- a quiet state whose device failed answers each new edit so, and stays
 pub edit_fails : (s next : State) (session : ℕ) (e : Edit) (answer : Answer) → IsQuiet s → s.failed ≡ true
-    → EditStep s session e answer next → (answer ≡ refused 9) × (next ≡ s)
+    → EditStep s session e answer next → (answer ≡ unless_known (known_ticket s.held e) (refused 9)) × (next ≡ s)
 edit_fails s next session e (ticket t) quiet failed (answer, is) =
-    let told : s.failure_told ≡ true = rw failed at quiet in let same : refused 9 ≡ ticket t = rw told at answer in absurd (cc)
+    let told : s.failure_told ≡ true = rw failed at quiet in
+    elim (edit_cases s e t answer) [
+      | was_made k found ↦ (rw k refl, rw found.known at is)
+      | is_new k given due ↦ let same : refused 9 ≡ ticket t = rw told at given in absurd (cc)
+    ]
 edit_fails s next session e (refused n) quiet failed (due, is) =
-    let told : s.failure_told ≡ true = rw failed at quiet in let same : n ≡ 9 = rw told at due in (ap refused same, is)
+    let told : s.failure_told ≡ true = rw failed at quiet in
+    let due_then : IsRefusal n (unless_known (known_ticket s.held e) (refused 9)) = rw told at due in
+    (refused_by s.held e n (known_ticket s.held e) refl due_then, is)
 edit_fails s next session e _ quiet failed step = absurd step
 
 -- ---- an acknowledgement

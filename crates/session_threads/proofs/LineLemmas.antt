@@ -5,7 +5,7 @@ use Rattle.std.proofs.Common.{append_assoc, append-nil, length-append}
 use Rattle.std.proofs.lemmas.Bool.Decides.{nat_tests}
 use Rattle.std.specs.Prelude.{nat_lt}
 use Rattle.session_threads.specs.Lines.{onto_first, lines_of, fitting_in, fitting, lines_read}
-use Rattle.session_threads.specs.Held.{longer, Fits, lines_after, held_after, HasNoFeed}
+use Rattle.session_threads.specs.Held.{longer, FitsALine, lines_after, held_after, HasNoFeed}
 
 -- what is behind a line that is too long doesn't make it shorter
 too_long : (most : ℕ) (line bytes : List ℕ) → nat_lt most (length line) ≡ true → nat_lt most (length (line ++ bytes)) ≡ true
@@ -25,13 +25,13 @@ pub longer-longer : (held : Option (List ℕ)) (xs ys : List ℕ) → longer (lo
 longer-longer None xs ys = refl
 longer-longer (Some line) xs ys = longer-fitting (line ++ xs) ys ∙ ap fitting (append_assoc line xs ys)
 
-pub longer-fits : (held : Option (List ℕ)) (bytes : List ℕ) → Fits (longer held bytes)
+pub longer-fits : (held : Option (List ℕ)) (bytes : List ℕ) → FitsALine (longer held bytes)
 longer-fits held bytes = longer-longer held bytes [] ∙ ap (longer held) (append-nil bytes)
 
 -- ---- bytes up to a line feed
 
 -- a line feed ends the line that is held, with what stands before the line feed
-pub lines_after-feed : (held : Option (List ℕ)) (xs ys : List ℕ) → Fits held → HasNoFeed xs
+pub lines_after-feed : (held : Option (List ℕ)) (xs ys : List ℕ) → FitsALine held → HasNoFeed xs
     → lines_after held (xs ++ 10 ∷ ys) ≡ longer held xs ∷ lines_after (Some []) ys
 lines_after-feed held [] ys fits none = ap (λ line. line ∷ lines_after (Some []) ys) (sym fits)
 lines_after-feed held (b ∷ xs) ys fits none =
@@ -49,7 +49,7 @@ pub lines_after-none : (held : Option (List ℕ)) (xs : List ℕ) → HasNoFeed 
 lines_after-none held [] none = refl
 lines_after-none held (b ∷ xs) none = rw (none.0) (lines_after-none (longer held (b ∷ [])) xs none.1)
 
-pub held_after-none : (held : Option (List ℕ)) (xs : List ℕ) → Fits held → HasNoFeed xs → held_after held xs ≡ longer held xs
+pub held_after-none : (held : Option (List ℕ)) (xs : List ℕ) → FitsALine held → HasNoFeed xs → held_after held xs ≡ longer held xs
 held_after-none held [] fits none = sym fits
 held_after-none held (b ∷ xs) fits none =
     rw (none.0)
@@ -57,7 +57,7 @@ held_after-none held (b ∷ xs) fits none =
 
 -- of bytes that end these lines, the next up to a line feed end one more
 pub lines_after-more : (lines done : List (Option (List ℕ))) (held next : Option (List ℕ)) (rest end later : List ℕ)
-    → lines ≡ done ++ lines_after held rest → Fits held → HasNoFeed end → rest ≡ end ++ 10 ∷ later → next ≡ longer held end
+    → lines ≡ done ++ lines_after held rest → FitsALine held → HasNoFeed end → rest ≡ end ++ 10 ∷ later → next ≡ longer held end
     → lines ≡ (done ++ next ∷ []) ++ lines_after (Some []) later
 lines_after-more lines done held next rest end later split fits none parts is =
     let more : lines_after held rest ≡ next ∷ lines_after (Some []) later =

@@ -14,7 +14,7 @@ use Rattle.locked_replica.specs.Run.{Calls}
 use Rattle.session_threads.specs.HubCalls.{IsQuiet, Commits, is_edit_refusal}
 use Rattle.session_threads.specs.HubServing.{AnswersEdit, AnswersTicket}
 use Rattle.session_threads.proofs.CallLemmas.{Calls-append, one_call}
-use Rattle.hub_parts.proofs.TicketEnds.{ticket_ends}
+use Rattle.hub_parts.proofs.TicketEnds.{ticket_within}
 use Rattle.session_threads.proofs.EditLemmas.{edit_refusals, edit_is_quiet, refused_is_quiet, acknowledges, ack_is_quiet}
 
 module _ {D : Type 0} (facts : Ghosts D) where
@@ -43,7 +43,7 @@ module _ {D : Type 0} (facts : Ghosts D) where
 
   pub ends_within : (session : ℕ) (old new : Parts D) (e : Edit) (t : Ticket) → IsCall facts (edit session e) (ticket t) old new → t.end ≤ length new.replica.list
   ends_within session old new e t call =
-      let same = ticket_ends (state_of old) (state_of new) session e t call.step in omega (arith, same)
+      ticket_within (state_of old) (state_of new) session e t call.step
 
   pub quiet_after : (session : ℕ) (old new : Parts D) (e : Edit) (t : Ticket) → IsQuiet (state_of old) → IsCall facts (edit session e) (ticket t) old new
       → IsQuiet (state_of new)

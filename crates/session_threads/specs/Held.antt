@@ -8,8 +8,8 @@ longer None bytes = None
 longer (Some line) bytes = fitting (line ++ bytes)
 
 -- the line isn't so long that it would be dropped
-abbrev pub Fits : Option (List ℕ) → Type 0
-Fits held = longer held [] ≡ held
+abbrev pub FitsALine : Option (List ℕ) → Type 0
+FitsALine held = longer held [] ≡ held
 
 -- the lines that these bytes end, the first of them begun before
 abbrev pub lines_after : Option (List ℕ) → List ℕ → List (Option (List ℕ))

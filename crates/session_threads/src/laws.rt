@@ -2,7 +2,7 @@
 ghost use Rattle.std.specs.Prelude.{◌≡◌, List, ℕ, Option, true};
 ghost use Rattle.fixed_numbers.specs.declared.refusals.TheConstants.{FAILED};
 ghost use Rattle.op_model.specs.declared.edit.Edit.{Edit};
-ghost use Rattle.op_model.specs.Machine.{Event, Answer, State, refused, EditStep};
+ghost use Rattle.op_model.specs.Machine.{Event, Answer, State, refused, known_ticket, unless_known, EditStep};
 ghost use Rattle.locked_replica.specs.Hub.{Parts};
 ghost use Rattle.locked_replica.specs.Run.{Calls, Ran};
 ghost use Rattle.session_threads.specs.Exchanges.{Exchanges};
@@ -38,10 +38,10 @@ pub fn a_session_is_a_run<D: Disk>(desk: &HubDesk<D>)
     calls_are_a_run(&desk.hub);
 }
 
-/// Once the device of a quiet hub failed, each edit is answered with 9 and changes nothing. Costs
-/// nothing.
+/// Once the device of a quiet hub failed, each edit is answered with 9, but for one that was made
+/// before, under its token; and each changes nothing. Costs nothing.
 pub fn edits_fail_behind_a_failure()
     ensures { (session : ℕ) (s next : State) (e : Edit) (answer : Answer) → IsQuiet s
         → s.failed ≡ true → EditStep s session e answer next
-        → (answer ≡ refused FAILED) × (next ≡ s) }
+        → (answer ≡ unless_known (known_ticket s.held e) (refused FAILED)) × (next ≡ s) }
 {}

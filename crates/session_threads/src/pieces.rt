@@ -1,7 +1,7 @@
 //! The lines of a piece of the input.
 ghost use Rattle.std.specs.Prelude.{◌≡◌, ◌==◌, ◌∷◌, ◌++◌, List, ℕ, Option, OnOk, OnErr, MatchOption, position};
 ghost use Rattle.std.specs.Io.KnownBytes.{Appends};
-ghost use Rattle.session_threads.specs.Held.{Fits, lines_after, held_after, HasNoFeed};
+ghost use Rattle.session_threads.specs.Held.{FitsALine, lines_after, held_after, HasNoFeed};
 ghost use Rattle.session_threads.specs.Exchanges.{Exchanges};
 ghost use Rattle.byte_streams.specs.Fronts.{BeginsWith};
 ghost use Rattle.session_threads.specs.Outcomes.{CutOff};
@@ -42,8 +42,8 @@ pub fn serve_piece<W: Write, D: Desk>(
     writer: &mut W,
     desk: &mut D,
 ) -> io::Result<()>
-    requires { Fits room.old.line }
-    ensures fits { OnOk result (Fits room.new.line) }
+    requires { FitsALine room.old.line }
+    ensures fits { OnOk result (FitsALine room.new.line) }
     ensures line { OnOk result (room.new.line ≡ held_after room.old.line piece.now) }
     ensures ok { OnOk result ((text : List ℕ)
         × Exchanges D.serves desk.old (lines_after room.old.line piece.now) text desk.new

@@ -13,7 +13,7 @@ use Rattle.hub_parts.proofs.FlusherSteps.{Outcome, outcome_of}
 use Rattle.hub_parts.proofs.PhaseLemmas.{kind_of, not_idle}
 use Rattle.hub_parts.specs.Flusher.{IsFlusher, IsStoreStep, IsUnderWay, FlusherHeld}
 use Rattle.hub_parts.specs.Locked.{LockedHeld}
-use Rattle.hub_parts.specs.Meeting.{Leaves, pending}
+use Rattle.hub_parts.specs.Meeting.{LeavesBoth, pending}
 use Rattle.hub_parts.specs.declared.met.Met.{Met}
 use Rattle.hub_parts.specs.declared.met.Met.TheVariants.{Begun, Settled, Nothing}
 use Rattle.shared_hub.specs.Going.{Goes}
@@ -82,7 +82,7 @@ device_goes facts f new result kept step same =
 
 -- what a meeting makes of it
 pub meeting_goes : {D : Type 0} (facts : Ghosts D) (l : LockedHeld) (f : FlusherHeld D) (result : Result Met StoreError) (l' : LockedHeld)
-    (f' : FlusherHeld D) → Leaves facts l f result l' f' → Goes facts f f'
+    (f' : FlusherHeld D) → LeavesBoth facts l f result l' f' → Goes facts f f'
 meeting_goes facts l f (Ok (Begun n)) l' f' leaves =
     record {
       list = (pending l, leaves.list);

@@ -5,7 +5,7 @@ use Rattle.disk_trait.specs.declared.facts.DiskFacts.{Ghosts}
 use Rattle.group_commit.specs.declared.error.StoreError.{StoreError}
 use Rattle.hub_parts.specs.Flusher.{FlusherHeld}
 use Rattle.hub_parts.specs.Locked.{LockedHeld}
-use Rattle.hub_parts.specs.Meeting.{Leaves}
+use Rattle.hub_parts.specs.Meeting.{LeavesBoth}
 use Rattle.hub_parts.specs.declared.met.Met.{Met}
 use Rattle.hub_parts.specs.declared.met.Met.TheVariants.{Begun, Settled, Nothing}
 use Rattle.shared_hub.specs.Books.{ends_of}
@@ -18,7 +18,7 @@ told_ends false l n = refl
 
 -- a meeting makes no step of a number
 pub meeting_ends : {D : Type 0} (facts : Ghosts D) (l : LockedHeld) (f : FlusherHeld D) (result : Result Met StoreError) (l' : LockedHeld)
-    (f' : FlusherHeld D) → Leaves facts l f result l' f' → (n : ℕ) → ends_of n l'.replica.steps ≡ ends_of n l.replica.steps
+    (f' : FlusherHeld D) → LeavesBoth facts l f result l' f' → (n : ℕ) → ends_of n l'.replica.steps ≡ ends_of n l.replica.steps
 meeting_ends facts l f (Ok (Begun k)) l' f' leaves n = ap (λ held. ends_of n held.replica.steps) leaves.locked
 meeting_ends facts l f (Ok (Settled k)) l' f' leaves n = ap (λ held. ends_of n held.replica.steps) leaves.locked
 meeting_ends facts l f (Ok Nothing) l' f' leaves n = ap (λ held. ends_of n held.replica.steps) leaves.0

@@ -1,5 +1,5 @@
 -- What stands under the lock of a shared hub.
-use Rattle.std.specs.Prelude.{◌≡◌, ℕ, Bool, List, ◌∷◌, Result, Ok, Err}
+use Rattle.std.specs.Prelude.{◌≡◌, ℕ, Bool, if◌then◌else◌, List, ◌∷◌, Result, Ok, Err}
 use Rattle.op_model.specs.Machine.{Ticket}
 use Rattle.hub_parts.specs.Locked.{IsLocked, LockedHeld}
 use Rattle.pass_books.specs.Accounts.{PassHeld}
@@ -23,9 +23,9 @@ pub record IsMine (l : LockedHeld) (p : PassHeld) : Type 0 where
 abbrev pub with_end : PassHeld → ℕ → PassHeld
 with_end p end = record p { entries = end ∷ p.entries }
 
--- what an edit leaves of the pass: an entry more, where a ticket was given
+-- what an edit leaves of the pass: an entry more, where a ticket was given and the edit is new
 abbrev pub after_edit : Result Ticket SharedRefusal → PassHeld → PassHeld
-after_edit (Ok t) p = with_end p t.end
+after_edit (Ok t) p = if t.known then p else with_end p t.end
 after_edit (Err e) p = p
 
 -- what a merge leaves of the pass, behind which the list has this length: an entry more, where the operation was applied

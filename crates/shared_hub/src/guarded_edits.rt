@@ -1,8 +1,8 @@
 //! Edits and merges under the lock of a shared hub.
-ghost use Rattle.std.specs.Prelude.{◌≡◌, true, false, Err, length, OnOk, OnErr, IfOk};
-ghost use Rattle.op_model.specs.Machine.{edit as edit_event, merge as merge_event, EditStep, MergeStep};
+ghost use Rattle.std.specs.Prelude.{◌≡◌, true, false, Err, length, OnErr, IfOk};
+ghost use Rattle.op_model.specs.Machine.{after_edit as replica_after_edit, edit as edit_event};
+ghost use Rattle.op_model.specs.Machine.{merge as merge_event, EditStep, MergeStep};
 ghost use Rattle.hub_parts.specs.Locked.{state_of};
-ghost use Rattle.op_model.specs.Held.{with_edit};
 ghost use Rattle.replica_core.specs.Merging.{after_merge as replica_after_merge};
 ghost use Rattle.shared_hub.specs.Guarded.{IsMine, after_edit, after_merge};
 ghost use Rattle.shared_hub.specs.Refusal.{edited, merged};
@@ -16,15 +16,16 @@ use pass_books::{Desks, Pass};
 use replica_core::{Merged, Ticket};
 
 impl<J: Desks> Guarded<J> {
-    /// Makes an edit, as a step of the pass's number, and enters it. Refuses with 12 where it was
-    /// asked to stop, else as `Locked::edit` does (9, 6, 5, 7, 10, 8, 1). A refused edit changes
-    /// nothing. Costs what `Locked::edit` does.
+    /// Makes an edit, as a step of the pass's number, and enters it; an edit that was made before,
+    /// under its token, has its ticket, and is no step. Refuses with 12 where it was asked to stop,
+    /// else as `Locked::edit` does (9, 6, 5, 7, 10, 8, 1). A refused edit changes nothing. Costs
+    /// what `Locked::edit` does.
     pub fn edit(&mut self, pass: &mut Pass<J>, edit: &Edit) -> Result<Ticket, SharedRefusal>
         ensures stopping { self.old.stopping ≡ true → result ≡ Err Stopping }
         ensures call { self.old.stopping ≡ false → MakesFor self.old.locked self.new.locked
             pass.old pass.new (edit_event pass.old.number edit.now) (edited result) }
-        ensures made { OnOk result (self.new.locked ≡ record self.old.locked {
-          replica = with_edit self.old.locked.replica pass.old.number edit.now;
+        ensures made { IfOk result (λ t. self.new.locked ≡ record self.old.locked {
+          replica = replica_after_edit t self.old.locked.replica pass.old.number edit.now;
         }) }
         ensures pass { pass.new ≡ after_edit result pass.old }
         ensures same { OnErr result (self.new ≡ self.old) }
@@ -39,13 +40,13 @@ impl<J: Desks> Guarded<J> {
         result
     }
 
-    /// Makes an edit, and enters it.
+    /// Makes an edit, and enters it where it is new.
     fn enter_edit(&mut self, pass: &mut Pass<J>, edit: &Edit) -> Result<Ticket, SharedRefusal>
         requires { IsMine self.old.locked pass.old }
         ensures call { EditStep (state_of self.old.locked) pass.old.number edit.now
             (edited result) (state_of self.new.locked) }
-        ensures made { OnOk result (self.new.locked ≡ record self.old.locked {
-          replica = with_edit self.old.locked.replica pass.old.number edit.now;
+        ensures made { IfOk result (λ t. self.new.locked ≡ record self.old.locked {
+          replica = replica_after_edit t self.old.locked.replica pass.old.number edit.now;
         }) }
         ensures pass { pass.new ≡ after_edit result pass.old }
         ensures same { OnErr result (self.new ≡ self.old) }
@@ -53,8 +54,10 @@ impl<J: Desks> Guarded<J> {
     {
         match self.locked.edit(pass.number() as u64, edit) {
             Ok(ticket) => {
-                self.books.add(pass, ticket.end as u64);
-                self.turns.edits = self.turns.edits.wrapping_add(1);
+                if !ticket.known {
+                    self.books.add(pass, ticket.end as u64);
+                    self.turns.edits = self.turns.edits.wrapping_add(1);
+                }
                 Ok(ticket)
             }
             Err(refusal) => Err(SharedRefusal::Locked(refusal)),

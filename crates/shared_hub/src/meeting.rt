@@ -1,6 +1,6 @@
 //! The meetings of the flusher and what stands under the lock.
 ghost use Rattle.std.specs.Prelude.{◌≡◌};
-ghost use Rattle.hub_parts.specs.Meet.{Meet, side_of};
+ghost use Rattle.hub_parts.specs.Meet.{FitTogether, side_of};
 ghost use Rattle.shared_hub.specs.Going.{Goes};
 ghost use Rattle.shared_hub.specs.Shared.{MeetsSound};
 
@@ -17,8 +17,8 @@ impl<J: Desks> Guarded<J> {
         ensures met { MeetsSound D.DiskFacts self.old.locked flusher.old result
             self.new.locked flusher.new }
         ensures goes { Goes D.DiskFacts flusher.old flusher.new }
-        ensures fits { Meet self.old.locked (side_of flusher.old)
-            → Meet self.new.locked (side_of flusher.new) }
+        ensures fits { FitTogether self.old.locked (side_of flusher.old)
+            → FitTogether self.new.locked (side_of flusher.new) }
         ensures others { self.new ≡ record self.old { locked = self.new.locked } }
     {
         self.locked.kept();
@@ -33,8 +33,8 @@ impl<J: Desks> Guarded<J> {
         ensures met { MeetsSound D.DiskFacts self.old.locked flusher.old result
             self.new.locked flusher.new }
         ensures goes { Goes D.DiskFacts flusher.old flusher.new }
-        ensures fits { Meet self.old.locked (side_of flusher.old)
-            → Meet self.new.locked (side_of flusher.new) }
+        ensures fits { FitTogether self.old.locked (side_of flusher.old)
+            → FitTogether self.new.locked (side_of flusher.new) }
         ensures others { self.new ≡ record self.old { locked = self.new.locked } }
     {
         self.note_try();
@@ -52,8 +52,8 @@ impl<J: Desks> Guarded<J> {
         ensures met { MeetsSound D.DiskFacts self.old.locked flusher.old result
             self.new.locked flusher.new }
         ensures goes { Goes D.DiskFacts flusher.old flusher.new }
-        ensures fits { Meet self.old.locked (side_of flusher.old)
-            → Meet self.new.locked (side_of flusher.new) }
+        ensures fits { FitTogether self.old.locked (side_of flusher.old)
+            → FitTogether self.new.locked (side_of flusher.new) }
         ensures others { self.new ≡ record self.old { locked = self.new.locked } }
     {
         let result = self.meet(flusher);

@@ -47,16 +47,17 @@ impl<J: Desks> Shared<J> {
         guarded.into_inner()
     }
 
-    /// Makes an edit, as a step of the pass's number. Refuses with 12 behind `stop`, else as
-    /// `Locked::edit` does (9, 6, 5, 7, 10, 8, 1), which then changes nothing. Wakes the flusher
-    /// where it sleeps and waits for no further edit. Costs what `Locked::edit` does.
+    /// Makes an edit, as a step of the pass's number; an edit that was made before, under its
+    /// token, has its ticket, and is no step. Refuses with 12 behind `stop`, else as `Locked::edit`
+    /// does (9, 6, 5, 7, 10, 8, 1), which then changes nothing. Wakes the flusher where it sleeps
+    /// and waits for no further edit. Costs what `Locked::edit` does.
     pub fn edit<R: Wait>(
         &self,
         rt: &R,
         pass: &mut Pass<J>,
         edit: &Edit,
     ) -> Result<Ticket, SharedRefusal>
-        // The pass has one entry more exactly where a ticket was given: the ticket's end.
+        // The pass has one entry more exactly where a new edit has a ticket: the ticket's end.
         ensures pass { pass.new ≡ after_edit result pass.old }
         ensures call { result ≢ Err Stopping → HappensTo pass.old pass.new
             (edit_event pass.old.number edit.now) (edited result) }

@@ -7,10 +7,10 @@ use Rattle.std.specs.List.{list_any}
 use Rattle.std.proofs.lemmas.Bool.{cases_order, cases_lt, eq-eqb, ne_eqb, lt-ltb, le-ltb, true≢false, false≢true}
 use Rattle.std.proofs.lemmas.List.{take_more}
 use Rattle.op_model.specs.Spans.{is_same_bool, with_number}
-use Rattle.model_laws.proofs.Up.{has, has-filter, has-with, up_filter, up_with}
+use Rattle.model_laws.proofs.Up.{has, has-filter, has-with}
 use Rattle.mark_anchors.specs.declared.edge.Edge.{Edge}
 use Rattle.span_flatten.specs.declared.active.Active.{Active}
-use Rattle.span_flatten.specs.Sweeping.{is_edge, with_edges, IsActive}
+use Rattle.span_flatten.specs.Sweeping.{flagged, is_edge, kept, with_edges, HasSameFlags, IsActive}
 
 pub or_false : (a : Bool) → (a || false) ≡ a
 or_false true = refl
@@ -34,8 +34,17 @@ pub active_same : (a : Active) (n : ℕ) (begun ended begun_too ended_too : ℕ 
 active_same a n begun ended begun_too ended_too same_begun same_ended are = record {
   long = are.long;
   flags = λ i within. are.flags i within ∙ same_ended i;
-  up = are.up;
+  wide = are.wide;
   members = λ i. are.members i ∙ (ap (λ b. nat_lt i n && (b && not (ended i))) (same_begun i) ∙ ap (λ e. nat_lt i n && (begun_too i && not e)) (same_ended i));
+}
+
+-- the same flags say the same
+pub active_alike : (a b : Active) (n : ℕ) (begun ended : ℕ → Bool) → HasSameFlags a b → IsActive a n begun ended → IsActive b n begun ended
+active_alike a b n begun ended same are = record {
+  long = ap (λ flags. length flags.items) same.0 ∙ are.long;
+  wide = ap (λ flags. length flags.items) same.1 ∙ are.wide;
+  flags = λ i within. ap (λ flags. get_or flags.items i true) same.0 ∙ are.flags i within;
+  members = λ i. ap (λ flags. list_any (λ m. m == i) (flagged flags.items)) same.1 ∙ are.members i;
 }
 
 -- what has ended, or isn't there, isn't kept
@@ -53,7 +62,7 @@ pub begin_none : (a : Active) (n i : ℕ) (begun ended : ℕ → Bool) → get_o
 begin_none a n i begun ended over are = record {
   long = are.long;
   flags = are.flags;
-  up = are.up;
+  wide = are.wide;
   members = λ j. are.members j ∙ at j;
 }
   where
@@ -66,7 +75,7 @@ begin_none a n i begun ended over are = record {
               rw (apart, or_false (begun j)) refl
         ]
 
-past_end : (xs : List Bool) (i : ℕ) → length xs ≤ i → get_or xs i true ≡ true
+pub past_end : (xs : List Bool) (i : ℕ) → length xs ≤ i → get_or xs i true ≡ true
 past_end [] i past = refl
 past_end (x ∷ xs) zero past = absurd (omega arith)
 past_end (x ∷ xs) (suc i) past = past_end xs i (omega arith)
@@ -79,18 +88,18 @@ there xs i n long flag =
     ]
 
 pub begin_more : (a b : Active) (n i : ℕ) (begun ended : ℕ → Bool) → get_or a.ended.items i true ≡ false → b.ended.items ≡ a.ended.items
-    → b.set.items ≡ with_number i a.set.items → IsActive a n begun ended → IsActive b n (λ j. begun j || i == j) ended
-begin_more a b n i begun ended free same_ended is_set are = record {
+    → length b.in_force.items ≡ length a.in_force.items → kept b ≡ with_number i (kept a) → IsActive a n begun ended → IsActive b n (λ j. begun j || i == j) ended
+begin_more a b n i begun ended free same_ended same_wide is_set are = record {
   long = ap length same_ended ∙ are.long;
   flags = λ j within. ap (λ xs. get_or xs j true) same_ended ∙ are.flags j within;
-  up = rw is_set (up_with i a.set.items are.up);
-  members = λ j. ap (λ s. has j s) is_set ∙ (has-with j i a.set.items ∙ at j);
+  wide = same_wide ∙ are.wide;
+  members = λ j. ap (λ s. has j s) is_set ∙ (has-with j i (kept a) ∙ at j);
 }
   where
     within : i < n
     within = there a.ended.items i n are.long free
 
-    at : (j : ℕ) → ((i == j) || has j a.set.items) ≡ (nat_lt j n && ((begun j || i == j) && not (ended j)))
+    at : (j : ℕ) → ((i == j) || has j (kept a)) ≡ (nat_lt j n && ((begun j || i == j) && not (ended j)))
     at j =
         elim (cases_order i j) [
           | inl same ↦ let less = within in
@@ -106,13 +115,14 @@ and_not true b e = and_false b
 and_not false b e = refl
 
 pub end_more : (a b : Active) (n i : ℕ) (begun ended : ℕ → Bool) → length b.ended.items ≡ length a.ended.items
+    → length b.in_force.items ≡ length a.in_force.items
     → ((j : ℕ) → j < length a.ended.items → get_or b.ended.items j true ≡ (get_or a.ended.items j true || i == j))
-    → b.set.items ≡ filter (λ j. not (j == i)) a.set.items → IsActive a n begun ended → IsActive b n begun (λ j. ended j || i == j)
-end_more a b n i begun ended same_long same_flags is_set are = record {
+    → kept b ≡ filter (λ j. not (j == i)) (kept a) → IsActive a n begun ended → IsActive b n begun (λ j. ended j || i == j)
+end_more a b n i begun ended same_long same_wide same_flags is_set are = record {
   long = same_long ∙ are.long;
   flags = λ j within. same_flags j (let long = are.long in omega arith) ∙ ap (λ e. e || i == j) (are.flags j within);
-  up = rw is_set (up_filter (λ j. not (j == i)) a.set.items are.up);
-  members = λ j. ap (λ s. has j s) is_set ∙ (has-filter (λ k. not (k == i)) j a.set.items ∙ (ap (λ h. not (j == i) && h) (are.members j) ∙ at j));
+  wide = same_wide ∙ are.wide;
+  members = λ j. ap (λ s. has j s) is_set ∙ (has-filter (λ k. not (k == i)) j (kept a) ∙ (ap (λ h. not (j == i) && h) (are.members j) ∙ at j));
 }
   where
     at : (j : ℕ) → (not (j == i) && (nat_lt j n && (begun j && not (ended j)))) ≡ (nat_lt j n && (begun j && not (ended j || i == j)))

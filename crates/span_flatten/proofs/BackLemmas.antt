@@ -10,7 +10,7 @@ use Rattle.model_laws.proofs.Runs.{marks_equal, marks_same}
 use Rattle.char_sequence.specs.declared.cell.Cell.{Cell}
 use Rattle.span_flatten.specs.declared.run.Run.{Run}
 use Rattle.span_flatten.specs.Runs.{cell_runs}
-use Rattle.span_flatten.specs.Sweeping.{extended, forward_span, is_last_same, with_back, IsLast}
+use Rattle.span_flatten.specs.Sweeping.{extended, forward_span, is_last_same, last_comments, with_back, IsLast}
 use Rattle.span_flatten.proofs.RunLemmas.{front_and_last, front_and_other}
 
 -- the last one is joined
@@ -87,6 +87,29 @@ runs_begun rs now value new is values = ap (map forward_span) is ∙ (front rs �
     front : (fs : List Run) → map forward_span (fs ++ new ∷ []) ≡ map forward_span fs ++ forward_span new ∷ []
     front [] = refl
     front (f ∷ fs) = ap (λ rest. forward_span f ∷ rest) (front fs)
+
+-- what the last one lists, where a character joins it, and where another one begins
+pub comments_extended : (value : ℕ) (ss : List Span) → last_comments (extended value ss) ≡ last_comments ss
+comments_extended value [] = refl
+comments_extended value (s ∷ []) = refl
+comments_extended value (s ∷ t ∷ []) = refl
+comments_extended value (s ∷ t ∷ u ∷ ss) = comments_extended value (t ∷ u ∷ ss)
+
+pub comments_begun : (s : Span) (ss : List Span) → last_comments (ss ++ s ∷ []) ≡ s.marks.comments
+comments_begun s [] = refl
+comments_begun s (t ∷ []) = refl
+comments_begun s (t ∷ u ∷ ss) = comments_begun s (u ∷ ss)
+
+pub comments_of_runs : (rs : List Run) (run : Run) → slice_get rs (length rs - 1) ≡ Some run → last_comments (map forward_span rs) ≡ run.marks.comments
+comments_of_runs [] run there = absurd (cc)
+comments_of_runs (r ∷ []) run there =
+    let none : 1 - 1 ≡ 0 = omega arith in
+    let there_too : slice_get (r ∷ []) 0 ≡ Some run = there in
+    let same : r ≡ run = cc in ap (λ (x : Run). x.marks.comments) same
+comments_of_runs (r ∷ s ∷ rs) run there =
+    let less : suc (suc (length rs)) - 1 ≡ suc (length rs) = omega arith in
+    let too : suc (length rs) - 1 ≡ length rs = omega arith in
+    comments_of_runs (s ∷ rs) run (rw too (rw less at there))
 
 -- a character before, and one behind
 front_and_back : (v : ℕ) (m : Marks) (value : ℕ) (marks : Marks) (ss : List Span)

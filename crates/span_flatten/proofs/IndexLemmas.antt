@@ -1,19 +1,19 @@
 -- The mark operations that pass a test, by their indexes.
-use Rattle.std.proofs.Common.{◌≡◌, ℕ, zero, suc, ◌+◌, ◌<◌, ◌≤◌, Bool, true, false, not, ◌&&◌, nat_lt, inl, inr, List, [], ◌∷◌, ◌++◌, length, drop}
-use Rattle.std.proofs.Common.{map, get_or, Option, Some, None, refl, sym, ◌∙◌, ap, arith, append_assoc, append-nil}
-use Rattle.std.specs.Prelude.{filter, slice_get}
-use denote.Ref.{Bor}
-use Rattle.std.specs.List.{cons_option}
-use Rattle.std.proofs.lemmas.List.{drop_more}
-use Rattle.std.proofs.lemmas.Bool.{cases_Bool, cases_lt, eq-eqb, ne_eqb, lt-ltb, le-ltb}
+use Rattle.std.proofs.Common.{◌≡◌, ℕ, zero, suc, ◌+◌, ◌<◌, ◌≤◌, Bool, true, false, not, ◌&&◌, ◌||◌, nat_lt, inl, inr, List, [], ◌∷◌, ◌++◌, length, take}
+use Rattle.std.proofs.Common.{get_or, Some, refl, sym, ◌∙◌, ap, arith, append_assoc}
+use Rattle.std.specs.Prelude.{◌==◌, filter, slice_get}
+use Rattle.std.proofs.lemmas.List.{length-take-le, take_more}
+use Rattle.std.proofs.lemmas.Bool.{cases_Bool, cases_lt, cases_order, eq-eqb, ne_eqb, lt-ltb, le-ltb}
 use Rattle.op_model.specs.declared.marking.Marking.{Marking}
 use Rattle.model_laws.specs.Rising.{AllOver, IsUp}
 use Rattle.model_laws.proofs.Up.{has, none_over, same_members}
 use Rattle.span_flatten.specs.declared.active.Active.{Active}
-use Rattle.span_flatten.specs.Sweeping.{indexes, is_from_start, passes, picked, IsActive}
+use Rattle.span_flatten.specs.Sweeping.{indexes, is_from_start, kept, passes, IsActive}
+use Rattle.span_flatten.specs.Picking.{picked}
+use Rattle.span_flatten.proofs.ActiveLemmas.{active_same, and_false, or_false}
 
 -- all indexes are the first one's, or greater
-over_indexes : (p : Marking → Bool) (n k : ℕ) (ms : List Marking) → n < k → AllOver n (indexes p k ms)
+over_indexes : {X : Type 0} → (p : X → Bool) (n k : ℕ) (ms : List X) → n < k → AllOver n (indexes p k ms)
 over_indexes p n k [] less = tt
 over_indexes p n k (m ∷ ms) less =
     elim (cases_Bool (p m)) [
@@ -21,7 +21,7 @@ over_indexes p n k (m ∷ ms) less =
       | inr e ↦ rw e (over_indexes p n (k + 1) ms (omega arith))
     ]
 
-pub up_indexes : (p : Marking → Bool) (k : ℕ) (ms : List Marking) → IsUp (indexes p k ms)
+pub up_indexes : {X : Type 0} → (p : X → Bool) (k : ℕ) (ms : List X) → IsUp (indexes p k ms)
 up_indexes p k [] = tt
 up_indexes p k (m ∷ ms) =
     elim (cases_Bool (p m)) [
@@ -30,10 +30,10 @@ up_indexes p k (m ∷ ms) =
     ]
 
 -- none is below the first one's
-none_below : (p : Marking → Bool) (i k : ℕ) (ms : List Marking) → i < k → has i (indexes p k ms) ≡ false
+none_below : {X : Type 0} → (p : X → Bool) (i k : ℕ) (ms : List X) → i < k → has i (indexes p k ms) ≡ false
 none_below p i k ms less = none_over i i (indexes p k ms) (omega arith) (over_indexes p i k ms less)
 
-pub has_indexes : (p : Marking → Bool) (k : ℕ) (ms : List Marking) (j : ℕ) → has (k + j) (indexes p k ms) ≡ passes p ms j
+pub has_indexes : {X : Type 0} → (p : X → Bool) (k : ℕ) (ms : List X) (j : ℕ) → has (k + j) (indexes p k ms) ≡ passes p ms j
 has_indexes p k [] j = refl
 has_indexes p k (m ∷ ms) zero =
     let same : k + 0 ≡ k = omega arith in
@@ -64,18 +64,6 @@ passes_there p ms i =
       | inl within ↦ rw (lt-ltb i (length ms) within) refl
       | inr past ↦ rw (le-ltb i (length ms) past) (passes_within p ms i past)
     ]
-
--- at the start of the text
-pub start_active : (a : Active) (ms : List Marking) → length a.ended.items ≡ length ms
-    → ((i : ℕ) → i < length ms → get_or a.ended.items i true ≡ false) → a.set.items ≡ indexes is_from_start 0 ms
-    → IsActive a (length ms) (passes is_from_start ms) (λ i. false)
-start_active a ms long flags set = record {
-  long = long;
-  flags = flags;
-  up = rw set (up_indexes is_from_start 0 ms);
-  members = λ i. ap (λ s. has i s) set ∙ (let same : 0 + i ≡ i = omega arith in rw same at (has_indexes is_from_start 0 ms i)
-      ∙ (passes_there is_from_start ms i ∙ ap (λ b. nat_lt i (length ms) && b) (sym (and_true (passes is_from_start ms i)))));
-}
 
 -- those that pass two tests
 pub passes_both : (p q : Marking → Bool) (ms : List Marking) (i : ℕ) → (passes p ms i && not (passes q ms i)) ≡ (nat_lt i (length ms) && (passes p ms i && not (passes q ms i)))
@@ -128,38 +116,49 @@ picked_indexes p front (m ∷ ms) k long =
 
 -- the mark operations that are kept are those that have begun and not ended
 pub picked_active : (a : Active) (ms : List Marking) (p q : Marking → Bool) → IsActive a (length ms) (passes p ms) (passes q ms)
-    → picked ms a.set.items ≡ filter (λ m. p m && not (q m)) ms
+    → picked ms (kept a) ≡ filter (λ m. p m && not (q m)) ms
 picked_active a ms p q are =
-    ap (λ set. picked ms set) (same_members a.set.items (indexes (λ m. p m && not (q m)) 0 ms) are.up (up_indexes (λ m. p m && not (q m)) 0 ms)
+    ap (λ set. picked ms set) (same_members (kept a) (indexes (λ m. p m && not (q m)) 0 ms) (up_indexes (λ f. f) 0 a.in_force.items) (up_indexes (λ m. p m && not (q m)) 0 ms)
     (λ i. are.members i ∙ (sym (passes_both p q ms i (both_there p q ms i))
     ∙ sym (let same : 0 + i ≡ i = omega arith in rw same at (has_indexes (λ m. p m && not (q m)) 0 ms i)))))
     ∙ picked_indexes (λ m. p m && not (q m)) [] ms 0 refl
 
-picked_more : (ms : List Marking) (i : ℕ) (set : List ℕ) → picked ms (i ∷ set) ≡ picked ms (i ∷ []) ++ picked ms set
-picked_more ms i set = go (slice_get ms i)
-  where
-    go : (o : Option Marking) → cons_option o (picked ms set) ≡ cons_option o [] ++ picked ms set
-    go None = refl
-    go (Some m) = refl
+suc_same : (a b : ℕ) → (suc a == suc b) ≡ (a == b)
+suc_same a b =
+    elim (cases_order a b) [
+      | inl same ↦ eq-eqb (suc a) (suc b) (omega arith) ∙ sym (eq-eqb a b same)
+      | inr o ↦ elim o [
+        | inl less ↦ ne_eqb (suc a) (suc b) (omega arith) ∙ sym (ne_eqb a b (omega arith))
+        | inr more ↦ ne_eqb (suc a) (suc b) (omega arith) ∙ sym (ne_eqb a b (omega arith))
+      ]
+    ]
 
--- one more index
-pub picked_one : (ms : List Marking) (set : List ℕ) (i : ℕ) (found now : List Marking) → i < length set
-    → now ≡ found ++ picked ms (get_or set i 0 ∷ []) → found ++ picked ms (drop i set) ≡ picked ms set
-    → now ++ picked ms (drop (i + 1) set) ≡ picked ms set
-picked_one ms set i found now within is before =
-    ap (λ ns. ns ++ picked ms (drop (i + 1) set)) is
-    ∙ (append_assoc found (picked ms (get_or set i 0 ∷ [])) (picked ms (drop (i + 1) set))
-    ∙ (ap (λ ns. found ++ ns) (sym (picked_more ms (get_or set i 0) (drop (i + 1) set)) ∙ ap (λ ns. picked ms ns) (sym (drop_more set i 0 within))) ∙ before))
+-- one more that may pass
+passes_more : {X : Type 0} → (p : X → Bool) (ms : List X) (m : X) (j : ℕ) → passes p (ms ++ m ∷ []) j ≡ (passes p ms j || (p m && length ms == j))
+passes_more p [] m zero = sym (and_true (p m))
+passes_more p [] m (suc j) = rw (ne_eqb 0 (suc j) (omega arith)) (sym (and_false (p m)))
+passes_more p (n ∷ ms) m zero = rw (ne_eqb (suc (length ms)) 0 (omega arith)) (sym (ap (λ b. p n || b) (and_false (p m)) ∙ or_false (p n)))
+passes_more p (n ∷ ms) m (suc j) = passes_more p ms m j ∙ ap (λ b. passes p ms j || (p m && b)) (sym (suc_same (length ms) j))
 
-map_last : (found : List (Bor Marking)) (m : Bor Marking) → map (λ n. n.now) (found ++ m ∷ []) ≡ map (λ n. n.now) found ++ m.now ∷ []
-map_last [] m = refl
-map_last (f ∷ found) m = ap (λ rest. f.now ∷ rest) (map_last found m)
+-- one more of those so far
+passes_taken : {X : Type 0} → (p : X → Bool) (ms : List X) (k : ℕ) (m : X) (j : ℕ) → k < length ms → m ≡ get_or ms k m
+    → passes p (take (k + 1) ms) j ≡ (passes p (take k ms) j || (p m && k == j))
+passes_taken p ms k m j within is_it =
+    ap (λ ns. passes p ns j) (take_more ms k m within ∙ ap (λ n. take k ms ++ n ∷ []) (sym is_it))
+    ∙ (passes_more p (take k ms) m j ∙ ap (λ n. passes p (take k ms) j || (p m && n == j)) (length-take-le k ms (omega arith)))
 
--- a mark operation that is there is put behind others, and nothing where there is none
-pub one_there : (ms : List Marking) (i : ℕ) (m : Bor Marking) (found now : List (Bor Marking)) → slice_get ms i ≡ Some m.now → now ≡ found ++ m ∷ []
-    → map (λ n. n.now) now ≡ map (λ n. n.now) found ++ picked ms (i ∷ [])
-one_there ms i m found now there is = rw there (ap (map (λ n. n.now)) is ∙ map_last found m)
+-- one more that begins at the start of the text, and one that doesn't
+pub active_begun : (a : Active) (ms : List Marking) (k : ℕ) (m : Marking) → k < length ms → m ≡ get_or ms k m → is_from_start m ≡ true
+    → IsActive a (length ms) (λ j. passes is_from_start (take k ms) j || k == j) (λ i. false)
+    → IsActive a (length ms) (passes is_from_start (take (k + 1) ms)) (λ i. false)
+active_begun a ms k m within is_it begins are =
+    active_same a (length ms) (λ j. passes is_from_start (take k ms) j || k == j) (λ i. false) (passes is_from_start (take (k + 1) ms)) (λ i. false)
+    (λ j. sym (passes_taken is_from_start ms k m j within is_it ∙ ap (λ b. passes is_from_start (take k ms) j || (b && k == j)) begins)) (λ j. refl) are
 
-pub none_there : (ms : List Marking) (i : ℕ) (found : List (Bor Marking)) → slice_get ms i ≡ None
-    → map (λ n. n.now) found ≡ map (λ n. n.now) found ++ picked ms (i ∷ [])
-none_there ms i found none = rw none (sym (append-nil (map (λ n. n.now) found)))
+pub active_not_begun : (a : Active) (ms : List Marking) (k : ℕ) (m : Marking) → k < length ms → m ≡ get_or ms k m → is_from_start m ≡ false
+    → IsActive a (length ms) (passes is_from_start (take k ms)) (λ i. false)
+    → IsActive a (length ms) (passes is_from_start (take (k + 1) ms)) (λ i. false)
+active_not_begun a ms k m within is_it later are =
+    active_same a (length ms) (passes is_from_start (take k ms)) (λ i. false) (passes is_from_start (take (k + 1) ms)) (λ i. false)
+    (λ j. sym (passes_taken is_from_start ms k m j within is_it ∙ (ap (λ b. passes is_from_start (take k ms) j || (b && k == j)) later
+    ∙ or_false (passes is_from_start (take k ms) j)))) (λ j. refl) are

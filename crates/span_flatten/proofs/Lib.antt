@@ -1,11 +1,16 @@
 pub mod ActiveLemmas
 pub mod BackLemmas
 pub mod CellLemmas
+pub mod DecidingLemmas
 pub mod HeldLemmas
 pub mod IndexLemmas
+pub mod KeptLemmas
 pub mod ListedLemmas
+pub mod NotedLemmas
 pub mod PassLemmas
+pub mod RankLemmas
 pub mod RunLemmas
 pub mod CoverLemmas
 pub mod FormatLemmas
 pub mod SpanLemmas
+pub mod StandingLemmas

@@ -22,7 +22,8 @@ use Rattle.char_sequence.specs.Cells.{has_cell}
 use Rattle.mark_anchors.specs.declared.edge.Edge.{Edge}
 use Rattle.mark_anchors.specs.Edges.{edge_beside, edges_from, edges_of, end_edges, start_edges, AreEdges}
 use Rattle.span_flatten.specs.Covering.{covered_from, covered_to, covering, covers_cell, index_in}
-use Rattle.span_flatten.specs.Sweeping.{begun_at, ended_at, has_begun, has_ended, is_edge, is_from_start, passes, picked, with_back, with_edges, IsActive}
+use Rattle.span_flatten.specs.Sweeping.{begun_at, ended_at, has_begun, has_ended, is_edge, is_from_start, kept, passes, with_back, with_edges, IsActive}
+use Rattle.span_flatten.specs.Picking.{picked}
 use Rattle.span_flatten.specs.declared.active.Active.{Active}
 use Rattle.span_flatten.specs.Formatting.{marks_in}
 use Rattle.span_flatten.specs.Runs.{cell_runs}
@@ -278,7 +279,7 @@ within_cells (d ∷ cells) (suc k) c there = let rest = within_cells cells k c t
 
 -- where a cell is reached, the mark operations that are kept cover it
 pub picked_covering : (a : Active) (cells : List Cell) (ms : List Marking) (k : ℕ) (c : Cell) → slice_get cells k ≡ Some c
-    → IsActive a (length ms) (begun_at cells ms (k + 1) k) (ended_at cells ms (k + 1) k) → picked ms a.set.items ≡ covering cells ms k
+    → IsActive a (length ms) (begun_at cells ms (k + 1) k) (ended_at cells ms (k + 1) k) → picked ms (kept a) ≡ covering cells ms k
 picked_covering a cells ms k c there are =
     picked_active a ms (λ m. has_begun cells (k + 1) k m.start) (λ m. has_ended cells (k + 1) k m.end) are
     ∙ covering_reached cells ms k (within_cells cells k c there)

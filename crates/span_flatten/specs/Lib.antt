@@ -1,6 +1,9 @@
 pub mod Covering
+pub mod Deciding
 pub mod Formatting
 pub mod Listing
+pub mod Picking
+pub mod Ranking
 pub mod Reading
 pub mod Runs
 pub mod Sweeping

@@ -2,7 +2,7 @@
 --
 -- What a pass over the characters of a document knows of its mark operations and its runs.
 use Rattle.std.specs.Prelude.{◌≡◌, ℕ, ◌+◌, ◌<◌, ◌==◌, Bool, true, false, not, ◌&&◌, ◌||◌, nat_lt, if◌then◌else◌, List, [], ◌∷◌, length, take, map}
-use Rattle.std.specs.Prelude.{filter_map, slice_get, ◌++◌}
+use Rattle.std.specs.Prelude.{◌++◌}
 use Rattle.std.proofs.Common.{get_or, zero, suc}
 use Rattle.std.specs.List.{list_any}
 use Rattle.fixed_numbers.specs.declared.limits.TheConstants.{MAX_LISTED}
@@ -15,7 +15,6 @@ use Rattle.op_model.specs.declared.mark.Marks.{Marks}
 use Rattle.op_model.specs.declared.marking.Marking.{Marking}
 use Rattle.op_model.specs.declared.span.Span.{Span}
 use Rattle.op_model.specs.Spans.{is_same_bool, is_same_marks}
-use Rattle.model_laws.specs.Rising.{IsUp}
 use Rattle.char_sequence.specs.declared.cell.Cell.{Cell}
 use Rattle.char_sequence.specs.Cells.{has_cell}
 use Rattle.mark_anchors.specs.declared.edge.Edge.{Edge}
@@ -23,8 +22,10 @@ use Rattle.span_flatten.specs.declared.active.Active.{Active}
 use Rattle.span_flatten.specs.declared.run.Run.{Run}
 use Rattle.span_flatten.specs.declared.sweep.Sweep.{Sweep}
 use Rattle.span_flatten.specs.Covering.{covering}
+use Rattle.span_flatten.specs.Deciding.{Decides, IsNoted}
 use Rattle.span_flatten.specs.Formatting.{marks_in}
 use Rattle.span_flatten.specs.Listing.{listed}
+use Rattle.span_flatten.specs.Picking.{picked}
 use Rattle.span_flatten.specs.Runs.{cell_runs}
 
 -- where a given number of first cells were reached, and a given number of these passed, a mark operation with this start has begun
@@ -39,8 +40,8 @@ has_ended cells reached passed end.OfText = false
 has_ended cells reached passed (end.To (Before id)) = has_cell (take reached cells) id
 has_ended cells reached passed (end.To (After id)) = has_cell (take passed cells) id
 
--- the i-th of these mark operations is there and passes a test
-abbrev pub passes : (Marking → Bool) → List Marking → ℕ → Bool
+-- the i-th of these is there and passes a test
+abbrev pub passes : {X : Type 0} → (X → Bool) → List X → ℕ → Bool
 passes p [] i = false
 passes p (m ∷ ms) zero = p m
 passes p (m ∷ ms) (suc i) = passes p ms i
@@ -53,24 +54,28 @@ abbrev pub ended_at : List Cell → List Marking → ℕ → ℕ → ℕ → Boo
 ended_at cells ms reached passed = passes (λ m. has_ended cells reached passed m.end) ms
 
 -- the indexes of those that pass a test, where the first one's is given
-abbrev pub indexes : (Marking → Bool) → ℕ → List Marking → List ℕ
+abbrev pub indexes : {X : Type 0} → (X → Bool) → ℕ → List X → List ℕ
 indexes p k [] = []
 indexes p k (m ∷ ms) = if p m then k ∷ indexes p (k + 1) ms else indexes p (k + 1) ms
-
--- the mark operations with these indexes
-abbrev pub picked : List Marking → List ℕ → List Marking
-picked ms set = filter_map (λ i. slice_get ms i) set
 
 -- a mark operation that begins at the start of the text
 abbrev pub is_from_start : Marking → Bool
 is_from_start m = has_begun [] 0 0 m.start
 
--- kept are which of n mark operations have ended, and in rising order those that have begun and not ended
+-- the indexes of the flags that are set
+abbrev pub flagged : List Bool → List ℕ
+flagged flags = indexes (λ f. f) 0 flags
+
+-- the indexes of the mark operations that have begun and not ended
+abbrev pub kept : Active → List ℕ
+kept a = flagged a.in_force.items
+
+-- kept are which of n mark operations have ended, and which have begun and not ended
 pub record IsActive (a : Active) (n : ℕ) (begun ended : ℕ → Bool) : Type 0 where
   pub long : length a.ended.items ≡ n
+  pub wide : length a.in_force.items ≡ n
   pub flags : (i : ℕ) → i < n → get_or a.ended.items i true ≡ ended i
-  pub up : IsUp a.set.items
-  pub members : (i : ℕ) → list_any (λ m. m == i) a.set.items ≡ (nat_lt i n && (begun i && not (ended i)))
+  pub members : (i : ℕ) → list_any (λ m. m == i) (kept a) ≡ (nat_lt i n && (begun i && not (ended i)))
 
 -- the edge is the i-th mark operation's, on this side of its character, and an end or not
 abbrev pub is_edge : Bool → Bool → ℕ → Edge → Bool
@@ -114,6 +119,22 @@ IsLast marks (s ∷ t ∷ ss) = IsLast marks (t ∷ ss)
 abbrev pub IsFresh : List Run → Bool → List ℕ → List Marking → Type 0
 IsFresh runs is_changed set ms = is_changed ≡ false → IsLast (marks_in (picked ms set)) (map forward_span runs)
 
+-- the comments that the last of these spans lists
+abbrev pub last_comments : List Span → List ℕ
+last_comments [] = []
+last_comments (s ∷ []) = s.marks.comments
+last_comments (s ∷ t ∷ ss) = last_comments (t ∷ ss)
+
+-- the same mark operations have begun, and the same have ended
+abbrev pub HasSameFlags : Active → Active → Type 0
+HasSameFlags a b = (b.ended ≡ a.ended) × (b.in_force ≡ a.in_force)
+
+-- kept is what decides by the mark operations that have begun and not ended; the last run lists what was noted, and it is fresh
+pub record IsReady (s : Sweep) (ms : List Marking) : Type 0 where
+  pub deciding : Decides s.active.deciding ms (kept s.active)
+  pub noted : IsNoted s.active.deciding.comments (last_comments (map forward_span s.runs.items))
+  pub fresh : IsFresh s.runs.items s.is_changed (kept s.active) ms
+
 -- how many comment ids these runs list, and a given number more
 abbrev pub listed_and : List Run → ℕ → ℕ
 listed_and runs left = listed (map forward_span runs) + left
@@ -121,6 +142,6 @@ listed_and runs left = listed (map forward_span runs) + left
 -- the first k of these cells were passed
 pub record IsSwept (s : Sweep) (cells : List Cell) (ms : List Marking) (k : ℕ) : Type 0 where
   pub active : IsActive s.active (length ms) (begun_at cells ms k k) (ended_at cells ms k k)
-  pub fresh : IsFresh s.runs.items s.is_changed s.active.set.items ms
+  pub ready : IsReady s ms
   pub few : listed_and s.runs.items s.left ≡ MAX_LISTED
   pub runs : map forward_span s.runs.items ≡ cell_runs (λ i. marks_in (covering cells ms i)) 0 (take k cells)

@@ -1,172 +1,208 @@
-ghost use Rattle.std.specs.Prelude.{◌≡◌, ◌++◌, ◌∷◌, [], ◌≤◌, ◌<◌, ◌==◌};
-ghost use Rattle.std.specs.Prelude.{◌||◌, ◌&&◌, ℕ, Bool, true, false, not};
-ghost use Rattle.std.specs.Prelude.{length, take, drop, filter, map, IfOk, OnOk, MatchOption};
-ghost use Rattle.std.proofs.Common.{get_or};
-ghost use Rattle.op_model.specs.Spans.{with_number};
-ghost use Rattle.span_flatten.specs.Sweeping.{has_begun, indexes, is_edge, is_from_start};
-ghost use Rattle.span_flatten.specs.Sweeping.{passes, picked};
-ghost use Rattle.span_flatten.specs.Sweeping.{with_edges, IsActive};
+ghost use Rattle.std.specs.Prelude.{◌≡◌, [], ◌==◌};
+ghost use Rattle.std.specs.Prelude.{◌||◌, ◌&&◌, ℕ, Bool, List, true, false, not};
+ghost use Rattle.std.specs.Prelude.{length, nat_lt, IfOk, OnOk};
+ghost use Rattle.std.proofs.Common.{get_or, replicate, set};
+ghost use Rattle.op_model.specs.declared.marking.Marking as stored;
+ghost use Rattle.op_model.specs.Spans.{is_same_marks};
+ghost use Rattle.model_laws.specs.Rising.{IsUp};
+ghost use Rattle.comment_marks.specs.Standing.{standing};
+ghost use Rattle.span_flatten.specs.Deciding.{Decides, IsNoted};
+ghost use Rattle.span_flatten.specs.Formatting.{marks_in};
+ghost use Rattle.span_flatten.specs.Picking.{picked};
+ghost use Rattle.span_flatten.specs.Sweeping.{has_begun, is_edge, is_from_start, kept};
+ghost use Rattle.span_flatten.specs.Sweeping.{passes, with_edges, IsActive};
 
+use crate::deciding::Deciding;
 use mark_anchors::Edge;
-use op_model::{Marking, Start};
+use op_model::{Marking, Marks, Start};
 use std::alloc::{AllocError, Global};
 
 /// Where characters are passed one after another: the mark operations that have begun and not
 /// ended.
-#[derive(Debug, Drop)]
+#[derive(Drop)]
 pub struct Active {
     /// For each mark operation whether it has ended.
     pub ended: Vec<bool>,
-    /// The indexes of those that have begun and not ended, in rising order.
-    pub set: Vec<usize>,
+    /// For each mark operation whether it has begun and not ended.
+    pub in_force: Vec<bool>,
+    /// Those in force, for each key.
+    pub deciding: Deciding,
 }
 
 impl Active {
-    /// Those at the start of the text. An error is want of memory (1). Linear in the mark
-    /// operations.
+    /// Those at the start of the text. An error is want of memory (1). For each mark operation a
+    /// search among those of its key.
     pub fn new(alloc: Global, markings: &[Marking]) -> Result<Active, AllocError>
-        ensures { IfOk result (λ a. IsActive a (length markings.now)
+        ensures active { IfOk result (λ a. IsActive a (length markings.now)
             (passes is_from_start markings.now) (λ i. false)) }
+        ensures noted { IfOk result (λ a. IsNoted a.deciding.comments []) }
+        ensures deciding { IfOk result (λ a. Decides a.deciding markings.now (kept a)) }
+    {
+        let mut active = Active::none(alloc, markings.len())?;
+        for (i, marking) in markings.iter().enumerate() {
+            if begins_text(&marking.start) {
+                active.begin(alloc, i, markings)?;
+            }
+        }
+        Ok(active)
+    }
+
+    /// Of `count` mark operations that none has begun. An error is want of memory (1).
+    fn none(alloc: Global, count: usize) -> Result<Active, AllocError>
+        ensures active { IfOk result (λ a. IsActive a count (λ i. false) (λ i. false)) }
+        ensures noted { IfOk result (λ a. IsNoted a.deciding.comments []) }
+        ensures deciding { IfOk result (λ a. (ms : List stored.Marking)
+            → Decides a.deciding ms (kept a)) }
     {
         Ok(Active {
-            ended: not_ended(alloc, markings.len())?,
-            set: from_start(alloc, markings)?,
+            ended: no_flags(alloc, count)?,
+            in_force: no_flags(alloc, count)?,
+            deciding: Deciding::new(alloc),
         })
     }
 
-    /// Takes the edges on one side of a character. An error is want of memory (1). For each edge
-    /// linear in those that have begun and not ended.
-    pub fn take(&mut self, edges: &[Edge], is_after: bool) -> Result<(), AllocError>
+    /// Takes the edges on one side of a character. An error is want of memory (1). For each edge a
+    /// search among those of its key that have begun and not ended.
+    pub fn take(
+        &mut self,
+        alloc: Global,
+        edges: &[Edge],
+        is_after: bool,
+        markings: &[Marking],
+    ) -> Result<(), AllocError>
         ensures active { OnOk result ((n : ℕ) (begun ended : ℕ → Bool)
             → IsActive self.old n begun ended → IsActive self.new n
             (with_edges is_after false edges.now begun)
             (with_edges is_after true edges.now ended)) }
-        ensures none { edges.now ≡ [] → self.new.set.items ≡ self.old.set.items }
+        ensures noted { OnOk result ((ids : List ℕ) → IsNoted self.old.deciding.comments ids
+            → IsNoted self.new.deciding.comments ids) }
+        ensures deciding { OnOk result (Decides self.old.deciding markings.now (kept self.old)
+            → Decides self.new.deciding markings.now (kept self.new)) }
+        ensures none { edges.now ≡ [] → self.new ≡ self.old }
     {
         for edge in edges {
-            self.take_one(edge, is_after)?;
+            self.take_one(alloc, edge, is_after, markings)?;
         }
         Ok(())
     }
 
     /// Takes an edge, if it is on this side of its character. An error is want of memory (1).
-    fn take_one(&mut self, edge: &Edge, is_after: bool) -> Result<(), AllocError>
-        ensures { OnOk result ((n : ℕ) (begun ended : ℕ → Bool)
+    fn take_one(
+        &mut self,
+        alloc: Global,
+        edge: &Edge,
+        is_after: bool,
+        markings: &[Marking],
+    ) -> Result<(), AllocError>
+        ensures active { OnOk result ((n : ℕ) (begun ended : ℕ → Bool)
             → IsActive self.old n begun ended → IsActive self.new n
             (λ i. begun i || is_edge is_after false i edge.now)
             (λ i. ended i || is_edge is_after true i edge.now)) }
+        ensures noted { OnOk result ((ids : List ℕ) → IsNoted self.old.deciding.comments ids
+            → IsNoted self.new.deciding.comments ids) }
+        ensures deciding { OnOk result (Decides self.old.deciding markings.now (kept self.old)
+            → Decides self.new.deciding markings.now (kept self.new)) }
     {
         if edge.is_after != is_after {
             return Ok(());
         }
-        self.pass(edge)
+        self.pass(alloc, edge, markings)
     }
 
     /// Takes an edge. An error is want of memory (1).
-    fn pass(&mut self, edge: &Edge) -> Result<(), AllocError>
-        ensures { OnOk result ((n : ℕ) (begun ended : ℕ → Bool)
+    fn pass(&mut self, alloc: Global, edge: &Edge, markings: &[Marking]) -> Result<(), AllocError>
+        ensures active { OnOk result ((n : ℕ) (begun ended : ℕ → Bool)
             → IsActive self.old n begun ended → IsActive self.new n
             (λ i. begun i || (not edge.now.is_end && edge.now.marking == i))
             (λ i. ended i || (edge.now.is_end && edge.now.marking == i))) }
+        ensures noted { OnOk result ((ids : List ℕ) → IsNoted self.old.deciding.comments ids
+            → IsNoted self.new.deciding.comments ids) }
+        ensures deciding { OnOk result (Decides self.old.deciding markings.now (kept self.old)
+            → Decides self.new.deciding markings.now (kept self.new)) }
     {
         if edge.is_end {
-            self.end(edge.marking);
-            return Ok(());
+            return self.end(edge.marking, markings);
         }
-        self.begin(edge.marking)
+        self.begin(alloc, edge.marking, markings)
     }
 
     /// A mark operation begins: it is kept, unless it has ended. An error is want of memory (1).
-    fn begin(&mut self, i: usize) -> Result<(), AllocError>
-        ensures { OnOk result ((n : ℕ) (begun ended : ℕ → Bool)
+    fn begin(&mut self, alloc: Global, i: usize, markings: &[Marking]) -> Result<(), AllocError>
+        ensures active { OnOk result ((n : ℕ) (begun ended : ℕ → Bool)
             → IsActive self.old n begun ended
             → IsActive self.new n (λ j. begun j || i == j) ended) }
+        ensures noted { OnOk result ((ids : List ℕ) → IsNoted self.old.deciding.comments ids
+            → IsNoted self.new.deciding.comments ids) }
+        ensures deciding { OnOk result (Decides self.old.deciding markings.now (kept self.old)
+            → Decides self.new.deciding markings.now (kept self.new)) }
     {
-        if has_ended(&self.ended, i) {
+        if !self.may_begin(i) {
             return Ok(());
         }
-        insert(&mut self.set, i)
+        put_flag(&mut self.in_force, i, true);
+        self.deciding.begin(alloc, i, markings)
     }
 
-    /// A mark operation ends: it isn't kept, even where it begins later.
-    fn end(&mut self, i: usize)
-        ensures { (n : ℕ) (begun ended : ℕ → Bool) → IsActive self.old n begun ended
-            → IsActive self.new n begun (λ j. ended j || i == j) }
+    /// Whether a mark operation is there and hasn't ended.
+    fn may_begin(&self, i: usize) -> bool
+        ensures { result ≡ (nat_lt i (length self.now.in_force.items)
+            && not (get_or self.now.ended.items i true)) }
     {
-        remove(&mut self.set, i);
-        if i < self.ended.len() {
-            self.ended[i] = true;
-        }
+        i < self.in_force.len() && !has_ended(&self.ended, i)
     }
 
-    /// The mark operations that have begun and not ended. An error is want of memory (1). Linear
-    /// in them.
-    pub fn markings<'a>(
-        &self,
-        alloc: Global,
-        markings: &'a [Marking],
-    ) -> Result<Vec<&'a Marking>, AllocError>
-        ensures { IfOk result (λ found. map (λ m. m.now) found.items
-            ≡ picked markings.now self.now.set.items) }
+    /// A mark operation ends: it isn't kept, even where it begins later. An error is want of memory
+    /// (1): an older comment may stand again.
+    fn end(&mut self, i: usize, markings: &[Marking]) -> Result<(), AllocError>
+        ensures active { OnOk result ((n : ℕ) (begun ended : ℕ → Bool)
+            → IsActive self.old n begun ended
+            → IsActive self.new n begun (λ j. ended j || i == j)) }
+        ensures noted { OnOk result ((ids : List ℕ) → IsNoted self.old.deciding.comments ids
+            → IsNoted self.new.deciding.comments ids) }
+        ensures deciding { OnOk result (Decides self.old.deciding markings.now (kept self.old)
+            → Decides self.new.deciding markings.now (kept self.new)) }
     {
-        pick(alloc, &self.set, markings)
+        put_flag(&mut self.in_force, i, false);
+        put_flag(&mut self.ended, i, true);
+        self.deciding.end(i, markings)
+    }
+
+    /// The marks of a character that just the mark operations cover that have begun and not ended.
+    /// An error is want of memory (1). A copy of the link, and of the comments that stand.
+    pub fn marks(&self, alloc: Global, markings: &[Marking]) -> Result<Marks, AllocError>
+        ensures { IfOk result (λ marks. IsUp (kept self.now)
+            → Decides self.now.deciding markings.now (kept self.now)
+            → marks ≡ marks_in (picked markings.now (kept self.now))) }
+    {
+        self.deciding.marks(alloc, markings)
+    }
+
+    /// Whether these are those marks, and list the comments that were noted. Takes no memory.
+    pub fn are_marks(&self, marks: &Marks, markings: &[Marking]) -> bool
+        ensures { IsUp (kept self.now) → Decides self.now.deciding markings.now (kept self.now)
+            → IsNoted self.now.deciding.comments marks.now.comments
+            → result ≡ is_same_marks marks.now (marks_in (picked markings.now (kept self.now))) }
+    {
+        self.deciding.are_marks(marks, markings)
+    }
+
+    /// Notes the comments that stand. Linear in those that differ from those that were noted.
+    pub fn note(&mut self)
+        ensures flags { (self.new.ended ≡ self.old.ended)
+            × (self.new.in_force ≡ self.old.in_force) }
+        ensures noted { (ms : List stored.Marking) → Decides self.old.deciding ms (kept self.old)
+            → Decides self.new.deciding ms (kept self.old)
+            × IsNoted self.new.deciding.comments (standing (picked ms (kept self.old))) }
+    {
+        self.deciding.note();
     }
 }
 
-/// The mark operations with these indexes. An error is want of memory (1).
-fn pick<'a>(
-    alloc: Global,
-    set: &[usize],
-    markings: &'a [Marking],
-) -> Result<Vec<&'a Marking>, AllocError>
-    ensures { IfOk result (λ found. map (λ m. m.now) found.items ≡ picked markings.now set.now) }
+/// For `count` mark operations a flag that isn't set. An error is want of memory (1).
+fn no_flags(alloc: Global, count: usize) -> Result<Vec<bool>, AllocError>
+    ensures { IfOk result (λ flags. flags.items ≡ replicate count false) }
 {
-    let mut found = Vec::new(alloc);
-    for i in set {
-        push_at(markings, *i, &mut found)?;
-    }
-    Ok(found)
-}
-
-/// Puts the mark operation with this index, if there is one, behind others. An error is want of
-/// memory (1).
-fn push_at<'a>(
-    markings: &'a [Marking],
-    i: usize,
-    found: &mut Vec<&'a Marking>,
-) -> Result<(), AllocError>
-    ensures { OnOk result (map (λ m. m.now) found.new.items
-        ≡ map (λ m. m.now) found.old.items ++ picked markings.now (i ∷ [])) }
-{
-    if let Some(marking) = markings.get(i) {
-        found.push(marking)?;
-    }
-    Ok(())
-}
-
-/// For `count` mark operations that none has ended. An error is want of memory (1).
-fn not_ended(alloc: Global, count: usize) -> Result<Vec<bool>, AllocError>
-    ensures { IfOk result (λ ended. (length ended.items ≡ count)
-        × ((i : ℕ) → i < count → get_or ended.items i true ≡ false)) }
-{
-    let mut ended = Vec::new(alloc);
-    while ended.len() < count {
-        ended.push(false)?;
-    }
-    Ok(ended)
-}
-
-/// The indexes of those that begin at the start of the text. An error is want of memory (1).
-fn from_start(alloc: Global, markings: &[Marking]) -> Result<Vec<usize>, AllocError>
-    ensures { IfOk result (λ set. set.items ≡ indexes is_from_start 0 markings.now) }
-{
-    let mut set = Vec::new(alloc);
-    for (i, marking) in markings.iter().enumerate() {
-        if begins_text(&marking.start) {
-            set.push(i)?;
-        }
-    }
-    Ok(set)
+    vec![in alloc; false; count]
 }
 
 /// Whether a mark operation with this start begins at the start of the text.
@@ -189,35 +225,11 @@ fn has_ended(ended: &[bool], i: usize) -> bool
     true
 }
 
-/// Puts an index into a rising list, if it isn't there. An error is want of memory (1). Linear.
-fn insert(set: &mut Vec<usize>, i: usize) -> Result<(), AllocError>
-    ensures { OnOk result (set.new.items ≡ with_number i set.old.items) }
+/// Sets the i-th flag, if it is there.
+fn put_flag(flags: &mut Vec<bool>, i: usize, flag: bool)
+    ensures { flags.new.items ≡ set flags.old.items i flag }
 {
-    if let Some(at) = place(set, i) {
-        set.insert(at, i)?;
+    if i < flags.len() {
+        flags[i] = flag;
     }
-    Ok(())
-}
-
-/// Where an index goes in a rising list, or `None` where it is there.
-fn place(set: &[usize], i: usize) -> Option<usize>
-    ensures { MatchOption result (with_number i set.now ≡ set.now) (λ at. (at ≤ length set.now)
-        × (with_number i set.now ≡ take at set.now ++ i ∷ drop at set.now)) }
-{
-    for (at, other) in set.iter().enumerate() {
-        if i < *other {
-            return Some(at);
-        }
-        if i == *other {
-            return None;
-        }
-    }
-    Some(set.len())
-}
-
-/// Takes an index out of a list. Linear.
-fn remove(set: &mut Vec<usize>, i: usize)
-    ensures { set.new.items ≡ filter (λ j. not (j == i)) set.old.items }
-{
-    set.retain(|j| *j != i);
 }

@@ -21,7 +21,7 @@ use std::alloc::{AllocError, Global};
 
 /// The greatest runs of visible characters of a document with equal marks. An error is want of
 /// memory (1). An answer lists at most 1,048,576 comment ids, one counted in each span that lists
-/// it, and takes at most 134,217,728 steps: beyond either it is 1. Costs what `spans_in` does.
+/// it: beyond that it is 1. Costs what `spans_in` does.
 pub fn spans(sequence: &Sequence, anchors: &Anchors) -> Result<Vec<Span>, AllocError>
     ensures spans { IfOk result (λ found. (ops : List Op) (doc : ℕ) → Holds sequence.now ops doc
         → AreMarksOf anchors.now ops doc → found.items ≡ spans_of_ops ops doc) }
@@ -32,12 +32,11 @@ pub fn spans(sequence: &Sequence, anchors: &Anchors) -> Result<Vec<Span>, AllocE
 
 /// The same, in one pass: two ticks at the most for each character, tombstones counted, and one at
 /// the end. An error is want of memory (1). For each character a search by halves among the mark
-/// operations; for each edge of one a step for each that has begun and not ended; and where these
-/// changed, for each of them a search among the comments that they name.
+/// operations; for each edge of one a search among those of its key that have begun and not ended;
+/// and what is listed: comments are listed only for a span that begins.
 ///
 /// An answer lists at most 1,048,576 comment ids, one counted in each span that lists it: beyond it
-/// is 1, before that span is made. So it is beyond 134,217,728 steps, of which a character at which
-/// n operations are in force and e begin or end takes n + e, and an eighth of that again e times.
+/// is 1, before that span is made.
 pub fn spans_in(
     sequence: &Sequence,
     anchors: &Anchors,

@@ -2,9 +2,13 @@
 #![tactic(auto)]
 
 mod active;
+mod deciding;
+mod discussed;
 mod flatten;
 mod formatting;
 mod listing;
+mod rank;
+mod ranks;
 mod run;
 mod sweep;
 

@@ -1,4 +1,4 @@
-ghost use Rattle.std.specs.Prelude.{◌≡◌, ◌+◌, ◌≤◌, ℕ, List, []};
+ghost use Rattle.std.specs.Prelude.{◌≡◌, ◌+◌, ◌≤◌, ℕ, List, [], ◌∷◌, ◌++◌};
 ghost use Rattle.std.specs.Prelude.{Some, false, map, slice_get, IfOk, OnOk};
 ghost use Rattle.std.specs.Prelude.{if◌then◌else◌};
 ghost use Rattle.char_sequence.specs.declared.cell.Cell as stored;
@@ -6,13 +6,14 @@ ghost use Rattle.char_sequence.specs.Chunks.{cells_of, size_at};
 ghost use Rattle.mark_anchors.specs.Keeping.{in_order};
 ghost use Rattle.span_flatten.specs.Formatting.{marks_in};
 ghost use Rattle.span_flatten.specs.Reading.{offset};
-ghost use Rattle.span_flatten.specs.Sweeping.{forward_span, listed_and, picked, with_back};
-ghost use Rattle.span_flatten.specs.Sweeping.{extended, IsFresh, IsLast, IsSwept};
+ghost use Rattle.span_flatten.specs.Deciding.{Decides, IsNoted};
+ghost use Rattle.span_flatten.specs.Picking.{picked};
+ghost use Rattle.span_flatten.specs.Sweeping.{forward_span, kept, listed_and, with_back};
+ghost use Rattle.span_flatten.specs.Sweeping.{extended, last_comments, HasSameFlags, IsReady, IsSwept};
 ghost use Rattle.span_flatten.specs.Sweeping.{is_last_same as is_last_same_of};
 
 use crate::active::Active;
-use crate::formatting::marks_of;
-use crate::listing::{STEPS_LIMIT, count_down};
+use crate::listing::count_down;
 use crate::run::Run;
 use char_sequence::{Cell, ChunkSize, Sequence};
 use fixed_numbers::limits::MAX_LISTED;
@@ -21,7 +22,7 @@ use op_model::{Marking, Marks, Span, Text, Ticks};
 use std::alloc::{AllocError, Global};
 
 /// What a pass over the characters of a document knows so far.
-#[derive(Debug, Drop)]
+#[derive(Drop)]
 pub struct Sweep {
     /// The mark operations that have begun and not ended.
     pub active: Active,
@@ -31,8 +32,6 @@ pub struct Sweep {
     pub is_changed: bool,
     /// How many comment ids further runs may list.
     pub left: usize,
-    /// How many steps the marks of further characters may take.
-    pub steps: usize,
 }
 
 impl Sweep {
@@ -45,7 +44,6 @@ impl Sweep {
             runs: Vec::new(alloc),
             is_changed: true,
             left: MAX_LISTED,
-            steps: STEPS_LIMIT,
         })
     }
 
@@ -84,28 +82,27 @@ impl Sweep {
             → IsSwept self.new cells (in_order anchors.now) (k + 1)) }
     {
         anchors.are_edges();
+        let markings = anchors.in_order();
         let edges = anchors.edges_at(cell.id);
-        count_down(steps_at(edges, &self.active), &mut self.steps)?;
         self.is_changed = is_changed(self.is_changed, edges);
-        self.active.take(edges, false)?;
-        self.see(alloc, cell, anchors.in_order())?;
+        self.active.take(alloc, edges, false, markings)?;
+        self.see(alloc, cell, markings)?;
         self.is_changed = is_changed(self.is_changed, edges);
-        self.active.take(edges, true)
+        self.active.take(alloc, edges, true, markings)
     }
 
     /// A character, which a reader sees unless it is a tombstone. An error is want of memory (1).
     fn see(&mut self, alloc: Global, cell: &Cell, markings: &[Marking]) -> Result<(), AllocError>
-        ensures seen { OnOk result (IsFresh self.old.runs.items self.old.is_changed
-            self.old.active.set.items markings.now → map forward_span self.new.runs.items
+        ensures seen { OnOk result (IsReady self.old markings.now
+            → map forward_span self.new.runs.items
             ≡ (if cell.now.is_removed then map forward_span self.old.runs.items
-            else with_back cell.now.value (marks_in (picked markings.now self.old.active.set.items))
+            else with_back cell.now.value (marks_in (picked markings.now (kept self.old.active)))
             (map forward_span self.old.runs.items))) }
-        ensures fresh { OnOk result (IsFresh self.old.runs.items self.old.is_changed
-            self.old.active.set.items markings.now → IsFresh self.new.runs.items
-            self.new.is_changed self.new.active.set.items markings.now) }
+        ensures ready { OnOk result (IsReady self.old markings.now
+            → IsReady self.new markings.now) }
         ensures few { OnOk result (listed_and self.new.runs.items self.new.left
             ≡ listed_and self.old.runs.items self.old.left) }
-        ensures active { self.new.active ≡ self.old.active }
+        ensures active { HasSameFlags self.old.active self.new.active }
     {
         if cell.is_removed {
             return Ok(());
@@ -114,26 +111,50 @@ impl Sweep {
     }
 
     /// A character that a reader sees, with the marks of the mark operations that have begun and
-    /// not ended: they are worked out only where these changed. An error is want of memory (1).
+    /// not ended: they are looked at only if these changed. An error is want of memory (1).
     fn show(&mut self, alloc: Global, value: char, markings: &[Marking]) -> Result<(), AllocError>
+        ensures shown { OnOk result (IsReady self.old markings.now
+            → map forward_span self.new.runs.items
+            ≡ with_back value (marks_in (picked markings.now (kept self.old.active)))
+            (map forward_span self.old.runs.items)) }
+        ensures ready { OnOk result (IsReady self.old markings.now
+            → IsReady self.new markings.now) }
         ensures few { OnOk result (listed_and self.new.runs.items self.new.left
             ≡ listed_and self.old.runs.items self.old.left) }
-        ensures shown { OnOk result (IsFresh self.old.runs.items self.old.is_changed
-            self.old.active.set.items markings.now → map forward_span self.new.runs.items
-            ≡ with_back value (marks_in (picked markings.now self.old.active.set.items))
-            (map forward_span self.old.runs.items)) }
-        ensures fresh { OnOk result (IsFresh self.old.runs.items self.old.is_changed
-            self.old.active.set.items markings.now → IsFresh self.new.runs.items
-            self.new.is_changed self.new.active.set.items markings.now) }
-        ensures active { self.new.active ≡ self.old.active }
+        ensures active { HasSameFlags self.old.active self.new.active }
     {
         if !self.is_changed {
             return join(value, &mut self.runs);
         }
-        let set = self.active.markings(alloc, markings)?;
-        let marks = marks_of(alloc, &set)?;
-        put_behind(alloc, value, marks, &mut self.runs, &mut self.left)?;
+        self.show_changed(alloc, value, markings)
+    }
+
+    /// The same where mark operations changed: the character joins the last run, if that has its
+    /// marks, else it begins one. The comments are listed only then. An error is want of memory
+    /// (1), or that more are listed than may be.
+    fn show_changed(
+        &mut self,
+        alloc: Global,
+        value: char,
+        markings: &[Marking],
+    ) -> Result<(), AllocError>
+        ensures shown { OnOk result (IsReady self.old markings.now
+            → map forward_span self.new.runs.items
+            ≡ with_back value (marks_in (picked markings.now (kept self.old.active)))
+            (map forward_span self.old.runs.items)) }
+        ensures ready { OnOk result (IsReady self.old markings.now
+            → IsReady self.new markings.now) }
+        ensures few { OnOk result (listed_and self.new.runs.items self.new.left
+            ≡ listed_and self.old.runs.items self.old.left) }
+        ensures active { HasSameFlags self.old.active self.new.active }
+    {
         self.is_changed = false;
+        if is_last_same(&self.runs, &self.active, markings) {
+            return join(value, &mut self.runs);
+        }
+        let marks = self.active.marks(alloc, markings)?;
+        begin_run(alloc, value, marks, &mut self.runs, &mut self.left)?;
+        self.active.note();
         Ok(())
     }
 
@@ -149,16 +170,6 @@ impl Sweep {
     }
 }
 
-/// How many steps the marks of a character with these edges take.
-fn steps_at(edges: &[Edge], active: &Active) -> usize {
-    if edges.is_empty() {
-        return 0;
-    }
-    let most = active.set.len().saturating_add(edges.len());
-    let of_edges = most.saturating_mul(edges.len()) / 8;
-    most.saturating_add(of_edges)
-}
-
 /// Whether mark operations changed before, or do so at these edges.
 fn is_changed(was: bool, edges: &[Edge]) -> bool
     ensures { result ≡ false → (was ≡ false) × (edges.now ≡ []) }
@@ -169,37 +180,35 @@ fn is_changed(was: bool, edges: &[Edge]) -> bool
     true
 }
 
-/// Puts a character behind these runs: it joins the last one, if that has its marks, else it begins
-/// one, whose comment ids are counted first. An error is want of memory (1), or that they are more
-/// than may yet be listed.
-fn put_behind(
+/// Puts a character behind these runs as one more, whose comment ids are counted first. An error is
+/// want of memory (1), or that they are more than may yet be listed.
+fn begin_run(
     alloc: Global,
     value: char,
     marks: Marks,
     runs: &mut Vec<Run>,
     left: &mut usize,
 ) -> Result<(), AllocError>
-    ensures shown { OnOk result (map forward_span runs.new.items
-        ≡ with_back value marks (map forward_span runs.old.items)) }
-    ensures last { OnOk result (IsLast marks (map forward_span runs.new.items)) }
+    ensures begun { OnOk result (map forward_span runs.new.items ≡ map forward_span runs.old.items
+        ++ record { text = value ∷ []; marks = marks } ∷ []) }
     ensures few { OnOk result (listed_and runs.new.items left.new
         ≡ listed_and runs.old.items left.old) }
 {
-    if is_last_same(runs, &marks) {
-        return join(value, runs);
-    }
     count_down(marks.comments.as_slice().len(), left)?;
     let values = vec![in alloc; value]?;
     runs.push(Run { values, marks })?;
     Ok(())
 }
 
-/// Whether the last of these runs has these marks.
-fn is_last_same(runs: &[Run], marks: &Marks) -> bool
-    ensures { result ≡ is_last_same_of marks.now (map forward_span runs.now) }
+/// Whether the last of these runs has the marks of the mark operations in force.
+fn is_last_same(runs: &[Run], active: &Active, markings: &[Marking]) -> bool
+    ensures { Decides active.now.deciding markings.now (kept active.now)
+        → IsNoted active.now.deciding.comments (last_comments (map forward_span runs.now))
+        → result ≡ is_last_same_of (marks_in (picked markings.now (kept active.now)))
+        (map forward_span runs.now) }
 {
     match runs.last() {
-        Some(run) => run.marks.are_same(marks),
+        Some(run) => active.are_marks(&run.marks, markings),
         None => false,
     }
 }

@@ -2,7 +2,7 @@ use super::*;
 use char_sequence::Sequence;
 use mark_anchors::Anchors;
 use op_ids::{Clock, OpId, ReplicaId};
-use op_model::{Anchor, Body, End, Mark, Op, Span, Start, Text};
+use op_model::{Anchor, Body, End, Mark, MarkKey, Marking, Op, Span, Start, Text};
 use std::alloc::Global;
 use std::test::Fail;
 
@@ -102,6 +102,32 @@ fn tombstones_are_in_no_span(rt: HostRuntime) -> Result<(), Fail> {
     let spans = behind_a_tombstone(rt.alloc())?;
     assert_eq!(rt; spans.len(), 1);
     assert!(rt; spans[0].text == left);
+    Ok(())
+}
+
+/// Mark operations that add strong to the second of three characters, with the counters from 4 to
+/// below `end`, as by a tool that marks at each save.
+fn marked_at_each_save(alloc: Global, end: usize) -> Result<Vec<Marking>, Fail> {
+    let mut markings = Vec::new(alloc);
+    for k in 4..end {
+        markings.push(Marking {
+            id: id(k as u64)?,
+            key: MarkKey::Strong,
+            mark: Some(Mark::Strong),
+            start: Start::From(Anchor::Before(id(2)?)),
+            end: End::To(Anchor::After(id(2)?)),
+        })?;
+    }
+    Ok(markings)
+}
+
+#[test]
+fn a_text_marked_at_each_save_has_its_spans(rt: HostRuntime) -> Result<(), Fail> {
+    let sequence = three(rt.alloc())?;
+    let markings = marked_at_each_save(rt.alloc(), 30_004)?;
+    let spans = found(&sequence, &Anchors::from_markings(markings)?)?;
+    assert_eq!(rt; spans.len(), 3);
+    assert!(rt; !spans[0].marks.strong && spans[1].marks.strong && !spans[2].marks.strong);
     Ok(())
 }
 

@@ -1,6 +1,6 @@
 //! Two links that speak in turn, over peers that hold lists.
 use causal_sync::{Heard, Link};
-use link_threads::{Line, Peer, SpeakError, Speaker};
+use link_speaker::{Line, Peer, SpeakError, Speaker};
 use op_ids::{Clock, OpId, ReplicaId};
 use op_model::{Body, Op};
 use std::alloc::{AllocError, Global};

@@ -5,3 +5,5 @@ pub mod Steps
 pub mod Worlds
 pub mod Clauses
 pub mod SmallHistory
+pub mod Answered
+pub mod Known

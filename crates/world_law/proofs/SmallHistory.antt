@@ -6,11 +6,11 @@ use Rattle.op_model.specs.Machine.{State, holding, with_settlement, opened}
 use Rattle.op_model.specs.Text.{text}
 use Rattle.world_law.specs.World.{Message, operations_told, World, HasMachine, IsBeginning}
 use Rattle.world_law.specs.Histories.{IsChanged, History}
-use Rattle.world_law.specs.Witness.{both_have_it, both_new, first_op, insert_of, new_one, one_tells_and_crashes}
+use Rattle.world_law.specs.Witness.{both_have_it, both_new, first_edit, first_op, insert_of, new_one, one_tells_and_crashes}
 
 -- the states of replica 1, one after another
 abbrev with_a : State
-with_a = holding (new_one 1) (with_edit (opened_with 1 []) 1 (insert_of 0 97))
+with_a = holding (new_one 1) (with_edit (opened_with 1 []) 1 first_edit)
 
 abbrev with_commit : State
 with_commit = record with_a { commit = Some (record { count = 1; through = false }) }
@@ -84,9 +84,13 @@ happens = (
                 world_in reopened_with_a told,
                 (first_changes with_b reopened_with_a refl, refl, refl),
                 (
-                  both_have_it,
-                  (second_changes reopened_with_a (new_one 2) has_merged refl, inl (inl refl), (refl, refl), refl),
-                  refl,
+                  world_in reopened_with_a told,
+                  (first_changes reopened_with_a reopened_with_a refl, tt, (refl, refl), refl),
+                  (
+                    both_have_it,
+                    (second_changes reopened_with_a (new_one 2) has_merged refl, inl (inl refl), (refl, refl), refl),
+                    refl,
+                  ),
                 ),
               ),
             ),

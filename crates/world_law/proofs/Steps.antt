@@ -19,13 +19,14 @@ use Rattle.op_model.specs.Machine.{Commit, State, Ticket, Event, edit, merge, be
 use Rattle.op_model.specs.Machine.{settle, ack, tell, have, Answer, ticket, applied, known, early}
 use Rattle.op_model.specs.Machine.{begun, nothing_new, idle, goes_on, goes_through, settled_to}
 use Rattle.op_model.specs.Machine.{acknowledged, operations, clock, refused, holding}
-use Rattle.op_model.specs.Machine.{with_failure_told, has_record_room, with_room, edit_alone}
-use Rattle.op_model.specs.Machine.{edit_answer, edit_answer_unless, merge_answer, merge_alone}
+use Rattle.op_model.specs.Machine.{with_failure_told, has_record_room, with_room, new_edit_alone}
+use Rattle.op_model.specs.Machine.{new_edit_answer, edit_answer_unless, merge_answer, merge_alone}
 use Rattle.op_model.specs.Machine.{merge_answer_unless, through_of, through, EditStep, MergeStep}
 use Rattle.op_model.specs.Machine.{BeginStep, DeviceStep, SettleStep, AckStep, TellStep, HaveStep}
 use Rattle.op_model.specs.Machine.{Step, opened, reopened, CrashLeavesOf, CrashLeaves}
 use Rattle.model_laws.proofs.Growth.{closed_push}
 use Rattle.model_laws.proofs.Makes.{closed_made}
+use Rattle.model_laws.proofs.Tickets.{edit_cases, was_made, is_new}
 use Rattle.world_law.specs.World.{Message, IsInBag, told_by}
 use Rattle.world_law.specs.Histories.{ComesFrom}
 use Rattle.world_law.proofs.ClosedLists.{closed_take, passed_follows}
@@ -71,15 +72,15 @@ limits_of true true false l e = absurd (cc)
 limits_of true false s l e = absurd (cc)
 limits_of false i s l e = absurd (cc)
 
-edit_within : (s : State) (e : Edit) (t : Ticket) → edit_answer s e ≡ ticket t
+edit_within : (s : State) (e : Edit) (t : Ticket) → new_edit_answer s e ≡ ticket t
     → is_within_limits (s.held.list ++ made s.held.list s.held.replica e) ≡ true
 edit_within s e t is =
-    let none = ticket_unless s.held e t (edit_refusal s.held.list s.held.replica e) (ticket_alone s.failure_told (has_record_room s (made s.held.list s.held.replica e)) t (edit_alone s.held e) is) in
+    let none = ticket_unless s.held e t (edit_refusal s.held.list s.held.replica e) (ticket_alone s.failure_told (has_record_room s (made s.held.list s.held.replica e)) t (new_edit_alone s.held e) is) in
     limits_of (is_at_rev (rev s.held.list e.doc) e.rev) (is_inside (length (visible s.held.list e.doc)) e.change) (is_small e.change)
     (is_within_limits (s.held.list ++ made s.held.list s.held.replica e)) none
 
 edit_made : (bag : List Message) (s : State) (session : ℕ) (e : Edit) (t : Ticket) → IsSound bag s
-    → edit_answer s e ≡ ticket t → Goes bag s (holding s (with_edit s.held session e))
+    → new_edit_answer s e ≡ ticket t → Goes bag s (holding s (with_edit s.held session e))
 edit_made bag s session e t h is =
     let long = length-append s.held.list (made s.held.list s.held.replica e) in
     let front = take-append-le s.held.settled s.held.list (made s.held.list s.held.replica e) h.settled in
@@ -100,7 +101,11 @@ edit_made bag s session e t h is =
 
 edit_goes : (bag : List Message) (s : State) (session : ℕ) (e : Edit) (a : Answer) (next : State) → IsSound bag s
     → EditStep s session e a next → Goes bag s next
-edit_goes bag s session e (ticket t) next h (is, at) = rw at (edit_made bag s session e t h is)
+edit_goes bag s session e (ticket t) next h (is, at) =
+    elim (edit_cases s e t is) [
+      | was_made k found ↦ goes_same bag s next h (rw found.known at at)
+      | is_new k answer due ↦ rw at (rw due (edit_made bag s session e t h answer))
+    ]
 edit_goes bag s session e (refused n) next h (is, at) = goes_same bag s next h at
 edit_goes bag s session e _ next h k = absurd k
 
@@ -117,7 +122,7 @@ merge_passes false true r answer e = absurd (cc)
 merge_passes false false false answer e = absurd (cc)
 merge_passes false false true answer e = (refl, e)
 
-applied_alone : (failure_told room : Bool) (answer : Answer) → (if failure_told then refused 9 else with_room room answer) ≡ applied → answer ≡ applied
+pub applied_alone : (failure_told room : Bool) (answer : Answer) → (if failure_told then refused 9 else with_room room answer) ≡ applied → answer ≡ applied
 applied_alone true room answer is = absurd (cc)
 applied_alone false true answer is = is
 applied_alone false false (ticket t) is = absurd (cc)
@@ -223,7 +228,7 @@ device_goes bag s (refused n) next h (inr k) =
     })
 device_goes bag s _ next h k = absurd k
 
-settled_by_commit : (failed : Bool) (c : Option Commit) (low high n : ℕ) → IsWithin low high c
+pub settled_by_commit : (failed : Bool) (c : Option Commit) (low high n : ℕ) → IsWithin low high c
     → (if failed then refused 44 else elim (through_of c) [ None ↦ refused 8 | Some m ↦ settled_to m ]) ≡ settled_to n
     → (low ≤ n) × (n ≤ high)
 settled_by_commit true c low high n h e = absurd (cc)

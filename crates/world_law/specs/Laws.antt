@@ -1,12 +1,12 @@
 -- What is so of every world that a history leads to.
-use Rattle.std.specs.Prelude.{◌≡◌, ◌≢◌, ℕ, List, ◌++◌, take}
+use Rattle.std.specs.Prelude.{◌≡◌, ◌≢◌, ℕ, ◌≤◌, List, ◌++◌, take, Some}
 use Rattle.op_model.specs.declared.op.Op.{Op}
 use Rattle.op_model.specs.declared.edit.Edit.{Edit}
 use Rattle.op_model.specs.Causality.{clock_of, HasOp}
 use Rattle.op_model.specs.Text.{text, rev}
 use Rattle.op_model.specs.Spans.{spans}
 use Rattle.op_model.specs.Made.{made}
-use Rattle.op_model.specs.Machine.{State}
+use Rattle.op_model.specs.Machine.{State, Ticket, token_ticket}
 use Rattle.world_law.specs.World.{World, HasMachine, IsInBag, IsBeginning}
 use Rattle.world_law.specs.Histories.{Happening, History}
 
@@ -56,3 +56,15 @@ abbrev pub EachFrontIsOne : Type 0
 EachFrontIsOne =
     (w after : World) (front rest : List Happening) → History w (front ++ rest) after
     → (mid : World) × History w front mid × History mid rest after
+
+-- an edit with this token was made, its ticket is this one, and its operations are settled
+pub record Answers (m : State) (token : ℕ) (t : Ticket) : Type 0 where
+  pub ticket : token_ticket m.held token ≡ Some t
+  pub settled : t.end ≤ m.held.settled
+
+-- from then on the token has the same ticket at every moment, across all crashes of its replica
+abbrev pub AnsweredForever : Type 0
+AnsweredForever =
+    (w mid after : World) (hs more : List Happening) (m n : State) (token : ℕ) (t : Ticket) → IsBeginning w → History w hs mid
+    → HasMachine mid.machines m → Answers m token t → History mid more after → HasMachine after.machines n
+    → n.held.replica ≡ m.held.replica → Answers n token t

@@ -3,3 +3,4 @@ pub mod Histories
 pub mod Laws
 pub mod Counts
 pub mod Witness
+pub mod Tokens

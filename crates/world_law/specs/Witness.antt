@@ -1,5 +1,5 @@
 -- A small history of two replicas: what one settled and told comes to the other across a crash, and what it hadn't settled is lost.
-use Rattle.std.specs.Prelude.{ℕ, List, [], ◌∷◌, Some, None}
+use Rattle.std.specs.Prelude.{ℕ, List, [], ◌∷◌, Some, None, true, false}
 use Rattle.op_model.specs.declared.op.Op.{Op}
 use Rattle.op_model.specs.declared.op.Body.TheVariants as body
 use Rattle.op_model.specs.declared.edit.Edit.{Edit}
@@ -15,6 +15,10 @@ use Rattle.world_law.specs.Histories.{Happening, step, crash}
 abbrev pub insert_of : ℕ → ℕ → Edit
 insert_of at value = record { doc = 1; rev = None; token = None; change = change.Insert at (value ∷ []) }
 
+-- that edit under a token
+abbrev pub named : ℕ → Edit → Edit
+named token e = record e { token = Some token }
+
 -- a replica that is new
 abbrev pub new_one : ℕ → State
 new_one replica = opened replica [] 1
@@ -23,9 +27,9 @@ new_one replica = opened replica [] 1
 abbrev pub both_new : World
 both_new = record { machines = new_one 1 ∷ new_one 2 ∷ []; bag = [] }
 
--- the first operation of replica 1: it inserts "a"
+-- the first operation of replica 1: it inserts "a", for an edit with the token 7
 abbrev pub first_op : Op
-first_op = record { id = record { counter = 1; replica = 1 }; doc = 1; token = None; deps = []; body = body.Insert None 97 }
+first_op = record { id = record { counter = 1; replica = 1 }; doc = 1; token = Some 7; deps = []; body = body.Insert None 97 }
 
 -- its second one, "b" or "c" behind the "a"
 abbrev pub second_op : ℕ → Op
@@ -37,17 +41,23 @@ second_op value = record {
   body = body.Insert (Some (record { counter = 1; replica = 1 })) value;
 }
 
--- Replica 1 inserts "a", commits and tells it. It inserts "b" and crashes. Replica 2 applies what was told.
+-- the edit that made it
+abbrev pub first_edit : Edit
+first_edit = named 7 (insert_of 0 97)
+
+-- Replica 1 inserts "a", commits and tells it. It inserts "b" and crashes; the edit of the "a" is sent again, and is answered as it was.
+-- Replica 2 applies what was told.
 abbrev pub one_tells_and_crashes : List Happening
 one_tells_and_crashes =
-    step 1 (edit 1 (insert_of 0 97)) (ticket (record { end = 1; rev = 1 }))
+    step 1 (edit 1 first_edit) (ticket (record { end = 1; rev = 1; known = false }))
     ∷ step 1 begin (begun 1)
     ∷ step 1 device_step goes_on
     ∷ step 1 device_step goes_through
     ∷ step 1 settle (settled_to 1)
     ∷ step 1 (tell []) (operations (first_op ∷ []))
-    ∷ step 1 (edit 1 (insert_of 1 98)) (ticket (record { end = 2; rev = 2 }))
+    ∷ step 1 (edit 1 (insert_of 1 98)) (ticket (record { end = 2; rev = 2; known = false }))
     ∷ crash 1
+    ∷ step 1 (edit 1 first_edit) (ticket (record { end = 1; rev = 1; known = true }))
     ∷ step 2 (merge 1 first_op) applied
     ∷ []
 

@@ -9,9 +9,9 @@ ghost use Rattle.world_law.specs.Histories.{History};
 ghost use Rattle.world_law.specs.Witness.{both_have_it, both_new, first_op, insert_of};
 ghost use Rattle.world_law.specs.Witness.{one_tells_and_crashes, second_op};
 
-/// One replica inserts "a", settles and tells it, inserts "b" and crashes; another applies what
-/// was told. Then both have equal clocks and show "a". The id of the "b", which nobody was told, is
-/// made again.
+/// One replica inserts "a", settles and tells it, inserts "b" and crashes; the edit of the "a" is
+/// sent again under its token, which adds nothing; another replica applies what was told. Then both
+/// have equal clocks and show "a". The id of the "b", which nobody was told, is made again.
 pub fn an_operation_goes_from_one_replica_to_another()
     ensures beginning { IsBeginning both_new }
     ensures happens { History both_new one_tells_and_crashes both_have_it }

@@ -1,18 +1,26 @@
-use Rattle.std.proofs.Common.{◌≤◌, ◌<◌, ◌+◌, ◌-◌, [], length, drop, get_or, sym, ◌∙◌, ap, arith}
-use Rattle.char_sequence.specs.Cells.{shown, shown_at}
+use Rattle.std.proofs.Common.{◌≤◌, ◌+◌, ◌-◌, [], length, drop, get_or, sym, ◌∙◌, ap, arith}
+use Rattle.char_sequence.specs.Cells.{behind_shown, shown, shown_at}
 use Rattle.char_sequence.specs.Chunks.{cells_of}
+use Rattle.char_sequence.proofs.BehindLemmas.{behind_chunk}
 use Rattle.char_sequence.proofs.PlaceLemmas.{few_in_chunk}
-use Rattle.char_sequence.proofs.SizeLemmas.{few_chunks, in_chunk, next_chunk, none_read, past_all, past_chunk, size_read}
+use Rattle.char_sequence.proofs.ShownLemmas.{seen_of}
+use Rattle.char_sequence.proofs.SizeLemmas.{few_chunks, next_chunk, none_read, past_all, past_chunk, size_read}
 use Rattle.char_sequence.proofs.shown.shown.Goals as goal
 
-pub shown_in-requires : goal.shown_in-requires
-shown_in-requires c = (size_read c.args.chunks.now c.loop-size.i c.in-Some.size (sym c.chunk.ensures.size ∙ c.in-Some.is)).1
+pub shown_in-requires-clause-cells : goal.shown_in-requires-clause-cells
+shown_in-requires-clause-cells c = (size_read c.args.chunks.now c.loop-size.i c.in-Some.size (sym c.chunk.ensures.size ∙ c.in-Some.is)).1
+
+pub shown_in-requires-clause-here : goal.shown_in-requires-clause-here
+shown_in-requires-clause-here c =
+    let read = size_read c.args.chunks.now c.loop-size.i c.in-Some.size (sym c.chunk.ensures.size ∙ c.in-Some.is) in
+    let here = c.if-left-size.true in
+    let is = read.2 in
+    omega arith
 
 pub returns-then-left-size-clause-found : goal.returns-then-left-size-clause-found
 returns-then-left-size-clause-found c =
-    let read = size_read c.args.chunks.now c.loop-size.i c.in-Some.size (sym c.chunk.ensures.size ∙ c.in-Some.is) in
-    let few : c.loop-size.left < length (shown (get_or c.args.chunks.now c.loop-size.i [])) = (let here = c.if-left-size.true in let is = read.2 in omega arith) in
-    c.shown_in.ensures.found ∙ sym (c.loop-size.invariant.found ∙ in_chunk c.args.chunks.now c.loop-size.i c.loop-size.left few)
+    seen_of c.args.chunks.now c.loop-size.i c.args.k c.loop-size.left c.shown_in.result c.loop-size.invariant.found c.loop-size.invariant.rest
+    c.shown_in.ensures.found
 
 pub returns-then-left-size-clause-ticks : goal.returns-then-left-size-clause-ticks
 returns-then-left-size-clause-ticks c =
@@ -47,6 +55,9 @@ loop-size-preserved c =
       found = c.loop-size.invariant.found
           ∙ (past_chunk c.args.chunks.now c.loop-size.i c.loop-size.left past
           ∙ ap (λ n. shown_at (cells_of (drop (c.loop-size.i + 1) c.args.chunks.now)) (c.loop-size.left - n)) (sym read.2));
+      rest = c.loop-size.invariant.rest
+          ∙ (behind_chunk c.args.chunks.now c.loop-size.i (c.loop-size.left + 1) (omega arith)
+          ∙ ap (behind_shown (cells_of (drop (c.loop-size.i + 1) c.args.chunks.now))) (let is = read.2 in omega arith));
       here = let here = read.0 in omega arith;
       ticks = let tick = c.chunk.ensures.tick in let so_far = c.loop-size.invariant.ticks in omega arith;
       rising = let tick = c.chunk.ensures.tick in let so_far = c.loop-size.invariant.rising in omega arith;
@@ -55,7 +66,7 @@ loop-size-preserved c =
 pub returns-clause-found : goal.returns-clause-found
 returns-clause-found c =
     let end = none_read c.args.chunks.now c.loop-size.i (sym c.chunk.ensures.size ∙ c.in_default.is) in
-    sym (c.loop-size.invariant.found ∙ ap (λ cs. shown_at cs c.loop-size.left) (past_all c.args.chunks.now c.loop-size.i end))
+    c.loop-size.invariant.found ∙ ap (λ cs. shown_at cs c.loop-size.left) (past_all c.args.chunks.now c.loop-size.i end)
 
 pub returns-clause-ticks : goal.returns-clause-ticks
 returns-clause-ticks c =

@@ -1,11 +1,12 @@
 use Rattle.std.proofs.Common.{◌≡◌, ◌≤◌, ◌+◌, ◌-◌, length, drop}
-use Rattle.char_sequence.specs.Cells.{shown_at}
+use Rattle.char_sequence.specs.Cells.{behind_shown, shown_at}
 use Rattle.char_sequence.specs.Chunks.{cells_of}
 use Rattle.char_sequence.proofs.shown.shown.Given as goal
 
 abbrev pub invariant-loop-size : goal.invariant-loop-size
 invariant-loop-size l = record {
   found : shown_at (cells_of l.chunks) l.k ≡ shown_at (cells_of (drop l.i l.chunks)) l.left;
+  rest : behind_shown (cells_of l.chunks) (l.k + 1) ≡ behind_shown (cells_of (drop l.i l.chunks)) (l.left + 1);
   here : l.i ≤ length l.chunks;
   ticks : l.ticks ≤ l.fn.ticks + l.i;
   rising : l.fn.ticks ≤ l.ticks;

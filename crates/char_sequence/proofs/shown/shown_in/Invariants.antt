@@ -1,10 +1,10 @@
-use Rattle.std.proofs.Common.{◌≡◌, ◌≤◌, ◌+◌, [], drop, get_or}
-use Rattle.char_sequence.specs.Cells.{shown_at}
+use Rattle.std.proofs.Common.{◌≤◌, ◌+◌}
+use Rattle.char_sequence.proofs.ShownLemmas.{SoFar}
 use Rattle.char_sequence.proofs.shown.shown_in.Given as goal
 
 abbrev pub invariant-loop-j : goal.invariant-loop-j
 invariant-loop-j l = record {
-  found : shown_at (get_or l.chunks l.i []) l.k ≡ shown_at (drop l.j (get_or l.chunks l.i [])) l.left;
+  so_far : SoFar l.chunks l.i l.j l.k l.left;
   ticks : l.ticks ≤ l.fn.ticks + l.j;
   rising : l.fn.ticks ≤ l.ticks;
 }

@@ -5,7 +5,7 @@ use Rattle.page_file.specs.Pages.{number_bytes}
 use Rattle.root_slots.specs.Root.{pages_for, tables_of}
 use Rattle.group_commit.specs.Saved.{with_stream}
 use Rattle.group_commit.specs.Plan.{kept_of}
-use Rattle.group_commit.specs.Planning.{filled}
+use Rattle.group_commit.specs.Planning.{padded}
 use Rattle.group_commit.proofs.KeptLemmas.{Grows, grown}
 use Rattle.group_commit.proofs.PagingLemmas.{renews_by}
 use Rattle.group_commit.proofs.PlanLemmas.{plan_of, next_apart, Follows, drop_both}
@@ -153,10 +153,10 @@ returns-clause-plan c =
     let entries : c.deref-2.result.now ≡ drop (1024 * (c.kept_pages-kept.result / 1024)) (take c.kept_pages-kept.result c.live_data_pages-olds.result.now ++ c.split_at.result.0.now) =
     c.deref-2.ensures.value ∙ c.in_ok-all.ensures.entries in
     let fresh = c.in_ok-fresh.ensures
-    ∙ ap (λ n. filled (4096 * n) (c.rest_behind-old_bytes.result.now ++ c.behind-new_bytes.result.now) ++ filled (4096 * (c.tables_for.result - c.kept_pages-kept.result / 1024)) (number_bytes c.deref-2.result.now)) (sym c.split_at.ensures.front_len)
-    ∙ ap (λ n. filled (4096 * length c.split_at.result.0.now) (c.rest_behind-old_bytes.result.now ++ c.behind-new_bytes.result.now) ++ filled (4096 * n) (number_bytes c.deref-2.result.now)) (sym rest)
-    ∙ ap (λ b. filled (4096 * length c.split_at.result.0.now) b ++ filled (4096 * length c.split_at.result.1.now) (number_bytes c.deref-2.result.now)) bytes
-    ∙ ap (λ ns. filled (4096 * length c.split_at.result.0.now) (drop (4096 * c.kept_pages-kept.result) (c.args.stream.now ++ c.args.records.now)) ++ filled (4096 * length c.split_at.result.1.now) (number_bytes ns)) entries in
+    ∙ ap (λ n. padded (4096 * n) (c.rest_behind-old_bytes.result.now ++ c.behind-new_bytes.result.now) ++ padded (4096 * (c.tables_for.result - c.kept_pages-kept.result / 1024)) (number_bytes c.deref-2.result.now)) (sym c.split_at.ensures.front_len)
+    ∙ ap (λ n. padded (4096 * length c.split_at.result.0.now) (c.rest_behind-old_bytes.result.now ++ c.behind-new_bytes.result.now) ++ padded (4096 * n) (number_bytes c.deref-2.result.now)) (sym rest)
+    ∙ ap (λ b. padded (4096 * length c.split_at.result.0.now) b ++ padded (4096 * length c.split_at.result.1.now) (number_bytes c.deref-2.result.now)) bytes
+    ∙ ap (λ ns. padded (4096 * length c.split_at.result.0.now) (drop (4096 * c.kept_pages-kept.result) (c.args.stream.now ++ c.args.records.now)) ++ padded (4096 * length c.split_at.result.1.now) (number_bytes ns)) entries in
     rw (numbers, fresh)
     (plan_of (with_stream c.args.current.now c.args.stream.now) (with_stream c.in_ok-next.next (c.args.stream.now ++ c.args.records.now)) c.args.records.now c.args.more c.kept_pages-kept.result c.live_data_pages-olds.result.now c.split_at.result.0.now c.split_at.result.1.now follows
     (rw numbers at c.in_ok-numbers.ensures.lowest) small)

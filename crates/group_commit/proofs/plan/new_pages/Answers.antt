@@ -4,7 +4,7 @@ use Rattle.std.specs.declared.alloc.Global.{Global}
 use Rattle.std.proofs.lemmas.List.{take_all, length-replicate}
 use Rattle.page_file.specs.Pages.{number_bytes}
 use Rattle.page_file.proofs.NumberLemmas.{length-number_bytes}
-use Rattle.group_commit.specs.Planning.{filled}
+use Rattle.group_commit.specs.Planning.{padded}
 use Rattle.group_commit.proofs.plan.new_pages.Goals as goal
 
 counted : (v : Vec ℕ Global) → vec_len v ≡ length v.items
@@ -12,15 +12,15 @@ counted v = search rules
 
 -- bytes filled up to a size, and more behind them filled up to a greater one
 two_filled : (m n : ℕ) (bytes more a b c d : List ℕ) → length bytes ≤ m → length more ≤ n → a ≡ bytes → b ≡ take m a ++ replicate (m - length a) 0 → c ≡ b ++ more
-    → d ≡ take (m + n) c ++ replicate ((m + n) - length c) 0 → d ≡ filled m bytes ++ filled n more
+    → d ≡ take (m + n) c ++ replicate ((m + n) - length c) 0 → d ≡ padded m bytes ++ padded n more
 two_filled m n bytes more a b c d fits fits' is_a is_b is_c is_d =
-    let same_b : b ≡ filled m bytes = is_b ∙ ap (λ x. take m x ++ replicate (m - length x) 0) is_a
+    let same_b : b ≡ padded m bytes = is_b ∙ ap (λ x. take m x ++ replicate (m - length x) 0) is_a
     ∙ ap (λ x. x ++ replicate (m - length bytes) 0) (take_all m bytes fits) in
     let size_b : length b ≡ m = ap length same_b ∙ omega (arith, length-append bytes (replicate (m - length bytes) 0), length-replicate {A = ℕ} (m - length bytes) 0, fits) in
     let size_c : length c ≡ m + length more = ap length is_c ∙ omega (arith, length-append b more, size_b) in
     let left : (m + n) - length c ≡ n - length more = omega (arith, size_c) in
     is_d ∙ ap (λ x. x ++ replicate ((m + n) - length c) 0) (take_all (m + n) c (omega (arith, size_c, fits'))) ∙ ap (λ k. c ++ replicate k 0) left
-    ∙ ap (λ x. x ++ replicate (n - length more) 0) is_c ∙ append_assoc b more (replicate (n - length more) 0) ∙ ap (λ x. x ++ filled n more) same_b
+    ∙ ap (λ x. x ++ replicate (n - length more) 0) is_c ∙ append_assoc b more (replicate (n - length more) 0) ∙ ap (λ x. x ++ padded n more) same_b
 
 pub returns : goal.returns
 returns c =

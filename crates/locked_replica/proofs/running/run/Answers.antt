@@ -13,7 +13,7 @@ loop-step-init g c = record {
   replied = rw c.in_ok-replies.ensures.items
       (replied_none g.D.DiskFacts c.args.hub.now c.args.steps.now
       (ran_none g.D.DiskFacts c.args.hub.now (λ told. g.met.D.Disk.lawful c.args.hub.now.store.disk told) c.survivors.ensures.settled
-      c.survivors.ensures.image c.survivors.ensures.crash));
+      c.survivors.ensures.image));
 }
 
 pub loop-step-preserved : goal.loop-step-preserved
@@ -38,7 +38,7 @@ returns-in_err-replies-clause-beginning g c =
       [],
       replied_none g.D.DiskFacts c.args.hub.now c.args.steps.now
           (ran_none g.D.DiskFacts c.args.hub.now (λ told. g.met.D.Disk.lawful c.args.hub.now.store.disk told) c.survivors.ensures.settled
-          c.survivors.ensures.image c.survivors.ensures.crash),
+          c.survivors.ensures.image),
     )
 
 pub returns-in_err-reply-clause-beginning : goal.returns-in_err-reply-clause-beginning

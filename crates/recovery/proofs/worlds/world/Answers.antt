@@ -1,4 +1,5 @@
 use Rattle.world_law.proofs.Clauses.{one_operation, told_once, never_again, same_shown, settled}
+use Rattle.world_law.proofs.Answered.{answered_forever}
 use Rattle.world_law.proofs.Worlds.{history_fronts}
 use Rattle.recovery.proofs.worlds.world.Goals as goal
 
@@ -9,5 +10,6 @@ returns c = record {
   never_again = never_again;
   same_shown = same_shown;
   settled = settled;
+  answered = answered_forever;
   moments = history_fronts;
 }

@@ -1,4 +1,4 @@
-use Rattle.session_threads.proofs.ServeLemmas.{answered, answered_refusal, can_be_refused}
+use Rattle.session_threads.proofs.ServeLemmas.{answered, answered_refusal, can_be_refused, ends_within}
 use Rattle.session_threads.proofs.hub_edit.answer_edit.Goals as goal
 
 pub returns-in-Ok-clause-answer : goal.returns-in-Ok-clause-answer
@@ -11,3 +11,6 @@ returns-in-Err-clause-answer g c =
 
 pub refusal_of-requires : goal.refusal_of-requires
 refusal_of-requires g c = can_be_refused g.D.DiskFacts c.args.session _ _ c.args.edit.now _ c.in-Err.ensures.call
+
+pub answer_ticket-requires-clause-within : goal.answer_ticket-requires-clause-within
+answer_ticket-requires-clause-within g c = ends_within g.D.DiskFacts c.args.session _ _ c.args.edit.now c.in-Ok.ticket c.in-Ok.ensures.call

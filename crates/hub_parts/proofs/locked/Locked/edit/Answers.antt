@@ -9,7 +9,7 @@ use Rattle.hub_parts.proofs.locked.Locked.edit.Goals as goal
 pub returns-in-Err-clause-call : goal.returns-in-Err-clause-call
 returns-in-Err-clause-call c =
     let l : LockedHeld = record { replica = c.self.inside.replica; begun = c.self.inside.begun; failure_told = c.self.inside.failure_told } in
-    rw (sym c.self.view_is) (edit_refused l c.args.session c.args.edit.now _ c.if-self.false c.in-Err.ensures.refused)
+    rw (sym c.self.view_is) (edit_refused l c.args.session c.args.edit.now _ (sym c.in_default.ensures) c.if-self.false c.in-Err.ensures.refused)
 
 pub invariant_of-self : goal.invariant_of-self
 invariant_of-self c =

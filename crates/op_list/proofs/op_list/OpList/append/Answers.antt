@@ -1,5 +1,5 @@
 use Rattle.std.proofs.Common.{◌≡◌, ◌++◌, length, ap, ◌∙◌, arith}
-use Rattle.op_list.specs.Held.{ends_of, Holds}
+use Rattle.op_list.specs.Held.{ends_of, HoldsRecords}
 use Rattle.op_list.proofs.Holding.{shown, records_length, held_more, held_is, is_held}
 use Rattle.op_list.proofs.op_list.OpList.append.Goals as goal
 
@@ -10,7 +10,7 @@ push_ends-requires-clause-within c =
     (arith, c.len-start.ensures, c.self.inside.records.ok.0, records_length _ _ _ holds, c.requires)
 
 grown : (c : goal.After-push_ends)
-    → Holds c.put_ops.new.out.items c.push_ends.new.ends.items (c.args.self.now ++ c.args.ops.now)
+    → HoldsRecords c.put_ops.new.out.items c.push_ends.new.ends.items (c.args.self.now ++ c.args.ops.now)
 grown c =
     let holds = shown _ _ c.args.self.now c.self.invariant c.self.view_is in
     let start : c.len-start.result ≡ length c.self.inside.records.items =

@@ -1,14 +1,14 @@
 use Rattle.std.proofs.Common.{List, ℕ, subst, sym}
 use Rattle.op_model.specs.declared.op.Op.{Op}
 use Rattle.change_codec.specs.Formats.{AreOf}
-use Rattle.op_list.specs.Held.{Holds}
+use Rattle.op_list.specs.Held.{HoldsRecords}
 use Rattle.op_list.proofs.Holding.{held_is, is_held}
 use Rattle.op_list.proofs.op_list.OpList.read.Goals as goal
 
 read : (c : goal.In_ok-ends)
-    → Holds c.args.records.items c.in_ok-ends.ends.items c.in_ok-ends.ensures.ok.0
+    → HoldsRecords c.args.records.items c.in_ok-ends.ends.items c.in_ok-ends.ensures.ok.0
 read c =
-    subst (λ (r : List ℕ). Holds r c.in_ok-ends.ends.items c.in_ok-ends.ensures.ok.0)
+    subst (λ (r : List ℕ). HoldsRecords r c.in_ok-ends.ends.items c.in_ok-ends.ensures.ok.0)
     c.deref.ensures.value c.in_ok-ends.ensures.ok.1
 
 pub invariant_of-result : goal.invariant_of-result

@@ -1,11 +1,11 @@
 use Rattle.std.proofs.Common.{◌≡◌, take, ap, ◌∙◌}
 use Rattle.op_model.specs.Records.{stream_length}
-use Rattle.op_list.specs.Held.{Holds}
+use Rattle.op_list.specs.Held.{HoldsRecords}
 use Rattle.op_list.proofs.Holding.{shown, held_front, held_is, is_held}
 use Rattle.op_list.proofs.op_list.OpList.truncate.Goals as goal
 
 cut : (c : goal.After-truncate-then-n-len)
-    → Holds c.truncate.new.self.items c.truncate-then-n-len.new.self.items
+    → HoldsRecords c.truncate.new.self.items c.truncate-then-n-len.new.self.items
     (take c.args.n c.args.self.now)
 cut c =
     let holds = shown _ _ c.args.self.now c.self.invariant c.self.view_is in

@@ -6,7 +6,7 @@ use Rattle.op_model.specs.Text.{rev}
 use Rattle.replica_core.proofs.FollowLemmas.{stream_fits}
 use Rattle.replica_core.specs.Fields.{held_of}
 use Rattle.op_model.specs.Held.{ReplicaHeld}
-use Rattle.replica_core.proofs.SoundLemmas.{due_counts, edit_alone-due, due_fits, due_within, due_asks_right, made_own, held_of-edit, AreFields-edit}
+use Rattle.replica_core.proofs.SoundLemmas.{due_counts, new_edit_alone-due, due_fits, due_within, due_asks_right, made_own, held_of-edit, AreFields-edit}
 use Rattle.replica_core.proofs.replica.Replica.put_edit.Goals as goal
 
 pub count_all-requires : goal.count_all-requires
@@ -94,7 +94,7 @@ returns-clause-ticket c =
     ∙ ap (λ ops. rev ops c.args.edit.now.doc) c.as_slice-ops.ensures) in
     let h : ReplicaHeld = held_of c.self.inside.id c.self.inside.log.list c.self.inside.opened c.self.inside.settled c.self.inside.acked c.self.inside.told c.self.inside.steps in
     rw (← c.self.view_is)
-    (edit_alone-due h c.args.edit.now _ can (rw (first, c.size-count.ensures.value) refl) (rw (revs, c.size-count.ensures.value) refl))
+    (new_edit_alone-due h c.args.edit.now _ _ can (rw (first, c.size-count.ensures.value) refl) (rw (revs, c.size-count.ensures.value) refl))
 
 pub unreachable-requires : goal.unreachable-requires
 unreachable-requires c =

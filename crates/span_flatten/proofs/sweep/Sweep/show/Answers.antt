@@ -2,23 +2,28 @@ use Rattle.std.proofs.Common.{◌+◌, map, ap, sym, ◌∙◌}
 use Rattle.std.proofs.lemmas.Result.{on_ok_weaker}
 use Rattle.span_flatten.specs.Formatting.{marks_in}
 use Rattle.span_flatten.specs.Listing.{listed}
-use Rattle.span_flatten.specs.Sweeping.{forward_span, picked}
-use Rattle.span_flatten.proofs.BackLemmas.{back_joined, last_extended, last_same}
+use Rattle.span_flatten.specs.Picking.{picked}
+use Rattle.span_flatten.specs.Sweeping.{forward_span, kept}
+use Rattle.span_flatten.proofs.BackLemmas.{back_joined, comments_extended, last_extended, last_same}
 use Rattle.span_flatten.proofs.ListedLemmas.{listed_extended}
 use Rattle.span_flatten.proofs.sweep.Sweep.show.Goals as goal
 
 pub returns-then-not-self-clause-shown : goal.returns-then-not-self-clause-shown
 returns-then-not-self-clause-shown c =
-    let marks = marks_in (picked c.args.markings.now c.args.self.now.active.set.items) in
+    let marks = marks_in (picked c.args.markings.now (kept c.args.self.now.active)) in
     let before = map forward_span c.args.self.now.runs.items in
-    on_ok_weaker c.join.result (λ is. λ fresh. is ∙ sym (back_joined c.args.value marks before (last_same marks before (fresh c.if-not-self.true))))
+    on_ok_weaker c.join.result (λ is. λ ready. is ∙ sym (back_joined c.args.value marks before (last_same marks before (ready.fresh c.if-not-self.true))))
     c.join.ensures
 
-pub returns-then-not-self-clause-fresh : goal.returns-then-not-self-clause-fresh
-returns-then-not-self-clause-fresh c =
-    let marks = marks_in (picked c.args.markings.now c.args.self.now.active.set.items) in
+pub returns-then-not-self-clause-ready : goal.returns-then-not-self-clause-ready
+returns-then-not-self-clause-ready c =
+    let marks = marks_in (picked c.args.markings.now (kept c.args.self.now.active)) in
     let before = map forward_span c.args.self.now.runs.items in
-    on_ok_weaker c.join.result (λ is. λ fresh. λ e. rw is (last_extended c.args.value marks before (fresh e))) c.join.ensures
+    on_ok_weaker c.join.result (λ is. λ ready. record {
+      deciding = ready.deciding;
+      noted = rw is (rw (comments_extended c.args.value before) ready.noted);
+      fresh = λ e. rw is (last_extended c.args.value marks before (ready.fresh e));
+    }) c.join.ensures
 
 pub returns-then-not-self-clause-few : goal.returns-then-not-self-clause-few
 returns-then-not-self-clause-few c =

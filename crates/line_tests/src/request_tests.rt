@@ -1,0 +1,291 @@
+//! How lines are read into commands, and how answers are said.
+use crate::saying_tests::{said, text_of};
+use op_model::{
+    Change, CommentId, CommentIds, Edit, EditText, Mark, MarkKey, Marks, Span, Text, Url,
+};
+use session_lines::{Answer, Command, Refusal, SpanList, State, serve_line};
+use std::alloc::Global;
+use std::num::NonZeroU32;
+use std::process::Abort;
+use std::test::Fail;
+
+fn refused(rt: &impl Abort, alloc: Global, line: &[u8], refusal: Refusal) {
+    match serve_line(alloc, line) {
+        Ok(_) => assert!(rt; false, "served: {line:?}"),
+        Err(found) => assert!(rt; found == refusal, "{found}: {line:?}"),
+    }
+}
+
+#[test]
+fn what_is_no_json_is_syntax(rt: HostRuntime) {
+    let alloc = rt.alloc();
+    refused(&rt, alloc, b"[", Refusal::Syntax);
+    refused(&rt, alloc, b"", Refusal::Syntax);
+    refused(&rt, alloc, b"  ", Refusal::Syntax);
+    refused(&rt, alloc, b"{\"op\":\"\xff\"}", Refusal::Syntax);
+    refused(&rt, alloc, b"{\"op\":\"status\"} 1", Refusal::Syntax);
+    refused(
+        &rt,
+        alloc,
+        b"{\"op\":\"text\",\"doc\":1E400}",
+        Refusal::Syntax,
+    );
+}
+
+#[test]
+fn what_asks_for_nothing_is_no_request(rt: HostRuntime) {
+    let alloc = rt.alloc();
+    refused(&rt, alloc, b"7", Refusal::Request);
+    refused(&rt, alloc, b"[\"status\"]", Refusal::Request);
+    refused(&rt, alloc, b"{}", Refusal::Request);
+    refused(&rt, alloc, b"{\"op\":\"fly\"}", Refusal::Request);
+    refused(&rt, alloc, b"{\"op\":1}", Refusal::Request);
+    refused(&rt, alloc, b"{\"op\":null}", Refusal::Request);
+}
+
+#[test]
+fn numbers_are_whole_and_in_range(rt: HostRuntime) {
+    let alloc = rt.alloc();
+    for number in [
+        "0",
+        "4294967296",
+        "-1",
+        "-0",
+        "1.0",
+        "1e0",
+        "18446744073709551616",
+        "\"1\"",
+        "null",
+        "true",
+    ] {
+        let line = format!(in alloc; "{{\"op\":\"text\",\"doc\":{number}}}").expect(&rt, "memory");
+        refused(&rt, alloc, line.as_bytes(), Refusal::Field);
+    }
+    refused(&rt, alloc, b"{\"op\":\"text\"}", Refusal::Field);
+}
+
+#[test]
+fn fields_keep_their_rules(rt: HostRuntime) {
+    let alloc = rt.alloc();
+    let long = "u".repeat(alloc, 1025).expect(&rt, "memory");
+    let link = format!(in alloc;
+        "{{\"op\":\"mark\",\"doc\":1,\"from\":0,\"to\":1,\"kind\":\"link\",\"url\":\"{long}\"}}"
+    ).expect(&rt, "memory");
+    refused(&rt, alloc, link.as_bytes(), Refusal::Field);
+    let lines: [&str; 16] = [
+        "{\"op\":\"status\",\"doc\":1}",
+        "{\"op\":\"stop\",\"rev\":0}",
+        "{\"op\":\"text\",\"doc\":1,\"rev\":0}",
+        "{\"op\":\"insert\",\"doc\":1,\"at\":0,\"text\":\"\"}",
+        "{\"op\":\"insert\",\"doc\":0,\"at\":0,\"text\":\"a\"}",
+        "{\"op\":\"insert\",\"doc\":1,\"at\":1.0,\"text\":\"a\"}",
+        "{\"op\":\"insert\",\"doc\":1,\"at\":0,\"text\":\"a\",\"rev\":null}",
+        "{\"op\":\"insert\",\"doc\":1,\"at\":0,\"text\":\"a\",\"count\":1}",
+        "{\"op\":\"delete\",\"doc\":1,\"at\":0,\"count\":0}",
+        "{\"op\":\"mark\",\"doc\":1,\"from\":0,\"to\":1,\"kind\":\"bold\"}",
+        "{\"op\":\"mark\",\"doc\":1,\"from\":0,\"to\":1,\"kind\":\"strong\",\"url\":\"u\"}",
+        "{\"op\":\"mark\",\"doc\":1,\"from\":0,\"to\":1,\"kind\":\"link\"}",
+        "{\"op\":\"mark\",\"doc\":1,\"from\":0,\"to\":1,\"kind\":\"link\",\"url\":\"\"}",
+        "{\"op\":\"unmark\",\"doc\":1,\"from\":0,\"to\":1,\"kind\":\"link\",\"url\":\"u\"}",
+        "{\"op\":\"mark\",\"doc\":1,\"from\":0,\"to\":1,\"kind\":\"comment\",\"id\":\"c1\"}",
+        "{\"op\":\"unmark\",\"doc\":1,\"from\":0,\"to\":1,\"kind\":\"comment\"}",
+    ];
+    for line in lines {
+        refused(&rt, alloc, line.as_bytes(), Refusal::Field);
+    }
+}
+
+fn served(rt: &impl Abort, alloc: Global, line: &str, command: Command) {
+    match serve_line(alloc, line.as_bytes()) {
+        Ok(found) => assert!(rt; found == command, "{found:?}: {line}"),
+        Err(refusal) => assert!(rt; false, "{refusal}: {line}"),
+    }
+}
+
+#[test]
+fn readings_and_the_stop_are_served(rt: HostRuntime) {
+    let alloc = rt.alloc();
+    served(
+        &rt,
+        alloc,
+        "{\"op\":\"text\",\"doc\":4294967295}",
+        Command::Text { doc: 4_294_967_295 },
+    );
+    served(
+        &rt,
+        alloc,
+        " {\"doc\":1, \"op\":\"spans\"} ",
+        Command::Spans { doc: 1 },
+    );
+    served(&rt, alloc, "{\"op\":\"status\"}", Command::Status);
+    served(&rt, alloc, "{\"op\":\"stop\"}", Command::Stop);
+}
+
+#[test]
+fn inserts_and_deletes_are_served(rt: HostRuntime) -> Result<(), Fail> {
+    let alloc = rt.alloc();
+    let text = EditText::new("aé😀".chars().collect(alloc)?).ok_or("empty")?;
+    let change = Change::Insert { at: 0, text };
+    served(
+        &rt,
+        alloc,
+        "{\"op\":\"insert\",\"doc\":1,\"at\":0,\"text\":\"a\\u00e9😀\",\"rev\":7}",
+        Command::Edit(Edit {
+            doc: 1,
+            rev: Some(7),
+            token: None,
+            change,
+        }),
+    );
+    let count = NonZeroU32::new(2).ok_or("zero")?;
+    let change = Change::Delete { at: 3, count };
+    served(
+        &rt,
+        alloc,
+        "{\"op\":\"delete\",\"doc\":9,\"at\":3,\"count\":2}",
+        Command::Edit(Edit {
+            doc: 9,
+            rev: None,
+            token: None,
+            change,
+        }),
+    );
+    Ok(())
+}
+
+#[test]
+fn marks_are_served(rt: HostRuntime) -> Result<(), Fail> {
+    let alloc = rt.alloc();
+    let url = Url::new(String::from_str(alloc, "u")?).ok_or("empty")?;
+    let change = Change::Mark {
+        from: 0,
+        to: 3,
+        mark: Mark::Link(url),
+    };
+    served(
+        &rt,
+        alloc,
+        "{\"op\":\"mark\",\"doc\":1,\"from\":0,\"to\":3,\"kind\":\"link\",\"url\":\"u\"}",
+        Command::Edit(Edit {
+            doc: 1,
+            rev: None,
+            token: None,
+            change,
+        }),
+    );
+    let change = Change::Unmark {
+        from: 1,
+        to: 2,
+        key: MarkKey::Comment(CommentId::read([0; 16])),
+    };
+    served(
+        &rt,
+        alloc,
+        "{\"op\":\"unmark\",\"doc\":1,\"from\":1,\"to\":2,\"kind\":\"comment\",\"id\":\"00000000000000000000000000000000\"}",
+        Command::Edit(Edit {
+            doc: 1,
+            rev: None,
+            token: None,
+            change,
+        }),
+    );
+    Ok(())
+}
+
+#[test]
+fn short_answers_are_said(rt: HostRuntime) {
+    let alloc = rt.alloc();
+    said(
+        &rt,
+        alloc,
+        &Answer::Edited { rev: 3 },
+        "{\"ok\":true,\"rev\":3}\n",
+    );
+    said(&rt, alloc, &Answer::Stopped, "{\"ok\":true}\n");
+    said(&rt, alloc, &Answer::Done, "{\"ok\":true}\n");
+    said(
+        &rt,
+        alloc,
+        &Answer::Status {
+            applied: 2,
+            settled: 0,
+            state: State::Failed,
+        },
+        "{\"applied\":2,\"ok\":true,\"settled\":0,\"state\":\"failed\"}\n",
+    );
+    said(
+        &rt,
+        alloc,
+        &Answer::Refused(Refusal::Limit),
+        "{\"code\":7,\"error\":\"limit\",\"ok\":false}\n",
+    );
+}
+
+#[test]
+fn texts_are_said(rt: HostRuntime) -> Result<(), Fail> {
+    let alloc = rt.alloc();
+    let empty = Text::from(Vec::new(alloc));
+    said(
+        &rt,
+        alloc,
+        &Answer::Text {
+            rev: 0,
+            text: empty,
+        },
+        "{\"ok\":true,\"rev\":0,\"text\":\"\"}\n",
+    );
+    let text = text_of(alloc, "a\"\n\u{1}😀")?;
+    said(
+        &rt,
+        alloc,
+        &Answer::Text { rev: 5, text },
+        "{\"ok\":true,\"rev\":5,\"text\":\"a\\\"\\n\\u0001😀\"}\n",
+    );
+    Ok(())
+}
+
+#[test]
+fn spans_are_said(rt: HostRuntime) -> Result<(), Fail> {
+    let alloc = rt.alloc();
+    let mut first = [0; 16];
+    first[15] = 0xc1;
+    let second = [0xab; 16];
+    let comments = vec![in alloc; CommentId::read(first), CommentId::read(second)]?;
+    let link = Url::new(String::from_str(alloc, "u")?).ok_or("empty")?;
+    let marked = Span {
+        text: text_of(alloc, "ab")?,
+        marks: Marks {
+            strong: true,
+            em: true,
+            link: Some(link),
+            comments: CommentIds::from(comments),
+        },
+    };
+    let plain = Span {
+        text: text_of(alloc, "xc")?,
+        marks: Marks {
+            strong: false,
+            em: false,
+            link: None,
+            comments: CommentIds::from(Vec::new(alloc)),
+        },
+    };
+    let spans = SpanList::from(vec![in alloc; marked, plain]?);
+    said(
+        &rt,
+        alloc,
+        &Answer::Spans { rev: 4, spans },
+        "{\"ok\":true,\"rev\":4,\"spans\":[{\"comments\":[\"00000000-0000-0000-0000-0000000000c1\",\"abababab-abab-abab-abab-abababababab\"],\"em\":true,\"link\":\"u\",\"strong\":true,\"text\":\"ab\"},{\"text\":\"xc\"}]}\n",
+    );
+    let none = SpanList::from(Vec::new(alloc));
+    said(
+        &rt,
+        alloc,
+        &Answer::Spans {
+            rev: 0,
+            spans: none,
+        },
+        "{\"ok\":true,\"rev\":0,\"spans\":[]}\n",
+    );
+    Ok(())
+}

@@ -1,0 +1,4 @@
+pub mod Errors
+pub mod LinkLine
+pub mod Outcomes
+pub mod Speaking

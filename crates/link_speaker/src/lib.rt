@@ -1,0 +1,16 @@
+//! Saying what is due over a link: a HAVE, then operations, over any peer and any line.
+#![tactic(auto)]
+
+mod line;
+mod link_line;
+mod peer;
+mod speak_error;
+mod speak_ops;
+mod speaker;
+mod writing;
+
+pub use line::Line;
+pub use peer::Peer;
+pub use speak_error::SpeakError;
+pub use speaker::Speaker;
+pub use writing::write_out;

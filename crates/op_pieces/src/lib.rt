@@ -1,0 +1,15 @@
+//! Operations in a row that one record can hold: any operation, or a run of typed characters.
+#![tactic(auto)]
+
+mod clocks;
+mod cutting;
+mod laws;
+mod next;
+mod piece;
+
+pub use cutting::cut;
+pub use laws::{pieces_are_longest, pieces_are_pieces, pieces_make_up_the_operations};
+pub use piece::Piece;
+
+#[cfg(test)]
+mod tests;

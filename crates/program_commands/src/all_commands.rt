@@ -1,0 +1,173 @@
+//! The commands that the program knows.
+ghost use Rattle.std.specs.Prelude.{◌≡◌, IfOk, false};
+ghost use Rattle.clap.specs.Words.{app_of, rule_of};
+ghost use Rattle.clap.specs.declared.builder.command.Command.TheViews.{out-Command};
+ghost use Rattle.program_commands.specs.Program.{init_app, edit_app, dump_app, serve_app, port_option, program};
+ghost use Rattle.program_commands.specs.Program.{flag_option};
+
+use clap::{Arg, ArgAction, Command};
+use std::alloc::{AllocError, Global};
+
+/// What `--version` tells.
+const VERSION: &str = "0.1.0";
+
+/// A store from its making to its text.
+const EXAMPLES: &str = "\
+Examples:
+  peritext init notes --replica 00000000-0000-4000-8000-000000000001
+  echo '{\"op\":\"insert\",\"doc\":1,\"at\":0,\"text\":\"Hello\"}' | peritext edit notes
+  peritext dump notes 1
+  peritext serve notes --sessions 7001 --peers 7002
+
+Without a command: a session over a new store in memory, whose device takes 1,024 calls: some 130
+edits one by one. What comes after them is refused (9).
+Exit status: 0; 1 with a line 'peritext: NUMBER WORD' on standard error; 2 for other words.";
+
+const INIT_EXAMPLES: &str = "\
+Each replica has a UUID of its own. A file with bytes in it is refused (48).
+
+Example:
+  peritext init notes --replica 00000000-0000-4000-8000-000000000001";
+
+const EDIT_EXAMPLES: &str = "\
+Each line of the input is a request, each line of the output its answer. An edit is answered
+once it is on the disk. Nobody else can have the file open meanwhile (54).
+
+Examples of requests:
+  {\"op\":\"insert\",\"doc\":1,\"at\":0,\"text\":\"Hello\"}
+  {\"op\":\"delete\",\"doc\":1,\"at\":4,\"count\":1}
+  {\"op\":\"mark\",\"doc\":1,\"from\":0,\"to\":4,\"kind\":\"strong\"}
+  {\"op\":\"unmark\",\"doc\":1,\"from\":0,\"to\":2,\"kind\":\"strong\"}
+  {\"op\":\"text\",\"doc\":1}
+  {\"op\":\"spans\",\"doc\":1}
+  {\"op\":\"status\"}
+  {\"op\":\"stop\"}";
+
+const DUMP_EXAMPLES: &str = "\
+The file is only read. No session can have it open meanwhile (54).
+
+Example:
+  peritext dump notes 1";
+
+const SERVE_EXAMPLES: &str = "\
+Sessions and peers come in on 127.0.0.1, at a port each: a number from 1 to 65535, in decimal
+digits. A session writes requests and reads answers, a line each, as with 'edit'; the first 'stop'
+ends the program. Nobody else can have the file open meanwhile (54). A port that is taken, or where
+no peer can be joined, is refused (70). With --end-on-failure the program ends as soon as the
+device failed, so that whoever watches it starts it again; else it serves on what it has.
+
+Examples:
+  peritext serve notes --sessions 7001 --peers 7002
+  peritext serve copy --sessions 7101 --peers 7102 --link 7002";
+
+/// All commands of the program, with their help. An error is want of memory (1).
+pub fn commands<'a>(alloc: Global) -> Result<Command<'a>, AllocError>
+    ensures { IfOk result (λ command. app_of command ≡ program) }
+{
+    let init = init_command(alloc)?;
+    let edit = edit_command(alloc)?;
+    let dump = dump_command(alloc)?;
+    let serve = serve_command(alloc)?;
+    let all = Command::new(alloc, "peritext")
+        .version(VERSION)
+        .about("Crash-safe rich text for one peer")
+        .after_help(EXAMPLES)
+        .subcommand(init)?
+        .subcommand(edit)?
+        .subcommand(dump)?
+        .subcommand(serve)?;
+    Ok(all)
+}
+
+/// `init FILE --replica UUID`.
+fn init_command<'a>(alloc: Global) -> Result<Command<'a>, AllocError>
+    ensures app { IfOk result (λ command. app_of command ≡ init_app) }
+    ensures local { IfOk result (λ command. (out-Command command).has_globals ≡ false) }
+{
+    let file = Arg::new(alloc, "FILE")
+        .help("The store, which is made where it isn't there")
+        .required(true);
+    let replica = Arg::new(alloc, "UUID")
+        .long("replica")
+        .help("The name of the replica")
+        .required(true);
+    let command = Command::new(alloc, "init")
+        .about("Makes an empty store")
+        .after_help(INIT_EXAMPLES)
+        .arg(file)?
+        .arg(replica)?;
+    Ok(command)
+}
+
+/// `edit FILE`.
+fn edit_command<'a>(alloc: Global) -> Result<Command<'a>, AllocError>
+    ensures app { IfOk result (λ command. app_of command ≡ edit_app) }
+    ensures local { IfOk result (λ command. (out-Command command).has_globals ≡ false) }
+{
+    let file = Arg::new(alloc, "FILE").help("The store").required(true);
+    let command = Command::new(alloc, "edit")
+        .about("Serves one session on standard input and output")
+        .after_help(EDIT_EXAMPLES)
+        .arg(file)?;
+    Ok(command)
+}
+
+/// `dump FILE DOC`.
+fn dump_command<'a>(alloc: Global) -> Result<Command<'a>, AllocError>
+    ensures app { IfOk result (λ command. app_of command ≡ dump_app) }
+    ensures local { IfOk result (λ command. (out-Command command).has_globals ≡ false) }
+{
+    let file = Arg::new(alloc, "FILE").help("The store").required(true);
+    let doc = Arg::new(alloc, "DOC")
+        .help("The number of the document")
+        .required(true);
+    let command = Command::new(alloc, "dump")
+        .about("Prints the text and the spans of a document")
+        .after_help(DUMP_EXAMPLES)
+        .arg(file)?
+        .arg(doc)?;
+    Ok(command)
+}
+
+/// `serve FILE --sessions PORT --peers PORT [--link PORT] [--end-on-failure]`.
+fn serve_command<'a>(alloc: Global) -> Result<Command<'a>, AllocError>
+    ensures app { IfOk result (λ command. app_of command ≡ serve_app) }
+    ensures local { IfOk result (λ command. (out-Command command).has_globals ≡ false) }
+{
+    let file = Arg::new(alloc, "FILE").help("The store").required(true);
+    let sessions = port(alloc, "sessions", "Where sessions come in").required(true);
+    let peers = port(alloc, "peers", "Where peers come in").required(true);
+    let link = port(alloc, "link", "Where the peer listens that is joined");
+    let failure = flag(alloc, "end-on-failure", "Ends once the device failed (9)");
+    let command = Command::new(alloc, "serve")
+        .about("Serves sessions and peers over sockets")
+        .after_help(SERVE_EXAMPLES)
+        .arg(file)?
+        .arg(sessions)?
+        .arg(peers)?
+        .arg(link)?
+        .arg(failure)?;
+    Ok(command)
+}
+
+/// An option with the value PORT.
+fn port<'a>(alloc: Global, name: &'a str, help: &'a str) -> Arg<'a>
+    ensures rule { rule_of result ≡ port_option name.entry.now }
+    ensures local { result.global ≡ false }
+{
+    Arg::new(alloc, name)
+        .long(name)
+        .value_name("PORT")
+        .help(help)
+}
+
+/// An option without a value.
+fn flag<'a>(alloc: Global, name: &'a str, help: &'a str) -> Arg<'a>
+    ensures rule { rule_of result ≡ flag_option name.entry.now }
+    ensures local { result.global ≡ false }
+{
+    Arg::new(alloc, name)
+        .long(name)
+        .action(ArgAction::SetTrue)
+        .help(help)
+}

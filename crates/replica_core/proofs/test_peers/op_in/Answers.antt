@@ -1,5 +1,0 @@
-use Rattle.std.proofs.Common.{arith}
-use Rattle.replica_core.proofs.test_peers.op_in.Goals as goal
-
-pub get-requires : goal.get-requires
-get-requires c = omega arith

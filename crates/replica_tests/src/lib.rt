@@ -1,0 +1,15 @@
+//! Tests of a replica: its edits, merges and tellings, alone and among peers.
+#![tactic(auto)]
+
+#[cfg(test)]
+mod edit_tests;
+#[cfg(test)]
+mod merge_tests;
+#[cfg(test)]
+mod tell_tests;
+#[cfg(test)]
+mod test_asks;
+#[cfg(test)]
+mod test_exchange;
+#[cfg(test)]
+mod test_peers;

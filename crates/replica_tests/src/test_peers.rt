@@ -1,0 +1,262 @@
+//! What the tests ask of one replica. The answers are plain values.
+use op_ids::{Clock, OpId, ReplicaId};
+use op_list::{OpList, OpSlice};
+use op_model::{Change, Edit, Op, Text};
+use replica_core::{Merged, Replica, Ticket};
+use std::alloc::{AllocError, Global};
+use std::test::Fail;
+
+/// What stands for an answer where a helper couldn't make what it needs.
+const NOTHING: usize = 255;
+
+fn bytes_ending(last: u8) -> [u8; 16] {
+    let mut bytes = [0; 16];
+    bytes[15] = last;
+    bytes
+}
+
+pub fn replica_id(last: u8) -> Result<ReplicaId, Fail> {
+    Ok(ReplicaId::read(bytes_ending(last)).ok_or("nil")?)
+}
+
+pub fn id_of(counter: u64, last: u8) -> Option<OpId> {
+    OpId::try_new(counter, ReplicaId::read(bytes_ending(last))?)
+}
+
+/// The number of the refusal of an edit, or 0.
+pub fn refusal(replica: &mut Replica, doc: u32, rev: Option<u32>, change: Option<Change>) -> usize {
+    match change {
+        Some(change) => refusal_of(
+            replica,
+            &Edit {
+                doc,
+                rev,
+                token: None,
+                change,
+            },
+        ),
+        None => NOTHING,
+    }
+}
+
+fn refusal_of(replica: &mut Replica, edit: &Edit) -> usize {
+    match replica.edit(1, edit) {
+        Ok(_) => 0,
+        Err(refusal) => refusal.number() as usize,
+    }
+}
+
+/// An edit of document 1, whatever its number of operations.
+fn first_edit(change: Change) -> Edit {
+    Edit {
+        doc: 1,
+        rev: None,
+        token: None,
+        change,
+    }
+}
+
+/// The rev of the ticket of an edit of document 1, or 0 where it is refused.
+pub fn rev_after(replica: &mut Replica, change: Option<Change>) -> usize {
+    match change {
+        Some(change) => ticket_rev(replica, &first_edit(change)),
+        None => 0,
+    }
+}
+
+fn ticket_rev(replica: &mut Replica, edit: &Edit) -> usize {
+    match replica.edit(1, edit) {
+        Ok(ticket) => ticket.rev,
+        Err(_) => 0,
+    }
+}
+
+/// How many bytes the records take of an edit of document 1 that is put behind the list, or 0.
+pub fn put_length(replica: &mut Replica, change: Option<Change>) -> usize {
+    match change {
+        Some(change) => put(replica, &first_edit(change)),
+        None => 0,
+    }
+}
+
+fn put(replica: &mut Replica, edit: &Edit) -> usize {
+    match replica.decide_edit(edit) {
+        Ok(decided) => match replica.put_edit(1, edit, decided) {
+            Ok(_) => decided.bytes as usize,
+            Err(_) => 0,
+        },
+        Err(_) => 0,
+    }
+}
+
+/// Makes an edit of document 1 and settles it. The settled number, or 0 where the edit is refused.
+pub fn edit_and_settle(replica: &mut Replica, change: Option<Change>) -> usize {
+    match change {
+        Some(change) => settled_after(replica, &first_edit(change)),
+        None => 0,
+    }
+}
+
+/// The same of an edit that has no token.
+fn settled_after(replica: &mut Replica, edit: &Edit) -> usize {
+    let Ok(decided) = replica.decide_edit(edit) else {
+        return 0;
+    };
+    match replica.put_edit(1, edit, decided) {
+        Ok(_) => {
+            let end = replica.list().len();
+            replica.settle(end);
+            replica.settled()
+        }
+        Err(_) => 0,
+    }
+}
+
+/// What a merge answers: 0 applied, 2 known, 3 early, or the number of the refusal.
+pub fn merge(replica: &mut Replica, op: Op) -> usize {
+    match replica.merge(40, op) {
+        Ok(Merged::Applied) => 0,
+        Ok(Merged::Known) => 2,
+        Ok(Merged::Early) => 3,
+        Err(refusal) => refusal.number() as usize,
+    }
+}
+
+/// The operation of a replica at an index.
+pub fn op_at(alloc: Global, replica: &Replica, index: usize) -> Option<Op> {
+    op_in(alloc, &replica.list(), index)
+}
+
+fn op_in(alloc: Global, ops: &OpSlice<'_>, index: usize) -> Option<Op> {
+    if index >= ops.len() {
+        return None;
+    }
+    match ops.get(alloc, index) {
+        Ok(op) => Some(op),
+        Err(_) => None,
+    }
+}
+
+/// The operations of a replica from an index on.
+pub fn ops_from(alloc: Global, replica: &Replica, from: usize) -> Result<OpList, AllocError> {
+    let list = replica.list();
+    if from > list.len() {
+        return Err(AllocError);
+    }
+    let copies = list.copy_from(alloc, from)?;
+    let mut ops = OpList::new(alloc);
+    ops.append(&copies)?;
+    Ok(ops)
+}
+
+/// Whether document 1 has a text; it hasn't where a growth was refused.
+pub fn has_text(alloc: Global, replica: &Replica, expected: &str) -> bool {
+    match text_of(alloc, expected) {
+        Some(expected) => is_text(replica, 1, &expected),
+        None => false,
+    }
+}
+
+fn text_of(alloc: Global, text: &str) -> Option<Text> {
+    let chars: Vec<char> = text.chars().collect(alloc).ok()?;
+    Some(Text::from(chars))
+}
+
+fn is_text(replica: &Replica, doc: u32, expected: &Text) -> bool {
+    match replica.text(doc) {
+        Ok(text) => text == *expected,
+        Err(_) => false,
+    }
+}
+
+/// Whether a document has the text that it has at another replica.
+pub fn has_text_of(replica: &Replica, other: &Replica, doc: u32) -> bool {
+    match other.text(doc) {
+        Ok(expected) => is_text(replica, doc, &expected),
+        Err(_) => false,
+    }
+}
+
+/// How many spans document 1 has.
+pub fn spans_of(replica: &Replica) -> usize {
+    match replica.spans(1) {
+        Ok(spans) => spans.len(),
+        Err(_) => NOTHING,
+    }
+}
+
+/// How many operations are told to a peer that has nothing.
+pub fn told_to_none(alloc: Global, replica: &mut Replica) -> usize {
+    match replica.tell(&Clock::new(alloc)) {
+        Ok(ops) => ops.len(),
+        Err(_) => 0,
+    }
+}
+
+/// How many operations a replica tells a peer with these counts of replicas 1, 2 and 3, or 255
+/// where the operations aren't those that a look at each one finds.
+pub fn told(alloc: Global, replica: &mut Replica, counts: &[u64; 3]) -> usize {
+    match counting(alloc, counts) {
+        Some(clock) => told_behind(alloc, replica, &clock),
+        None => NOTHING,
+    }
+}
+
+fn counting(alloc: Global, counts: &[u64; 3]) -> Option<Clock> {
+    let mut clock = Clock::new(alloc);
+    for (i, count) in counts.iter().enumerate() {
+        let id = ReplicaId::read(bytes_ending(i as u8 + 1))?;
+        clock.advance_by(id, *count).ok()?;
+    }
+    Some(clock)
+}
+
+fn told_behind(alloc: Global, replica: &mut Replica, clock: &Clock) -> usize {
+    let expected = match uncounted(alloc, &replica.list(), clock) {
+        Ok(ids) => ids,
+        Err(_) => return NOTHING,
+    };
+    match replica.tell(clock) {
+        Ok(ops) if have_ids(&ops, &expected) => ops.len(),
+        _ => NOTHING,
+    }
+}
+
+/// The ids of the first operations, at most 64, that a clock doesn't count, by a look at each.
+fn uncounted(alloc: Global, list: &OpSlice<'_>, clock: &Clock) -> Result<Vec<OpId>, AllocError> {
+    let mut ids = Vec::new(alloc);
+    for i in 0..list.len() {
+        let op = list.get(alloc, i)?;
+        let is_counted = op.deps.get(op.id.replica()) < clock.get(op.id.replica());
+        if !is_counted && ids.len() < 64 {
+            ids.push(op.id)?;
+        }
+    }
+    Ok(ids)
+}
+
+fn have_ids(ops: &[Op], ids: &[OpId]) -> bool {
+    ops.len() == ids.len() && ops.iter().zip(ids).all(|(op, id)| op.id.is_same(*id))
+}
+
+/// How many operations of each replica the list has.
+pub fn clock_of(replica: &Replica) -> Option<Clock> {
+    replica.clock().copy().ok()
+}
+
+/// Whether this is the clock that a replica tells.
+pub fn tells_clock(replica: &mut Replica, expected: &Clock) -> bool {
+    match replica.have() {
+        Ok(clock) => clock == *expected,
+        Err(_) => false,
+    }
+}
+
+/// Whether a ticket's operations are settled.
+pub fn acks(replica: &mut Replica, end: usize) -> bool {
+    replica.ack(Ticket {
+        end,
+        rev: 0,
+        known: false,
+    })
+}

@@ -1,0 +1,13 @@
+//! Tests of daemons over disks in memory, which are met over sockets.
+#![tactic(auto)]
+
+#[cfg(test)]
+mod asking_gate;
+#[cfg(test)]
+mod daemon_tests;
+#[cfg(test)]
+mod failure_tests;
+#[cfg(test)]
+mod test_daemons;
+#[cfg(test)]
+mod waiting_disk;

@@ -1,0 +1,59 @@
+//! A desk of one session over a shared hub.
+ghost use Rattle.std.specs.Prelude.{◌≡◌};
+
+use crate::ending::Ending;
+use pass_books::{Desks, Pass};
+use shared_hub::{Gate, Shared};
+use std::marker::Model;
+use std::sync::{Mutex, Wait};
+
+/// A desk of one session over a shared hub, with the session's pass. A stop asks the daemon to end.
+/// Contracts see the pass: what it has entered are the kept steps of its number.
+#[derive(Drop)]
+pub struct SharedDesk<'a, R: Wait, J: Desks, G: Gate> {
+    pub(crate) rt: &'a R,
+    pub(crate) shared: &'a Shared<J>,
+    pub(crate) read_turn: &'a Mutex<()>,
+    pub(crate) ending: &'a Ending,
+    pub(crate) gate: &'a G,
+    pub(crate) pass: Pass<J>,
+}
+
+impl<'a, R: Wait, J: Desks, G: Gate> Model for SharedDesk<'a, R, J, G> {
+    ghost use Rattle.pass_books.specs.Accounts.{PassHeld};
+
+    ghost Value = { PassHeld };
+
+    ghost view = { λ d. d.pass };
+}
+
+impl<'a, R: Wait, J: Desks, G: Gate> SharedDesk<'a, R, J, G> {
+    /// The desk of a session with this pass. Those who read take turns by `read_turn`.
+    pub fn new(
+        rt: &'a R,
+        shared: &'a Shared<J>,
+        read_turn: &'a Mutex<()>,
+        ending: &'a Ending,
+        gate: &'a G,
+        pass: Pass<J>,
+    ) -> SharedDesk<'a, R, J, G>
+        ensures { result ≡ pass }
+    {
+        SharedDesk {
+            rt,
+            shared,
+            read_turn,
+            ending,
+            gate,
+            pass,
+        }
+    }
+
+    /// The pass, of which the desk lets go.
+    pub fn into_pass(self) -> Pass<J>
+        ensures { result ≡ self.entry }
+    {
+        let SharedDesk { pass, .. } = self;
+        pass
+    }
+}

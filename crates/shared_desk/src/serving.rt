@@ -1,0 +1,140 @@
+//! The commands that a desk over a shared hub serves.
+ghost use Rattle.std.specs.Prelude.{◌≡◌, true};
+ghost use Rattle.session_lines.specs.Saying.{number_of};
+ghost use Rattle.shared_hub.specs.Refusal.{number_of as number_of_shared};
+ghost use Rattle.shared_desk.specs.Serving.{is_edit_refusal, ServesEdit, ServesText, ServesSpans, ServesStatus, ServesStop};
+
+use crate::desk::SharedDesk;
+use crate::ending::End;
+use fixed_numbers::refusals::{BUSY, FAILED, LIMIT, MEMORY, RANGE, STALE, STEPS, STOPPING};
+use op_model::Edit;
+use pass_books::Desks;
+use session_lines::{Answer, Command, Refusal, SpanList, State};
+use session_threads::Desk;
+use shared_hub::{Gate, Point, SharedRefusal, Shown};
+use std::alloc::Global;
+use std::sync::Wait;
+
+impl<'a, R: Wait, J: Desks, G: Gate> Desk for SharedDesk<'a, R, J, G> {
+    ghost use Rattle.shared_desk.specs.Serving.{Serves};
+
+    ghost serves = { Serves };
+
+    fn line_read(&mut self) {
+        self.gate.pass(Point::LineRead);
+    }
+
+    fn serve(&mut self, _alloc: Global, command: Command) -> Answer {
+        match command {
+            Command::Edit(edit) => self.edit(&edit),
+            Command::Text { doc } => self.text(doc),
+            Command::Spans { doc } => self.spans(doc),
+            Command::Status => self.status(),
+            Command::Stop => self.stop(),
+        }
+    }
+}
+
+impl<'a, R: Wait, J: Desks, G: Gate> SharedDesk<'a, R, J, G> {
+    /// Makes an edit, and waits until it is settled: it is answered only where it is acknowledged.
+    /// One that finds no steps left (10) asks the daemon to open its file anew.
+    fn edit(&mut self, edit: &Edit) -> Answer
+        ensures { ServesEdit self.old edit.now result self.new }
+    {
+        match self.shared.edit(self.rt, &mut self.pass, edit) {
+            Ok(ticket) => {
+                self.gate.pass(Point::BeforeWait);
+                if self.shared.acknowledge(self.rt, &mut self.pass, ticket) {
+                    Answer::Edited {
+                        rev: ticket.rev as u64,
+                    }
+                } else {
+                    Answer::Refused(Refusal::Failed)
+                }
+            }
+            Err(refusal) => {
+                let refusal = refusal_of(refusal);
+                if refusal == Refusal::Steps {
+                    self.ending.ask(self.rt, End::Renewal);
+                }
+                Answer::Refused(refusal)
+            }
+        }
+    }
+
+    /// The text of a document. Those who read take turns, since a reading holds the hub's lock: so
+    /// an edit, which takes that lock a few times, waits for no more readings than that.
+    fn text(&mut self, doc: u32) -> Answer
+        ensures { ServesText self.old doc result self.new }
+    {
+        let _turn = self.read_turn.lock(self.rt);
+        match self.shared.text(self.rt, &mut self.pass, doc) {
+            Ok(Shown { rev, content }) => Answer::Text { rev, text: content },
+            Err(_) => Answer::Refused(Refusal::Memory),
+        }
+    }
+
+    /// The text of a document, cut where its marks change, in turn with others who read.
+    fn spans(&mut self, doc: u32) -> Answer
+        ensures { ServesSpans self.old doc result self.new }
+    {
+        let _turn = self.read_turn.lock(self.rt);
+        match self.shared.spans(self.rt, &mut self.pass, doc) {
+            Ok(Shown { rev, content }) => Answer::Spans {
+                rev,
+                spans: SpanList::from(content),
+            },
+            Err(_) => Answer::Refused(Refusal::Memory),
+        }
+    }
+
+    /// How far the hub is.
+    fn status(&mut self) -> Answer
+        ensures { ServesStatus self.old result self.new }
+    {
+        let status = self.shared.status(self.rt, &mut self.pass);
+        let state = if status.has_failed {
+            State::Failed
+        } else if status.is_stopping {
+            State::Stopping
+        } else {
+            State::Open
+        };
+        Answer::Status {
+            applied: status.applied,
+            settled: status.settled,
+            state,
+        }
+    }
+
+    /// Takes no more edits from anybody, waits until all is settled, and asks the daemon to end.
+    fn stop(&mut self) -> Answer
+        ensures { ServesStop self.old result self.new }
+    {
+        let is_settled = self.shared.stop(self.rt);
+        self.ending.ask(self.rt, End::Stop);
+        if is_settled {
+            Answer::Stopped
+        } else {
+            Answer::Refused(Refusal::Failed)
+        }
+    }
+}
+
+/// Why an edit isn't served, by why the hub refuses it.
+fn refusal_of(refusal: SharedRefusal) -> Refusal
+    requires { is_edit_refusal (number_of_shared refusal) ≡ true }
+    ensures { number_of result ≡ number_of_shared refusal }
+{
+    match refusal.number() {
+        MEMORY => Refusal::Memory,
+        RANGE => Refusal::Range,
+        STALE => Refusal::Stale,
+        LIMIT => Refusal::Limit,
+        BUSY => Refusal::Busy,
+        FAILED => Refusal::Failed,
+        STEPS => Refusal::Steps,
+        STOPPING => Refusal::Stopping,
+        _ => unreachable!(),
+    }
+}

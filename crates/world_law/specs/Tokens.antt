@@ -1,0 +1,21 @@
+-- What an edit's token promises of one replica.
+use Rattle.std.specs.Prelude.{◌≡◌, ◌≢◌, ℕ, [], Some, true}
+use Rattle.op_model.specs.declared.edit.Edit.{Edit}
+use Rattle.op_model.specs.Made.{made}
+use Rattle.op_model.specs.Machine.{State, Answer, Ticket, ticket, token_ticket, EditStep}
+
+-- the edit has this token, whose ticket is this one: it was made before
+abbrev pub IsNamed : State → Edit → ℕ → Ticket → Type 0
+IsNamed s e token t = (e.token ≡ Some token) × (token_ticket s.held token ≡ Some t)
+
+-- an edit that was made before is answered its ticket, never a refusal, and adds nothing
+abbrev pub IsAnsweredAsItWas : Type 0
+IsAnsweredAsItWas =
+    (s next : State) (session : ℕ) (e : Edit) (answer : Answer) (token : ℕ) (t : Ticket) → IsNamed s e token t
+    → EditStep s session e answer next → (answer ≡ ticket t) × (next ≡ s)
+
+-- the ticket that an edit is answered is the ticket of its token behind it
+abbrev pub IsAnsweredFromThenOn : Type 0
+IsAnsweredFromThenOn =
+    (s next : State) (session : ℕ) (e : Edit) (token : ℕ) (t : Ticket) → e.token ≡ Some token → made s.held.list s.held.replica e ≢ []
+    → EditStep s session e (ticket t) next → token_ticket next.held token ≡ Some (record t { known = true })
