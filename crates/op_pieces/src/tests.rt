@@ -10,14 +10,14 @@ fn typed(alloc: Global, counter: u64, value: char) -> Result<Op, Fail> {
     let bytes = [0, 0, 0, 0, 0, 0, 0x40, 0, 0x80, 0, 0, 0, 0, 0, 0, 1];
     let replica = ReplicaId::read(bytes).ok_or("nil")?;
     let mut deps = Clock::new(alloc);
-    deps.advance_by(replica, counter - 1)?;
+    deps.advance_by(replica, counter.saturating_sub(1))?;
     Ok(Op {
         id: OpId::try_new(counter, replica).ok_or("counter")?,
         doc: 1,
         token: None,
         deps,
         body: Body::Insert {
-            origin: OpId::try_new(counter - 1, replica),
+            origin: OpId::try_new(counter.saturating_sub(1), replica),
             value,
         },
     })
