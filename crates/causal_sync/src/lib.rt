@@ -16,6 +16,3 @@ mod waiting;
 pub use heard::{Heard, Ops};
 pub use link::Link;
 pub use link_error::LinkError;
-
-#[cfg(test)]
-mod tests;

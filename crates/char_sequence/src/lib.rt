@@ -32,8 +32,3 @@ pub use error::SequenceError;
 pub use gap::Gap;
 pub use sequence::Sequence;
 pub use weave::Weave;
-
-#[cfg(test)]
-mod chunk_tests;
-#[cfg(test)]
-mod tests;

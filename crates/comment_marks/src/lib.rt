@@ -5,8 +5,6 @@ mod choosing;
 mod comments;
 mod decisions;
 pub mod laws;
-#[cfg(test)]
-mod tests;
 
 pub use choosing::decided;
 pub use comments::Comments;

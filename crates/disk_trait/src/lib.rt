@@ -6,8 +6,6 @@ mod error;
 mod facts;
 mod fault;
 mod file;
-#[cfg(test)]
-mod file_tests;
 mod inside;
 mod laws;
 mod log;
@@ -15,8 +13,6 @@ mod medium;
 mod memory;
 mod opening;
 mod size_limit;
-#[cfg(test)]
-mod tests;
 
 pub use calls::Disk;
 pub use error::DiskError;

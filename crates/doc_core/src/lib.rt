@@ -17,10 +17,3 @@ pub use draft::Draft;
 pub use laws::{fitting_names_are_there, followers_fit, other_operations_stay};
 pub use made::Made;
 pub use make_error::MakeError;
-
-#[cfg(test)]
-mod random_tests;
-#[cfg(test)]
-mod test_peer;
-#[cfg(test)]
-mod tests;

@@ -85,25 +85,3 @@ impl FirstLine {
         }
     }
 }
-
-#[test]
-fn a_status_or_a_stop_is_told_by_the_first_line(rt: HostRuntime) {
-    let cases = [
-        ("{\"op\":\"status\"}\n", true),
-        ("{ \"op\": \"stop\" }\n{", true),
-        ("{\"op\":\"text\",\"doc\":1}\n{\"op\":\"status\"}\n", false),
-        ("{\"op\":\"status\"}", false),
-        ("\n{\"op\":\"status\"}\n", false),
-        ("", false),
-    ];
-    for (said, is_let_in) in cases {
-        let mut first = FirstLine::new();
-        let mut reader = said.as_bytes();
-        first.read_from(&mut reader);
-        assert!(rt; first.as_slice() == said.as_bytes(), "{said}");
-        assert!(rt;
-            first.asks_for_status_or_stop(rt.alloc()) == is_let_in,
-            "{said}"
-        );
-    }
-}

@@ -1,7 +1,11 @@
-//! Tests of the lines of a session: what they are read into, and how answers are said.
+//! Tests of the lines of a session: what they are read from and into, and how answers are said.
 #![tactic(auto)]
 
+#[cfg(test)]
+mod first_line_tests;
 #[cfg(test)]
 mod request_tests;
 #[cfg(test)]
 mod saying_tests;
+#[cfg(test)]
+mod stream_tests;

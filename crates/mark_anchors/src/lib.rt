@@ -19,6 +19,3 @@ pub use laws::{
     other_documents_leave_the_marks, runs_and_removes_leave_the_marks,
 };
 pub use place::Place;
-
-#[cfg(test)]
-mod tests;

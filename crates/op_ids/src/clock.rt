@@ -7,9 +7,6 @@ use fixed_numbers::limits::{MAX_COUNT, MAX_REPLICAS};
 use std::alloc::{AllocError, Global};
 use std::marker::Model;
 
-#[cfg(test)]
-mod tests;
-
 /// A vector clock: how many operations of each replica. Contracts see it as the list of its
 /// entries, a replica and a count each, in strictly rising order of replica: at most 16, each count
 /// from 1 to 2^24.

@@ -87,31 +87,3 @@ impl OpId {
         self == other
     }
 }
-
-#[cfg(test)]
-mod tests {
-    use super::*;
-    use std::test::Fail;
-
-    #[test]
-    fn ids_are_ordered_by_counter_first(rt: HostRuntime) -> Result<(), Fail> {
-        let low = ReplicaId::read([1; 16]).ok_or("nil")?;
-        let high = ReplicaId::read([2; 16]).ok_or("nil")?;
-        let first = OpId::try_new(1, high).ok_or("counter")?;
-        let second = OpId::try_new(2, low).ok_or("counter")?;
-        assert!(rt; first < second);
-        assert!(rt; first.next() == OpId::try_new(2, high));
-        assert!(rt; second < first.next().ok_or("last")?);
-        Ok(())
-    }
-
-    #[test]
-    fn counters_end_at_the_last(rt: HostRuntime) -> Result<(), Fail> {
-        let replica = ReplicaId::read([1; 16]).ok_or("nil")?;
-        let last = OpId::try_new(281_474_976_710_655, replica).ok_or("counter")?;
-        assert!(rt; last.next().is_none());
-        assert!(rt; OpId::try_new(281_474_976_710_656, replica).is_none());
-        assert!(rt; OpId::try_new(0, replica).is_none());
-        Ok(())
-    }
-}

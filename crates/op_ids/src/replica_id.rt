@@ -56,31 +56,3 @@ impl ReplicaId {
         self.number
     }
 }
-
-#[cfg(test)]
-mod tests {
-    use super::*;
-    use crate::Token;
-    use std::test::Fail;
-
-    #[test]
-    fn a_uuid_names_a_replica_or_a_token(rt: HostRuntime) -> Result<(), Fail> {
-        let id = Uuid::parse_str("00000000-0000-4000-8000-000000000001")?;
-        let replica = ReplicaId::from_uuid(id).ok_or("nil")?;
-        let bytes = [0, 0, 0, 0, 0, 0, 0x40, 0, 0x80, 0, 0, 0, 0, 0, 0, 1];
-        assert_eq!(rt; replica.bytes().as_slice(), bytes.as_slice());
-        assert!(rt; ReplicaId::read(bytes) == Some(replica));
-        assert!(rt; Uuid::from_bytes(replica.bytes()) == id);
-        let token = Token::from_uuid(id).ok_or("nil")?;
-        assert_eq!(rt; token.bytes().as_slice(), bytes.as_slice());
-        assert!(rt; Token::read(bytes) == Some(token));
-        Ok(())
-    }
-
-    #[test]
-    fn nil_names_nothing(rt: HostRuntime) {
-        assert!(rt; ReplicaId::read([0; 16]).is_none());
-        assert!(rt; ReplicaId::from_uuid(Uuid::nil()).is_none());
-        assert!(rt; Token::from_uuid(Uuid::nil()).is_none());
-    }
-}

@@ -11,8 +11,3 @@ pub use head::OpHead;
 pub use op_list::OpList;
 pub use op_slice::OpSlice;
 pub use records::Records;
-
-#[cfg(test)]
-mod record_tests;
-#[cfg(test)]
-mod tests;

@@ -10,6 +10,3 @@ mod piece;
 pub use cutting::cut;
 pub use laws::{pieces_are_longest, pieces_are_pieces, pieces_make_up_the_operations};
 pub use piece::Piece;
-
-#[cfg(test)]
-mod tests;

@@ -7,8 +7,6 @@ mod books;
 mod desks;
 mod pass;
 mod share;
-#[cfg(test)]
-mod tests;
 
 pub use book::{Book, open};
 pub use books::Books;

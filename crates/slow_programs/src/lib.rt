@@ -20,8 +20,3 @@ pub use order::{characters, walk};
 pub use placing::last_end;
 pub use reading::{is_removed, rev, text, visible};
 pub use spanning::spans;
-
-#[cfg(test)]
-mod test_peer;
-#[cfg(test)]
-mod tests;

@@ -13,6 +13,3 @@ mod run;
 mod sweep;
 
 pub use flatten::{spans, spans_in, spans_slow};
-
-#[cfg(test)]
-mod tests;

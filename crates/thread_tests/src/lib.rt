@@ -1,6 +1,8 @@
-//! Tests of hubs that threads share, and of what the two threads of a link say.
+//! Tests of books, of hubs that threads share, and of what the two threads of a link say.
 #![tactic(auto)]
 
+#[cfg(test)]
+mod book_tests;
 #[cfg(test)]
 mod link_tests;
 #[cfg(test)]
