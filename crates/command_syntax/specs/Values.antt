@@ -6,6 +6,9 @@ use Rattle.std.specs.List.{list_all}
 use Rattle.std.specs.Char.{is_ascii_digit}
 use Rattle.std.specs.Str.Parse.{digits_value}
 use Rattle.uuid.specs.Text.{parsed}
+use Rattle.span_export.specs.declared.exporting.Form.{Form}
+use Rattle.span_export.specs.declared.exporting.Form.TheVariants.{Text}
+use Rattle.span_export.specs.Exported.{form_named}
 
 -- a number above 0
 abbrev pub above_zero : ℕ → Option ℕ
@@ -40,3 +43,8 @@ optional_port_of (Some text) = option_map (λ port. Some port) (port_of text)
 -- the replica that a UUID names, in any of its text forms but nil
 abbrev pub replica_of : List ℕ → Option ℕ
 replica_of text = option_and_then (λ bytes. above_zero (from_be_bytes w128 bytes)) (parsed text)
+
+-- the form of an export: that of this name, and the text alone where none is named
+abbrev pub form_of : Option (List ℕ) → Option Form
+form_of None = Some Text
+form_of (Some name) = form_named name

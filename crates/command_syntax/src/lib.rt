@@ -3,6 +3,8 @@
 
 mod bad_port;
 mod dump_order;
+mod export_order;
+mod list_order;
 mod order;
 mod serve_order;
 mod store_order;
@@ -10,7 +12,9 @@ mod values;
 
 pub use bad_port::BadPort;
 pub use dump_order::DumpOrder;
+pub use export_order::ExportOrder;
+pub use list_order::ListOrder;
 pub use order::Order;
 pub use serve_order::ServeOrder;
 pub use store_order::StoreOrder;
-pub use values::{doc, optional_port, port, replica};
+pub use values::{doc, form, optional_port, port, replica};

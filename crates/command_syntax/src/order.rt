@@ -1,4 +1,6 @@
 use crate::dump_order::DumpOrder;
+use crate::export_order::ExportOrder;
+use crate::list_order::ListOrder;
 use crate::serve_order::ServeOrder;
 use crate::store_order::StoreOrder;
 
@@ -9,6 +11,10 @@ pub enum Order<'a> {
     Store(StoreOrder<'a>),
     /// What is shown of a file, which is let go of before that.
     Dump(DumpOrder<'a>),
+    /// What is told of all documents of a file, in the same way.
+    List(ListOrder<'a>),
+    /// A document of a file for other programs, in the same way.
+    Export(ExportOrder<'a>),
     /// What is done over a file and sockets.
     Serve(ServeOrder<'a>),
 }

@@ -2,9 +2,10 @@
 ghost use Rattle.std.specs.Prelude.{◌≡◌, option_map};
 ghost use Rattle.std.specs.List.{list_all};
 ghost use Rattle.std.specs.Char.{is_ascii_digit};
-ghost use Rattle.command_syntax.specs.Values.{decimal_of, doc_of, port_of, optional_port_of, replica_of};
+ghost use Rattle.command_syntax.specs.Values.{decimal_of, doc_of, form_of, port_of, optional_port_of, replica_of};
 
 use op_ids::ReplicaId;
+use span_export::Form;
 use uuid::Uuid;
 
 /// The number of a document in decimal digits, from 1 to 2^32 - 1.
@@ -35,6 +36,16 @@ pub fn optional_port(text: Option<&str>) -> Option<Option<u16>>
             Some(port) => Some(Some(port)),
             None => None,
         },
+    }
+}
+
+/// The form of an export. Where none is named, it is the text alone.
+pub fn form(name: Option<&str>) -> Option<Form>
+    ensures { result ≡ form_of (option_map (λ name. name.now) name.entry) }
+{
+    match name {
+        None => Some(Form::Text),
+        Some(name) => Form::named(name),
     }
 }
 

@@ -6,22 +6,25 @@ use Rattle.std.specs.Str.{bytes_eq}
 use Rattle.std.specs.Borrow.{Bor}
 use Rattle.clap.specs.Walk.{Row, first_of}
 use Rattle.clap.specs.Simple.{subcommand_of}
-use Rattle.command_syntax.specs.Values.{replica_of, doc_of, port_of, optional_port_of}
+use Rattle.command_syntax.specs.Values.{replica_of, doc_of, form_of, port_of, optional_port_of}
 use Rattle.program_commands.specs.Program.{program}
+use Rattle.span_export.specs.declared.exporting.Form.{Form}
 use Rattle.command_syntax.specs.declared.order.Order.{Order}
 use Rattle.command_syntax.specs.declared.order.Order.TheVariants as order
 use Rattle.command_syntax.specs.declared.store_order.StoreOrder.{StoreOrder}
 use Rattle.command_syntax.specs.declared.store_order.StoreOrder.TheVariants as store
 use Rattle.command_syntax.specs.declared.bad_port.BadPort.{BadPort}
 
--- a session in memory, a new store of a replica, a session over a store, a document of a store, or a store
--- served at a port for sessions and one for peers, with the port of a peer to join where one is named, to its end or until
+-- a session in memory, a new store of a replica, a session over a store, a document of a store, all its documents, one of them in a
+-- form for other programs, or a store served at a port for sessions and one for peers, with the port of a peer to join where one is named, to its end or until
 -- the device failed
 pub data Asked : Type 0 where
   in_memory : Asked
   init : List ℕ → ℕ → Asked
   edit : List ℕ → Asked
   dump : List ℕ → ℕ → Asked
+  list : List ℕ → Asked
+  export : List ℕ → ℕ → Form → Asked
   serve : List ℕ → ℕ → ℕ → Option ℕ → Bool → Asked
 
 -- what an order over one disk asks for
@@ -34,6 +37,8 @@ meant_of_store (store.Edit file) = edit file.now
 abbrev pub meant : Order → Asked
 meant (order.Store order) = meant_of_store order
 meant (order.Dump order) = dump order.file.now order.doc
+meant (order.List order) = list order.file.now
+meant (order.Export order) = export order.file.now order.doc order.form
 meant (order.Serve order) = serve order.file.now order.sessions order.peers order.link order.ends_on_failure
 
 -- an `init` with the values of its arguments
@@ -50,6 +55,17 @@ edit_of rows = option_map edit (first_of (codes "FILE") rows)
 abbrev pub dump_of : List Row → Option Asked
 dump_of rows =
     option_and_then (λ file. option_map (dump file) (option_and_then doc_of (first_of (codes "DOC") rows)))
+    (first_of (codes "FILE") rows)
+
+-- a `list` with the value of its argument
+abbrev pub list_of : List Row → Option Asked
+list_of rows = option_map list (first_of (codes "FILE") rows)
+
+-- an `export` with the values of its arguments
+abbrev pub export_of : List Row → Option Asked
+export_of rows =
+    option_and_then (λ file. option_and_then (λ doc. option_map (export file doc) (form_of (first_of (codes "to") rows)))
+    (option_and_then doc_of (first_of (codes "DOC") rows)))
     (first_of (codes "FILE") rows)
 
 -- the port that an option names
@@ -81,6 +97,8 @@ asked_of name rows =
     if bytes_eq name (codes "init") then init_of rows
     else if bytes_eq name (codes "edit") then edit_of rows
     else if bytes_eq name (codes "dump") then dump_of rows
+    else if bytes_eq name (codes "list") then list_of rows
+    else if bytes_eq name (codes "export") then export_of rows
     else if bytes_eq name (codes "serve") then serve_of rows
     else None
 

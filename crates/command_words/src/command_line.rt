@@ -5,6 +5,7 @@ ghost use Rattle.clap.specs.Words.{subcommand_of, subcommand_rows_of};
 ghost use Rattle.command_words.specs.declared.order_fault.OrderFault.TheVariants.{Field, Port};
 ghost use Rattle.program_commands.specs.Program.{program};
 ghost use Rattle.command_words.specs.Asked.{texts, meant, asked, asked_of, init_of, edit_of, dump_of, serve_of};
+ghost use Rattle.command_words.specs.Asked.{list_of, export_of};
 ghost use Rattle.command_words.specs.Asked.{told, bad_port_of, bad_port_at, is_flag_given};
 ghost use Rattle.command_words.specs.Faults.{RefusedBy, BreaksRule, TellsOf};
 
@@ -12,14 +13,16 @@ use crate::order_fault::OrderFault;
 use clap::ArgMatches;
 use clap::error::ErrorKind;
 use command_syntax::{
-    BadPort, DumpOrder, Order, ServeOrder, StoreOrder, doc, optional_port, port, replica,
+    BadPort, DumpOrder, ExportOrder, ListOrder, Order, ServeOrder, StoreOrder, doc, form,
+    optional_port, port, replica,
 };
 use program_commands::commands;
 use std::alloc::Global;
 
 /// What the words of a command line ask for, of which the first is the program's name. `Usage`
 /// where they aren't those of a command, or ask for help. `Port` where a port breaks its rule, and
-/// `Field` (4) where a UUID or a document number does. `Memory` (1) where a growth was refused.
+/// `Field` (4) where a UUID, a document number or a form does. `Memory` (1) where a growth was
+/// refused.
 pub fn order<'a>(alloc: Global, words: &'a [&'a str]) -> Result<Order<'a>, OrderFault<'a>>
     ensures taken { OnOk result (fault_of program (texts words.entry.now) ≡ []) }
     ensures ok { IfOk result (λ order. asked (texts words.entry.now) ≡ Some (meant order)) }
@@ -62,6 +65,8 @@ fn command_order<'a>(name: &str, matches: &ArgMatches<'a>) -> Option<Order<'a>>
         "init" => init(matches),
         "edit" => edit(matches),
         "dump" => dump(matches),
+        "list" => list(matches),
+        "export" => export(matches),
         "serve" => serve(matches),
         _ => None,
     }
@@ -91,6 +96,24 @@ fn dump<'a>(matches: &ArgMatches<'a>) -> Option<Order<'a>>
     let file = value(matches, "FILE")?;
     let doc = doc(value(matches, "DOC")?)?;
     Some(Order::Dump(DumpOrder { file, doc }))
+}
+
+/// The order of a `list`.
+fn list<'a>(matches: &ArgMatches<'a>) -> Option<Order<'a>>
+    ensures { option_map meant result ≡ list_of (rows_of (found_of matches.now)) }
+{
+    let file = value(matches, "FILE")?;
+    Some(Order::List(ListOrder { file }))
+}
+
+/// The order of an `export`.
+fn export<'a>(matches: &ArgMatches<'a>) -> Option<Order<'a>>
+    ensures { option_map meant result ≡ export_of (rows_of (found_of matches.now)) }
+{
+    let file = value(matches, "FILE")?;
+    let doc = doc(value(matches, "DOC")?)?;
+    let form = form(value(matches, "to"))?;
+    Some(Order::Export(ExportOrder { file, doc, form }))
 }
 
 /// The order of a `serve`.

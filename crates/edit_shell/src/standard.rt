@@ -14,7 +14,7 @@ use std::rt::{Clock, Env, Files};
 use std::sync::Wait;
 use std::thread::Threads;
 use std::{env, io};
-use store_orders::{Fault, Performed, dump, perform, status};
+use store_orders::{Fault, Performed, dump, export_from, list, perform, status};
 
 /// The bytes of a store in memory.
 const ROOM: usize = 1_048_576;
@@ -145,6 +145,8 @@ fn run_held<
     match order {
         Order::Store(order) => run_on_disk(rt, order, output, faults),
         Order::Dump(order) => status(rt.alloc(), dump(rt, *order, output), faults),
+        Order::List(order) => status(rt.alloc(), list(rt, *order, output), faults),
+        Order::Export(order) => status(rt.alloc(), export_from(rt, *order, output), faults),
         Order::Serve(order) => status(rt.alloc(), serve(rt, order), faults),
     }
 }

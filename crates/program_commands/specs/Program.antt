@@ -22,6 +22,19 @@ edit_app = with_rule (new_app (codes "edit")) (needed (codes "FILE"))
 abbrev pub dump_app : App
 dump_app = with_rule (with_rule (new_app (codes "dump")) (needed (codes "FILE"))) (needed (codes "DOC"))
 
+-- `list FILE`
+abbrev pub list_app : App
+list_app = with_rule (new_app (codes "list")) (needed (codes "FILE"))
+
+-- an option with the value FORM
+abbrev pub form_option : Rule
+form_option = record (new_rule (codes "to")) { long = Some (codes "to"); value_names = 1 }
+
+-- `export FILE DOC [--to FORM]`
+abbrev pub export_app : App
+export_app =
+    with_rule (with_rule (with_rule (new_app (codes "export")) (needed (codes "FILE"))) (needed (codes "DOC"))) form_option
+
 -- an option with the value PORT
 abbrev pub port_option : List ℕ → Rule
 port_option name = record (new_rule name) { long = Some name; value_names = 1 }
@@ -55,5 +68,6 @@ bare_program = on_top versioned (new_app (codes "peritext"))
 -- all commands of the program
 abbrev pub program : App
 program =
-    with_subcommand (with_subcommand (with_subcommand (with_subcommand bare_program init_app.top) edit_app.top) dump_app.top)
-    serve_app.top
+    with_subcommand (with_subcommand (with_subcommand
+    (with_subcommand (with_subcommand (with_subcommand bare_program init_app.top) edit_app.top) dump_app.top)
+    list_app.top) export_app.top) serve_app.top

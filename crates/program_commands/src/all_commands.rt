@@ -3,7 +3,7 @@ ghost use Rattle.std.specs.Prelude.{◌≡◌, IfOk, false};
 ghost use Rattle.clap.specs.Words.{app_of, rule_of};
 ghost use Rattle.clap.specs.declared.builder.command.Command.TheViews.{out-Command};
 ghost use Rattle.program_commands.specs.Program.{init_app, edit_app, dump_app, serve_app, port_option, program};
-ghost use Rattle.program_commands.specs.Program.{flag_option};
+ghost use Rattle.program_commands.specs.Program.{flag_option, list_app, export_app, form_option};
 
 use clap::{Arg, ArgAction, Command};
 use std::alloc::{AllocError, Global};
@@ -14,9 +14,11 @@ const VERSION: &str = "0.1.0";
 /// A store from its making to its text.
 const EXAMPLES: &str = "\
 Examples:
-  peritext init notes --replica 00000000-0000-4000-8000-000000000001
+  peritext init notes --replica $(cat /proc/sys/kernel/random/uuid)
   echo '{\"op\":\"insert\",\"doc\":1,\"at\":0,\"text\":\"Hello\"}' | peritext edit notes
   peritext dump notes 1
+  peritext list notes
+  peritext export notes 1 --to markdown
   peritext serve notes --sessions 7001 --peers 7002
 
 Without a command: a session over a new store in memory, whose device takes 1,024 calls: some 130
@@ -24,10 +26,11 @@ edits one by one. What comes after them is refused (9).
 Exit status: 0; 1 with a line 'peritext: NUMBER WORD' on standard error; 2 for other words.";
 
 const INIT_EXAMPLES: &str = "\
-Each replica has a UUID of its own. A file with bytes in it is refused (48).
+Each replica has a UUID of its own: draw a new one for each file, and never give it to a second
+one. A file with bytes in it is refused (48).
 
 Example:
-  peritext init notes --replica 00000000-0000-4000-8000-000000000001";
+  peritext init notes --replica $(cat /proc/sys/kernel/random/uuid)";
 
 const EDIT_EXAMPLES: &str = "\
 Each line of the input is a request, each line of the output its answer. An edit is answered
@@ -49,6 +52,26 @@ The file is only read. No session can have it open meanwhile (54).
 Example:
   peritext dump notes 1";
 
+const LIST_EXAMPLES: &str = "\
+A line for each document that has operations: how many characters it shows, its number, and how
+many operations it has. Then a line for the file: how many bytes of records, documents, operations
+and replicas it has, and how many it can have. The file is only read. No session can have it open
+meanwhile (54).
+
+Example:
+  peritext list notes";
+
+const EXPORT_EXAMPLES: &str = "\
+The form is text (the characters alone; this is the one if none is named), markdown (CommonMark) or
+html (a page). Comments are tags with their UUID. A link that could run a program, as one to
+'javascript:', is written as its text alone. The file is only read. No session can have it open
+meanwhile (54).
+
+Examples:
+  peritext export notes 1
+  peritext export notes 1 --to markdown > notes.md
+  peritext export notes 1 --to html > notes.html";
+
 const SERVE_EXAMPLES: &str = "\
 Sessions and peers come in on 127.0.0.1, at a port each: a number from 1 to 65535, in decimal
 digits. A session writes requests and reads answers, a line each, as with 'edit'; the first 'stop'
@@ -67,6 +90,8 @@ pub fn commands<'a>(alloc: Global) -> Result<Command<'a>, AllocError>
     let init = init_command(alloc)?;
     let edit = edit_command(alloc)?;
     let dump = dump_command(alloc)?;
+    let list = list_command(alloc)?;
+    let export = export_command(alloc)?;
     let serve = serve_command(alloc)?;
     let all = Command::new(alloc, "peritext")
         .version(VERSION)
@@ -75,6 +100,8 @@ pub fn commands<'a>(alloc: Global) -> Result<Command<'a>, AllocError>
         .subcommand(init)?
         .subcommand(edit)?
         .subcommand(dump)?
+        .subcommand(list)?
+        .subcommand(export)?
         .subcommand(serve)?;
     Ok(all)
 }
@@ -127,6 +154,48 @@ fn dump_command<'a>(alloc: Global) -> Result<Command<'a>, AllocError>
         .arg(file)?
         .arg(doc)?;
     Ok(command)
+}
+
+/// `list FILE`.
+fn list_command<'a>(alloc: Global) -> Result<Command<'a>, AllocError>
+    ensures app { IfOk result (λ command. app_of command ≡ list_app) }
+    ensures local { IfOk result (λ command. (out-Command command).has_globals ≡ false) }
+{
+    let file = Arg::new(alloc, "FILE").help("The store").required(true);
+    let command = Command::new(alloc, "list")
+        .about("Tells of each document, and of the room in the store")
+        .after_help(LIST_EXAMPLES)
+        .arg(file)?;
+    Ok(command)
+}
+
+/// `export FILE DOC [--to FORM]`.
+fn export_command<'a>(alloc: Global) -> Result<Command<'a>, AllocError>
+    ensures app { IfOk result (λ command. app_of command ≡ export_app) }
+    ensures local { IfOk result (λ command. (out-Command command).has_globals ≡ false) }
+{
+    let file = Arg::new(alloc, "FILE").help("The store").required(true);
+    let doc = Arg::new(alloc, "DOC")
+        .help("The number of the document")
+        .required(true);
+    let command = Command::new(alloc, "export")
+        .about("Prints a document as text, Markdown or HTML")
+        .after_help(EXPORT_EXAMPLES)
+        .arg(file)?
+        .arg(doc)?
+        .arg(form(alloc))?;
+    Ok(command)
+}
+
+/// The option with the value FORM.
+fn form<'a>(alloc: Global) -> Arg<'a>
+    ensures rule { rule_of result ≡ form_option }
+    ensures local { result.global ≡ false }
+{
+    Arg::new(alloc, "to")
+        .long("to")
+        .value_name("FORM")
+        .help("text, markdown or html [default: text]")
 }
 
 /// `serve FILE --sessions PORT --peers PORT [--link PORT] [--end-on-failure]`.

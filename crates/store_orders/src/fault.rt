@@ -5,6 +5,7 @@ ghost use Rattle.recovery.specs.Faults.{number_of as number_of_open};
 ghost use Rattle.group_commit.specs.Loading.{number_of as number_of_load};
 ghost use Rattle.session_threads.specs.Faults.{number_of as number_of_session};
 ghost use Rattle.store_orders.specs.Ends.{number_of};
+ghost use Rattle.store_orders.specs.declared.fault.Fault.TheVariants.{Memory};
 
 use fixed_numbers::refusals::{
     BAD_OPERATION, BAD_ROOT, BAD_STREAM, BAD_TABLE, FAILED, FIELD, MEMORY, NO_ROOT, NOT_EMPTY,
@@ -12,6 +13,7 @@ use fixed_numbers::refusals::{
 };
 use group_commit::InitError;
 use session_threads::SessionFault;
+use std::alloc::AllocError;
 use thiserror::Error;
 
 /// A refusal that ends the program. Its text is the word that stands beside its number.
@@ -20,7 +22,7 @@ pub enum Fault {
     /// 1: a growth was refused.
     #[error("memory")]
     Memory,
-    /// 4: a UUID or a document number breaks its rule.
+    /// 4: a UUID, a document number or a form breaks its rule.
     #[error("field")]
     Field,
     /// 9: the device failed in a session, and the store must be opened again.
@@ -126,6 +128,14 @@ fn loading(error: group_commit::OpenError) -> Fault
         group_commit::OpenError::BadStream => Fault::BadStream,
         group_commit::OpenError::ReadFailed => Fault::ReadFailed,
         group_commit::OpenError::SyncFailed => Fault::SyncFailed,
+    }
+}
+
+impl From<AllocError> for Fault {
+    ghost from_gives = { λ _ fault. fault ≡ Memory };
+
+    fn from(_error: AllocError) -> Fault {
+        Fault::Memory
     }
 }
 

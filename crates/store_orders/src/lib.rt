@@ -3,6 +3,7 @@
 
 mod ended;
 mod fault;
+mod listing;
 mod performing;
 mod printing;
 mod showing;
@@ -11,4 +12,4 @@ pub use ended::status;
 pub use fault::Fault;
 pub use performing::{Performed, perform};
 pub use printing::print;
-pub use showing::{Shown, dump, show};
+pub use showing::{Shown, dump, export_from, list, show, show_all, show_in};

@@ -12,4 +12,6 @@ returns c =
     let one = c.in_ok-subcommand.ensures.shape c.in_ok-init.ensures.local ∙ ap₂ with_subcommand named (ap top c.in_ok-init.ensures.app) in
     let two = c.in_ok-subcommand-2.ensures.shape c.in_ok-edit.ensures.local ∙ ap₂ with_subcommand one (ap top c.in_ok-edit.ensures.app) in
     let three = c.in_ok-subcommand-3.ensures.shape c.in_ok-dump.ensures.local ∙ ap₂ with_subcommand two (ap top c.in_ok-dump.ensures.app) in
-    c.in_ok-all.ensures.shape c.in_ok-serve.ensures.local ∙ ap₂ with_subcommand three (ap top c.in_ok-serve.ensures.app)
+    let four = c.in_ok-subcommand-4.ensures.shape c.in_ok-list.ensures.local ∙ ap₂ with_subcommand three (ap top c.in_ok-list.ensures.app) in
+    let five = c.in_ok-subcommand-5.ensures.shape c.in_ok-export.ensures.local ∙ ap₂ with_subcommand four (ap top c.in_ok-export.ensures.app) in
+    c.in_ok-all.ensures.shape c.in_ok-serve.ensures.local ∙ ap₂ with_subcommand five (ap top c.in_ok-serve.ensures.app)

@@ -1,0 +1,9 @@
+//! What is told of all documents of a file, and of the room in it.
+#![tactic(auto)]
+
+mod document_numbers;
+mod listing_lines;
+mod putting;
+
+pub use document_numbers::documents;
+pub use listing_lines::{FileRoom, put_document, put_room};

@@ -1,0 +1,9 @@
+pub mod Putting
+pub mod HtmlText
+pub mod WebAddress
+pub mod Html
+pub mod Draft
+pub mod MarkdownText
+pub mod Markdown
+pub mod Reading
+pub mod Exported

@@ -1,0 +1,87 @@
+//! Markdown that is being written.
+ghost use Rattle.std.specs.Prelude.{◌≡◌, ◌++◌, IfOk, OnOk};
+ghost use Rattle.span_export.specs.Draft.{wrote};
+ghost use Rattle.span_export.specs.Putting.{if_wanted};
+ghost use Rattle.span_export.specs.Markdown.{blank, finished};
+ghost use Rattle.span_export.specs.MarkdownText.{separator};
+
+use crate::before::Before;
+use std::alloc::{AllocError, Global};
+use std::marker::Model;
+
+/// A tag that shows nothing, and keeps apart what stands before it and after it.
+const SEPARATOR: &[u8] = b"<span></span>";
+
+/// Markdown that is being written, and what stands before its next byte. After an error it holds
+/// some of what was to be written.
+#[derive(Debug, Drop)]
+pub struct Draft {
+    out: Vec<u8>,
+    before: Before,
+}
+
+impl Model for Draft {
+    ghost use Rattle.span_export.specs.Draft.{Written};
+
+    ghost Value = { Written };
+
+    ghost view = { λ d. record { bytes = d.out.items; before = d.before } };
+}
+
+impl Draft {
+    /// Nothing written yet.
+    pub fn new(alloc: Global) -> Draft
+        ensures { result ≡ blank }
+    {
+        Draft {
+            out: Vec::new(alloc),
+            before: Before::LineStart,
+        }
+    }
+
+    /// What stands before the next byte.
+    pub fn before(&self) -> Before
+        ensures { result ≡ self.now.before }
+    {
+        self.before
+    }
+
+    /// Writes bytes, after which this stands before the next one.
+    pub fn write(&mut self, bytes: &[u8], before: Before) -> Result<(), AllocError>
+        ensures { OnOk result (self.new ≡ wrote bytes.now before self.old) }
+    {
+        self.out.extend_from_slice(bytes)?;
+        self.before = before;
+        Ok(())
+    }
+
+    /// Writes bytes, where it is wanted after the separator.
+    pub fn write_apart(
+        &mut self,
+        apart: bool,
+        bytes: &[u8],
+        before: Before,
+    ) -> Result<(), AllocError>
+        ensures { OnOk result
+            (self.new ≡ wrote (if_wanted apart separator ++ bytes.now) before self.old) }
+    {
+        if apart {
+            self.out.extend_from_slice(SEPARATOR)?;
+        }
+        self.out.extend_from_slice(bytes)?;
+        self.before = before;
+        Ok(())
+    }
+
+    /// The text with its end.
+    pub fn finish(self) -> Result<Vec<u8>, AllocError>
+        ensures { IfOk result (λ page. page.items ≡ finished self) }
+    {
+        let Draft { mut out, before } = self;
+        if before.is_loose() && !out.is_empty() {
+            out.extend_from_slice(SEPARATOR)?;
+        }
+        out.extend_from_slice(b"\n")?;
+        Ok(out)
+    }
+}

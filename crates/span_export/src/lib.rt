@@ -1,0 +1,20 @@
+//! A document's spans as a text that other programs read: its characters alone, Markdown, or HTML.
+#![tactic(auto)]
+
+mod before;
+mod comment_tags;
+mod draft;
+mod emphasis;
+mod exporting;
+mod html_page;
+mod html_text;
+mod markdown_page;
+mod markdown_text;
+mod plain_characters;
+mod putting;
+mod web_address;
+
+pub use exporting::{Form, export};
+
+#[cfg(test)]
+mod tests;

@@ -1,0 +1,18 @@
+//! Bytes that are put at the end of a buffer.
+ghost use Rattle.span_export.specs.Putting.{Puts, if_wanted};
+
+use std::alloc::AllocError;
+
+/// Puts bytes after what is there.
+pub fn put(bytes: &[u8], out: &mut Vec<u8>) -> Result<(), AllocError>
+    ensures { Puts result out.old out.new bytes.now }
+{
+    out.extend_from_slice(bytes)
+}
+
+/// Puts bytes after what is there, where they are wanted.
+pub fn put_if(wanted: bool, bytes: &[u8], out: &mut Vec<u8>) -> Result<(), AllocError>
+    ensures { Puts result out.old out.new (if_wanted wanted bytes.now) }
+{
+    if wanted { put(bytes, out) } else { Ok(()) }
+}
