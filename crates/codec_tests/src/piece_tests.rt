@@ -1,7 +1,7 @@
 use crate::test_names::replica;
 use op_ids::{Clock, OpId};
 use op_model::{Body, Op};
-use op_pieces::cut;
+use op_pieces::{Piece, cut};
 use std::alloc::Global;
 use std::test::Fail;
 
@@ -54,5 +54,14 @@ fn typed_characters_are_pieces_of_256(rt: HostRuntime) -> Result<(), Fail> {
 fn another_document_ends_a_piece(rt: HostRuntime) -> Result<(), Fail> {
     let alloc = rt.alloc();
     assert!(rt; lengths(alloc, 5, 3)?.as_slice() == [1, 0, 1].as_slice());
+    Ok(())
+}
+
+#[test]
+fn a_piece_of_no_others_is_one_operation(rt: HostRuntime) -> Result<(), Fail> {
+    let alloc = rt.alloc();
+    let piece = Piece::new(typed(alloc, 1, 'a')?, Vec::new(alloc));
+    assert!(rt; *piece.first() == typed(alloc, 1, 'a')?);
+    assert!(rt; piece.others().is_empty());
     Ok(())
 }

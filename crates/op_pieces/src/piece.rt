@@ -24,6 +24,15 @@ impl Model for Piece {
 }
 
 impl Piece {
+    /// The piece with this first operation and these characters typed behind it: none, or up to 255
+    /// behind an insert whose counter, own count and deps leave room for them. Takes no memory.
+    pub fn new(first: Op, others: Vec<char>) -> Piece
+        requires { is_piece (record { first = first; others = others.items }) ≡ true }
+        ensures { result ≡ record { first = first; others = others.items } }
+    {
+        Piece { first, others }
+    }
+
     /// The piece of one operation. Takes no memory.
     pub fn single(alloc: Global, op: Op) -> Piece
         ensures { result ≡ single op }

@@ -1,0 +1,13 @@
+pub mod Answering
+pub mod Clean
+pub mod Counts
+pub mod CutStreams
+pub mod KindLaws
+pub mod LengthLaws
+pub mod Lengths
+pub mod PartialLaws
+pub mod PieceLaws
+pub mod RunLaws
+pub mod Scalars
+pub mod StreamLaws
+pub mod StreamOperations

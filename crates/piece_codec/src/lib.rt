@@ -1,0 +1,20 @@
+//! The codec of pieces: an operation as its record, and a run of typed characters as one record.
+#![tactic(auto)]
+
+mod fields;
+mod fits;
+mod kind;
+pub mod laws;
+mod record;
+mod room;
+mod run;
+mod spelling;
+pub mod stream_laws;
+mod text;
+
+pub use fits::every_piece_has_a_spelling;
+pub use record::take_piece;
+pub use spelling::put_piece;
+
+#[cfg(test)]
+mod tests;
