@@ -1,28 +1,31 @@
 -- What is spelled of a frame is read again.
-use Rattle.std.proofs.Common.{◌≡◌, ◌≢◌, ℕ, ◌+◌, ◌*◌, ◌<◌, ◌≤◌, ◌^◌, Bool, true, false, eqb, ltb, List, [], ◌∷◌, ◌++◌, length, take, drop}
+use Rattle.std.proofs.Common.{◌≡◌, ◌≢◌, ℕ, ◌+◌, ◌<◌, ◌≤◌, ◌^◌, Bool, true, false, eqb, ltb, List, [], ◌∷◌, ◌++◌, length, take, drop}
 use Rattle.std.proofs.Common.{Some, Ok, refl, sym, ap, ◌∙◌, append_assoc, arith}
 use Rattle.std.specs.Int.{w16, w32, w128, to_be_bytes, from_be_bytes, is_in_range}
 use Rattle.std.proofs.lemmas.Bool.{le-ltb}
 use Rattle.std.proofs.lemmas.Bool.Decides.{nat_tests}
 use Rattle.std.proofs.lemmas.List.{append-nil, take_at, drop_at, length-append}
 use Rattle.op_ids.specs.Clock.{is_clock}
-use Rattle.op_model.specs.declared.op.Op.{Op}
-use Rattle.change_codec.specs.Fits.{HaveSixteen, IsOperation}
+use Rattle.op_pieces.specs.Pieces.{Run}
+use Rattle.change_codec.specs.Fits.{HaveSixteen}
 use Rattle.change_codec.specs.Reading.{number_at, replica_at, deps_at}
 use Rattle.change_codec.specs.Record.{length_at}
-use Rattle.change_codec.specs.Spelling.{number_bytes, deps_bytes, body_bytes, spelled}
-use Rattle.change_codec.specs.Stream.{spelled_all, AreOperations}
+use Rattle.change_codec.specs.Spelling.{number_bytes, deps_bytes}
 use Rattle.change_codec.proofs.IdLaws.{deps_again}
-use Rattle.change_codec.proofs.Lengths.{length-deps, length-bytes16, length-bytes32, length-bytes128}
+use Rattle.change_codec.proofs.Lengths.{length-deps, length-bytes16, length-bytes128}
 use Rattle.change_codec.proofs.Numbers.{wide16, wide32, wide128, number_again}
-use Rattle.change_codec.specs.declared.format.Format.TheVariants.{First, Third}
-use Rattle.change_codec.specs.Formats.{IsOf, AreOf}
-use Rattle.change_codec.proofs.RecordLaws.{body_range, of_third, spelled_taken}
+use Rattle.change_codec.specs.declared.format.Format.TheVariants.{Third}
+use Rattle.piece_codec.specs.Fits.{IsWhole}
+use Rattle.piece_codec.specs.Formats.{IsPieceOf}
+use Rattle.piece_codec.specs.Spelling.{spelled_piece}
+use Rattle.piece_codec.specs.Stream.{spelled_pieces, ArePiecesOf}
+use Rattle.piece_codec.proofs.PieceLaws.{spelled_piece_taken}
 use Rattle.causal_sync.specs.declared.heard.Heard.{Heard}
 use Rattle.causal_sync.specs.declared.heard.Heard.TheVariants.{Hello, Have, Ops, Bye}
 use Rattle.causal_sync.specs.Frames.{content_bytes, frame_bytes, IsFrame}
 use Rattle.causal_sync.specs.Reading.{tag_at, greeting_at, name_at, other_at, hello_at, have_at, record_at, records_at, count_at, ops_at}
 use Rattle.causal_sync.specs.Reading.{later_at, content_at, framed, frame_at}
+use Rattle.causal_sync.proofs.Spellings.{few_bytes}
 use Rattle.causal_sync.proofs.Steps.{done}
 
 -- a name is read again
@@ -38,7 +41,7 @@ hello_again : (own replica : ℕ) → 0 < replica → replica < 2 ^ 128 → repl
 unfolding hello_at greeting_at tag_at other_at content_bytes
 hello_again own replica some sixteen other =
     let test : eqb replica own ≡ false = grind (arith, nat_tests) in
-    rw (number_again w16 (2 ^ 16) wide16 1 (number_bytes w128 replica) (omega arith), name_again replica some sixteen, test) refl
+    rw (number_again w16 (2 ^ 16) wide16 3 (number_bytes w128 replica) (omega arith), name_again replica some sixteen, test) refl
 
 -- a HAVE is read again
 have_again : (clock : List (ℕ × ℕ)) → is_clock clock ≡ true → HaveSixteen clock → have_at (deps_bytes clock) ≡ Ok (Have clock)
@@ -48,42 +51,34 @@ have_again clock is sixteen =
     rw read refl
 
 -- a record is read again
-record_again : (op : Op) (rest : List ℕ) → IsOf First op → IsOperation op → record_at (spelled op ++ rest) ≡ Ok (op, rest)
+record_again : (p : Run) (rest : List ℕ) → IsPieceOf Third p → IsWhole p → record_at (spelled_piece p ++ rest) ≡ Ok (p, rest)
 unfolding record_at
-record_again op rest bare fits = rw (spelled_taken First op rest bare fits, drop_at (spelled op) rest (length (spelled op)) refl) refl
+record_again p rest of_third fits = rw (spelled_piece_taken Third p rest of_third fits, drop_at (spelled_piece p) rest (length (spelled_piece p)) refl) refl
 
 -- records are read again
-records_again : (ops : List Op) → AreOf First ops → AreOperations ops → records_at (length ops) (spelled_all ops) ≡ Ok ops
+records_again : (ps : List Run) → ArePiecesOf Third ps → records_at (length ps) (spelled_pieces ps) ≡ Ok ps
 unfolding records_at
-records_again [] bare fits = refl
-records_again (op ∷ ops) bare fits = rw (record_again op (spelled_all ops) bare.0 fits.0, records_again ops bare.1 fits.1) refl
+records_again [] are = refl
+records_again (p ∷ ps) are = rw (record_again p (spelled_pieces ps) are.1 are.0, records_again ps are.2) refl
 
 -- an OPS is read again
-ops_again : (ops : List Op) → 1 ≤ length ops → length ops ≤ 64 → AreOf First ops → AreOperations ops → ops_at (number_bytes w16 (length ops) ++ spelled_all ops) ≡ Ok (Ops ops)
+ops_again : (ps : List Run) → 1 ≤ length ps → length ps ≤ 64 → ArePiecesOf Third ps → ops_at (number_bytes w16 (length ps) ++ spelled_pieces ps) ≡ Ok (Ops ps)
 unfolding ops_at count_at
-ops_again ops some most bare fits =
-    let test : is_in_range 1 64 (length ops) ≡ true = grind (arith, nat_tests) in
-    rw (number_again w16 (2 ^ 16) wide16 (length ops) (spelled_all ops) (omega (arith, most)), test, records_again ops bare fits) refl
+ops_again ps some most are =
+    let test : is_in_range 1 64 (length ps) ≡ true = grind (arith, nat_tests) in
+    rw (number_again w16 (2 ^ 16) wide16 (length ps) (spelled_pieces ps) (omega (arith, most)), test, records_again ps are) refl
 
 -- what a frame says is read again
 content_again : (own : ℕ) (first : Bool) (frame : Heard) → IsFrame own first frame → content_at own first (content_bytes frame) ≡ Ok frame
 unfolding later_at content_bytes
 content_again own true (Hello replica) is = hello_again own replica is.0 is.1 is.2
 content_again own true (Have clock) is = absurd is
-content_again own true (Ops ops) is = absurd is
+content_again own true (Ops ps) is = absurd is
 content_again own true Bye is = absurd is
 content_again own false (Hello replica) is = absurd is
 content_again own false (Have clock) is = have_again clock is.0 is.1
-content_again own false (Ops ops) is = ops_again ops is.0 is.1 is.3 is.2
+content_again own false (Ops ps) is = ops_again ps is.0 is.1 is.2
 content_again own false Bye is = refl
-
--- 64 records take few bytes
-few_bytes : (ops : List Op) → AreOperations ops → length (spelled_all ops) ≤ 1511 * length ops
-unfolding spelled
-few_bytes [] fits = omega arith
-few_bytes (op ∷ ops) fits =
-    let head = number_bytes w32 (length (body_bytes op)) in
-    omega (arith, length-append (head ++ body_bytes op) (spelled_all ops), length-append head (body_bytes op), length-bytes32 (length (body_bytes op)), (body_range Third op (of_third op) fits.0).1, few_bytes ops fits.1)
 
 -- a clock has few entries
 few_entries : (es : List (ℕ × ℕ)) → is_clock es ≡ true → length es ≤ 16
@@ -93,16 +88,16 @@ few_entries es is = grind (arith, nat_tests)
 content_range : (own : ℕ) (first : Bool) (frame : Heard) → IsFrame own first frame → (1 ≤ length (content_bytes frame)) × (length (content_bytes frame) ≤ 131068)
 unfolding content_bytes
 content_range own true (Hello replica) is =
-    let len = length-append (number_bytes w16 1) (number_bytes w128 replica) in
-    (omega arith, omega (arith, len, length-bytes16 1, length-bytes128 replica))
+    let len = length-append (number_bytes w16 3) (number_bytes w128 replica) in
+    (omega arith, omega (arith, len, length-bytes16 3, length-bytes128 replica))
 content_range own true (Have clock) is = absurd is
-content_range own true (Ops ops) is = absurd is
+content_range own true (Ops ps) is = absurd is
 content_range own true Bye is = absurd is
 content_range own false (Hello replica) is = absurd is
 content_range own false (Have clock) is = (omega arith, omega (arith, length-deps clock, few_entries clock is.0))
-content_range own false (Ops ops) is =
-    let len = length-append (number_bytes w16 (length ops)) (spelled_all ops) in
-    (omega arith, omega (arith, len, length-bytes16 (length ops), few_bytes ops is.2, is.1))
+content_range own false (Ops ps) is =
+    let len = length-append (number_bytes w16 (length ps)) (spelled_pieces ps) in
+    (omega arith, omega (arith, len, length-bytes16 (length ps), few_bytes Third ps is.2, is.1))
 content_range own false Bye is = (omega arith, omega arith)
 
 -- a length and content are read again

@@ -8,3 +8,4 @@ pub mod Records
 pub mod Spellings
 pub mod Steps
 pub mod TakenRecords
+pub mod Told

@@ -6,21 +6,23 @@ use Rattle.std.specs.Int.{w16, w32, w128, is_in_range}
 use Rattle.std.proofs.lemmas.List.{append-nil, take-append-drop, length-take, length-drop}
 use Rattle.std.proofs.Math.Seq.{take-add}
 use Rattle.std.proofs.lemmas.Bool.{ltb-false}
-use Rattle.op_model.specs.declared.op.Op.{Op}
+use Rattle.op_pieces.specs.Pieces.{Run}
 use Rattle.change_codec.specs.declared.codec_error.CodecError.{CodecError}
 use Rattle.change_codec.specs.declared.codec_error.CodecError.TheVariants.{Number}
-use Rattle.change_codec.specs.Fits.{IsOperation}
 use Rattle.change_codec.specs.Reading.{number_at, replica_at, deps_at}
-use Rattle.change_codec.specs.declared.format.Format.TheVariants.{First}
-use Rattle.change_codec.specs.Formats.{IsOf, AreOf}
-use Rattle.change_codec.specs.Record.{length_at, taken, BeginsWithOp}
-use Rattle.change_codec.specs.Spelling.{number_bytes, deps_bytes, spelled}
-use Rattle.change_codec.specs.Stream.{spelled_all, AreOperations}
+use Rattle.change_codec.specs.declared.format.Format.TheVariants.{Third}
+use Rattle.change_codec.specs.Record.{length_at}
+use Rattle.change_codec.specs.Spelling.{number_bytes, deps_bytes}
 use Rattle.change_codec.proofs.IdLaws.{deps_take}
 use Rattle.change_codec.proofs.Numbers.{wide16, wide32, wide128, number_takes}
-use Rattle.change_codec.proofs.RecordLaws.{taken_begins}
 use Rattle.change_codec.proofs.Steps.{IsBytes, IsBytes-drop, IsBytes-take, Takes, guard_ok}
 use Rattle.change_codec.proofs.Steps as codec
+use Rattle.piece_codec.specs.Fits.{IsWhole}
+use Rattle.piece_codec.specs.Formats.{IsPieceOf}
+use Rattle.piece_codec.specs.Record.{taken_piece, BeginsWithPiece}
+use Rattle.piece_codec.specs.Spelling.{spelled_piece}
+use Rattle.piece_codec.specs.Stream.{spelled_pieces, ArePiecesOf}
+use Rattle.piece_codec.proofs.PieceLaws.{piece_begins}
 use Rattle.causal_sync.specs.declared.heard.Heard.{Heard}
 use Rattle.causal_sync.specs.declared.heard.Heard.TheVariants.{Hello, Have, Ops, Bye}
 use Rattle.causal_sync.specs.declared.link_error.LinkError.{LinkError}
@@ -44,41 +46,41 @@ have_takes payload frame fits e =
     (rw (← whole.0) (ap (λ (b : List ℕ). 2 ∷ b) (parts ∙ rw whole.1 (append-nil (deps_bytes a.0.0))), λ own. (read.1, read.2)))
 
 -- a record that was read
-record_takes : (bytes : List ℕ) (x : Op × List ℕ) → IsBytes bytes → record_at bytes ≡ Ok x → (bytes ≡ spelled x.0 ++ x.1) × IsOperation x.0 × IsBytes x.1 × IsOf First x.0
+record_takes : (bytes : List ℕ) (x : Run × List ℕ) → IsBytes bytes → record_at bytes ≡ Ok x → (bytes ≡ spelled_piece x.0 ++ x.1) × IsWhole x.0 × IsPieceOf Third x.0 × IsBytes x.1
 unfolding record_at
-record_takes bytes x fits e = behind_takes bytes (taken First bytes) x fits (λ op n is. taken_begins First bytes op n fits is) e
+record_takes bytes x fits e = behind_takes bytes (taken_piece Third bytes) x fits (λ p n is. piece_begins Third bytes p n fits is) e
   where
-    behind_takes : (bytes : List ℕ) (r : Result (Option (Op × ℕ)) CodecError) (x : Op × List ℕ) → IsBytes bytes
-        → ((op : Op) (n : ℕ) → r ≡ Ok (Some (op, n)) → IsOf First op × BeginsWithOp bytes op n) → behind bytes r ≡ Ok x → (bytes ≡ spelled x.0 ++ x.1) × IsOperation x.0 × IsBytes x.1 × IsOf First x.0
+    behind_takes : (bytes : List ℕ) (r : Result (Option (Run × ℕ)) CodecError) (x : Run × List ℕ) → IsBytes bytes
+        → ((p : Run) (n : ℕ) → r ≡ Ok (Some (p, n)) → IsPieceOf Third p × BeginsWithPiece bytes p n) → behind bytes r ≡ Ok x → (bytes ≡ spelled_piece x.0 ++ x.1) × IsWhole x.0 × IsPieceOf Third x.0 × IsBytes x.1
     behind_takes bytes (Ok (Some found)) x fits begins e =
         let both = begins found.0 found.1 refl in
         let b = both.1 in
-        subst (λ (y : Op × List ℕ). (bytes ≡ spelled y.0 ++ y.1) × IsOperation y.0 × IsBytes y.1 × IsOf First y.0) (ok_is (found.0, drop found.1 bytes) x e)
-        (rw (← b.spelled_so) (sym (take-append-drop found.1 bytes)), b.fits, IsBytes-drop found.1 bytes fits, both.0)
+        subst (λ (y : Run × List ℕ). (bytes ≡ spelled_piece y.0 ++ y.1) × IsWhole y.0 × IsPieceOf Third y.0 × IsBytes y.1) (ok_is (found.0, drop found.1 bytes) x e)
+        (rw (← b.spelled_so) (sym (take-append-drop found.1 bytes)), b.fits, both.0, IsBytes-drop found.1 bytes fits)
     behind_takes bytes (Ok None) x fits begins e = absurd cc
     behind_takes bytes (Err d) x fits begins e = absurd cc
 
 -- records that were read
-records_take : (n : ℕ) (bytes : List ℕ) (ops : List Op) → IsBytes bytes → records_at n bytes ≡ Ok ops → (bytes ≡ spelled_all ops) × AreOperations ops × (length ops ≡ n) × AreOf First ops
+records_take : (n : ℕ) (bytes : List ℕ) (ps : List Run) → IsBytes bytes → records_at n bytes ≡ Ok ps → (bytes ≡ spelled_pieces ps) × ArePiecesOf Third ps × (length ps ≡ n)
 unfolding records_at
-records_take zero bytes ops fits e =
-    let p = passed (eqb (length bytes) 0) BadFrame (Ok []) ops e in
+records_take zero bytes ps fits e =
+    let p = passed (eqb (length bytes) 0) BadFrame (Ok []) ps e in
     let none : bytes ≡ [] = no_bytes bytes (grind (arith, nat_tests)) in
-    subst (λ (os : List Op). (bytes ≡ spelled_all os) × AreOperations os × (length os ≡ 0) × AreOf First os) (ok_is [] ops p.1) (none, tt, refl, tt)
-records_take (suc n) bytes ops fits e =
-    let a = bind_ok (record_at bytes) (λ first. records_at n first.1 >>= λ others. Ok (first.0 ∷ others)) ops e in
-    let b = bind_ok (records_at n a.0.1) (λ others. Ok (a.0.0 ∷ others)) ops a.2 in
+    subst (λ (qs : List Run). (bytes ≡ spelled_pieces qs) × ArePiecesOf Third qs × (length qs ≡ 0)) (ok_is [] ps p.1) (none, tt, refl)
+records_take (suc n) bytes ps fits e =
+    let a = bind_ok (record_at bytes) (λ first. records_at n first.1 >>= λ others. Ok (first.0 ∷ others)) ps e in
+    let b = bind_ok (records_at n a.0.1) (λ others. Ok (a.0.0 ∷ others)) ps a.2 in
     let first = record_takes bytes a.0 fits a.1 in
-    let others = records_take n a.0.1 b.0 first.2 b.1 in
-    subst (λ (os : List Op). (bytes ≡ spelled_all os) × AreOperations os × (length os ≡ suc n) × AreOf First os) (ok_is (a.0.0 ∷ b.0) ops b.2)
-    (first.0 ∙ ap (λ (t : List ℕ). spelled a.0.0 ++ t) others.0, (first.1, others.1), ap suc others.2, (first.3, others.3))
+    let others = records_take n a.0.1 b.0 first.3 b.1 in
+    subst (λ (qs : List Run). (bytes ≡ spelled_pieces qs) × ArePiecesOf Third qs × (length qs ≡ suc n)) (ok_is (a.0.0 ∷ b.0) ps b.2)
+    (first.0 ∙ ap (λ (t : List ℕ). spelled_piece a.0.0 ++ t) others.0, (first.1, first.2, others.1), ap suc others.2)
 
 -- an OPS that was read
 ops_take : (payload : List ℕ) (frame : Heard) → IsBytes payload → ops_at payload ≡ Ok frame → (3 ∷ payload ≡ content_bytes frame) × ((own : ℕ) → IsFrame own false frame)
 unfolding ops_at count_at content_bytes
 ops_take payload frame fits e =
-    let a = bind_ok (count_at payload) (λ count. records_at count.0 count.1 >>= λ ops. Ok (Ops ops)) frame e in
-    let b = bind_ok (records_at a.0.0 a.0.1) (λ ops. Ok (Ops ops)) frame a.2 in
+    let a = bind_ok (count_at payload) (λ count. records_at count.0 count.1 >>= λ pieces. Ok (Ops pieces)) frame e in
+    let b = bind_ok (records_at a.0.0 a.0.1) (λ pieces. Ok (Ops pieces)) frame a.2 in
     let c = bind_ok (or_fault BadFrame (number_at w16 payload)) (λ count. cond (is_in_range 1 64 count.0) (Ok count) (Err BadFrame)) a.0 a.1 in
     let p = passed (is_in_range 1 64 c.0.0) BadFrame (Ok c.0) a.0 c.2 in
     let same : c.0 ≡ a.0 = ok_is c.0 a.0 p.1 in
@@ -89,7 +91,7 @@ ops_take payload frame fits e =
     let most : a.0.0 ≤ 64 = grind (arith, nat_tests) in
     let rs = records_take a.0.0 a.0.1 b.0 t.0.rest_fits b.1 in
     subst (λ (f : Heard). (3 ∷ payload ≡ content_bytes f) × ((own : ℕ) → IsFrame own false f)) (ok_is (Ops b.0) frame b.2)
-    (ap (λ (x : List ℕ). 3 ∷ x) (t.0.parts ∙ ap (λ (k : ℕ). number_bytes w16 k ++ a.0.1) (sym rs.2) ∙ ap (λ (x : List ℕ). number_bytes w16 (length b.0) ++ x) rs.0), λ own. (omega (arith, rs.2, some), omega (arith, rs.2, most), rs.1, rs.3))
+    (ap (λ (x : List ℕ). 3 ∷ x) (t.0.parts ∙ ap (λ (k : ℕ). number_bytes w16 k ++ a.0.1) (sym rs.2) ∙ ap (λ (x : List ℕ). number_bytes w16 (length b.0) ++ x) rs.0), λ own. (omega (arith, rs.2, some), omega (arith, rs.2, most), rs.1))
 
 -- a frame behind the first that was read
 later_takes : (own : ℕ) (content : List ℕ) (frame : Heard) → IsBytes content → later_at content ≡ Ok frame → (content ≡ content_bytes frame) × IsFrame own false frame
@@ -128,18 +130,18 @@ tag_takes tag (b ∷ bs) rest fits e =
     (rw (same, is) refl, rw (← is) (λ i. fits (suc i)))
 
 -- a type and a format that were read
-greeting_takes : (content rest : List ℕ) → IsBytes content → greeting_at content ≡ Ok rest → (content ≡ 1 ∷ (number_bytes w16 1 ++ rest)) × IsBytes rest
+greeting_takes : (content rest : List ℕ) → IsBytes content → greeting_at content ≡ Ok rest → (content ≡ 1 ∷ (number_bytes w16 3 ++ rest)) × IsBytes rest
 unfolding greeting_at
 greeting_takes content rest fits e =
-    let a = bind_ok (tag_at 1 BadHello content) (λ behind. or_fault BadHello (number_at w16 behind) >>= λ format. cond (eqb format.0 1) (Ok format.1) (Err BadHello)) rest e in
-    let b = bind_ok (or_fault BadHello (number_at w16 a.0)) (λ format. cond (eqb format.0 1) (Ok format.1) (Err BadHello)) rest a.2 in
+    let a = bind_ok (tag_at 1 BadHello content) (λ behind. or_fault BadHello (number_at w16 behind) >>= λ format. cond (eqb format.0 3) (Ok format.1) (Err BadHello)) rest e in
+    let b = bind_ok (or_fault BadHello (number_at w16 a.0)) (λ format. cond (eqb format.0 3) (Ok format.1) (Err BadHello)) rest a.2 in
     let tag = tag_takes 1 content a.0 fits a.1 in
     let format = number_takes w16 (2 ^ 16) wide16 a.0 b.0 tag.1 (field_ok BadHello (number_at w16 a.0) b.0 b.1) in
-    let p = passed (eqb b.0.0 1) BadHello (Ok b.0.1) rest b.2 in
-    let test : eqb b.0.0 1 ≡ true = p.0 in
-    let one : b.0.0 ≡ 1 = grind (arith, nat_tests) in
+    let p = passed (eqb b.0.0 3) BadHello (Ok b.0.1) rest b.2 in
+    let test : eqb b.0.0 3 ≡ true = p.0 in
+    let third : b.0.0 ≡ 3 = grind (arith, nat_tests) in
     let is : b.0.1 ≡ rest = ok_is b.0.1 rest p.1 in
-    (tag.0 ∙ ap (λ (x : List ℕ). 1 ∷ x) (format.0.parts ∙ rw (one, is) refl), rw (← is) format.0.rest_fits)
+    (tag.0 ∙ ap (λ (x : List ℕ). 1 ∷ x) (format.0.parts ∙ rw (third, is) refl), rw (← is) format.0.rest_fits)
 
 -- a name that was read
 name_takes : (bytes : List ℕ) (replica : ℕ) → IsBytes bytes → name_at bytes ≡ Ok replica → (bytes ≡ number_bytes w128 replica) × (0 < replica) × (replica < 2 ^ 128)
@@ -151,7 +153,7 @@ name_takes bytes replica fits e =
     (name.0.parts ∙ rw (whole.1, whole.0) (append-nil (number_bytes w128 replica)), rw (← whole.0) name.1, rw (← whole.0) name.2)
 
 -- the name of another replica that was read
-other_takes : (own : ℕ) (bytes : List ℕ) (frame : Heard) → IsBytes bytes → other_at own bytes ≡ Ok frame → (1 ∷ (number_bytes w16 1 ++ bytes) ≡ content_bytes frame) × IsFrame own true frame
+other_takes : (own : ℕ) (bytes : List ℕ) (frame : Heard) → IsBytes bytes → other_at own bytes ≡ Ok frame → (1 ∷ (number_bytes w16 3 ++ bytes) ≡ content_bytes frame) × IsFrame own true frame
 unfolding other_at content_bytes
 other_takes own bytes frame fits e =
     let b = bind_ok (name_at bytes) (λ replica. cond (eqb replica own) (Err BadHello) (Ok (Hello replica))) frame e in
@@ -159,8 +161,8 @@ other_takes own bytes frame fits e =
     let g = guarded (eqb b.0 own) BadHello (Ok (Hello b.0)) frame b.2 in
     let test : eqb b.0 own ≡ false = g.0 in
     let other : b.0 ≢ own = λ same. absurd (grind (arith, nat_tests)) in
-    subst (λ (f : Heard). (1 ∷ (number_bytes w16 1 ++ bytes) ≡ content_bytes f) × IsFrame own true f) (ok_is (Hello b.0) frame g.1)
-    (ap (λ (x : List ℕ). 1 ∷ (number_bytes w16 1 ++ x)) name.0, (name.1, name.2, other))
+    subst (λ (f : Heard). (1 ∷ (number_bytes w16 3 ++ bytes) ≡ content_bytes f) × IsFrame own true f) (ok_is (Hello b.0) frame g.1)
+    (ap (λ (x : List ℕ). 1 ∷ (number_bytes w16 3 ++ x)) name.0, (name.1, name.2, other))
 
 -- a HELLO that was read
 hello_takes : (own : ℕ) (content : List ℕ) (frame : Heard) → IsBytes content → hello_at own content ≡ Ok frame → (content ≡ content_bytes frame) × IsFrame own true frame

@@ -1,34 +1,41 @@
--- The spellings of frames: how long they are.
-use Rattle.std.proofs.Common.{◌≡◌, ℕ, ◌+◌, ◌*◌, List, [], ◌∷◌, ◌++◌, length, refl, ap, ◌∙◌, append_assoc, arith}
+-- The spellings of frames, and how long they are.
+use Rattle.std.proofs.Common.{◌≡◌, ℕ, ◌+◌, ◌*◌, ◌<◌, ◌≤◌, true, List, [], ◌∷◌, ◌++◌, length, refl, sym, ap, ◌∙◌, append_assoc, arith}
 use Rattle.std.specs.Int.{w16, w32, w128}
 use Rattle.std.proofs.lemmas.List.{length-append}
 use Rattle.op_model.specs.declared.op.Op.{Op}
-use Rattle.op_model.specs.Records.{stream_length}
-use Rattle.change_codec.specs.Spelling.{number_bytes, deps_bytes}
-use Rattle.change_codec.specs.Stream.{spelled_all}
-use Rattle.change_codec.proofs.Lengths.{length-bytes16, length-bytes128, length-deps}
-use Rattle.change_codec.proofs.StreamLaws.{length-spelled_all}
+use Rattle.op_pieces.specs.Pieces.{Run, fits_behind}
+use Rattle.change_codec.specs.declared.format.Format.{Format}
+use Rattle.change_codec.specs.declared.format.Format.TheVariants.{Third}
+use Rattle.change_codec.specs.Fits.{IsOperation}
+use Rattle.change_codec.specs.Spelling.{number_bytes, deps_bytes, body_bytes, spelled}
+use Rattle.change_codec.proofs.Lengths.{length-bytes16, length-bytes32, length-bytes128, length-deps}
+use Rattle.change_codec.proofs.RecordLaws.{body_range, of_third}
+use Rattle.piece_codec.specs.Fits.{IsWhole}
+use Rattle.piece_codec.specs.Spelling.{run_bytes, spelled_run, spelled_with, spelled_piece}
+use Rattle.piece_codec.specs.Stream.{spelled_pieces, ArePiecesOf}
+use Rattle.piece_codec.proofs.KindLaws.{run_range}
+use Rattle.piece_codec.proofs.RunLaws.{few_others}
 use Rattle.causal_sync.specs.declared.heard.Heard.TheVariants.{Hello, Have, Ops, Bye}
 use Rattle.causal_sync.specs.Frames.{content_bytes, frame_bytes}
 
 pub length-hello : (replica : ℕ) → length (content_bytes (Hello replica)) ≡ 19
 unfolding content_bytes
-length-hello replica = omega (arith, length-append (number_bytes w16 1) (number_bytes w128 replica), length-bytes16 1, length-bytes128 replica)
+length-hello replica = omega (arith, length-append (number_bytes w16 3) (number_bytes w128 replica), length-bytes16 3, length-bytes128 replica)
 
 pub length-have : (clock : List (ℕ × ℕ)) → length (content_bytes (Have clock)) ≡ 2 + 24 * length clock
 unfolding content_bytes
 length-have clock = omega (arith, length-deps clock)
 
-pub length-ops : (ops : List Op) → length (content_bytes (Ops ops)) ≡ 3 + stream_length ops
+pub length-ops : (ps : List Run) → length (content_bytes (Ops ps)) ≡ 3 + length (spelled_pieces ps)
 unfolding content_bytes
-length-ops ops = omega (arith, length-append (number_bytes w16 (length ops)) (spelled_all ops), length-bytes16 (length ops), length-spelled_all ops)
+length-ops ps = omega (arith, length-append (number_bytes w16 (length ps)) (spelled_pieces ps), length-bytes16 (length ps))
 
 pub length-bye : length (content_bytes Bye) ≡ 1
 unfolding content_bytes
 length-bye = refl
 
 -- the parts of a HELLO
-pub hello_spelled : (replica : ℕ) → (number_bytes w32 19 ++ (1 ∷ 0 ∷ 1 ∷ [])) ++ number_bytes w128 replica ≡ frame_bytes (Hello replica)
+pub hello_spelled : (replica : ℕ) → (number_bytes w32 19 ++ (1 ∷ 0 ∷ 3 ∷ [])) ++ number_bytes w128 replica ≡ frame_bytes (Hello replica)
 unfolding frame_bytes content_bytes number_bytes
 hello_spelled replica = refl
 
@@ -40,16 +47,48 @@ have_spelled clock n is =
     append_assoc (number_bytes w32 (2 + 24 * n)) (2 ∷ []) (deps_bytes clock) ∙ ap (λ (k : ℕ). number_bytes w32 k ++ (2 ∷ deps_bytes clock)) size
 
 -- the content of an OPS
-ops_content : (ops : List Op) → 3 ∷ (number_bytes w16 (length ops) ++ spelled_all ops) ≡ content_bytes (Ops ops)
+ops_content : (ps : List Run) → 3 ∷ (number_bytes w16 (length ps) ++ spelled_pieces ps) ≡ content_bytes (Ops ps)
 unfolding content_bytes
-ops_content ops = refl
+ops_content ps = refl
 
 -- the parts of an OPS
-pub ops_spelled : (ops : List Op) (n : ℕ) → n ≡ stream_length ops
-    → ((number_bytes w32 (3 + n) ++ (3 ∷ [])) ++ number_bytes w16 (length ops)) ++ spelled_all ops ≡ frame_bytes (Ops ops)
+pub ops_spelled : (ps : List Run) (n : ℕ) → n ≡ length (spelled_pieces ps)
+    → ((number_bytes w32 (3 + n) ++ (3 ∷ [])) ++ number_bytes w16 (length ps)) ++ spelled_pieces ps ≡ frame_bytes (Ops ps)
 unfolding frame_bytes
-ops_spelled ops n is =
-    let size : 3 + n ≡ length (content_bytes (Ops ops)) = omega (arith, is, length-ops ops) in
-    append_assoc (number_bytes w32 (3 + n) ++ (3 ∷ [])) (number_bytes w16 (length ops)) (spelled_all ops)
-    ∙ append_assoc (number_bytes w32 (3 + n)) (3 ∷ []) (number_bytes w16 (length ops) ++ spelled_all ops)
-    ∙ ap (λ (x : List ℕ). number_bytes w32 (3 + n) ++ x) (ops_content ops) ∙ ap (λ (k : ℕ). number_bytes w32 k ++ content_bytes (Ops ops)) size
+ops_spelled ps n is =
+    let size : 3 + n ≡ length (content_bytes (Ops ps)) = omega (arith, is, length-ops ps) in
+    append_assoc (number_bytes w32 (3 + n) ++ (3 ∷ [])) (number_bytes w16 (length ps)) (spelled_pieces ps)
+    ∙ append_assoc (number_bytes w32 (3 + n)) (3 ∷ []) (number_bytes w16 (length ps) ++ spelled_pieces ps)
+    ∙ ap (λ (x : List ℕ). number_bytes w32 (3 + n) ++ x) (ops_content ps) ∙ ap (λ (k : ℕ). number_bytes w32 k ++ content_bytes (Ops ps)) size
+
+-- ---- how long the records of pieces are
+
+-- the record of one operation
+single_short : (op : Op) → IsOperation op → length (spelled op) ≤ 1511
+unfolding spelled
+single_short op fits =
+    let head = number_bytes w32 (length (body_bytes op)) in
+    omega (arith, length-append head (body_bytes op), length-bytes32 (length (body_bytes op)), (body_range Third op (of_third op) fits).1)
+
+-- the record of a run
+run_short : (op : Op) (vs : List ℕ) → IsOperation op → length vs < 256 → length (spelled_run op vs) ≤ 1511
+unfolding spelled_run
+run_short op vs fits few =
+    let head = number_bytes w32 (length (run_bytes op vs)) in
+    omega (arith, length-append head (run_bytes op vs), length-bytes32 (length (run_bytes op vs)), (run_range Third op vs fits.deps few).1)
+
+pub piece_short : (p : Run) → IsWhole p → length (spelled_piece p) ≤ 1511
+piece_short p whole = by_others p.first p.others whole.first whole.piece
+  where
+    by_others : (op : Op) (vs : List ℕ) → IsOperation op → fits_behind op vs ≡ true → length (spelled_with op vs) ≤ 1511
+    by_others op [] fits room = single_short op fits
+    by_others op (v ∷ vs) fits room = run_short op (v ∷ vs) fits (few_others op (length (v ∷ vs)) room)
+
+-- 64 records take few bytes
+pub few_bytes : (f : Format) (ps : List Run) → ArePiecesOf f ps → length (spelled_pieces ps) ≤ 1511 * length ps
+few_bytes f [] are = omega arith
+few_bytes f (p ∷ ps) are = omega (arith, length-append (spelled_piece p) (spelled_pieces ps), piece_short p are.0, few_bytes f ps are.2)
+
+-- records so far, with one more
+pub records_more : (bytes : List ℕ) (p : Run) (rest others : List Run) → rest ≡ p ∷ others → (bytes ++ spelled_piece p) ++ spelled_pieces others ≡ bytes ++ spelled_pieces rest
+records_more bytes p rest others is = append_assoc bytes (spelled_piece p) (spelled_pieces others) ∙ ap (λ (ps : List Run). bytes ++ spelled_pieces ps) (sym is)

@@ -20,5 +20,5 @@ pub record IsHeard (s : Incoming) (rest buffer : List ℕ) (first ended : Bool) 
 abbrev pub clock_in : Heard → Option (List (ℕ × ℕ))
 clock_in (Hello replica) = None
 clock_in (Have clock) = Some clock
-clock_in (Ops ops) = None
+clock_in (Ops pieces) = None
 clock_in Bye = None

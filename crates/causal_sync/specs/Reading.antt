@@ -4,11 +4,12 @@ use Rattle.std.specs.Prelude.{Ok, Err, nat_lt, ◌==◌, if◌then◌else◌}
 use Rattle.std.specs.Int.{w16, is_in_range}
 use Rattle.fixed_numbers.specs.declared.limits.TheConstants.{MAX_TOLD}
 use Rattle.fixed_numbers.specs.declared.sizes.TheConstants.{MAX_CONTENT}
-use Rattle.op_model.specs.declared.op.Op.{Op}
+use Rattle.op_pieces.specs.Pieces.{Run}
 use Rattle.change_codec.specs.declared.codec_error.CodecError.{CodecError}
 use Rattle.change_codec.specs.Reading.{number_at, replica_at, deps_at}
-use Rattle.change_codec.specs.declared.format.Format.TheVariants.{First}
-use Rattle.change_codec.specs.Record.{length_at, taken}
+use Rattle.change_codec.specs.declared.format.Format.TheVariants.{Third}
+use Rattle.change_codec.specs.Record.{length_at}
+use Rattle.piece_codec.specs.Record.{taken_piece}
 use Rattle.causal_sync.specs.declared.heard.Heard.{Heard}
 use Rattle.causal_sync.specs.declared.heard.Heard.TheVariants.{Hello, Have, Ops, Bye}
 use Rattle.causal_sync.specs.declared.link_error.LinkError.{LinkError}
@@ -34,12 +35,12 @@ unfoldable pub tag_at : ℕ → LinkError → List ℕ → Result (List ℕ) Lin
 tag_at tag fault [] = Err fault
 tag_at tag fault (b ∷ rest) = if b == tag then Ok rest else Err fault
 
--- type 1 and format 1, and the bytes behind them
+-- type 1 and format 3, and the bytes behind them
 unfoldable pub greeting_at : List ℕ → Result (List ℕ) LinkError
 greeting_at content = do
   behind ← tag_at 1 BadHello content
   format ← or_fault BadHello (number_at w16 behind)
-  if format.0 == 1 then Ok format.1 else Err BadHello
+  if format.0 == 3 then Ok format.1 else Err BadHello
 
 -- a replica that isn't nil, and nothing behind it
 unfoldable pub name_at : List ℕ → Result ℕ LinkError
@@ -53,7 +54,7 @@ other_at own bytes = do
   replica ← name_at bytes
   if replica == own then Err BadHello else Ok (Hello replica)
 
--- a HELLO of format 1 of another replica; whatever else is there is a bad hello
+-- a HELLO of format 3 of another replica; whatever else is there is a bad hello
 unfoldable pub hello_at : ℕ → List ℕ → Result Heard LinkError
 hello_at own content = greeting_at content >>= other_at own
 
@@ -65,17 +66,17 @@ have_at payload = do
   Ok (Have clock)
 
 -- a whole record, and the bytes behind it; one that isn't whole is a bad frame
-abbrev pub behind : List ℕ → Result (Option (Op × ℕ)) CodecError → Result (Op × List ℕ) LinkError
+abbrev pub behind : List ℕ → Result (Option (Run × ℕ)) CodecError → Result (Run × List ℕ) LinkError
 behind bytes (Ok (Some found)) = Ok (found.0, drop found.1 bytes)
 behind bytes (Ok None) = Err BadFrame
 behind bytes (Err e) = Err (Record e)
 
--- a record at the front, without a token
-unfoldable pub record_at : List ℕ → Result (Op × List ℕ) LinkError
-record_at bytes = behind bytes (taken First bytes)
+-- the record of a piece at the front
+unfoldable pub record_at : List ℕ → Result (Run × List ℕ) LinkError
+record_at bytes = behind bytes (taken_piece Third bytes)
 
 -- this many records, and nothing behind them
-unfoldable pub records_at : ℕ → List ℕ → Result (List Op) LinkError
+unfoldable pub records_at : ℕ → List ℕ → Result (List Run) LinkError
 records_at zero bytes = if length bytes == 0 then Ok [] else Err BadFrame
 records_at (suc n) bytes = do
   first ← record_at bytes
@@ -92,8 +93,8 @@ count_at payload = do
 unfoldable pub ops_at : List ℕ → Result Heard LinkError
 ops_at payload = do
   count ← count_at payload
-  ops ← records_at count.0 count.1
-  Ok (Ops ops)
+  pieces ← records_at count.0 count.1
+  Ok (Ops pieces)
 
 -- a frame behind the first: its type, and what it says
 unfoldable pub later_at : List ℕ → Result Heard LinkError

@@ -1,6 +1,7 @@
 -- A link, as contracts see it.
 use Rattle.std.specs.Prelude.{◌≡◌, ℕ, Bool, true, false, ◌||◌, List, [], ◌∷◌, ◌++◌, Option, Some, None, Result, Ok, Err}
 use Rattle.op_model.specs.declared.op.Op.{Op}
+use Rattle.op_pieces.specs.Cutting.{cut}
 use Rattle.causal_sync.specs.declared.heard.Heard.{Heard}
 use Rattle.causal_sync.specs.declared.heard.Heard.TheVariants.{Hello, Have, Ops, Bye}
 use Rattle.causal_sync.specs.declared.link_error.LinkError.{LinkError}
@@ -71,14 +72,14 @@ pub record TakesBytes (old new : Incoming) (bytes : List ℕ) : Type 0 where
 abbrev pub base_after : List (ℕ × ℕ) → Heard → List (ℕ × ℕ)
 base_after base (Hello replica) = base
 base_after base (Have clock) = clock
-base_after base (Ops ops) = base
+base_after base (Ops pieces) = base
 base_after base Bye = base
 
 -- it is a HAVE
 abbrev pub is_have : Heard → Bool
 is_have (Hello replica) = false
 is_have (Have clock) = true
-is_have (Ops ops) = false
+is_have (Ops pieces) = false
 is_have Bye = false
 
 -- a link that has heard nothing, and said HELLO
@@ -115,12 +116,12 @@ said s frame =
       has_said_bye = s.has_said_bye || is_bye frame;
     }
 
--- the operations were said, and the base is joined with them
+-- the operations were said, cut into pieces, and the base is joined with them
 pub record Sends (old new : LinkState) (ops : List Op) : Type 0 where
   pub heard : new.heard ≡ old.heard
   pub base : sent old.base ops ≡ Some new.base
   pub has_heard_have : new.has_heard_have ≡ old.has_heard_have
-  pub out : new.out ≡ old.out ++ frame_bytes (Ops ops)
+  pub out : new.out ≡ old.out ++ frame_bytes (Ops (cut ops))
   pub has_said_bye : new.has_said_bye ≡ old.has_said_bye
 
 -- the link with nothing said that isn't taken

@@ -3,7 +3,7 @@ ghost use Rattle.fixed_numbers.specs.declared.limits.TheConstants.{MAX_TOLD};
 ghost use Rattle.causal_sync.specs.Frames.{is_bye};
 
 use op_ids::{Clock, ReplicaId};
-use op_model::Op;
+use op_pieces::Piece;
 use std::marker::Model;
 
 /// What a peer says in one frame.
@@ -19,50 +19,50 @@ pub enum Heard {
     Bye,
 }
 
-/// The operations of one frame, in their order: 1 to `MAX_TOLD`. Contracts see the list.
+/// The operations of one frame, in their order: 1 to `MAX_TOLD` pieces. Contracts see the pieces.
 #[derive(Debug, Drop)]
 pub struct Ops {
-    ops: Vec<Op>,
+    pieces: Vec<Piece>,
 }
 
 impl Model for Ops {
     ghost use Rattle.std.specs.Prelude.{List, length, ◌≤◌};
     ghost use Rattle.fixed_numbers.specs.declared.limits.TheConstants.{MAX_TOLD};
-    ghost use Rattle.op_model.specs.declared.op.Op.{Op};
+    ghost use Rattle.op_pieces.specs.Pieces.{Run};
 
-    ghost Value = { List Op };
+    ghost Value = { List Run };
 
-    ghost view = { λ o. o.ops.items };
+    ghost view = { λ o. o.pieces.items };
 
-    ghost invariant = { λ o. (1 ≤ length o.ops.items) × (length o.ops.items ≤ MAX_TOLD) };
+    ghost invariant = { λ o. (1 ≤ length o.pieces.items) × (length o.pieces.items ≤ MAX_TOLD) };
 }
 
 impl Ops {
-    /// These operations.
-    pub(crate) fn new(ops: Vec<Op>) -> Ops
-        requires some { 1 ≤ length ops.items }
-        requires most { length ops.items ≤ MAX_TOLD }
-        ensures { result ≡ ops.items }
+    /// The operations of these pieces.
+    pub(crate) fn new(pieces: Vec<Piece>) -> Ops
+        requires some { 1 ≤ length pieces.items }
+        requires most { length pieces.items ≤ MAX_TOLD }
+        ensures { result ≡ pieces.items }
     {
-        Ops { ops }
+        Ops { pieces }
     }
 
-    /// The operations, in order. Constant.
-    pub fn as_slice(&self) -> &[Op]
+    /// The pieces, in order. Constant.
+    pub fn as_slice(&self) -> &[Piece]
         ensures same { result.now ≡ self.now }
         ensures some { 1 ≤ length result.now }
         ensures most { length result.now ≤ MAX_TOLD }
     {
-        &self.ops
+        &self.pieces
     }
 
-    /// The operations, in order. Takes no memory.
-    pub fn into_vec(self) -> Vec<Op>
+    /// The pieces, in order. Takes no memory.
+    pub fn into_vec(self) -> Vec<Piece>
         ensures same { result.items ≡ self }
         ensures some { 1 ≤ length result.items }
         ensures most { length result.items ≤ MAX_TOLD }
     {
-        self.ops
+        self.pieces
     }
 }
 

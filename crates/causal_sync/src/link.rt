@@ -18,6 +18,7 @@ use crate::put_frame::{spelled_bye, spelled_have, spelled_hello, spelled_ops};
 use crate::sent::clock_with;
 use op_ids::{Clock, ClockError, ReplicaId};
 use op_model::Op;
+use op_pieces::cut;
 use std::alloc::{AllocError, Global};
 use std::marker::Model;
 use std::mem;
@@ -116,10 +117,10 @@ impl Link {
         Ok(())
     }
 
-    /// Says 1 to `MAX_TOLD` operations, and counts them as had by the peer. `Closed` (27) after a
-    /// fault or a BYE of one's own, before all else; `Limit` (7) where the base would name a
-    /// seventeenth replica or hold a count above 2^24; `Memory` (1), which may stand in place of 7.
-    /// A refusal changes nothing.
+    /// Says 1 to `MAX_TOLD` operations, cut into pieces, and counts them as had by the peer.
+    /// `Closed` (27) after a fault or a BYE of one's own, before all else; `Limit` (7) where the
+    /// base would name a seventeenth replica or hold a count above 2^24; `Memory` (1), which may
+    /// stand in place of 7. A refusal changes nothing.
     pub fn say_ops(&mut self, ops: &[Op]) -> Result<(), LinkError>
         requires some { 1 ≤ length ops.now }
         requires most { length ops.now ≤ MAX_TOLD }
@@ -135,7 +136,7 @@ impl Link {
         let alloc = *self.out.allocator();
         match clock_with(alloc, &self.base, ops) {
             Ok(clock) => {
-                let bytes = spelled_ops(alloc, ops)?;
+                let bytes = spelled_ops(alloc, &cut(alloc, ops)?)?;
                 self.out.extend_from_slice(&bytes)?;
                 self.base = clock;
                 Ok(())

@@ -21,7 +21,7 @@ pub enum LinkError {
     /// that breaks its rule, or a record that isn't whole within its frame.
     #[error("bad frame")]
     BadFrame,
-    /// 26: the first frame isn't a HELLO of format 1 of another replica, or a later one is a HELLO.
+    /// 26: the first frame isn't a HELLO of format 3 of another replica, or a later one is a HELLO.
     #[error("bad hello")]
     BadHello,
     /// 27: the link has ended.

@@ -5,11 +5,12 @@ ghost use Rattle.fixed_numbers.specs.declared.limits.TheConstants.{MAX_TOLD};
 ghost use Rattle.causal_sync.specs.declared.heard.Heard.TheVariants as frame;
 ghost use Rattle.causal_sync.specs.Frames.{frame_bytes};
 ghost use Rattle.change_codec.specs.Spelling.{number_bytes};
-ghost use Rattle.op_model.specs.Records.{stream_length};
+ghost use Rattle.piece_codec.specs.Stream.{spelled_pieces};
 
-use change_codec::{put_clock, put_ops};
+use change_codec::put_clock;
 use op_ids::{Clock, ReplicaId};
-use op_model::Op;
+use op_pieces::Piece;
+use piece_codec::{every_piece_has_a_spelling, put_piece};
 use std::alloc::{AllocError, Global};
 
 /// The spelling of a HELLO. An error is want of memory (1).
@@ -17,7 +18,7 @@ pub(crate) fn spelled_hello(alloc: Global, own: ReplicaId) -> Result<Vec<u8>, Al
     ensures { IfOk result (λ bytes. bytes.items ≡ frame_bytes (frame.Hello own)) }
 {
     let mut bytes = begun(alloc, 19)?;
-    bytes.extend_from_slice(&[1, 0, 1])?;
+    bytes.extend_from_slice(&[1, 0, 3])?;
     bytes.extend_from_slice(&own.bytes())?;
     Ok(bytes)
 }
@@ -32,15 +33,16 @@ pub(crate) fn spelled_have(alloc: Global, clock: &Clock) -> Result<Vec<u8>, Allo
     Ok(bytes)
 }
 
-/// The spelling of an OPS. An error is want of memory (1).
-pub(crate) fn spelled_ops(alloc: Global, ops: &[Op]) -> Result<Vec<u8>, AllocError>
-    requires { length ops.now ≤ MAX_TOLD }
-    ensures { IfOk result (λ bytes. bytes.items ≡ frame_bytes (frame.Ops ops.now)) }
+/// The spelling of an OPS of these pieces. An error is want of memory (1).
+pub(crate) fn spelled_ops(alloc: Global, pieces: &[Piece]) -> Result<Vec<u8>, AllocError>
+    requires { length pieces.now ≤ MAX_TOLD }
+    ensures { IfOk result (λ bytes. bytes.items ≡ frame_bytes (frame.Ops pieces.now)) }
 {
-    let mut bytes = begun(alloc, 3 + records_len(ops))?;
+    let records = spelled_records(alloc, pieces)?;
+    let mut bytes = begun(alloc, 3 + records.len())?;
     bytes.extend_from_slice(&[3])?;
-    bytes.extend_from_slice(&(ops.len() as u16).to_be_bytes())?;
-    put_ops(ops, &mut bytes)?;
+    bytes.extend_from_slice(&(pieces.len() as u16).to_be_bytes())?;
+    bytes.extend_from_slice(&records)?;
     Ok(bytes)
 }
 
@@ -64,15 +66,17 @@ fn begun(alloc: Global, len: usize) -> Result<Vec<u8>, AllocError>
     Ok(bytes)
 }
 
-// How many bytes the records of some operations take.
-fn records_len(ops: &[Op]) -> usize
-    requires { length ops.now ≤ MAX_TOLD }
-    ensures value { result ≡ stream_length ops.now }
-    ensures within { result ≤ 96704 }
+// The records of some pieces, one after another.
+fn spelled_records(alloc: Global, pieces: &[Piece]) -> Result<Vec<u8>, AllocError>
+    requires { length pieces.now ≤ MAX_TOLD }
+    ensures value { IfOk result (λ records. records.items ≡ spelled_pieces pieces.now) }
+    ensures within { IfOk result (λ records. length records.items ≤ 96704) }
 {
-    let mut total = 0;
-    for op in ops {
-        total += op.record_length() as usize;
+    let mut records = Vec::new(alloc);
+    for piece in pieces {
+        // From this the proof has how long a record is at most.
+        every_piece_has_a_spelling(piece);
+        put_piece(piece, &mut records)?;
     }
-    total
+    Ok(records)
 }

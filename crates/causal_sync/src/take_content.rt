@@ -9,10 +9,11 @@ ghost use Rattle.causal_sync.specs.Taking.{Gives, Reads};
 
 use crate::heard::{Heard, Ops};
 use crate::link_error::LinkError;
-use change_codec::{CodecError, Format, take_clock, take_op};
+use change_codec::{CodecError, Format, take_clock};
 use fixed_numbers::limits::MAX_TOLD;
 use op_ids::ReplicaId;
-use op_model::Op;
+use op_pieces::Piece;
+use piece_codec::take_piece;
 use std::alloc::Global;
 
 /// What the content of a frame says, where it is the first one or a later one.
@@ -70,7 +71,7 @@ fn take_greeting(content: &[u8]) -> Result<&[u8], LinkError>
     let Some((format, rest)) = payload.split_first_chunk::<2>() else {
         return Err(LinkError::BadHello);
     };
-    if u16::from_be_bytes(*format) != 1 {
+    if u16::from_be_bytes(*format) != 3 {
         return Err(LinkError::BadHello);
     }
     Ok(rest)
@@ -125,7 +126,7 @@ fn take_records(alloc: Global, payload: &[u8]) -> Result<Heard, LinkError>
 {
     match take_count(payload) {
         Ok((count, records)) => match take_each(alloc, count, records) {
-            Ok(ops) => Ok(Heard::Ops(Ops::new(ops))),
+            Ok(pieces) => Ok(Heard::Ops(Ops::new(pieces))),
             Err(fault) => Err(fault),
         },
         Err(fault) => Err(fault),
@@ -148,17 +149,17 @@ fn take_count(payload: &[u8]) -> Result<(u16, &[u8]), LinkError>
 }
 
 // This many records, and nothing behind them. One pass.
-fn take_each(alloc: Global, count: u16, records: &[u8]) -> Result<Vec<Op>, LinkError>
-    ensures { Gives (λ ops. ops.items) result (records_at count records.now) }
+fn take_each(alloc: Global, count: u16, records: &[u8]) -> Result<Vec<Piece>, LinkError>
+    ensures { Gives (λ pieces. pieces.items) result (records_at count records.now) }
 {
-    let Ok(mut ops) = Vec::with_capacity(alloc, count as usize) else {
+    let Ok(mut pieces) = Vec::with_capacity(alloc, count as usize) else {
         return Err(LinkError::Memory);
     };
     let mut rest = records;
     for _ in 0..count {
         match take_record(alloc, rest) {
-            Ok((op, after)) => {
-                ops.push_reserved(op);
+            Ok((piece, after)) => {
+                pieces.push_reserved(piece);
                 rest = after;
             }
             Err(fault) => return Err(fault),
@@ -167,16 +168,16 @@ fn take_each(alloc: Global, count: u16, records: &[u8]) -> Result<Vec<Op>, LinkE
     if !rest.is_empty() {
         return Err(LinkError::BadFrame);
     }
-    Ok(ops)
+    Ok(pieces)
 }
 
 // A whole record, and the bytes behind it.
 #[tactic(auto, unfolding(crate::specs::Reading::record_at))]
-fn take_record(alloc: Global, bytes: &[u8]) -> Result<(Op, &[u8]), LinkError>
+fn take_record(alloc: Global, bytes: &[u8]) -> Result<(Piece, &[u8]), LinkError>
     ensures { Gives (λ x. (x.0, x.1.now)) result (record_at bytes.now) }
 {
-    match take_op(alloc, Format::First, bytes) {
-        Ok(Some((op, len))) => Ok((op, bytes.split_at(len).1)),
+    match take_piece(alloc, Format::Third, bytes) {
+        Ok(Some((piece, len))) => Ok((piece, bytes.split_at(len).1)),
         Ok(None) => Err(LinkError::BadFrame),
         Err(fault) => Err(link_error(fault)),
     }

@@ -19,7 +19,7 @@ counted cells all visible same many some few = record {
 }
 
 -- what a reader sees of one list behind another
-shown_both : (xs ys : List Cell) → length (shown (xs ++ ys)) ≡ length (shown xs) + length (shown ys)
+pub shown_both : (xs ys : List Cell) → length (shown (xs ++ ys)) ≡ length (shown xs) + length (shown ys)
 shown_both xs ys = ap length (filter-append (λ c. not c.is_removed) xs ys) ∙ length-append (shown xs) (shown ys)
 
 -- cells that are cut in two, counted

@@ -46,7 +46,7 @@ pub behind_all : (cs : List Cell) (n : ℕ) → length (shown cs) < n → behind
 behind_all cs n past = ap (λ ds. behind_shown ds n) (sym (append-nil cs)) ∙ behind_past cs [] n past
 
 -- a reader sees as many characters of a document as of its content
-many_shown : (ops : List Op) (doc : ℕ) (cells : List Cell) → cells ≡ content_of ops doc → length (shown cells) ≡ length (visible ops doc)
+pub many_shown : (ops : List Op) (doc : ℕ) (cells : List Cell) → cells ≡ content_of ops doc → length (shown cells) ≡ length (visible ops doc)
 many_shown ops doc cells same =
     ap (λ cs. length (shown cs)) same ∙ (ap length (shown-map ops doc (walk ops doc)) ∙ length-map (visible ops doc) (cell_of ops doc))
 

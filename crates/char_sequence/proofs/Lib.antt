@@ -16,6 +16,9 @@ pub mod IndexLemmas
 pub mod ApplyLemmas
 pub mod ChunkLemmas
 pub mod ReplacedLemmas
+pub mod SumLemmas
+pub mod GroupLemmas
+pub mod GroupSearchLemmas
 pub mod CuttingLemmas
 pub mod HoldsLemmas
 pub mod KnownLemmas

@@ -29,7 +29,7 @@ none_read (k ∷ ks) zero none = absurd (cc)
 none_read (k ∷ ks) (suc i) none = let rest = none_read ks i none in omega arith
 
 -- chunks of at least 256 cells
-many_cells : (held : ChunkCells) → AreSized 256 held → 256 * length held ≤ length (cells_of held)
+pub many_cells : (held : ChunkCells) → AreSized 256 held → 256 * length held ≤ length (cells_of held)
 many_cells [] sized = omega arith
 many_cells (k ∷ ks) sized =
     let rest = many_cells ks sized.2 in

@@ -5,6 +5,7 @@ pub mod Gaps
 pub mod Landing
 pub mod Links
 pub mod Reading
+pub mod Sums
 pub mod Content
 pub mod Refusal
 pub mod Weave

@@ -73,7 +73,8 @@ impl Chunk {
 
     /// How many of its cells a reader sees. Constant.
     pub fn shown(&self) -> usize
-        ensures { result ≡ length (shown_of self.now) }
+        ensures shown { result ≡ length (shown_of self.now) }
+        ensures few { result ≤ MAX_CHUNK }
     {
         self.shown
     }
@@ -117,7 +118,7 @@ impl Chunk {
 }
 
 /// How many of these cells a reader sees. A step for each.
-fn shown_in(cells: &[Cell]) -> usize
+pub fn shown_in(cells: &[Cell]) -> usize
     ensures { result ≡ count_by (λ c. not c.is_removed) cells.now }
 {
     cells.iter().filter(|cell| !cell.is_removed).count()

@@ -1,15 +1,19 @@
-ghost use Rattle.std.specs.Prelude.{◌≤◌, ◌≡◌, ◌++◌, ◌∷◌, [], ◌<◌, ◌+◌, ◌^◌, length};
+ghost use Rattle.std.specs.Prelude.{◌≤◌, ◌≡◌, ◌++◌, ◌∷◌, [], ◌<◌, ◌+◌, ◌*◌, ◌^◌, length};
 ghost use Rattle.std.specs.Prelude.{Some, true, OnOk, OnErr};
 ghost use Rattle.std.proofs.Common.{get_or};
 ghost use Rattle.char_sequence.specs.Chunks.{size_at, cell_at, cells_of, before, from, AreChunks};
 ghost use Rattle.char_sequence.specs.Chunks.{IsPlace};
+ghost use Rattle.char_sequence.specs.Cells.{shown as shown_of};
 ghost use Rattle.char_sequence.specs.declared.cell.Cell as cell;
+ghost use Rattle.char_sequence.specs.Sums.{seen_in_group};
 ghost use Rattle.char_sequence.specs.declared.chunk.TheConstants.{MAX_CHUNK};
+ghost use Rattle.char_sequence.specs.declared.groups.TheConstants.{GROUP};
 
 use crate::cell::Cell;
-use crate::chunk::Chunk;
+use crate::chunk::{Chunk, shown_in};
 use crate::chunk_size::ChunkSize;
 use crate::cutting::{cells_at, cut, joined, replace};
+use crate::groups::{GROUP, count, recount};
 use crate::place::Place;
 use op_model::Ticks;
 use std::alloc::{AllocError, Global};
@@ -24,17 +28,23 @@ const MOST_CHUNKS: usize = 18_014_398_509_481_984;
 #[derive(Debug, Drop)]
 pub struct Chunks {
     chunks: Vec<Chunk>,
+    /// How many of their cells a reader sees.
+    shown: usize,
+    /// How many of the cells of each whole 64 chunks a reader sees.
+    groups: Vec<usize>,
 }
 
 impl Model for Chunks {
-    ghost use Rattle.std.specs.Prelude.{◌≤◌, ◌^◌, length};
+    ghost use Rattle.std.specs.Prelude.{◌≡◌, ◌≤◌, ◌^◌, length};
     ghost use Rattle.char_sequence.specs.Chunks.{ChunkCells, AreChunks};
+    ghost use Rattle.char_sequence.specs.Sums.{seen, AreGroups};
 
     ghost Value = { ChunkCells };
 
     ghost view = { λ c. c.chunks.items };
 
-    ghost invariant = { λ c. AreChunks c.chunks.items × (length c.chunks.items ≤ 2 ^ 54) };
+    ghost invariant = { λ c. AreChunks c.chunks.items × (length c.chunks.items ≤ 2 ^ 54)
+        × (c.shown ≡ seen c.chunks.items) × AreGroups c.groups.items c.chunks.items };
 }
 
 impl Chunks {
@@ -44,12 +54,46 @@ impl Chunks {
     {
         Chunks {
             chunks: Vec::new(alloc),
+            shown: 0,
+            groups: Vec::new(alloc),
         }
     }
 
     /// The allocator that it keeps.
     pub fn allocator(&self) -> Global {
         *self.chunks.allocator()
+    }
+
+    /// How many chunks there are. Constant.
+    pub fn len(&self) -> usize
+        ensures { result ≡ length self.now }
+    {
+        self.chunks.len()
+    }
+
+    /// How many whole 64 chunks there are. Constant.
+    pub fn groups(&self) -> usize
+        ensures whole { GROUP * result ≤ length self.now }
+        ensures rest { length self.now < GROUP * result + GROUP }
+    {
+        self.groups.len()
+    }
+
+    /// How many of the cells of the g-th 64 chunks a reader sees. One tick. Constant.
+    pub fn group(&self, g: usize, ticks: &mut Ticks) -> usize
+        requires { GROUP * g + GROUP ≤ length self.now }
+        ensures seen { result ≡ seen_in_group self.now g }
+        ensures tick { ticks.new ≡ ticks.old + 1 }
+    {
+        ticks.tick();
+        self.groups[g]
+    }
+
+    /// How many of its cells a reader sees. Constant.
+    pub fn shown(&self) -> usize
+        ensures { result ≡ length (shown_of (cells_of self.now)) }
+    {
+        self.shown
     }
 
     /// What holds of all chunks: none is empty, none has over 512 cells, and where there are
@@ -98,7 +142,12 @@ impl Chunks {
         }
         if let [cell] = cells {
             if self.has_room(i) {
-                self.chunks[i].insert(j, *cell)?;
+                let chunk = &mut self.chunks[i];
+                let before = chunk.shown();
+                chunk.insert(j, *cell)?;
+                let after = chunk.shown();
+                self.shown = self.shown - before + after;
+                recount(&mut self.groups, i, before, after);
                 return Ok(0);
             }
         }
@@ -131,7 +180,12 @@ impl Chunks {
         if cut.len() > MOST_CHUNKS - before {
             return Err(AllocError);
         }
+        let kept = if i < before { before - 1 } else { before };
+        let mut groups = vec![in alloc; 0; (kept + cut.len()) / GROUP]?;
         replace(&mut self.chunks, i, cut)?;
+        count(&mut groups, &self.chunks);
+        self.groups = groups;
+        self.shown += shown_in(cells);
         Ok(self.chunks.len().saturating_sub(before))
     }
 
@@ -166,6 +220,11 @@ impl Chunks {
         ensures { (c : cell.Cell) → cell_at self.old i j ≡ Some c → cells_of self.new
             ≡ before self.old i j ++ (record c { is_removed = true }) ∷ from self.old i (j + 1) }
     {
-        self.chunks[i].remove(j);
+        let chunk = &mut self.chunks[i];
+        let before = chunk.shown();
+        chunk.remove(j);
+        let after = chunk.shown();
+        self.shown = self.shown - before + after;
+        recount(&mut self.groups, i, before, after);
     }
 }

@@ -12,6 +12,7 @@ mod ends_after;
 mod error;
 mod finding;
 mod gap;
+mod groups;
 mod hidden;
 mod hints;
 mod landing;

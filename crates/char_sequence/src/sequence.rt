@@ -1,4 +1,4 @@
-ghost use Rattle.std.specs.Prelude.{◌≡◌, ◌+◌, ◌≤◌, ◌<◌, ◌/◌, ◌^◌, ℕ, List, Some, map, length, take, drop, false, true};
+ghost use Rattle.std.specs.Prelude.{◌≡◌, ◌+◌, ◌*◌, ◌≤◌, ◌<◌, ◌/◌, ◌^◌, ℕ, List, Some, map, length, take, drop, false, true};
 ghost use Rattle.std.specs.Prelude.{is_some, nat_le, MatchOption, IfOk, IfSome};
 ghost use Rattle.char_sequence.specs.Chunks.{cells_of, cell_at, size_at, AreChunks};
 ghost use Rattle.char_sequence.specs.Content.{empty, is_there, Holds};
@@ -10,6 +10,7 @@ ghost use Rattle.op_model.specs.declared.op.Op.{Op};
 ghost use Rattle.op_model.specs.Text.{visible as seen, text as text_of};
 ghost use Rattle.op_model.specs.Made.{id_at, id_before, tombstones_at};
 ghost use Rattle.char_sequence.specs.declared.chunk.TheConstants.{MAX_CHUNK, MIN_CHUNK};
+ghost use Rattle.char_sequence.specs.declared.groups.TheConstants.{GROUP};
 
 use crate::cell::Cell;
 use crate::chunk_size::ChunkSize;
@@ -106,6 +107,14 @@ impl Sequence {
         Some(index(&self.chunks, &found))
     }
 
+    /// Whether a reader sees at least `count` characters. Takes no memory. Constant.
+    pub fn shows(&self, count: usize) -> bool
+        ensures { (ops : List Op) (doc : ℕ) → Holds self.now ops doc
+            → result ≡ nat_le count (length (seen ops doc)) }
+    {
+        count <= self.chunks.shown()
+    }
+
     /// The k-th character that a reader sees, counted from 0, or `None` past the last. Takes no
     /// memory. Costs what `visible_in` does.
     pub fn visible(&self, k: usize) -> Option<OpId>
@@ -115,13 +124,16 @@ impl Sequence {
         self.visible_in(k, &mut Ticks::new())
     }
 
-    /// The same. Among n characters, tombstones counted, it reads at most 1 + n/256 chunks and the
-    /// characters of one of them: a tick for each.
+    /// The same. Among n characters, tombstones counted, it reads at most 1 + n/256 counts and the
+    /// characters of one chunk: a tick for each. The counts are at most 66 + n/16384 too, since
+    /// those of 64 chunks are kept as one.
     pub fn visible_in(&self, k: usize, ticks: &mut Ticks) -> Option<OpId>
         ensures found { (ops : List Op) (doc : ℕ) → Holds self.now ops doc
             → result ≡ id_at (seen ops doc) k }
         ensures ticks { ticks.new
             ≤ ticks.old + (1 + length (cells_of self.now) / MIN_CHUNK + MAX_CHUNK) }
+        ensures fewer { ticks.new ≤ ticks.old
+            + (length (cells_of self.now) / (MIN_CHUNK * GROUP) + (2 + GROUP + MAX_CHUNK)) }
         ensures rising { ticks.old ≤ ticks.new }
     {
         match shown(&self.chunks, k, ticks) {

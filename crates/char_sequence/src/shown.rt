@@ -1,15 +1,18 @@
 //! Cells that a reader sees.
-ghost use Rattle.std.specs.Prelude.{◌≡◌, ◌+◌, ◌≤◌, ◌<◌, ◌/◌, ◌++◌, ◌∷◌, [], length, map, take, drop};
+ghost use Rattle.std.specs.Prelude.{◌≡◌, ◌+◌, ◌*◌, ◌≤◌, ◌<◌, ◌/◌, ◌++◌, ◌∷◌, [], length, map, take, drop};
 ghost use Rattle.std.specs.Prelude.{None, IfOk, OnOk, MatchOption};
 ghost use Rattle.std.proofs.Common.{get_or};
 ghost use Rattle.char_sequence.specs.Cells.{behind_shown, shown as shown_of, shown_at};
 ghost use Rattle.char_sequence.specs.Chunks.{cells_of, from as from_of, IsPlace};
 ghost use Rattle.char_sequence.specs.Gaps.{IsGap, IsSeen};
+ghost use Rattle.char_sequence.specs.Sums.{StartsAt};
 ghost use Rattle.char_sequence.specs.declared.chunk.TheConstants.{MAX_CHUNK, MIN_CHUNK};
+ghost use Rattle.char_sequence.specs.declared.groups.TheConstants.{GROUP};
 
 use crate::cell::Cell;
 use crate::chunks::Chunks;
 use crate::gap::{Gap, Seen};
+use crate::groups::GROUP;
 use crate::hidden::past_hidden;
 use crate::place::Place;
 use crate::reading::next;
@@ -17,18 +20,21 @@ use op_ids::OpId;
 use op_model::Ticks;
 use std::alloc::AllocError;
 
-/// The k-th cell that a reader sees, counted from 0: a tick for each chunk up to its own, and for
-/// each cell of that one.
+/// The k-th cell that a reader sees, counted from 0: a tick for each whole 64 chunks before it, for
+/// each chunk of its own 64, and for each cell of its chunk.
 pub fn shown(chunks: &Chunks, k: usize, ticks: &mut Ticks) -> Option<Seen>
     ensures found { MatchOption result (shown_at (cells_of chunks.now) k ≡ None)
         (IsSeen chunks.now 0 0 k) }
     ensures ticks { ticks.new
         ≤ ticks.old + (1 + length (cells_of chunks.now) / MIN_CHUNK + MAX_CHUNK) }
+    ensures fewer { ticks.new ≤ ticks.old + (length (cells_of chunks.now) / (MIN_CHUNK * GROUP)
+        + (2 + GROUP + MAX_CHUNK)) }
     ensures rising { ticks.old ≤ ticks.new }
 {
     chunks.are_sized();
-    let mut left = k;
-    let mut i = 0;
+    let start = past_groups(chunks, k, ticks);
+    let mut left = start.left;
+    let mut i = start.chunk;
     while let Some(size) = chunks.chunk(i, ticks) {
         if left < size.shown {
             return shown_in(chunks, i, size.cells, left, ticks);
@@ -37,6 +43,40 @@ pub fn shown(chunks: &Chunks, k: usize, ticks: &mut Ticks) -> Option<Seen>
         i += 1;
     }
     None
+}
+
+/// A chunk, and how many cells from there on a reader sees before one.
+#[derive(Clone, Copy)]
+struct Start {
+    chunk: usize,
+    left: usize,
+}
+
+/// Passes the whole 64 chunks before the k-th cell that a reader sees: a tick for each, and for
+/// those in which it stands.
+fn past_groups(chunks: &Chunks, k: usize, ticks: &mut Ticks) -> Start
+    ensures start { StartsAt chunks.now k result.chunk result.left }
+    ensures ticks { ticks.new ≤ ticks.old + (result.chunk / GROUP + 1) }
+    ensures none { length chunks.now < GROUP → ticks.new ≡ ticks.old }
+    ensures rising { ticks.old ≤ ticks.new }
+{
+    chunks.are_sized();
+    let groups = chunks.groups();
+    let mut left = k;
+    for g in 0..groups {
+        let seen = chunks.group(g, ticks);
+        if left < seen {
+            return Start {
+                chunk: GROUP * g,
+                left,
+            };
+        }
+        left -= seen;
+    }
+    Start {
+        chunk: GROUP * groups,
+        left,
+    }
 }
 
 /// The k-th cell that a reader sees from a chunk on, which is one of that chunk.

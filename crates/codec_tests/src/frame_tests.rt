@@ -21,9 +21,9 @@ fn refusal(alloc: Global, own: u8, pieces: &str) -> Result<(u8, usize), Fail> {
 #[derive(Clone, Copy)]
 struct Hello<'a>(&'a str, u8, usize);
 
-const NIL_HELLO: &str = "00000013 01 0001 00000000000000000000000000000000";
+const NIL_HELLO: &str = "00000013 01 0003 00000000000000000000000000000000";
 
-const TWO_HELLOS: &str = "00000013 01 0001 A 00000013 01 0001 A";
+const TWO_HELLOS: &str = "00000013 01 0003 A 00000013 01 0003 A";
 
 #[test]
 fn bad_hellos_are_refused(rt: HostRuntime) -> Result<(), Fail> {
@@ -32,9 +32,11 @@ fn bad_hellos_are_refused(rt: HostRuntime) -> Result<(), Fail> {
     let hellos = [
         Hello(HELLO, 0, 23),
         Hello(BYE, 26, 5),
+        Hello("00000013 01 0001 A", 26, 23),
         Hello("00000013 01 0002 A", 26, 23),
-        Hello("00000014 01 0001 A 00", 26, 24),
-        Hello("00000003 01 0001", 26, 7),
+        Hello("00000013 01 0004 A", 26, 23),
+        Hello("00000014 01 0003 A 00", 26, 24),
+        Hello("00000003 01 0003", 26, 7),
         Hello(NIL_HELLO, 26, 23),
         Hello(TWO_HELLOS, 26, 46),
     ];
@@ -69,10 +71,16 @@ fn are_refused(rt: &impl Abort, alloc: Global, frames: &[Frame<'_>]) -> Result<(
 const FALLING: &str = "00000032 02 02 A 0000000000000001 A 0000000000000001";
 
 const ANOTHER_KIND: &str =
-    "0000002a 03 0001 00000023 05 00000001 0000000000000001 A 00 00 00000061";
+    "0000002a 03 0001 00000023 06 00000001 0000000000000001 A 00 00 00000061";
 
 const MORE_BEHIND: &str =
     "0000002b 03 0001 00000023 01 00000001 0000000000000001 A 00 00 00000061 00";
+
+const CUT_RUN: &str =
+    "0000002f 03 0001 00000029 05 00000001 0000000000000001 A 00 00 0002 00000061 000000";
+
+const RUN_OF_ONE: &str =
+    "00000030 03 0001 00000029 05 00000001 0000000000000001 A 00 00 0001 00000061 00000062";
 
 #[test]
 fn bad_frames_are_refused(rt: HostRuntime) -> Result<(), Fail> {
@@ -92,6 +100,17 @@ fn bad_frames_are_refused(rt: HostRuntime) -> Result<(), Fail> {
         Frame("00000007 03 0001 00000020", 30),
         Frame(ANOTHER_KIND, 31),
         Frame(MORE_BEHIND, 25),
+        Frame(CUT_RUN, 25),
+        Frame(RUN_OF_ONE, 32),
     ];
     are_refused(&rt, alloc, &frames)
+}
+
+const WITH_TOKEN: &str =
+    "0000003a 03 0001 00000033 11 00000001 0000000000000001 A 00 T 00 00000061";
+
+#[test]
+fn operations_with_a_token_are_heard(rt: HostRuntime) -> Result<(), Fail> {
+    assert_eq!(rt; later(rt.alloc(), WITH_TOKEN)?, 0);
+    Ok(())
 }

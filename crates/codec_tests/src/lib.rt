@@ -14,6 +14,8 @@ mod name_tests;
 #[cfg(test)]
 mod piece_tests;
 #[cfg(test)]
+mod read_tests;
+#[cfg(test)]
 mod record_tests;
 #[cfg(test)]
 mod refusal_tests;

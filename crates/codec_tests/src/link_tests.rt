@@ -1,7 +1,7 @@
 use crate::test_bytes::bytes_of;
-use crate::test_links::{BYE, EMPTY_HAVE, HAVE, HELLO, OPERATIONS, number, started};
+use crate::test_links::{BYE, EMPTY_HAVE, HAVE, HELLO, OPERATIONS, RUN, number, started};
 use crate::test_names::{id, replica};
-use causal_sync::{Heard, Link};
+use causal_sync::{Heard, Link, Ops};
 use op_ids::{Clock, OpId};
 use op_model::{Body, Op};
 use std::alloc::Global;
@@ -21,6 +21,20 @@ fn first_insert(alloc: Global) -> Result<Op, Fail> {
     })
 }
 
+/// The insert of "b" that is typed behind it.
+fn second_insert(alloc: Global) -> Result<Op, Fail> {
+    Ok(Op {
+        id: id(2)?,
+        doc: 1,
+        token: None,
+        deps: one_operation(alloc)?,
+        body: Body::Insert {
+            origin: Some(id(1)?),
+            value: 'b',
+        },
+    })
+}
+
 /// The clock of one operation of the replica.
 fn one_operation(alloc: Global) -> Result<Clock, Fail> {
     let mut clock = Clock::new(alloc);
@@ -28,12 +42,21 @@ fn one_operation(alloc: Global) -> Result<Clock, Fail> {
     Ok(clock)
 }
 
+/// Whether operations are the first insert, or both in one run.
+fn are_inserts(alloc: Global, ops: &Ops) -> Result<bool, Fail> {
+    let [piece] = ops.as_slice() else {
+        return Ok(false);
+    };
+    let is_first = *piece.first() == first_insert(alloc)?;
+    Ok(is_first && (piece.others().is_empty() || piece.others() == ['b'].as_slice()))
+}
+
 /// What was heard, of the frames of a conversation.
 fn name_of(alloc: Global, heard: &Heard) -> Result<&'static str, Fail> {
     let is_known = match heard {
         Heard::Hello(name) => *name == replica(1)?,
         Heard::Have(clock) => clock.is_empty() || *clock == one_operation(alloc)?,
-        Heard::Ops(ops) => ops.as_slice().len() == 1 && ops.as_slice()[0] == first_insert(alloc)?,
+        Heard::Ops(ops) => are_inserts(alloc, ops)?,
         Heard::Bye => true,
     };
     if !is_known {
@@ -46,7 +69,11 @@ fn name_of(alloc: Global, heard: &Heard) -> Result<&'static str, Fail> {
         } else {
             "have"
         },
-        Heard::Ops(_) => "operations",
+        Heard::Ops(ops) => if ops.as_slice()[0].others().is_empty() {
+            "operation"
+        } else {
+            "run"
+        },
         Heard::Bye => "bye",
     })
 }
@@ -72,7 +99,7 @@ fn hears(alloc: Global, link: &mut Link, names: &[&str]) -> Result<bool, Fail> {
 fn conversation(alloc: Global) -> Result<Vec<u8>, Fail> {
     bytes_of(
         alloc,
-        &format!(in alloc; "{HELLO} {EMPTY_HAVE} {HAVE} {OPERATIONS} {BYE}")?,
+        &format!(in alloc; "{HELLO} {EMPTY_HAVE} {HAVE} {OPERATIONS} {RUN} {BYE}")?,
     )
 }
 
@@ -84,7 +111,7 @@ fn hears_all(alloc: Global, pieces: &[&[u8]]) -> Result<bool, Fail> {
             return Ok(false);
         }
     }
-    let names = ["hello", "empty have", "have", "operations", "bye"];
+    let names = ["hello", "empty have", "have", "operation", "run", "bye"];
     Ok(link.held() == 0 && hears(alloc, &mut link, &names)? && number(link.feed(&[])) == 27)
 }
 
@@ -143,6 +170,17 @@ fn what_is_said_is_spelled(rt: HostRuntime) -> Result<(), Fail> {
     assert!(rt; sends(&mut link, &[]));
     assert_eq!(rt; link.base().get(one), 1);
     assert_eq!(rt; number(link.say_bye()), 27);
+    Ok(())
+}
+
+#[test]
+fn typed_operations_are_told_in_one_run(rt: HostRuntime) -> Result<(), Fail> {
+    let alloc = rt.alloc();
+    let mut link = started(alloc, 1)?;
+    let _hello = link.take_out();
+    link.say_ops(&[first_insert(alloc)?, second_insert(alloc)?])?;
+    assert!(rt; sends(&mut link, &bytes_of(alloc, RUN)?));
+    assert_eq!(rt; link.base().get(replica(1)?), 2);
     Ok(())
 }
 

@@ -65,3 +65,17 @@ fn a_piece_of_no_others_is_one_operation(rt: HostRuntime) -> Result<(), Fail> {
     assert!(rt; piece.others().is_empty());
     Ok(())
 }
+
+#[test]
+fn a_piece_stands_for_its_operations(rt: HostRuntime) -> Result<(), Fail> {
+    let alloc = rt.alloc();
+    let mut ops = Vec::new(alloc);
+    for counter in 1..=3 {
+        ops.push(typed(alloc, counter, 'a')?)?;
+    }
+    let mut pieces = cut(alloc, &ops)?;
+    let piece = pieces.pop().ok_or("no piece")?;
+    assert!(rt; pieces.is_empty());
+    assert_eq!(rt; piece.ops(alloc)?, ops);
+    Ok(())
+}

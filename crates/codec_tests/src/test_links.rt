@@ -4,7 +4,7 @@ use causal_sync::{Link, LinkError};
 use std::alloc::Global;
 use std::test::Fail;
 
-pub(crate) const HELLO: &str = "00000013 01 0001 A";
+pub(crate) const HELLO: &str = "00000013 01 0003 A";
 
 pub(crate) const EMPTY_HAVE: &str = "00000002 02 00";
 
@@ -14,6 +14,10 @@ pub(crate) const BYE: &str = "00000001 04";
 
 pub(crate) const OPERATIONS: &str =
     "0000002a 03 0001 00000023 01 00000001 0000000000000001 A 00 00 00000061";
+
+/// "ab", typed in one edit.
+pub(crate) const RUN: &str =
+    "00000030 03 0001 00000029 05 00000001 0000000000000001 A 00 00 0002 00000061 00000062";
 
 // A link of a replica that has just started. In a box, so that a test which returns early drops a
 // box: that a link is dropped is then proved once, and not at each return.

@@ -1,4 +1,4 @@
-ghost use Rattle.std.specs.Prelude.{◌≡◌, ◌≤◌, ◌<◌, ◌^◌, List, [], IfOk, IfSome, is_some, length, nat_le};
+ghost use Rattle.std.specs.Prelude.{◌≡◌, ◌≤◌, ◌<◌, ◌^◌, List, [], IfOk, IfSome, IsErrOf, is_some, length, nat_le};
 ghost use Rattle.char_sequence.specs.Gaps.{IsGap};
 ghost use Rattle.fixed_numbers.specs.declared.limits.TheConstants.{MAX_LISTED};
 ghost use Rattle.op_model.specs.declared.op.Op.{Op};
@@ -12,6 +12,7 @@ use char_sequence::{Gap, Sequence};
 use mark_anchors::Anchors;
 use op_ids::OpId;
 use op_model::{Change, Span, Text};
+use span_flatten::SpansError;
 use std::alloc::{AllocError, Global};
 use std::marker::Model;
 
@@ -70,13 +71,16 @@ impl Doc {
         self.sequence.text()
     }
 
-    /// The text that a reader sees, cut where the marks change. An error is want of memory (1). An
-    /// answer lists at most 1,048,576 comment ids, one counted in each span that lists it: beyond
-    /// it is 1. Costs what `span_flatten::spans` does.
-    pub fn spans(&self) -> Result<Vec<Span>, AllocError>
+    /// The text that a reader sees, cut where the marks change. An answer lists at most 1,048,576
+    /// comment ids, one counted in each span that lists it: `Listing` (1) comes only where they
+    /// would be more, `Memory` (1) where a growth was refused. Costs what `span_flatten::spans`
+    /// does.
+    pub fn spans(&self) -> Result<Vec<Span>, SpansError>
         ensures spans { IfOk result (λ found. (ops : List Op) → StandsFor self.now ops
             → found.items ≡ spans_of ops self.now.number) }
         ensures few { IfOk result (λ found. listed found.items ≤ MAX_LISTED) }
+        ensures listing { IsErrOf result SpansError.Listing → (ops : List Op)
+            → StandsFor self.now ops → MAX_LISTED < listed (spans_of ops self.now.number) }
     {
         span_flatten::spans(&self.sequence, &self.anchors)
     }
@@ -89,22 +93,15 @@ impl Doc {
         self.rev
     }
 
-    /// Whether at least `count` characters are visible. Takes no memory. Costs what
-    /// `Sequence::visible` does.
+    /// Whether at least `count` characters are visible. Takes no memory. Constant.
     pub fn shows(&self, count: usize) -> bool
         ensures { (ops : List Op) → StandsFor self.now ops
             → result ≡ nat_le count (length (visible ops self.now.number)) }
     {
-        if count == 0 {
-            return true;
-        }
-        match self.sequence.visible(count - 1) {
-            Some(_) => true,
-            None => false,
-        }
+        self.sequence.shows(count)
     }
 
-    /// Whether a change lies within the text. Takes no memory. Costs what `Sequence::visible` does.
+    /// Whether a change lies within the text. Takes no memory. Constant.
     pub fn is_inside(&self, change: &Change) -> bool
         ensures { (ops : List Op) → StandsFor self.now ops
             → result ≡ is_inside_of (length (visible ops self.now.number)) change.now }

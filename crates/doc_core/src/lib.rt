@@ -17,3 +17,4 @@ pub use draft::Draft;
 pub use laws::{fitting_names_are_there, followers_fit, other_operations_stay};
 pub use made::Made;
 pub use make_error::MakeError;
+pub use span_flatten::SpansError;

@@ -69,8 +69,8 @@ impl Doc {
     ///
     /// Refuses, in this order: `Range` (5) exactly where they reach past the end of the text,
     /// `Limit` (7) exactly where they are more than 256, or a counter or the clock would pass its
-    /// limit; then `Memory` (1) where a growth was refused. Costs what `Sequence::visible` and
-    /// `Sequence::visible_range` do.
+    /// limit; then `Memory` (1) where a growth was refused. Costs what `Sequence::visible_range`
+    /// does, and a step or two for each character.
     pub fn make_remove(
         &self,
         alloc: Global,

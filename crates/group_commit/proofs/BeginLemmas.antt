@@ -1,17 +1,16 @@
 -- A commit that is due to begin.
-use Rattle.std.proofs.Common.{◌≡◌, ℕ, ◌+◌, ◌<◌, ◌≤◌, Bool, true, false, not, ◌&&◌, nat_lt, nat_le}
-use Rattle.std.proofs.Common.{List, [], ◌∷◌, length, refl, sym, ap, ◌∙◌, inr, arith, Result, Ok}
+use Rattle.std.proofs.Common.{◌≡◌, ℕ, ◌+◌, ◌<◌, ◌≤◌, Bool, true, false, not, ◌&&◌, ◌==◌, nat_lt, nat_le}
+use Rattle.std.proofs.Common.{List, length, refl, sym, ◌∙◌, inr, arith, Result, Ok}
 use Rattle.std.proofs.Common.{Err, Some, None, if◌then◌else◌}
 use Rattle.std.proofs.lemmas.Bool.{leb-true, ltb-true}
-use Rattle.op_list.specs.Records.{AreRecords}
+use Rattle.std.proofs.lemmas.Bool.Decides.{nat_tests}
 use Rattle.op_model.specs.declared.op.Op.{Op}
-use Rattle.op_model.specs.Records.{stream_length}
-use Rattle.change_codec.proofs.StreamLaws.{length-spelled_all}
 use Rattle.page_file.specs.Pages.{is_zero}
 use Rattle.root_slots.specs.Root.{version_of, count_of}
 use Rattle.group_commit.specs.Held.{StoreHeld}
-use Rattle.group_commit.specs.Begin.{is_idle, is_none, has_room, begin_due, IsAnswer}
-use Rattle.group_commit.proofs.RecordLemmas.{some_records}
+use Rattle.group_commit.specs.Begin.{is_idle, has_room_for, begin_due, AreWritten, IsAnswer}
+use Rattle.group_commit.specs.Plan.{newest}
+use Rattle.group_commit.proofs.RecordLemmas.{some_spelled}
 use Rattle.std.specs.Prelude.{Option}
 use Rattle.group_commit.specs.declared.error.StoreError.{StoreError}
 use Rattle.group_commit.specs.declared.error.StoreError.TheVariants.{Memory, Limit, Busy, Failed}
@@ -28,10 +27,6 @@ idle_is Sync2 is = absurd cc
 idle_is Gate is = absurd cc
 idle_is Sync3 is = absurd cc
 
--- records are as long as the limit on the stream counts them
-pub records_long : (ops : List Op) (count : ℕ) (records : List ℕ) → AreRecords ops count records → stream_length ops ≡ length records
-records_long ops count records are = sym (length-spelled_all ops) ∙ ap length are.spelled_so
-
 -- what is known of a store and of records where their commit is due
 pub record IsDue {D : Type 0} (held : StoreHeld D) (count : ℕ) (records : List ℕ) : Type 0 where
   pub works : held.failed ≡ false
@@ -41,19 +36,19 @@ pub record IsDue {D : Type 0} (held : StoreHeld D) (count : ℕ) (records : List
   pub room : count_of held.current.body + count ≤ 16777216
   pub stream : length held.current.stream + length records ≤ 1073741824
 
-pub due_says : {D : Type 0} (held : StoreHeld D) (count : ℕ) (records : List ℕ) (ops : List Op) (n : ℕ) → AreRecords ops count records
-    → begin_due held ops ≡ Ok (Some n) → IsDue held count records
+pub due_says : {D : Type 0} (held : StoreHeld D) (count : ℕ) (records : List ℕ) (ops : List Op) (n : ℕ) → AreWritten ops count records
+    → begin_due held count (length records) ≡ Ok (Some n) → IsDue held count records
 due_says held count records ops n are due =
-    let tests = tested held.failed (is_idle held.phase) (is_none ops) (has_room held.current ops) _ n due in
-    let both = and_parts _ (nat_le (length held.current.stream + stream_length ops) 1073741824) tests.3 in
-    let first = and_parts (nat_lt (version_of held.current.body) 18446744073709551615) (nat_le (count_of held.current.body + length ops) 16777216) both.0 in
+    let tests = tested held.failed (is_idle held.phase) (count == 0) (has_room_for held.current count (length records)) _ n due in
+    let both = and_parts _ (nat_le (length held.current.stream + length records) 1073741824) tests.3 in
+    let first = and_parts (nat_lt (version_of held.current.body) 18446744073709551615) (nat_le (count_of held.current.body + count) 16777216) both.0 in
     record {
       works = tests.0;
       idle = idle_is held.phase tests.1;
-      some = ap is_zero (sym are.spelled_so) ∙ some_records ops (some_of ops tests.2);
+      some = some_spelled newest ops records are.spells (some_of count (length ops) tests.2 are.counted);
       version = ltb-true _ _ first.0;
-      room = omega (arith, leb-true _ _ first.1, are.counted);
-      stream = omega (arith, leb-true _ _ both.1, records_long ops count records are);
+      room = leb-true _ _ first.1;
+      stream = leb-true _ _ both.1;
     }
   where
     by_tests : Bool → Bool → Bool → Bool → ℕ → Result (Option ℕ) StoreError
@@ -71,24 +66,16 @@ due_says held count records ops n are due =
     and_parts true false is = absurd cc
     and_parts false b is = absurd cc
 
-    some_of : (ops : List Op) → is_none ops ≡ false → 0 < length ops
-    some_of [] some = absurd cc
-    some_of (op ∷ ops) some = omega arith
+    some_of : (count n : ℕ) → (count == 0) ≡ false → n ≡ count → 0 < n
+    some_of count n some is = grind (arith, nat_tests)
 
--- an answer that is the due one for each list whose records these are
-abbrev pub IsDueOf : {D : Type 0} → StoreHeld D → ℕ → List ℕ → Result (Option ℕ) StoreError → Type 0
-IsDueOf held count records answer = (ops : List Op) → length ops ≡ count → stream_length ops ≡ length records → answer ≡ begin_due held ops
-
-pub due_for : {D : Type 0} (held : StoreHeld D) (count : ℕ) (records : List ℕ) (answer : Result (Option ℕ) StoreError) → IsDueOf held count records answer
-    → (ops : List Op) → AreRecords ops count records → answer ≡ begin_due held ops
-due_for held count records answer due ops are = due ops are.counted (records_long ops count records are)
-
-pub is_due : {D : Type 0} (held : StoreHeld D) (count : ℕ) (records : List ℕ) (answer : Result (Option ℕ) StoreError) (n : ℕ) → IsDueOf held count records answer
-    → (ops : List Op) × AreRecords ops count records → answer ≡ Ok (Some n) → IsDue held count records
-is_due held count records answer n due some is = due_says held count records some.0 n some.1 (sym (due_for held count records answer due some.0 some.1) ∙ is)
+-- a commit is due
+pub is_due : {D : Type 0} (held : StoreHeld D) (count : ℕ) (records : List ℕ) (answer : Result (Option ℕ) StoreError) (n : ℕ)
+    → answer ≡ begin_due held count (length records) → (ops : List Op) × AreWritten ops count records → answer ≡ Ok (Some n) → IsDue held count records
+is_due held count records answer n due some is = due_says held count records some.0 n some.1 (sym due ∙ is)
 
 -- memory is wanting where a commit is due
 pub is_wanting : {D : Type 0} (held : StoreHeld D) (count : ℕ) (records : List ℕ) (answer wanting : Result (Option ℕ) StoreError) (n : ℕ)
-    → IsDueOf held count records answer → answer ≡ Ok (Some n) → wanting ≡ Err Memory
-    → (ops : List Op) → AreRecords ops count records → IsAnswer (begin_due held ops) wanting
-is_wanting held count records answer wanting n due is memory ops are = rw (sym (due_for held count records answer due ops are) ∙ is) (inr (memory, tt))
+    → answer ≡ begin_due held count (length records) → answer ≡ Ok (Some n) → wanting ≡ Err Memory
+    → IsAnswer (begin_due held count (length records)) wanting
+is_wanting held count records answer wanting n due is memory = rw (sym due ∙ is) (inr (memory, tt))

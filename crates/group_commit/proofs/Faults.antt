@@ -1,11 +1,12 @@
 -- Which refusal names which fault.
-use Rattle.std.proofs.Common.{◌≡◌, ◌≢◌, ◌⊎◌, ℕ, false, List, refl, sym, ◌∙◌, inl, inr, Result, Ok, Err}
-use Rattle.group_commit.specs.Loading.{NamesLoadFault, IsReadFault, IsFirstFault, HasNone, failures_of, is_of_sync, of_roots, of_pages}
+use Rattle.std.proofs.Common.{◌≡◌, ◌⊎◌, ℕ, false, List, refl, sym, ◌∙◌, inl, inr, Result, Ok, Err}
+use Rattle.group_commit.specs.Loading.{NamesLoadFault, IsReadFault, IsFirstFault, IsStreamFault, failures_of, is_of_sync, of_roots, of_pages}
 use Rattle.page_file.specs.PageError.{failures_of as failures_of_pages}
 use Rattle.page_file.specs.declared.error.PageError.{PageError}
 use Rattle.page_file.specs.declared.error.PageError.TheVariants.{Memory as PagesMemory, BadTable as PagesBad, ReadFailed as PagesReadFailed}
 use Rattle.group_commit.specs.Image.{stored}
-use Rattle.root_slots.specs.Root.{count_of}
+use Rattle.change_codec.specs.declared.format.Format.{Format}
+use Rattle.root_slots.specs.Root.{format_of, count_of}
 use Rattle.root_slots.specs.Live.{live_root}
 use Rattle.root_slots.specs.Faults.{NamesRootFault as NamesRoot, failures_of as failures_of_roots}
 use Rattle.root_slots.specs.declared.error.RootsError.{RootsError}
@@ -15,7 +16,7 @@ use Rattle.root_slots.specs.declared.error.RootsError.TheVariants.{BadRoot as Ro
 use Rattle.root_slots.specs.declared.error.RootsError.TheVariants.{ReadFailed as RootsReadFailed}
 use Rattle.group_commit.proofs.SlotReads.{no_root_stored}
 use Rattle.group_commit.specs.declared.open_fault.OpenError.{OpenError}
-use Rattle.group_commit.specs.declared.open_fault.OpenError.TheVariants.{Memory, NoRoot, BadRoot, BadTable, BadStream, ReadFailed, SyncFailed}
+use Rattle.group_commit.specs.declared.open_fault.OpenError.TheVariants.{Memory, NoRoot, BadRoot, BadTable, BadStream, TooLong, ReadFailed, SyncFailed}
 
 -- what the search behind another one meets first
 pub names_on : {A B : Type 0} (e : OpenError) (r : Result A ℕ) (s : Result B ℕ) → ((n : ℕ) → r ≡ Err n → s ≡ Err n) → NamesLoadFault e r → NamesLoadFault e s
@@ -24,6 +25,7 @@ names_on NoRoot r s on named = on 42 named
 names_on BadRoot r s on named = on 43 named
 names_on BadTable r s on named = on 45 named
 names_on BadStream r s on named = on 46 named
+names_on TooLong r s on named = absurd named
 names_on ReadFailed r s on named = tt
 names_on SyncFailed r s on named = absurd named
 
@@ -45,20 +47,28 @@ failures_same RootsNone = refl
 failures_same RootsBad = refl
 failures_same RootsReadFailed = refl
 
--- what names a fault of the records hasn't met a failure of the device
-pub quiet_ops : (e : OpenError) → (e ≡ Memory) ⊎ (e ≡ BadStream) → failures_of e ≡ 0
-quiet_ops e (inl is) = rw is refl
-quiet_ops e (inr is) = rw is refl
+-- what names a fault of the stream hasn't met a failure of the device
+pub quiet_ops : (e : OpenError) (format : Format) (bytes : List ℕ) (count : ℕ) → IsStreamFault e format bytes count → failures_of e ≡ 0
+quiet_ops Memory format bytes count fault = refl
+quiet_ops NoRoot format bytes count fault = absurd fault
+quiet_ops BadRoot format bytes count fault = absurd fault
+quiet_ops BadTable format bytes count fault = absurd fault
+quiet_ops BadStream format bytes count fault = refl
+quiet_ops TooLong format bytes count fault = refl
+quiet_ops ReadFailed format bytes count fault = absurd fault
+quiet_ops SyncFailed format bytes count fault = absurd fault
 
--- a fault of the stream's records is the file's
-pub fault_of_ops : (file body bytes : List ℕ) (e : OpenError) → (e ≡ Memory) ⊎ (e ≡ BadStream) → stored file ≡ Ok (body, bytes)
-    → (e ≢ Memory → HasNone bytes (count_of body)) → IsReadFault e file
-fault_of_ops file body bytes e (inl is) holds none = rw is (inl tt)
-fault_of_ops file body bytes e (inr is) holds none =
-    rw is (inr (refl, record { body = body; bytes = bytes; holds = holds; none = none (λ memory. other (sym is ∙ memory)) }))
-  where
-    other : BadStream ≡ Memory → ⊥
-    other is = absurd cc
+-- a fault of the stream is the file's
+pub fault_of_ops : (file body bytes : List ℕ) (e : OpenError) → stored file ≡ Ok (body, bytes)
+    → IsStreamFault e (format_of body) bytes (count_of body) → IsReadFault e file
+fault_of_ops file body bytes Memory holds fault = inl tt
+fault_of_ops file body bytes NoRoot holds fault = absurd fault
+fault_of_ops file body bytes BadRoot holds fault = absurd fault
+fault_of_ops file body bytes BadTable holds fault = absurd fault
+fault_of_ops file body bytes BadStream holds fault = inr (record { body = body; bytes = bytes; holds = holds; none = fault })
+fault_of_ops file body bytes TooLong holds fault = inr (record { body = body; bytes = bytes; holds = holds; long = fault })
+fault_of_ops file body bytes ReadFailed holds fault = absurd fault
+fault_of_ops file body bytes SyncFailed holds fault = absurd fault
 
 -- a refusal of the pages names the file's fault, and meets as many failures
 pub names_pages : {A : Type 0} (e : PageError) (r : Result A ℕ) → (e ≡ PagesMemory) ⊎ ((e ≡ PagesBad) ⊎ (e ≡ PagesReadFailed)) → (e ≡ PagesBad → r ≡ Err 45)
@@ -79,9 +89,10 @@ read_failed NoRoot file fault = refl
 read_failed BadRoot file fault = refl
 read_failed BadTable file fault = refl
 read_failed BadStream file fault = refl
+read_failed TooLong file fault = refl
 read_failed ReadFailed file fault = refl
 read_failed SyncFailed file (inl named) = absurd named
-read_failed SyncFailed file (inr (is, lacks)) = absurd (cc)
+read_failed SyncFailed file (inr never) = absurd never
 
 -- so it is the file's
 pub first_fault : (e : OpenError) (file : List ℕ) → IsReadFault e file → IsFirstFault e file
@@ -90,5 +101,6 @@ first_fault NoRoot file fault = fault
 first_fault BadRoot file fault = fault
 first_fault BadTable file fault = fault
 first_fault BadStream file fault = fault
+first_fault TooLong file fault = fault
 first_fault ReadFailed file fault = fault
 first_fault SyncFailed file fault = tt

@@ -12,6 +12,7 @@ pub mod ManyPages
 pub mod NewFileLemmas
 pub mod NextDataPages
 pub mod OneSpelling
+pub mod OpeningReads
 pub mod PageReads
 pub mod PagingLemmas
 pub mod PlanLemmas

@@ -6,6 +6,7 @@ use Rattle.std.proofs.lemmas.List.{take_all, drop_all, take_at, drop_at, append-
 use Rattle.disk_trait.specs.File.{overwritten}
 use Rattle.disk_trait.specs.declared.facts.DiskFacts.{Ghosts}
 use Rattle.page_file.specs.Pages.{pages, are_pages, is_zero, joined}
+use Rattle.change_codec.specs.declared.format.Format.{Format}
 use Rattle.root_slots.specs.Body.{root_of}
 use Rattle.root_slots.specs.Root.{is_root, tables_of, data_count, stream_length_of}
 use Rattle.root_slots.specs.Slots.{first_byte, gate, body}
@@ -35,10 +36,10 @@ pub opened_file : (page file body : List ℕ) → page ≡ slot_page 0 body → 
 opened_file page file body is_page is_file = is_file ∙ ap (λ p. overwritten (p ++ replicate 4096 0) 0 (1 ∷ [])) is_page
 
 -- a new file has its root
-pub stands_new : (root next : Saved) (version replica : ℕ) → is_root root.body ≡ true → length root.body ≡ 4088 → root.stream ≡ [] → root.pages ≡ []
-    → root_of root.body ≡ record { version = version; replica = replica; stream_length = 0; operations = 0; tables = [] }
+pub stands_new : (root next : Saved) (format : Format) (version replica : ℕ) → is_root root.body ≡ true → length root.body ≡ 4088 → root.stream ≡ [] → root.pages ≡ []
+    → root_of root.body ≡ record { format = format; version = version; replica = replica; stream_length = 0; operations = 0; tables = [] }
     → Stands Idle 0 false root next (new_file root.body)
-stands_new root next version replica valid size no_stream no_pages says =
+stands_new root next format version replica valid size no_stream no_pages says =
     let tables : tables_of root.body ≡ [] = ap (λ r. r.tables) says in
     let file = new_file root.body in
     let tabled : tables_in file root.body ≡ [] = ap (λ ns. pages ns file) tables in

@@ -1,15 +1,17 @@
 -- Two root bodies that say the same are the same bytes.
-use Rattle.std.proofs.Common.{◌≡◌, ℕ, zero, suc, ◌+◌, ◌*◌, ◌<◌, ◌≤◌, Bool, true, false, ◌&&◌, ◌==◌}
+use Rattle.std.proofs.Common.{◌≡◌, ℕ, zero, suc, ◌+◌, ◌*◌, ◌<◌, ◌≤◌, Bool, true, false, ◌&&◌, ◌||◌, ◌==◌}
 use Rattle.std.proofs.Common.{nat_le, List, [], ◌∷◌, ◌++◌, length, get_or, take, drop, refl, sym}
 use Rattle.std.proofs.Common.{ap, ◌∙◌, arith, length-drop}
 use Rattle.std.specs.Int.{w32, w64, w128, from_be_bytes, to_be_bytes}
+use Rattle.std.proofs.lemmas.Bool.{eqb-true}
 use Rattle.std.proofs.lemmas.Bool.Decides.{nat_tests}
 use Rattle.std.proofs.lemmas.List.{drop-drop, get_or-drop, length-take-le, take-append-drop}
 use Rattle.std.proofs.lemmas.Nat.{be_bytes_4, be_bytes_8}
 use Rattle.op_ids.proofs.ByteLemmas.{to_be_bytes-from_be_bytes_16}
 use Rattle.disk_trait.specs.File.{part}
 use Rattle.page_file.specs.Pages.{is_zero, are_pages, numbers}
-use Rattle.root_slots.specs.Root.{is_root, magic_of, magic, version_of, replica_of}
+use Rattle.change_codec.specs.declared.format.Format.TheVariants.{First, Second, Third}
+use Rattle.root_slots.specs.Root.{is_root, magic_of, magic, is_magic, named_format, version_of, replica_of}
 use Rattle.root_slots.specs.Root.{stream_length_of, count_of, table_count, gap_of, tables_of}
 use Rattle.root_slots.specs.Root.{data_count, pages_for}
 use Rattle.root_slots.specs.Body.{root_of}
@@ -76,10 +78,31 @@ zeros_same (k ∷ x) (m ∷ y) zero-x zero-y same =
     others : (k : ℕ) (x : List ℕ) → is_zero (k ∷ x) ≡ true → is_zero x ≡ true
     others k x is = grind (arith, nat_tests)
 
+-- a magic is that of the format that it names
+magic_named : (n : ℕ) → is_magic n ≡ true → n ≡ magic (named_format n)
+magic_named n is = first (n == magic First) refl
+  where
+    third : (a b c : Bool) → (a || b || c) ≡ true → a ≡ false → b ≡ false → c ≡ true
+    third a b c some not_a not_b = grind (arith, nat_tests)
+
+    second : (t : Bool) → (n == magic Second) ≡ t → (n == magic First) ≡ false → n ≡ magic (named_format n)
+    second true at other =
+        let named : named_format n ≡ Second = rw (other, at) refl in
+        eqb-true n (magic Second) at ∙ sym (ap magic named)
+    second false at other =
+        let named : named_format n ≡ Third = rw (other, at) refl in
+        eqb-true n (magic Third) (third (n == magic First) (n == magic Second) (n == magic Third) is other at) ∙ sym (ap magic named)
+
+    first : (t : Bool) → (n == magic First) ≡ t → n ≡ magic (named_format n)
+    first true at =
+        let named : named_format n ≡ First = rw at refl in
+        eqb-true n (magic First) at ∙ sym (ap magic named)
+    first false at = second (n == magic Second) refl at
+
 -- what a root body keeps besides its fields
 record Rules (body : List ℕ) : Type 0 where
   pub long : length body ≡ 4088
-  pub start : magic_of body ≡ magic
+  pub start : is_magic (magic_of body) ≡ true
   pub gap : gap_of body ≡ 0
   pub stream : stream_length_of body ≤ 1073741824
   pub tables : table_count body ≡ pages_for 1024 (data_count body)
@@ -87,12 +110,12 @@ record Rules (body : List ℕ) : Type 0 where
 
 rules_of : (body : List ℕ) → is_root body ≡ true → Rules body
 rules_of body is =
-    let all = ten (length body == 4088) (magic_of body == magic) (nat_le 1 (version_of body)) (nat_le 1 (replica_of body))
+    let all = ten (length body == 4088) (is_magic (magic_of body)) (nat_le 1 (version_of body)) (nat_le 1 (replica_of body))
     (nat_le (stream_length_of body) 1073741824) (nat_le (count_of body) 16777216) (table_count body == pages_for 1024 (data_count body)) (gap_of body == 0)
     (are_pages (tables_of body)) (is_zero (drop (56 + 4 * table_count body) body)) is in
     record {
       long = eq (length body) 4088 all.0;
-      start = eq (magic_of body) magic all.1;
+      start = all.1;
       gap = eq (gap_of body) 0 all.2;
       stream = le (stream_length_of body) 1073741824 all.3;
       tables = eq (table_count body) (pages_for 1024 (data_count body)) all.4;
@@ -146,7 +169,8 @@ bodies_same a b is is' same small small' =
     (omega (arith, length-drop 56 a, r.long, few)) (omega (arith, length-drop 56 b, r'.long, few))
     (tables ∙ ap (λ k. numbers k (drop 56 b)) (sym count))
     (drop-drop (4 * table_count a) 56 a ∙ ends ∙ sym (drop-drop (4 * table_count a) 56 b)) in
-    behind 0 8 a b (field_8 0 (omega arith) (r.start ∙ sym r'.start))
+    behind 0 8 a b (field_8 0 (omega arith)
+    (magic_named (magic_of a) r.start ∙ ap magic (ap (λ root. root.format) same) ∙ sym (magic_named (magic_of b) r'.start)))
     (behind 8 8 a b (field_8 8 (omega arith) (ap (λ root. root.version) same))
     (behind 16 16 a b
     (same_16 (part a 16 16) (part b 16 16) (length-part a 16 16 (omega (arith, r.long))) (length-part b 16 16 (omega (arith, r'.long))) (small_part a 16 16 small) (small_part b 16 16 small')

@@ -1,12 +1,13 @@
 -- How a commit begins.
-use Rattle.std.specs.Prelude.{◌≡◌, ◌⊎◌, ℕ, ◌+◌, Bool, true, false, not, ◌&&◌, nat_lt, nat_le, if◌then◌else◌}
+use Rattle.std.specs.Prelude.{◌≡◌, ◌⊎◌, ℕ, ◌+◌, ◌==◌, Bool, true, false, not, ◌&&◌, nat_lt, nat_le, if◌then◌else◌}
 use Rattle.std.specs.Prelude.{List, [], ◌∷◌, ◌++◌, length, Result, Ok, Err, Option}
 use Rattle.std.specs.Prelude.{Some, None}
 use Rattle.fixed_numbers.specs.declared.limits.TheConstants.{MAX_OPERATIONS, MAX_STREAM_LENGTH, MAX_VERSION}
 use Rattle.disk_trait.specs.declared.facts.DiskFacts.{Ghosts}
 use Rattle.op_model.specs.declared.op.Op.{Op}
 use Rattle.op_model.specs.Records.{stream_length}
-use Rattle.change_codec.specs.Stream.{spelled_all, AreOperations}
+use Rattle.piece_codec.specs.Stream.{SpellsList}
+use Rattle.stream_list.specs.Streams.{SpellsSome}
 use Rattle.page_file.specs.Free.{AreLowest}
 use Rattle.page_file.specs.Pages.{are_pages}
 use Rattle.root_slots.specs.Root.{version_of, count_of}
@@ -15,7 +16,7 @@ use Rattle.group_commit.specs.Changes.{changed_pages}
 use Rattle.group_commit.specs.Saved.{Saved}
 use Rattle.group_commit.specs.Commit.{IsLeft}
 use Rattle.group_commit.specs.Held.{StoreHeld}
-use Rattle.group_commit.specs.Plan.{IsNextRoot, KeepsPages}
+use Rattle.group_commit.specs.Plan.{IsNextRoot, KeepsPages, newest}
 use Rattle.group_commit.specs.declared.error.StoreError.{StoreError}
 use Rattle.group_commit.specs.declared.error.StoreError.TheVariants.{Memory, Limit, Busy, Failed}
 use Rattle.group_commit.specs.declared.phase.Phase.{Phase}
@@ -30,25 +31,29 @@ abbrev pub is_none : List Op → Bool
 is_none [] = true
 is_none (op ∷ ops) = false
 
+-- the bytes are records of a commit: they spell these operations in the newest format, and there are count of them
+abbrev pub AreWritten : List Op → ℕ → List ℕ → Type 0
+AreWritten ops count records = SpellsSome newest ops count records
+
 -- there is a further version, and room for this number of operations, whose records take this number of bytes: at most 2^24
--- operations in a file, and 2^30 bytes of records
+-- operations in a file, and 2^30 bytes of stream
 abbrev pub has_room_for : Saved → ℕ → ℕ → Bool
 has_room_for current count bytes =
     nat_lt (version_of current.body) MAX_VERSION && nat_le (count_of current.body + count) MAX_OPERATIONS
     && nat_le (length current.stream + bytes) MAX_STREAM_LENGTH
 
--- there is a further version, and room for these operations
+-- there is a further version, and room for the records of these operations, one by one
 abbrev pub has_room : Saved → List Op → Bool
 has_room current ops = has_room_for current (length ops) (stream_length ops)
 
--- the answer that is due, in the order of test: failed 44, busy 8, nothing to commit, limit 7, or the length of the new list
-abbrev pub begin_due : {D : Type 0} → StoreHeld D → List Op → Result (Option ℕ) StoreError
-begin_due held ops =
+-- the answer that is due of a begin with so many operations, whose records take so many bytes, in the order of test: failed 44, busy 8, nothing to commit, limit 7, or the length of the new list
+abbrev pub begin_due : {D : Type 0} → StoreHeld D → ℕ → ℕ → Result (Option ℕ) StoreError
+begin_due held count bytes =
     if held.failed then Err Failed
     else if not (is_idle held.phase) then Err Busy
-    else if is_none ops then Ok None
-    else if not (has_room held.current ops) then Err Limit
-    else Ok (Some (count_of held.current.body + length ops))
+    else if count == 0 then Ok None
+    else if not (has_room_for held.current count bytes) then Err Limit
+    else Ok (Some (count_of held.current.body + count))
 
 -- a commit is due to begin
 abbrev pub IsBegun : Result (Option ℕ) StoreError → Type 0
@@ -59,8 +64,8 @@ IsBegun answer = ⊥
 abbrev pub IsAnswer : Result (Option ℕ) StoreError → Result (Option ℕ) StoreError → Type 0
 IsAnswer due answer = (answer ≡ due) ⊎ ((answer ≡ Err Memory) × IsBegun due)
 
--- a commit of these operations has begun: no device call is made, and the live root stays
-pub record Begins {D : Type 0} (facts : Ghosts D) (old : StoreHeld D) (ops : List Op) (new : StoreHeld D) : Type 0 where
+-- a commit of these operations, whose records these bytes are, has begun: no device call is made, and the live root stays
+pub record Begins {D : Type 0} (facts : Ghosts D) (old : StoreHeld D) (ops : List Op) (records : List ℕ) (new : StoreHeld D) : Type 0 where
   pub disk : new.disk ≡ old.disk
   pub current : new.current ≡ old.current
   pub stale_open : new.stale_open ≡ old.stale_open
@@ -72,9 +77,9 @@ pub record Begins {D : Type 0} (facts : Ghosts D) (old : StoreHeld D) (ops : Lis
   -- behind the slots, none of them twice, none of them live, and each the lowest that is free
   pub free : are_pages (new.numbers ++ old.current.pages) ≡ true
   pub lowest : AreLowest old.current.pages new.numbers
-  pub follows : IsNextRoot old.current (spelled_all ops) (length ops) new.next
-  pub fits : AreOperations ops
+  pub follows : IsNextRoot old.current records (length ops) new.next
+  pub spells : SpellsList newest ops records
   -- it reaches these and the live root's that stay
-  pub pages : KeepsPages old.current (spelled_all ops) new.next
+  pub pages : KeepsPages old.current records new.next
   pub live_slot : facts.tells new.disk → (c : List ℕ) → facts.survives new.disk c → live c ≡ Ok new.slot
   pub left : facts.tells new.disk → (c : List ℕ) → facts.survives new.disk c → IsLeft new.phase new.current new.next c

@@ -1,13 +1,16 @@
 -- What a file is loaded as, what a refusal to load it says, and what loading does to the disk.
-use Rattle.std.specs.Prelude.{◌≡◌, ◌≢◌, ◌⊎◌, ℕ, ◌+◌, ◌*◌, nat_le, Bool, true, false, not, ◌&&◌, List, [], ◌∷◌, length, take, drop, Result, Ok, Err}
+use Rattle.std.specs.Prelude.{◌≡◌, ◌⊎◌, ℕ, ◌+◌, ◌*◌, nat_le, Bool, true, false, not, ◌&&◌, List, [], ◌∷◌, length, take, drop, Result, Ok, Err}
 use Rattle.std.specs.Prelude.{⊤, if◌then◌else◌}
-use Rattle.fixed_numbers.specs.declared.refusals.TheConstants.{BAD_ROOT, BAD_STREAM, BAD_TABLE, NO_ROOT, MEMORY, READ_FAILED, SYNC_FAILED}
+use Rattle.fixed_numbers.specs.declared.refusals.TheConstants.{BAD_OPERATION, BAD_ROOT, BAD_STREAM, BAD_TABLE, NO_ROOT, MEMORY, READ_FAILED, SYNC_FAILED}
 use Rattle.fixed_numbers.specs.declared.sizes.TheConstants.{PAGE_SIZE}
 use Rattle.op_model.specs.declared.op.Op.{Op}
-use Rattle.change_codec.specs.Stream.{spelled_all, AreOperations}
 use Rattle.page_file.specs.Pages.{pages, are_whole, is_zero, joined}
-use Rattle.root_slots.specs.Root.{replica_of, count_of, pages_for}
+use Rattle.change_codec.specs.declared.format.Format.{Format}
+use Rattle.root_slots.specs.Root.{format_of, replica_of, count_of, pages_for}
 use Rattle.root_slots.specs.Body.{Root}
+use Rattle.stream_list.specs.Streams.{SpellsShort, HasNone, HasTooLong}
+use Rattle.stream_list.specs.declared.read_error.ReadError.{ReadError}
+use Rattle.stream_list.specs.declared.read_error.ReadError.TheVariants.{Memory as StreamMemory, Stream as StreamBad, Long as StreamLong}
 pub use Rattle.page_file.specs.Tables.{reached_by, reached_in}
 use Rattle.page_file.specs.declared.error.PageError.{PageError}
 use Rattle.page_file.specs.declared.error.PageError.TheVariants.{Memory as PagesMemory}
@@ -24,7 +27,7 @@ use Rattle.root_slots.specs.declared.error.RootsError.TheVariants.{ReadFailed as
 use Rattle.group_commit.specs.Saved.{Saved}
 use Rattle.group_commit.specs.Image.{stored}
 use Rattle.group_commit.specs.declared.open_fault.OpenError.{OpenError}
-use Rattle.group_commit.specs.declared.open_fault.OpenError.TheVariants.{Memory, NoRoot, BadRoot, BadTable, BadStream, ReadFailed, SyncFailed}
+use Rattle.group_commit.specs.declared.open_fault.OpenError.TheVariants.{Memory, NoRoot, BadRoot, BadTable, BadStream, TooLong, ReadFailed, SyncFailed}
 
 -- each refusal has one number
 abbrev pub number_of : OpenError → ℕ
@@ -33,6 +36,7 @@ number_of NoRoot = NO_ROOT
 number_of BadRoot = BAD_ROOT
 number_of BadTable = BAD_TABLE
 number_of BadStream = BAD_STREAM
+number_of TooLong = BAD_OPERATION
 number_of ReadFailed = READ_FAILED
 number_of SyncFailed = SYNC_FAILED
 
@@ -63,28 +67,42 @@ of_pages PagesBad = BadTable
 of_pages PagesReadFailed = ReadFailed
 of_pages PagesWriteFailed = ReadFailed
 
+-- a refusal of the stream is one of the file
+abbrev pub of_stream : ReadError → OpenError
+of_stream StreamMemory = Memory
+of_stream StreamBad = BadStream
+of_stream StreamLong = TooLong
+
 -- what a call that answers so has met
 abbrev pub failed_in : {T : Type 0} → Result T OpenError → ℕ
 failed_in (Ok x) = 0
 failed_in (Err e) = failures_of e
 
--- the root's stream is the records of these operations, as many as it says, and the file is this replica's
+-- the root's stream spells these operations in its format, as many as it says, and the file is this replica's
 pub record IsHistory (root : Saved) (replica : ℕ) (ops : List Op) : Type 0 where
-  pub spelled : spelled_all ops ≡ root.stream
-  pub fits : AreOperations ops
-  pub count : length ops ≡ count_of root.body
+  pub spelled : SpellsShort (format_of root.body) ops (count_of root.body) root.stream
   pub owner : replica ≡ replica_of root.body
 
--- these bytes aren't the records of this number of operations
-abbrev pub HasNone : List ℕ → ℕ → Type 0
-HasNone bytes count = (ops : List Op) → AreOperations ops → spelled_all ops ≡ bytes → length ops ≢ count
-
--- the file has a root and a stream, and the stream isn't the records of as many operations as the root says
+-- the file has a root and a stream, and the stream doesn't spell as many operations as the root says
 pub record HasNoHistory (file : List ℕ) : Type 0 where
   pub body : List ℕ
   pub bytes : List ℕ
   pub holds : stored file ≡ Ok (body, bytes)
-  pub none : HasNone bytes (count_of body)
+  pub none : HasNone (format_of body) bytes (count_of body)
+
+-- the file has a root and a stream, which spells as many operations as the root says, whose records take more than 2^30 bytes
+pub record HasLongHistory (file : List ℕ) : Type 0 where
+  pub body : List ℕ
+  pub bytes : List ℕ
+  pub holds : stored file ≡ Ok (body, bytes)
+  pub long : HasTooLong (format_of body) bytes (count_of body)
+
+-- why a stream isn't read as so many operations; want of memory says nothing of it
+abbrev pub IsStreamFault : OpenError → Format → List ℕ → ℕ → Type 0
+IsStreamFault Memory format bytes count = ⊤
+IsStreamFault BadStream format bytes count = HasNone format bytes count
+IsStreamFault TooLong format bytes count = HasTooLong format bytes count
+IsStreamFault error format bytes count = ⊥
 
 -- this refusal of a read names the first fault of what was sought in a file; one of memory or of the device says nothing of it
 abbrev pub NamesLoadFault : {T : Type 0} → OpenError → Result T ℕ → Type 0
@@ -93,12 +111,19 @@ NamesLoadFault NoRoot found = found ≡ Err NO_ROOT
 NamesLoadFault BadRoot found = found ≡ Err BAD_ROOT
 NamesLoadFault BadTable found = found ≡ Err BAD_TABLE
 NamesLoadFault BadStream found = found ≡ Err BAD_STREAM
+NamesLoadFault TooLong found = ⊥
 NamesLoadFault ReadFailed found = ⊤
 NamesLoadFault SyncFailed found = ⊥
 
+-- this refusal says what is wrong with the stream of a file that has one
+abbrev pub NamesStreamFault : OpenError → List ℕ → Type 0
+NamesStreamFault BadStream file = HasNoHistory file
+NamesStreamFault TooLong file = HasLongHistory file
+NamesStreamFault error file = ⊥
+
 -- this refusal of a read names the first fault of the file
 abbrev pub IsReadFault : OpenError → List ℕ → Type 0
-IsReadFault error file = NamesLoadFault error (stored file) ⊎ ((error ≡ BadStream) × HasNoHistory file)
+IsReadFault error file = NamesLoadFault error (stored file) ⊎ NamesStreamFault error file
 
 -- this refusal names the first fault of the file; one of the sync says nothing of it
 abbrev pub IsFirstFault : OpenError → List ℕ → Type 0

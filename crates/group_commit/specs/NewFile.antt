@@ -8,6 +8,7 @@ use Rattle.page_file.specs.Index.{Index}
 use Rattle.root_slots.specs.Body.{Root, root_of}
 use Rattle.root_slots.specs.Root.{is_root, stream_length_of}
 use Rattle.root_slots.specs.Slots.{gate}
+use Rattle.group_commit.specs.Plan.{newest}
 use Rattle.group_commit.specs.Saved.{Paged}
 use Rattle.group_commit.specs.Commit.{IsLeft}
 use Rattle.group_commit.specs.Held.{StoreHeld}
@@ -23,9 +24,9 @@ slot_page gate body = gate ∷ (replicate 7 0 ++ body)
 abbrev pub new_file : List ℕ → List ℕ
 new_file body = slot_page 1 body ++ replicate PAGE_SIZE 0
 
--- the root of a new store
+-- the root of a new store, of the newest format
 abbrev pub first_root : ℕ → Root
-first_root replica = record { version = 1; replica = replica; stream_length = 0; operations = 0; tables = [] }
+first_root replica = record { format = newest; version = 1; replica = replica; stream_length = 0; operations = 0; tables = [] }
 
 -- each refusal has one number
 abbrev pub number_of : InitError → ℕ

@@ -2,12 +2,19 @@
 use Rattle.std.specs.Prelude.{◌≡◌, ℕ, ◌+◌, ◌-◌, ◌*◌, ◌/◌, List, ◌++◌, length, take, if◌then◌else◌}
 use Rattle.fixed_numbers.specs.declared.sizes.TheConstants.{PAGE_SIZE, TABLE_ENTRIES}
 use Rattle.page_file.specs.Pages.{is_zero}
-use Rattle.root_slots.specs.Root.{version_of, replica_of, count_of, tables_of, pages_for}
+use Rattle.change_codec.specs.declared.format.Format.{Format}
+use Rattle.change_codec.specs.declared.format.Format.TheVariants.{Third}
+use Rattle.root_slots.specs.Root.{format_of, version_of, replica_of, count_of, tables_of, pages_for}
 use Rattle.group_commit.specs.Changes.{data_of, changed_data, changed_tables}
 use Rattle.group_commit.specs.Saved.{Saved, HasDataPages}
 
--- the root behind this one: its stream has more records at its end, and as many more operations
+-- the format that a commit writes, whatever the format of the root before it
+abbrev pub newest : Format
+newest = Third
+
+-- the root behind this one: it is of the newest format, its stream has more records at its end, and as many more operations
 pub record IsNextRoot (current : Saved) (records : List ℕ) (more : ℕ) (next : Saved) : Type 0 where
+  pub format : format_of next.body ≡ newest
   pub stream : next.stream ≡ current.stream ++ records
   pub version : version_of next.body ≡ version_of current.body + 1
   pub replica : replica_of next.body ≡ replica_of current.body

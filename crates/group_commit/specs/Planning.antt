@@ -4,10 +4,10 @@ use Rattle.fixed_numbers.specs.declared.limits.TheConstants.{MAX_OPERATIONS, MAX
 use Rattle.fixed_numbers.specs.declared.sizes.TheConstants.{PAGE_SIZE, TABLE_ENTRIES}
 use Rattle.page_file.specs.Index.{Index}
 use Rattle.page_file.specs.Pages.{is_zero, are_pages}
-use Rattle.root_slots.specs.Root.{version_of, replica_of, count_of, stream_length_of, tables_of, pages_for}
+use Rattle.root_slots.specs.Root.{format_of, version_of, replica_of, count_of, stream_length_of, tables_of, pages_for}
 use Rattle.group_commit.specs.Changes.{changed_pages}
 use Rattle.group_commit.specs.Paging.{IsIndexOf}
-use Rattle.group_commit.specs.Plan.{IsNextRoot, KeepsPages}
+use Rattle.group_commit.specs.Plan.{IsNextRoot, KeepsPages, newest}
 use Rattle.group_commit.specs.Saved.{Saved, Paged, HasDataPages}
 use Rattle.group_commit.specs.Standing.{IsPlan}
 use Rattle.group_commit.specs.declared.phase.Phase.TheVariants.{Pages}
@@ -24,6 +24,7 @@ pub record Plans (current : Saved) (records : List ℕ) (more : ℕ) (next : Sav
 pub record IsGrown (body : List ℕ) (more : ℕ) (data_pages tables : List ℕ) (next : Saved) : Type 0 where
   pub has : HasDataPages next data_pages
   pub has_tables : tables_of next.body ≡ tables
+  pub format : format_of next.body ≡ newest
   pub version : version_of next.body ≡ version_of body + 1
   pub replica : replica_of next.body ≡ replica_of body
   pub count : count_of next.body ≡ count_of body + more

@@ -1,10 +1,9 @@
 //! The beginning of a commit.
-ghost use Rattle.std.specs.Prelude.{◌≡◌, ◌≢◌, ℕ, ◌+◌, ◌<◌, List, length, Ok, Err, Some};
-ghost use Rattle.op_list.specs.Records.{AreRecords};
+ghost use Rattle.std.specs.Prelude.{◌≡◌, ◌≢◌, ℕ, ◌+◌, List, length, Ok, Err, Some};
+ghost use Rattle.fixed_numbers.specs.declared.limits.TheConstants.{MAX_STREAM_LENGTH};
 ghost use Rattle.op_model.specs.declared.op.Op.{Op as Operation};
-ghost use Rattle.op_model.specs.Records.{stream_length};
 ghost use Rattle.root_slots.specs.Root.{count_of, stream_length_of};
-ghost use Rattle.group_commit.specs.Begin.{begin_due, has_room_for, Begins, IsAnswer};
+ghost use Rattle.group_commit.specs.Begin.{begin_due, has_room_for, AreWritten, Begins, IsAnswer};
 ghost use Rattle.group_commit.specs.Saved.{with_stream};
 
 use crate::error::StoreError;
@@ -38,8 +37,7 @@ impl<D: Disk> Store<D> {
 
     // The answer that is due of a begin with `count` operations, whose records take `bytes` bytes.
     fn answer_due(&self, count: u64, bytes: u64) -> Result<Option<u64>, StoreError>
-        ensures { (ops : List Operation) → length ops ≡ count → stream_length ops ≡ bytes
-            → result ≡ begin_due self.now ops }
+        ensures { result ≡ begin_due self.now count bytes }
     {
         if self.failed {
             return Err(StoreError::Failed);
@@ -56,9 +54,10 @@ impl<D: Disk> Store<D> {
         Ok(Some(self.current.count() + count))
     }
 
-    /// Begins a commit of the `count` operations whose records these bytes are, which come behind
-    /// the committed ones. Answers the length of the list that it commits; `None` where there are
-    /// none. It makes no device call. Records are those of some list, and of no other.
+    /// Begins a commit of the `count` operations that these bytes spell in the third format, which
+    /// come behind the committed ones. Answers the length of the list that it commits; `None` where
+    /// there are none. It makes no device call. The root that it makes is of the third format,
+    /// whatever the live one is of: a stream of an earlier format is one of each later format.
     ///
     /// Refuses, in this order, with 44 where a device call failed before, 8 where a commit is under
     /// way, 7 where the version, the number of operations (2^24) or the stream (2^30 bytes) has no
@@ -70,11 +69,10 @@ impl<D: Disk> Store<D> {
     /// stand in the last table page, if it isn't full: fewer than 1,024. Free pages are taken
     /// from the ranges of free ones, the lowest first.
     pub fn begin_records(&mut self, records: &[u8], count: u64) -> Result<Option<u64>, StoreError>
-        requires { (ops : List Operation) × AreRecords ops count records.now }
-        ensures answer { (ops : List Operation) → AreRecords ops count records.now
-            → IsAnswer (begin_due self.old ops) result }
-        ensures began { (ops : List Operation) → AreRecords ops count records.now
-            → (n : ℕ) → result ≡ Ok (Some n) → Begins D.DiskFacts self.old ops self.new }
+        requires { (ops : List Operation) × AreWritten ops count records.now }
+        ensures answer { IsAnswer (begin_due self.old count (length records.now)) result }
+        ensures began { (ops : List Operation) → AreWritten ops count records.now → (n : ℕ)
+            → result ≡ Ok (Some n) → Begins D.DiskFacts self.old ops records.now self.new }
         ensures same { ((n : ℕ) → result ≢ Ok (Some n)) → self.new ≡ self.old }
     {
         let due = self.answer_due(count, records.len() as u64);

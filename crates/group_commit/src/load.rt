@@ -23,13 +23,14 @@ pub struct Loaded<D: Disk> {
 impl<D: Disk> Store<D> {
     /// Opens the file of a disk: a sync, and then reads alone.
     ///
-    /// Refuses with the first of these that it meets: 52 where the sync failed, and 50 where a read
-    /// did; 42 where the file has fewer than 8,192 bytes or no gate is open; 43 where both are open
-    /// with equal versions, or the live slot holds no root body, or a table page isn't whole in the
-    /// file; 45 where the table pages break their rules or a data page isn't whole; 46 where the
-    /// rest of the last data page isn't zero or the stream isn't the records of that number of
-    /// operations. 1 may stand in place of any of these where a growth of memory was refused. A
-    /// refusal hands the disk back.
+    /// Refuses with the first of these that it meets: 52 where the sync failed, and 50 where a
+    /// read did; 42 where the file has fewer than 8,192 bytes or no gate is open; 43 where both
+    /// are open with equal versions, or the live slot holds no root body, or a table page isn't
+    /// whole in the file; 45 where the table pages break their rules or a data page isn't whole;
+    /// 46 where the rest of the last data page isn't zero or the stream doesn't spell that number
+    /// of operations in the root's format; 47 where these would take more than 2^30 bytes as
+    /// single records. 1 may stand in place of any of these where a growth of memory was refused.
+    /// A refusal hands the disk back.
     ///
     /// One sync, one `size`, one read of the two slots and one of each page that the live root
     /// reaches. The stream is held in memory once, as the records of its operations; the store

@@ -106,7 +106,7 @@ pub(crate) fn read_image<D: Disk>(alloc: Global, disk: &mut D) -> Result<Image, 
     } = load_roots(alloc, disk)?;
     let Stream { pages, bytes } = read_stream(alloc, disk, file_size, &root)?;
     let stream = StreamTail::new(alloc).and(&bytes)?;
-    let ops = ops_of(alloc, bytes, root.operations())?;
+    let ops = ops_of(alloc, root.format(), bytes, root.operations())?;
     let (current, next) = roots_on(alloc, root, &pages)?;
     Ok(Image {
         roots,

@@ -5,11 +5,12 @@ ghost use Rattle.group_commit.specs.declared.open_fault.OpenError.TheVariants.{M
 
 use disk_trait::Disk;
 use fixed_numbers::refusals::{
-    BAD_ROOT, BAD_STREAM, BAD_TABLE, MEMORY, NO_ROOT, READ_FAILED, SYNC_FAILED,
+    BAD_OPERATION, BAD_ROOT, BAD_STREAM, BAD_TABLE, MEMORY, NO_ROOT, READ_FAILED, SYNC_FAILED,
 };
 use page_file::PageError;
 use root_slots::RootsError;
 use std::alloc::AllocError;
+use stream_list::ReadError;
 use thiserror::Error;
 
 /// Why a file isn't opened.
@@ -29,10 +30,14 @@ pub enum OpenError {
     /// a data page doesn't lie whole in the file.
     #[error("bad table")]
     BadTable,
-    /// 46: the rest of the last data page isn't zero, or the stream isn't the records of as many
+    /// 46: the rest of the last data page isn't zero, or the stream doesn't spell as many
     /// operations as the root says.
     #[error("bad stream")]
     BadStream,
+    /// 47: the stream spells as many operations as the root says, and these would take more than
+    /// 2^30 bytes as single records.
+    #[error("bad operation")]
+    TooLong,
     /// 50: the device failed in a read.
     #[error("read failed")]
     ReadFailed,
@@ -85,6 +90,20 @@ impl From<PageError> for OpenError {
     }
 }
 
+impl From<ReadError> for OpenError {
+    ghost use Rattle.group_commit.specs.Loading.{of_stream};
+
+    ghost from_gives = { λ error e. e ≡ of_stream error };
+
+    fn from(error: ReadError) -> OpenError {
+        match error {
+            ReadError::Memory => OpenError::Memory,
+            ReadError::Stream => OpenError::BadStream,
+            ReadError::Long => OpenError::TooLong,
+        }
+    }
+}
+
 impl OpenError {
     /// The number of the refusal.
     pub fn number(self) -> u8
@@ -96,6 +115,7 @@ impl OpenError {
             OpenError::BadRoot => BAD_ROOT,
             OpenError::BadTable => BAD_TABLE,
             OpenError::BadStream => BAD_STREAM,
+            OpenError::TooLong => BAD_OPERATION,
             OpenError::ReadFailed => READ_FAILED,
             OpenError::SyncFailed => SYNC_FAILED,
         }

@@ -15,6 +15,7 @@ ghost use Rattle.group_commit.specs.Planning.{padded};
 use crate::load_pages::data_pages;
 use crate::root::Root;
 use crate::stream_tail::{StreamTail, behind};
+use change_codec::Format;
 use fixed_numbers::sizes::{PAGE_SIZE, TABLE_ENTRIES};
 use ghost_lists::Written;
 use page_file::{Pages, is_zero, put_numbers};
@@ -232,7 +233,14 @@ fn root_on(
 {
     let version = current.version() + 1;
     let count = current.count() + more;
-    match RootBody::new(version, current.replica(), long, count, tables) {
+    match RootBody::new(
+        Format::Third,
+        version,
+        current.replica(),
+        long,
+        count,
+        tables,
+    ) {
         Some(head) => {
             let next = Root::new(alloc, head, data_pages)?;
             Ok(next)

@@ -5,8 +5,10 @@ ghost use Rattle.fixed_numbers.specs.declared.sizes.TheConstants.{BODY_LENGTH};
 ghost use Rattle.root_slots.specs.Body.{root_of};
 ghost use Rattle.root_slots.specs.Root.{is_root, version_of, replica_of, count_of};
 ghost use Rattle.root_slots.specs.Root.{stream_length_of, tables_of};
+ghost use Rattle.group_commit.specs.Plan.{newest};
 ghost use Rattle.group_commit.specs.Saved.{HasDataPages, with_stream};
 
+use change_codec::Format;
 use ghost_lists::Written;
 use op_ids::ReplicaId;
 use root_slots::RootBody;
@@ -65,12 +67,13 @@ impl Root {
         })
     }
 
-    /// The root of a new file: version 1, without operations. Two allocations; an error is want of
-    /// memory (1).
+    /// The root of a new file: of the third format, version 1, without operations. Two
+    /// allocations; an error is want of memory (1).
     pub(crate) fn empty(alloc: Global, replica: ReplicaId) -> Result<Root, AllocError>
         ensures pages { IfOk result (λ root. root.pages ≡ []) }
         ensures valid { IfOk result (λ root. is_root root.body ≡ true) }
         ensures says { IfOk result (λ root. root_of root.body ≡ record {
+          format = newest;
           version = 1;
           replica = replica;
           stream_length = 0;
@@ -78,7 +81,7 @@ impl Root {
           tables = [];
         }) }
     {
-        match RootBody::new(1, replica, 0, 0, Vec::new(alloc)) {
+        match RootBody::new(Format::Third, 1, replica, 0, 0, Vec::new(alloc)) {
             Some(head) => Root::new(alloc, head, Written::new()),
             None => unreachable!(),
         }

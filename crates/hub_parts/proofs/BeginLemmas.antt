@@ -1,15 +1,19 @@
 -- What a store answers to a begin, and what a meeting that begins one answers.
-use Rattle.std.proofs.Common.{◌≡◌, ◌≢◌, ℕ, ◌+◌, ◌-◌, ◌<◌, Bool, true, false, List, [], ◌∷◌, ◌++◌, length, drop, refl, sym, ap, ◌∙◌, arith, inl, inr}
+use Rattle.std.proofs.Common.{◌≡◌, ◌≢◌, ℕ, ◌+◌, ◌-◌, ◌<◌, ◌==◌, ◌≤◌, ◌&&◌, nat_lt, nat_le, Bool, true, false}
+use Rattle.std.proofs.Common.{List, [], ◌∷◌, ◌++◌, length, drop, refl, sym, ap, ◌∙◌, arith, inl, inr}
 use Rattle.std.proofs.Common.{length-drop, Option, Some, None, Result, Ok, Err}
 use Rattle.std.proofs.lemmas.Bool.{lt-ltb, ltb-false}
+use Rattle.std.proofs.lemmas.Bool.Decides.{nat_tests}
 use Rattle.std.proofs.lemmas.List.{take-append-drop, take_all}
 use Rattle.disk_trait.specs.declared.facts.DiskFacts.{Ghosts}
 use Rattle.op_model.specs.declared.op.Op.{Op}
 use Rattle.change_codec.specs.Stream.{spelled_all, AreOperations}
 use Rattle.op_list.proofs.Recorded.{records_long}
 use Rattle.op_list.specs.Records.{AreRecords}
-use Rattle.root_slots.specs.Root.{count_of}
-use Rattle.group_commit.specs.Begin.{has_room, has_room_for, is_idle, is_none, begin_due, Begins, IsAnswer}
+use Rattle.root_slots.specs.Root.{version_of, count_of}
+use Rattle.piece_codec.proofs.StreamLaws.{no_longer}
+use Rattle.group_commit.specs.Begin.{has_room, has_room_for, is_idle, is_none, begin_due, AreWritten, Begins, IsAnswer}
+use Rattle.group_commit.specs.Plan.{newest}
 use Rattle.group_commit.specs.Held.{StoreHeld}
 use Rattle.group_commit.specs.Saved.{Saved}
 use Rattle.group_commit.specs.declared.error.StoreError.{StoreError}
@@ -36,14 +40,23 @@ pub room_for : (current : Saved) (ops : List Op) (count : ℕ) (records : List �
 room_for current ops count records are = rw (records_long ops count records are, sym are.counted) refl
 
 -- the answer that is due of a store with room
-pub begin_is_due : {D : Type 0} (s : StoreHeld D) (ops : List Op) (count : ℕ) (records : List ℕ) → AreRecords ops count records → s.failed ≡ false
+pub begin_is_due : {D : Type 0} (s : StoreHeld D) (count : ℕ) (records : List ℕ) → s.failed ≡ false
     → is_idle s.phase ≡ true → 0 < count → has_room_for s.current count (length records) ≡ true
-    → begin_due s ops ≡ Ok (Some (count_of s.current.body + count))
-begin_is_due s ops count records are works idle more room =
-    let counted = are.counted in
-    let some = some_ops ops (omega (arith, counted, more)) in
-    let has = sym (room_for s.current ops count records are) ∙ room in
-    rw (works, idle, some, has, counted) refl
+    → begin_due s count (length records) ≡ Ok (Some (count_of s.current.body + count))
+begin_is_due s count records works idle more room = rw (works, idle, some count more, room) refl
+  where
+    some : (n : ℕ) → 0 < n → (n == 0) ≡ false
+    some n more = grind (arith, nat_tests)
+
+-- where single records have room, pieces have that spell the same
+pub room_within : (current : Saved) (ops : List Op) (count : ℕ) (records pieces : List ℕ) → AreRecords ops count records → AreWritten ops count pieces
+    → has_room_for current count (length records) ≡ true → has_room_for current count (length pieces) ≡ true
+room_within current ops count records pieces are written room =
+    fewer (nat_lt (version_of current.body) 18446744073709551615 && nat_le (count_of current.body + count) 16777216) (length current.stream) (length records) (length pieces)
+    (omega (arith, records_long ops count records are, no_longer newest ops pieces written.spells)) room
+  where
+    fewer : (b : Bool) (n more less : ℕ) → less ≤ more → (b && nat_le (n + more) 1073741824) ≡ true → (b && nat_le (n + less) 1073741824) ≡ true
+    fewer b n more less within room = grind (arith, nat_tests)
 
 -- it isn't said that there is nothing
 pub began_something : (due : Result (Option ℕ) StoreError) (n : ℕ) → due ≡ Ok (Some n) → IsAnswer due (Ok None) → ⊥
@@ -106,11 +119,11 @@ pub met_limit : {D : Type 0} (l : LockedHeld) (f : FlusherHeld D) → IsTested l
 met_limit l f test = inl (rw (test.some, test.room) refl)
 
 -- two parts that fit, behind a begin
-pub meet_begun : {D : Type 0} (facts : Ghosts D) (l : LockedHeld) (s new : StoreHeld D) (list more : List Op) (due due' : Bool) → IsLocked l → has_commit l ≡ false → due ≡ false
-    → is_none (pending l) ≡ false → Begins facts s (pending l) new → more ≡ list ++ pending l → due' ≡ true
+pub meet_begun : {D : Type 0} (facts : Ghosts D) (l : LockedHeld) (s new : StoreHeld D) (list more : List Op) (records : List ℕ) (due due' : Bool) → IsLocked l → has_commit l ≡ false → due ≡ false
+    → is_none (pending l) ≡ false → Begins facts s (pending l) records new → more ≡ list ++ pending l → due' ≡ true
     → FitTogether l (side_of (record { store = s; list = list; due = due }))
     → FitTogether (record l { begun = length l.replica.list }) (side_of (record { store = new; list = more; due = due' }))
-meet_begun facts l s new list more due due' locked none rests some begun is begins meet =
+meet_begun facts l s new list more records due due' locked none rests some begun is begins meet =
     let settled = locked.keeps.settled in
     let long = some_long (pending l) some in
     let less : l.replica.settled < length l.replica.list = let same = ltb-false l.replica.settled l.begun none in omega (arith, same, settled, long, length-drop l.begun l.replica.list) in

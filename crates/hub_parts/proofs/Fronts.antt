@@ -4,12 +4,13 @@ use Rattle.std.proofs.lemmas.List.{take_at, drop_at, take_all, take-append-le}
 use Rattle.disk_trait.specs.declared.facts.DiskFacts.{Ghosts}
 use Rattle.op_model.specs.declared.op.Op.{Op}
 use Rattle.op_model.specs.Records.{stream_length}
-use Rattle.change_codec.specs.Stream.{spelled_all}
-use Rattle.change_codec.proofs.StreamLaws.{spelled_all-append}
-use Rattle.op_list.proofs.Holding.{fits_append}
+use Rattle.change_codec.specs.declared.format.Format.{Format}
+use Rattle.change_codec.specs.declared.format.Format.TheVariants.{First, Second, Third}
+use Rattle.piece_codec.specs.Stream.{SpellsList}
+use Rattle.piece_codec.proofs.StreamLaws.{first_is_second, second_is_third, both_join}
 use Rattle.op_list.proofs.Recorded.{records_long}
 use Rattle.op_list.specs.Records.{AreRecords}
-use Rattle.root_slots.specs.Root.{count_of}
+use Rattle.root_slots.specs.Root.{format_of, count_of}
 use Rattle.group_commit.specs.Begin.{has_room_for, is_idle, begin_due, Begins}
 use Rattle.group_commit.specs.Held.{StoreHeld}
 use Rattle.group_commit.specs.Saved.{Saved}
@@ -26,14 +27,14 @@ at_rest {D} facts s list due kept none = by_test (is_idle s.phase) kept.commit
     by_test false way = let is = way.due in absurd (cc)
 
 -- the answer that is due of the store of a flusher that works, where nothing is under way and there is room
-pub due_at_rest : {D : Type 0} (facts : Ghosts D) (f : FlusherHeld D) (s : StoreHeld D) (list ops : List Op) (due : Bool) (count : ℕ) (records : List ℕ)
+pub due_at_rest : {D : Type 0} (facts : Ghosts D) (f : FlusherHeld D) (s : StoreHeld D) (list : List Op) (due : Bool) (count : ℕ) (records : List ℕ)
     → record { store = s; list = list; due = due } ≡ f → IsFlusher facts (record { store = s; list = list; due = due }) → f.store.failed ≡ false → f.due ≡ false
-    → AreRecords ops count records → 0 < count → has_room_for f.store.current count (length records) ≡ true
-    → begin_due s ops ≡ Ok (Some (count_of f.store.current.body + count))
-due_at_rest facts f s list ops due count records is kept works none are some room =
+    → 0 < count → has_room_for f.store.current count (length records) ≡ true
+    → begin_due s count (length records) ≡ Ok (Some (count_of f.store.current.body + count))
+due_at_rest facts f s list due count records is kept works none some room =
     let store : s ≡ f.store = ap (λ h. h.store) is in
     let idle = at_rest facts s list due kept (ap (λ h. h.due) is ∙ none) in
-    begin_is_due s ops count records are (ap (λ t. t.failed) store ∙ works) idle some (ap (λ t. has_room_for t.current count (length records)) store ∙ room)
+    begin_is_due s count records (ap (λ t. t.failed) store ∙ works) idle some (ap (λ t. has_room_for t.current count (length records)) store ∙ room)
     ∙ ap (λ t. Ok (Some (count_of t.current.body + count))) store
 
 -- where the device calls are all made, the live root has the whole list
@@ -43,6 +44,12 @@ whole_list facts s list due kept idle =
     let rest : IsAtRest (record { store = s; list = list; due = due }) = rw idle at kept.commit in
     rest.all
 
+-- a stream of any format is one of the third
+in_third : (f : Format) (ops : List Op) (bytes : List ℕ) → SpellsList f ops bytes → SpellsList Third ops bytes
+in_third First ops bytes spells = second_is_third ops bytes (first_is_second ops bytes spells)
+in_third Second ops bytes spells = second_is_third ops bytes spells
+in_third Third ops bytes spells = spells
+
 -- a root has a beginning of a longer list
 front_grows : (list ops : List Op) (root : Saved) → HasFront list root → HasFront (list ++ ops) root
 front_grows list ops root front =
@@ -50,43 +57,41 @@ front_grows list ops root front =
     let same : take (count_of root.body) (list ++ ops) ≡ take (count_of root.body) list = take-append-le (count_of root.body) list ops within in
     record {
       within = omega (arith, within, length-append list ops);
-      stream = front.stream ∙ ap spelled_all (sym same);
-      fits = rw same front.fits;
+      stream = rw same front.stream;
     }
 
 -- how many operations the root of a commit has that begins
-begun_count : {D : Type 0} (facts : Ghosts D) (s new : StoreHeld D) (list ops : List Op) → count_of s.current.body ≡ length list → Begins facts s ops new
+begun_count : {D : Type 0} (facts : Ghosts D) (s new : StoreHeld D) (list ops : List Op) (records : List ℕ) → count_of s.current.body ≡ length list → Begins facts s ops records new
     → count_of new.next.body ≡ length (list ++ ops)
-begun_count facts s new list ops all begun =
+begun_count facts s new list ops records all begun =
     begun.follows.count ∙ ap (λ n. n + length ops) all ∙ sym (length-append list ops)
 
 -- the root of a commit that begins has all the operations
-next_front : {D : Type 0} (facts : Ghosts D) (s new : StoreHeld D) (list ops : List Op) → count_of s.current.body ≡ length list → HasFront list s.current
-    → Begins facts s ops new → HasFront (list ++ ops) new.next
-next_front facts s new list ops all live begun =
-    let long = begun_count facts s new list ops all begun in
+next_front : {D : Type 0} (facts : Ghosts D) (s new : StoreHeld D) (list ops : List Op) (records : List ℕ) → count_of s.current.body ≡ length list → HasFront list s.current
+    → Begins facts s ops records new → HasFront (list ++ ops) new.next
+next_front facts s new list ops records all live begun =
+    let long = begun_count facts s new list ops records all begun in
     let front : take (count_of s.current.body) list ≡ list = take_all (count_of s.current.body) list (omega (arith, all)) in
     let whole : take (count_of new.next.body) (list ++ ops) ≡ list ++ ops = take_all (count_of new.next.body) (list ++ ops) (omega (arith, long)) in
     record {
       within = omega (arith, long);
       stream =
-          begun.follows.stream ∙ ap (λ bytes. bytes ++ spelled_all ops) (live.stream ∙ ap spelled_all front) ∙ sym (spelled_all-append list ops)
-          ∙ ap spelled_all (sym whole);
-      fits = rw whole (fits_append list ops (rw front at live.fits) begun.fits);
+          rw (whole, begun.follows.format, begun.follows.stream)
+          (both_join Third list ops s.current.stream records (in_third (format_of s.current.body) list s.current.stream (rw front at live.stream)) begun.spells);
     }
 
 -- a flusher that began a commit
-pub flusher_begun : {D : Type 0} (facts : Ghosts D) (s new : StoreHeld D) (list ops : List Op) (due : Bool)
-    → IsFlusher facts (record { store = s; list = list; due = due }) → due ≡ false → Begins facts s ops new
+pub flusher_begun : {D : Type 0} (facts : Ghosts D) (s new : StoreHeld D) (list ops : List Op) (records : List ℕ) (due : Bool)
+    → IsFlusher facts (record { store = s; list = list; due = due }) → due ≡ false → Begins facts s ops records new
     → IsFlusher facts (record { store = new; list = list ++ ops; due = true })
-flusher_begun facts s new list ops due kept none begun =
+flusher_begun facts s new list ops records due kept none begun =
     let all = whole_list facts s list due kept (at_rest facts s list due kept none) in
     record {
       live = rw begun.current (front_grows list ops s.current kept.live);
       commit = rw begun.phase (record {
         due = refl;
-        all = begun_count facts s new list ops all begun;
-        front = next_front facts s new list ops all kept.live begun;
+        all = begun_count facts s new list ops records all begun;
+        front = next_front facts s new list ops records all kept.live begun;
         owner = rw begun.current begun.follows.replica;
         version = rw begun.current begun.follows.version;
       });

@@ -10,3 +10,4 @@ pub mod Fronts
 pub mod Settling
 pub mod OpenedParts
 pub mod TicketEnds
+pub mod WaitLemmas

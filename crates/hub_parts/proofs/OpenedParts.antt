@@ -53,13 +53,12 @@ opened_so h begun opened is = ap (λ x. first_held x begun) opened ∙ ap (λ n.
 pub flusher_opened : {D : Type 0} (facts : Ghosts D) (s : StoreHeld D) (replica : ℕ) (ops list : List Op) → IsHistory s.current replica ops → s.phase ≡ Idle
     → CrashLeaves facts s → list ≡ ops → IsFlusher facts (record { store = s; list = list; due = false })
 flusher_opened facts s replica ops list history idle left is =
-    let count : count_of s.current.body ≡ length ops = sym history.count in
+    let count : count_of s.current.body ≡ length ops = sym history.spelled.some.counted in
     let all : take (count_of s.current.body) ops ≡ ops = take_all (count_of s.current.body) ops (omega (arith, count)) in
     rw is (record {
       live = record {
         within = omega (arith, count);
-        stream = sym history.spelled ∙ ap spelled_all (sym all);
-        fits = rw all history.fits;
+        stream = rw all history.spelled.some.spells;
       };
       commit = rw idle (record { all = count });
       left = left;
@@ -75,7 +74,7 @@ meet_opened h begun s list opened is history same =
       owner = sym history.owner;
       both = sym (le-ltb h.settled begun (omega (arith, settled, is)));
       front = same ∙ sym (take_all begun h.list (omega (arith, is)));
-      settled = λ none. settled ∙ history.count;
+      settled = λ none. settled ∙ history.spelled.some.counted;
       through = λ never. absurd (cc);
     }
 

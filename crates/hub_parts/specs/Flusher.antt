@@ -2,8 +2,8 @@
 use Rattle.std.specs.Prelude.{◌≡◌, ℕ, ◌+◌, ◌≤◌, Bool, true, false, List, length, take}
 use Rattle.disk_trait.specs.declared.facts.DiskFacts.{Ghosts}
 use Rattle.op_model.specs.declared.op.Op.{Op}
-use Rattle.change_codec.specs.Stream.{spelled_all, AreOperations}
-use Rattle.root_slots.specs.Root.{version_of, replica_of, count_of}
+use Rattle.piece_codec.specs.Stream.{SpellsList}
+use Rattle.root_slots.specs.Root.{format_of, version_of, replica_of, count_of}
 use Rattle.group_commit.specs.Begin.{is_idle}
 use Rattle.group_commit.specs.Commit.{IsLeft}
 use Rattle.group_commit.specs.Held.{StoreHeld}
@@ -16,11 +16,10 @@ pub record FlusherHeld (D : Type 0) : Type 0 where
   pub list : List Op
   pub due : Bool
 
--- the root's stream is the records of the first operations of the list, as many as it says
+-- the root's stream spells the first operations of the list in its format, as many as it says
 pub record HasFront (list : List Op) (root : Saved) : Type 0 where
   pub within : count_of root.body ≤ length list
-  pub stream : root.stream ≡ spelled_all (take (count_of root.body) list)
-  pub fits : AreOperations (take (count_of root.body) list)
+  pub stream : SpellsList (format_of root.body) (take (count_of root.body) list) root.stream
 
 -- between two commits the live root has the whole list
 pub record IsAtRest {D : Type 0} (f : FlusherHeld D) : Type 0 where

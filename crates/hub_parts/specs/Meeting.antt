@@ -5,7 +5,7 @@ use Rattle.op_model.specs.declared.op.Op.{Op}
 use Rattle.op_list.specs.Records.{AreRecords}
 use Rattle.root_slots.specs.Root.{count_of}
 use Rattle.op_model.specs.Held.{with_settled}
-use Rattle.group_commit.specs.Begin.{has_room, has_room_for, is_idle, is_none, Begins}
+use Rattle.group_commit.specs.Begin.{has_room, has_room_for, is_idle, is_none, AreWritten, Begins}
 use Rattle.group_commit.specs.declared.error.StoreError.{StoreError}
 use Rattle.group_commit.specs.declared.error.StoreError.TheVariants.{Memory, Limit, Busy, Failed}
 use Rattle.hub_parts.specs.Locked.{has_commit, LockedHeld}
@@ -50,19 +50,22 @@ IsBeginning answer = ⊥
 abbrev pub IsMet : Result Met StoreError → Result Met StoreError → Type 0
 IsMet due answer = (answer ≡ due) ⊎ ((answer ≡ Err Memory) × IsBeginning due)
 
--- a commit of operations can begin whose records these are: the device works, there is none, and there is room for them
-pub record CanCommit {D : Type 0} (f : FlusherHeld D) (records : List ℕ) (count : ℕ) : Type 0 where
+-- a commit of operations can begin whose single records these are, and which the pieces spell too: the device works, there is none,
+-- and there is room for them
+pub record CanCommit {D : Type 0} (f : FlusherHeld D) (records pieces : List ℕ) (count : ℕ) : Type 0 where
   pub works : f.store.failed ≡ false
   pub rests : f.due ≡ false
   pub ops : List Op
   pub are : AreRecords ops count records
+  pub written : AreWritten ops count pieces
   pub some : 0 < count
   pub room : has_room_for f.store.current count (length records) ≡ true
 
--- the flusher takes all that waits, and begins a commit of just these operations
+-- the flusher takes all that waits, and begins a commit of just these operations, by records that spell them
 pub record TakesAll {D : Type 0} (facts : Ghosts D) (l : LockedHeld) (f : FlusherHeld D) (l' : LockedHeld) (f' : FlusherHeld D) : Type 0 where
   pub locked : l' ≡ record l { begun = length l.replica.list }
-  pub begins : Begins facts f.store (pending l) f'.store
+  pub records : List ℕ
+  pub begins : Begins facts f.store (pending l) records f'.store
   pub list : f'.list ≡ f.list ++ pending l
   pub due : f'.due ≡ true
 

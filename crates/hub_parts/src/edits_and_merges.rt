@@ -20,7 +20,8 @@ impl Locked {
     /// changes nothing. Refuses another one, in this order, with 9 where a meeting has told a
     /// failure of the device, as `Replica::edit` does (6, 5, 7, 10), with 8 where the records have
     /// no room behind those that wait for a commit (1,048,576 bytes), and with 1 for want of
-    /// memory. A refused edit changes nothing. Costs what `Replica::edit` does.
+    /// memory. A refused edit changes nothing. Costs what `Replica::edit` does, and a copy of the
+    /// records of what it makes.
     pub fn edit(&mut self, session: u64, edit: &Edit) -> Result<Ticket, LockedRefusal>
         ensures call { EditStep (state_of self.old) session edit.now (edited result)
             (state_of self.new) }
@@ -42,7 +43,7 @@ impl Locked {
         if !self.has_record_room(decided.bytes) {
             return Err(LockedRefusal::Full);
         }
-        match self.replica.put_edit(session, edit, decided) {
+        match self.put_edit(session, edit, decided) {
             Ok(ticket) => Ok(ticket),
             Err(refusal) => Err(LockedRefusal::Replica(refusal)),
         }
@@ -73,7 +74,7 @@ impl Locked {
         if !self.has_record_room(op.record_length()) {
             return Err(LockedRefusal::Full);
         }
-        match self.replica.put_merge(peer, op) {
+        match self.put_merge(peer, op) {
             Ok(()) => Ok(Merged::Applied),
             Err(refusal) => Err(LockedRefusal::Replica(refusal)),
         }

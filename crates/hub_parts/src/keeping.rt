@@ -18,6 +18,7 @@ impl Locked {
         ensures { self.new ≡ record self.old { begun = length self.old.replica.list } }
     {
         self.begun = self.replica.list().len();
+        self.waiting.clear();
     }
 
     /// Settles the operations that were taken, and answers how many are settled now.

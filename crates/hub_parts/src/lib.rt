@@ -10,9 +10,11 @@ mod locked;
 mod meeting;
 mod met;
 mod opening;
+mod putting;
 mod reading;
 mod refusal;
 mod telling;
+mod waiting;
 
 pub use flusher::Flusher;
 pub use locked::Locked;

@@ -8,20 +8,22 @@ use std::marker::Model;
 /// settled or in the commit, and whether a meeting has told a failure of the device. It names no
 /// disk, and none of its calls makes a device call. Contracts see these three.
 ///
-/// The operations that wait for the next commit are those of the list behind the taken ones. Their
-/// records stand in the list one after another, so a meeting is lent them as they are. The type
-/// keeps that they have at most 1,048,576 bytes, and that the settlements which are due have their
-/// places among the kept steps.
+/// The operations that wait for the next commit are those of the list behind the taken ones. Beside
+/// the list, their records stand in pieces, made with each edit, so a meeting spells nothing. The
+/// type keeps that these spell what waits, that the single records of what waits have at most
+/// 1,048,576 bytes, and that the settlements which are due have their places among the kept steps.
 #[derive(Debug, Drop)]
 pub struct Locked {
     pub(crate) replica: Replica,
     /// How many operations of the list are settled or in the commit.
     pub(crate) begun: usize,
     pub(crate) failure_told: bool,
+    /// The records of the operations that wait for the next commit.
+    pub(crate) waiting: Vec<u8>,
 }
 
 impl Model for Locked {
-    ghost use Rattle.hub_parts.specs.Locked.{LockedHeld, Keeps};
+    ghost use Rattle.hub_parts.specs.Locked.{LockedHeld, Keeps, Waits};
 
     ghost Value = { LockedHeld };
 
@@ -35,7 +37,7 @@ impl Model for Locked {
       replica = l.replica;
       begun = l.begun;
       failure_told = l.failure_told;
-    }) };
+    }) × Waits l.replica l.begun l.waiting.items };
 }
 
 impl Locked {

@@ -4,7 +4,7 @@ ghost use Rattle.std.specs.Prelude.{IfOk, IfErr, OnOk, OnErr};
 ghost use Rattle.op_list.specs.Records.{AreRecords};
 ghost use Rattle.op_model.specs.declared.op.Op.{Op as Operation};
 ghost use Rattle.root_slots.specs.Root.{count_of};
-ghost use Rattle.group_commit.specs.Begin.{Begins};
+ghost use Rattle.group_commit.specs.Begin.{AreWritten, Begins};
 ghost use Rattle.group_commit.specs.declared.error.StoreError.TheVariants.{Memory};
 ghost use Rattle.hub_parts.specs.Locked.{has_commit};
 ghost use Rattle.hub_parts.specs.Meet.{FitTogether, side_of};
@@ -76,26 +76,27 @@ impl<D: Disk> Flusher<D> {
         if !self.store.has_room(count, records.len() as u64) {
             return Err(StoreError::Limit);
         }
-        let length = self.begin_commit(records, count)?;
+        let length = self.begin_commit(records, &locked.waiting, count)?;
         locked.take_all();
         Ok(Met::Begun(length))
     }
 
-    /// Begins a commit of the `count` operations whose records these are, where there is room for
-    /// them, and answers the length of the list that it commits. It is refused for want of memory
-    /// alone, and changes nothing then.
-    fn begin_commit(&mut self, records: &[u8], count: u64) -> Result<u64, StoreError>
-        requires { CanCommit self.old records.now count }
+    /// Begins a commit of the `count` operations whose single records these are, and which the
+    /// pieces spell too, where there is room for them, and answers the length of the list that it
+    /// commits. It is refused for want of memory alone, and changes nothing then.
+    fn begin_commit(&mut self, records: &[u8], pieces: &[u8], count: u64) -> Result<u64, StoreError>
+        requires { CanCommit self.old records.now pieces.now count }
         ensures length { IfOk result (λ n. n ≡ count_of self.old.store.current.body + count) }
         ensures taken { OnOk result ((self.new.due ≡ true)
             × ((ops : List Operation) → AreRecords ops count records.now
-            → Begins D.DiskFacts self.old.store ops self.new.store
+            → AreWritten ops count pieces.now
+            → Begins D.DiskFacts self.old.store ops pieces.now self.new.store
             × (self.new.list ≡ self.old.list ++ ops))) }
         ensures refused { IfErr result (λ error. error ≡ Memory) }
         ensures same { OnErr result (self.new ≡ self.old) }
     {
         self.list.append(records, count)?;
-        match self.store.begin_records(records, count) {
+        match self.store.begin_records(pieces, count) {
             Ok(Some(length)) => {
                 self.due = true;
                 Ok(length)

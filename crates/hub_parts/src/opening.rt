@@ -54,6 +54,7 @@ pub fn open<D: Disk>(alloc: Global, disk: D) -> Result<Parts<D>, OpenFault<D>>
             replica,
             begun,
             failure_told: false,
+            waiting: Vec::new(alloc),
         },
         flusher: Flusher {
             store,

@@ -1,12 +1,12 @@
 //! One end of a link.
 use crate::edits;
-use causal_sync::{Heard, Link};
+use causal_sync::{Heard, Link, Ops};
 use disk_trait::MemDisk;
 use fixed_numbers::limits::MAX_TOLD;
 use group_commit::{Phase, Store};
 use locked_replica::Hub;
 use op_ids::{Clock, ReplicaId};
-use op_model::{Change, Edit, Op};
+use op_model::{Change, Edit};
 use replica_core::Merged;
 use std::alloc::Global;
 
@@ -149,19 +149,23 @@ impl Peer {
     // Merges the operations of a frame, if it has any.
     fn take_in(&mut self, heard: Heard) -> Option<()> {
         match heard {
-            Heard::Ops(ops) => self.merge_all(ops.into_vec()),
+            Heard::Ops(ops) => self.merge_all(ops),
             Heard::Have(_clock) => Some(()),
             Heard::Hello(_) | Heard::Bye => Some(()),
         }
     }
 
-    // Merges operations. None of them is early: they come in the order of a list.
-    fn merge_all(&mut self, ops: Vec<Op>) -> Option<()> {
-        for op in ops {
-            match self.hub.merge(OTHER, op).ok()? {
-                Merged::Applied => self.merged = self.merged.saturating_add(1),
-                Merged::Known => self.known = self.known.saturating_add(1),
-                Merged::Early => return None,
+    // Merges the operations of a frame. None of them is early: they come in the order of a list.
+    fn merge_all(&mut self, ops: Ops) -> Option<()> {
+        let pieces = ops.into_vec();
+        let alloc = *pieces.allocator();
+        for piece in pieces {
+            for op in piece.ops(alloc).ok()? {
+                match self.hub.merge(OTHER, op).ok()? {
+                    Merged::Applied => self.merged = self.merged.saturating_add(1),
+                    Merged::Known => self.known = self.known.saturating_add(1),
+                    Merged::Early => return None,
+                }
             }
         }
         Some(())

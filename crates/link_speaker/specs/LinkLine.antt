@@ -1,5 +1,6 @@
 -- A link as a line.
 use Rattle.std.specs.Prelude.{◌≡◌, ℕ, true, ⊤, List, Option, Some, None, if◌then◌else◌}
+use Rattle.op_pieces.specs.Pieces.{joined}
 use Rattle.causal_sync.specs.declared.heard.Heard.{Heard}
 use Rattle.causal_sync.specs.declared.heard.Heard.TheVariants.{Hello, Have, Ops, Bye}
 use Rattle.causal_sync.specs.declared.link_error.LinkError.{LinkError}
@@ -11,12 +12,12 @@ use Rattle.causal_sync.specs.State.{LinkState, Sends, is_silent, said, without_o
 abbrev pub LinkSays : LinkState → Heard → LinkState → Type 0
 LinkSays old (Hello replica) new = ⊥
 LinkSays old (Have clock) new = new ≡ said old (Have clock)
-LinkSays old (Ops ops) new = Sends old new ops
+LinkSays old (Ops pieces) new = Sends old new (joined pieces)
 LinkSays old Bye new = new ≡ said old Bye
 
 -- the base has no room for the operations
 abbrev pub HasNoRoom : LinkState → Heard → Type 0
-HasNoRoom s (Ops ops) = sent s.base ops ≡ None
+HasNoRoom s (Ops pieces) = sent s.base (joined pieces) ≡ None
 HasNoRoom s (Hello replica) = ⊥
 HasNoRoom s (Have clock) = ⊥
 HasNoRoom s Bye = ⊥

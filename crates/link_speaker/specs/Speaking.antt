@@ -2,6 +2,7 @@
 use Rattle.std.specs.Prelude.{◌≡◌, ◌⊎◌, ℕ, Bool, true, false, ◌||◌, not, List, [], ◌∷◌, Option, Some, None}
 use Rattle.op_ids.specs.Clock.{is_same_clock}
 use Rattle.op_model.specs.declared.op.Op.{Op}
+use Rattle.op_pieces.specs.Cutting.{cut}
 use Rattle.causal_sync.specs.declared.heard.Heard.{Heard}
 use Rattle.causal_sync.specs.declared.heard.Heard.TheVariants.{Have, Ops}
 use Rattle.causal_sync.specs.declared.link_error.LinkError.{LinkError}
@@ -25,10 +26,10 @@ abbrev pub has_some : List Op → Bool
 has_some [] = false
 has_some (op ∷ ops) = true
 
--- what is said of operations: one OPS of all of them, where there are any
+-- what is said of operations: one OPS of the pieces that all of them are cut into, where there are any
 abbrev pub ops_frames : List Op → List Heard
 ops_frames [] = []
-ops_frames (op ∷ ops) = Ops (op ∷ ops) ∷ []
+ops_frames (op ∷ ops) = Ops (cut (op ∷ ops)) ∷ []
 
 module _ {P L : Type 0} (peers : PeerFacts P) (lines : LineFacts L) where
   -- these frames were said, one after the other

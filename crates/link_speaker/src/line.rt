@@ -1,6 +1,7 @@
 //! What frames are said over.
 ghost use Rattle.std.specs.Prelude.{◌≡◌, ◌≤◌, length, IfOk, IfErr, OnOk, OnErr};
 ghost use Rattle.fixed_numbers.specs.declared.limits.TheConstants.{MAX_TOLD};
+ghost use Rattle.op_pieces.specs.Cutting.{cut};
 ghost use Rattle.causal_sync.specs.declared.heard.Heard.TheVariants as frame;
 
 use causal_sync::LinkError;
@@ -40,12 +41,12 @@ pub trait Line {
         ensures refused { IfErr result (refuses self.old (frame.Have clock.now)) }
         ensures err { OnErr result (self.new ≡ self.old) };
 
-    /// Says 1 to `MAX_TOLD` operations. A refusal changes nothing.
+    /// Says 1 to `MAX_TOLD` operations, cut into pieces. A refusal changes nothing.
     fn say_ops(&mut self, ops: &[Op]) -> Result<(), LinkError>
         requires some { 1 ≤ length ops.now }
         requires most { length ops.now ≤ MAX_TOLD }
-        ensures ok { OnOk result (says self.old (frame.Ops ops.now) self.new) }
-        ensures refused { IfErr result (refuses self.old (frame.Ops ops.now)) }
+        ensures ok { OnOk result (says self.old (frame.Ops (cut ops.now)) self.new) }
+        ensures refused { IfErr result (refuses self.old (frame.Ops (cut ops.now))) }
         ensures err { OnErr result (self.new ≡ self.old) };
 
     /// Says that nothing more is said. A refusal changes nothing.

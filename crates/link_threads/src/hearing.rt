@@ -4,7 +4,6 @@ use crate::link_end::{LinkEnd, Said};
 use crate::patience::Patience;
 use causal_sync::Ops;
 use fixed_numbers::refusals::{BUSY, FAILED, MEMORY, STEPS, STOPPING};
-use op_model::Op;
 use pass_books::{Desks, Pass};
 use replica_core::Merged;
 use rtrb::Producer;
@@ -147,7 +146,7 @@ impl<'a, R: Wait + Clock, J: Desks, G: Gate> Hearing<'a, R, J, G> {
     /// nothing more is taken for a while, and then they are asked for again.
     fn hear_ops(&mut self, ops: Ops) -> bool {
         self.haves = 0;
-        match self.merge_all(ops.into_vec()) {
+        match self.merge_all(ops) {
             Merging::GoesOn => true,
             Merging::CantTake => {
                 self.wake_telling();
@@ -168,20 +167,28 @@ impl<'a, R: Wait + Clock, J: Desks, G: Gate> Hearing<'a, R, J, G> {
         }
     }
 
-    /// Merges operations, up to the first one that can't be taken.
-    fn merge_all(&mut self, ops: Vec<Op>) -> Merging {
+    /// Merges the operations of a frame one by one, up to the first one that can't be taken.
+    fn merge_all(&mut self, ops: Ops) -> Merging {
+        let pieces = ops.into_vec();
+        let alloc = *pieces.allocator();
         let mut is_early = false;
-        for op in ops {
-            match self.shared.merge(self.rt, self.pass, op) {
-                Ok(Merged::Applied) => {
-                    self.has_taken = true;
-                    self.patience.end();
-                }
-                Ok(Merged::Known) => {}
-                Ok(Merged::Early) => is_early = true,
-                Err(refusal) => {
-                    self.is_out_of_steps = refusal.number() == STEPS;
-                    return behind(refusal);
+        for piece in pieces {
+            // A run for whose operations there is no memory is asked for again, as one of them is.
+            let Ok(ops) = piece.ops(alloc) else {
+                return Merging::CantTake;
+            };
+            for op in ops {
+                match self.shared.merge(self.rt, self.pass, op) {
+                    Ok(Merged::Applied) => {
+                        self.has_taken = true;
+                        self.patience.end();
+                    }
+                    Ok(Merged::Known) => {}
+                    Ok(Merged::Early) => is_early = true,
+                    Err(refusal) => {
+                        self.is_out_of_steps = refusal.number() == STEPS;
+                        return behind(refusal);
+                    }
                 }
             }
         }

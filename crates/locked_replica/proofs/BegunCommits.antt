@@ -13,9 +13,9 @@ use Rattle.group_commit.specs.declared.phase.Phase.TheVariants.{Idle}
 use Rattle.locked_replica.specs.Calls.{Counts}
 
 -- a commit that begins has all its writes and syncs before it
-pub counts_begun : {D : Type 0} (facts : Ghosts D) (s new : StoreHeld D) (ops : List Op) (n : ℕ) → s.phase ≡ Idle → s.failed ≡ false → Begins facts s ops new
+pub counts_begun : {D : Type 0} (facts : Ghosts D) (s new : StoreHeld D) (ops : List Op) (records : List ℕ) (n : ℕ) → s.phase ≡ Idle → s.failed ≡ false → Begins facts s ops records new
     → Counts facts (begun_answer n) s new
-counts_begun facts s new ops n idle works b =
+counts_begun facts s new ops records n idle works b =
     let none = none_left s idle in
     let pages : length new.numbers - 0 ≡ length new.numbers = omega arith in
     let numbers : new.numbers ≡ changed_pages new.current new.next = rw b.current b.numbers in

@@ -1,23 +1,22 @@
 -- What two parts that fit keep together.
 use Rattle.std.specs.Prelude.{◌≡◌, ℕ, ◌+◌, ◌<◌, ◌≤◌, Bool, true, false, List, length, take}
 use Rattle.disk_trait.specs.declared.facts.DiskFacts.{Ghosts}
-use Rattle.change_codec.specs.Stream.{spelled_all, AreOperations}
+use Rattle.piece_codec.specs.Stream.{SpellsList}
 use Rattle.op_model.specs.Held.{ReplicaHeld}
 use Rattle.replica_core.specs.Held.{IsSound}
 use Rattle.replica_core.specs.Steps.{places_left}
-use Rattle.root_slots.specs.Root.{version_of, replica_of, count_of}
+use Rattle.root_slots.specs.Root.{format_of, version_of, replica_of, count_of}
 use Rattle.group_commit.specs.Begin.{is_idle}
 use Rattle.group_commit.specs.Commit.{IsLeft}
 use Rattle.group_commit.specs.Saved.{Saved}
 use Rattle.hub_parts.specs.Locked.{due_behind, CanSettle}
 use Rattle.locked_replica.specs.Hub.{Parts}
 
--- the root is this replica's, and its stream is the records of the first operations of the list, as many as it says
+-- the root is this replica's, and its stream spells the first operations of the list in its format, as many as it says
 pub record IsFront (h : ReplicaHeld) (root : Saved) : Type 0 where
   pub owner : replica_of root.body ≡ h.replica
   pub within : count_of root.body ≤ length h.list
-  pub stream : root.stream ≡ spelled_all (take (count_of root.body) h.list)
-  pub fits : AreOperations (take (count_of root.body) h.list)
+  pub stream : SpellsList (format_of root.body) (take (count_of root.body) h.list) root.stream
 
 -- the root that the commit under way makes is the next one, of more operations than the live one, which are settled
 pub record IsUnderWay (h : ReplicaHeld) (current next : Saved) : Type 0 where

@@ -1,11 +1,12 @@
 -- A begin and a settlement of a hub are meetings of its two parts.
-use Rattle.std.proofs.Common.{◌≡◌, ◌≢◌, ℕ, ◌<◌, Bool, true, false, not, ◌&&◌, nat_lt, drop, refl, sym, ap, ◌∙◌, subst, arith}
+use Rattle.std.proofs.Common.{◌≡◌, ◌≢◌, ◌⊎◌, ℕ, ◌<◌, Bool, true, false, not, ◌&&◌, nat_lt, List, length, drop, refl, sym, ap, ◌∙◌, subst, arith}
 use Rattle.std.proofs.Common.{inl, inr, Option, Some, None, Result, Ok, Err}
 use Rattle.std.specs.Prelude.{if◌then◌else◌, is_some}
 use Rattle.std.proofs.lemmas.Bool.{ltb-true, ltb-false}
 use Rattle.disk_trait.specs.Calls.{IsLawful}
 use Rattle.disk_trait.specs.declared.facts.DiskFacts.{Ghosts}
 use Rattle.op_model.specs.Machine.{Answer, begin, begun, nothing_new, settle, refused, settled_to, Commit}
+use Rattle.op_model.specs.Records.{stream_length}
 use Rattle.root_slots.specs.Root.{count_of}
 use Rattle.op_model.specs.Held.{with_settled}
 use Rattle.group_commit.specs.Begin.{begin_due, has_room, is_idle, is_none, Begins, IsAnswer}
@@ -21,7 +22,7 @@ use Rattle.hub_parts.specs.declared.met.Met.TheVariants.{Begun, Settled, Nothing
 use Rattle.locked_replica.specs.Calls.{IsCall}
 use Rattle.locked_replica.specs.Hub.{commit_in, commit_of, committed, is_through}
 use Rattle.locked_replica.proofs.Fits.{Fits}
-use Rattle.locked_replica.proofs.BeginAnswers.{begin_made}
+use Rattle.locked_replica.proofs.BeginAnswers.{begin_made, none_is}
 use Rattle.locked_replica.proofs.Beginning.{begin_busy, begin_failed}
 use Rattle.locked_replica.proofs.PartsFit.{hub_fits, hub_of, taken_all}
 use Rattle.locked_replica.proofs.PartsOf.{parts}
@@ -75,6 +76,15 @@ settled_alone n answer (inr (want, begins)) = absurd begins
 failed_alone : (e : StoreError) (answer : Result Met StoreError) → IsMet (Err e) answer → answer ≡ Err e
 failed_alone e answer (inl same) = same
 failed_alone e answer (inr (want, begins)) = absurd begins
+
+-- neither is a begin, nor that nothing waits
+pub never_begun : (answer : Result Met StoreError) (n m : ℕ) → answer ≡ Ok (Begun n) → (answer ≡ Err Failed) ⊎ (answer ≡ Ok (Settled m)) → ⊥
+never_begun answer n m is (inl other) = cc
+never_begun answer n m is (inr other) = cc
+
+pub never_nothing : (answer : Result Met StoreError) (m : ℕ) → answer ≡ Ok Nothing → (answer ≡ Err Failed) ⊎ (answer ≡ Ok (Settled m)) → ⊥
+never_nothing answer m is (inl other) = cc
+never_nothing answer m is (inr other) = cc
 
 module _ {D : Type 0} (facts : Ghosts D) (l : LockedHeld) (f : FlusherHeld D) (lawful : (disk : D) → facts.tells disk → IsLawful facts disk)
     (locked : IsLocked l) (flusher : IsFlusher facts f) (meet : FitTogether l (side_of f)) where
@@ -155,8 +165,9 @@ module _ {D : Type 0} (facts : Ghosts D) (l : LockedHeld) (f : FlusherHeld D) (l
           let (settled, idle) = nothing_due rests in
           let due : meeting_due l f ≡ due_without l f = rw (works, never_differ f.due (has_commit l) meet.both, rests) refl in
           let is_met : IsMet (due_without l f) answer = rw due at met.answer in
-          let begin_is : as_begun (due_without l f) ≡ begin_due f.store (pending l) = rw (works, idle) (begun_by _ _ _) in
-          let is_answer : IsAnswer (begin_due f.store (drop l.replica.settled l.replica.list)) (as_begun answer) =
+          let begin_is : as_begun (due_without l f) ≡ begin_due f.store (length (pending l)) (stream_length (pending l)) =
+          rw (works, idle, none_is (pending l)) (begun_by _ _ _) in
+          let is_answer : IsAnswer (begin_due f.store (length (drop l.replica.settled l.replica.list)) (stream_length (drop l.replica.settled l.replica.list))) (as_begun answer) =
           rw (settled, sym begin_is) (met_as_begun (due_without l f) answer is_met) in
           let never : (n : ℕ) → answer ≢ Ok (Settled n) = λ n. no_settlement (is_none (pending l)) (has_room f.store.current (pending l)) _ n answer is_met in
           let same = same_parts answer met.leaves never in
@@ -172,8 +183,8 @@ module _ {D : Type 0} (facts : Ghosts D) (l : LockedHeld) (f : FlusherHeld D) (l
           same_parts (Err e) left never = let stays : l' ≡ l = rw works at left.locked in rw stays refl
 
           begins : (a : Result Met StoreError) → LeavesBoth facts l f a l' f' → (n : ℕ) → as_begun a ≡ Ok (Some n)
-              → Begins facts f.store (drop l.replica.settled l.replica.list) f'.store
-          begins (Ok (Begun m)) left n is = rw (nothing_due (rw works at none)).0 left.begins
+              → (records : List ℕ) × Begins facts f.store (drop l.replica.settled l.replica.list) records f'.store
+          begins (Ok (Begun m)) left n is = (left.records, rw (nothing_due (rw works at none)).0 left.begins)
           begins (Ok (Settled m)) left n is = let never : ⊥ = cc in absurd never
           begins (Ok Nothing) left n is = let never : ⊥ = cc in absurd never
           begins (Err e) left n is = let never : ⊥ = cc in absurd never
@@ -183,6 +194,23 @@ module _ {D : Type 0} (facts : Ghosts D) (l : LockedHeld) (f : FlusherHeld D) (l
           stays (Ok (Settled m)) left other = ap (λ g. g.store) left.flusher
           stays (Ok Nothing) left other = ap (λ g. g.store) left.1
           stays (Err e) left other = ap (λ g. g.store) left.flusher
+
+  -- where a commit is through or the device failed, a meeting settles or says so
+  pub settles_alone : (answer : Result Met StoreError) → (not f.store.failed && not (f.due && is_idle f.store.phase)) ≡ false
+      → IsMet (meeting_due l f) answer → (answer ≡ Err Failed) ⊎ (answer ≡ Ok (Settled l.begun))
+  settles_alone answer none met = by_test f.store.failed refl
+    where
+      both_true : (a b : Bool) → not (a && b) ≡ false → (a ≡ true) × (b ≡ true)
+      both_true true true is = (refl, refl)
+      both_true true false is = let never : ⊥ = cc in absurd never
+      both_true false b is = let never : ⊥ = cc in absurd never
+
+      by_test : (failed : Bool) → f.store.failed ≡ failed → (answer ≡ Err Failed) ⊎ (answer ≡ Ok (Settled l.begun))
+      by_test true failed = inl (failed_alone Failed answer (rw failed at met))
+      by_test false works =
+          let (due, idle) = both_true f.due (is_idle f.store.phase) (rw works at none) in
+          let due_is : meeting_due l f ≡ Ok (Settled l.begun) = rw (works, never_differ f.due (has_commit l) meet.both, due, idle) refl in
+          inr (settled_alone l.begun answer (rw due_is at met))
 
   -- a meeting of a settlement
   pub settle_met : (answer : Result Met StoreError) (l' : LockedHeld) (f' : FlusherHeld D)

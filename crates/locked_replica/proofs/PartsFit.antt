@@ -37,7 +37,6 @@ module _ {D : Type 0} (facts : Ghosts D) (l : LockedHeld) (f : FlusherHeld D) (l
         owner = owner;
         within = omega (arith, within, taken, taken_all);
         stream = rw same at front.stream;
-        fits = rw same at front.fits;
       }
 
   commits : (idle : Bool) → is_idle f.store.phase ≡ idle → RestsOrCommits idle f → CommitFits idle l.replica f.store.current f.store.next

@@ -21,7 +21,7 @@ use Rattle.model_laws.proofs.Ids.{below_differs, equal_same}
 use Rattle.model_laws.proofs.Ready.{count_made}
 use Rattle.world_law.proofs.Members.{HasOp-left, all_at}
 use Rattle.world_law.proofs.Steps.{told_settled}
-use Rattle.group_commit.specs.declared.open_fault.OpenError.TheVariants.{Memory, NoRoot, BadRoot, BadTable, BadStream, ReadFailed, SyncFailed}
+use Rattle.group_commit.specs.declared.open_fault.OpenError.TheVariants.{Memory, NoRoot, BadRoot, BadTable, BadStream, TooLong, ReadFailed, SyncFailed}
 use Rattle.recovery.specs.Faults.{IsFault, number_of, failures_of}
 use Rattle.recovery.specs.Image.{IsImage}
 use Rattle.recovery.specs.declared.open_fault.OpenError.{OpenError}
@@ -99,6 +99,7 @@ by_device (Load NoRoot) (inr is) = absurd (omega (arith, is))
 by_device (Load BadRoot) (inr is) = absurd (omega (arith, is))
 by_device (Load BadTable) (inr is) = absurd (omega (arith, is))
 by_device (Load BadStream) (inr is) = absurd (omega (arith, is))
+by_device (Load TooLong) (inr is) = absurd (omega (arith, is))
 by_device (Load ReadFailed) (inr is) = inr (inl refl)
 by_device (Load SyncFailed) (inr is) = inr (inr refl)
 

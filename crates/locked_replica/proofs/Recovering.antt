@@ -32,9 +32,9 @@ image_of : (h : ReplicaHeld) (root : Saved) (file : List ℕ) → IsSound h → 
 image_of h root file sound front is =
     record {
       body = root.body;
-      holds = is.holds ∙ ap (λ bytes. Ok (root.body, bytes)) front.stream;
-      fits = front.fits;
-      count = length-take-le (count_of root.body) h.list front.within;
+      bytes = root.stream;
+      holds = is.holds;
+      spells = record { spells = front.stream; counted = length-take-le (count_of root.body) h.list front.within };
       owner = front.owner;
       made = refl;
       closed = closed_take (count_of root.body) h.list sound.closed;

@@ -10,8 +10,8 @@ use Rattle.op_list.proofs.EndsOf.{stream_length-append}
 use Rattle.op_model.specs.declared.op.Op.{Op}
 use Rattle.op_model.specs.Causality.{FollowInTurn, IsCausallyClosed, is_within_limits, is_in_range, clock_of, documents}
 use Rattle.op_model.specs.Records.{stream_length}
-use Rattle.change_codec.proofs.StreamLaws.{length-spelled_all}
-use Rattle.root_slots.specs.Root.{version_of, count_of}
+use Rattle.piece_codec.proofs.StreamLaws.{no_longer}
+use Rattle.root_slots.specs.Root.{format_of, version_of, count_of}
 use Rattle.group_commit.specs.Begin.{is_none, has_room}
 use Rattle.group_commit.specs.Saved.{Saved}
 use Rattle.op_model.specs.Held.{ReplicaHeld}
@@ -54,7 +54,7 @@ room_is_version h root closed front =
     let few = few_of h.list closed in
     let count = behind_front n h.list front.within in
     let bytes = stream_behind n h.list in
-    let long = ap length front.stream ∙ length-spelled_all (take n h.list) in
+    let long = no_longer (format_of root.body) (take n h.list) root.stream front.stream in
     let counted : nat_le (n + length (drop n h.list)) 16777216 ≡ true = le-leb _ _ (omega (arith, count, few.0)) in
     let stored : nat_le (length root.stream + stream_length (drop n h.list)) 1073741824 ≡ true = le-leb _ _ (omega (arith, bytes, long, few.1)) in
     rw (counted, stored) (and_true (nat_lt (version_of root.body) 18446744073709551615))

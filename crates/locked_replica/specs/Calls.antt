@@ -61,9 +61,11 @@ pub record Counts {D : Type 0} (facts : Ghosts D) (answer : Answer) (old new : S
   pub syncs : facts.tells old.disk → new.failed ≡ false
       → facts.syncs new.disk + syncs_left new ≡ facts.syncs old.disk + syncs_left old + syncs_begun answer
 
--- A begin that is answered with a number has begun a commit of all operations that aren't settled; another one changes nothing.
+-- A begin that is answered with a number has begun a commit of all operations that aren't settled, by records that spell them;
+-- another one changes nothing.
 abbrev pub StoreBegins : {D : Type 0} → Ghosts D → Answer → Parts D → StoreHeld D → Type 0
-StoreBegins facts (begun n) old new = Begins facts old.store (drop old.replica.settled old.replica.list) new
+StoreBegins facts (begun n) old new =
+    (records : List ℕ) × Begins facts old.store (drop old.replica.settled old.replica.list) records new
 StoreBegins facts a old new = new ≡ old.store
 
 -- the call of the phase is counted, whether it fails or not

@@ -91,7 +91,8 @@ impl<D: Disk> Hub<D> {
         self.flusher.kept();
         match answer {
             Ok(Met::Settled(count)) => Ok(count),
-            Ok(Met::Begun(_)) | Ok(Met::Nothing) => unreachable!(),
+            Ok(Met::Begun(_)) => unreachable!(),
+            Ok(Met::Nothing) => unreachable!(),
             Err(error) => Err(HubRefusal::Store(error)),
         }
     }

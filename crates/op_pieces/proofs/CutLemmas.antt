@@ -1,10 +1,9 @@
 -- Pieces that operations are cut into make them up, are pieces, and are as long as they can be.
-use Rattle.std.proofs.Common.{◌≡◌, ℕ, ◌+◌, Bool, true, false, not, ◌&&◌, inl, inr, List, [], ◌∷◌, ◌++◌, length, arith, ap, refl, sym, ◌∙◌, append_assoc}
+use Rattle.std.proofs.Common.{◌≡◌, true, false, inl, inr, List, [], ◌∷◌, ◌++◌, ap, refl, sym, ◌∙◌, append_assoc}
 use Rattle.std.specs.List.{list_all}
-use Rattle.std.proofs.lemmas.Bool.{and_parts, and_from, cases_Bool}
-use Rattle.std.proofs.lemmas.List.{append-nil}
+use Rattle.std.proofs.lemmas.Bool.{and_parts, cases_Bool}
 use Rattle.op_model.specs.declared.op.Op.{Op}
-use Rattle.op_pieces.specs.Pieces.{Run, next_typed, ops_of, joined, last_typed, end_of, is_piece, ArePieces, single, longer}
+use Rattle.op_pieces.specs.Pieces.{Run, next_typed, ops_of, joined, end_of, is_piece, ArePieces, single, longer}
 use Rattle.op_pieces.specs.Cutting.{value_of, goes_on, cut_behind, cut, is_valid, may_go_on, are_longest}
 use Rattle.op_pieces.proofs.PieceLemmas.{last_more, typed_more, next_is, grown_piece}
 

@@ -1,3 +1,5 @@
 pub mod PieceLemmas
 pub mod CutLemmas
 pub mod AdvancedLemmas
+pub mod UnrolledLemmas
+pub mod LengthLemmas

@@ -1,18 +1,17 @@
 -- What is known of the last operation of a piece, and of a piece with one more.
-use Rattle.std.proofs.Common.{◌≡◌, ℕ, zero, suc, ◌+◌, ◌<◌, ◌≤◌, Bool, true, false, ◌&&◌, ◌||◌, inl, inr, List, [], ◌∷◌, ◌++◌, length, Option, Some, None}
-use Rattle.std.proofs.Common.{arith, ap, refl, sym, ◌∙◌, append_assoc, length-append}
-use Rattle.std.specs.Prelude.{◌==◌, nat_lt, nat_le, IsTrue}
-use Rattle.std.proofs.lemmas.Bool.{and_parts, and_from, cases_Bool, eqb-true}
-use Rattle.std.proofs.lemmas.Bool.Decides.{nat_tests}
-use Rattle.op_ids.specs.Id.{Id, is_same}
-use Rattle.op_ids.specs.Clock.{advanced, advanced_by, is_clock, is_same_clock}
+use Rattle.std.proofs.Common.{◌≡◌, ℕ, zero, suc, ◌+◌, true, List, [], ◌∷◌, ◌++◌, length, Option, Some, None}
+use Rattle.std.proofs.Common.{arith, ap, refl, sym, ◌∙◌, length-append}
+use Rattle.std.specs.Prelude.{nat_lt, nat_le}
+use Rattle.std.proofs.lemmas.Bool.{and_parts, eqb-true}
+use Rattle.op_ids.specs.Id.{Id}
+use Rattle.op_ids.specs.Clock.{advanced, advanced_by, is_clock}
 use Rattle.op_ids.proofs.EqualityLemmas.{is_same_clock_tells}
 use Rattle.model_laws.proofs.Ids.{same_equal}
 use Rattle.op_model.specs.declared.op.Op.{Op}
 use Rattle.op_model.specs.declared.op.Body.{Body}
 use Rattle.op_model.specs.declared.op.Body.TheVariants.{Insert, Remove, AddMark, RemoveMark}
 use Rattle.op_model.specs.Causality.{is_insert}
-use Rattle.op_pieces.specs.Pieces.{Run, next_typed, typed_behind, ops_of, last_typed, end_of, has_room_behind, fits_behind, is_piece, longer}
+use Rattle.op_pieces.specs.Pieces.{Run, next_typed, typed_behind, last_typed, end_of, has_room_behind, fits_behind, is_piece, longer}
 use Rattle.op_pieces.specs.Cutting.{value_of, is_behind, is_same_token, is_next, goes_on, is_valid}
 
 -- one more is counted at the end

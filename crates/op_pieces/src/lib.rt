@@ -4,8 +4,10 @@
 mod clocks;
 mod cutting;
 mod laws;
+mod lengths;
 mod next;
 mod piece;
+mod unrolled;
 
 pub use cutting::cut;
 pub use laws::{pieces_are_longest, pieces_are_pieces, pieces_make_up_the_operations};

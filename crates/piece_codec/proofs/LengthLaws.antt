@@ -1,5 +1,5 @@
 -- The record of a piece is no longer than those of its operations.
-use Rattle.std.proofs.Common.{◌≡◌, ℕ, ◌+◌, ◌*◌, ◌≤◌, true, List, [], ◌∷◌, length, arith}
+use Rattle.std.proofs.Common.{◌≡◌, ℕ, ◌+◌, ◌*◌, ◌<◌, ◌≤◌, true, List, [], ◌∷◌, length, sym, ◌∙◌, arith}
 use Rattle.std.proofs.lemmas.Bool.{and_parts}
 use Rattle.std.proofs.lemmas.List.{length-append}
 use Rattle.std.specs.Int.{w32}
@@ -37,3 +37,13 @@ piece_no_longer p piece = by_others p.first p.others piece
     by_others op (v ∷ vs) piece =
         let inserts = (and_parts (is_insert op.body) _ piece).0 in
         omega (arith, length-spelled_run op (v ∷ vs), insert_length op.body inserts, typed_length op (v ∷ vs))
+
+-- ---- how long the record of a piece is
+
+pub single_long : (op : Op) (vs : List ℕ) (n : ℕ) → length vs ≡ 0 → n ≡ record_length op → n ≡ length (spelled_with op vs)
+single_long op [] n none long = long ∙ sym (length_spelled op)
+single_long op (v ∷ vs) n none long = absurd (omega arith)
+
+pub run_long : (op : Op) (vs : List ℕ) (n : ℕ) → 0 < length vs → n ≡ length (run_bytes op vs) → 4 + n ≡ length (spelled_with op vs)
+run_long op [] n some long = absurd (omega arith)
+run_long op (v ∷ vs) n some long = omega (arith, long, length-run op (v ∷ vs), length-spelled_run op (v ∷ vs))

@@ -1,6 +1,6 @@
 -- The records of pieces, one after another, determine the operations that they make up.
 use Rattle.std.proofs.Common.{◌≡◌, ℕ, ◌+◌, ◌<◌, ◌≤◌, List, [], ◌∷◌, ◌++◌, length, refl, sym, ap, ◌∙◌, append_assoc, arith}
-use Rattle.std.proofs.lemmas.List.{append-nil, length-append}
+use Rattle.std.proofs.lemmas.List.{append-nil, length-append, length-take, take_at}
 use Rattle.op_model.specs.declared.op.Op.{Op}
 use Rattle.op_model.specs.Records.{stream_length}
 use Rattle.op_pieces.specs.Pieces.{Run, single, ops_of, joined}
@@ -11,6 +11,7 @@ use Rattle.change_codec.specs.Stream.{spelled_all, AreOperations}
 use Rattle.change_codec.proofs.Lengths.{length_spelled}
 use Rattle.piece_codec.specs.Fits.{IsWhole}
 use Rattle.piece_codec.specs.Formats.{IsPieceOf}
+use Rattle.piece_codec.specs.Record.{BeginsWithPiece, BeginsWithOneOf}
 use Rattle.piece_codec.specs.Spelling.{spelled_with, spelled_piece}
 use Rattle.piece_codec.specs.Stream.{spelled_pieces, ArePiecesOf, SpellsList}
 use Rattle.piece_codec.proofs.LengthLaws.{length-spelled_run, piece_no_longer}
@@ -134,3 +135,46 @@ single_records f (op ∷ ops) fits of_f =
       joined_so = ap (λ more. op ∷ more) rest.joined_so;
       spelled_so = ap (λ more. spelled_piece (single op) ++ more) rest.spelled_so;
     }
+
+-- ---- what begins with records goes on with records
+
+pieces_behind : (f g : Format) (ps qs : List Run) (rest : List ℕ) → ArePiecesOf f ps → ArePiecesOf g qs → spelled_pieces qs ≡ spelled_pieces ps ++ rest
+    → (b : List Op) × SpellsList g b rest × (joined qs ≡ joined ps ++ b)
+pieces_behind f g [] qs rest of_p of_q is = (joined qs, record { pieces = qs; of_format = of_q; joined_so = refl; spelled_so = is }, refl)
+pieces_behind f g (p ∷ ps) [] rest of_p of_q is =
+    absurd (some_records p (spelled_pieces ps ++ rest) (sym (append_assoc (spelled_piece p) (spelled_pieces ps) rest) ∙ sym is))
+pieces_behind f g (p ∷ ps) (q ∷ qs) rest of_p of_q is =
+    let both = none_begins_another q p (spelled_pieces qs) (spelled_pieces ps ++ rest) of_q.0 of_p.0 (is ∙ append_assoc (spelled_piece p) (spelled_pieces ps) rest) in
+    let behind = pieces_behind f g ps qs rest of_p.2 of_q.2 both.1 in
+    (behind.0, behind.1, (λ i. ops_of (both.0 i) ++ behind.2 i) ∙ sym (append_assoc (ops_of p) (joined ps) behind.0))
+
+pub goes_on : (f g : Format) (a all : List Op) (x y : List ℕ) → SpellsList f a x → SpellsList g all (x ++ y) → (b : List Op) × SpellsList g b y × (all ≡ a ++ b)
+goes_on f g a all x y s t =
+    let behind = pieces_behind f g s.pieces t.pieces y s.of_format t.of_format (t.spelled_so ∙ ap (λ bytes. bytes ++ y) (sym s.spelled_so)) in
+    (behind.0, behind.1, sym t.joined_so ∙ behind.2 ∙ ap (λ ops. ops ++ behind.0) s.joined_so)
+
+-- ---- bytes that are none
+
+-- bytes begin with the first of the records that they are
+begins_first : (p : Run) (rest : List ℕ) → IsWhole p → BeginsWithPiece (spelled_piece p ++ rest) p (length (spelled_piece p))
+begins_first p rest fits = record {
+  whole = omega (arith, length-append (spelled_piece p) rest);
+  spelled_so = take_at (spelled_piece p) rest (length (spelled_piece p)) refl;
+  fits = fits;
+}
+
+first_of_some : (f : Format) (bytes : List ℕ) (ps : List Run) → 0 < length bytes → ArePiecesOf f ps → spelled_pieces ps ≡ bytes → BeginsWithOneOf f bytes
+first_of_some f bytes [] some of_f is = absurd (omega (arith, ap length is, some))
+first_of_some f bytes (p ∷ ps) some of_f is = (p, length (spelled_piece p), of_f.1, rw (← is) (begins_first p (spelled_pieces ps) of_f.0))
+
+-- some bytes that are a stream begin with a piece of its format
+pub begins_with_one : (f : Format) (ops : List Op) (bytes : List ℕ) → 0 < length bytes → SpellsList f ops bytes → BeginsWithOneOf f bytes
+begins_with_one f ops bytes some s = first_of_some f bytes s.pieces some s.of_format s.spelled_so
+
+pub no_list : (f : Format) (bytes : List ℕ) → 0 < length bytes → ((p : Run) (n : ℕ) → IsPieceOf f p → BeginsWithPiece bytes p n → ⊥)
+    → (ops : List Op) → SpellsList f ops bytes → ⊥
+no_list f bytes some none ops s = let first = begins_with_one f ops bytes some s in none first.0 first.1 first.2 first.3
+
+-- a record that bytes begin with takes some of them
+pub begins_some : (bytes : List ℕ) (p : Run) (n : ℕ) → BeginsWithPiece bytes p n → 0 < n
+begins_some bytes p n begins = omega (arith, ap length begins.spelled_so, length-take n bytes, spelled_some p)

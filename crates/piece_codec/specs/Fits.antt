@@ -14,3 +14,8 @@ pub record IsWhole (p : Run) : Type 0 where
   pub first : IsOperation p.first
   pub others : AreScalars p.others
   pub piece : is_piece p ≡ true
+
+-- each of them is whole
+abbrev pub AreWhole : List Run → Type 0
+AreWhole [] = Unit {0}
+AreWhole (p ∷ ps) = IsWhole p × AreWhole ps

@@ -5,6 +5,7 @@ mod fields;
 mod fits;
 mod kind;
 pub mod laws;
+mod pieces;
 mod record;
 mod room;
 mod run;
@@ -13,8 +14,9 @@ pub mod stream_laws;
 mod text;
 
 pub use fits::every_piece_has_a_spelling;
+pub use pieces::{pieces_length, put_pieces};
 pub use record::take_piece;
-pub use spelling::put_piece;
+pub use spelling::{piece_length, put_piece};
 
 #[cfg(test)]
 mod tests;

@@ -25,6 +25,18 @@ pub fn put_piece(piece: &Piece, out: &mut Vec<u8>) -> Result<(), AllocError>
     put_run(piece.first(), others, out)
 }
 
+/// How many bytes the record of a piece takes: at most 1,511. Constant.
+pub fn piece_length(piece: &Piece) -> usize
+    ensures value { result ≡ length (spelled_piece piece.now) }
+    ensures within { result ≤ 1511 }
+{
+    let others = piece.others();
+    if others.is_empty() {
+        return piece.first().record_length() as usize;
+    }
+    4 + body_length(piece.first(), others.len())
+}
+
 fn put_run(first: &Op, others: &[char], out: &mut Vec<u8>) -> Result<(), AllocError>
     requires { length others.now < 256 }
     ensures ok { OnOk result (out.new.items ≡ out.old.items ++ spelled_run first.now others.now) }

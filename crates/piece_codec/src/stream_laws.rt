@@ -1,5 +1,5 @@
 //! Laws of streams of pieces: calls that do nothing, and whose contracts are the laws.
-ghost use Rattle.std.specs.Prelude.{◌≡◌, ◌++◌, ◌≤◌, ℕ, List, [], length, true};
+ghost use Rattle.std.specs.Prelude.{◌≡◌, ◌++◌, ◌<◌, ◌≤◌, ℕ, List, [], length, true};
 ghost use Rattle.op_model.specs.declared.op.Op.{Op as Operation};
 ghost use Rattle.op_model.specs.Records.{stream_length};
 ghost use Rattle.op_pieces.specs.Cutting.{cut};
@@ -10,6 +10,7 @@ ghost use Rattle.change_codec.specs.Formats.{AreOf};
 ghost use Rattle.change_codec.specs.Stream.{spelled_all, AreOperations};
 ghost use Rattle.piece_codec.specs.Fits.{IsWhole};
 ghost use Rattle.piece_codec.specs.Formats.{has_runs, IsPieceOf};
+ghost use Rattle.piece_codec.specs.Record.{BeginsWithPiece};
 ghost use Rattle.piece_codec.specs.Spelling.{spelled_piece};
 ghost use Rattle.piece_codec.specs.Stream.{spelled_pieces, SpellsList};
 
@@ -67,4 +68,19 @@ pub fn a_stream_spells_operations_of_its_format()
 pub fn what_is_cut_spells_the_operations()
     ensures { (f : StreamFormat) (ops : List Operation) → has_runs f ≡ true
         → AreOperations ops → AreOf f ops → SpellsList f ops (spelled_pieces (cut ops)) }
+{}
+
+/// A stream that begins with another one goes on with a third, which spells the operations behind
+/// those of the other.
+pub fn a_stream_goes_on_as_a_stream()
+    ensures { (f : StreamFormat) (a all : List Operation) (x y : List ℕ)
+        → SpellsList f a x → SpellsList f all (x ++ y)
+        → (b : List Operation) × SpellsList f b y × (all ≡ a ++ b) }
+{}
+
+/// Some bytes that begin with no piece of the format are no stream of it.
+pub fn bytes_without_a_piece_are_no_stream()
+    ensures { (f : StreamFormat) (bytes : List ℕ) → 0 < length bytes
+        → ((p : Run) (n : ℕ) → IsPieceOf f p → BeginsWithPiece bytes p n → ⊥)
+        → (ops : List Operation) → SpellsList f ops bytes → ⊥ }
 {}

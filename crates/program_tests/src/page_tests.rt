@@ -5,11 +5,11 @@ use std::test::Fail;
 
 /// The open slot of a fresh store: version 1, the replica, no operations.
 const MADE: &[u8] =
-    b"\x01\0\0\0\0\0\0\0PTXTPG01\0\0\0\0\0\0\0\x01\0\0\0\0\0\0\x40\0\x80\0\0\0\0\0\0\x01";
+    b"\x01\0\0\0\0\0\0\0PTXTPG03\0\0\0\0\0\0\0\x01\0\0\0\0\0\0\x40\0\x80\0\0\0\0\0\0\x01";
 
 /// The open slot behind the first commit: version 2, 39 bytes of stream, one operation, the table page 3.
 const ONE: &[u8] =
-    b"\x01\0\0\0\0\0\0\0PTXTPG01\0\0\0\0\0\0\0\x02\0\0\0\0\0\0\x40\0\x80\0\0\0\0\0\0\x01\0\0\0\0\0\0\0\x27\0\0\0\0\0\0\0\x01\0\0\0\x01\0\0\0\0\0\0\0\x03";
+    b"\x01\0\0\0\0\0\0\0PTXTPG03\0\0\0\0\0\0\0\x02\0\0\0\0\0\0\x40\0\x80\0\0\0\0\0\0\x01\0\0\0\0\0\0\0\x27\0\0\0\0\0\0\0\x01\0\0\0\x01\0\0\0\0\0\0\0\x03";
 
 /// The record of the first insert: "a" at the beginning of document 1.
 const FIRST: &[u8] =

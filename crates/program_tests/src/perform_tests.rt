@@ -98,7 +98,7 @@ fn a_file_that_is_no_store_is_refused(rt: HostRuntime) -> Result<(), Fail> {
     };
     let again = run(alloc, &order, made(&rt)?, "");
     let mut disk = written(&rt, again, 1, "", "peritext: 48 not empty\n");
-    assert!(rt; disk.write_at(15, b"2").is_ok());
+    assert!(rt; disk.write_at(15, b"4").is_ok());
     let shown = dumped(alloc, 1, disk);
     written(&rt, shown, 1, "", "peritext: 43 bad root\n");
     Ok(())

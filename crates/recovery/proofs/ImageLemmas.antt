@@ -1,14 +1,18 @@
 -- What an opened file has, and why one isn't opened.
-use Rattle.std.proofs.Common.{◌≡◌, ◌≢◌, ℕ, false, List, [], Result, Ok, Err, refl, sym, ap, ◌∙◌, ◌⊎◌, inl, inr}
+use Rattle.std.proofs.Common.{◌≡◌, ◌≢◌, ℕ, ◌≤◌, false, List, [], Result, Ok, Err, refl, sym, ap, ◌∙◌, ◌⊎◌, inl, inr}
 use Rattle.op_model.specs.declared.op.Op.{Op}
 use Rattle.op_model.specs.Causality.{IsCausallyClosed}
-use Rattle.change_codec.proofs.StreamLaws.{spelled_all-determines}
+use Rattle.op_model.specs.Records.{stream_length}
+use Rattle.change_codec.specs.declared.format.Format.TheVariants.{Third}
+use Rattle.piece_codec.proofs.StreamLaws.{one_list, nothing}
 use Rattle.root_slots.specs.Body.{root_of}
-use Rattle.root_slots.specs.Root.{version_of, replica_of}
+use Rattle.root_slots.specs.Root.{format_of, version_of, replica_of}
 use Rattle.group_commit.specs.Commit.{IsRootOf}
 use Rattle.group_commit.specs.Loading.{IsHistory}
 use Rattle.group_commit.specs.Saved.{Saved}
 use Rattle.group_commit.specs.declared.open_fault.OpenError.TheVariants.{Memory as LoadMemory}
+use Rattle.replica_core.proofs.FollowLemmas.{stream_within}
+use Rattle.replica_core.proofs.LimitLemmas.{closed_within}
 use Rattle.replica_core.specs.declared.refusal.Refusal.{Refusal}
 use Rattle.replica_core.specs.declared.refusal.Refusal.TheVariants as refusal
 use Rattle.recovery.specs.Faults.{IsFault, HasBadOperation, failures_of, is_of_sync}
@@ -22,9 +26,9 @@ pub image_of : (root : Saved) (file : List ℕ) (replica : ℕ) (ops : List Op) 
 image_of root file replica ops is history closed =
     record {
       body = root.body;
-      holds = is.holds ∙ ap (λ bytes. Ok (root.body, bytes)) (sym history.spelled);
-      fits = history.fits;
-      count = history.count;
+      bytes = root.stream;
+      holds = is.holds;
+      spells = history.spelled.some;
       owner = sym history.owner;
       made = refl;
       closed = closed;
@@ -37,9 +41,9 @@ bad_of root file replica ops is history broken =
     record {
       body = root.body;
       ops = ops;
-      holds = is.holds ∙ ap (λ bytes. Ok (root.body, bytes)) (sym history.spelled);
-      fits = history.fits;
-      count = history.count;
+      bytes = root.stream;
+      holds = is.holds;
+      spells = history.spelled.some;
       broken = broken;
     }
 
@@ -83,16 +87,20 @@ no_sync e cause memory other = by_cause (is_memory e)
     by_cause (inl is) = rw (memory is) refl
     by_cause (inr unlike) = rw (other unlike) refl
 
+-- causally closed operations take at most 2^30 bytes one by one
+pub closed_is_short : (ops : List Op) → IsCausallyClosed ops → stream_length ops ≤ 1073741824
+closed_is_short ops closed = stream_within ops (closed_within ops closed)
+
 -- a new store stands for the empty list of its replica
 pub empty_image : (root : Saved) (replica : ℕ) (file : List ℕ)
-    → root_of root.body ≡ record { version = 1; replica = replica; stream_length = 0; operations = 0; tables = [] } → root.stream ≡ [] → IsRootOf root file
+    → root_of root.body ≡ record { format = Third; version = 1; replica = replica; stream_length = 0; operations = 0; tables = [] } → root.stream ≡ [] → IsRootOf root file
     → IsImage file replica 1 []
 empty_image root replica file says none is =
     record {
       body = root.body;
+      bytes = [];
       holds = is.holds ∙ ap (λ bytes. Ok (root.body, bytes)) none;
-      fits = tt;
-      count = sym (ap (λ r. r.operations) says);
+      spells = record { spells = nothing (format_of root.body); counted = sym (ap (λ r. r.operations) says) };
       owner = ap (λ r. r.replica) says;
       made = ap (λ r. r.version) says;
       closed = tt;
@@ -113,5 +121,5 @@ one_image file r s v w a b first second =
     let same = sym first.holds ∙ second.holds in (
       sym first.owner ∙ ap (λ x. replica_of (body_in x)) same ∙ second.owner,
       sym first.made ∙ ap (λ x. version_of (body_in x)) same ∙ second.made,
-      spelled_all-determines a b first.fits second.fits (ap bytes_in same),
+      one_list (format_of first.body) (format_of second.body) a b second.bytes (rw (ap bytes_in same) at first.spells.spells) second.spells.spells,
     )

@@ -4,6 +4,7 @@ ghost use Rattle.fixed_numbers.specs.declared.refusals.TheConstants.{MEMORY};
 ghost use Rattle.op_model.specs.declared.op.Op.{Op};
 ghost use Rattle.root_slots.specs.Body.{root_of};
 ghost use Rattle.group_commit.specs.Commit.{IsRootOf};
+ghost use Rattle.group_commit.specs.Plan.{newest};
 ghost use Rattle.group_commit.specs.Saved.{Saved};
 ghost use Rattle.recovery.specs.declared.open_fault.OpenError.{OpenError};
 ghost use Rattle.recovery.specs.Faults.{number_of, failures_of, IsFault};
@@ -12,6 +13,7 @@ ghost use Rattle.recovery.specs.Image.{IsImage};
 /// The root of a new store, as `Store::init` makes it, stands for the empty list of its replica.
 pub fn a_new_store_is_empty()
     ensures { (root : Saved) (replica : ℕ) (file : List ℕ) → root_of root.body ≡ record {
+      format = newest;
       version = 1;
       replica = replica;
       stream_length = 0;

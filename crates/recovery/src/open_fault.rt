@@ -8,7 +8,8 @@ use thiserror::Error;
 /// Why a file isn't opened.
 #[derive(Clone, Copy, Debug, Drop, PartialEq, Eq, Error)]
 pub enum OpenError {
-    /// 1, 42, 43, 45, 46, 50, 52: the store finds no root or no stream of operations, or the device
+    /// 1, 42, 43, 45, 46, 47, 50, 52: the store finds no root or no stream of operations, or one
+    /// of operations that would take more than 2^30 bytes as single records, or the device
     /// failed, or a growth of memory was refused.
     #[error("{0}")]
     Load(group_commit::OpenError),

@@ -23,9 +23,10 @@ pub struct Opened<D: Disk> {
 /// Opens the file of a disk: a sync, and then reads alone.
 ///
 /// Refuses with the first of these that it meets: 52 where the sync failed, and 50 where a read
-/// did; 42, 43, 45, 46 where the file has no live root, or the root, its tables or its stream break
-/// their rules; 47 where an operation isn't ready where it stands or fails a check. 1 may stand in
-/// place of any of these where a growth of memory was refused. A refusal hands the disk back.
+/// did; 42, 43, 45, 46 where the file has no live root, or the root, its tables or its stream
+/// break their rules; 47 where an operation isn't ready where it stands or fails a check, or the
+/// operations would take more than 2^30 bytes as single records. 1 may stand in place of any of
+/// these where a growth of memory was refused. A refusal hands the disk back.
 ///
 /// One sync, one `size`, one read of the two slots and one of each page that the live root reaches,
 /// and what `Replica::from_list` takes for the operations.

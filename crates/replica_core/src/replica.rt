@@ -177,7 +177,7 @@ impl Replica {
         ensures few { IfOk result (λ found. listed found.items ≤ MAX_LISTED) }
     {
         let empty = Doc::new(self.log.list.allocator(), doc);
-        find(&self.log.docs, &empty).spans()
+        Ok(find(&self.log.docs, &empty).spans()?)
     }
 
     /// Settles the first n operations: a number that isn't below the settled one, and a length that

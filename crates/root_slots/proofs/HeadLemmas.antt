@@ -4,10 +4,11 @@ use Rattle.std.proofs.Common.{nat_le, List, length, drop, Option, Some, None, �
 use Rattle.std.proofs.Common.{if◌then◌else◌, refl, sym, ap, ◌∙◌, arith}
 use Rattle.std.proofs.lemmas.Bool.Decides.{nat_tests}
 use Rattle.std.proofs.lemmas.Bool.{and_parts, leb-true, eqb-true}
+use Rattle.change_codec.specs.declared.format.Format.{Format}
 use Rattle.page_file.specs.Pages.{are_pages, is_zero, numbers}
 use Rattle.root_slots.specs.Body.{Root, IsRoot, Spells, root_in, root_of, tables_for}
 use Rattle.root_slots.specs.Head.{is_head, is_named, are_counts}
-use Rattle.root_slots.specs.Root.{magic_of, magic, version_of, replica_of, stream_length_of, count_of, table_count, gap_of, tables_of, is_root}
+use Rattle.root_slots.specs.Root.{magic_of, is_magic, format_of, version_of, replica_of, stream_length_of, count_of, table_count, gap_of, tables_of, is_root}
 
 regroup : (a b c d e f g h i j : Bool) → (a && b && c && d && e && f && g && h && i && j) ≡ (a && (b && c && d) && (e && f && g && h) && (i && j))
 regroup false b c d e f g h i j = refl
@@ -27,7 +28,7 @@ is_rest body = are_pages (tables_of body) && is_zero (drop (56 + 4 * table_count
 pub root_is_head : (body : List ℕ) → is_root body ≡ (is_head body && is_rest body)
 unfolding is_head is_named are_counts
 root_is_head body =
-    regroup (length body == 4088) (magic_of body == magic) (nat_le 1 (version_of body)) (nat_le 1 (replica_of body))
+    regroup (length body == 4088) (is_magic (magic_of body)) (nat_le 1 (version_of body)) (nat_le 1 (replica_of body))
     (nat_le (stream_length_of body) 1073741824) (nat_le (count_of body) 16777216) (table_count body == tables_for (stream_length_of body)) (gap_of body == 0)
     (are_pages (tables_of body)) (is_zero (drop (56 + 4 * table_count body) body))
 
@@ -96,10 +97,10 @@ rest_is body numbered after n is-tables is-after is-n =
     rw (is-after, is-tables, count) refl
 
 -- the numbers that were read keep the rules of a root
-pub root_from : (body : List ℕ) (version replica stream operations : ℕ) (numbered : List ℕ) → version ≡ version_of body → replica ≡ replica_of body
+pub root_from : (body : List ℕ) (format : Format) (version replica stream operations : ℕ) (numbered : List ℕ) → format ≡ format_of body → version ≡ version_of body → replica ≡ replica_of body
     → stream ≡ stream_length_of body → operations ≡ count_of body → numbered ≡ tables_of body → is_head body ≡ true → is_rest body ≡ true
-    → IsRoot (record { version = version; replica = replica; stream_length = stream; operations = operations; tables = numbered })
-root_from body version replica stream operations numbered is-version is-replica is-stream is-operations is-tables head rest =
+    → IsRoot (record { format = format; version = version; replica = replica; stream_length = stream; operations = operations; tables = numbered })
+root_from body format version replica stream operations numbered is-format is-version is-replica is-stream is-operations is-tables head rest =
     let says = head_says body head in
     let both = and_parts (are_pages (tables_of body)) (is_zero (drop (56 + 4 * table_count body) body)) rest in
     record {
@@ -111,11 +112,11 @@ root_from body version replica stream operations numbered is-version is-replica 
     }
 
 -- the numbers that were read are those of the root
-pub some_root : (body : List ℕ) (version replica stream operations : ℕ) (numbered : List ℕ) → version ≡ version_of body → replica ≡ replica_of body
+pub some_root : (body : List ℕ) (format : Format) (version replica stream operations : ℕ) (numbered : List ℕ) → format ≡ format_of body → version ≡ version_of body → replica ≡ replica_of body
     → stream ≡ stream_length_of body → operations ≡ count_of body → numbered ≡ tables_of body → is_head body ≡ true → is_rest body ≡ true
-    → Some (record { version = version; replica = replica; stream_length = stream; operations = operations; tables = numbered }) ≡ root_in body
-some_root body version replica stream operations numbered is-version is-replica is-stream is-operations is-tables head rest =
-    rw (is-version, is-replica, is-stream, is-operations, is-tables) (sym (some_by_both body head rest))
+    → Some (record { format = format; version = version; replica = replica; stream_length = stream; operations = operations; tables = numbered }) ≡ root_in body
+some_root body format version replica stream operations numbered is-format is-version is-replica is-stream is-operations is-tables head rest =
+    rw (is-format, is-version, is-replica, is-stream, is-operations, is-tables) (sym (some_by_both body head rest))
 
 -- a root is found exactly where the bytes are one
 pub found_valid : (body : List ℕ) (found : Option Root) → found ≡ root_in body → IsSome found ↔ (is_root body ≡ true)

@@ -4,10 +4,13 @@ use Rattle.std.specs.Int.{w32, w64, w128, to_be_bytes}
 use Rattle.fixed_numbers.specs.declared.limits.TheConstants.{MAX_OPERATIONS, MAX_STREAM_LENGTH}
 use Rattle.fixed_numbers.specs.declared.sizes.TheConstants.{BODY_LENGTH, PAGE_SIZE, TABLE_ENTRIES}
 use Rattle.page_file.specs.Pages.{are_pages, number_bytes}
-use Rattle.root_slots.specs.Root.{magic, version_of, replica_of, stream_length_of, count_of, tables_of, pages_for, is_root}
+use Rattle.change_codec.specs.declared.format.Format.{Format}
+use Rattle.root_slots.specs.Root.{magic, format_of, version_of, replica_of, stream_length_of, count_of, tables_of, pages_for, is_root}
 
 -- the fields of a root body
 pub record Root : Type 0 where
+  -- of the stream
+  pub format : Format
   pub version : ℕ
   pub replica : ℕ
   pub stream_length : ℕ
@@ -17,7 +20,7 @@ pub record Root : Type 0 where
 -- what the bytes say, if they are a root body
 abbrev pub root_of : List ℕ → Root
 root_of body =
-    record { version = version_of body; replica = replica_of body; stream_length = stream_length_of body; operations = count_of body; tables = tables_of body }
+    record { format = format_of body; version = version_of body; replica = replica_of body; stream_length = stream_length_of body; operations = count_of body; tables = tables_of body }
 
 -- the root that the bytes are, or none
 unfoldable pub root_in : List ℕ → Option Root
@@ -36,15 +39,15 @@ pub record IsRoot (root : Root) : Type 0 where
   pub pages : are_pages root.tables ≡ true
 
 -- the 56 bytes before the table page numbers
-unfoldable pub head_bytes : ℕ → ℕ → ℕ → ℕ → ℕ → List ℕ
-head_bytes version replica stream_length operations tables =
-    to_be_bytes w64 magic ++ to_be_bytes w64 version ++ to_be_bytes w128 replica ++ to_be_bytes w64 stream_length
+unfoldable pub head_bytes : Format → ℕ → ℕ → ℕ → ℕ → ℕ → List ℕ
+head_bytes format version replica stream_length operations tables =
+    to_be_bytes w64 (magic format) ++ to_be_bytes w64 version ++ to_be_bytes w128 replica ++ to_be_bytes w64 stream_length
     ++ to_be_bytes w64 operations ++ to_be_bytes w32 tables ++ to_be_bytes w32 0
 
 -- the bytes of a root, BODY_LENGTH of them: the rest is zero
 unfoldable pub body_bytes : Root → List ℕ
 body_bytes root =
-    head_bytes root.version root.replica root.stream_length root.operations (length root.tables) ++ number_bytes root.tables
+    head_bytes root.format root.version root.replica root.stream_length root.operations (length root.tables) ++ number_bytes root.tables
     ++ replicate (BODY_LENGTH - 56 - 4 * length root.tables) 0
 
 -- the bytes are a root body, and say this

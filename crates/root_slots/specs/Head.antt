@@ -3,11 +3,11 @@ use Rattle.std.specs.Prelude.{ℕ, ◌==◌, Bool, ◌&&◌, nat_le, List, lengt
 use Rattle.fixed_numbers.specs.declared.limits.TheConstants.{MAX_OPERATIONS, MAX_STREAM_LENGTH}
 use Rattle.fixed_numbers.specs.declared.sizes.TheConstants.{BODY_LENGTH}
 use Rattle.root_slots.specs.Body.{tables_for}
-use Rattle.root_slots.specs.Root.{magic_of, magic, version_of, replica_of, stream_length_of, count_of, table_count, gap_of}
+use Rattle.root_slots.specs.Root.{magic_of, is_magic, version_of, replica_of, stream_length_of, count_of, table_count, gap_of}
 
--- the magic, a version of at least 1, and a replica that isn't nil
+-- a magic, a version of at least 1, and a replica that isn't nil
 unfoldable pub is_named : ℕ → ℕ → ℕ → Bool
-is_named start version replica = start == magic && nat_le 1 version && nat_le 1 replica
+is_named start version replica = is_magic start && nat_le 1 version && nat_le 1 replica
 
 -- at most 2^30 bytes of stream, at most 2^24 operations, as many table pages as the stream needs, and a gap of zeros
 unfoldable pub are_counts : ℕ → ℕ → ℕ → ℕ → Bool

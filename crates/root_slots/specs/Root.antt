@@ -1,8 +1,10 @@
 -- The body of a root slot: the 4,088 bytes from byte 8 of its page on.
-use Rattle.std.specs.Prelude.{ℕ, ◌*◌, ◌+◌, ◌-◌, ◌/◌, ◌==◌, Bool, ◌&&◌, nat_le, List, length, drop}
+use Rattle.std.specs.Prelude.{ℕ, ◌*◌, ◌+◌, ◌-◌, ◌/◌, ◌==◌, Bool, ◌&&◌, ◌||◌, nat_le, if◌then◌else◌, List, length, drop}
 use Rattle.std.specs.Int.{w32, w64, w128, from_be_bytes}
 use Rattle.fixed_numbers.specs.declared.limits.TheConstants.{MAX_OPERATIONS, MAX_STREAM_LENGTH}
 use Rattle.fixed_numbers.specs.declared.sizes.TheConstants.{BODY_LENGTH, PAGE_SIZE, TABLE_ENTRIES}
+use Rattle.change_codec.specs.declared.format.Format.{Format}
+use Rattle.change_codec.specs.declared.format.Format.TheVariants.{First, Second, Third}
 use Rattle.disk_trait.specs.File.{part}
 use Rattle.page_file.specs.Pages.{is_zero, are_pages, numbers}
 
@@ -10,12 +12,26 @@ use Rattle.page_file.specs.Pages.{is_zero, are_pages, numbers}
 abbrev pub field : List ℕ → ℕ → ℕ → List ℕ
 field body at n = part body (at - 8) n
 
--- `PTXTPG01`, read as a number
-abbrev pub magic : ℕ
-magic = 5788348540225269809
+-- `PTXTPG01`, `PTXTPG02` and `PTXTPG03`, read as numbers: the last digit is the format of the stream
+abbrev pub magic : Format → ℕ
+magic First = 5788348540225269809
+magic Second = 5788348540225269810
+magic Third = 5788348540225269811
 
 abbrev pub magic_of : List ℕ → ℕ
 magic_of body = from_be_bytes w64 (field body 8 8)
+
+-- the number is the magic of a format
+abbrev pub is_magic : ℕ → Bool
+is_magic n = n == magic First || n == magic Second || n == magic Third
+
+-- the format whose magic the number is
+abbrev pub named_format : ℕ → Format
+named_format n = if n == magic First then First else if n == magic Second then Second else Third
+
+-- the format of the stream
+abbrev pub format_of : List ℕ → Format
+format_of body = named_format (magic_of body)
 
 -- how often a root was made in this file; of two open slots the one with the greater version is live
 abbrev pub version_of : List ℕ → ℕ
@@ -50,11 +66,11 @@ pages_for size n = (n + (size - 1)) / size
 abbrev pub data_count : List ℕ → ℕ
 data_count body = pages_for PAGE_SIZE (stream_length_of body)
 
--- the bytes are a root body: the numbers lie in their ranges, there are as many table pages as the stream needs, each of them
+-- the bytes are a root body: the magic is one of the three, the numbers lie in their ranges, there are as many table pages as the stream needs, each of them
 -- once, and what is left is zero
 abbrev pub is_root : List ℕ → Bool
 is_root body =
-    length body == BODY_LENGTH && magic_of body == magic && nat_le 1 (version_of body) && nat_le 1 (replica_of body)
+    length body == BODY_LENGTH && is_magic (magic_of body) && nat_le 1 (version_of body) && nat_le 1 (replica_of body)
     && nat_le (stream_length_of body) MAX_STREAM_LENGTH && nat_le (count_of body) MAX_OPERATIONS
     && table_count body == pages_for TABLE_ENTRIES (data_count body) && gap_of body == 0
     && are_pages (tables_of body) && is_zero (drop (56 + 4 * table_count body) body)

@@ -5,14 +5,49 @@ ghost use Rattle.fixed_numbers.specs.declared.sizes.TheConstants.{MAX_TABLES};
 ghost use Rattle.disk_trait.specs.File.{part};
 ghost use Rattle.root_slots.specs.Body.{tables_for};
 ghost use Rattle.root_slots.specs.Head.{is_head, is_named, are_counts};
-ghost use Rattle.root_slots.specs.Root.{replica_of};
+ghost use Rattle.root_slots.specs.Root.{format_of, is_magic, magic, named_format, replica_of};
 
+use change_codec::Format;
 use fixed_numbers::limits::{MAX_OPERATIONS, MAX_STREAM_LENGTH};
 use fixed_numbers::sizes::{BODY_LENGTH, PAGE_SIZE, TABLE_ENTRIES};
 use op_ids::ReplicaId;
 
-/// `PTXTPG01`, read as a number.
-pub const MAGIC: u64 = 0x5054_5854_5047_3031;
+// `PTXTPG01`, `PTXTPG02` and `PTXTPG03`, read as numbers.
+const FIRST: u64 = 0x5054_5854_5047_3031;
+
+const SECOND: u64 = 0x5054_5854_5047_3032;
+
+const THIRD: u64 = 0x5054_5854_5047_3033;
+
+/// What a body begins with whose stream is of this format: `PTXTPG01` to `PTXTPG03`, read as a
+/// number.
+pub fn magic(format: Format) -> u64
+    ensures { result ≡ magic format }
+{
+    match format {
+        Format::First => FIRST,
+        Format::Second => SECOND,
+        Format::Third => THIRD,
+    }
+}
+
+fn is_magic(start: u64) -> bool
+    ensures { result ≡ is_magic start }
+{
+    start == FIRST || start == SECOND || start == THIRD
+}
+
+fn named_format(start: u64) -> Format
+    ensures { result ≡ named_format start }
+{
+    if start == FIRST {
+        Format::First
+    } else if start == SECOND {
+        Format::Second
+    } else {
+        Format::Third
+    }
+}
 
 /// How many table pages a stream of `stream_length` bytes needs: at most 256.
 pub fn tables_for(stream_length: u64) -> u64
@@ -44,7 +79,7 @@ pub fn is_head(body: &[u8]) -> bool
 fn is_named(start: u64, version: u64, replica: u128) -> bool
     ensures { result ≡ is_named start version replica }
 {
-    start == MAGIC && version >= 1 && replica >= 1
+    is_magic(start) && version >= 1 && replica >= 1
 }
 
 #[tactic(auto, unfolding(crate::specs::Head::are_counts))]
@@ -55,6 +90,14 @@ fn are_counts(stream_length: u64, operations: u64, tables: u32, gap: u32) -> boo
         && operations <= MAX_OPERATIONS as u64
         && u64::from(tables) == tables_for(stream_length)
         && gap == 0
+}
+
+/// The format of the stream, as the magic of a body says.
+pub fn format_at(body: &[u8]) -> Format
+    requires { 8 ≤ length body.now }
+    ensures { result ≡ format_of body.now }
+{
+    named_format(u64_at(body, 0))
 }
 
 /// The replica of a body whose replica isn't nil.

@@ -5,20 +5,22 @@ ghost use Rattle.root_slots.specs.Head.{is_head};
 ghost use Rattle.root_slots.specs.Root.{is_root, tables_of};
 ghost use Rattle.root_slots.specs.Body.{Root, IsRoot, Spells, root_in, root_of, body_bytes};
 
-use crate::fields::{is_head, replica_at, tables_for, u32_at, u64_at};
+use crate::fields::{format_at, is_head, replica_at, tables_for, u32_at, u64_at};
 use crate::writing::spelled;
+use change_codec::Format;
 use fixed_numbers::limits::{MAX_OPERATIONS, MAX_STREAM_LENGTH};
 use op_ids::ReplicaId;
 use page_file::{are_pages, is_zero, take_numbers};
 use std::alloc::{AllocError, Global};
 use std::marker::Model;
 
-/// What a root slot says behind its gate. Contracts see it as the record of its fields: a version
-/// of at least 1, the replica, the stream's length (at most 2^30 bytes), the number of operations
-/// (at most 2^24), and the numbers of the table pages: as many as the stream needs, each at least
-/// 2, none of them twice.
+/// What a root slot says behind its gate. Contracts see it as the record of its fields: the
+/// format of the stream, a version of at least 1, the replica, the stream's length (at most 2^30
+/// bytes), the number of operations (at most 2^24), and the numbers of the table pages: as many
+/// as the stream needs, each at least 2, none of them twice.
 #[derive(Debug, Drop)]
 pub struct RootBody {
+    format: Format,
     version: u64,
     replica: ReplicaId,
     stream_length: u64,
@@ -32,6 +34,7 @@ impl Model for RootBody {
     ghost Value = { Root };
 
     ghost view = { λ r. record {
+      format = r.format;
       version = r.version;
       replica = r.replica;
       stream_length = r.stream_length;
@@ -40,6 +43,7 @@ impl Model for RootBody {
     } };
 
     ghost invariant = { λ r. IsRoot (record {
+      format = r.format;
       version = r.version;
       replica = r.replica;
       stream_length = r.stream_length;
@@ -54,6 +58,7 @@ impl RootBody {
     /// needs, one below 2 or one that stands twice. Takes no memory; the steps grow with the square
     /// of the number of table pages.
     pub fn new(
+        format: Format,
         version: u64,
         replica: ReplicaId,
         stream_length: u64,
@@ -61,6 +66,7 @@ impl RootBody {
         tables: Vec<u32>,
     ) -> Option<RootBody>
         ensures value { IfSome result (λ root. root ≡ record {
+          format = format;
           version = version;
           replica = replica;
           stream_length = stream_length;
@@ -68,6 +74,7 @@ impl RootBody {
           tables = tables.items;
         }) }
         ensures valid { IsSome result ↔ IsRoot (record {
+          format = format;
           version = version;
           replica = replica;
           stream_length = stream_length;
@@ -82,6 +89,7 @@ impl RootBody {
             return None;
         }
         Some(RootBody {
+            format,
             version,
             replica,
             stream_length,
@@ -116,6 +124,7 @@ impl RootBody {
             return None;
         }
         Some(RootBody {
+            format: format_at(body),
             version: u64_at(body, 8),
             replica: replica_at(body),
             stream_length: u64_at(body, 32),
@@ -131,12 +140,20 @@ impl RootBody {
     {
         spelled(
             alloc,
+            self.format,
             self.version,
             self.replica,
             self.stream_length,
             self.operations,
             &self.tables,
         )
+    }
+
+    /// The format of the stream.
+    pub fn format(&self) -> Format
+        ensures { result ≡ self.now.format }
+    {
+        self.format
     }
 
     /// How often a root was made in this file, this one included: at least 1.

@@ -2,7 +2,8 @@
 ghost use Rattle.std.specs.Prelude.{◌≡◌, ◌++◌, OnOk, IfOk};
 ghost use Rattle.root_slots.specs.Body.{Root, IsRoot, Spells, head_bytes, body_bytes};
 
-use crate::fields::MAGIC;
+use crate::fields::magic;
+use change_codec::Format;
 use fixed_numbers::sizes::BODY_LENGTH;
 use op_ids::ReplicaId;
 use op_ids::laws::{read_undoes_bytes, replica_is_not_nil};
@@ -12,6 +13,7 @@ use std::alloc::{AllocError, Global};
 /// The 4,088 bytes of a root with these fields. One allocation; an error is want of memory (1).
 pub fn spelled(
     alloc: Global,
+    format: Format,
     version: u64,
     replica: ReplicaId,
     stream_length: u64,
@@ -19,6 +21,7 @@ pub fn spelled(
     tables: &[u32],
 ) -> Result<Vec<u8>, AllocError>
     requires { IsRoot (record {
+      format = format;
       version = version;
       replica = replica;
       stream_length = stream_length;
@@ -26,6 +29,7 @@ pub fn spelled(
       tables = tables.now;
     }) }
     ensures bytes { IfOk result (λ body. body.items ≡ body_bytes (record {
+      format = format;
       version = version;
       replica = replica;
       stream_length = stream_length;
@@ -33,6 +37,7 @@ pub fn spelled(
       tables = tables.now;
     })) }
     ensures read_back { IfOk result (λ body. Spells body.items (record {
+      format = format;
       version = version;
       replica = replica;
       stream_length = stream_length;
@@ -46,6 +51,7 @@ pub fn spelled(
     let mut body = Vec::with_capacity(alloc, BODY_LENGTH)?;
     let count = tables.len() as u32;
     put_head(
+        format,
         version,
         replica,
         stream_length,
@@ -60,6 +66,7 @@ pub fn spelled(
 
 // Appends the 56 bytes before the table page numbers.
 fn put_head(
+    format: Format,
     version: u64,
     replica: ReplicaId,
     stream_length: u64,
@@ -68,9 +75,9 @@ fn put_head(
     out: &mut Vec<u8>,
 ) -> Result<(), AllocError>
     ensures { OnOk result (out.new.items
-        ≡ out.old.items ++ head_bytes version replica stream_length operations tables) }
+        ≡ out.old.items ++ head_bytes format version replica stream_length operations tables) }
 {
-    out.extend_from_slice(&MAGIC.to_be_bytes())?;
+    out.extend_from_slice(&magic(format).to_be_bytes())?;
     out.extend_from_slice(&version.to_be_bytes())?;
     out.extend_from_slice(&replica.bytes())?;
     out.extend_from_slice(&stream_length.to_be_bytes())?;

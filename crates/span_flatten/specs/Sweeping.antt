@@ -139,6 +139,11 @@ pub record IsReady (s : Sweep) (ms : List Marking) : Type 0 where
 abbrev pub listed_and : List Run → ℕ → ℕ
 listed_and runs left = listed (map forward_span runs) + left
 
+-- a visible character of this value behind the runs so far would list more comment ids than may yet be listed
+abbrev pub ListsMore : Sweep → List Marking → ℕ → Type 0
+ListsMore s ms value = IsReady s ms
+    → listed_and s.runs.items s.left < listed (with_back value (marks_in (picked ms (kept s.active))) (map forward_span s.runs.items))
+
 -- the first k of these cells were passed
 pub record IsSwept (s : Sweep) (cells : List Cell) (ms : List Marking) (k : ℕ) : Type 0 where
   pub active : IsActive s.active (length ms) (begun_at cells ms k k) (ended_at cells ms k k)

@@ -1,5 +1,5 @@
-ghost use Rattle.std.specs.Prelude.{◌≡◌, ◌+◌, ◌*◌, ◌≤◌, ℕ, List};
-ghost use Rattle.std.specs.Prelude.{Some, take, IfOk, OnOk};
+ghost use Rattle.std.specs.Prelude.{◌≡◌, ◌+◌, ◌*◌, ◌≤◌, ◌<◌, ℕ, List};
+ghost use Rattle.std.specs.Prelude.{Some, take, IfOk, IsErrOf, OnOk};
 ghost use Rattle.fixed_numbers.specs.declared.limits.TheConstants.{MAX_LISTED};
 ghost use Rattle.char_sequence.specs.Chunks.{cells_of, size_at};
 ghost use Rattle.char_sequence.specs.Content.{Holds};
@@ -11,6 +11,7 @@ ghost use Rattle.span_flatten.specs.Listing.{listed};
 ghost use Rattle.span_flatten.specs.Reading.{offset};
 ghost use Rattle.span_flatten.specs.Runs.{cell_runs, marks_at, spans_of_runs};
 
+use crate::error::SpansError;
 use crate::formatting::marks_of;
 use crate::run::{Run, put_before, spans_of};
 use crate::sweep::Sweep;
@@ -19,32 +20,39 @@ use mark_anchors::{Anchors, Place};
 use op_model::{Span, Ticks};
 use std::alloc::{AllocError, Global};
 
-/// The greatest runs of visible characters of a document with equal marks. An error is want of
-/// memory (1). An answer lists at most 1,048,576 comment ids, one counted in each span that lists
-/// it: beyond that it is 1. Costs what `spans_in` does.
-pub fn spans(sequence: &Sequence, anchors: &Anchors) -> Result<Vec<Span>, AllocError>
+/// The greatest runs of visible characters of a document with equal marks. An answer lists at most
+/// 1,048,576 comment ids, one counted in each span that lists it: `Listing` (1) comes only where
+/// they would be more, `Memory` (1) where a growth was refused. Costs what `spans_in` does.
+pub fn spans(sequence: &Sequence, anchors: &Anchors) -> Result<Vec<Span>, SpansError>
     ensures spans { IfOk result (λ found. (ops : List Op) (doc : ℕ) → Holds sequence.now ops doc
         → AreMarksOf anchors.now ops doc → found.items ≡ spans_of_ops ops doc) }
     ensures few { IfOk result (λ found. listed found.items ≤ MAX_LISTED) }
+    ensures listing { IsErrOf result SpansError.Listing → (ops : List Op) (doc : ℕ)
+        → Holds sequence.now ops doc → AreMarksOf anchors.now ops doc
+        → MAX_LISTED < listed (spans_of_ops ops doc) }
 {
     spans_in(sequence, anchors, &mut Ticks::new())
 }
 
 /// The same, in one pass: two ticks at the most for each character, tombstones counted, and one at
-/// the end. An error is want of memory (1). For each character a search by halves among the mark
+/// the end. For each character a search by halves among the mark
 /// operations; for each edge of one a search among those of its key that have begun and not ended;
 /// and what is listed: comments are listed only for a span that begins.
 ///
-/// An answer lists at most 1,048,576 comment ids, one counted in each span that lists it: beyond it
-/// is 1, before that span is made.
+/// An answer lists at most 1,048,576 comment ids, one counted in each span that lists it: `Listing`
+/// (1) comes only where they would be more, before that span is made, `Memory` (1) where a growth
+/// was refused.
 pub fn spans_in(
     sequence: &Sequence,
     anchors: &Anchors,
     ticks: &mut Ticks,
-) -> Result<Vec<Span>, AllocError>
+) -> Result<Vec<Span>, SpansError>
     ensures spans { IfOk result (λ found. (ops : List Op) (doc : ℕ) → Holds sequence.now ops doc
         → AreMarksOf anchors.now ops doc → found.items ≡ spans_of_ops ops doc) }
     ensures few { IfOk result (λ found. listed found.items ≤ MAX_LISTED) }
+    ensures listing { IsErrOf result SpansError.Listing → (ops : List Op) (doc : ℕ)
+        → Holds sequence.now ops doc → AreMarksOf anchors.now ops doc
+        → MAX_LISTED < listed (spans_of_ops ops doc) }
     ensures ticks { ticks.new ≤ ticks.old + (2 * count_of sequence.now + 1) }
     ensures rising { ticks.old ≤ ticks.new }
 {

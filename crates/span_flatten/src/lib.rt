@@ -4,6 +4,7 @@
 mod active;
 mod deciding;
 mod discussed;
+mod error;
 mod flatten;
 mod formatting;
 mod listing;
@@ -12,4 +13,5 @@ mod ranks;
 mod run;
 mod sweep;
 
+pub use error::SpansError;
 pub use flatten::{spans, spans_in, spans_slow};

@@ -1,14 +1,14 @@
 ghost use Rattle.std.specs.Prelude.{◌≡◌, ◌+◌, ◌<◌, OnErr, OnOk};
 
-use std::alloc::AllocError;
+use crate::error::SpansError;
 
 /// Counts `count` against those that are left. An error is that they are more.
-pub fn count_down(count: usize, left: &mut usize) -> Result<(), AllocError>
+pub fn count_down(count: usize, left: &mut usize) -> Result<(), SpansError>
     ensures counted { OnOk result (left.new + count ≡ left.old) }
     ensures more { OnErr result (left.old < count) }
 {
     if *left < count {
-        return Err(AllocError);
+        return Err(SpansError::Listing);
     }
     *left -= count;
     Ok(())

@@ -1,5 +1,6 @@
-ghost use Rattle.std.specs.Prelude.{◌≡◌, ◌+◌, ◌≤◌, ℕ, List, [], ◌∷◌, ◌++◌};
-ghost use Rattle.std.specs.Prelude.{Some, false, map, slice_get, IfOk, OnOk};
+ghost use Rattle.std.specs.Prelude.{◌≡◌, ◌+◌, ◌≤◌, ◌<◌, ℕ, List, [], ◌∷◌, ◌++◌, length, take};
+ghost use Rattle.std.specs.Prelude.{Some, false, map, slice_get, IfOk, IsErrOf, OnOk};
+ghost use Rattle.fixed_numbers.specs.declared.limits.TheConstants.{MAX_LISTED};
 ghost use Rattle.std.specs.Prelude.{if◌then◌else◌};
 ghost use Rattle.char_sequence.specs.declared.cell.Cell as stored;
 ghost use Rattle.char_sequence.specs.Chunks.{cells_of, size_at};
@@ -7,12 +8,15 @@ ghost use Rattle.mark_anchors.specs.Keeping.{in_order};
 ghost use Rattle.span_flatten.specs.Formatting.{marks_in};
 ghost use Rattle.span_flatten.specs.Reading.{offset};
 ghost use Rattle.span_flatten.specs.Deciding.{Decides, IsNoted};
+ghost use Rattle.span_flatten.specs.Listing.{listed};
 ghost use Rattle.span_flatten.specs.Picking.{picked};
+ghost use Rattle.span_flatten.specs.Runs.{cell_spans};
 ghost use Rattle.span_flatten.specs.Sweeping.{forward_span, kept, listed_and, with_back};
-ghost use Rattle.span_flatten.specs.Sweeping.{extended, last_comments, HasSameFlags, IsReady, IsSwept};
+ghost use Rattle.span_flatten.specs.Sweeping.{extended, last_comments, HasSameFlags, IsReady, IsSwept, ListsMore};
 ghost use Rattle.span_flatten.specs.Sweeping.{is_last_same as is_last_same_of};
 
 use crate::active::Active;
+use crate::error::SpansError;
 use crate::listing::count_down;
 use crate::run::Run;
 use char_sequence::{Cell, ChunkSize, Sequence};
@@ -47,7 +51,8 @@ impl Sweep {
         })
     }
 
-    /// Passes the characters of one more chunk. An error is want of memory (1). A tick for each.
+    /// Passes the characters of one more chunk. An error is want of memory, or that the spans would
+    /// list too many comment ids (1). A tick for each.
     pub fn pass_chunk(
         &mut self,
         sequence: &Sequence,
@@ -55,12 +60,14 @@ impl Sweep {
         i: usize,
         size: ChunkSize,
         ticks: &mut Ticks,
-    ) -> Result<(), AllocError>
+    ) -> Result<(), SpansError>
         requires there { size_at sequence.now i ≡ Some size }
         requires before { IsSwept self.old (cells_of sequence.now) (in_order anchors.now)
             (offset sequence.now i) }
         ensures swept { OnOk result (IsSwept self.new (cells_of sequence.now)
             (in_order anchors.now) (offset sequence.now (i + 1))) }
+        ensures listing { IsErrOf result SpansError.Listing
+            → MAX_LISTED < listed (cell_spans (cells_of sequence.now) (in_order anchors.now)) }
         ensures ticks { ticks.new ≤ ticks.old + size.cells }
         ensures rising { ticks.old ≤ ticks.new }
     {
@@ -75,11 +82,15 @@ impl Sweep {
     }
 
     /// Passes a character: takes the edges before it, gives it its marks if a reader sees it, and
-    /// takes the edges behind it. An error is want of memory (1).
-    fn pass(&mut self, alloc: Global, cell: &Cell, anchors: &Anchors) -> Result<(), AllocError>
-        ensures { OnOk result ((cells : List stored.Cell) (k : ℕ)
+    /// takes the edges behind it. The errors of `pass_chunk`.
+    fn pass(&mut self, alloc: Global, cell: &Cell, anchors: &Anchors) -> Result<(), SpansError>
+        ensures passed { OnOk result ((cells : List stored.Cell) (k : ℕ)
             → slice_get cells k ≡ Some cell.now → IsSwept self.old cells (in_order anchors.now) k
             → IsSwept self.new cells (in_order anchors.now) (k + 1)) }
+        ensures listing { IsErrOf result SpansError.Listing
+            → (cells : List stored.Cell) (k : ℕ) → slice_get cells k ≡ Some cell.now
+            → IsSwept self.old cells (in_order anchors.now) k
+            → MAX_LISTED < listed (cell_spans cells (in_order anchors.now)) }
     {
         anchors.are_edges();
         let markings = anchors.in_order();
@@ -88,11 +99,11 @@ impl Sweep {
         self.active.take(alloc, edges, false, markings)?;
         self.see(alloc, cell, markings)?;
         self.is_changed = is_changed(self.is_changed, edges);
-        self.active.take(alloc, edges, true, markings)
+        Ok(self.active.take(alloc, edges, true, markings)?)
     }
 
-    /// A character, which a reader sees unless it is a tombstone. An error is want of memory (1).
-    fn see(&mut self, alloc: Global, cell: &Cell, markings: &[Marking]) -> Result<(), AllocError>
+    /// A character, which a reader sees unless it is a tombstone. The errors of `pass_chunk`.
+    fn see(&mut self, alloc: Global, cell: &Cell, markings: &[Marking]) -> Result<(), SpansError>
         ensures seen { OnOk result (IsReady self.old markings.now
             → map forward_span self.new.runs.items
             ≡ (if cell.now.is_removed then map forward_span self.old.runs.items
@@ -102,6 +113,8 @@ impl Sweep {
             → IsReady self.new markings.now) }
         ensures few { OnOk result (listed_and self.new.runs.items self.new.left
             ≡ listed_and self.old.runs.items self.old.left) }
+        ensures listing { IsErrOf result SpansError.Listing
+            → (cell.now.is_removed ≡ false) × ListsMore self.old markings.now cell.now.value }
         ensures active { HasSameFlags self.old.active self.new.active }
     {
         if cell.is_removed {
@@ -111,8 +124,8 @@ impl Sweep {
     }
 
     /// A character that a reader sees, with the marks of the mark operations that have begun and
-    /// not ended: they are looked at only if these changed. An error is want of memory (1).
-    fn show(&mut self, alloc: Global, value: char, markings: &[Marking]) -> Result<(), AllocError>
+    /// not ended: they are looked at only if these changed. The errors of `pass_chunk`.
+    fn show(&mut self, alloc: Global, value: char, markings: &[Marking]) -> Result<(), SpansError>
         ensures shown { OnOk result (IsReady self.old markings.now
             → map forward_span self.new.runs.items
             ≡ with_back value (marks_in (picked markings.now (kept self.old.active)))
@@ -121,6 +134,8 @@ impl Sweep {
             → IsReady self.new markings.now) }
         ensures few { OnOk result (listed_and self.new.runs.items self.new.left
             ≡ listed_and self.old.runs.items self.old.left) }
+        ensures listing { IsErrOf result SpansError.Listing
+            → ListsMore self.old markings.now value }
         ensures active { HasSameFlags self.old.active self.new.active }
     {
         if !self.is_changed {
@@ -137,7 +152,7 @@ impl Sweep {
         alloc: Global,
         value: char,
         markings: &[Marking],
-    ) -> Result<(), AllocError>
+    ) -> Result<(), SpansError>
         ensures shown { OnOk result (IsReady self.old markings.now
             → map forward_span self.new.runs.items
             ≡ with_back value (marks_in (picked markings.now (kept self.old.active)))
@@ -146,6 +161,8 @@ impl Sweep {
             → IsReady self.new markings.now) }
         ensures few { OnOk result (listed_and self.new.runs.items self.new.left
             ≡ listed_and self.old.runs.items self.old.left) }
+        ensures listing { IsErrOf result SpansError.Listing
+            → ListsMore self.old markings.now value }
         ensures active { HasSameFlags self.old.active self.new.active }
     {
         self.is_changed = false;
@@ -159,14 +176,11 @@ impl Sweep {
     }
 
     /// The spans. An error is want of memory (1).
-    pub fn spans(self, alloc: Global) -> Result<Vec<Span>, AllocError>
-        ensures { IfOk result (λ spans. spans.items ≡ map forward_span self.runs.items) }
+    pub fn spans(self, alloc: Global) -> Result<Vec<Span>, SpansError>
+        ensures spans { IfOk result (λ spans. spans.items ≡ map forward_span self.runs.items) }
+        ensures memory { IsErrOf result SpansError.Listing → ⊥ }
     {
-        let mut spans = Vec::new(alloc);
-        for run in self.runs {
-            spans.push(span_of(run))?;
-        }
-        Ok(spans)
+        Ok(spans_of(alloc, self.runs)?)
     }
 }
 
@@ -188,13 +202,22 @@ fn begin_run(
     marks: Marks,
     runs: &mut Vec<Run>,
     left: &mut usize,
-) -> Result<(), AllocError>
+) -> Result<(), SpansError>
     ensures begun { OnOk result (map forward_span runs.new.items ≡ map forward_span runs.old.items
         ++ record { text = value ∷ []; marks = marks } ∷ []) }
     ensures few { OnOk result (listed_and runs.new.items left.new
         ≡ listed_and runs.old.items left.old) }
+    ensures listing { IsErrOf result SpansError.Listing → left.old < length marks.comments }
 {
     count_down(marks.comments.as_slice().len(), left)?;
+    Ok(push_run(alloc, value, marks, runs)?)
+}
+
+/// Puts a character behind these runs as one more. An error is want of memory (1).
+fn push_run(alloc: Global, value: char, marks: Marks, runs: &mut Vec<Run>) -> Result<(), AllocError>
+    ensures { OnOk result (map forward_span runs.new.items ≡ map forward_span runs.old.items
+        ++ record { text = value ∷ []; marks = marks } ∷ []) }
+{
     let values = vec![in alloc; value]?;
     runs.push(Run { values, marks })?;
     Ok(())
@@ -214,7 +237,16 @@ fn is_last_same(runs: &[Run], active: &Active, markings: &[Marking]) -> bool
 }
 
 /// Puts a character behind the last of these runs. An error is want of memory (1).
-fn join(value: char, runs: &mut Vec<Run>) -> Result<(), AllocError>
+fn join(value: char, runs: &mut Vec<Run>) -> Result<(), SpansError>
+    ensures joined { OnOk result (map forward_span runs.new.items
+        ≡ extended value (map forward_span runs.old.items)) }
+    ensures memory { IsErrOf result SpansError.Listing → ⊥ }
+{
+    Ok(extend(value, runs)?)
+}
+
+/// The same, of which the only error is want of memory.
+fn extend(value: char, runs: &mut Vec<Run>) -> Result<(), AllocError>
     ensures { OnOk result (map forward_span runs.new.items
         ≡ extended value (map forward_span runs.old.items)) }
 {
@@ -222,6 +254,17 @@ fn join(value: char, runs: &mut Vec<Run>) -> Result<(), AllocError>
         run.values.push(value)?;
     }
     Ok(())
+}
+
+/// The spans of runs. An error is want of memory (1).
+fn spans_of(alloc: Global, runs: Vec<Run>) -> Result<Vec<Span>, AllocError>
+    ensures { IfOk result (λ spans. spans.items ≡ map forward_span runs.items) }
+{
+    let mut spans = Vec::new(alloc);
+    for run in runs {
+        spans.push(span_of(run))?;
+    }
+    Ok(spans)
 }
 
 /// The span of a run.

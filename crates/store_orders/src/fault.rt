@@ -126,6 +126,7 @@ fn loading(error: group_commit::OpenError) -> Fault
         group_commit::OpenError::BadRoot => Fault::BadRoot,
         group_commit::OpenError::BadTable => Fault::BadTable,
         group_commit::OpenError::BadStream => Fault::BadStream,
+        group_commit::OpenError::TooLong => Fault::BadOperation,
         group_commit::OpenError::ReadFailed => Fault::ReadFailed,
         group_commit::OpenError::SyncFailed => Fault::SyncFailed,
     }

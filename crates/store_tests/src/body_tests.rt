@@ -1,6 +1,7 @@
 //! Root bodies: which bytes are one, and which bytes one is written in.
 use crate::test_files::bytes_of;
 use crate::test_store::replica;
+use change_codec::Format;
 use root_slots::RootBody;
 use std::alloc::Global;
 use std::test::Fail;
@@ -50,9 +51,24 @@ fn roots_of_commits_are_read_and_written_back(rt: HostRuntime) -> Result<(), Fai
     assert_eq!(rt; root.write(rt.alloc())?.as_slice(), first.as_slice());
     let mut tables = Vec::new(rt.alloc());
     tables.push(5)?;
-    let next = RootBody::new(3, replica()?, 126, 2, tables).ok_or("no root")?;
+    let next = RootBody::new(Format::First, 3, replica()?, 126, 2, tables).ok_or("no root")?;
     let second = body_of(rt.alloc(), SECOND)?;
     assert_eq!(rt; next.write(rt.alloc())?.as_slice(), second.as_slice());
+    Ok(())
+}
+
+/// Whether a body with this magic is of this format.
+fn is_of(alloc: Global, magic: &str, format: Format) -> Result<bool, Fail> {
+    let pieces = format!(in alloc; "{magic} 0000000000000001 A 0000000000000000")?;
+    let root = RootBody::read(alloc, &body_of(alloc, &pieces)?)?.ok_or("no root")?;
+    Ok(root.format() == format)
+}
+
+#[test]
+fn the_magic_tells_the_format(rt: HostRuntime) -> Result<(), Fail> {
+    assert!(rt; is_of(rt.alloc(), "5054585450473031", Format::First)?);
+    assert!(rt; is_of(rt.alloc(), "5054585450473032", Format::Second)?);
+    assert!(rt; is_of(rt.alloc(), "5054585450473033", Format::Third)?);
     Ok(())
 }
 
@@ -64,7 +80,7 @@ fn a_broken_body_is_no_root(rt: HostRuntime) -> Result<(), Fail> {
     assert!(rt;
         !is_read(
             alloc,
-            "5054585450473032 0000000000000001 A 0000000000000000"
+            "5054585450473034 0000000000000001 A 0000000000000000"
         )?
     );
     assert!(rt;

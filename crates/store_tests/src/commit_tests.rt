@@ -1,20 +1,12 @@
 //! The calls of a commit, and the files that they leave.
 use crate::test_files::{
-    ALL, BOTH, INSERT_A, INSERT_B, INSERT_C, MADE, ONE, THREE, TWO, bytes_of, file_with,
+    ALL, BOTH, INSERT_A, INSERT_B, INSERT_C, MADE, ONE, THREE, TWO, file_with,
 };
-use crate::test_store::{begin, file_of, finish, step, store, store_on};
-use change_codec::{Format, take_ops};
+use crate::test_store::{begin, file_of, finish, ops, step, store, store_on};
 use disk_trait::{Disk, FaultDisk, MemDisk};
 use group_commit::{Store, StoreError};
-use op_model::Op;
 use std::alloc::Global;
 use std::test::Fail;
-
-/// The operations of these records.
-fn ops(alloc: Global, records: &str) -> Result<Vec<Op>, Fail> {
-    let bytes = bytes_of(alloc, records)?;
-    Ok(take_ops(alloc, Format::First, &bytes)?)
-}
 
 /// Commits the operations of these records, and gives how many calls that takes.
 fn commit(store: &mut Store<MemDisk>, alloc: Global, records: &str) -> Result<usize, Fail> {

@@ -1,6 +1,9 @@
 //! Which files are opened, and with which numbers the others are refused.
-use crate::test_files::{BOTH, INSERT_A, MADE, ONE, TWO, bytes_of, file_with};
-use crate::test_store::replica;
+use crate::test_files::{
+    BOTH, INSERT_A, INSERT_B, MADE, ONE, ONE_OF_FIRST, RUN_AB, RUN_OF_FIRST, RUN_OF_SECOND,
+    RUN_OF_THIRD, TWO, TWO_OF_FIRST, bytes_of, file_with,
+};
+use crate::test_store::{begin, file_of, finish, ops, replica};
 use change_codec::put_ops;
 use disk_trait::{Disk, FaultDisk, MemDisk};
 use group_commit::{OpenError, Store};
@@ -91,6 +94,67 @@ fn files_are_opened(rt: HostRuntime) -> Result<(), Fail> {
 }
 
 #[test]
+fn files_of_the_earlier_formats_are_opened(rt: HostRuntime) -> Result<(), Fail> {
+    let first = [
+        TWO_OF_FIRST,
+        ONE_OF_FIRST,
+        INSERT_A,
+        "00000002",
+        BOTH,
+        "00000004",
+    ];
+    let mixed = [TWO, ONE_OF_FIRST, INSERT_A, "00000002", BOTH, "00000004"];
+    assert!(rt; opens(rt.alloc(), &first, 2, BOTH)?);
+    assert!(rt; opens(rt.alloc(), &mixed, 2, BOTH)?);
+    Ok(())
+}
+
+/// The file after a commit of one more insert on that of these pages.
+fn gone_on(alloc: Global, pages: &[&str]) -> Result<Vec<u8>, Fail> {
+    let disk = disk_of(alloc, pages)?;
+    let Ok(loaded) = Store::load(alloc, Box::into_inner(disk)) else {
+        return Err("refused".into());
+    };
+    let mut store = Box::new(alloc, loaded.store)?;
+    begin(&mut store, alloc, &ops(alloc, INSERT_B)?)?;
+    finish(&mut store)?;
+    file_of(alloc, store)
+}
+
+#[test]
+fn a_commit_on_a_file_of_the_first_format_makes_a_root_of_the_third(
+    rt: HostRuntime,
+) -> Result<(), Fail> {
+    let pages = ["", ONE_OF_FIRST, INSERT_A, "00000002"];
+    let expected = [TWO, ONE_OF_FIRST, INSERT_A, "00000002", BOTH, "00000004"];
+    assert!(rt; gone_on(rt.alloc(), &pages)? == file_with(rt.alloc(), &expected)?);
+    Ok(())
+}
+
+#[test]
+fn a_run_is_its_operations_where_the_format_has_runs(rt: HostRuntime) -> Result<(), Fail> {
+    assert!(rt;
+        opens(
+            rt.alloc(),
+            &[MADE, RUN_OF_SECOND, RUN_AB, "00000002"],
+            2,
+            BOTH
+        )?
+    );
+    assert!(rt;
+        opens(
+            rt.alloc(),
+            &[MADE, RUN_OF_THIRD, RUN_AB, "00000002"],
+            2,
+            BOTH
+        )?
+    );
+    let none = [MADE, RUN_OF_FIRST, RUN_AB, "00000002"];
+    assert_eq!(rt; number_of_pages(rt.alloc(), &none)?, 46);
+    Ok(())
+}
+
+#[test]
 fn a_closed_slot_is_passed(rt: HostRuntime) -> Result<(), Fail> {
     let mut disk = first_disk(rt.alloc())?;
     write(&mut disk, 4096, &[0])?;
@@ -115,7 +179,7 @@ fn a_byte_breaks_a_file(rt: HostRuntime) -> Result<(), Fail> {
         (12291, 0x03, 45),
         (8231, 0x01, 46),
         (8229, 0xd8, 46),
-        (4111, 0x32, 43),
+        (4111, 0x34, 43),
     ];
     for (at, byte, number) in cases {
         assert_eq!(rt; number_with(rt.alloc(), at, byte)?, number, "at {at}");
@@ -132,7 +196,7 @@ fn number_of_pages(alloc: Global, pages: &[&str]) -> Result<u8, Fail> {
 #[test]
 fn a_made_file_with_another_magic_is_refused(rt: HostRuntime) -> Result<(), Fail> {
     let mut made = disk_of(rt.alloc(), &[MADE, ""])?;
-    write(&mut made, 15, &[0x32])?;
+    write(&mut made, 15, &[0x34])?;
     assert_eq!(rt; number_of(rt.alloc(), Box::into_inner(made)), 43);
     Ok(())
 }

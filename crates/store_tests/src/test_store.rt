@@ -1,5 +1,6 @@
 //! What the tests share of stores: their calls, and their file.
-use change_codec::put_ops;
+use crate::test_files::bytes_of;
+use change_codec::{Format, put_ops, take_ops};
 use disk_trait::{Disk, MemDisk};
 use group_commit::{Phase, Store, StoreError};
 use op_ids::ReplicaId;
@@ -26,6 +27,12 @@ pub(crate) fn store_on<D: Disk + Drop>(alloc: Global, disk: D) -> Result<Box<Sto
 pub(crate) fn store(alloc: Global, pages: usize) -> Result<Box<Store<MemDisk>>, Fail> {
     let disk = MemDisk::new(alloc, pages.saturating_mul(4096), 4096)?;
     store_on(alloc, disk)
+}
+
+/// The operations of these records.
+pub(crate) fn ops(alloc: Global, records: &str) -> Result<Vec<Op>, Fail> {
+    let bytes = bytes_of(alloc, records)?;
+    Ok(take_ops(alloc, Format::First, &bytes)?)
 }
 
 /// Begins a commit of these operations.

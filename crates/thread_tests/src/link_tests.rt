@@ -19,7 +19,7 @@ struct Listed {
 }
 
 impl Listed {
-    /// So many inserts of a replica.
+    /// So many inserts of a replica, each typed right behind the one before.
     fn new(alloc: Global, replica: ReplicaId, count: u64) -> Result<Listed, Fail> {
         let mut ops = Vec::new(alloc);
         let mut deps = Clock::new(alloc);
@@ -30,7 +30,7 @@ impl Listed {
                 token: None,
                 deps: deps.copy()?,
                 body: Body::Insert {
-                    origin: None,
+                    origin: OpId::try_new(counter.saturating_sub(1), replica),
                     value: 'a',
                 },
             })?;
@@ -134,7 +134,9 @@ impl End {
         match heard {
             Heard::Have(_clock) => Ok(1),
             Heard::Ops(ops) => {
-                self.peer.merge(ops.into_vec())?;
+                for piece in ops.into_vec() {
+                    self.peer.merge(piece.ops(self.alloc)?)?;
+                }
                 Ok(0)
             }
             Heard::Hello(_) | Heard::Bye => Ok(0),

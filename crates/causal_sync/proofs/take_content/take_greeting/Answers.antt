@@ -12,9 +12,9 @@ pub returns-in_default-split_first_chunk : goal.returns-in_default-split_first_c
 unfolding greeting_at tag_at number_at
 returns-in_default-split_first_chunk c = search rules
 
-pub returns-then-from_be_bytes-ne1 : goal.returns-then-from_be_bytes-ne1
+pub returns-then-from_be_bytes-ne3 : goal.returns-then-from_be_bytes-ne3
 unfolding greeting_at tag_at number_at
-returns-then-from_be_bytes-ne1 c = search rules
+returns-then-from_be_bytes-ne3 c = search rules
 
 pub returns : goal.returns
 unfolding greeting_at tag_at number_at

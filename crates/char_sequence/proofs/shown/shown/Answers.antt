@@ -1,7 +1,8 @@
-use Rattle.std.proofs.Common.{◌≤◌, ◌+◌, ◌-◌, [], length, drop, get_or, sym, ◌∙◌, ap, arith}
+use Rattle.std.proofs.Common.{inl, inr, refl, ◌≡◌, ◌≤◌, ◌<◌, ◌+◌, ◌-◌, [], length, drop, get_or, sym, ◌∙◌, ap, arith}
 use Rattle.char_sequence.specs.Cells.{behind_shown, shown, shown_at}
 use Rattle.char_sequence.specs.Chunks.{cells_of}
 use Rattle.char_sequence.proofs.BehindLemmas.{behind_chunk}
+use Rattle.char_sequence.proofs.GroupSearchLemmas.{near_next, near_none, reads_all, reads_few, several}
 use Rattle.char_sequence.proofs.PlaceLemmas.{few_in_chunk}
 use Rattle.char_sequence.proofs.ShownLemmas.{seen_of}
 use Rattle.char_sequence.proofs.SizeLemmas.{few_chunks, next_chunk, none_read, past_all, past_chunk, size_read}
@@ -22,17 +23,35 @@ returns-then-left-size-clause-found c =
     seen_of c.args.chunks.now c.loop-size.i c.args.k c.loop-size.left c.shown_in.result c.loop-size.invariant.found c.loop-size.invariant.rest
     c.shown_in.ensures.found
 
+-- what was read where the cell is found
 pub returns-then-left-size-clause-ticks : goal.returns-then-left-size-clause-ticks
 returns-then-left-size-clause-ticks c =
-    let read = size_read c.args.chunks.now c.loop-size.i c.in-Some.size (sym c.chunk.ensures.size ∙ c.in-Some.is) in
-    let here = read.0 in
-    let few = few_chunks c.args.chunks.now c.are_sized.ensures.chunks in
-    let so_far = c.loop-size.invariant.ticks in
-    let one = c.chunk.ensures.tick in
-    let more = c.shown_in.ensures.ticks in
-    let cells = read.1 in
-    let small = few_in_chunk c.args.chunks.now c.loop-size.i c.are_sized.ensures.chunks.sized in
-    omega arith
+    let held = c.args.chunks.now in
+    let read = size_read held c.loop-size.i c.in-Some.size (sym c.chunk.ensures.size ∙ c.in-Some.is) in
+    let small = few_in_chunk held c.loop-size.i c.are_sized.ensures.chunks.sized in
+    reads_all c.args.ticks.now c.past_groups-start.new.ticks c.loop-size.ticks c.shown_in.new.ticks c.past_groups-start.result.chunk c.loop-size.i
+    c.in-Some.size.cells (length held) (length (cells_of held)) (record {
+      groups = c.past_groups-start.ensures.ticks;
+      low = c.loop-size.invariant.low;
+      chunks = c.loop-size.invariant.ticks;
+      last = let one = c.chunk.ensures.tick in let more = c.shown_in.ensures.ticks in omega arith;
+      small = let cells = read.1 in omega arith;
+    }) read.0 c.past_groups-start.ensures.none (several held c.are_sized.ensures.chunks) (few_chunks held c.are_sized.ensures.chunks)
+
+pub returns-then-left-size-clause-fewer : goal.returns-then-left-size-clause-fewer
+returns-then-left-size-clause-fewer c =
+    let held = c.args.chunks.now in
+    let read = size_read held c.loop-size.i c.in-Some.size (sym c.chunk.ensures.size ∙ c.in-Some.is) in
+    let small = few_in_chunk held c.loop-size.i c.are_sized.ensures.chunks.sized in
+    reads_few c.args.ticks.now c.past_groups-start.new.ticks c.loop-size.ticks c.shown_in.new.ticks c.past_groups-start.result.chunk c.loop-size.i
+    c.in-Some.size.cells (length held) (length (cells_of held)) (record {
+      groups = c.past_groups-start.ensures.ticks;
+      low = c.loop-size.invariant.low;
+      chunks = c.loop-size.invariant.ticks;
+      last = let one = c.chunk.ensures.tick in let more = c.shown_in.ensures.ticks in omega arith;
+      small = let cells = read.1 in omega arith;
+    }) c.loop-size.invariant.here (λ whole. near_none held c.loop-size.i _ c.loop-size.left (c.loop-size.invariant.near whole)) (inl read.0)
+    (few_chunks held c.are_sized.ensures.chunks)
 
 pub overflow_add-i : goal.overflow_add-i
 overflow_add-i c =
@@ -49,6 +68,7 @@ loop-size-smaller c =
 pub loop-size-preserved : goal.loop-size-preserved
 loop-size-preserved c =
     let read = size_read c.args.chunks.now c.loop-size.i c.in-Some.size (sym c.chunk.ensures.size ∙ c.in-Some.is) in
+    let start = c.past_groups-start.result.chunk in
     let past : length (shown (get_or c.args.chunks.now c.loop-size.i [])) ≤ c.loop-size.left =
     (let out = c.if-left-size.false in let is = read.2 in omega arith) in
     record {
@@ -59,7 +79,14 @@ loop-size-preserved c =
           ∙ (behind_chunk c.args.chunks.now c.loop-size.i (c.loop-size.left + 1) (omega arith)
           ∙ ap (behind_shown (cells_of (drop (c.loop-size.i + 1) c.args.chunks.now))) (let is = read.2 in omega arith));
       here = let here = read.0 in omega arith;
-      ticks = let tick = c.chunk.ensures.tick in let so_far = c.loop-size.invariant.ticks in omega arith;
+      low = let low = c.loop-size.invariant.low in omega arith;
+      near = λ whole.
+          let before = c.loop-size.invariant.near whole in
+          let some = near_none c.args.chunks.now c.loop-size.i _ c.loop-size.left before in
+          let next = near_next c.args.chunks.now c.loop-size.i (start + 64 - (c.loop-size.i + 1)) (start + 64 - c.loop-size.i) c.loop-size.left read.0 (omega arith) before past in
+          let is = read.2 in
+          omega arith;
+      ticks = let tick = c.chunk.ensures.tick in let so_far = c.loop-size.invariant.ticks in let low = c.loop-size.invariant.low in omega arith;
       rising = let tick = c.chunk.ensures.tick in let so_far = c.loop-size.invariant.rising in omega arith;
     }
 
@@ -74,4 +101,19 @@ returns-clause-ticks c =
     let so_far = c.loop-size.invariant.ticks in
     let here = c.loop-size.invariant.here in
     let one = c.chunk.ensures.tick in
+    let started = c.past_groups-start.ensures.ticks in
+    let low = c.loop-size.invariant.low in
     omega arith
+
+pub returns-clause-fewer : goal.returns-clause-fewer
+returns-clause-fewer c =
+    let held = c.args.chunks.now in
+    reads_few c.args.ticks.now c.past_groups-start.new.ticks c.loop-size.ticks c.chunk.new.ticks c.past_groups-start.result.chunk c.loop-size.i
+    0 (length held) (length (cells_of held)) (record {
+      groups = c.past_groups-start.ensures.ticks;
+      low = c.loop-size.invariant.low;
+      chunks = c.loop-size.invariant.ticks;
+      last = let one = c.chunk.ensures.tick in omega arith;
+      small = omega arith;
+    }) c.loop-size.invariant.here (λ whole. near_none held c.loop-size.i _ c.loop-size.left (c.loop-size.invariant.near whole)) (inr refl)
+    (few_chunks held c.are_sized.ensures.chunks)

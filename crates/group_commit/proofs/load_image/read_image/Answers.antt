@@ -1,6 +1,6 @@
 use Rattle.std.proofs.Common.{◌≡◌, ◌++◌, length, ap, sym, ◌∙◌, refl, inl}
 use Rattle.std.proofs.lemmas.Result.{err_from_is_err_and}
-use Rattle.root_slots.specs.Root.{count_of}
+use Rattle.root_slots.specs.Root.{format_of, count_of}
 use Rattle.root_slots.specs.Slots.{body}
 use Rattle.group_commit.specs.Saved.{with_stream, in_front}
 use Rattle.group_commit.specs.Image.{stored}
@@ -45,13 +45,14 @@ returns-in_err-ops-clause-fault g c = λ told.
     let read : stream_at head file ≡ _ = ap (stream_at head) (sym (c.in_ok-roots.ensures.looks.looks told).same) ∙ c.in_ok-pages.ensures.read.stream (c.load_roots.ensures.looks.tells.1 told) in
     let holds = stored_stream file _ _ head c.in_ok-pages.field-0.bytes.items live read in
     let count : c.operations.result ≡ count_of (body c.in_ok-roots.field-0.roots.slot file) = c.operations.ensures ∙ ap (λ r. r.operations) (sym live.spells.says) in
-    rw (p.1, p.2) (fault_of_ops file (body c.in_ok-roots.field-0.roots.slot file) c.in_ok-pages.field-0.bytes.items _ c.in_err-ops.ensures.refused holds
-    (λ other. rw (sym count) (c.in_err-ops.ensures.none other)))
+    let format : c.format.result ≡ format_of (body c.in_ok-roots.field-0.roots.slot file) = c.format.ensures ∙ ap (λ r. r.format) (sym live.spells.says) in
+    rw (p.1, p.2) (fault_of_ops file (body c.in_ok-roots.field-0.roots.slot file) c.in_ok-pages.field-0.bytes.items _ holds
+    (rw (sym count, sym format) c.in_err-ops.ensures.fault))
 
 pub returns-in_err-ops-clause-looks : goal.returns-in_err-ops-clause-looks
 returns-in_err-ops-clause-looks g c =
     let p = err_from_is_err_and c.from_residual-in_err-ops.result c.from_residual-in_err-ops.ensures.1 in
-    rw (p.1, p.2, quiet_ops _ c.in_err-ops.ensures.refused)
+    rw (p.1, p.2, quiet_ops _ _ _ _ c.in_err-ops.ensures.fault)
     (looked_on g.D.DiskFacts 0 0 c.args.disk.now c.load_roots.new.disk c.read_stream.new.disk c.in_ok-roots.ensures.looks c.in_ok-pages.ensures.looks)
 
 pub returns-in_err-current-clause-fault : goal.returns-in_err-current-clause-fault
@@ -83,9 +84,12 @@ returns-clause-read g c = record {
   long = ap length (c.in_ok-stream.ensures ∙ ap (λ s. s ++ c.deref.result.now) c.new.ensures ∙ c.deref.ensures.value) ∙ c.in_ok-pages.ensures.read.long ∙ ap (λ r. r.stream_length) (sym c.in_ok-current.ensures.says);
   other = c.in_ok-current.ensures.other;
   history = record {
-    spelled = c.in_ok-ops.ensures.spelled ∙ sym (c.in_ok-stream.ensures ∙ ap (λ s. s ++ c.deref.result.now) c.new.ensures ∙ c.deref.ensures.value);
-    fits = c.in_ok-ops.ensures.fits;
-    count = c.in_ok-ops.ensures.count ∙ c.operations.ensures ∙ ap (λ r. r.operations) (sym c.in_ok-current.ensures.says);
+    spelled =
+        rw (
+          c.in_ok-stream.ensures ∙ ap (λ s. s ++ c.deref.result.now) c.new.ensures ∙ c.deref.ensures.value,
+          ap (λ r. r.format) c.in_ok-current.ensures.says ∙ sym c.format.ensures,
+          ap (λ r. r.operations) c.in_ok-current.ensures.says ∙ sym c.operations.ensures,
+        ) c.in_ok-ops.ensures.found;
     owner = refl;
   };
   index = record {

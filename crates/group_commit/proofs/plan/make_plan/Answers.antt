@@ -136,7 +136,7 @@ returns-clause-plan c =
     let on = c.in_ok-next.ensures.grown (c.args.stream.now ++ c.args.records.now) (length-append c.args.stream.now c.args.records.now ∙ ap (λ n. n + length c.args.records.now) (sym (c.stream_length-old_long.ensures.long ∙ sym c.requires.long))) in
     let follows : Follows (with_stream c.args.current.now c.args.stream.now) (with_stream c.in_ok-next.next (c.args.stream.now ++ c.args.records.now)) c.args.records.now c.args.more c.kept_pages-kept.result c.live_data_pages-olds.result.now c.split_at.result.0.now c.split_at.result.1.now = record {
       had = (c.live_data_pages-olds.ensures c.args.stream.now c.requires.long);
-      is_next = record { stream = refl; version = on.version; replica = on.replica; count = on.count };
+      is_next = record { format = on.format; stream = refl; version = on.version; replica = on.replica; count = on.count };
       has_data = rw (c.in_ok-all.ensures.all) at on.has;
       tables = on.has_tables ∙ c.in_ok-tables.ensures ∙ ap (λ ts. take (c.kept_pages-kept.result / 1024) ts ++ c.split_at.result.1.now) c.tables.ensures;
       kept_so = c.kept_pages-kept.ensures ∙ ap (λ n. kept_of n c.args.records.now) (c.stream_length-old_long.ensures.long ∙ sym c.requires.long);

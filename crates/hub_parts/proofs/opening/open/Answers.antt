@@ -1,11 +1,14 @@
 use Rattle.std.proofs.Common.{◌≡◌, ◌++◌, length, ap, sym, ◌∙◌}
 use Rattle.op_list.specs.Records.{AreRecords}
 use Rattle.hub_parts.proofs.OpenedParts.{opened_records, opened_so, keeps_opened, flusher_opened, meet_opened, when_ok}
+use Rattle.hub_parts.proofs.WaitLemmas.{none_waits}
 use Rattle.hub_parts.proofs.opening.open.Goals as goal
 
 pub invariant_of-result : goal.invariant_of-result
-invariant_of-result g c =
-    keeps_opened c.in_ok-replica.field-0.replica c.len-begun.result c.in_ok-replica.ensures.replica (c.len-begun.ensures ∙ ap length c.list-ops.ensures.list)
+invariant_of-result g c = (
+  keeps_opened c.in_ok-replica.field-0.replica c.len-begun.result c.in_ok-replica.ensures.replica (c.len-begun.ensures ∙ ap length c.list-ops.ensures.list),
+  none_waits c.in_ok-replica.field-0.replica c.len-begun.result c.new.result.items (c.len-begun.ensures ∙ ap length c.list-ops.ensures.list) c.new.ensures.items,
+)
 
 pub invariant_of-result-2 : goal.invariant_of-result-2
 invariant_of-result-2 g c =

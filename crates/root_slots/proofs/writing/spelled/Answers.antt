@@ -5,13 +5,13 @@ use Rattle.root_slots.proofs.SpellingLemmas.{body_is, spells, all_words}
 use Rattle.root_slots.proofs.writing.spelled.Goals as goal
 
 abbrev root : goal.In_ok-resize → Root
-root c = record { version = c.args.version; replica = c.args.replica; stream_length = c.args.stream_length; operations = c.args.operations; tables = c.args.tables.now }
+root c = record { format = c.args.format; version = c.args.version; replica = c.args.replica; stream_length = c.args.stream_length; operations = c.args.operations; tables = c.args.tables.now }
 
 made : (c : goal.In_ok-resize) → c.resize.new.self.items ≡ body_bytes (root c)
 made c =
-    let head : c.put_head.new.out.items ≡ head_bytes c.args.version c.args.replica c.args.stream_length c.args.operations (length c.args.tables.now) =
-    c.in_ok-put_head.ensures ∙ ap (λ xs. xs ++ head_bytes c.args.version c.args.replica c.args.stream_length c.args.operations (length c.args.tables.now)) c.in_ok-body.ensures.items in
-    let put : c.put_numbers.new.out.items ≡ head_bytes c.args.version c.args.replica c.args.stream_length c.args.operations (length c.args.tables.now) ++ number_bytes c.args.tables.now =
+    let head : c.put_head.new.out.items ≡ head_bytes c.args.format c.args.version c.args.replica c.args.stream_length c.args.operations (length c.args.tables.now) =
+    c.in_ok-put_head.ensures ∙ ap (λ xs. xs ++ head_bytes c.args.format c.args.version c.args.replica c.args.stream_length c.args.operations (length c.args.tables.now)) c.in_ok-body.ensures.items in
+    let put : c.put_numbers.new.out.items ≡ head_bytes c.args.format c.args.version c.args.replica c.args.stream_length c.args.operations (length c.args.tables.now) ++ number_bytes c.args.tables.now =
     c.in_ok-put_numbers.ensures.ok ∙ ap (λ xs. xs ++ number_bytes c.args.tables.now) head in
     let len : vec_len c.put_numbers.new.out ≡ length c.put_numbers.new.out.items = search rules in
     c.in_ok-resize.ensures.items ∙ (body_is (root c) c.put_numbers.new.out.items (vec_len c.put_numbers.new.out) len c.requires put)

@@ -1,5 +1,7 @@
 use Rattle.std.proofs.Common.{◌≡◌, ◌+◌, length, take, add-one, ap, sym, ◌∙◌, arith}
-use Rattle.std.proofs.lemmas.Result.{IfOk-weaker}
+use Rattle.std.specs.Prelude.{Err}
+use Rattle.std.proofs.lemmas.Result.{IfOk-weaker, err_from_is_err_and}
+use Rattle.span_flatten.specs.declared.error.SpansError.TheVariants.{Listing}
 use Rattle.char_sequence.specs.Chunks.{cells_of}
 use Rattle.mark_anchors.specs.Keeping.{in_order}
 use Rattle.span_flatten.specs.Formatting.{marks_in}
@@ -60,16 +62,27 @@ returns-clause-spans c =
     take_all (offset c.args.sequence.now c.loop-size.i) (cells_of c.args.sequence.now) (let long = ap length end in omega arith) in
     IfOk-weaker c.spans.result _ _ (λ found is_it. λ ops doc holds marks.
     is_it ∙ (c.loop-size.invariant.swept.runs ∙ (ap (cell_runs (λ k. marks_in (covering cells ms k)) 0) whole
-    ∙ spans_same ops doc cells ms holds.content marks.all))) c.spans.ensures
+    ∙ spans_same ops doc cells ms holds.content marks.all))) c.spans.ensures.spans
 
 pub returns-clause-few : goal.returns-clause-few
 returns-clause-few c =
     IfOk-weaker c.spans.result _ _ (λ found is_it.
     let same = ap listed is_it in let few = c.loop-size.invariant.swept.few in
-    (omega (arith, same, few))) c.spans.ensures
+    (omega (arith, same, few))) c.spans.ensures.spans
 
 pub returns-clause-ticks : goal.returns-clause-ticks
 returns-clause-ticks c =
     let few = chunks_few c.args.sequence.now c.loop-size.i c.are_sized.ensures.chunks.sized c.loop-size.invariant.within in
     let all = offset_within c.args.sequence.now c.loop-size.i in
     omega (arith, few, all, c.chunk.ensures.tick, c.loop-size.invariant.ticks)
+
+pub returns-in_err-pass_chunk-clause-listing : goal.returns-in_err-pass_chunk-clause-listing
+returns-in_err-pass_chunk-clause-listing c = λ is ops doc holds marks.
+    let same = ap listed (spans_same ops doc (cells_of c.args.sequence.now) (in_order c.args.anchors.now) holds.content marks.all) in
+    let p = err_from_is_err_and c.from_residual-in_err-pass_chunk.result c.from_residual-in_err-pass_chunk.ensures.1 in
+    let it : c.in_err-pass_chunk.field-0.0 ≡ Listing = cc (p.1, p.2, is) in
+    let over = c.in_err-pass_chunk.ensures.listing (ap Err it) in
+    omega (arith, over, same)
+
+pub returns-clause-listing : goal.returns-clause-listing
+returns-clause-listing c = λ is. absurd (c.spans.ensures.memory is)

@@ -7,7 +7,7 @@ use Rattle.group_commit.specs.Standing.{IsSound}
 use Rattle.group_commit.specs.Paging.{taken_in}
 use Rattle.group_commit.specs.Saved.{with_stream}
 use Rattle.group_commit.specs.declared.phase.Phase.TheVariants.{Idle, Pages}
-use Rattle.group_commit.proofs.BeginLemmas.{IsDue, is_due, due_for, is_wanting}
+use Rattle.group_commit.proofs.BeginLemmas.{IsDue, is_due, is_wanting}
 use Rattle.group_commit.proofs.DeviceCall.{left_of}
 use Rattle.group_commit.proofs.Doing.{live_idle}
 use Rattle.group_commit.proofs.PagingLemmas.{paging_begun, paging_roomy}
@@ -37,22 +37,22 @@ make_plan-requires g c =
     }
 
 pub returns-in_default-clause-answer : goal.returns-in_default-clause-answer
-returns-in_default-clause-answer g c = λ ops are. inl (due_for c.args.self.now _ _ _ c.answer_due-due.ensures ops are)
+returns-in_default-clause-answer g c = inl c.answer_due-due.ensures
 
 pub returns-in_err-next-clause-answer : goal.returns-in_err-next-clause-answer
-returns-in_err-next-clause-answer g c = λ ops are.
+returns-in_err-next-clause-answer g c =
     let p = err_from_is_err_and c.from_residual.result c.from_residual.ensures.1 in
-    is_wanting c.args.self.now _ _ _ _ _ c.answer_due-due.ensures (c.in-Ok-Some.is ∙ ap Ok (rw c.in-Ok-Some.is at c.in-Ok-Some.field-0-is)) (p.1 ∙ ap Err p.2) ops are
+    is_wanting c.args.self.now _ _ _ _ _ c.answer_due-due.ensures (c.in-Ok-Some.is ∙ ap Ok (rw c.in-Ok-Some.is at c.in-Ok-Some.field-0-is)) (p.1 ∙ ap Err p.2)
 
 pub returns-in_err-stream-clause-answer : goal.returns-in_err-stream-clause-answer
-returns-in_err-stream-clause-answer g c = λ ops are.
+returns-in_err-stream-clause-answer g c =
     let p = err_from_is_err_and c.from_residual-in_err-stream.result c.from_residual-in_err-stream.ensures.1 in
-    is_wanting c.args.self.now _ _ _ _ _ c.answer_due-due.ensures (c.in-Ok-Some.is ∙ ap Ok (rw c.in-Ok-Some.is at c.in-Ok-Some.field-0-is)) (p.1 ∙ ap Err p.2) ops are
+    is_wanting c.args.self.now _ _ _ _ _ c.answer_due-due.ensures (c.in-Ok-Some.is ∙ ap Ok (rw c.in-Ok-Some.is at c.in-Ok-Some.field-0-is)) (p.1 ∙ ap Err p.2)
 
 pub returns-in_err-reserve-clause-answer : goal.returns-in_err-reserve-clause-answer
-returns-in_err-reserve-clause-answer g c = λ ops are.
+returns-in_err-reserve-clause-answer g c =
     let p = err_from_is_err_and c.from_residual-in_err-reserve.result c.from_residual-in_err-reserve.ensures.1 in
-    is_wanting c.args.self.now _ _ _ _ _ c.answer_due-due.ensures (c.in-Ok-Some.is ∙ ap Ok (rw c.in-Ok-Some.is at c.in-Ok-Some.field-0-is)) (p.1 ∙ ap Err p.2) ops are
+    is_wanting c.args.self.now _ _ _ _ _ c.answer_due-due.ensures (c.in-Ok-Some.is ∙ ap Ok (rw c.in-Ok-Some.is at c.in-Ok-Some.field-0-is)) (p.1 ∙ ap Err p.2)
 
 pub invariant_of-self : goal.invariant_of-self
 invariant_of-self g c =
@@ -100,7 +100,7 @@ invariant_of-self-2 g c =
     )
 
 pub returns-clause-answer : goal.returns-clause-answer
-returns-clause-answer g c = λ ops are. inl (due_for c.args.self.now _ _ _ c.answer_due-due.ensures ops are)
+returns-clause-answer g c = inl c.answer_due-due.ensures
 
 pub returns-clause-began : goal.returns-clause-began
 returns-clause-began g c = λ ops are n is.
@@ -127,9 +127,9 @@ returns-clause-began g c = λ ops are n is.
       numbers = plan.changes;
       free = plan.plan.free;
       lowest = plan.plan.lowest;
-      follows = rw (are.spelled_so, are.counted) plan.follows;
-      fits = are.fits;
-      pages = rw (are.spelled_so) plan.pages;
+      follows = rw are.counted plan.follows;
+      spells = are.spells;
+      pages = plan.pages;
       live_slot = live_idle g.D.DiskFacts _ c.self.inside.roots.slot _ _ c.self.invariant.0 idle;
       left = left_of g.D.DiskFacts _ c.self.inside.roots.slot _ _ (sound_new g c);
     })

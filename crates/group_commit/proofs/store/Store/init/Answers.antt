@@ -2,6 +2,7 @@ use Rattle.group_commit.proofs.store.Store.init.Goals as goal
 use Rattle.std.proofs.Common.{ap, sym, ◌∙◌, ◌≡◌, ℕ, List, refl, arith, length, take, ◌*◌, []}
 use Rattle.std.proofs.lemmas.List.{take_all}
 use Rattle.root_slots.specs.Root.{stream_length_of}
+use Rattle.group_commit.specs.Plan.{newest}
 use Rattle.group_commit.specs.Saved.{in_front}
 use Rattle.group_commit.proofs.NewFileLemmas.{stands_new}
 use Rattle.group_commit.proofs.Roots.{root_size}
@@ -20,7 +21,7 @@ invariant_of-result g c = (
     room = ap length c.new-in-Ok-2.ensures.items ∙ ap (λ ns. 4096 * length ns) (sym c.new-in-Ok.ensures.items);
     plan = λ not_idle. absurd (not_idle refl);
     stands = λ told file left. rw (c.of_new_file.ensures.live, c.of_new_file.ensures.closed, c.in-Ok.ensures.left ((c.in-Ok.ensures.tells).0 told) file left)
-        (stands_new (in_front c.in-Ok.current c.new.result) (in_front c.in-Ok.next c.new.result) 1 c.args.replica c.in-Ok.ensures.roots.valid
+        (stands_new (in_front c.in-Ok.current c.new.result) (in_front c.in-Ok.next c.new.result) newest 1 c.args.replica c.in-Ok.ensures.roots.valid
         (root_size c.in-Ok.current.body c.in-Ok.ensures.roots.valid) (none (stream_length_of c.in-Ok.current.body) c.new.result c.new.ensures)
         c.in-Ok.ensures.roots.no_pages c.in-Ok.ensures.roots.root);
     reads = λ told works. tt;

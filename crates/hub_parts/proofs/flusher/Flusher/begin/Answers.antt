@@ -1,5 +1,6 @@
 use Rattle.std.proofs.Common.{◌-◌, true, false, sym, ◌∙◌}
 use Rattle.std.proofs.lemmas.Result.{err_from_is_err_and}
+use Rattle.group_commit.specs.Begin.{AreWritten}
 use Rattle.op_list.specs.Records.{AreRecords}
 use Rattle.hub_parts.specs.Meeting.{pending}
 use Rattle.hub_parts.proofs.BeginLemmas.{waiting_records, IsTested, tested, met_limit, met_memory, met_begun, meet_begun}
@@ -34,10 +35,13 @@ pub returns-clause-leaves : goal.returns-clause-leaves
 returns-clause-leaves g c =
     let are : AreRecords (pending c.args.locked.now) (c.len.result - c.begun-begun.result) c.records_from-records.result.now =
     waiting_records c.args.locked.now c.list-list.result c.begun-begun.result c.len.result c.records_from-records.result.now c.list-list.ensures.list c.begun-begun.ensures c.len.ensures c.records_from-records.ensures.spelled_so c.records_from-records.ensures.fits in
+    let written : AreWritten (pending c.args.locked.now) (c.len.result - c.begun-begun.result) c.deref.result.now =
+    record { spells = rw (sym c.locked.view_is, c.deref.ensures.value) c.locked.invariant.1; counted = are.counted } in
     record {
       locked = c.take_all.ensures;
-      begins = (c.in_ok-length.ensures.taken.1 (pending c.args.locked.now) are).0;
-      list = (c.in_ok-length.ensures.taken.1 (pending c.args.locked.now) are).1;
+      records = c.deref.result.now;
+      begins = (c.in_ok-length.ensures.taken.1 (pending c.args.locked.now) are written).0;
+      list = (c.in_ok-length.ensures.taken.1 (pending c.args.locked.now) are written).1;
       due = c.in_ok-length.ensures.taken.0;
     }
 
@@ -47,7 +51,9 @@ returns-clause-fits g c =
     waiting_records c.args.locked.now c.list-list.result c.begun-begun.result c.len.result c.records_from-records.result.now c.list-list.ensures.list c.begun-begun.ensures c.len.ensures c.records_from-records.ensures.spelled_so c.records_from-records.ensures.fits in
     let test : IsTested c.args.locked.now c.args.self.now true =
     tested c.args.locked.now c.args.self.now c.self.inside.store c.self.inside.list c.self.inside.due (c.len.result - c.begun-begun.result) c.records_from-records.result.now true c.self.view_is are c.if-count-eq0.false (sym c.has_room.ensures ∙ c.if-not-has_room.false) in
+    let written : AreWritten (pending c.args.locked.now) (c.len.result - c.begun-begun.result) c.deref.result.now =
+    record { spells = rw (sym c.locked.view_is, c.deref.ensures.value) c.locked.invariant.1; counted = are.counted } in
     rw c.take_all.ensures
-    (meet_begun g.D.DiskFacts c.args.locked.now c.args.self.now.store c.begin_commit.new.self.store c.args.self.now.list c.begin_commit.new.self.list c.args.self.now.due c.begin_commit.new.self.due
+    (meet_begun g.D.DiskFacts c.args.locked.now c.args.self.now.store c.begin_commit.new.self.store c.args.self.now.list c.begin_commit.new.self.list c.deref.result.now c.args.self.now.due c.begin_commit.new.self.due
     (record { sound = c.kept.ensures.sound; keeps = c.kept.ensures.keeps }) c.requires.settled c.requires.rests test.some
-    (c.in_ok-length.ensures.taken.1 (pending c.args.locked.now) are).0 (c.in_ok-length.ensures.taken.1 (pending c.args.locked.now) are).1 c.in_ok-length.ensures.taken.0)
+    (c.in_ok-length.ensures.taken.1 (pending c.args.locked.now) are written).0 (c.in_ok-length.ensures.taken.1 (pending c.args.locked.now) are written).1 c.in_ok-length.ensures.taken.0)

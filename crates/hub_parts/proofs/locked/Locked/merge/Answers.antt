@@ -1,10 +1,9 @@
-use Rattle.std.proofs.Common.{◌≡◌, [], ◌∷◌, sym, ap, ◌∙◌, arith}
+use Rattle.std.proofs.Common.{◌≡◌, [], ◌∷◌, refl, sym, ap, ◌∙◌, arith}
+use Rattle.op_model.specs.Held.{with_merge}
 use Rattle.op_model.specs.Records.{stream_length}
 use Rattle.replica_core.specs.Refusal.{number_of}
 use Rattle.hub_parts.specs.Locked.{LockedHeld}
 use Rattle.hub_parts.proofs.SharedCalls.{merge_known, merge_early, merge_refused, merge_full, merge_wanting, merge_applied}
-use Rattle.hub_parts.proofs.KeptParts.{keeps_merge}
-use Rattle.hub_parts.proofs.locked.Locked.merge.Goals.{in-Ok, in-Err-put_merge}
 use Rattle.hub_parts.proofs.locked.Locked.merge.Goals as goal
 
 pub returns-in-Ok-Known-clause-call : goal.returns-in-Ok-Known-clause-call
@@ -30,23 +29,25 @@ returns-then-not-has_record_room-clause-call c =
     let applies = rw c.in-Ok-Applied.field-0-is at c.in-Ok-Applied.ensures.answer in
     rw (sym c.self.view_is) (merge_full l c.args.peer c.args.op c.if-self.false applies (room ∙ c.if-not-has_record_room.true))
 
-pub invariant_of-self : goal.invariant_of-self
-invariant_of-self c =
-    let l : LockedHeld = record { replica = c.self.inside.replica; begun = c.self.inside.begun; failure_told = c.self.inside.failure_told } in
+pub put_merge-requires-clause-room : goal.put_merge-requires-clause-room
+put_merge-requires-clause-room c =
     let one : stream_length (c.args.op ∷ []) ≡ c.record_length.result = let long = c.record_length.ensures.value in omega arith in
-    let room = rw (sym c.self.view_is) at (sym (c.has_record_room.ensures (c.args.op ∷ []) one)) in
-    elim c.match-put_merge.branch [
-      | in-Ok w ↦ keeps_merge l c.put_merge.new.self c.args.peer c.args.op c.self.invariant (room ∙ c.if-not-has_record_room.false) w.in-Ok.ensures.merged
-      | in-Err-put_merge w ↦ rw w.in-Err-put_merge.ensures.err c.self.invariant
-    ]
+    sym (c.has_record_room.ensures (c.args.op ∷ []) one) ∙ c.if-not-has_record_room.false
 
-pub returns-clause-call : goal.returns-clause-call
-returns-clause-call c =
+pub returns-in-Ok-clause-call : goal.returns-in-Ok-clause-call
+returns-in-Ok-clause-call c =
     let l : LockedHeld = record { replica = c.self.inside.replica; begun = c.self.inside.begun; failure_told = c.self.inside.failure_told } in
     let one : stream_length (c.args.op ∷ []) ≡ c.record_length.result = let long = c.record_length.ensures.value in omega arith in
     let room = rw (sym c.self.view_is) at (sym (c.has_record_room.ensures (c.args.op ∷ []) one)) in
     let applies = rw c.in-Ok-Applied.field-0-is at c.in-Ok-Applied.ensures.answer in
-    elim c.match-put_merge.branch [
-      | in-Ok w ↦ rw (w.result-is, sym c.self.view_is) (merge_applied l c.put_merge.new.self c.args.peer c.args.op c.if-self.false applies (room ∙ c.if-not-has_record_room.false) w.in-Ok.ensures.merged)
-      | in-Err-put_merge w ↦ rw (w.result-is, w.in-Err-put_merge.ensures.err, sym c.self.view_is) (merge_wanting l c.args.peer c.args.op _ c.if-self.false applies (room ∙ c.if-not-has_record_room.false) (ap number_of w.in-Err-put_merge.ensures.memory))
-    ]
+    rw (c.in-Ok.ensures.merged, sym c.self.view_is)
+    (merge_applied l (with_merge l.replica c.args.peer c.args.op) c.args.peer c.args.op c.if-self.false applies (room ∙ c.if-not-has_record_room.false) refl)
+
+pub returns-in-Err-put_merge-clause-call : goal.returns-in-Err-put_merge-clause-call
+returns-in-Err-put_merge-clause-call c =
+    let l : LockedHeld = record { replica = c.self.inside.replica; begun = c.self.inside.begun; failure_told = c.self.inside.failure_told } in
+    let one : stream_length (c.args.op ∷ []) ≡ c.record_length.result = let long = c.record_length.ensures.value in omega arith in
+    let room = rw (sym c.self.view_is) at (sym (c.has_record_room.ensures (c.args.op ∷ []) one)) in
+    let applies = rw c.in-Ok-Applied.field-0-is at c.in-Ok-Applied.ensures.answer in
+    rw (c.in-Err-put_merge.ensures.err, sym c.self.view_is)
+    (merge_wanting l c.args.peer c.args.op _ c.if-self.false applies (room ∙ c.if-not-has_record_room.false) (ap number_of c.in-Err-put_merge.ensures.memory))

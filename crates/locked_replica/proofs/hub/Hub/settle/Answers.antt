@@ -3,11 +3,11 @@ use Rattle.group_commit.specs.Begin.{is_idle}
 use Rattle.group_commit.specs.declared.error.StoreError.{StoreError}
 use Rattle.hub_parts.specs.Meeting.{Meets}
 use Rattle.hub_parts.specs.declared.met.Met.{Met}
-use Rattle.hub_parts.specs.declared.met.Met.TheVariants.{Settled}
+use Rattle.hub_parts.specs.declared.met.Met.TheVariants.{Begun, Settled, Nothing}
 use Rattle.op_model.specs.Machine.{settle}
 use Rattle.locked_replica.specs.Calls.{IsCall}
 use Rattle.locked_replica.specs.Hub.{is_through}
-use Rattle.locked_replica.proofs.MetCalls.{as_settled, settle_met, through_is}
+use Rattle.locked_replica.proofs.MetCalls.{as_settled, never_begun, never_nothing, settle_met, settles_alone, through_is}
 use Rattle.locked_replica.proofs.PartsFit.{hub_fits, hub_of}
 use Rattle.locked_replica.proofs.Settling.{settle_busy}
 use Rattle.locked_replica.proofs.hub.Hub.settle.Goals.{else-not-has_failed-via-then-not-has_failed+else-not-is_through}
@@ -20,6 +20,34 @@ returns-then-not-is_through-clause-call g c =
     let works = sym c.has_failed.ensures ∙ c.if-not-has_failed.true in
     let none = ap is_through c.self.view_is ∙ sym c.is_through.ensures ∙ c.if-not-is_through.true in
     rw (sym c.self.view_is) (settle_busy g.D.DiskFacts c.self.inside.locked.replica c.self.inside.flusher.store (λ told. g.met.D.Disk.lawful c.self.inside.flusher.store.disk told) fits works none)
+
+pub unreachable-requires : goal.unreachable-requires
+unreachable-requires g c =
+    let through = through_is g.D.DiskFacts c.self.inside.locked c.self.inside.flusher (λ disk told. g.met.D.Disk.lawful disk told) c.kept.ensures c.kept-2.ensures c.self.invariant in
+    let none : (not c.self.inside.flusher.store.failed && not (c.self.inside.flusher.due && is_idle c.self.inside.flusher.store.phase)) ≡ false = elim c.else-not-has_failed.branch [
+      | else-not-has_failed-via-then-not-has_failed+else-not-is_through w ↦
+          let is = through ∙ ap is_through c.self.view_is ∙ sym w.is_through.ensures ∙ w.if-not-is_through.false in
+          rw (sym c.has_failed.ensures ∙ w.if-not-has_failed.true, is) refl
+      | else-not-has_failed-via-else-not-has_failed w ↦ rw (sym c.has_failed.ensures ∙ w.if-not-has_failed.false) refl
+    ] in
+    let alone = settles_alone g.D.DiskFacts c.self.inside.locked c.self.inside.flusher (λ disk told. g.met.D.Disk.lawful disk told) c.kept.ensures c.kept-2.ensures c.self.invariant
+    c.meet-answer.result none c.meet-answer.ensures.met.answer in
+    let same : c.in-Ok-Begun.field-0 ≡ Begun c.in-Ok-Begun.field-0-0 = rw c.in-Ok-Begun.is at c.in-Ok-Begun.field-0-is in
+    never_begun c.meet-answer.result c.in-Ok-Begun.field-0-0 c.self.inside.locked.begun (c.in-Ok-Begun.is ∙ ap Ok same) alone
+
+pub unreachable-requires-in-Ok-Nothing : goal.unreachable-requires-in-Ok-Nothing
+unreachable-requires-in-Ok-Nothing g c =
+    let through = through_is g.D.DiskFacts c.self.inside.locked c.self.inside.flusher (λ disk told. g.met.D.Disk.lawful disk told) c.kept.ensures c.kept-2.ensures c.self.invariant in
+    let none : (not c.self.inside.flusher.store.failed && not (c.self.inside.flusher.due && is_idle c.self.inside.flusher.store.phase)) ≡ false = elim c.else-not-has_failed.branch [
+      | else-not-has_failed-via-then-not-has_failed+else-not-is_through w ↦
+          let is = through ∙ ap is_through c.self.view_is ∙ sym w.is_through.ensures ∙ w.if-not-is_through.false in
+          rw (sym c.has_failed.ensures ∙ w.if-not-has_failed.true, is) refl
+      | else-not-has_failed-via-else-not-has_failed w ↦ rw (sym c.has_failed.ensures ∙ w.if-not-has_failed.false) refl
+    ] in
+    let alone = settles_alone g.D.DiskFacts c.self.inside.locked c.self.inside.flusher (λ disk told. g.met.D.Disk.lawful disk told) c.kept.ensures c.kept-2.ensures c.self.invariant
+    c.meet-answer.result none c.meet-answer.ensures.met.answer in
+    let same : c.in-Ok-Nothing.field-0 ≡ Nothing = rw c.in-Ok-Nothing.is at c.in-Ok-Nothing.field-0-is in
+    never_nothing c.meet-answer.result c.self.inside.locked.begun (c.in-Ok-Nothing.is ∙ ap Ok same) alone
 
 pub returns-clause-call : goal.returns-clause-call
 returns-clause-call g c =

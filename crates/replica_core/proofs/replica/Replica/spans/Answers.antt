@@ -1,5 +1,4 @@
 use Rattle.std.proofs.Common.{◌≡◌, ◌∙◌, ap}
-use Rattle.std.proofs.lemmas.Result.{IfOk-weaker}
 use Rattle.op_model.specs.Spans.{spans}
 use Rattle.replica_core.specs.Docs.{AreDocs}
 use Rattle.op_model.specs.Held.{ReplicaHeld}
@@ -13,7 +12,6 @@ pub returns-clause-spans : goal.returns-clause-spans
 returns-clause-spans c =
     let list : c.self.inside.log.list ≡ c.args.self.now.list = ap (λ (h : ReplicaHeld). h.list) c.self.view_is in
     let docs : AreDocs c.deref.result.now c.self.inside.log.list = rw c.deref.ensures.value c.self.invariant.docs in
-    IfOk-weaker c.spans.result _ _ (λ found says.
-    says c.self.inside.log.list (c.find.ensures.stands c.self.inside.log.list docs)
+    c.in_ok-spans.ensures.spans c.self.inside.log.list (c.find.ensures.stands c.self.inside.log.list docs)
     ∙ (ap (λ doc. spans c.self.inside.log.list doc) (c.find.ensures.number ∙ c.new-empty.ensures.number)
-    ∙ ap (λ ops. spans ops c.args.doc) list)) c.spans.ensures.spans
+    ∙ ap (λ ops. spans ops c.args.doc) list)

@@ -18,11 +18,11 @@ returns-then-not-is_rest c =
 pub invariant_of-result : goal.invariant_of-result
 invariant_of-result c =
     let rest = c.is_rest.ensures ∙ rest_is c.args.body.now c.deref.result.now c.split_at.result.1.now c.len.result (c.deref.ensures.value ∙ c.requires.tables) c.split_at.ensures.back (omega (arith, c.len.ensures, c.deref.ensures.len)) in
-    root_from c.args.body.now c.u64_at.result c.replica_at.result c.u64_at-2.result c.u64_at-3.result c.args.tables.items
-    c.u64_at.ensures c.replica_at.ensures c.u64_at-2.ensures c.u64_at-3.ensures c.requires.tables c.requires.head (sym rest ∙ c.if-not-is_rest.false)
+    root_from c.args.body.now c.format_at.result c.u64_at.result c.replica_at.result c.u64_at-2.result c.u64_at-3.result c.args.tables.items
+    c.format_at.ensures c.u64_at.ensures c.replica_at.ensures c.u64_at-2.ensures c.u64_at-3.ensures c.requires.tables c.requires.head (sym rest ∙ c.if-not-is_rest.false)
 
 pub returns : goal.returns
 returns c =
     let rest = c.is_rest.ensures ∙ rest_is c.args.body.now c.deref.result.now c.split_at.result.1.now c.len.result (c.deref.ensures.value ∙ c.requires.tables) c.split_at.ensures.back (omega (arith, c.len.ensures, c.deref.ensures.len)) in
-    some_root c.args.body.now c.u64_at.result c.replica_at.result c.u64_at-2.result c.u64_at-3.result c.args.tables.items
-    c.u64_at.ensures c.replica_at.ensures c.u64_at-2.ensures c.u64_at-3.ensures c.requires.tables c.requires.head (sym rest ∙ c.if-not-is_rest.false)
+    some_root c.args.body.now c.format_at.result c.u64_at.result c.replica_at.result c.u64_at-2.result c.u64_at-3.result c.args.tables.items
+    c.format_at.ensures c.u64_at.ensures c.replica_at.ensures c.u64_at-2.ensures c.u64_at-3.ensures c.requires.tables c.requires.head (sym rest ∙ c.if-not-is_rest.false)

@@ -13,7 +13,7 @@ returns-then-not-self-clause-shown c =
     let marks = marks_in (picked c.args.markings.now (kept c.args.self.now.active)) in
     let before = map forward_span c.args.self.now.runs.items in
     on_ok_weaker c.join.result (λ is. λ ready. is ∙ sym (back_joined c.args.value marks before (last_same marks before (ready.fresh c.if-not-self.true))))
-    c.join.ensures
+    c.join.ensures.joined
 
 pub returns-then-not-self-clause-ready : goal.returns-then-not-self-clause-ready
 returns-then-not-self-clause-ready c =
@@ -23,10 +23,13 @@ returns-then-not-self-clause-ready c =
       deciding = ready.deciding;
       noted = rw is (rw (comments_extended c.args.value before) ready.noted);
       fresh = λ e. rw is (last_extended c.args.value marks before (ready.fresh e));
-    }) c.join.ensures
+    }) c.join.ensures.joined
 
 pub returns-then-not-self-clause-few : goal.returns-then-not-self-clause-few
 returns-then-not-self-clause-few c =
     let before = map forward_span c.args.self.now.runs.items in
     on_ok_weaker c.join.result (λ is. ap (λ ss. listed ss + c.args.self.now.left) is
-    ∙ ap (λ n. n + c.args.self.now.left) (listed_extended c.args.value before)) c.join.ensures
+    ∙ ap (λ n. n + c.args.self.now.left) (listed_extended c.args.value before)) c.join.ensures.joined
+
+pub returns-then-not-self-clause-listing : goal.returns-then-not-self-clause-listing
+returns-then-not-self-clause-listing c = λ is. absurd (c.join.ensures.memory is)

@@ -1,5 +1,8 @@
-use Rattle.std.proofs.Common.{◌≡◌, ◌+◌, true, false, [], ◌∷◌, ◌++◌, map, ap, sym, ◌∙◌}
-use Rattle.std.proofs.lemmas.Result.{on_ok_weaker}
+use Rattle.std.proofs.Common.{◌≡◌, ◌+◌, true, false, [], ◌∷◌, ◌++◌, length, map, ap, sym, ◌∙◌, arith}
+use Rattle.std.specs.Prelude.{Err}
+use Rattle.std.proofs.lemmas.Result.{err_from_is_err_and, on_ok_weaker}
+use Rattle.op_model.specs.declared.mark.Marks.{Marks}
+use Rattle.span_flatten.specs.declared.error.SpansError.TheVariants.{Listing}
 use Rattle.op_model.specs.declared.span.Span.{Span}
 use Rattle.span_flatten.specs.Formatting.{marks_in}
 use Rattle.span_flatten.specs.Listing.{listed}
@@ -7,7 +10,7 @@ use Rattle.span_flatten.specs.Picking.{picked}
 use Rattle.span_flatten.specs.Sweeping.{flagged, forward_span, is_last_same, kept, IsLast, IsReady}
 use Rattle.span_flatten.proofs.BackLemmas.{back_begun, back_joined, comments_begun, comments_extended, last_begun, last_equal, last_extended}
 use Rattle.span_flatten.proofs.KeptLemmas.{up_flagged}
-use Rattle.span_flatten.proofs.ListedLemmas.{listed_extended}
+use Rattle.span_flatten.proofs.ListedLemmas.{listed_begun, listed_extended}
 use Rattle.span_flatten.proofs.sweep.Sweep.show_changed.Goals as goal
 
 pub returns-then-is_last_same-clause-shown : goal.returns-then-is_last_same-clause-shown
@@ -17,7 +20,7 @@ returns-then-is_last_same-clause-shown c =
     let there : IsReady c.args.self.now c.args.markings.now → is_last_same marks before ≡ true =
     λ ready. sym (sym c.if-is_last_same.true ∙ (c.is_last_same.ensures ready.deciding (rw c.deref.ensures.value ready.noted)
     ∙ ap (λ rs. is_last_same marks (map forward_span rs)) c.deref.ensures.value)) in
-    on_ok_weaker c.join.result (λ is. λ ready. is ∙ sym (back_joined c.args.value marks before (there ready))) c.join.ensures
+    on_ok_weaker c.join.result (λ is. λ ready. is ∙ sym (back_joined c.args.value marks before (there ready))) c.join.ensures.joined
 
 pub returns-then-is_last_same-clause-ready : goal.returns-then-is_last_same-clause-ready
 returns-then-is_last_same-clause-ready c =
@@ -30,13 +33,13 @@ returns-then-is_last_same-clause-ready c =
       deciding = ready.deciding;
       noted = rw is (rw (comments_extended c.args.value before) ready.noted);
       fresh = λ e. rw is (last_extended c.args.value marks before (last_equal marks before (there ready)));
-    }) c.join.ensures
+    }) c.join.ensures.joined
 
 pub returns-then-is_last_same-clause-few : goal.returns-then-is_last_same-clause-few
 returns-then-is_last_same-clause-few c =
     let before = map forward_span c.args.self.now.runs.items in
     on_ok_weaker c.join.result (λ is. ap (λ ss. listed ss + c.args.self.now.left) is
-    ∙ ap (λ n. n + c.args.self.now.left) (listed_extended c.args.value before)) c.join.ensures
+    ∙ ap (λ n. n + c.args.self.now.left) (listed_extended c.args.value before)) c.join.ensures.joined
 
 pub returns-clause-shown : goal.returns-clause-shown
 returns-clause-shown c = λ ready.
@@ -62,3 +65,22 @@ returns-clause-ready c = λ ready.
       noted = rw c.in_ok-begin_run.ensures.begun (rw (comments_begun span before) (rw are noted.1));
       fresh = λ e. rw (same, c.in_ok-begin_run.ensures.begun, ← are) last;
     }
+
+pub returns-then-is_last_same-clause-listing : goal.returns-then-is_last_same-clause-listing
+returns-then-is_last_same-clause-listing c = λ is. absurd (c.join.ensures.memory is)
+
+pub returns-in_err-begin_run-clause-listing : goal.returns-in_err-begin_run-clause-listing
+returns-in_err-begin_run-clause-listing c = λ is ready.
+    let marks = marks_in (picked c.args.markings.now (kept c.args.self.now.active)) in
+    let before = map forward_span c.args.self.now.runs.items in
+    let there : is_last_same marks before ≡ false =
+    sym (sym c.if-is_last_same.false ∙ (c.is_last_same.ensures ready.deciding (rw c.deref.ensures.value ready.noted)
+    ∙ ap (λ rs. is_last_same marks (map forward_span rs)) c.deref.ensures.value)) in
+    let are = c.in_ok-marks.ensures (up_flagged c.args.self.now.active.in_force.items) ready.deciding in
+    let p = err_from_is_err_and c.from_residual-in_err-begin_run.result c.from_residual-in_err-begin_run.ensures.1 in
+    let it : c.in_err-begin_run.field-0.0 ≡ Listing = cc (p.1, p.2, is) in
+    let over = c.in_err-begin_run.ensures.listing (ap Err it) in
+    let begun = ap listed (back_begun c.args.value marks before there) in
+    let more = listed_begun before (record { text = c.args.value ∷ []; marks = marks }) in
+    let same = ap (λ (m : Marks). length m.comments) are in
+    omega (arith, over, begun, more, same)

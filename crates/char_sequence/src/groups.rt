@@ -1,0 +1,48 @@
+//! How many cells a reader sees in each 64 chunks, one behind the other.
+ghost use Rattle.std.specs.Prelude.{◌≡◌, ◌≤◌, ◌<◌, ◌+◌, ◌*◌, ◌^◌, List, length, slice_set};
+ghost use Rattle.std.proofs.Common.{get_or};
+ghost use Rattle.char_sequence.specs.declared.cell.Cell as cell;
+ghost use Rattle.char_sequence.specs.Chunks.{AreSized, ChunkCells};
+ghost use Rattle.char_sequence.specs.Sums.{seen, seen_in, AreGroups};
+
+use crate::chunk::Chunk;
+
+/// How many chunks are counted together.
+pub(crate) const GROUP: usize = 64;
+
+/// Counts anew: as many whole groups as there are counts. A step for each of their chunks.
+pub fn count(groups: &mut [usize], chunks: &[Chunk])
+    requires whole { GROUP * length groups.old ≤ length chunks.now }
+    requires rest { length chunks.now < GROUP * length groups.old + GROUP }
+    ensures { AreGroups groups.new chunks.now }
+{
+    for g in 0..groups.len() {
+        groups[g] = seen_in(&chunks[g * GROUP..g * GROUP + GROUP]);
+    }
+}
+
+/// How many cells of at most 64 chunks a reader sees. A step for each chunk.
+fn seen_in(chunks: &[Chunk]) -> usize
+    requires { length chunks.now ≤ GROUP }
+    ensures { result ≡ seen chunks.now }
+{
+    let mut seen = 0;
+    for chunk in chunks {
+        seen += chunk.shown();
+    }
+    seen
+}
+
+/// Takes the count of the i-th chunk away from that of its group, and another one in. Constant.
+pub fn recount(groups: &mut [usize], i: usize, before: usize, after: usize)
+    ensures { (held : ChunkCells) (k new : List cell.Cell) → AreGroups groups.old held
+        → AreSized 1 held → length held ≤ 2 ^ 54 → i < length held → k ≡ get_or held i k
+        → before ≡ seen_in k → after ≡ seen_in new → after ≤ 512
+        → AreGroups groups.new (slice_set held i new) }
+{
+    let g = i / GROUP;
+    if g >= groups.len() {
+        return;
+    }
+    groups[g] = groups[g].saturating_sub(before).saturating_add(after);
+}

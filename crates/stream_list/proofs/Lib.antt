@@ -1,0 +1,4 @@
+pub mod AtFront
+pub mod FirstPass
+pub mod SecondPass
+pub mod Surveyed

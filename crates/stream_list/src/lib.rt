@@ -1,0 +1,12 @@
+//! The operations that the stream of a file spells, as a list in memory: records of single
+//! operations are taken where they lie, and those of runs are unrolled.
+#![tactic(auto)]
+
+mod front;
+mod read_error;
+mod reading;
+mod survey;
+mod unrolling;
+
+pub use read_error::ReadError;
+pub use reading::read_stream;
