@@ -17,13 +17,29 @@ def frame(kind, content=b""):
     return (len(content) + 1).to_bytes(4, "big") + bytes([kind]) + content
 
 
-def ids(content):
-    """The counter and the maker of each operation of an OPS: a record is its length, and kind (1 byte), document (4), counter (8) and
-    maker (16) first."""
+def records(content):
+    """The records of an OPS, each with its length first."""
     count, at = int.from_bytes(content[:2], "big"), 2
     for _ in range(count):
-        yield int.from_bytes(content[at + 9 : at + 17], "big"), content[at + 17 : at + 33]
-        at += 4 + int.from_bytes(content[at : at + 4], "big")
+        end = at + 4 + int.from_bytes(content[at : at + 4], "big")
+        yield content[at:end]
+        at = end
+
+
+def typed_in(record):
+    """How many operations a record has: kinds 5 and 21 are of a run, which says it behind its deps, its token and its origin."""
+    if record[4] not in (5, 21):
+        return 1
+    origin = 34 + 24 * record[33] + (16 if record[4] == 21 else 0)
+    at = origin + (25 if record[origin] else 1)
+    return int.from_bytes(record[at : at + 2], "big")
+
+
+def ids(record):
+    """The counter and the maker of each operation of a record: it is its length, and kind (1 byte), document (4), counter (8) and maker
+    (16) first. Those of a run have counters in a row."""
+    counter, maker = int.from_bytes(record[9:17], "big"), record[17:33]
+    return [(counter + k, maker) for k in range(typed_in(record))]
 
 
 class Follower(threading.Thread):
@@ -49,7 +65,7 @@ class Follower(threading.Thread):
                 with connection(self.port) as link:
                     self.links += 1
                     link.settimeout(0.5)
-                    link.sendall(frame(HELLO, (1).to_bytes(2, "big") + self.maker) + self.have())
+                    link.sendall(frame(HELLO, (3).to_bytes(2, "big") + self.maker) + self.have())
                     self.listen(link)
             except OSError:
                 pass
@@ -68,7 +84,7 @@ class Follower(threading.Thread):
             heard += more
             while len(heard) >= 4 and len(heard) >= (size := 4 + int.from_bytes(heard[:4], "big")):
                 if heard[4] == OPS:
-                    for counter, maker in ids(heard[5:size]):
+                    for counter, maker in (it for record in records(heard[5:size]) for it in ids(record)):
                         self.clock[maker] = self.clock.get(maker, 0) + 1
                         self.again += counter <= self.greatest.get(maker, 0)
                         self.greatest[maker] = counter

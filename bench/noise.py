@@ -48,7 +48,7 @@ class Noise(threading.Thread):
 
     def greeted(self, port, number):
         link = connection(port)
-        link.sendall(frame(HELLO, (1).to_bytes(2, "big") + replica(number)) + ALL_BEFORE)
+        link.sendall(frame(HELLO, (3).to_bytes(2, "big") + replica(number)) + ALL_BEFORE)
         link.recv(1)
         link.setblocking(False)
         return link

@@ -3,8 +3,8 @@ the link moved beside those that were new.
 
 python3 bench/parted.py PROGRAM [MINUTES [FOLDER]]. 10 minutes, if none are given; the files are made in FOLDER, or here. Somebody stands
 between the daemons, reads the frames of both, and parts them after up to 20 seconds, for up to 5: by closing both connections at once,
-whatever is under way. New is each record the first time that it goes over the link; all else are greetings, clocks and records told again.
-At the end both have to show the same texts, with each answered token once.
+whatever is under way. New is each record with an operation that didn't go over the link before; all else are greetings, clocks and records
+told again. At the end both have to show the same texts, with each answered token once.
 """
 
 import collections
@@ -16,7 +16,7 @@ import tempfile
 import threading
 import time
 
-from followers import OPS
+from followers import OPS, ids, records
 from servers import HOST, REPLICAS, Daemon, Refused
 from soak import DOCUMENTS, TOKEN, Tokens
 
@@ -26,15 +26,6 @@ PAUSE, TOGETHER, APART = 0.5, 20, 5
 # Seconds until two daemons that are left alone have to show the same.
 LONGEST = 120
 CHUNK = 65_536
-
-
-def records(content):
-    """The records of an OPS, each with its length first."""
-    count, at = int.from_bytes(content[:2], "big"), 2
-    for _ in range(count):
-        end = at + 4 + int.from_bytes(content[at : at + 4], "big")
-        yield content[at:end]
-        at = end
 
 
 class Between:
@@ -88,10 +79,10 @@ class Between:
             self.moved += len(frame)
             if frame[4] == OPS:
                 for record in records(frame[5:]):
-                    if (name := record[9:33]) in self.known:
+                    if self.known.issuperset(names := ids(record)):
                         self.again += len(record)
                     else:
-                        self.known.add(name)
+                        self.known.update(names)
                         self.new += len(record)
 
     def part(self):

@@ -32,7 +32,7 @@ def record(counter, doc=1, origin=None):
 
 
 def slot(version, length, count, tables):
-    head = bytes([1]) + bytes(7) + b"PTXTPG01" + version.to_bytes(8, "big") + NAME
+    head = bytes([1]) + bytes(7) + b"PTXTPG03" + version.to_bytes(8, "big") + NAME
     head += length.to_bytes(8, "big") + count.to_bytes(8, "big") + len(tables).to_bytes(4, "big") + bytes(4)
     return (head + b"".join(n.to_bytes(4, "big") for n in tables)).ljust(PAGE, b"\0")
 

@@ -6,7 +6,7 @@ import socket
 from daemon import connection
 
 HELLO, HAVE, OPS, BYE = 1, 2, 3, 4
-INSERT, REMOVE, ADD_MARK, REMOVE_MARK = 1, 2, 3, 4
+INSERT, REMOVE, ADD_MARK, REMOVE_MARK, RUN = 1, 2, 3, 4, 5
 STRONG, EM, LINK, COMMENT = 1, 2, 3, 4
 START, END = b"\0", b"\3"
 
@@ -36,6 +36,12 @@ def record(kind, maker, counter, content, deps=(), doc=1):
     return len(body).to_bytes(4, "big") + body
 
 
+def run_record(maker, counter, text, deps=(), doc=1, origin=None, token=b""):
+    """The record of characters that were typed one behind another in one edit."""
+    content = token + (b"\1" + origin if origin else b"\0") + len(text).to_bytes(2, "big") + b"".join(ord(it).to_bytes(4, "big") for it in text)
+    return record(RUN + (16 if token else 0), maker, counter, content, deps, doc)
+
+
 def inserted(character, origin=None):
     """The content of an insert; the origin is an id's bytes."""
     return (b"\1" + origin if origin else b"\0") + ord(character).to_bytes(4, "big")
@@ -50,7 +56,7 @@ def frame(kind, content=b""):
     return (len(content) + 1).to_bytes(4, "big") + bytes([kind]) + content
 
 
-def hello(maker, version=1):
+def hello(maker, version=3):
     return frame(HELLO, version.to_bytes(2, "big") + maker)
 
 

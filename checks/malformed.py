@@ -2,7 +2,7 @@
 
 from frames import (
     ADD_MARK, BYE, END, HAVE, HELLO, INSERT, LINK, OPS, REMOVE, REMOVE_MARK, START, STRONG, anchor, entries, frame, have, hello, inserted, name,
-    ops, record, replica, url,
+    ops, record, replica, run_record, url,
 )
 from program import NAME
 
@@ -27,9 +27,10 @@ BEGINNINGS = {
     "a bye before a hello": frame(BYE),
     "the daemon's own name": hello(NAME),
     "a hello of nobody": hello(NIL),
-    "a hello of another format": hello(US, 2),
-    "a hello that is too short": frame(HELLO, b"\0\1" + US[:15]),
-    "a hello that is too long": frame(HELLO, b"\0\1" + US + b"\0"),
+    "a hello of an earlier format": hello(US, 1),
+    "a hello of a later format": hello(US, 4),
+    "a hello that is too short": frame(HELLO, b"\0\3" + US[:15]),
+    "a hello that is too long": frame(HELLO, b"\0\3" + US + b"\0"),
 }
 
 # Where they come behind a hello.
@@ -53,16 +54,22 @@ FRAMES = {
     "fewer records than it says": frame(OPS, b"\0\2" + FIRST),
     "more than the records that it says": frame(OPS, b"\0\1" + FIRST + b"\0"),
     "a record that isn't whole": frame(OPS, b"\0\1" + FIRST[:-1]),
+    "a run that isn't whole": frame(OPS, b"\0\1" + run_record(US, 1, "ab")[:-1]),
     "operations without a number": frame(OPS, b"\0"),
 }
 
 BODY = FIRST[4:]
 RECORDS = {
     "a record that is too short": bent(BODY[:32]),
-    "a record that is too long": (1492).to_bytes(4, "big") + bytes(1492),
+    "a record that is too long": (1508).to_bytes(4, "big") + bytes(1508),
     "a record with bytes behind": bent(BODY + b"\0"),
     "a field past the end of its record": bent(BODY[:-1]),
-    "an unknown kind": bent(b"\5" + BODY[1:]),
+    "an unknown kind": bent(b"\6" + BODY[1:]),
+    "a run of one character": run_record(US, 1, "a"),
+    "a run of 257 characters": run_record(US, 1, "a" * 257),
+    "a run with half a surrogate": run_record(US, 1, "a\ud800"),
+    "a run past the last counter": run_record(US, 2**48 - 1, "ab"),
+    "a run with the token of nobody": run_record(US, 1, "ab", token=bytes(16)),
     "a counter of 0": record(INSERT, US, 0, inserted("a")),
     "a counter too great": record(INSERT, US, 2**48, inserted("a")),
     "a maker that is nobody": record(INSERT, NIL, 1, inserted("a")),

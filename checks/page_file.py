@@ -3,8 +3,11 @@
 from collections import namedtuple
 
 PAGE = 4096
-MAGIC = b"PTXTPG01"
-INSERT, REMOVE, ADD_MARK, REMOVE_MARK = 1, 2, 3, 4
+# The format of the stream by the magic of the live slot.
+FORMATS = {b"PTXTPG01": 1, b"PTXTPG02": 2, b"PTXTPG03": 3}
+INSERT, REMOVE, ADD_MARK, REMOVE_MARK, RUN = 1, 2, 3, 4, 5
+# With a token, a kind is 16 more.
+WITH_TOKEN = 16
 STRONG, EM, LINK, COMMENT = 1, 2, 3, 4
 
 # `names` are the ids that it names, `value` the character of an insert, `mark` what a mark operation says.
@@ -52,7 +55,7 @@ def root(data):
     tables = number(body[56:60])
     pages = -(-length // PAGE)
     good = (
-        body[8:16] == MAGIC
+        body[8:16] in FORMATS
         and number(body[16:24]) >= 1
         and any(body[24:40])
         and length <= 2**30
@@ -68,6 +71,12 @@ def root(data):
     if any(page(data, n) is None for n in numbers):
         raise Refused(43)
     return body[24:40], length, count, numbers
+
+
+def format_of(data):
+    """The format of the live root's stream, which keeps its rules."""
+    root(data)
+    return FORMATS[live_body(data)[8:16]]
 
 
 def stream(data):
@@ -131,10 +140,46 @@ def mark_of(kind, fields):
     return Mark(mark, value, fields.anchor(0, 3), fields.anchor(3, 0))
 
 
-def operation(body):
-    """One operation."""
+def kind_of(fields, form):
+    """The kind of a record without its token, and whether it has one."""
+    kind = fields.number(1, 0, 255)
+    has_token = form == 3 and kind > WITH_TOKEN
+    kind -= WITH_TOKEN if has_token else 0
+    if not INSERT <= kind <= (REMOVE_MARK if form == 1 else RUN):
+        raise Refused(46)
+    return kind, has_token
+
+
+def typed(first, values):
+    """The operations of a run: the first one, and one for each further character, behind the one before."""
+    ops = [first]
+    for value in values:
+        (counter, replica), deps = ops[-1].own, dict(ops[-1].deps)
+        deps[replica] = deps.get(replica, 0) + 1
+        ops.append(first._replace(own=(counter + 1, replica), deps=deps, names=[(counter, replica)], value=value))
+    return ops
+
+
+def scalar(fields):
+    value = fields.number(4, 0, 0x10FFFF)
+    if 0xD800 <= value < 0xE000:
+        raise Refused(46)
+    return value
+
+
+def run_count(fields, own, deps):
+    """The number of a run's characters: its last operation has a counter, an own count and deps in their ranges."""
+    count = fields.number(2, 2, 256)
+    (counter, replica), known = own, deps.get(own[1], 0)
+    if counter + count - 1 > 2**48 - 1 or known + count - 1 > 2**24 or (known == 0 and len(deps) == 16):
+        raise Refused(46)
+    return count
+
+
+def piece(body, form):
+    """The operations of one record of a format: one, or those of a run."""
     fields = Fields(body)
-    kind = fields.number(1, INSERT, REMOVE_MARK)
+    kind, has_token = kind_of(fields, form)
     doc = fields.number(4, 0, 2**32 - 1)
     own = fields.id()
     deps, last = {}, 0
@@ -142,13 +187,15 @@ def operation(body):
         replica = fields.number(16, last + 1, 2**128 - 1)
         deps[replica] = fields.number(8, 1, 2**24)
         last = replica
-    names, value, mark = [], None, None
-    if kind == INSERT:
+    if has_token:
+        fields.number(16, 1, 2**128 - 1)
+    names, value, mark, others = [], None, None, []
+    if kind in (INSERT, RUN):
         if fields.number(1, 0, 1):
             names.append(fields.id())
-        value = fields.number(4, 0, 0x10FFFF)
-        if 0xD800 <= value < 0xE000:
-            raise Refused(46)
+        count = run_count(fields, own, deps) if kind == RUN else 1
+        value, *others = [scalar(fields) for _ in range(count)]
+        kind = INSERT
     elif kind == REMOVE:
         names.append(fields.id())
     else:
@@ -156,17 +203,17 @@ def operation(body):
         names += [found for _, found in (mark.start, mark.end) if found]
     if fields.at < len(body):
         raise Refused(46)
-    return Operation(kind, doc, own, deps, names, value, mark)
+    return typed(Operation(kind, doc, own, deps, names, value, mark), others)
 
 
-def operations(data, count):
-    """The operations that the stream is the records of."""
-    ops, at = [], 0
+def operations(data, count, form):
+    """The operations that the stream spells in its format."""
+    ops, at, longest = [], 0, 1507 if form == 3 else 1491
     while at < len(data):
         length = number(data[at : at + 4])
-        if at + 4 > len(data) or not 33 <= length <= 1491 or at + 4 + length > len(data):
+        if at + 4 > len(data) or not 33 <= length <= longest or at + 4 + length > len(data):
             raise Refused(46)
-        ops.append(operation(data[at + 4 : at + 4 + length]))
+        ops += piece(data[at + 4 : at + 4 + length], form)
         at += 4 + length
     if len(ops) != count:
         raise Refused(46)
@@ -199,7 +246,7 @@ def check_order(ops):
 def image(data):
     """Replica and operations of a file; `Refused` with the first of 42, 43, 45, 46, 47."""
     replica, records, count = stream(data)
-    ops = operations(records, count)
+    ops = operations(records, count, format_of(data))
     check_order(ops)
     return replica, ops
 

@@ -9,7 +9,7 @@ import time
 
 from beside import STATUS, Beside, link, seat, together
 from daemon import PATIENCE, connection, new_daemon
-from frames import BYE, OPS, Peer, framed, have, hello, inserted, ops, record, replica, typed
+from frames import BYE, OPS, Peer, framed, have, hello, inserted, name, ops, record, replica, run_record, typed
 from malformed import ENDED_BY, REFUSED, US
 from program import insert, line, run
 
@@ -22,7 +22,7 @@ CONNECTIONS = 2_000
 LINKS, TAKES_NOTHING, SLACK = 8, 30, 10
 MANY = 8_000
 MEGABYTE = 1_000_000
-BESIDE, READ, TRICKLED, PEERS = 50, 51, 52, 53
+BESIDE, READ, TRICKLED, PEERS, RUNS = 50, 51, 52, 53, 54
 STOP = line(op="stop")
 OK = {"ok": True}
 
@@ -128,8 +128,9 @@ def deaf(port, maker, data, held):
 
 
 def told_before(daemon, maker, count=64):
-    """What a peer told once, so that it is known from then on: the first frame of it."""
-    records = typed(maker, count, PEERS)
+    """What a peer told once, so that it is known from then on: the first frame of it. None of it is typed behind another, so that each
+    takes a record of its own."""
+    records = typed(maker, count, PEERS, at_start=True)
     peer = link(daemon, maker)
     for data in framed(records):
         peer.say(data)
@@ -159,6 +160,20 @@ def check_peers(checks, daemon):
     links, heard = early[0]
     checks.holds(f"early operations for {SECONDS} s over {links} links bring {heard} frames", heard < 100 * SECONDS)
     return [it for it in held if isinstance(it, Peer)]
+
+
+def check_runs(checks, daemon):
+    """What a peer typed in one edit is taken from one record, with a token too."""
+    maker, talk, first = replica(23), seat(daemon), "r" * 256
+    peer = link(daemon, maker)
+    behind = run_record(maker, 257, "ab", [(maker, 256)], RUNS, name(256, maker), replica(24))
+    peer.say(ops(run_record(maker, 1, first, doc=RUNS), behind))
+    until = time.monotonic() + PATIENCE
+    while (found := talk.ask(line(op="text", doc=RUNS)))["rev"] < 258 and time.monotonic() < until:
+        time.sleep(0.01)
+    checks.same("the text of runs that a peer told", found["text"], first + "ab")
+    talk.close()
+    peer.close()
 
 
 def check_malformed(checks, daemon):
@@ -247,8 +262,9 @@ def check(checks, program, _until):
     try:
         held += check_sessions(checks, daemon)
         held += check_peers(checks, daemon)
+        check_runs(checks, daemon)
         check_malformed(checks, daemon)
-        check_end(checks, program, daemon, (BESIDE, BESIDE + 100, READ, TRICKLED, PEERS))
+        check_end(checks, program, daemon, (BESIDE, BESIDE + 100, READ, TRICKLED, PEERS, RUNS))
     except (OSError, TimeoutError, subprocess.TimeoutExpired) as error:
         checks.same("rude ones come to their end", repr(error), None)
     finally:

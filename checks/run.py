@@ -11,6 +11,7 @@ import each_byte
 import ending
 import examples
 import exports
+import formats
 import full_disk
 import idle_links
 import kills
@@ -36,7 +37,7 @@ from program import Checks
 
 LIMIT = 600
 GROUPS = (
-    words, examples, exports, long_texts, streams, locks, lost_files, full_disk, ending, crafted, damage, each_byte, kills, memory, serving, served_limits, web_pages,
+    words, examples, exports, long_texts, streams, locks, lost_files, full_disk, ending, crafted, formats, damage, each_byte, kills, memory, serving, served_limits, web_pages,
     last_place, parting, put_back, parted_files, idle_links, rude, noise, worst, session_memory, renewal,
 )
 

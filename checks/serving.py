@@ -20,7 +20,7 @@ BUSY = {"code": 8, "error": "busy", "ok": False}
 STATUS = line(op="status")
 SESSIONS = 32
 LINKS = 8
-HELLO = bytes.fromhex("00000013010001") + bytes.fromhex("00000000000040008000000000000009")
+HELLO = bytes.fromhex("00000013010003") + bytes.fromhex("00000000000040008000000000000009")
 
 
 def text(doc=1):
@@ -297,7 +297,7 @@ def check_rude(checks, program):
     checks.same("an edit beside them", talk.ask(insert(0, "a")), done(257))
     for what, frames in [
         ("no frame", b"\xff\xff\xff\xff"), ("nonsense", b"GET / HTTP/1.1\r\n\r\n"), ("a HAVE before HELLO", b"\0\0\0\2\2\0"),
-        ("our own name", bytes.fromhex("00000013010001") + NAME),
+        ("our own name", bytes.fromhex("00000013010003") + NAME),
         ("a frame of no type", HELLO + b"\0\0\0\1\x09"), ("a BYE", HELLO + b"\0\0\0\1\4"),
         ("an operation of ours that we don't know", HELLO + bytes.fromhex("00000042030001" "0000003b0100000001000000000000ffff")
             + NAME + b"\1" + NAME + bytes.fromhex("00000000000003e8" "0000000061")),

@@ -7,9 +7,9 @@ from program import NAME, PAGE, REPLICA, delete, fault, insert, line, new_file, 
 OK = b'{"ok":true}\n'
 
 
-def slot(version, stream=0, operations=0, tables=(), gate=1):
-    """The page of a root slot."""
-    head = bytes([gate]) + bytes(7) + b"PTXTPG01" + version.to_bytes(8, "big") + NAME
+def slot(version, stream=0, operations=0, tables=(), gate=1, form=3):
+    """The page of a root slot, whose stream is of this format."""
+    head = bytes([gate]) + bytes(7) + b"PTXTPG0%d" % form + version.to_bytes(8, "big") + NAME
     head += stream.to_bytes(8, "big") + operations.to_bytes(8, "big")
     head += len(tables).to_bytes(4, "big") + bytes(4)
     return (head + b"".join(n.to_bytes(4, "big") for n in tables)).ljust(PAGE, b"\0")

@@ -12,7 +12,7 @@ import sys
 
 PAGE = 4_096
 SLOT = struct.Struct(">8sQ16sQQII")
-MAGIC = b"PTXTPG01"
+MAGICS = (b"PTXTPG01", b"PTXTPG02", b"PTXTPG03")
 COLUMNS = 64
 SIDE = 12
 MARGIN = 16
@@ -41,7 +41,7 @@ class Root:
     def __init__(self, pages, slot):
         body = pages[slot]
         magic, self.version, self.replica, self.length, self.count, tables, zero = SLOT.unpack_from(body, 8)
-        if magic != MAGIC or self.version == 0 or zero or tables != needed(needed(self.length, PAGE), PAGE // 4):
+        if magic not in MAGICS or self.version == 0 or zero or tables != needed(needed(self.length, PAGE), PAGE // 4):
             raise Broken(43, f"the root in slot {slot}")
         self.tables = numbers(body[64 : 64 + 4 * tables])
         if any(not 2 <= page < len(pages) for page in self.tables):
