@@ -71,7 +71,7 @@ class RefusedOverSockets(WithDaemon):
         opened = self.connect()
         text = opened.document(1)
         self.assertEqual(self.refusal(text.insert, 3, "x"), (5, "range"))
-        self.assertEqual(self.refusal(text.insert, 0, "x" * 257), (7, "limit"))
+        self.assertEqual(self.refusal(lambda: text.send_insert(0, "x" * 257).result()), (7, "limit"))
         self.assertEqual(self.refusal(opened.ask, op="sing"), (3, "request"))
         self.assertEqual(self.refusal(opened.ask, op="x" * 70_000), (11, "line"))
         self.assertEqual(text.insert(0, "x"), 1)

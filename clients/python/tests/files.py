@@ -43,6 +43,24 @@ class Edits(WithFile):
             text.delete(1, 1)
             self.assertEqual(text.text(), "ä\n\"\\ü")
 
+    def test_a_long_text_goes_in_as_several_edits(self):
+        with self.open() as opened:
+            text = opened.document(1)
+            text.insert(0, "()")
+            self.assertEqual(text.insert(1, "ä" * 256), 258)
+            long = "".join(chr(0x100 + k % 700) for k in range(1_000))
+            self.assertEqual(text.insert(1, long, text.rev()), 1_258)
+            self.assertEqual(text.text(), "(" + long + "ä" * 256 + ")")
+            with self.assertRaises(peritext.Stale):
+                text.insert(1, long, 1_257)
+            self.assertEqual(text.rev(), 1_258)
+
+    def test_an_empty_text_is_no_request(self):
+        with self.open() as opened:
+            with self.assertRaises(ValueError):
+                opened.document(1).insert(0, "")
+            self.assertEqual(opened.document(1).read(), ("", 0))
+
     def test_what_was_answered_is_there_after_a_kill(self):
         opened = self.open()
         for place in range(20):
@@ -62,7 +80,7 @@ class Refusals(WithFile):
             text = opened.document(1)
             rev = text.insert(0, "ab")
             self.assertEqual(self.refusal(text.insert, 3, "x"), (5, "range"))
-            self.assertEqual(self.refusal(text.insert, 0, "x" * 257), (7, "limit"))
+            self.assertEqual(self.refusal(lambda: text.send_insert(0, "x" * 257).result()), (7, "limit"))
             self.assertEqual(self.refusal(text.insert, 0, ""), (4, "field"))
             self.assertEqual(self.refusal(opened.ask, op="sing"), (3, "request"))
             text.insert(0, "c", rev)

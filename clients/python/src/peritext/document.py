@@ -13,6 +13,10 @@ if TYPE_CHECKING:
     from .session import Session
 
 
+# How many characters a request may put in.
+LONGEST = 256
+
+
 class Reading(NamedTuple):
     """A text and the `rev` that it has: an edit that is sent in the same session with this `rev` is made in just this text, or is `Stale`."""
 
@@ -31,8 +35,17 @@ class Document:
         self.number = number
 
     def insert(self, at: int, text: str, rev: int | None = None) -> int:
-        """Puts 1 to 256 characters before the one at a place, or at the end."""
-        return self._edit(rev, op="insert", at=at, text=text)
+        """Puts characters before the one at a place, or at the end.
+
+        A request has at most 256 of them: a longer text goes in as several edits, each of which is answered before the next one is sent. If another
+        session edits the document in between, the next one is `Stale`, and those before it are in the text.
+        """
+        if not text:
+            raise ValueError("an empty text is no request")
+        rev = self._edit(rev, op="insert", at=at, text=text[:LONGEST])
+        for first in range(LONGEST, len(text), LONGEST):
+            rev = self._edit(rev, op="insert", at=at + first, text=text[first : first + LONGEST])
+        return rev
 
     def delete(self, at: int, count: int, rev: int | None = None) -> int:
         """Takes away 1 to 256 characters from a place on."""
@@ -74,7 +87,7 @@ class Document:
         return int(answer["rev"])
 
     def send_insert(self, at: int, text: str) -> Future[dict[str, Any]]:
-        """The same as `insert`, without waiting: many may be under way, and they are made in this order.
+        """The same as `insert`, without waiting, of 1 to 256 characters: many may be under way, and they are made in this order.
 
         >>> under_way = [document.send_insert(0, letter) for letter in "cba"]
         >>> _ = [edit.result() for edit in under_way]
