@@ -39,7 +39,10 @@ fn parts(alloc: Global) -> Option<Parts<MemDisk>>
     let own = ReplicaId::read([0, 0, 0, 0, 0, 0, 0x40, 0, 0x80, 0, 0, 0, 0, 0, 0, 1])?;
     let disk = MemDisk::new(alloc, 1_048_576, 65_536).ok()?;
     let store = Store::init(alloc, disk, own).ok()?;
-    open(alloc, store.into_disk()).ok()
+    let Ok(parts) = open(alloc, store.into_disk()) else {
+        return None;
+    };
+    Some(parts)
 }
 
 // Makes the edits, each of which is acknowledged before the next one. Gives how many entries the
