@@ -150,11 +150,12 @@ def check_list(checks, program):
     checks.same("list of an empty file", run(program, "list", "listed"), (0, room(0, 0, 0, 0), b""))
     edits(checks, program, "listed", insert(0, "abc", 7) + insert(0, "de", 1) + delete(1, 1, 7))
     found = run(program, "list", "listed")
-    size = json.loads(found[1].splitlines()[-1])["bytes"]
+    # Against the limit counts a record for each operation: an insert of 39 bytes, 24 more behind others and 24 more behind a
+    # character, and a remove of 82. The file holds "abc" in one of 49, and "de" in one of 69.
+    size = 39 + 87 + 87 + 63 + 87 + 82
     lines = line(chars=2, doc=1, ok=True, ops=2) + line(chars=2, doc=7, ok=True, ops=4) + room(size, 2, 6, 1)
     checks.same("list of two documents", found, (0, lines, b""))
-    data = read("listed")
-    checks.same("the bytes of a list are those of the live root", size, root(data)[1])
+    checks.same("the bytes of its stream", root(read("listed"))[1], 49 + 69 + 82)
     checks.same("list of no file", run(program, "list", "none"), fault(54))
     checks.same("export of no file", run(program, "export", "none", "1"), fault(54))
     checks.same("export of another document", run(program, "export", "listed", "9"), (0, b"", b""))
