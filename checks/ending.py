@@ -17,6 +17,8 @@ STATUS, STOP, TEXT = line(op="status"), line(op="stop"), line(op="text", doc=1)
 FAILED, STOPPED = {"code": 9, "error": "failed", "ok": False}, {"ok": True}
 FLAG = "--end-on-failure"
 ROOM, EDITS, EDITORS = 48 * PAGE, 400, 4
+# Characters of each edit but the first.
+SIZE = 256
 SECONDS = 5
 
 
@@ -38,7 +40,7 @@ class Editor(threading.Thread):
         try:
             talk = self.daemon.talk()
             for k in range(EDITS):
-                self.last = talk.ask(insert(k, "e" * 20 if k else "f", self.doc))
+                self.last = talk.ask(insert(k, "e" * SIZE if k else "f", self.doc))
                 if not (self.last and self.last["ok"]):
                     break
                 self.answered += 1
@@ -99,7 +101,7 @@ def told(checks, daemon, editors):
     talk = daemon.talk()
     for editor in editors:
         there = talk.ask(line(op="text", doc=editor.doc))["text"]
-        count = (len(there) + 19) // 20
+        count = (len(there) + SIZE - 1) // SIZE
         checks.holds(f"document {editor.doc}: {editor.answered} answered, {count} there", editor.answered <= count <= editor.answered + 1)
     talk.close()
 

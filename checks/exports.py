@@ -155,7 +155,8 @@ def check_list(checks, program):
     size = 39 + 87 + 87 + 63 + 87 + 82
     lines = line(chars=2, doc=1, ok=True, ops=2) + line(chars=2, doc=7, ok=True, ops=4) + room(size, 2, 6, 1)
     checks.same("list of two documents", found, (0, lines, b""))
-    checks.same("the bytes of its stream", root(read("listed"))[1], 49 + 69 + 82)
+    data = read("listed")
+    checks.same("the bytes of its stream", root(data)[1], 49 + 69 + 82)
     checks.same("list of no file", run(program, "list", "none"), fault(54))
     checks.same("export of no file", run(program, "export", "none", "1"), fault(54))
     checks.same("export of another document", run(program, "export", "listed", "9"), (0, b"", b""))

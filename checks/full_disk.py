@@ -11,6 +11,8 @@ from program import PAGE, REPLICA, Checks, fault, insert, new_file, read, run, t
 from words import MADE, OK
 
 EDITS = 40
+# Characters of each of these, which a file holds as one record of 4 bytes for each.
+SIZE = 256
 
 
 def limited(size):
@@ -40,21 +42,21 @@ def room_for_init(checks, program, name, what):
 def full_edit(checks, program, name, what, **how):
     """A session that the disk gets too small for: what was answered ok is there, whole edits alone, and then 9."""
     before = text_of(program, name)
-    status, output, faults = run(program, "edit", name, lines=insert(0, "f" * 50) * EDITS, **how)
+    status, output, faults = run(program, "edit", name, lines=insert(0, "f" * SIZE) * EDITS, **how)
     answers = [json.loads(answer) for answer in output.splitlines()]
     answered = sum(answer["ok"] for answer in answers)
     checks.same(f"a session {what}", (status, faults, len(answers)), (1, b"peritext: 9 failed\n", EDITS))
     refused = [answer for answer in answers if not answer["ok"]]
     checks.holds(f"refusals {what}", refused and all(answer["code"] == 9 for answer in refused))
-    count = (len(text_of(program, name)) - len(before)) // 50
+    count = (len(text_of(program, name)) - len(before)) // SIZE
     checks.holds(f"the text {what}: {answered} answered, {count} there", answered <= count <= answered + 1)
-    checks.same(f"whole edits {what}", text_of(program, name), "f" * 50 * count + before)
+    checks.same(f"whole edits {what}", text_of(program, name), "f" * SIZE * count + before)
     return count
 
 
 def room_for_edit(checks, program, name, what, count):
     checks.same(f"an edit after a session {what}", run(program, "edit", name, lines=insert(0, "g"))[0], 0)
-    checks.same(f"the text after a session {what}", text_of(program, name), "g" + "f" * 50 * count)
+    checks.same(f"the text after a session {what}", text_of(program, name), "g" + "f" * SIZE * count)
 
 
 def check_limited(checks, program):
@@ -114,7 +116,7 @@ def check_small_disk(checks, program, folder):
     mounted(folder, 64, again=True)
     room_for_edit(checks, program, name, what, count)
     mounted(folder, 64, again=True, more=",ro")
-    checks.same("dump on a disk that can only be read", text_of(program, name), "g" + "f" * 50 * count)
+    checks.same("dump on a disk that can only be read", text_of(program, name), "g" + "f" * SIZE * count)
     checks.same("edit on a disk that can only be read", run(program, "edit", name, lines=insert(0, "h")), fault(54))
     checks.same("init on a disk that can only be read", run(program, "init", name + "2", "--replica", REPLICA), fault(54))
 

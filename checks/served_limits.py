@@ -100,7 +100,7 @@ def check_full_disk(checks, program):
         answers = []
         for number in range(200):
             other.ask(insert(0, "p", 2))
-            answers.append(talk.ask(insert(0, "f" * 50)))
+            answers.append(talk.ask(insert(0, "f" * 256)))
         ok = [answer for answer in answers if answer["ok"]]
         checks.same("edits on a full disk", answers, ok + [FAILED] * (len(answers) - len(ok)))
         checks.holds(f"{len(ok)} edits before the disk is full", 0 < len(ok) < len(answers))
@@ -110,9 +110,9 @@ def check_full_disk(checks, program):
         other.close()
         checks.same("a stop on a full disk", talk.ask(STOP), FAILED)
         checks.same("the end on a full disk", daemon.ended(), (1, b"", b"peritext: 9 failed\n"))
-        count = len(text_of(program, "full-served")) // 50
+        count = len(text_of(program, "full-served")) // 256
         checks.holds(f"{len(ok)} answered, {count} there", len(ok) <= count <= len(ok) + 1)
-        checks.same("whole edits after a full disk", text_of(program, "full-served"), "f" * 50 * count)
+        checks.same("whole edits after a full disk", text_of(program, "full-served"), "f" * 256 * count)
         again = Daemon(program, "full-served", ports=(daemon.sessions, daemon.peers), link=peer.peers)
         talk, other = again.talk(), peer.talk()
         both = lambda: talk.ask(line(op="text", doc=2)) == other.ask(line(op="text", doc=2))

@@ -261,7 +261,7 @@ def check_crowd(checks, program):
     links = []
     for _ in range(LINKS):
         link = connection(daemon.peers)
-        checks.holds("a link is greeted", link.recv(23).startswith(bytes.fromhex("00000013010001")))
+        checks.holds("a link is greeted", link.recv(23).startswith(bytes.fromhex("00000013010003")))
         links.append(link)
     ninth = connection(daemon.peers)
     checks.same("a ninth link", ninth.recv(23), b"")
