@@ -81,7 +81,7 @@ class Refusals(WithFile):
             rev = text.insert(0, "ab")
             self.assertEqual(self.refusal(text.insert, 3, "x"), (5, "range"))
             self.assertEqual(self.refusal(lambda: text.send_insert(0, "x" * 257).result()), (7, "limit"))
-            self.assertEqual(self.refusal(text.insert, 0, ""), (4, "field"))
+            self.assertEqual(self.refusal(lambda: text.send_insert(0, "").result()), (4, "field"))
             self.assertEqual(self.refusal(opened.ask, op="sing"), (3, "request"))
             text.insert(0, "c", rev)
             with self.assertRaises(peritext.Stale):
