@@ -3,10 +3,11 @@
 The writer here is a plain one, from docs/FORMATS.md alone.
 """
 
+import gzip
 import os
 
 import page_file
-from program import PAGE, REPLICA, delete, fault, insert, line, read, run, write
+from program import PAGE, REPLICA, delete, fault, insert, line, read, run, text_of, write
 from words import FIRST, NAME, SECOND, slot, table
 
 TOKEN = bytes.fromhex("000000000000400080000000000000d1")
@@ -143,8 +144,54 @@ def check_new(checks, program):
     checks.same("two removals are two records", (len(found[1]) - len(stream), found[2]), (2 * 82, 6))
 
 
+def pages_of(data, count):
+    """The pages of a file, which has so many with those of zeros behind it."""
+    return [data[at : at + PAGE].ljust(PAGE, b"\0") for at in range(0, PAGE * count, PAGE)]
+
+
+def check_stopped(checks, program, name, data, text):
+    """The first commit changes one slot, and where it stopped before that is open, the text is that of the old root, whatever was written."""
+    after = read(name)
+    count = len(after) // PAGE
+    old, new = pages_of(data, count), pages_of(after, count)
+    changed = [at for at in range(count) if old[at] != new[at]]
+    slots = [at for at in changed if at < 2]
+    checks.same(f"slots that a commit of {name} changes", len(slots), 1)
+    slot, rest = slots[0], [at for at in changed if at > 1]
+    closed = b"\0" + new[slot][1:]
+    stops = [{at: new[at]} for at in rest] + [{at: new[at] for at in rest}]
+    stops += [stops[-1] | {slot: closed}, {slot: closed}, stops[-1] | {slot: closed[: PAGE // 2] + old[slot][PAGE // 2 :]}]
+    for written in stops:
+        write("stopped", b"".join(written.get(at, old[at]) for at in range(count)))
+        checks.same(f"{name}, stopped with the pages {sorted(written)}", text_of(program, "stopped"), text)
+
+
+EARLIER = os.path.join(os.path.dirname(os.path.abspath(__file__)), "earlier")
+SHOWN = (("dump", "{}", "1"), ("dump", "{}", "7"), ("list", "{}"))
+
+
+def check_earlier(checks, program):
+    """Files that the last program of the first format made show what that program showed, and go on."""
+    for name in ("marks", "pages"):
+        with gzip.open(os.path.join(EARLIER, name + ".gz")) as file:
+            data = file.read()
+        write(name, data)
+        with open(os.path.join(EARLIER, name + ".shown"), "rb") as file:
+            wanted = file.read()
+        shown = b"".join(run(program, *[word.format(name) for word in words])[1] for words in SHOWN)
+        checks.same(f"what is shown of {name}", shown, wanted)
+        checks.holds(f"{name} stays as it was", read(name) == data)
+        text = text_of(program, name)
+        checks.same(f"the plain reader, {name}", seen(data), text)
+        checks.same(f"an edit of {name}", run(program, "edit", name, lines=insert(0, "new"))[::2], (0, b""))
+        checks.same(f"the format of {name}", page_file.format_of(read(name)), 3)
+        checks.same(f"the text of {name}", (seen(read(name)), text_of(program, name)), ("new" + text, "new" + text))
+        check_stopped(checks, program, name, data, text)
+
+
 def check(checks, program, _until):
     check_new(checks, program)
+    check_earlier(checks, program)
     check_streams(checks, program)
     check_broken(checks, program)
     check_going_on(checks, program)
