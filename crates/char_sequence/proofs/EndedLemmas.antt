@@ -1,18 +1,19 @@
 -- The last of some tombstones that a mark ends just after.
 use Rattle.std.proofs.Common.{◌≡◌, ℕ, zero, suc, ◌+◌, ◌≤◌, ◌<◌, ◌⊎◌, inl, inr, Bool, true, false, not, ◌||◌, if◌then◌else◌, List, [], ◌∷◌, ◌++◌, length, take}
-use Rattle.std.proofs.Common.{drop, get_or, Option, Some, refl, sym, ◌∙◌, ap, append_assoc, append-nil, subst, arith}
+use Rattle.std.proofs.Common.{drop, filter, get_or, map, Option, Some, refl, sym, ◌∙◌, ap, append_assoc, append-nil, subst, arith}
 use Rattle.std.proofs.lemmas.Bool.{cases_order, or_from, true≢false}
 use Rattle.std.proofs.lemmas.Bool.Decides.{nat_tests}
 use Rattle.std.proofs.lemmas.List.{append_cancel_left, drop_more, take-append-drop, take-take}
 use Rattle.std.proofs.lemmas.List.Folds.{list_any-append}
 use Rattle.op_ids.specs.Id.{Id, is_same}
 use Rattle.op_ids.proofs.IdLemmas.{same_from_test, test_from_same}
+use Rattle.op_model.specs.declared.character.Character.{Character}
+use Rattle.op_model.specs.Made.{last_or}
 use Rattle.char_sequence.specs.declared.cell.Cell.{Cell}
 use Rattle.char_sequence.specs.declared.place.Place.{Place}
 use Rattle.char_sequence.specs.Cells.{first_removed, has_cell, shown}
 use Rattle.char_sequence.specs.Chunks.{ChunkCells, IsPlace, IsPlaceOf, before, cells_of, from}
-use Rattle.char_sequence.specs.Content.{last_ended}
-use Rattle.char_sequence.specs.Reading.{HidesUpTo, IsAhead, Splits, is_among, tombstones_from}
+use Rattle.char_sequence.specs.Reading.{HidesUpTo, IsAhead, Splits, is_among, last_ended, tombstones_from}
 use Rattle.char_sequence.specs.Weave.{AreOnce}
 use Rattle.char_sequence.proofs.LandingLemmas.{around}
 use Rattle.char_sequence.proofs.OnceLemmas.{other_id}
@@ -256,3 +257,15 @@ stands_between held at to p behind id upto there place never ahead is =
     next : IsAhead p to → (p.chunk < to.chunk) ⊎ ((p.chunk ≡ to.chunk) × (p.at + 1 ≤ to.at))
     next (inl less) = inl less
     next (inr here) = inr (here.0, omega (arith, here.1))
+
+-- the last of some characters' ids that a mark ends after is the last of the characters that a mark ends after
+pub ended_of_characters : (ends : Id → Bool) (old : Option Id) (cs : List Character)
+    → last_ended ends old (map (λ c. c.id) cs) ≡ last_or old (filter (λ c. ends c.id) cs)
+ended_of_characters ends old [] = refl
+ended_of_characters ends old (c ∷ cs) = go (ends c.id) (λ first. ended_of_characters ends first cs)
+  where
+    go : (ended : Bool) → ((first : Option Id) → last_ended ends first (map (λ d. d.id) cs) ≡ last_or first (filter (λ d. ends d.id) cs))
+        → last_ended ends (if ended then Some c.id else old) (map (λ d. d.id) cs)
+        ≡ last_or old (if ended then c ∷ filter (λ d. ends d.id) cs else filter (λ d. ends d.id) cs)
+    go true rest = rest (Some c.id)
+    go false rest = rest old

@@ -1,5 +1,5 @@
 -- What a sequence holds of a document, as a list of operations makes it.
-use Rattle.std.specs.Prelude.{◌≡◌, ℕ, Bool, true, List, [], ◌∷◌, ◌++◌, map, if◌then◌else◌, Option, Some, None}
+use Rattle.std.specs.Prelude.{◌≡◌, ℕ, Bool, true, List, [], ◌∷◌, ◌++◌, map, Option, Some, None}
 use Rattle.op_ids.specs.Id.{Id}
 use Rattle.char_sequence.specs.declared.cell.Cell.{Cell}
 use Rattle.char_sequence.specs.Chunks.{ChunkCells, cells_of}
@@ -37,11 +37,6 @@ Holds held ops doc = AreContent (cells_of held) ops doc
 abbrev pub is_there : List Op → ℕ → Option Id → Bool
 is_there ops doc None = true
 is_there ops doc (Some id) = has_id (characters ops doc) id
-
--- the last of these ids that a mark ends after, or else this one
-abbrev pub last_ended : (Id → Bool) → Option Id → List Id → Option Id
-last_ended ends before [] = before
-last_ended ends before (id ∷ ids) = last_ended ends (if ends id then Some id else before) ids
 
 -- Where old is the content of any operations that an operation of this id and body fits, new is that of them and it.
 abbrev pub TakesCell : Id → Body → List Cell → List Cell → Type 0

@@ -1,7 +1,7 @@
 -- Used by private functions and proofs alone.
 --
 -- Cells that are read one after another, and tombstones that are passed.
-use Rattle.std.specs.Prelude.{◌≡◌, ◌<◌, ◌⊎◌, ◌++◌, List, [], ◌∷◌, Bool, false}
+use Rattle.std.specs.Prelude.{◌≡◌, ◌<◌, ◌⊎◌, ◌++◌, List, [], ◌∷◌, Bool, false, if◌then◌else◌, Option, Some}
 use Rattle.std.specs.List.{list_any}
 use Rattle.op_ids.specs.Id.{Id, is_same}
 use Rattle.char_sequence.specs.declared.cell.Cell.{Cell}
@@ -36,6 +36,11 @@ pub record HidesUpTo (held : ChunkCells) (at to : Place) : Type 0 where
 -- the ids of the tombstones that begin at a place
 abbrev pub tombstones_from : ChunkCells → Place → List Id
 tombstones_from held at = first_removed (from held at.chunk at.at)
+
+-- the last of these ids that a mark ends after, or else this one
+abbrev pub last_ended : (Id → Bool) → Option Id → List Id → Option Id
+last_ended ends before [] = before
+last_ended ends before (id ∷ ids) = last_ended ends (if ends id then Some id else before) ids
 
 -- an id is one of these
 abbrev pub is_among : Id → List Id → Bool

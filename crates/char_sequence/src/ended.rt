@@ -2,8 +2,8 @@
 ghost use Rattle.std.specs.Prelude.{◌≡◌, false, MatchOption};
 ghost use Rattle.std.specs.List.{list_any};
 ghost use Rattle.char_sequence.specs.Chunks.{cells_of, IsPlace};
-ghost use Rattle.char_sequence.specs.Content.{last_ended as last_ended_of};
-ghost use Rattle.char_sequence.specs.Reading.{is_among, tombstones_from, HidesUpTo, Splits};
+ghost use Rattle.char_sequence.specs.Reading.{is_among, last_ended as last_ended_of, tombstones_from};
+ghost use Rattle.char_sequence.specs.Reading.{HidesUpTo, Splits};
 ghost use Rattle.char_sequence.specs.Weave.{AreOnce};
 ghost use Rattle.op_ids.specs.Id.{is_same};
 

@@ -1,14 +1,13 @@
-ghost use Rattle.std.specs.Prelude.{◌≡◌, ◌+◌, ◌*◌, ◌≤◌, ◌<◌, ◌/◌, ◌^◌, ℕ, List, Some, map, length, take, drop, false, true};
+ghost use Rattle.std.specs.Prelude.{◌≡◌, ◌+◌, ◌*◌, ◌≤◌, ◌<◌, ◌/◌, ◌^◌, ℕ, List, Some, map, filter, length, take, drop, false, true};
 ghost use Rattle.std.specs.Prelude.{is_some, nat_le, MatchOption, IfOk, IfSome};
 ghost use Rattle.char_sequence.specs.Chunks.{cells_of, cell_at, size_at, AreChunks};
 ghost use Rattle.char_sequence.specs.Content.{empty, is_there, Holds};
-ghost use Rattle.char_sequence.specs.Content.{last_ended as last_ended_of};
 ghost use Rattle.char_sequence.specs.Gaps.{IsGap};
 ghost use Rattle.op_model.specs.Places.{index_of};
 ghost use Rattle.op_model.specs.Walk.{walk};
 ghost use Rattle.op_model.specs.declared.op.Op.{Op};
 ghost use Rattle.op_model.specs.Text.{visible as seen, text as text_of};
-ghost use Rattle.op_model.specs.Made.{id_at, id_before, tombstones_at};
+ghost use Rattle.op_model.specs.Made.{id_at, id_before, last_or, tombstones_at};
 ghost use Rattle.char_sequence.specs.declared.chunk.TheConstants.{MAX_CHUNK, MIN_CHUNK};
 ghost use Rattle.char_sequence.specs.declared.groups.TheConstants.{GROUP};
 
@@ -184,8 +183,8 @@ impl Sequence {
         marks: &M,
     ) -> Option<OpId>
         ensures { (ops : List Op) (doc : ℕ) → Holds self.now ops doc
-            → result ≡ last_ended_of (M.ends_after marks.now) before
-            (map (λ c. c.id) (tombstones_at ops doc count)) }
+            → result ≡ last_or before
+            (filter (λ c. M.ends_after marks.now c.id) (tombstones_at ops doc count)) }
     {
         let from = behind(&self.chunks, count);
         last_ended(&self.chunks, &self.hints, &from, before, marks)
@@ -196,9 +195,8 @@ impl Sequence {
     pub fn last_ended_at<M: EndsAfter>(&self, gap: &Gap, marks: &M) -> Option<OpId>
         requires { IsGap self.now gap.now }
         ensures { (ops : List Op) (doc : ℕ) → Holds self.now ops doc
-            → result ≡ last_ended_of (M.ends_after marks.now)
-            (id_before (seen ops doc) gap.now.count)
-            (map (λ c. c.id) (tombstones_at ops doc gap.now.count)) }
+            → result ≡ last_or (id_before (seen ops doc) gap.now.count)
+            (filter (λ c. M.ends_after marks.now c.id) (tombstones_at ops doc gap.now.count)) }
     {
         last_ended(&self.chunks, &self.hints, &gap.place, gap.before, marks)
     }

@@ -22,7 +22,7 @@ use Rattle.op_model.specs.Causality.{optional, clock_of}
 use Rattle.op_model.specs.Text.{visible}
 use Rattle.op_model.specs.Made.{id_at, id_before, last_or, tombstones_at, ends_after, origin_of, insert_bodies, numbered, greatest_counter, made}
 use Rattle.op_model.specs.Made.{start_of, end_of}
-use Rattle.char_sequence.specs.Content.{last_ended, AreRemoves, IsRun}
+use Rattle.char_sequence.specs.Content.{AreRemoves, IsRun}
 use Rattle.mark_anchors.specs.Keeping.{kept_end_after, AreMarksOf, Kept}
 use Rattle.mark_anchors.proofs.EndLemmas.{kept_say_ends}
 use Rattle.op_model.specs.Marks.{key_of}
@@ -40,24 +40,12 @@ ids_more (c ∷ cs) zero (suc n) =
     let here : 0 + suc n ≡ suc (0 + n) = omega arith in
     rw (up, here) (ap (λ ids. c.id ∷ ids) (ids_more cs zero n))
 
--- the characters that a mark operation of the document ends just after are these
-abbrev SaysEnds : (Id → Bool) → List Op → ℕ → Type 0
-SaysEnds ends ops doc = (id : Id) → ends id ≡ ends_after ops doc id
-
--- the last of the tombstones that a mark ends after
-pub last_ended-tombstones : (ends : Id → Bool) (ops : List Op) (doc : ℕ) (before : Option Id) (cs : List Character) → SaysEnds ends ops doc
-    → last_ended ends before (map (λ c. c.id) cs) ≡ last_or before (filter (λ c. ends_after ops doc c.id) cs)
-last_ended-tombstones ends ops doc before [] says = refl
-last_ended-tombstones ends ops doc before (c ∷ cs) says =
-    let same : ends c.id ≡ ends_after ops doc c.id = says c.id in
-    ap (λ ended. last_ended ends (if ended then Some c.id else before) (map (λ d. d.id) cs)) same
-    ∙ go (ends_after ops doc c.id) (λ first. last_ended-tombstones ends ops doc first cs says)
-  where
-    go : (ended : Bool) → ((first : Option Id) → last_ended ends first (map (λ d. d.id) cs) ≡ last_or first (filter (λ d. ends_after ops doc d.id) cs))
-        → last_ended ends (if ended then Some c.id else before) (map (λ d. d.id) cs)
-        ≡ last_or before (if ended then c ∷ filter (λ d. ends_after ops doc d.id) cs else filter (λ d. ends_after ops doc d.id) cs)
-    go true rest = rest (Some c.id)
-    go false rest = rest before
+-- of characters the same ones pass two tests that agree of each id
+passing_alike : (f g : Id → Bool) (cs : List Character) → ((id : Id) → f id ≡ g id) → filter (λ c. f c.id) cs ≡ filter (λ c. g c.id) cs
+passing_alike f g [] same = refl
+passing_alike f g (c ∷ cs) same =
+    ap (λ passes. if passes then c ∷ filter (λ d. f d.id) cs else filter (λ d. f d.id) cs) (same c.id)
+    ∙ ap (λ rest. if g c.id then c ∷ rest else rest) (passing_alike f g cs same)
 
 -- where an index is, by what is found before it
 at_within : (cs : List Character) (i : ℕ) (id : Id) → Some id ≡ id_at cs i → i < length cs
@@ -91,13 +79,12 @@ made_insert ops edit replica doc token counter at clock text origin next same_do
 -- the tombstone that the definition hangs an insert from
 pub origin_there : (kept : Kept) (ops : List Op) (doc at : ℕ) (before origin : Option Id) → AreMarksOf kept ops doc
     → before ≡ id_before (visible ops doc) at
-    → origin ≡ last_ended (kept_end_after kept) before (map (λ c. c.id) (tombstones_at ops doc at))
+    → origin ≡ last_or before (filter (λ c. kept_end_after kept c.id) (tombstones_at ops doc at))
     → origin ≡ origin_of ops doc at
 origin_there kept ops doc at before origin are is_before is_last =
-    let says : SaysEnds (kept_end_after kept) ops doc = λ id. kept_say_ends kept ops doc id are in
     is_last
-    ∙ (last_ended-tombstones (kept_end_after kept) ops doc before (tombstones_at ops doc at) says
-    ∙ ap (λ first. last_or first (filter (λ c. ends_after ops doc c.id) (tombstones_at ops doc at))) is_before)
+    ∙ ap (last_or before) (passing_alike (kept_end_after kept) (ends_after ops doc) (tombstones_at ops doc at) (λ id. kept_say_ends kept ops doc id are))
+    ∙ ap (λ first. last_or first (filter (λ c. ends_after ops doc c.id) (tombstones_at ops doc at))) is_before
 
 map_removes : (cs : List Character) → map Remove (map (λ c. c.id) cs) ≡ map (λ c. Remove c.id) cs
 map_removes [] = refl

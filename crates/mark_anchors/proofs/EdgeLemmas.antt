@@ -8,7 +8,7 @@ use Rattle.std.specs.Cmp.{IsStrictWeakOrder}
 use Rattle.std.proofs.lemmas.Bool.{cases_Bool, cases_order, cases_lt, true≢false}
 use Rattle.std.proofs.lemmas.Bool.Decides.{nat_tests}
 use Rattle.std.proofs.lemmas.List.Edits.{get_or-insert_at, get_or-insert_below, get_or-insert_above}
-use Rattle.std.proofs.lemmas.List.Sorted.{sorted_far, list_any-IsPermutation, IsPermutation-refl, IsPermutation-trans, IsPermutation-append_comm}
+use Rattle.std.proofs.lemmas.List.Sorted.{sorted_far, list_any-IsPermutation, IsPermutation-trans, IsPermutation-append_comm}
 use Rattle.std.proofs.lemmas.List.Sorted.{IsPermutation-append_right}
 use Rattle.op_ids.specs.Id.{Id, is_below, is_same}
 use Rattle.op_model.specs.declared.marking.Marking.{Marking}
@@ -19,9 +19,9 @@ use Rattle.op_model.specs.declared.anchor.End.{End}
 use Rattle.op_model.specs.declared.anchor.End.TheVariants as end
 use Rattle.op_model.specs.Made.{is_end_after}
 use Rattle.mark_anchors.specs.declared.edge.Edge.{Edge}
-use Rattle.mark_anchors.specs.Edges.{comes_before, edges_from, edges_of, end_edges, start_edges, AreEdges, AreInOrder, AreKept}
+use Rattle.mark_anchors.specs.Edges.{comes_before, edges_from, edges_of, end_edges, start_edges, AreEdges, AreInOrder}
 
-one_way : (a b : Id) → is_below a b ≡ true → is_below b a ≡ false
+pub one_way : (a b : Id) → is_below a b ≡ true → is_below b a ≡ false
 unfolding is_below
 one_way a b h = grind (arith, nat_tests)
 
@@ -30,7 +30,7 @@ unfolding is_below
 below_chain a b c h k = grind (arith, nat_tests)
 
 -- neither is below the other exactly where they are one id
-same_between : (a b : Id) → is_same a b ≡ (not (is_below b a) && not (is_below a b))
+pub same_between : (a b : Id) → is_same a b ≡ (not (is_below b a) && not (is_below a b))
 unfolding is_below is_same
 same_between a b = grind (arith, nat_tests)
 
@@ -38,7 +38,7 @@ same_between a b = grind (arith, nat_tests)
 pub order_of_edges : IsStrictWeakOrder comes_before
 order_of_edges = record { one_way = λ x y h. one_way x.id y.id h; chain = λ x y z h k. below_chain x.id y.id z.id h k }
 
-below_first : (a b c : Id) → is_below b c ≡ true → is_below b a ≡ false → is_below a c ≡ true
+pub below_first : (a b c : Id) → is_below b c ≡ true → is_below b a ≡ false → is_below a c ≡ true
 unfolding is_below
 below_first a b c h k = grind (arith, nat_tests)
 
@@ -56,11 +56,11 @@ pub not_above_parts : (es : List Edge) (id : Id) → AreInOrder es → IsPartiti
 not_above_parts es id order i j d le within h =
     above_first id (get_or es i d).id (get_or es j d).id h (sorted_far comes_before order_of_edges es order i j d le within)
 
-not_true : (b : Bool) → not b ≡ true → b ≡ false
+pub not_true : (b : Bool) → not b ≡ true → b ≡ false
 not_true true h = absurd (cc)
 not_true false h = refl
 
-not_false : (b : Bool) → not b ≡ false → b ≡ true
+pub not_false : (b : Bool) → not b ≡ false → b ≡ true
 not_false true h = refl
 not_false false h = absurd (cc)
 
@@ -85,7 +85,7 @@ bounds_rise (e ∷ es) id from to within low high =
       | inr more ↦ more
     ]
 
-none_same : (es : List Edge) (id : Id) → ((k : ℕ) (d : Edge) → k < length es → is_below id (get_or es k d).id ≡ true) → filter (λ e. is_same e.id id) es ≡ []
+pub none_same : (es : List Edge) (id : Id) → ((k : ℕ) (d : Edge) → k < length es → is_below id (get_or es k d).id ≡ true) → filter (λ e. is_same e.id id) es ≡ []
 none_same [] id above = refl
 none_same (e ∷ es) id above =
     let here : is_same e.id id ≡ false = same_between e.id id ∙ ap (λ b. not b && not (is_below e.id id)) (above 0 e (omega arith)) in
@@ -167,25 +167,20 @@ edges_more i (n ∷ ms) m =
     let same : i + suc (length ms) ≡ i + 1 + length ms = omega arith in
     rw (same, edges_more (i + 1) ms m) (sym (append_assoc (edges_of i n) (edges_from (i + 1) ms) (edges_of (i + 1 + length ms) m)))
 
--- its two edges, put among the others one after the other
-pub are_edges_more : (ms : List Marking) (m : Marking) (es some all first second : List Edge) (i : ℕ) → i ≡ length ms → AreEdges ms es
-    → first ≡ start_edges i m.start → second ≡ end_edges i m.end → IsPermutation (first ++ es) some → IsPermutation (second ++ some) all
-    → AreEdges (ms ++ m ∷ []) all
-are_edges_more ms m es some all first second i is_i are is_first is_second one two =
+-- its two edges, put among the others
+pub are_edges_more : (ms : List Marking) (m : Marking) (es all first second : List Edge) (i : ℕ) → i ≡ length ms → AreEdges ms es
+    → first ≡ start_edges i m.start → second ≡ end_edges i m.end → IsPermutation (second ++ (first ++ es)) all → AreEdges (ms ++ m ∷ []) all
+are_edges_more ms m es all first second i is_i are is_first is_second put =
     let E = edges_from 0 ms in
     let front : IsPermutation (E ++ first) (first ++ es) =
     IsPermutation-trans (E ++ first) (first ++ E) (first ++ es) (IsPermutation-append_comm E first) (IsPermutation-append_right first E es are.all) in
-    let both : IsPermutation ((E ++ first) ++ second) (second ++ some) =
-    IsPermutation-trans ((E ++ first) ++ second) (second ++ (E ++ first)) (second ++ some) (IsPermutation-append_comm (E ++ first) second)
-    (IsPermutation-append_right second (E ++ first) some (IsPermutation-trans (E ++ first) (first ++ es) some front one)) in
+    let both : IsPermutation ((E ++ first) ++ second) (second ++ (first ++ es)) =
+    IsPermutation-trans ((E ++ first) ++ second) (second ++ (E ++ first)) (second ++ (first ++ es)) (IsPermutation-append_comm (E ++ first) second)
+    (IsPermutation-append_right second (E ++ first) (first ++ es) front) in
     let listed : edges_from 0 (ms ++ m ∷ []) ≡ (E ++ first) ++ second =
     edges_more 0 ms m ∙ (let zero_more : 0 + length ms ≡ i = omega arith in
     rw (zero_more, is_first, is_second) (sym (append_assoc E (start_edges i m.start) (end_edges i m.end)))) in
-    record { all = rw listed (IsPermutation-trans ((E ++ first) ++ second) (second ++ some) all both two) }
-
--- without mark operations there are no edges
-pub no_edges : AreKept [] []
-no_edges = record { edges = record { all = IsPermutation-refl [] }; order = λ k d low high. absurd (omega arith) }
+    record { all = rw listed (IsPermutation-trans ((E ++ first) ++ second) (second ++ (first ++ es)) all both put) }
 
 -- one of those that pass a test
 pub any_filter : (p q : Edge → Bool) (es : List Edge) → list_any p (filter q es) ≡ list_any (λ e. q e && p e) es

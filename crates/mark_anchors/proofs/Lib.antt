@@ -1,5 +1,9 @@
+pub mod ChunkLemmas
 pub mod CountLemmas
+pub mod CutLemmas
 pub mod EdgeLemmas
 pub mod EndLemmas
 pub mod KeepLemmas
 pub mod EndedLemmas
+pub mod PutLemmas
+pub mod TakeLemmas

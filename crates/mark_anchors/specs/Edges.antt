@@ -46,8 +46,3 @@ comes_before e f = is_below e.id f.id
 -- these edges come in the order of their characters' ids
 abbrev pub AreInOrder : List Edge → Type 0
 AreInOrder es = IsSortedBy comes_before es
-
--- these edges are those of these mark operations, in the order of their characters' ids
-pub record AreKept (ms : List Marking) (es : List Edge) : Type 0 where
-  pub edges : AreEdges ms es
-  pub order : AreInOrder es

@@ -6,7 +6,7 @@ use Rattle.op_model.specs.declared.anchor.End.{End}
 use Rattle.op_model.specs.declared.anchor.End.TheVariants as end
 use Rattle.op_model.specs.declared.marking.Marking.{Marking}
 use Rattle.mark_anchors.specs.declared.edge.Edge.{Edge}
-use Rattle.mark_anchors.specs.Edges.{AreKept}
+use Rattle.mark_anchors.specs.Edges.{AreEdges}
 
 -- the character that a mark operation ends just after, if this is its end
 abbrev pub ended_by : End → List Id
@@ -21,5 +21,5 @@ ended_of (m ∷ ms) = ended_by m.end ++ ended_of ms
 
 -- of these mark operations the edges are kept, and the characters that they end just after
 pub record AreAllKept (ms : List Marking) (es : List Edge) (ids : List Id) : Type 0 where
-  pub kept : AreKept ms es
+  pub edges : AreEdges ms es
   pub ended : ids ≡ ended_of ms

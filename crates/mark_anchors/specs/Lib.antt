@@ -1,3 +1,4 @@
+pub mod EdgeChunks
 pub mod Edges
 pub mod Ended
 pub mod Force

@@ -13,7 +13,8 @@ ghost use Rattle.op_model.specs.Placing.{Fits};
 ghost use Rattle.op_model.specs.Walk.{walk};
 
 use crate::edge::{Edge, end_edge, start_edge};
-use crate::edges::{at, edges_of, has_end_after, put};
+use crate::edge_chunks::EdgeChunks;
+use crate::edges::{edges_of, has_end_after};
 use crate::ended::{listed, note};
 use crate::force::in_force;
 use crate::naming::check_names;
@@ -29,7 +30,7 @@ use std::marker::Model;
 #[derive(Debug, Drop)]
 pub struct Anchors {
     markings: Vec<Marking>,
-    edges: Vec<Edge>,
+    edges: EdgeChunks,
     /// The characters that they end just after, in their order.
     ended: Vec<OpId>,
 }
@@ -40,9 +41,9 @@ impl Model for Anchors {
 
     ghost Value = { Kept };
 
-    ghost view = { λ a. record { markings = a.markings.items; edges = a.edges.items } };
+    ghost view = { λ a. record { markings = a.markings.items; edges = a.edges } };
 
-    ghost invariant = { λ a. AreAllKept a.markings.items a.edges.items a.ended.items };
+    ghost invariant = { λ a. AreAllKept a.markings.items a.edges a.ended.items };
 }
 
 impl Anchors {
@@ -52,7 +53,7 @@ impl Anchors {
     {
         Anchors {
             markings: Vec::new(alloc),
-            edges: Vec::new(alloc),
+            edges: EdgeChunks::new(alloc),
             ended: Vec::new(alloc),
         }
     }
@@ -77,7 +78,8 @@ impl Anchors {
     /// another one adds nothing. `UnknownId` (60) exactly where a mark operation names a character
     /// that isn't there, `Memory` (1) where a growth for a mark operation was refused; both leave
     /// the anchors as they were. It costs the search of both characters, as `Sequence::find` does
-    /// it, and moves the edges behind its own.
+    /// it, and two more for its edges. Each edge moves at most some 512 others, and if its chunk is
+    /// cut, the places of the chunks behind; one more at a character of many edges moves none.
     pub fn apply_mark(&mut self, op: &Op, sequence: &Sequence) -> Result<(), SequenceError>
         ensures taken { OnOk result ((ops : List Op) (doc : ℕ) → Holds sequence.now ops doc
             → AreMarksOf self.old ops doc → Fits ops doc op.now
@@ -121,7 +123,7 @@ impl Anchors {
     pub fn edges_at(&self, id: OpId) -> &[Edge]
         ensures { result.now ≡ filter (λ e. is_same e.id id) self.now.edges }
     {
-        at(&self.edges, id)
+        self.edges.at(id)
     }
 
     /// What holds of the edges: they are those of the mark operations. For `span_flatten` alone. It
@@ -155,17 +157,17 @@ impl EndsAfter for Anchors {
 /// (1), and leaves those that are kept as they were.
 fn keep(
     markings: &mut Vec<Marking>,
-    edges: &mut Vec<Edge>,
+    edges: &mut EdgeChunks,
     ended: &mut Vec<OpId>,
     op: &Op,
 ) -> Result<(), AllocError>
-    requires { AreAllKept markings.old.items edges.old.items ended.old.items }
+    requires { AreAllKept markings.old.items edges.old ended.old.items }
     ensures taken { OnOk result (markings.new.items
         ≡ markings.old.items ++ markings_of (op.now ∷ []) op.now.doc) }
-    ensures kept { AreAllKept markings.new.items edges.new.items ended.new.items }
+    ensures kept { AreAllKept markings.new.items edges.new ended.new.items }
     ensures memory { IfErr result (λ _. IsSome (marking_of op.now.id op.now.body)) }
     ensures err { OnErr result ((markings.new.items ≡ markings.old.items)
-        × (edges.new.items ≡ edges.old.items)) }
+        × (edges.new ≡ edges.old)) }
 {
     match op.marking()? {
         Some(marking) => add(markings, edges, ended, marking),
@@ -177,22 +179,20 @@ fn keep(
 /// that are kept as they were.
 fn add(
     markings: &mut Vec<Marking>,
-    edges: &mut Vec<Edge>,
+    edges: &mut EdgeChunks,
     ended: &mut Vec<OpId>,
     marking: Marking,
 ) -> Result<(), AllocError>
-    requires { AreAllKept markings.old.items edges.old.items ended.old.items }
+    requires { AreAllKept markings.old.items edges.old ended.old.items }
     ensures taken { OnOk result (markings.new.items ≡ markings.old.items ++ marking ∷ []) }
-    ensures kept { AreAllKept markings.new.items edges.new.items ended.new.items }
+    ensures kept { AreAllKept markings.new.items edges.new ended.new.items }
     ensures err { OnErr result ((markings.new.items ≡ markings.old.items)
-        × (edges.new.items ≡ edges.old.items)) }
+        × (edges.new ≡ edges.old)) }
 {
     markings.reserve(1)?;
-    edges.reserve(2)?;
     ended.reserve(1)?;
     let i = markings.len();
-    put(edges, start_edge(&marking.start, i));
-    put(edges, end_edge(&marking.end, i));
+    edges.put_both(start_edge(&marking.start, i), end_edge(&marking.end, i))?;
     note(ended, &marking.end);
     match markings.push(marking) {
         Ok(()) => Ok(()),

@@ -1,13 +1,13 @@
-ghost use Rattle.std.specs.Prelude.{◌≡◌, ◌≤◌, ◌<◌, ◌+◌, ◌++◌};
-ghost use Rattle.std.specs.Prelude.{◌&&◌, true, false, filter, length, slice_range};
-ghost use Rattle.std.specs.Prelude.{option_to_list, vec_len, vec_capacity, IfOk, OnOk};
+ghost use Rattle.std.specs.Prelude.{◌≡◌, ◌≤◌, ◌++◌, ◌&&◌, true, false, filter, length, slice_range};
+ghost use Rattle.std.specs.Prelude.{option_to_list, IfOk, OnOk};
 ghost use Rattle.std.specs.List.{list_any};
 ghost use Rattle.std.specs.List.Sorted.{IsPartitionPoint, IsPermutation};
 ghost use Rattle.std.specs.Ordering.{is_lt};
-ghost use Rattle.mark_anchors.specs.Edges.{edges_from, AreEdges, AreInOrder, AreKept};
+ghost use Rattle.mark_anchors.specs.Edges.{edges_from, AreEdges, AreInOrder};
 ghost use Rattle.op_ids.specs.Id.{is_below, is_same};
 
 use crate::edge::{Edge, end_edge, start_edge};
+use crate::edge_chunks::EdgeChunks;
 use op_ids::OpId;
 use op_model::Marking;
 use std::alloc::{AllocError, Global};
@@ -43,7 +43,7 @@ fn bounds(edges: &[Edge], id: OpId) -> (usize, usize)
 }
 
 /// How many edges stand at characters below this one.
-fn below(edges: &[Edge], id: OpId) -> usize
+pub fn below(edges: &[Edge], id: OpId) -> usize
     requires { AreInOrder edges.now }
     ensures bound { result ≤ length edges.now }
     ensures place { IsPartitionPoint (λ e. is_below e.id id ≡ true)
@@ -53,7 +53,7 @@ fn below(edges: &[Edge], id: OpId) -> usize
 }
 
 /// How many edges don't stand at characters above this one.
-fn not_above(edges: &[Edge], id: OpId) -> usize
+pub fn not_above(edges: &[Edge], id: OpId) -> usize
     requires { AreInOrder edges.now }
     ensures bound { result ≤ length edges.now }
     ensures place { IsPartitionPoint (λ e. is_below id e.id ≡ false)
@@ -62,31 +62,14 @@ fn not_above(edges: &[Edge], id: OpId) -> usize
     edges.partition_point(|edge| !id.is_below(edge.id))
 }
 
-/// Puts an edge at its place among others, where there is room. It moves those behind.
-pub fn put(edges: &mut Vec<Edge>, edge: Option<Edge>)
-    requires order { AreInOrder edges.old.items }
-    requires room { vec_len edges.old < vec_capacity edges.old }
-    ensures same { IsPermutation (option_to_list edge ++ edges.old.items) edges.new.items }
-    ensures order { AreInOrder edges.new.items }
-    ensures longer { vec_len edges.new ≤ vec_len edges.old + 1 }
-    ensures room { vec_capacity edges.old ≤ vec_capacity edges.new }
-{
-    if let Some(edge) = edge {
-        let place = not_above(edges, edge.id);
-        match edges.insert(place, edge) {
-            Ok(()) => {}
-            Err(_) => unreachable!(),
-        }
-    }
-}
-
-/// The edges of these mark operations, in order. An error is want of memory (1). Sorts them.
-pub fn edges_of(alloc: Global, markings: &[Marking]) -> Result<Vec<Edge>, AllocError>
-    ensures { IfOk result (λ edges. AreKept markings.now edges.items) }
+/// The edges of these mark operations, in order and in chunks. An error is want of memory (1).
+/// Sorts them.
+pub fn edges_of(alloc: Global, markings: &[Marking]) -> Result<EdgeChunks, AllocError>
+    ensures { IfOk result (λ edges. AreEdges markings.now edges) }
 {
     let mut edges = listed(alloc, markings)?;
     sort(&mut edges);
-    Ok(edges)
+    EdgeChunks::of(alloc, &edges)
 }
 
 /// The edges of these mark operations, in the order of these. An error is want of memory (1).

@@ -2,7 +2,10 @@
 #![tactic(auto)]
 
 mod anchors;
+mod cuts;
 mod edge;
+mod edge_chunk;
+mod edge_chunks;
 mod edges;
 mod ended;
 mod force;
@@ -10,6 +13,8 @@ mod gathering;
 mod laws;
 mod naming;
 mod place;
+mod putting;
+mod spot;
 
 pub use anchors::Anchors;
 pub use edge::Edge;

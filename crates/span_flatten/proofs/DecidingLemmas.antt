@@ -13,8 +13,9 @@ use Rattle.op_model.specs.declared.mark.MarkKey.TheVariants as key
 use Rattle.op_model.specs.declared.marking.Marking.{Marking}
 use Rattle.op_model.specs.Marks.{is_key}
 use Rattle.op_model.specs.Spans.{with_number}
-use Rattle.model_laws.specs.Rising.{IsUp}
-use Rattle.model_laws.proofs.Up.{up_filter, up_with}
+use Rattle.op_model.specs.Rising.{IsUp}
+use Rattle.op_model.proofs.RisingLemmas.{up_with}
+use Rattle.model_laws.proofs.Up.{up_filter}
 use Rattle.comment_marks.specs.Standing.{decided}
 use Rattle.comment_marks.proofs.Deciding.{key_from_test}
 use Rattle.span_flatten.specs.declared.discussed.Discussed.{Discussed}

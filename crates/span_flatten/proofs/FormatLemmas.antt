@@ -10,7 +10,8 @@ use Rattle.op_model.specs.declared.marking.Marking.{Marking}
 use Rattle.op_model.specs.Marks.{is_key, greatest}
 use Rattle.op_model.specs.Places.{covers}
 use Rattle.op_model.specs.Spans.{comment_ids, comment_of, decided as decided_at, marks_of}
-use Rattle.model_laws.proofs.Up.{has, has-filter, has-rising, rising_up, same_members, up_filter}
+use Rattle.op_model.proofs.RisingLemmas.{rising_up}
+use Rattle.model_laws.proofs.Up.{has, has-filter, has-rising, same_members, up_filter}
 use Rattle.comment_marks.specs.Standing.{decided, standing}
 use Rattle.span_flatten.specs.Formatting.{marks_in}
 

@@ -5,7 +5,7 @@ use Rattle.std.specs.Prelude.{◌==◌, filter, slice_get}
 use Rattle.std.proofs.lemmas.List.{length-take-le, take_more}
 use Rattle.std.proofs.lemmas.Bool.{cases_Bool, cases_lt, cases_order, eq-eqb, ne_eqb, lt-ltb, le-ltb}
 use Rattle.op_model.specs.declared.marking.Marking.{Marking}
-use Rattle.model_laws.specs.Rising.{AllOver, IsUp}
+use Rattle.op_model.specs.Rising.{AllOver, IsUp}
 use Rattle.model_laws.proofs.Up.{has, none_over, same_members}
 use Rattle.span_flatten.specs.declared.active.Active.{Active}
 use Rattle.span_flatten.specs.Sweeping.{indexes, is_from_start, kept, passes, IsActive}

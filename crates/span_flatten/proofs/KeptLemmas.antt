@@ -4,8 +4,9 @@ use Rattle.std.proofs.Common.{length, get_or, replicate, set, refl, sym, ◌∙�
 use Rattle.std.specs.Prelude.{filter}
 use Rattle.std.proofs.lemmas.Bool.{cases_order, cases_lt, eq-eqb, ne_eqb, lt-ltb, le-ltb, both_ways}
 use Rattle.op_model.specs.Spans.{with_number}
-use Rattle.model_laws.specs.Rising.{IsUp}
-use Rattle.model_laws.proofs.Up.{has, has-filter, has-with, same_members, up_filter, up_with}
+use Rattle.op_model.specs.Rising.{IsUp}
+use Rattle.op_model.proofs.RisingLemmas.{up_with}
+use Rattle.model_laws.proofs.Up.{has, has-filter, has-with, same_members, up_filter}
 use Rattle.span_flatten.specs.declared.active.Active.{Active}
 use Rattle.span_flatten.specs.Sweeping.{flagged, indexes, passes, IsActive}
 use Rattle.span_flatten.proofs.ActiveLemmas.{and_false, flag_kept, flag_set, past_end}

@@ -12,8 +12,9 @@ use Rattle.op_model.specs.declared.mark.MarkKey.{MarkKey}
 use Rattle.op_model.specs.declared.marking.Marking.{Marking}
 use Rattle.op_model.specs.Marks.{is_key, greater, greatest}
 use Rattle.op_model.specs.Spans.{with_number}
-use Rattle.model_laws.specs.Rising.{AllOver, IsUp}
-use Rattle.model_laws.proofs.Up.{has, has-filter, has-with, same_members, up_filter, up_with}
+use Rattle.op_model.specs.Rising.{AllOver, IsUp}
+use Rattle.op_model.proofs.RisingLemmas.{up_with}
+use Rattle.model_laws.proofs.Up.{has, has-filter, has-with, same_members, up_filter}
 use Rattle.comment_marks.specs.Standing.{decided}
 use Rattle.comment_marks.proofs.Deciding.{greater_is_one}
 use Rattle.span_flatten.specs.declared.rank.Rank.{Rank}

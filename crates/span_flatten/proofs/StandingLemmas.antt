@@ -13,8 +13,9 @@ use Rattle.op_model.specs.declared.mark.MarkKey.TheVariants as key
 use Rattle.op_model.specs.declared.marking.Marking.{Marking}
 use Rattle.op_model.specs.Marks.{is_key, greatest}
 use Rattle.op_model.specs.Spans.{comment_ids, comment_of}
-use Rattle.model_laws.specs.Rising.{AllOver, IsUp}
-use Rattle.model_laws.proofs.Up.{has, has-filter, has-rising, rising_up, same_members, up_filter}
+use Rattle.op_model.specs.Rising.{AllOver, IsUp}
+use Rattle.op_model.proofs.RisingLemmas.{rising_up}
+use Rattle.model_laws.proofs.Up.{has, has-filter, has-rising, same_members, up_filter}
 use Rattle.comment_marks.specs.Standing.{decided, standing}
 use Rattle.span_flatten.specs.declared.discussed.Discussed.{Discussed}
 use Rattle.span_flatten.specs.Deciding.{AreDiscussed}

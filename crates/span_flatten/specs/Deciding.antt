@@ -8,7 +8,7 @@ use Rattle.std.specs.List.{list_any}
 use Rattle.std.specs.Ordering.{nat_cmp}
 use Rattle.op_model.specs.declared.mark.MarkKey.TheVariants as key
 use Rattle.op_model.specs.declared.marking.Marking.{Marking}
-use Rattle.model_laws.specs.Rising.{IsUp}
+use Rattle.op_model.specs.Rising.{IsUp}
 use Rattle.comment_marks.specs.Standing.{decided}
 use Rattle.span_flatten.specs.declared.discussed.Discussed.{Discussed}
 use Rattle.span_flatten.specs.declared.deciding.Deciding.{Deciding}

@@ -4,7 +4,7 @@ ghost use Rattle.std.specs.Prelude.{length, nat_lt, IfOk, OnOk};
 ghost use Rattle.std.proofs.Common.{get_or, replicate, set};
 ghost use Rattle.op_model.specs.declared.marking.Marking as stored;
 ghost use Rattle.op_model.specs.Spans.{is_same_marks};
-ghost use Rattle.model_laws.specs.Rising.{IsUp};
+ghost use Rattle.op_model.specs.Rising.{IsUp};
 ghost use Rattle.comment_marks.specs.Standing.{standing};
 ghost use Rattle.span_flatten.specs.Deciding.{Decides, IsNoted};
 ghost use Rattle.span_flatten.specs.Formatting.{marks_in};

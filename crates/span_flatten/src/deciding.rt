@@ -3,7 +3,7 @@ ghost use Rattle.std.specs.Prelude.{option_and_then};
 ghost use Rattle.std.specs.Option.{option_copied};
 ghost use Rattle.op_model.specs.declared.marking.Marking as stored;
 ghost use Rattle.op_model.specs.Spans.{is_same_link, is_same_marks, url_of, with_number};
-ghost use Rattle.model_laws.specs.Rising.{IsUp};
+ghost use Rattle.op_model.specs.Rising.{IsUp};
 ghost use Rattle.comment_marks.specs.Standing.{standing};
 ghost use Rattle.span_flatten.specs.Deciding.{Decides, IsNoted};
 ghost use Rattle.span_flatten.specs.Formatting.{marks_in};

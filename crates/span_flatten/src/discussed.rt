@@ -6,7 +6,7 @@ ghost use Rattle.std.specs.Ordering.{nat_cmp};
 ghost use Rattle.op_model.specs.declared.mark.MarkKey.TheVariants as key;
 ghost use Rattle.op_model.specs.declared.marking.Marking as stored;
 ghost use Rattle.op_model.specs.Spans.{is_same_list, with_number};
-ghost use Rattle.model_laws.specs.Rising.{IsUp};
+ghost use Rattle.op_model.specs.Rising.{IsUp};
 ghost use Rattle.comment_marks.specs.Standing.{decided, standing};
 ghost use Rattle.span_flatten.specs.declared.rank.Rank as ranked;
 ghost use Rattle.span_flatten.specs.Deciding.{differs, is_kept, AreDiscussed, IsNoted};

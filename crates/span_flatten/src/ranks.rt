@@ -4,7 +4,7 @@ ghost use Rattle.std.specs.BTreeMap.{is_at};
 ghost use Rattle.std.specs.Option.{option_copied};
 ghost use Rattle.std.specs.Ordering.{is_lt};
 ghost use Rattle.op_model.specs.declared.mark.MarkKey.{MarkKey};
-ghost use Rattle.model_laws.specs.Rising.{IsUp};
+ghost use Rattle.op_model.specs.Rising.{IsUp};
 ghost use Rattle.comment_marks.specs.Standing.{decided};
 ghost use Rattle.span_flatten.specs.declared.rank.Rank as ranked;
 ghost use Rattle.span_flatten.specs.Picking.{picked};

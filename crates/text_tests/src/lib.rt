@@ -10,6 +10,8 @@ mod comment_tests;
 #[cfg(test)]
 mod document_tests;
 #[cfg(test)]
+mod edge_tests;
+#[cfg(test)]
 mod plain_tests;
 #[cfg(test)]
 mod random_tests;

@@ -1,7 +1,6 @@
 use Rattle.std.proofs.Common.{◌≡◌, length}
 use Rattle.char_sequence.specs.Chunks.{IsPlace, from}
-use Rattle.char_sequence.specs.Content.{last_ended}
-use Rattle.char_sequence.specs.Reading.{tombstones_from}
+use Rattle.char_sequence.specs.Reading.{last_ended, tombstones_from}
 use Rattle.char_sequence.proofs.ended.last_asked.Given as goal
 
 -- what is known so far decides with the tombstones from the place on

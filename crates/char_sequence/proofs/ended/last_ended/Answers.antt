@@ -1,7 +1,6 @@
 use Rattle.std.proofs.Common.{◌≡◌, length, sym, ◌∙◌, ap, arith}
 use Rattle.std.proofs.lemmas.Bool.Decides.{nat_tests}
-use Rattle.char_sequence.specs.Content.{last_ended}
-use Rattle.char_sequence.specs.Reading.{is_among, tombstones_from}
+use Rattle.char_sequence.specs.Reading.{is_among, last_ended, tombstones_from}
 use Rattle.char_sequence.proofs.EndedLemmas.{ended_alike, ended_by_none}
 use Rattle.char_sequence.proofs.HiddenLemmas.{no_items}
 use Rattle.char_sequence.proofs.ended.last_ended.Goals as goal

@@ -1,7 +1,6 @@
 use Rattle.std.proofs.Common.{length, sym, ◌≤◌, ◌∙◌, ap, subst, drop, ◌+◌, arith}
 use Rattle.std.proofs.Math.ListN.{drop_of_length-le}
-use Rattle.char_sequence.specs.Content.{last_ended}
-use Rattle.char_sequence.specs.Reading.{HidesUpTo, is_among, tombstones_from}
+use Rattle.char_sequence.specs.Reading.{HidesUpTo, is_among, last_ended, tombstones_from}
 use Rattle.char_sequence.proofs.EndedLemmas.{ended_by_none, ended_here, ended_skip}
 use Rattle.char_sequence.proofs.ended.last_found.Goals as goal
 use Rattle.char_sequence.proofs.ended.last_found.Goals.{in-Some, in_default}

@@ -1,7 +1,6 @@
 use Rattle.std.proofs.Common.{◌≡◌, drop}
 use Rattle.char_sequence.specs.Chunks.{cells_of}
-use Rattle.char_sequence.specs.Content.{last_ended}
-use Rattle.char_sequence.specs.Reading.{HidesUpTo, is_among, tombstones_from}
+use Rattle.char_sequence.specs.Reading.{HidesUpTo, is_among, last_ended, tombstones_from}
 use Rattle.char_sequence.specs.Weave.{AreOnce}
 use Rattle.char_sequence.proofs.ended.last_found.Given as goal
 

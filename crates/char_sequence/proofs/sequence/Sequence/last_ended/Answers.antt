@@ -1,6 +1,8 @@
 use Rattle.std.proofs.Common.{◌∙◌, ap}
+use Rattle.op_model.specs.Made.{tombstones_at}
 use Rattle.char_sequence.specs.Chunks.{cells_of, from}
-use Rattle.char_sequence.specs.Content.{last_ended}
+use Rattle.char_sequence.specs.Reading.{last_ended}
+use Rattle.char_sequence.proofs.EndedLemmas.{ended_of_characters}
 use Rattle.char_sequence.proofs.OnceLemmas.{once_content}
 use Rattle.char_sequence.proofs.ReadLemmas.{run_there}
 use Rattle.char_sequence.proofs.sequence.Sequence.last_ended.Goals as goal
@@ -12,3 +14,4 @@ returns g c = λ ops doc holds.
     ∙ ap (last_ended (g.M.EndsAfter.ends_after c.args.marks.now) c.args.before)
     (run_there ops doc c.args.count (cells_of c.self.inside.chunks) (from c.self.inside.chunks c.behind-from.result.chunk c.behind-from.result.at)
     same c.behind-from.ensures.rest)
+    ∙ ended_of_characters (g.M.EndsAfter.ends_after c.args.marks.now) c.args.before (tombstones_at ops doc c.args.count)

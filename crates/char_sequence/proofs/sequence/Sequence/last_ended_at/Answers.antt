@@ -1,8 +1,10 @@
 use Rattle.std.proofs.Common.{sym, ◌∙◌, ap, map, subst}
-use Rattle.op_model.specs.Made.{tombstones_at}
+use Rattle.op_model.specs.Made.{id_before, tombstones_at}
+use Rattle.op_model.specs.Text.{visible}
 use Rattle.char_sequence.specs.Chunks.{cells_of, from}
-use Rattle.char_sequence.specs.Content.{last_ended}
+use Rattle.char_sequence.specs.Reading.{last_ended}
 use Rattle.char_sequence.specs.Gaps.{IsGap}
+use Rattle.char_sequence.proofs.EndedLemmas.{ended_of_characters}
 use Rattle.char_sequence.proofs.GapLemmas.{before_gap}
 use Rattle.char_sequence.proofs.OnceLemmas.{once_content}
 use Rattle.char_sequence.proofs.ReadLemmas.{run_there}
@@ -21,3 +23,4 @@ returns g c = λ ops doc holds.
     ∙ (ap (last_ended (g.M.EndsAfter.ends_after c.args.marks.now) gap.before)
     (run_there ops doc gap.count (cells_of held) (from held gap.place.chunk gap.place.at) same is.rest)
     ∙ ap (λ old. last_ended (g.M.EndsAfter.ends_after c.args.marks.now) old (map (λ c. c.id) (tombstones_at ops doc gap.count))) (before_gap ops doc held gap same is))
+    ∙ ended_of_characters (g.M.EndsAfter.ends_after c.args.marks.now) (id_before (visible ops doc) gap.count) (tombstones_at ops doc gap.count)
