@@ -6,7 +6,8 @@ ghost use Rattle.fixed_numbers.specs.Refusals.{of_files, of_devices, of_the_rest
 
 use crate::limits::{
     MAX_COUNT, MAX_COUNTER, MAX_DOCUMENTS, MAX_EDIT, MAX_LINE, MAX_LISTED, MAX_OPERATIONS,
-    MAX_PENDING, MAX_REPLICAS, MAX_STEPS, MAX_STREAM_LENGTH, MAX_TOLD, MAX_URL_LENGTH, MAX_VERSION,
+    MAX_PENDING, MAX_PENDING_RECORDS, MAX_REPLICAS, MAX_STEPS, MAX_STREAM_LENGTH, MAX_TOLD,
+    MAX_URL_LENGTH, MAX_VERSION,
 };
 use crate::sizes::{
     BODY_LENGTH, MAX_CONTENT, MAX_DATA_PAGES, MAX_LIVE_PAGES, MAX_PAGES, MAX_RECORD, MAX_TABLES,
@@ -31,6 +32,7 @@ pub fn limits_of_stores()
     ensures names { MAX_REPLICAS ∷ MAX_DOCUMENTS ∷ [] ≡ 16 ∷ 1024 ∷ [] }
     ensures operations { MAX_COUNT ∷ MAX_OPERATIONS ∷ [] ≡ 2 ^ 24 ∷ 2 ^ 24 ∷ [] }
     ensures bytes { MAX_STREAM_LENGTH ∷ MAX_PENDING ∷ [] ≡ 2 ^ 30 ∷ 2 ^ 20 ∷ [] }
+    ensures waiting { MAX_PENDING_RECORDS ≡ 83 * MAX_PENDING }
     ensures steps { MAX_STEPS ≡ 2 ^ 20 }
 {}
 

@@ -24,6 +24,11 @@ pub const MAX_STREAM_LENGTH: u64 = 1_073_741_824;
 /// The most bytes of records that wait for a commit: 2^20.
 pub const MAX_PENDING: u64 = 1_048_576;
 
+/// How many bytes the operations that wait take at most as single records: 83 for each byte that
+/// waits. A run of 256 characters by a sixteenth replica, with a token, waits as 1,437 bytes and
+/// has 118,480 bytes of single records.
+pub const MAX_PENDING_RECORDS: usize = 87_031_808;
+
 /// The most steps that are kept in one opening: 2^20.
 pub const MAX_STEPS: usize = 1_048_576;
 

@@ -8,8 +8,10 @@ use Rattle.op_model.specs.declared.op.Op.{Op}
 use Rattle.page_file.specs.Pages.{is_zero}
 use Rattle.root_slots.specs.Root.{version_of, count_of}
 use Rattle.group_commit.specs.Held.{StoreHeld}
-use Rattle.group_commit.specs.Begin.{is_idle, has_room_for, begin_due, AreWritten, IsAnswer}
+use Rattle.group_commit.specs.Begin.{is_idle, has_room_for, due_on, IsAnswer}
 use Rattle.group_commit.specs.Plan.{newest}
+use Rattle.group_commit.specs.Saved.{Saved, base_of}
+use Rattle.piece_codec.specs.Stream.{SpellsList}
 use Rattle.group_commit.proofs.RecordLemmas.{some_spelled}
 use Rattle.std.specs.Prelude.{Option}
 use Rattle.group_commit.specs.declared.error.StoreError.{StoreError}
@@ -27,28 +29,43 @@ idle_is Sync2 is = absurd cc
 idle_is Gate is = absurd cc
 idle_is Sync3 is = absurd cc
 
--- what is known of a store and of records where their commit is due
-pub record IsDue {D : Type 0} (held : StoreHeld D) (count : ℕ) (records : List ℕ) : Type 0 where
+-- what is known of a store where a commit over a base is due
+pub record IsDue {D : Type 0} (base : Saved) (held : StoreHeld D) (count bytes : ℕ) : Type 0 where
   pub works : held.failed ≡ false
   pub idle : held.phase ≡ Idle
-  pub some : is_zero records ≡ false
-  pub version : version_of held.current.body < 18446744073709551615
-  pub room : count_of held.current.body + count ≤ 16777216
-  pub stream : length held.current.stream + length records ≤ 1073741824
+  pub some : 0 < count
+  pub version : version_of base.body < 18446744073709551615
+  pub room : count_of base.body + count ≤ 16777216
+  pub stream : length base.stream + bytes ≤ 1073741824
 
-pub due_says : {D : Type 0} (held : StoreHeld D) (count : ℕ) (records : List ℕ) (ops : List Op) (n : ℕ) → AreWritten ops count records
-    → begin_due held count (length records) ≡ Ok (Some n) → IsDue held count records
-due_says held count records ops n are due =
-    let tests = tested held.failed (is_idle held.phase) (count == 0) (has_room_for held.current count (length records)) _ n due in
-    let both = and_parts _ (nat_le (length held.current.stream + length records) 1073741824) tests.3 in
-    let first = and_parts (nat_lt (version_of held.current.body) 18446744073709551615) (nat_le (count_of held.current.body + count) 16777216) both.0 in
+-- what the test of room says
+pub record HasRoom (base : Saved) (count bytes : ℕ) : Type 0 where
+  pub version : version_of base.body < 18446744073709551615
+  pub room : count_of base.body + count ≤ 16777216
+  pub stream : length base.stream + bytes ≤ 1073741824
+
+pub room_says : (base : Saved) (count bytes : ℕ) → has_room_for base count bytes ≡ true → HasRoom base count bytes
+room_says base count bytes is =
+    let both = and_parts _ (nat_le (length base.stream + bytes) 1073741824) is in
+    let first = and_parts (nat_lt (version_of base.body) 18446744073709551615) (nat_le (count_of base.body + count) 16777216) both.0 in
+    record { version = ltb-true _ _ first.0; room = leb-true _ _ first.1; stream = leb-true _ _ both.1 }
+  where
+    and_parts : (a b : Bool) → (a && b) ≡ true → (a ≡ true) × (b ≡ true)
+    and_parts true true is = (refl, refl)
+    and_parts true false is = absurd cc
+    and_parts false b is = absurd cc
+
+pub due_says : {D : Type 0} (base : Saved) (held : StoreHeld D) (count bytes n : ℕ) → due_on base held count bytes ≡ Ok (Some n) → IsDue base held count bytes
+due_says base held count bytes n due =
+    let tests = tested held.failed (is_idle held.phase) (count == 0) (has_room_for base count bytes) _ n due in
+    let roomy = room_says base count bytes tests.3 in
     record {
       works = tests.0;
       idle = idle_is held.phase tests.1;
-      some = some_spelled newest ops records are.spells (some_of count (length ops) tests.2 are.counted);
-      version = ltb-true _ _ first.0;
-      room = leb-true _ _ first.1;
-      stream = leb-true _ _ both.1;
+      some = some_of count tests.2;
+      version = roomy.version;
+      room = roomy.room;
+      stream = roomy.stream;
     }
   where
     by_tests : Bool → Bool → Bool → Bool → ℕ → Result (Option ℕ) StoreError
@@ -61,21 +78,23 @@ due_says held count records ops n are due =
     tested false true false false r n is = absurd cc
     tested false true false true r n is = (refl, refl, refl, refl)
 
-    and_parts : (a b : Bool) → (a && b) ≡ true → (a ≡ true) × (b ≡ true)
-    and_parts true true is = (refl, refl)
-    and_parts true false is = absurd cc
-    and_parts false b is = absurd cc
+    some_of : (count : ℕ) → (count == 0) ≡ false → 0 < count
+    some_of count some = grind (arith, nat_tests)
 
-    some_of : (count n : ℕ) → (count == 0) ≡ false → n ≡ count → 0 < n
-    some_of count n some is = grind (arith, nat_tests)
+-- a base has the live root's body
+pub base_body : (whole : Bool) (root : Saved) → (base_of whole root).body ≡ root.body
+base_body true root = refl
+base_body false root = refl
 
 -- a commit is due
-pub is_due : {D : Type 0} (held : StoreHeld D) (count : ℕ) (records : List ℕ) (answer : Result (Option ℕ) StoreError) (n : ℕ)
-    → answer ≡ begin_due held count (length records) → (ops : List Op) × AreWritten ops count records → answer ≡ Ok (Some n) → IsDue held count records
-is_due held count records answer n due some is = due_says held count records some.0 n some.1 (sym due ∙ is)
+pub is_due : {D : Type 0} (base : Saved) (held : StoreHeld D) (count bytes : ℕ) (answer : Result (Option ℕ) StoreError) (n : ℕ)
+    → answer ≡ due_on base held count bytes → answer ≡ Ok (Some n) → IsDue base held count bytes
+is_due base held count bytes answer n due is = due_says base held count bytes n (sym due ∙ is)
 
 -- memory is wanting where a commit is due
-pub is_wanting : {D : Type 0} (held : StoreHeld D) (count : ℕ) (records : List ℕ) (answer wanting : Result (Option ℕ) StoreError) (n : ℕ)
-    → answer ≡ begin_due held count (length records) → answer ≡ Ok (Some n) → wanting ≡ Err Memory
-    → IsAnswer (begin_due held count (length records)) wanting
-is_wanting held count records answer wanting n due is memory = rw (sym due ∙ is) (inr (memory, tt))
+pub is_wanting : (due answer wanting : Result (Option ℕ) StoreError) (n : ℕ) → answer ≡ due → answer ≡ Ok (Some n) → wanting ≡ Err Memory → IsAnswer due wanting
+is_wanting due answer wanting n is_due is memory = rw (sym is_due ∙ is) (inr (memory, tt))
+
+-- records of some operations aren't all zero
+pub some_written : (ops : List Op) (count : ℕ) (records : List ℕ) → SpellsList newest ops records → count ≤ length ops → 0 < count → is_zero records ≡ false
+some_written ops count records spells enough some = some_spelled newest ops records spells (omega (arith, enough, some))

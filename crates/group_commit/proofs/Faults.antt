@@ -1,5 +1,5 @@
 -- Which refusal names which fault.
-use Rattle.std.proofs.Common.{◌≡◌, ◌⊎◌, ℕ, false, List, refl, sym, ◌∙◌, inl, inr, Result, Ok, Err}
+use Rattle.std.proofs.Common.{◌≡◌, ◌⊎◌, ℕ, false, List, refl, inl, inr, Result, Ok, Err}
 use Rattle.group_commit.specs.Loading.{NamesLoadFault, IsReadFault, IsFirstFault, IsStreamFault, failures_of, is_of_sync, of_roots, of_pages}
 use Rattle.page_file.specs.PageError.{failures_of as failures_of_pages}
 use Rattle.page_file.specs.declared.error.PageError.{PageError}

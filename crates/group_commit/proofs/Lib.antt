@@ -1,3 +1,4 @@
+pub mod BaseLemmas
 pub mod BeginLemmas
 pub mod CountLemmas
 pub mod CutLemmas
@@ -9,9 +10,9 @@ pub mod ImageReads
 pub mod Inside
 pub mod KeptLemmas
 pub mod ManyPages
+pub mod MovingLemmas
 pub mod NewFileLemmas
 pub mod NextDataPages
-pub mod OneSpelling
 pub mod OpeningReads
 pub mod PageReads
 pub mod PagingLemmas
@@ -25,6 +26,5 @@ pub mod Sound
 pub mod Steps
 pub mod StreamReads
 pub mod Stopped
-pub mod Streams
 pub mod TailLemmas
 pub mod ZeroLemmas

@@ -1,5 +1,5 @@
 -- A refused opening, by its sync and its reads.
-use Rattle.std.proofs.Common.{◌≡◌, ℕ, ◌+◌, true, false, List, sym, ◌∙◌, arith, Result, Ok, Err}
+use Rattle.std.proofs.Common.{◌≡◌, ℕ, true, false, List, sym, ◌∙◌, arith, Result, Ok, Err}
 use Rattle.std.specs.Prelude.{IfErr}
 use Rattle.disk_trait.proofs.Looking.{looks_then}
 use Rattle.disk_trait.specs.declared.facts.DiskFacts.{Ghosts}

@@ -41,6 +41,7 @@ module _ {D : Type 0} (facts : Ghosts D) where
       → ((k : ℕ) → phase' ≡ Pages k → k < length numbers) → IsPlan phase' current next numbers fresh
   plan_at phase phase' current next numbers fresh plan under_way = record {
     newer = plan.newer;
+    format = plan.format;
     size = plan.size;
     free = plan.free;
     lowest = plan.lowest;

@@ -6,6 +6,7 @@ pub mod Errors
 pub mod Held
 pub mod Image
 pub mod Loading
+pub mod Moving
 pub mod NewFile
 pub mod Opening
 pub mod Paging

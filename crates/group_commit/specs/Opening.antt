@@ -12,7 +12,8 @@ use Rattle.group_commit.specs.Standing.{Stands}
 use Rattle.group_commit.specs.Held.{StoreHeld}
 use Rattle.group_commit.specs.Loading.{IsHistory, reached_of, stream_at}
 use Rattle.group_commit.specs.Paging.{IsIndexOf}
-use Rattle.group_commit.specs.Saved.{IsInMemory, with_stream, in_front}
+use Rattle.group_commit.specs.Moving.{CanMove}
+use Rattle.group_commit.specs.Saved.{IsInMemory, with_stream}
 use Rattle.group_commit.specs.declared.load_image.Image.{Image}
 use Rattle.group_commit.specs.declared.load_stream.Stream.{Stream}
 use Rattle.group_commit.specs.declared.phase.Phase.TheVariants.{Idle}
@@ -69,9 +70,11 @@ pub record IsImageOf {D : Type 0} (facts : Ghosts D) (disk : D) (it : Image) : T
   pub slot : it.roots.slot < 2
   -- the file is one between two commits, with this root and stream
   pub stands : facts.tells disk → Stands Idle it.roots.slot it.roots.stale_open (with_stream it.current it.stream)
-      (in_front it.next it.stream) (facts.content disk)
+      (with_stream it.next []) (facts.content disk)
   -- the stream is as long as the root says
   pub long : length it.stream ≡ stream_length_of it.current.body
+  -- where the root moves, its operations are spelled anew
+  pub moving : CanMove (with_stream it.current it.stream) it.anew.items
   -- the other root has no stream
   pub other : stream_length_of it.next.body ≡ 0
   -- the stream is the records of the operations

@@ -32,8 +32,8 @@ kept_of long records =
 -- the rest of page 3, which is live and so isn't written over: no page stays (`kept_of` is 0). The next stream fits one page, whose
 -- bytes differ, so `changed_data` is that page under a free number, say 4; its table page names 4 in place of 3, so `changed_tables`
 -- is a new table page, say 5. The next root reaches 5 and 4, and the commit writes just these (`changed_pages`).
+-- Where the root before has no stream, no page stays, and all data pages and table pages are new.
 pub record KeepsPages (current : Saved) (records : List ℕ) (next : Saved) : Type 0 where
-  pub had : HasDataPages current (data_of current)
   pub has : HasDataPages next (data_of next)
   pub data_pages : data_of next ≡ take (kept_of (length current.stream) records) (data_of current) ++ changed_data current next
   pub tables : tables_of next.body

@@ -1,8 +1,8 @@
 -- A root as a file has it.
-use Rattle.std.specs.Prelude.{◌≡◌, ℕ, ◌*◌, ◌/◌, true, List, ◌++◌, length, take, drop}
+use Rattle.std.specs.Prelude.{◌≡◌, ℕ, ◌*◌, ◌/◌, Bool, true, List, [], ◌++◌, length, drop, if◌then◌else◌}
 use Rattle.fixed_numbers.specs.declared.sizes.TheConstants.{PAGE_SIZE}
 use Rattle.page_file.specs.Pages.{are_pages}
-use Rattle.root_slots.specs.Root.{is_root, tables_of, data_count, stream_length_of, pages_for}
+use Rattle.root_slots.specs.Root.{is_root, version_of, replica_of, count_of, tables_of, data_count, stream_length_of, pages_for}
 use Rattle.root_slots.specs.Body.{Root, Spells}
 
 -- a root: the body of its slot, the bytes of its stream, and the pages that it reaches
@@ -20,9 +20,13 @@ pub record Paged : Type 0 where
 abbrev pub with_stream : Paged → List ℕ → Saved
 with_stream root bytes = record { body = root.body; stream = bytes; pages = root.pages }
 
--- a root whose stream stands at the front of these bytes
-abbrev pub in_front : Paged → List ℕ → Saved
-in_front root bytes = with_stream root (take (stream_length_of root.body) bytes)
+-- the same root without its stream and its pages
+abbrev pub emptied : Saved → Saved
+emptied root = record root { stream = []; pages = [] }
+
+-- what a commit builds on: the live root, or the same without its stream where the commit writes the whole list anew
+abbrev pub base_of : Bool → Saved → Saved
+base_of whole current = if whole then emptied current else current
 
 -- the bytes of a stream behind its full pages: fewer than 4,096, and none where it ends at a page's end
 abbrev pub tail_of : List ℕ → List ℕ
@@ -46,3 +50,11 @@ pub record HasDataPages (root : Saved) (data_pages : List ℕ) : Type 0 where
   pub count : length data_pages ≡ data_count root.body
   pub apart : are_pages root.pages ≡ true
   pub long : length root.stream ≡ stream_length_of root.body
+
+-- a root of the same version, replica and number of operations, without a stream
+pub record IsEmptied (root empty : Paged) : Type 0 where
+  pub version : version_of empty.body ≡ version_of root.body
+  pub replica : replica_of empty.body ≡ replica_of root.body
+  pub count : count_of empty.body ≡ count_of root.body
+  pub no_tables : tables_of empty.body ≡ []
+  pub has : HasDataPages (with_stream empty []) []

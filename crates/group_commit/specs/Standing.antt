@@ -5,11 +5,13 @@ use Rattle.disk_trait.specs.File.{part}
 use Rattle.disk_trait.specs.declared.facts.DiskFacts.{Ghosts}
 use Rattle.page_file.specs.Free.{AreLowest}
 use Rattle.page_file.specs.Pages.{page, are_pages}
-use Rattle.root_slots.specs.Root.{version_of, stream_length_of}
+use Rattle.root_slots.specs.Root.{format_of, version_of, stream_length_of}
 use Rattle.root_slots.specs.Slots.{gate, body}
 use Rattle.group_commit.specs.Held.{StoreHeld}
 use Rattle.group_commit.specs.Image.{Stores}
-use Rattle.group_commit.specs.Saved.{Saved, Paged}
+use Rattle.group_commit.specs.Moving.{CanMove}
+use Rattle.group_commit.specs.Plan.{newest}
+use Rattle.group_commit.specs.Saved.{Saved, Paged, with_stream}
 use Rattle.group_commit.specs.declared.phase.Phase.{Phase}
 use Rattle.group_commit.specs.declared.phase.Phase.TheVariants.{Idle, Pages, Close, Sync1, Body, Sync2, Gate, Sync3}
 
@@ -66,6 +68,7 @@ Makes current numbers fresh next = (file : List ℕ) → HasPages current file �
 -- what a commit under way is about to write
 pub record IsPlan (phase : Phase) (current next : Saved) (numbers fresh : List ℕ) : Type 0 where
   pub newer : version_of current.body < version_of next.body
+  pub format : format_of next.body ≡ newest
   pub size : length next.body ≡ BODY_LENGTH
   -- the new pages lie behind the slots, apart, and none of them is live
   pub free : are_pages (numbers ++ current.pages) ≡ true
@@ -83,9 +86,9 @@ pub record IsSound {D : Type 0} (facts : Ghosts D) (held : StoreHeld D) (slot : 
       → Stands held.phase slot held.stale_open held.current held.next c
   pub reads : facts.tells held.disk → held.failed ≡ false → Reads held.phase slot held.next numbers fresh (facts.content held.disk)
 
--- The streams of both roots are fronts of these bytes, which are the live root's, or the next one's while a commit is under way.
-pub record HasStreams (phase : Phase) (current next : Paged) (bytes : List ℕ) : Type 0 where
-  pub current_within : stream_length_of current.body ≤ length bytes
-  pub next_within : stream_length_of next.body ≤ length bytes
-  pub idle : phase ≡ Idle → length bytes ≡ stream_length_of current.body
-  pub under_way : phase ≢ Idle → length bytes ≡ stream_length_of next.body
+-- Each root's stream is as long as the root says. They are two: the next one doesn't go on with the live one where a commit writes the
+-- whole list anew. What it begins with then is kept.
+pub record HasStreams (current next : Paged) (stream next_stream anew : List ℕ) : Type 0 where
+  pub of_current : length stream ≡ stream_length_of current.body
+  pub of_next : length next_stream ≡ stream_length_of next.body
+  pub moving : CanMove (with_stream current stream) anew

@@ -212,6 +212,8 @@ impl<D: Disk> Store<D> {
                 kept: 0,
                 new_data: 0,
                 stream: StreamTail::new(alloc),
+                next_stream: StreamTail::new(alloc),
+                anew: Vec::new(alloc),
                 roots: Roots::of_new_file(),
                 failed: false,
                 numbers: Vec::new(alloc),

@@ -7,6 +7,7 @@ use crate::load_image::settle_and_read;
 use crate::open_fault::OpenFault;
 use crate::phase::Phase;
 use crate::store::Store;
+use crate::stream_tail::StreamTail;
 use disk_trait::Disk;
 use op_ids::ReplicaId;
 use op_list::OpList;
@@ -35,7 +36,9 @@ impl<D: Disk> Store<D> {
     /// One sync, one `size`, one read of the two slots and one of each page that the live root
     /// reaches. The stream is held in memory once, as the records of its operations; the store
     /// itself holds its bytes behind the full pages, fewer than 4,096, and the pages' numbers, four
-    /// bytes each. These are sorted, to see that none is there twice.
+    /// bytes each. These are sorted, to see that none is there twice. Of a file of the first format
+    /// it has the records of the operations once more, with runs, until its first commit: a pass
+    /// over the operations makes them.
     pub fn load(alloc: Global, mut disk: D) -> Result<Loaded<D>, OpenFault<D>>
         // The store is of the file's live root, and a crash leaves that file.
         ensures loaded { IfOk result
@@ -59,6 +62,8 @@ impl<D: Disk> Store<D> {
                     kept: 0,
                     new_data: 0,
                     stream: image.stream,
+                    next_stream: StreamTail::new(alloc),
+                    anew: image.anew,
                     roots: image.roots,
                     failed: false,
                     numbers: Vec::new(alloc),

@@ -1,12 +1,16 @@
 //! What a file stands for, read from its disk.
-ghost use Rattle.std.specs.Prelude.{◌≡◌, ◌<◌, ◌++◌, length, get_or, List, ℕ, IfOk, IfErr};
+ghost use Rattle.std.specs.Prelude.{◌≡◌, ◌≤◌, ◌<◌, ◌++◌, false, length, List, ℕ, IfOk, IfErr};
 ghost use Rattle.root_slots.specs.Live.{IsLive};
 ghost use Rattle.root_slots.specs.Root.{stream_length_of};
-ghost use Rattle.root_slots.specs.Body.{IsRoot, Spells, root_of};
+ghost use Rattle.root_slots.specs.Body.{IsRoot, body_bytes, root_of};
 ghost use Rattle.group_commit.specs.Saved.{IsInMemory};
 ghost use Rattle.group_commit.specs.Image.{stored};
 ghost use Rattle.group_commit.specs.Loading.{NamesLoadFault, failed_in, failures_of, is_of_sync};
 ghost use Rattle.group_commit.specs.Loading.{IsReadFault, IsFirstFault};
+ghost use Rattle.group_commit.specs.Plan.{newest};
+ghost use Rattle.op_model.specs.Records.{stream_length};
+ghost use Rattle.piece_codec.specs.Formats.{has_runs};
+ghost use Rattle.piece_codec.specs.Stream.{SpellsList};
 ghost use Rattle.group_commit.specs.Opening.{IsLookedAt, IsImageOf, HandsBack};
 
 use crate::load_ops::ops_of;
@@ -15,12 +19,14 @@ use crate::open_fault::OpenError;
 use crate::opening_sync::settle_file;
 use crate::root::Root;
 use crate::stream_tail::StreamTail;
+use change_codec::Format;
 use disk_trait::Disk;
 use ghost_lists::Written;
 use op_list::OpList;
 use page_file::Pages;
 use root_slots::{LoadedRoots, RootBody, Roots};
 use std::alloc::{AllocError, Global};
+use stream_list::packed;
 
 /// What a file stands for: its root slots, its root, its stream and its operations. `next` is an
 /// empty root, whose place the next commit takes.
@@ -32,6 +38,7 @@ pub(crate) struct Image {
     pub pages: Pages,
     pub stream: StreamTail,
     pub ops: OpList,
+    pub anew: Vec<u8>,
 }
 
 // The root slots of a file, and its live root. 42 where it has fewer than 8,192 bytes or no open
@@ -54,11 +61,6 @@ fn load_roots<D: Disk>(alloc: Global, disk: &mut D) -> Result<LoadedRoots, OpenE
     }
 }
 
-// Bytes are below 256: a call that does nothing.
-fn bytes_are_small(bytes: &[u8])
-    ensures { (i : ℕ) → get_or bytes.now i 0 < 256 }
-{}
-
 // The two roots of a store that was opened: the live one, and one whose place the next commit
 // takes.
 fn root_pair(
@@ -69,14 +71,11 @@ fn root_pair(
     requires { IsInMemory head data_pages.items }
     ensures pages { IfOk result (λ it. it.0.pages ≡ head.tables ++ data_pages.items) }
     ensures says { IfOk result (λ it. root_of it.0.body ≡ head) }
-    ensures body { IfOk result (λ it. (root : List ℕ) → ((i : ℕ) → get_or root i 0 < 256)
-        → Spells root head → it.0.body ≡ root) }
+    ensures written { IfOk result (λ it. it.0.body ≡ body_bytes head) }
     ensures other { IfOk result (λ it. stream_length_of it.1.body ≡ 0) }
 {
     let replica = head.replica();
     let current = Root::new(alloc, head, data_pages)?;
-    // For the proof, as the comment there says.
-    bytes_are_small(current.body());
     Ok((current, Root::empty(alloc, replica)?))
 }
 
@@ -85,12 +84,25 @@ fn roots_on(alloc: Global, head: RootBody, pages: &Pages) -> Result<(Root, Root)
     requires { IsInMemory head pages.now.data_pages }
     ensures pages { IfOk result (λ it. it.0.pages ≡ head.tables ++ pages.now.data_pages) }
     ensures says { IfOk result (λ it. root_of it.0.body ≡ head) }
-    ensures body { IfOk result (λ it. (root : List ℕ) → ((i : ℕ) → get_or root i 0 < 256)
-        → Spells root head → it.0.body ≡ root) }
+    ensures written { IfOk result (λ it. it.0.body ≡ body_bytes head) }
     ensures other { IfOk result (λ it. stream_length_of it.1.body ≡ 0) }
 {
     let (_, data_pages) = pages.live();
     root_pair(alloc, head, Written::new().and(data_pages))
+}
+
+// The records of operations in the newest format, where theirs has no runs; else nothing. An error
+// is want of memory (1).
+fn spelled_anew(alloc: Global, format: Format, ops: &OpList) -> Result<Vec<u8>, AllocError>
+    ensures spells { IfOk result (λ anew. has_runs format ≡ false
+        → SpellsList newest ops.now anew.items) }
+    ensures short { IfOk result (λ anew. has_runs format ≡ false
+        → length anew.items ≤ stream_length ops.now) }
+{
+    match format {
+        Format::First => packed(alloc, &ops.as_slice()),
+        Format::Second | Format::Third => Ok(Vec::new(alloc)),
+    }
 }
 
 /// What a file stands for. It refuses as [`Store::load`](crate::Store::load) does.
@@ -106,7 +118,9 @@ pub(crate) fn read_image<D: Disk>(alloc: Global, disk: &mut D) -> Result<Image, 
     } = load_roots(alloc, disk)?;
     let Stream { pages, bytes } = read_stream(alloc, disk, file_size, &root)?;
     let stream = StreamTail::new(alloc).and(&bytes)?;
-    let ops = ops_of(alloc, root.format(), bytes, root.operations())?;
+    let format = root.format();
+    let ops = ops_of(alloc, format, bytes, root.operations())?;
+    let anew = spelled_anew(alloc, format, &ops)?;
     let (current, next) = roots_on(alloc, root, &pages)?;
     Ok(Image {
         roots,
@@ -115,6 +129,7 @@ pub(crate) fn read_image<D: Disk>(alloc: Global, disk: &mut D) -> Result<Image, 
         pages,
         stream,
         ops,
+        anew,
     })
 }
 

@@ -7,8 +7,9 @@ ghost use Rattle.page_file.specs.Free.{AreLowest};
 ghost use Rattle.page_file.specs.Pages.{are_pages, is_zero, number_bytes};
 ghost use Rattle.root_slots.specs.Root.{version_of, count_of, stream_length_of};
 ghost use Rattle.group_commit.specs.Paging.{IsIndexOf, IsRenewed};
-ghost use Rattle.group_commit.specs.Saved.{HasDataPages, with_stream};
-ghost use Rattle.group_commit.specs.Planning.{Plans, IsGrown, TakesRecords, HasPagesFor};
+ghost use Rattle.group_commit.specs.Saved.{HasDataPages, with_stream, base_of};
+ghost use Rattle.group_commit.specs.Planning.{Plans, Prepares, IsGrown, HasPagesFor};
+ghost use Rattle.group_commit.specs.Planning.{TakesCommit, TakesRecords};
 ghost use Rattle.group_commit.specs.Plan.{kept_of};
 ghost use Rattle.group_commit.specs.Planning.{padded};
 
@@ -33,41 +34,75 @@ pub(crate) struct Plan {
     pub fresh: Vec<u8>,
 }
 
-/// A plan for these records of `more` operations behind the live root's stream. An error is want
-/// of memory (1). The pages whose bytes or entries stay keep their numbers; the others are written
-/// anew.
-pub(crate) fn make_plan(
-    alloc: Global,
+/// A plan for these records of `more` operations, and the stream of its root: they come behind the
+/// live root's stream, or are the whole one. An error is want of memory (1).
+pub(crate) fn plan_next(
     current: &Root,
     pages: &Pages,
     stream: &StreamTail,
+    whole: bool,
+    records: &[u8],
+    more: u64,
+) -> Result<(Plan, StreamTail), AllocError>
+    requires { TakesCommit current.now pages.now stream.now whole records.now more }
+    ensures long { IfOk result (λ it. length it.1 ≡ stream_length_of it.0.next.body) }
+    ensures plan { IfOk result (λ it. Plans (with_stream current.now stream.now)
+        (base_of whole (with_stream current.now stream.now)) records.now more
+        (with_stream it.0.next it.1) it.0.numbers.items it.0.fresh.items) }
+    ensures renews { IfOk result
+        (λ it. IsRenewed it.0.kept it.0.new_data it.0.numbers.items pages.now it.0.next) }
+{
+    let data_pages = live_data_pages(current, pages);
+    if whole {
+        let base = current.emptied()?;
+        let none = StreamTail::new(current.allocator());
+        let plan = make_plan(current, &base, pages, &none, &[], records, more)?;
+        let next_stream = none.and(records)?;
+        Ok((plan, next_stream))
+    } else {
+        let plan = make_plan(current, current, pages, stream, data_pages, records, more)?;
+        let next_stream = stream.and(records)?;
+        Ok((plan, next_stream))
+    }
+}
+
+// A plan for these records of `more` operations behind a base: the live root, or one without
+// pages. An error is want of memory (1). The base's pages whose bytes or entries stay keep their
+// numbers; the others are written anew, on free pages.
+fn make_plan(
+    current: &Root,
+    base: &Root,
+    pages: &Pages,
+    stream: &StreamTail,
+    olds: &[u32],
     records: &[u8],
     more: u64,
 ) -> Result<Plan, AllocError>
-    requires { TakesRecords current.now pages.now stream.now records.now more }
+    requires { TakesRecords current.now base.now pages.now stream.now olds.now records.now more }
     ensures long { IfOk result
         (λ made. stream_length_of made.next.body ≡ length stream.now + length records.now) }
-    ensures plan { IfOk result (λ made. Plans (with_stream current.now stream.now) records.now more
-        (with_stream made.next (stream.now ++ records.now)) made.numbers.items made.fresh.items) }
+    ensures plan { IfOk result (λ made. Prepares current.now.pages (with_stream base.now stream.now)
+        records.now more (with_stream made.next (stream.now ++ records.now)) made.numbers.items
+        made.fresh.items) }
     ensures renews { IfOk result
         (λ made. IsRenewed made.kept made.new_data made.numbers.items pages.now made.next) }
     ensures few { IfOk result (λ made. length made.numbers.items ≤ MAX_LIVE_PAGES) }
 {
-    let old_long = current.stream_length() as usize;
+    let alloc = current.allocator();
+    let old_long = base.stream_length() as usize;
     let kept = kept_pages(old_long, records);
     let long = old_long + records.len();
     let new_data = data_pages(long as u64) - kept;
     let new_tables = tables_for(long as u64) as usize - kept / TABLE_ENTRIES;
     let numbers = free_pages(current, pages, new_data + new_tables)?;
     let (data_numbers, table_numbers) = numbers.split_at(new_data);
-    let olds = live_data_pages(current, pages);
     let DataPages { all, entries } = next_data_pages(alloc, olds, kept, data_numbers)?;
-    let tables = kept_and_new(alloc, current.tables(), kept / TABLE_ENTRIES, table_numbers)?;
+    let tables = kept_and_new(alloc, base.tables(), kept / TABLE_ENTRIES, table_numbers)?;
     let kept_bytes = PAGE_SIZE * kept;
     let old_bytes = rest_behind(stream, old_long, kept_bytes);
     let new_bytes = behind(records, kept_bytes.saturating_sub(old_long));
     let fresh = new_pages(alloc, old_bytes, new_bytes, new_data, &entries, new_tables)?;
-    let next = root_on(alloc, current, more, long as u64, all, tables)?;
+    let next = root_on(alloc, base, more, long as u64, all, tables)?;
     Ok(Plan {
         next,
         kept,

@@ -2,11 +2,11 @@
 ghost use Rattle.std.specs.Prelude.{◌≡◌, ℕ, ◌≤◌, true, List, [], ◌++◌, length, IfOk};
 ghost use Rattle.fixed_numbers.specs.declared.limits.TheConstants.{MAX_OPERATIONS, MAX_STREAM_LENGTH};
 ghost use Rattle.fixed_numbers.specs.declared.sizes.TheConstants.{BODY_LENGTH};
-ghost use Rattle.root_slots.specs.Body.{root_of};
-ghost use Rattle.root_slots.specs.Root.{is_root, version_of, replica_of, count_of};
+ghost use Rattle.root_slots.specs.Body.{root_of, body_bytes};
+ghost use Rattle.root_slots.specs.Root.{is_root, format_of, version_of, replica_of, count_of};
 ghost use Rattle.root_slots.specs.Root.{stream_length_of, tables_of};
 ghost use Rattle.group_commit.specs.Plan.{newest};
-ghost use Rattle.group_commit.specs.Saved.{HasDataPages, with_stream};
+ghost use Rattle.group_commit.specs.Saved.{HasDataPages, IsEmptied, with_stream};
 
 use change_codec::Format;
 use ghost_lists::Written;
@@ -56,6 +56,7 @@ impl Root {
         requires { IsInMemory head data_pages.items }
         ensures pages { IfOk result (λ root. root.pages ≡ head.tables ++ data_pages.items) }
         ensures says { IfOk result (λ root. root_of root.body ≡ head) }
+        ensures written { IfOk result (λ root. root.body ≡ body_bytes head) }
         ensures has { IfOk result (λ root. (stream : List ℕ) → length stream ≡ head.stream_length
             → HasDataPages (with_stream root stream) data_pages.items) }
     {
@@ -87,9 +88,41 @@ impl Root {
         }
     }
 
+    /// The root of the same version, replica and number of operations without a stream: no page of
+    /// it stays in a root behind it. No file has it. One allocation; an error is want of memory
+    /// (1).
+    pub(crate) fn emptied(&self) -> Result<Root, AllocError>
+        ensures { IfOk result (λ empty. IsEmptied self.now empty) }
+    {
+        let alloc = self.allocator();
+        let none = Vec::new(alloc);
+        match RootBody::new(
+            Format::Third,
+            self.version(),
+            self.replica(),
+            0,
+            self.count(),
+            none,
+        ) {
+            Some(head) => {
+                let empty = Root::new(alloc, head, Written::new())?;
+                Ok(empty)
+            }
+            None => unreachable!(),
+        }
+    }
+
+    /// The format of its stream.
+    pub(crate) fn format(&self) -> Format
+        ensures { result ≡ format_of self.now.body }
+    {
+        self.head.format()
+    }
+
     /// How often a root was made in this file, this one included.
     pub(crate) fn version(&self) -> u64
-        ensures { result ≡ version_of self.now.body }
+        ensures value { result ≡ version_of self.now.body }
+        ensures least { 1 ≤ result }
     {
         self.head.version()
     }

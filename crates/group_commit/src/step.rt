@@ -150,6 +150,8 @@ impl<D: Disk> Store<D> {
         self.pages
             .adopt(self.kept / TABLE_ENTRIES, self.kept, self.new_data);
         swap(&mut self.current, &mut self.next);
+        swap(&mut self.stream, &mut self.next_stream);
+        self.anew = Vec::new(*self.anew.allocator());
         Ok(Phase::Sync3)
     }
 

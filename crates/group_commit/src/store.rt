@@ -3,7 +3,7 @@ ghost use Rattle.std.specs.Prelude.{◌≡◌};
 ghost use Rattle.group_commit.specs.Held.{StoreHeld};
 ghost use Rattle.group_commit.specs.Standing.{IsSound, HasStreams};
 ghost use Rattle.group_commit.specs.Paging.{IsPaging};
-ghost use Rattle.group_commit.specs.Saved.{in_front};
+ghost use Rattle.group_commit.specs.Saved.{with_stream};
 
 use crate::phase::Phase;
 use crate::root::Root;
@@ -26,11 +26,15 @@ pub struct Store<D: Disk> {
     // them.
     pub(crate) kept: usize,
     pub(crate) new_data: usize,
-    // The streams of both roots: each is a front of these bytes.
+    // The streams of both roots.
     pub(crate) stream: StreamTail,
+    pub(crate) next_stream: StreamTail,
     // Which slot is live, and whether the other gate reads 1.
     pub(crate) roots: Roots,
     pub(crate) failed: bool,
+    // Where the live root's format has no runs, the records of its operations in the newest one:
+    // the next commit's stream begins with them. Else nothing.
+    pub(crate) anew: Vec<u8>,
     // The new pages of the commit: their numbers, and 4,096 bytes each.
     pub(crate) numbers: Vec<u32>,
     pub(crate) fresh: Vec<u8>,
@@ -43,8 +47,8 @@ impl<D: Disk> Model for Store<D> {
       disk = s.disk;
       phase = s.phase;
       slot = s.roots.slot;
-      current = in_front s.current s.stream;
-      next = in_front s.next s.stream;
+      current = with_stream s.current s.stream;
+      next = with_stream s.next s.next_stream;
       numbers = s.numbers.items;
       stale_open = s.roots.stale_open;
       failed = s.failed;
@@ -54,11 +58,12 @@ impl<D: Disk> Model for Store<D> {
       disk = s.disk;
       phase = s.phase;
       slot = s.roots.slot;
-      current = in_front s.current s.stream;
-      next = in_front s.next s.stream;
+      current = with_stream s.current s.stream;
+      next = with_stream s.next s.next_stream;
       numbers = s.numbers.items;
       stale_open = s.roots.stale_open;
       failed = s.failed;
-    }) s.roots.slot s.numbers.items s.fresh.items × HasStreams s.phase s.current s.next s.stream
+    }) s.roots.slot s.numbers.items s.fresh.items
+        × HasStreams s.current s.next s.stream s.next_stream s.anew.items
         × IsPaging s.phase s.failed s.numbers.items s.kept s.new_data s.current s.next s.pages };
 }

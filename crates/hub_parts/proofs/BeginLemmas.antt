@@ -128,11 +128,11 @@ meet_begun facts l s new list more records due due' locked none rests some begun
     let long = some_long (pending l) some in
     let less : l.replica.settled < length l.replica.list = let same = ltb-false l.replica.settled l.begun none in omega (arith, same, settled, long, length-drop l.begun l.replica.list) in
     record {
-      owner = rw begun.current meet.owner;
+      owner = rw begun.begins.current meet.owner;
       both = begins ∙ sym (lt-ltb l.replica.settled (length l.replica.list) less);
       front =
           is ∙ ap (λ xs. xs ++ pending l) meet.front ∙ take-append-drop l.begun l.replica.list
           ∙ sym (take_all (length l.replica.list) l.replica.list (omega arith));
-      settled = λ other. rw begun.current (meet.settled (rw rests refl));
-      through = λ way. let never = rw (begins, begun.phase) at way in absurd (cc);
+      settled = λ other. rw begun.begins.current (meet.settled (rw rests refl));
+      through = λ way. let never = rw (begins, begun.begins.phase) at way in absurd (cc);
     }

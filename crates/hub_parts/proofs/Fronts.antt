@@ -4,16 +4,14 @@ use Rattle.std.proofs.lemmas.List.{take_at, drop_at, take_all, take-append-le}
 use Rattle.disk_trait.specs.declared.facts.DiskFacts.{Ghosts}
 use Rattle.op_model.specs.declared.op.Op.{Op}
 use Rattle.op_model.specs.Records.{stream_length}
-use Rattle.change_codec.specs.declared.format.Format.{Format}
-use Rattle.change_codec.specs.declared.format.Format.TheVariants.{First, Second, Third}
-use Rattle.piece_codec.specs.Stream.{SpellsList}
-use Rattle.piece_codec.proofs.StreamLaws.{first_is_second, second_is_third, both_join}
 use Rattle.op_list.proofs.Recorded.{records_long}
 use Rattle.op_list.specs.Records.{AreRecords}
-use Rattle.root_slots.specs.Root.{format_of, count_of}
+use Rattle.root_slots.specs.Root.{count_of, replica_of, version_of}
 use Rattle.group_commit.specs.Begin.{has_room_for, is_idle, begin_due, Begins}
 use Rattle.group_commit.specs.Held.{StoreHeld}
+use Rattle.group_commit.specs.Moving.{moves}
 use Rattle.group_commit.specs.Saved.{Saved}
+use Rattle.group_commit.proofs.BeginLemmas.{base_body}
 use Rattle.hub_parts.specs.Flusher.{IsFlusher, IsAtRest, HasFront, RestsOrCommits, FlusherHeld}
 use Rattle.hub_parts.proofs.BeginLemmas.{begin_is_due}
 
@@ -44,12 +42,6 @@ whole_list facts s list due kept idle =
     let rest : IsAtRest (record { store = s; list = list; due = due }) = rw idle at kept.commit in
     rest.all
 
--- a stream of any format is one of the third
-in_third : (f : Format) (ops : List Op) (bytes : List ℕ) → SpellsList f ops bytes → SpellsList Third ops bytes
-in_third First ops bytes spells = second_is_third ops bytes (first_is_second ops bytes spells)
-in_third Second ops bytes spells = second_is_third ops bytes spells
-in_third Third ops bytes spells = spells
-
 -- a root has a beginning of a longer list
 front_grows : (list ops : List Op) (root : Saved) → HasFront list root → HasFront (list ++ ops) root
 front_grows list ops root front =
@@ -64,7 +56,7 @@ front_grows list ops root front =
 begun_count : {D : Type 0} (facts : Ghosts D) (s new : StoreHeld D) (list ops : List Op) (records : List ℕ) → count_of s.current.body ≡ length list → Begins facts s ops records new
     → count_of new.next.body ≡ length (list ++ ops)
 begun_count facts s new list ops records all begun =
-    begun.follows.count ∙ ap (λ n. n + length ops) all ∙ sym (length-append list ops)
+    begun.begins.follows.count ∙ ap (λ body. count_of body + length ops) (base_body (moves s.current) s.current) ∙ ap (λ n. n + length ops) all ∙ sym (length-append list ops)
 
 -- the root of a commit that begins has all the operations
 next_front : {D : Type 0} (facts : Ghosts D) (s new : StoreHeld D) (list ops : List Op) (records : List ℕ) → count_of s.current.body ≡ length list → HasFront list s.current
@@ -76,8 +68,7 @@ next_front facts s new list ops records all live begun =
     record {
       within = omega (arith, long);
       stream =
-          rw (whole, begun.follows.format, begun.follows.stream)
-          (both_join Third list ops s.current.stream records (in_third (format_of s.current.body) list s.current.stream (rw front at live.stream)) begun.spells);
+          rw (whole, begun.begins.follows.format) (begun.spells list (rw front at live.stream));
     }
 
 -- a flusher that began a commit
@@ -87,15 +78,15 @@ pub flusher_begun : {D : Type 0} (facts : Ghosts D) (s new : StoreHeld D) (list 
 flusher_begun facts s new list ops records due kept none begun =
     let all = whole_list facts s list due kept (at_rest facts s list due kept none) in
     record {
-      live = rw begun.current (front_grows list ops s.current kept.live);
-      commit = rw begun.phase (record {
+      live = rw begun.begins.current (front_grows list ops s.current kept.live);
+      commit = rw begun.begins.phase (record {
         due = refl;
         all = begun_count facts s new list ops records all begun;
         front = next_front facts s new list ops records all kept.live begun;
-        owner = rw begun.current begun.follows.replica;
-        version = rw begun.current begun.follows.version;
+        owner = rw begun.begins.current (begun.begins.follows.replica ∙ ap replica_of (base_body (moves s.current) s.current));
+        version = rw begun.begins.current (begun.begins.follows.version ∙ ap (λ body. version_of body + 1) (base_body (moves s.current) s.current));
       });
-      left = begun.left;
+      left = begun.begins.left;
     }
 
 -- where the last operations of a list begin

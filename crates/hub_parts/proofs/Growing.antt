@@ -1,13 +1,13 @@
 -- What a locked part keeps is kept where its list grows.
-use Rattle.std.proofs.Common.{◌≡◌, ℕ, ◌+◌, ◌<◌, ◌≤◌, Bool, true, false, nat_lt, List, [], ◌∷◌, ◌++◌, length, take, refl, sym, ap, ◌∙◌, arith}
+use Rattle.std.proofs.Common.{◌≡◌, ℕ, ◌+◌, ◌<◌, ◌≤◌, Bool, true, false, nat_lt, List, [], ◌∷◌, ◌++◌, length, take, refl, ap, ◌∙◌, arith}
 use Rattle.std.specs.Prelude.{if◌then◌else◌, Contains}
 use Rattle.std.proofs.lemmas.Bool.{lt-ltb, le-ltb}
-use Rattle.std.proofs.lemmas.List.{take-append-le, append-nil}
+use Rattle.std.proofs.lemmas.List.{take-append-le}
 use Rattle.op_model.specs.declared.op.Op.{Op}
 use Rattle.op_model.specs.declared.edit.Edit.{Edit}
 use Rattle.op_model.specs.Made.{made}
 use Rattle.op_model.specs.Replay.{reached}
-use Rattle.op_model.specs.Held.{ReplicaHeld, with_edit, with_merge, with_acked, with_told}
+use Rattle.op_model.specs.Held.{ReplicaHeld, with_edit, with_merge}
 use Rattle.replica_core.specs.Steps.{places_left}
 use Rattle.replica_core.proofs.ReachedLemmas.{contains_tail}
 use Rattle.hub_parts.specs.Locked.{due_behind, CanSettle}
@@ -52,11 +52,6 @@ grows_edit h session e =
       places = λ n k small was. let one = due_few (with_edit h session e) n in omega (arith, one, small);
     }
 
--- by the operations that it makes
-pub more_edit : (h : ReplicaHeld) (session : ℕ) (e : Edit) → (grows_edit h session e).more ≡ made h.list h.replica e
-unfolding grows_edit
-more_edit h session e = refl
-
 -- so does a merge
 pub grows_merge : (h : ReplicaHeld) (peer : ℕ) (op : Op) → Grows h (with_merge h peer op)
 grows_merge h peer op =
@@ -69,11 +64,6 @@ grows_merge h peer op =
       reaches = λ n has. contains_tail (length h.list + 1) n (reached h.opened h.steps) has;
       places = λ n k small was. let one = due_few (with_merge h peer op) n in omega (arith, one, small);
     }
-
--- by its operation
-pub more_merge : (h : ReplicaHeld) (peer : ℕ) (op : Op) → (grows_merge h peer op).more ≡ op ∷ []
-unfolding grows_merge
-more_merge h peer op = refl
 
 -- a front stays as it is
 pub same_front : (h next : ReplicaHeld) (g : Grows h next) (n : ℕ) → n ≤ length h.list → take n next.list ≡ take n h.list

@@ -1,34 +1,26 @@
 -- What a locked part keeps is kept by each of its calls.
-use Rattle.std.proofs.Common.{◌≡◌, ℕ, ◌+◌, ◌<◌, ◌≤◌, Bool, true, false, nat_lt, nat_le, List, [], ◌∷◌, ◌++◌, length, drop, refl, sym, ap, ◌∙◌, arith}
+use Rattle.std.proofs.Common.{◌≡◌, ℕ, ◌+◌, ◌<◌, ◌≤◌, Bool, true, false, nat_lt, nat_le, length, refl, sym, ap, ◌∙◌, arith}
 use Rattle.std.proofs.Common.{length-append}
 use Rattle.std.specs.Prelude.{if◌then◌else◌, Some, None}
 use Rattle.std.proofs.lemmas.Bool.{leb-true}
 use Rattle.std.proofs.lemmas.Bool.Decides.{nat_tests}
-use Rattle.std.proofs.lemmas.List.{drop-append-le, drop_all}
-use Rattle.op_list.proofs.EndsOf.{stream_length-append}
 use Rattle.op_model.specs.declared.op.Op.{Op}
 use Rattle.op_model.specs.declared.edit.Edit.{Edit}
-use Rattle.op_model.specs.Machine.{taken_in, has_record_room}
-use Rattle.op_model.specs.Made.{made}
-use Rattle.op_model.specs.Records.{stream_length}
+use Rattle.op_model.specs.Machine.{taken_in, has_record_room, edit_length}
+use Rattle.op_model.specs.Records.{record_length}
 use Rattle.op_model.specs.Held.{with_edit, with_merge, ReplicaHeld}
+use Rattle.op_model.specs.Waiting.{waiting_length}
 use Rattle.replica_core.specs.Held.{IsSound}
 use Rattle.replica_core.specs.Steps.{places_left}
 use Rattle.replica_core.proofs.ReachedLemmas.{length_is_reached}
 use Rattle.hub_parts.specs.Locked.{commit_of, state_of, Keeps, LockedHeld}
-use Rattle.hub_parts.proofs.Growing.{Grows, grows_edit, grows_merge, more_edit, more_merge, owed_grown, due_behind_all, due_behind_some}
-
--- the records that wait where the list grew
-waits_more : (h next : ReplicaHeld) (n : ℕ) (g : Grows h next) → n ≤ length h.list
-    → stream_length (drop n next.list) ≡ stream_length (drop n h.list) + stream_length g.more
-waits_more h next n g within =
-    ap (λ ops. stream_length (drop n ops)) g.list ∙ ap stream_length (drop-append-le n h.list g.more within)
-    ∙ stream_length-append (drop n h.list) g.more
+use Rattle.hub_parts.proofs.Growing.{Grows, grows_edit, grows_merge, owed_grown, due_behind_all, due_behind_some}
+use Rattle.hub_parts.proofs.WaitingLengths.{none_waiting, waits_edit, waits_merge}
 
 -- what is kept is kept where the list grows, if there is room
-pub keeps_grown : (l : LockedHeld) (next : ReplicaHeld) (g : Grows l.replica next) (more : List Op) → Keeps l → g.more ≡ more
-    → stream_length (drop l.begun l.replica.list) + stream_length more ≤ 1048576 → Keeps (record l { replica = next })
-keeps_grown l next g more k is room =
+pub keeps_grown : (l : LockedHeld) (next : ReplicaHeld) (g : Grows l.replica next) → Keeps l
+    → waiting_length l.begun next.steps next.list ≤ 1048576 → Keeps (record l { replica = next })
+keeps_grown l next g k room =
     let settled = k.settled in
     let within = k.within in
     record {
@@ -39,7 +31,7 @@ keeps_grown l next g more k is room =
           let was = k.places (omega (arith, g.settled, same)) in
           let now = g.places l.begun 0 (omega arith) (omega (arith, was)) in
           omega (arith, now);
-      pending = omega (arith, waits_more l.replica next l.begun g within, ap stream_length is, room);
+      pending = room;
     }
 
 -- the taken operations are the settled ones and those of the commit
@@ -51,25 +43,32 @@ taken_is_begun l within = by_test (nat_lt l.replica.settled l.begun) refl
     by_test true is = refl
     by_test false is = grind (arith, nat_tests)
 
--- where the machine has room, so has the part
-pub room_says : (l : LockedHeld) (ops : List Op) → Keeps l → has_record_room (state_of l) ops ≡ true
-    → stream_length (drop l.begun l.replica.list) + stream_length ops ≤ 1048576
-room_says l ops k room =
-    leb-true _ _ (ap (λ n. nat_le (stream_length (drop n l.replica.list) + stream_length ops) 1048576) (sym (taken_is_begun l k.settled)) ∙ room)
+-- what the machine has room for, the part has
+pub room_is : (l : LockedHeld) (bytes : ℕ) → Keeps l
+    → has_record_room (state_of l) bytes ≡ nat_le (waiting_length l.begun l.replica.steps l.replica.list + bytes) 1048576
+room_is l bytes k = ap (λ n. nat_le (waiting_length n l.replica.steps l.replica.list + bytes) 1048576) (taken_is_begun l k.settled)
+
+room_says : (l : LockedHeld) (bytes : ℕ) → Keeps l → has_record_room (state_of l) bytes ≡ true
+    → waiting_length l.begun l.replica.steps l.replica.list + bytes ≤ 1048576
+room_says l bytes k room = leb-true _ _ (sym (room_is l bytes k) ∙ room)
 
 -- an edit that has room
 pub keeps_edit : (l : LockedHeld) (next : ReplicaHeld) (session : ℕ) (e : Edit) → Keeps l
-    → has_record_room (state_of l) (made l.replica.list l.replica.replica e) ≡ true → next ≡ with_edit l.replica session e
+    → has_record_room (state_of l) (edit_length l.replica e) ≡ true → next ≡ with_edit l.replica session e
     → Keeps (record l { replica = next })
 keeps_edit l next session e k room is =
-    rw is (keeps_grown l (with_edit l.replica session e) (grows_edit l.replica session e) _ k (more_edit l.replica session e) (room_says l _ k room))
+    let room_for = room_says l (edit_length l.replica e) k room in
+    rw is (keeps_grown l (with_edit l.replica session e) (grows_edit l.replica session e) k
+    (omega (arith, room_for, waits_edit l.replica session e l.begun k.within)))
 
 -- a merge that has room
 pub keeps_merge : (l : LockedHeld) (next : ReplicaHeld) (peer : ℕ) (op : Op) → Keeps l
-    → has_record_room (state_of l) (op ∷ []) ≡ true → next ≡ with_merge l.replica peer op
+    → has_record_room (state_of l) (record_length op) ≡ true → next ≡ with_merge l.replica peer op
     → Keeps (record l { replica = next })
 keeps_merge l next peer op k room is =
-    rw is (keeps_grown l (with_merge l.replica peer op) (grows_merge l.replica peer op) (op ∷ []) k (more_merge l.replica peer op) (room_says l (op ∷ []) k room))
+    let room_for = room_says l (record_length op) k room in
+    rw is (keeps_grown l (with_merge l.replica peer op) (grows_merge l.replica peer op) k
+    (omega (arith, room_for, waits_merge l.replica peer op l.begun k.within)))
 
 -- where something waits or is in a commit, there is a place for a settlement
 place_left : (l : LockedHeld) → Keeps l → l.replica.settled < length l.replica.list → 1 ≤ places_left l.replica.steps
@@ -100,5 +99,5 @@ keeps_taken l sound k =
           let one = place_left l k less in
           record { more = less; reached = length_is_reached l.replica sound; places = omega (arith, none, one) };
       places = λ same. omega (arith, none);
-      pending = rw (drop_all (length l.replica.list) l.replica.list (omega arith)) (omega arith);
+      pending = omega (arith, none_waiting (length l.replica.list) l.replica.steps l.replica.list (omega arith));
     }

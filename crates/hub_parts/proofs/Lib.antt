@@ -11,3 +11,5 @@ pub mod Settling
 pub mod OpenedParts
 pub mod TicketEnds
 pub mod WaitLemmas
+pub mod WaitingLengths
+pub mod TypedWaits

@@ -3,7 +3,7 @@ use Rattle.std.proofs.Common.{◌≡◌, ℕ, ◌≤◌, Bool, false, List, leng
 use Rattle.std.specs.Prelude.{OnOk}
 use Rattle.std.specs.Result.{is_err}
 use Rattle.std.proofs.lemmas.Bool.{le-ltb}
-use Rattle.std.proofs.lemmas.List.{take_all, drop_all}
+use Rattle.std.proofs.lemmas.List.{take_all}
 use Rattle.disk_trait.specs.declared.facts.DiskFacts.{Ghosts}
 use Rattle.op_model.specs.declared.op.Op.{Op}
 use Rattle.change_codec.specs.Stream.{spelled_all, AreOperations}
@@ -17,6 +17,7 @@ use Rattle.hub_parts.specs.Flusher.{IsFlusher}
 use Rattle.hub_parts.specs.Locked.{due_behind, Keeps, LockedHeld}
 use Rattle.hub_parts.specs.Meet.{FitTogether, side_of}
 use Rattle.hub_parts.proofs.FlusherSteps.{CrashLeaves}
+use Rattle.hub_parts.proofs.WaitingLengths.{none_waiting}
 
 -- what is copied are the records of the whole list
 pub opened_records : (list ops : List Op) (long : ℕ) (records : List ℕ) → ops ≡ list → long ≡ length ops → records ≡ spelled_all (drop 0 ops)
@@ -38,7 +39,7 @@ keeps_opened h begun opened is =
       within = omega (arith, is);
       commit = λ less. absurd (omega (arith, less, settled, is));
       places = λ same. omega (arith, none);
-      pending = rw (drop_all begun h.list (omega (arith, is))) (omega arith);
+      pending = omega (arith, none_waiting begun h.steps h.list (omega (arith, is)));
     }
   where
     none : due_behind h begun ≤ 0

@@ -1,6 +1,6 @@
 -- What is answered where records have room, and where they have none.
 use Rattle.std.proofs.Common.{◌≡◌, ℕ, Bool, true, false, refl}
-use Rattle.op_model.specs.Machine.{Answer, Ticket, ticket, applied, known, early, refused, with_room, IsRefusal}
+use Rattle.op_model.specs.Machine.{Answer, applied, known, early, refused, with_room, IsRefusal}
 
 -- a refusal of the replica alone, whether there is room or not
 pub refused_alone : (room : Bool) (n : ℕ) (answer : Answer) → answer ≡ refused n → IsRefusal n (with_room room answer)

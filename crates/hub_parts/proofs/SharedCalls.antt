@@ -1,10 +1,11 @@
 -- What an edit and a merge of a locked part are to the machine.
-use Rattle.std.proofs.Common.{◌≡◌, ℕ, true, false, [], ◌∷◌, Some, None, refl}
+use Rattle.std.proofs.Common.{◌≡◌, ℕ, true, false, Some, None, refl}
 use Rattle.op_model.specs.declared.op.Op.{Op}
 use Rattle.op_model.specs.declared.edit.Edit.{Edit}
 use Rattle.op_model.specs.Machine.{Ticket, ticket, applied, known, early, refused, known_ticket, new_edit_alone, merge_alone, has_record_room}
 use Rattle.op_model.specs.Machine.{EditStep, MergeStep}
 use Rattle.model_laws.proofs.Tickets.{known_is}
+use Rattle.op_model.specs.Records.{record_length}
 use Rattle.op_model.specs.Held.{with_merge, ReplicaHeld}
 use Rattle.hub_parts.specs.Locked.{state_of, LockedHeld}
 use Rattle.hub_parts.proofs.RoomAnswers.{refused_alone, known_alone, early_alone, full_merge, wanting_merge}
@@ -30,14 +31,14 @@ merge_refused l peer op n works answer =
 
 -- a merge that has no room
 pub merge_full : (l : LockedHeld) (peer : ℕ) (op : Op) → l.failure_told ≡ false
-    → merge_alone l.replica op ≡ applied → has_record_room (state_of l) (op ∷ []) ≡ false
+    → merge_alone l.replica op ≡ applied → has_record_room (state_of l) (record_length op) ≡ false
     → MergeStep (state_of l) peer op (refused 8) (state_of l)
 merge_full l peer op works answer room =
     (rw works (full_merge _ _ room answer), refl)
 
 -- a merge that has no memory
 pub merge_wanting : (l : LockedHeld) (peer : ℕ) (op : Op) (n : ℕ) → l.failure_told ≡ false
-    → merge_alone l.replica op ≡ applied → has_record_room (state_of l) (op ∷ []) ≡ true → n ≡ 1
+    → merge_alone l.replica op ≡ applied → has_record_room (state_of l) (record_length op) ≡ true → n ≡ 1
     → MergeStep (state_of l) peer op (refused n) (state_of l)
 merge_wanting l peer op n works answer room one =
     (rw works (wanting_merge _ _ _ room answer one), refl)
@@ -56,7 +57,7 @@ merge_early l peer op works answer =
 
 -- a merge that is applied
 pub merge_applied : (l : LockedHeld) (next : ReplicaHeld) (peer : ℕ) (op : Op) → l.failure_told ≡ false
-    → merge_alone l.replica op ≡ applied → has_record_room (state_of l) (op ∷ []) ≡ true → next ≡ with_merge l.replica peer op
+    → merge_alone l.replica op ≡ applied → has_record_room (state_of l) (record_length op) ≡ true → next ≡ with_merge l.replica peer op
     → MergeStep (state_of l) peer op applied (state_of (record l { replica = next }))
 merge_applied l next peer op works answer room is =
     (rw (works, room) answer, rw is refl)

@@ -1,5 +1,5 @@
 -- A ticket that the machine gives.
-use Rattle.std.proofs.Common.{◌≡◌, ℕ, ◌≤◌, true, false, length, ap, ◌∙◌, sym, arith}
+use Rattle.std.proofs.Common.{◌≡◌, ℕ, ◌≤◌, false, length, ap, ◌∙◌, sym, arith}
 use Rattle.op_model.specs.declared.edit.Edit.{Edit}
 use Rattle.op_model.specs.Machine.{State, Ticket, ticket, EditStep}
 use Rattle.model_laws.proofs.Tickets.{edit_cases, was_made, is_new}

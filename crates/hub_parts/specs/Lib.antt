@@ -1,3 +1,4 @@
+pub mod Adding
 pub mod Flusher
 pub mod Locked
 pub mod Meet

@@ -2,9 +2,9 @@
 use Rattle.std.specs.Prelude.{◌≡◌, ℕ, ◌+◌, ◌≤◌, ◌<◌, Bool, false, nat_lt, if◌then◌else◌, List, length, drop, Contains, Option, Some, None}
 use Rattle.fixed_numbers.specs.declared.limits.TheConstants.{MAX_PENDING}
 use Rattle.op_model.specs.Machine.{Commit, State}
-use Rattle.op_model.specs.Records.{stream_length}
 use Rattle.op_model.specs.Replay.{reached}
 use Rattle.op_model.specs.Held.{ReplicaHeld}
+use Rattle.op_model.specs.Waiting.{waiting_length}
 use Rattle.piece_codec.specs.Stream.{SpellsList}
 use Rattle.group_commit.specs.Plan.{newest}
 use Rattle.replica_core.specs.Held.{IsSound}
@@ -53,11 +53,12 @@ pub record Keeps (l : LockedHeld) : Type 0 where
   pub commit : l.replica.settled < l.begun → CanSettle l.replica l.begun
   pub places : l.replica.settled ≡ l.begun → due_behind l.replica l.begun ≤ places_left l.replica.steps
   -- the records that wait for the next commit have at most 1,048,576 bytes
-  pub pending : stream_length (drop l.begun l.replica.list) ≤ MAX_PENDING
+  pub pending : waiting_length l.begun l.replica.steps l.replica.list ≤ MAX_PENDING
 
--- the records of what waits spell the operations behind the taken ones
-abbrev pub Waits : ReplicaHeld → ℕ → List ℕ → Type 0
-Waits h begun records = SpellsList newest (drop begun h.list) records
+-- what waits are records that spell the operations behind the taken ones, and they have just the bytes that the steps say
+pub record Waits (h : ReplicaHeld) (begun : ℕ) (records : List ℕ) : Type 0 where
+  pub spells : SpellsList newest (drop begun h.list) records
+  pub long : length records ≡ waiting_length begun h.steps h.list
 
 -- what every locked part keeps: its replica's list is causally closed and the kept steps replay, and the above
 pub record IsLocked (l : LockedHeld) : Type 0 where

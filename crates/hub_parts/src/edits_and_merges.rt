@@ -1,8 +1,6 @@
 //! Edits and merges of the locked part.
-ghost use Rattle.std.specs.Prelude.{◌≡◌, List, IfOk, OnErr};
-ghost use Rattle.op_model.specs.declared.op.Op.{Op as Operation};
+ghost use Rattle.std.specs.Prelude.{◌≡◌, IfOk, OnErr};
 ghost use Rattle.op_model.specs.Machine.{after_edit, has_record_room, EditStep, MergeStep};
-ghost use Rattle.op_model.specs.Records.{stream_length};
 ghost use Rattle.replica_core.specs.Merging.{after_merge};
 ghost use Rattle.hub_parts.specs.Locked.{state_of};
 ghost use Rattle.hub_parts.specs.Meet.{FitTogether, Side};
@@ -82,10 +80,9 @@ impl Locked {
 
     /// Whether records of `more` bytes have room behind those that wait for the next commit.
     fn has_record_room(&self, more: u64) -> bool
-        ensures { (ops : List Operation) → stream_length ops ≡ more
-            → result ≡ has_record_room (state_of self.now) ops }
+        ensures { result ≡ has_record_room (state_of self.now) more }
     {
-        let pending = self.replica.list().length_from(self.begun) as u64;
+        let pending = self.waiting.len() as u64;
         more <= MAX_PENDING && pending <= MAX_PENDING - more
     }
 }

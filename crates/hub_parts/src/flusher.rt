@@ -5,7 +5,7 @@ ghost use Rattle.hub_parts.specs.Locked.{IsLocked, LockedHeld};
 ghost use Rattle.hub_parts.specs.Meet.{FitTogether, side_of};
 
 use disk_trait::Disk;
-use fixed_numbers::limits::MAX_PENDING;
+use fixed_numbers::limits::{MAX_PENDING, MAX_PENDING_RECORDS};
 use group_commit::{Phase, Store, StoreError};
 use op_list::Records;
 use std::alloc::AllocError;
@@ -63,12 +63,16 @@ impl<D: Disk> Flusher<D> {
         self.store.step()
     }
 
-    /// Makes room in the list for the 1,048,576 bytes that a meeting takes at most, so that it
-    /// moves no record under the lock. An error is want of memory (1). Linear in the list where it
-    /// moves, else constant.
+    /// Makes room in the list for the most that a meeting takes, 87,031,808 bytes of single
+    /// records, so that it moves no record under the lock; if there is no memory for so much, for
+    /// 1,048,576 bytes. Room that stays empty is address space alone. An error is want of memory
+    /// (1). Linear in the list where it moves, else constant.
     pub fn reserve(&mut self) -> Result<(), AllocError>
         ensures { self.new ≡ self.old }
     {
+        if self.list.reserve(MAX_PENDING_RECORDS).is_ok() {
+            return Ok(());
+        }
         self.list.reserve(MAX_PENDING as usize)
     }
 

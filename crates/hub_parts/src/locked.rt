@@ -10,8 +10,9 @@ use std::marker::Model;
 ///
 /// The operations that wait for the next commit are those of the list behind the taken ones. Beside
 /// the list, their records stand in pieces, made with each edit, so a meeting spells nothing. The
-/// type keeps that these spell what waits, that the single records of what waits have at most
-/// 1,048,576 bytes, and that the settlements which are due have their places among the kept steps.
+/// type keeps that these spell what waits, that what one edit typed is one of them, that they have
+/// at most 1,048,576 bytes, and that the settlements which are due have their places among the kept
+/// steps.
 #[derive(Debug, Drop)]
 pub struct Locked {
     pub(crate) replica: Replica,

@@ -1,16 +1,17 @@
 //! The operations of an edit or a merge, put behind the list and into what waits.
-ghost use Rattle.std.specs.Prelude.{◌≡◌, true, [], ◌∷◌, IfOk, IfErr, OnOk, OnErr};
+ghost use Rattle.std.specs.Prelude.{◌≡◌, true, IfOk, IfErr, OnOk, OnErr};
 ghost use Rattle.op_model.specs.Held.{with_edit, with_merge};
-ghost use Rattle.op_model.specs.Machine.{has_record_room, new_edit_alone, ticket};
-ghost use Rattle.op_model.specs.Made.{made};
+ghost use Rattle.op_model.specs.Machine.{edit_length, has_record_room, new_edit_alone, ticket};
+ghost use Rattle.op_model.specs.Records.{record_length};
 ghost use Rattle.replica_core.specs.Decided.{IsDecided};
 ghost use Rattle.replica_core.specs.Merging.{CanMerge};
 ghost use Rattle.replica_core.specs.declared.refusal.Refusal.TheVariants as Refusal;
 ghost use Rattle.hub_parts.specs.Locked.{state_of};
 
 use crate::locked::Locked;
-use crate::waiting::put_waiting;
-use op_model::{Change, Edit, Op};
+use crate::waiting::put_made;
+use change_codec::put_bytes;
+use op_model::{Edit, Op};
 use replica_core::{Decided, Refusal, Ticket};
 
 impl Locked {
@@ -24,7 +25,7 @@ impl Locked {
     ) -> Result<Ticket, Refusal>
         requires decided { IsDecided self.old.replica edit.now decided }
         requires room { has_record_room (state_of self.old)
-            (made self.old.replica.list self.old.replica.replica edit.now) ≡ true }
+            (edit_length self.old.replica edit.now) ≡ true }
         ensures made { OnOk result (self.new
             ≡ record self.old { replica = with_edit self.old.replica session edit.now }) }
         ensures ticket { IfOk result (λ t.
@@ -37,15 +38,8 @@ impl Locked {
             return Err(Refusal::Memory);
         }
         let ticket = self.replica.put_edit(session, edit, decided)?;
-        let alloc = *self.waiting.allocator();
         let list = self.replica.list();
-        put_waiting(
-            alloc,
-            &list,
-            before,
-            is_typed(&edit.change),
-            &mut self.waiting,
-        );
+        put_made(&list, before, edit, &mut self.waiting);
         Ok(ticket)
     }
 
@@ -53,7 +47,7 @@ impl Locked {
     /// list. An error is want of memory (1), and changes nothing.
     pub(crate) fn put_merge(&mut self, peer: u64, op: Op) -> Result<(), Refusal>
         requires may { CanMerge self.old.replica op }
-        requires room { has_record_room (state_of self.old) (op ∷ []) ≡ true }
+        requires room { has_record_room (state_of self.old) (record_length op) ≡ true }
         ensures merged { OnOk result (self.new
             ≡ record self.old { replica = with_merge self.old.replica peer op }) }
         ensures memory { IfErr result (λ e. e ≡ Refusal.Memory) }
@@ -64,17 +58,8 @@ impl Locked {
             return Err(Refusal::Memory);
         }
         self.replica.put_merge(peer, op)?;
-        let alloc = *self.waiting.allocator();
         let list = self.replica.list();
-        put_waiting(alloc, &list, before, false, &mut self.waiting);
+        put_bytes(list.records_from(before), &mut self.waiting);
         Ok(())
-    }
-}
-
-// Whether a change types several characters.
-fn is_typed(change: &Change) -> bool {
-    match change {
-        Change::Insert { .. } => change.size() > 1,
-        _ => false,
     }
 }

@@ -1,64 +1,53 @@
 //! The records that wait for the next commit.
-ghost use Rattle.std.specs.Prelude.{◌+◌, ◌≤◌, ◌++◌, List, length, drop, vec_len, vec_capacity, IfOk};
-ghost use Rattle.change_codec.specs.Writing.{Appends, HasRoom};
-ghost use Rattle.group_commit.specs.Plan.{newest};
-ghost use Rattle.op_model.specs.declared.op.Op.{Op as Operation};
-ghost use Rattle.op_model.specs.Records.{stream_length};
-ghost use Rattle.piece_codec.specs.Stream.{SpellsList};
+ghost use Rattle.std.specs.Prelude.{◌≡◌, ◌+◌, ◌≤◌, ℕ, length, take, drop, true, vec_len, vec_capacity};
+ghost use Rattle.op_model.specs.Made.{is_small, made};
+ghost use Rattle.op_model.specs.Waiting.{change_length, text_length};
+ghost use Rattle.op_pieces.specs.Typed.{IsTyped};
+ghost use Rattle.hub_parts.specs.Adding.{Adds};
 
+use change_codec::put_bytes;
 use op_list::OpSlice;
-use op_pieces::cut;
-use piece_codec::put_pieces;
-use std::alloc::{AllocError, Global};
+use op_model::{Change, Edit};
+use piece_codec::put_typed;
 
-/// Puts the records of the operations from the n-th on behind those that wait, in room that was
-/// reserved for their single records. What was typed in one edit is one record, if there is memory
-/// to cut it so; otherwise these are single ones, which spell the same.
-pub(crate) fn put_waiting(
-    alloc: Global,
-    list: &OpSlice<'_>,
-    n: usize,
-    is_typed: bool,
-    waiting: &mut Vec<u8>,
-)
+/// Puts the records of what a small edit made, the operations from the n-th on, behind those that
+/// wait, in room that was reserved: what it typed is one record, and each other operation has its
+/// own. Takes no memory.
+pub(crate) fn put_made(list: &OpSlice<'_>, n: usize, edit: &Edit, waiting: &mut Vec<u8>)
     requires within { n ≤ length list.now }
-    requires room { vec_len waiting.old + stream_length (drop n list.now)
+    requires made { (replica : ℕ) × (drop n list.now ≡ made (take n list.now) replica edit.now) }
+    requires small { is_small edit.now.change ≡ true }
+    requires room { vec_len waiting.old + change_length edit.now.change (drop n list.now)
         ≤ vec_capacity waiting.old }
-    ensures { (ops : List Operation) → SpellsList newest ops waiting.old.items
-        → SpellsList newest (ops ++ drop n list.now) waiting.new.items }
+    ensures { Adds waiting.old.items waiting.new.items (drop n list.now)
+        (change_length edit.now.change (drop n list.now)) }
 {
-    if is_typed {
-        if let Ok(records) = pieces_of(alloc, list, n) {
-            put_bytes(&records, waiting);
-            return;
+    let records = list.records_from(n);
+    match &edit.change {
+        Change::Insert { text, .. } => put_text(list, n, text.as_slice(), waiting),
+        Change::Delete { .. } | Change::Mark { .. } | Change::Unmark { .. } => {
+            put_bytes(records, waiting);
         }
     }
-    put_bytes(list.records_from(n), waiting);
 }
 
-// The records of the pieces that the operations from the n-th on are cut into. An error is want of
-// memory (1). Linear in these operations.
-fn pieces_of(alloc: Global, list: &OpSlice<'_>, n: usize) -> Result<Vec<u8>, AllocError>
-    requires { n ≤ length list.now }
-    ensures spells { IfOk result (λ records. SpellsList newest (drop n list.now) records.items) }
-    ensures short { IfOk result (λ records.
-        length records.items ≤ stream_length (drop n list.now)) }
+/// Puts the records of the operations from the n-th on, which type this text, behind those that
+/// wait: one record, which for two or more characters is that of a run.
+fn put_text(list: &OpSlice<'_>, n: usize, text: &[char], waiting: &mut Vec<u8>)
+    requires within { n ≤ length list.now }
+    requires typed { IsTyped (drop n list.now) text.now }
+    requires room { vec_len waiting.old + text_length (drop n list.now)
+        ≤ vec_capacity waiting.old }
+    ensures { Adds waiting.old.items waiting.new.items (drop n list.now)
+        (text_length (drop n list.now)) }
 {
-    // For the proof: its contract says that they keep their rules.
-    let _records = list.records_from(n);
-    let ops = list.copy_from(alloc, n)?;
-    let pieces = cut(alloc, &ops)?;
-    let mut records = Vec::new(alloc);
-    put_pieces(&pieces, &mut records)?;
-    Ok(records)
-}
-
-// Puts bytes at the end, in room that was reserved.
-fn put_bytes(bytes: &[u8], out: &mut Vec<u8>)
-    requires { HasRoom out.old bytes.now }
-    ensures { Appends out.old out.new bytes.now }
-{
-    for byte in bytes {
-        out.push_reserved(*byte);
+    let records = list.records_from(n);
+    if text.len() < 2 {
+        put_bytes(records, waiting);
+        return;
     }
+    // For the proof: there are no more operations than a `usize` counts.
+    let _count = list.len();
+    let first = records.len() - list.length_from(n + 1);
+    put_typed(&records[..first], text[0], &text[1..], waiting);
 }

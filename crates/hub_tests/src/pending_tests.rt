@@ -48,9 +48,10 @@ fn told_by_another(alloc: Global) -> Result<Vec<op_model::Op>, Fail> {
     }
 }
 
-/// With 47 inserts of 256 characters, which fill 1,046,736 bytes.
+/// With 945 inserts of 256 characters, each one record, which fill 1,047,957 bytes: the first takes
+/// 1,061, and each of the others 1,109.
 fn fill(alloc: Global, hub: &mut Hub<MemDisk>) -> Result<(), Fail> {
-    for i in 0..47u32 {
+    for i in 0..945u32 {
         if refusal(alloc, hub, i * 256, 256)? != 0 {
             return Err("refused".into());
         }
@@ -58,20 +59,20 @@ fn fill(alloc: Global, hub: &mut Hub<MemDisk>) -> Result<(), Fail> {
     Ok(())
 }
 
-/// What is answered to inserts behind them of 256, 22, 21 and one characters, to a merge, and once
+/// What is answered to inserts behind them of 256, 134, 133 and one characters, to a merge, and once
 /// a commit has begun to one of 256 characters.
 fn answers(alloc: Global, hub: &mut Hub<MemDisk>) -> Result<[u8; 6], Fail> {
     fill(alloc, hub)?;
     let before = [
-        refusal(alloc, hub, 12_032, 256)?,
-        refusal(alloc, hub, 12_032, 22)?,
-        refusal(alloc, hub, 12_032, 21)?,
-        refusal(alloc, hub, 12_053, 1)?,
+        refusal(alloc, hub, 241_920, 256)?,
+        refusal(alloc, hub, 241_920, 134)?,
+        refusal(alloc, hub, 241_920, 133)?,
+        refusal(alloc, hub, 242_053, 1)?,
         merge_refusal(alloc, hub)?,
     ];
     let begun = hub.begin().is_ok();
     let behind = if begun {
-        refusal(alloc, hub, 12_053, 256)?
+        refusal(alloc, hub, 242_053, 256)?
     } else {
         1
     };

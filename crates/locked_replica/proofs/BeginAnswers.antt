@@ -22,7 +22,8 @@ use Rattle.locked_replica.proofs.RoomLemmas.{room_is_version, none_behind, behin
 use Rattle.locked_replica.proofs.StateLemmas.{answer_due, begin_as_due, begin_step, due_begun, due_by, was_due, has_number, no_number}
 use Rattle.std.proofs.lemmas.Bool.{ltb-false}
 use Rattle.std.proofs.lemmas.Bool.Decides.{nat_tests}
-use Rattle.group_commit.proofs.BeginLemmas.{idle_is}
+use Rattle.group_commit.specs.Moving.{moves}
+use Rattle.group_commit.proofs.BeginLemmas.{base_body, idle_is}
 use Rattle.locked_replica.proofs.BegunCommits.{counts_begun}
 
 -- no operations are those of a list without length
@@ -79,12 +80,12 @@ begin_made {D} {failure_told = failure_told} facts h s new answer lawful fits af
     new_state : (n : ℕ) → answer ≡ Ok (Some n)
         → state_of (parts h new failure_told) ≡ record (state_of (parts h s failure_told)) { commit = Some (record { count = n; through = false }) }
     new_state n is =
-        let b = (begins n is).1 in
-        let all = b.follows.count ∙ (due n is).2 in
+        let b = (begins n is).1.begins in
+        let all = b.follows.count ∙ ap (λ body. count_of body + length rest) (base_body (moves s.current) s.current) ∙ (due n is).2 in
         rw (works, b.works, b.phase, b.current, all) refl
 
     its_disk : (a : Result (Option ℕ) StoreError) → answer ≡ a → new.disk ≡ s.disk
-    its_disk (Ok (Some n)) is = (begins n is).1.disk
+    its_disk (Ok (Some n)) is = (begins n is).1.begins.disk
     its_disk (Ok None) is = ap (λ t. t.disk) (stays (no_number answer (ap has_number is)))
     its_disk (Err e) is = ap (λ t. t.disk) (stays (no_number answer (ap has_number is)))
 

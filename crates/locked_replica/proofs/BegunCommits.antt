@@ -6,6 +6,7 @@ use Rattle.op_model.specs.declared.op.Op.{Op}
 use Rattle.op_model.specs.Machine.{begun as begun_answer}
 use Rattle.group_commit.specs.Begin.{Begins}
 use Rattle.group_commit.specs.Held.{StoreHeld}
+use Rattle.group_commit.specs.Moving.{base_for}
 use Rattle.group_commit.specs.Changes.{changed_pages}
 use Rattle.group_commit.specs.Counts.{writes_from, syncs_from, writes_left, syncs_left}
 use Rattle.group_commit.proofs.CountLemmas.{none_left}
@@ -18,12 +19,12 @@ pub counts_begun : {D : Type 0} (facts : Ghosts D) (s new : StoreHeld D) (ops : 
 counts_begun facts s new ops records n idle works b =
     let none = none_left s idle in
     let pages : length new.numbers - 0 ≡ length new.numbers = omega arith in
-    let numbers : new.numbers ≡ changed_pages new.current new.next = rw b.current b.numbers in
-    let writes : writes_left new ≡ length (changed_pages new.current new.next) + (if new.stale_open then 3 else 2) =
-    ap (λ p. writes_from p (length new.numbers) new.stale_open) b.phase ∙ ap (λ k. k + (if new.stale_open then 3 else 2)) pages ∙ ap (λ ns. length ns + (if new.stale_open then 3 else 2)) numbers in
-    let syncs : syncs_left new ≡ 3 = ap syncs_from b.phase in
+    let numbers : new.numbers ≡ changed_pages (base_for new.current) new.next = rw b.begins.current b.begins.numbers in
+    let writes : writes_left new ≡ length (changed_pages (base_for new.current) new.next) + (if new.stale_open then 3 else 2) =
+    ap (λ p. writes_from p (length new.numbers) new.stale_open) b.begins.phase ∙ ap (λ k. k + (if new.stale_open then 3 else 2)) pages ∙ ap (λ ns. length ns + (if new.stale_open then 3 else 2)) numbers in
+    let syncs : syncs_left new ≡ 3 = ap syncs_from b.begins.phase in
     record {
       stays = λ failed. absurd (cc);
-      writes = λ told working. let same = ap (λ d. facts.writes d) b.disk in omega (arith, same, writes, none.0);
-      syncs = λ told working. let same = ap (λ d. facts.syncs d) b.disk in omega (arith, same, syncs, none.1);
+      writes = λ told working. let same = ap (λ d. facts.writes d) b.begins.disk in omega (arith, same, writes, none.0);
+      syncs = λ told working. let same = ap (λ d. facts.syncs d) b.begins.disk in omega (arith, same, syncs, none.1);
     }

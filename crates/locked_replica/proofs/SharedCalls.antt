@@ -1,5 +1,5 @@
 -- Calls of the locked part are calls of the hub.
-use Rattle.std.proofs.Common.{◌≡◌, ℕ, ◌+◌, Bool, true, false, nat_le, List, [], ◌∷◌, drop, refl, sym, ap, ◌∙◌, arith, if◌then◌else◌}
+use Rattle.std.proofs.Common.{◌≡◌, ℕ, ◌+◌, Bool, true, false, nat_le, List, refl, sym, ap, ◌∙◌, arith, if◌then◌else◌}
 use Rattle.std.proofs.Common.{Option, inl, inr}
 use Rattle.std.proofs.lemmas.Bool.{cases_Bool}
 use Rattle.disk_trait.specs.Calls.{IsLawful}
@@ -8,11 +8,11 @@ use Rattle.op_model.specs.declared.op.Op.{Op}
 use Rattle.op_model.specs.declared.edit.Edit.{Edit}
 use Rattle.op_model.specs.Machine.{Commit, State, edit, merge, ack, tell, have, Ticket, ticket, applied, known, early, acknowledged, operations, clock}
 use Rattle.op_model.specs.Telling.{reach}
-use Rattle.op_model.specs.Machine.{refused, has_record_room, with_room, edit_answer, new_edit_alone, known_ticket, unless_known, after_edit}
+use Rattle.op_model.specs.Machine.{refused, has_record_room, edit_length, with_room, edit_answer, new_edit_alone, known_ticket, unless_known, after_edit}
 use Rattle.op_model.specs.Machine.{merge_answer, merge_alone, taken_in, IsRefusal}
 use Rattle.op_model.specs.Machine.{EditStep, MergeStep, AckStep, TellStep, HaveStep}
-use Rattle.op_model.specs.Made.{made}
-use Rattle.op_model.specs.Records.{stream_length}
+use Rattle.op_model.specs.Records.{record_length}
+use Rattle.op_model.specs.Waiting.{waiting_length}
 use Rattle.op_model.specs.Held.{settled_list, with_acked, with_edit, with_merge, with_told, ReplicaHeld}
 use Rattle.replica_core.specs.Merging.{after_merge, answer_of}
 use Rattle.replica_core.specs.declared.merged.Merged.{Merged}
@@ -38,22 +38,22 @@ at h told failed version commit = record {
 }
 
 -- whether there is room depends on the commit only by what was taken
-same_room : (h : ReplicaHeld) (told f f' : Bool) (v v' : ℕ) (c c' : Option Commit) (ops : List Op) → taken_in c h.settled ≡ taken_in c' h.settled
-    → has_record_room (at h told f v c) ops ≡ has_record_room (at h told f' v' c') ops
-same_room h told f f' v v' c c' ops same = ap (λ n. nat_le (stream_length (drop n h.list) + stream_length ops) 1048576) same
+same_room : (h : ReplicaHeld) (told f f' : Bool) (v v' : ℕ) (c c' : Option Commit) (bytes : ℕ) → taken_in c h.settled ≡ taken_in c' h.settled
+    → has_record_room (at h told f v c) bytes ≡ has_record_room (at h told f' v' c') bytes
+same_room h told f f' v v' c c' bytes same = ap (λ n. nat_le (waiting_length n h.steps h.list + bytes) 1048576) same
 
 -- and so do the answers to an edit and to a merge
 same_edit : (h : ReplicaHeld) (told f f' : Bool) (v v' : ℕ) (c c' : Option Commit) (e : Edit) → taken_in c h.settled ≡ taken_in c' h.settled
     → edit_answer (at h told f v c) e ≡ edit_answer (at h told f' v' c') e
 same_edit h told f f' v v' c c' e same =
     ap (λ room. unless_known (known_ticket h e) (if told then refused 9 else with_room room (new_edit_alone h e)))
-    (same_room h told f f' v v' c c' (made h.list h.replica e) same)
+    (same_room h told f f' v v' c c' (edit_length h e) same)
 
 same_merge : (h : ReplicaHeld) (told f f' : Bool) (v v' : ℕ) (c c' : Option Commit) (op : Op) → taken_in c h.settled ≡ taken_in c' h.settled
     → merge_answer (at h told f v c) op ≡ merge_answer (at h told f' v' c') op
 same_merge h told f f' v v' c c' op same =
     ap (λ room. if told then refused 9 else with_room room (merge_alone h op))
-    (same_room h told f f' v v' c c' (op ∷ []) same)
+    (same_room h told f f' v v' c c' (record_length op) same)
 
 module _ {D : Type 0} (facts : Ghosts D) (l : LockedHeld) (f : FlusherHeld D) (lawful : facts.tells f.store.disk → IsLawful facts f.store.disk)
     (locked : IsLocked l) (flusher : IsFlusher facts f) (meet : FitTogether l (side_of f)) where

@@ -8,6 +8,7 @@ use Rattle.group_commit.specs.Begin.{Begins}
 use Rattle.group_commit.specs.Changes.{changed_pages}
 use Rattle.group_commit.specs.Counts.{writes_left, syncs_left}
 use Rattle.group_commit.specs.Errors.{number_of}
+use Rattle.group_commit.specs.Moving.{base_for}
 use Rattle.group_commit.specs.Held.{StoreHeld, gone_on, has_failed}
 use Rattle.group_commit.specs.Step.{call_in, error_of, writes_of, syncs_of, Does}
 use Rattle.group_commit.specs.declared.phase.Phase.{Phase}
@@ -37,10 +38,10 @@ abbrev pub failures_in : Event → Answer → ℕ
 failures_in device_step a = device_failures a
 failures_in event a = 0
 
--- How many writes a commit makes that begins with this answer: one for each page whose bytes or entries change or that is new, the
--- close where the stale gate reads 1, the body and the gate.
+-- How many writes a commit makes that begins with this answer: one for each page whose bytes or entries change or that is new, and for
+-- every page of the next root where the list is written anew; the close where the stale gate reads 1, the body and the gate.
 abbrev pub writes_begun : {D : Type 0} → Answer → StoreHeld D → ℕ
-writes_begun (begun n) store = length (changed_pages store.current store.next) + (if store.stale_open then 3 else 2)
+writes_begun (begun n) store = length (changed_pages (base_for store.current) store.next) + (if store.stale_open then 3 else 2)
 writes_begun a store = 0
 
 -- and how many syncs

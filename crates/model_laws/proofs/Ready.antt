@@ -259,7 +259,8 @@ length_with_number n (x ∷ ns) =
       ]
     ]
 
-documents-push : (ops : List Op) (op : Op) → documents (ops ++ op ∷ []) ≡ with_number op.doc (documents ops)
+-- the documents with one operation more
+pub documents-push : (ops : List Op) (op : Op) → documents (ops ++ op ∷ []) ≡ with_number op.doc (documents ops)
 documents-push [] op = refl
 documents-push (x ∷ ops) op = rw (documents-push ops op) (number_swapped x.doc op.doc (documents ops))
 

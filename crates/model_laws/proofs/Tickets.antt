@@ -6,7 +6,7 @@ use Rattle.op_model.specs.declared.op.Op.{Op}
 use Rattle.op_model.specs.declared.edit.Edit.{Edit}
 use Rattle.op_model.specs.Made.{made, edit_refusal}
 use Rattle.op_model.specs.Held.{ReplicaHeld}
-use Rattle.op_model.specs.Machine.{State, Answer, Ticket, ticket, ticket_of, applied, refused, has_places, has_record_room, with_room}
+use Rattle.op_model.specs.Machine.{State, Answer, Ticket, ticket, ticket_of, applied, refused, has_places, has_record_room, edit_length, with_room}
 use Rattle.op_model.specs.Machine.{ticket_behind, token_ticket, known_ticket, unless_known, new_edit_alone, new_edit_answer, edit_answer, edit_answer_unless}
 use Rattle.op_model.specs.Tokens.{carries, last_of}
 use Rattle.model_laws.proofs.LastOf.{last_of-within}
@@ -32,7 +32,7 @@ ticket_by_telling false false answer t due other is = other is
 pub new_ticket : (s : State) (e : Edit) (t : Ticket) → new_edit_answer s e ≡ ticket t
     → t ≡ ticket_of (s.held.list ++ made s.held.list s.held.replica e) e.doc
 new_ticket s e t is =
-    ticket_by_telling s.failure_told (has_record_room s (made s.held.list s.held.replica e)) (new_edit_alone s.held e) t _
+    ticket_by_telling s.failure_told (has_record_room s (edit_length s.held e)) (new_edit_alone s.held e) t _
     (ticket_by_cause s.held e (edit_refusal s.held.list s.held.replica e) t) is
 
 -- a ticket of an edit that was made before

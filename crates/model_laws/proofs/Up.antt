@@ -4,37 +4,7 @@ use Rattle.std.specs.Prelude.{◌==◌, filter}
 use Rattle.std.specs.List.{list_any}
 use Rattle.std.proofs.lemmas.Bool.{cases_Bool, cases_order, eq-eqb, ne_eqb, lt-ltb, le-ltb, both_ways, or_from}
 use Rattle.op_model.specs.Spans.{with_number, rising}
-use Rattle.model_laws.specs.Rising.{AllOver, IsUp}
-
-pub over_chain : (n m : ℕ) (ns : List ℕ) → n < m → AllOver m ns → AllOver n ns
-over_chain n m [] less over = tt
-over_chain n m (k ∷ ns) less over = (let first = over.0 in omega arith, over_chain n m ns less over.1)
-
-pub over_with : (n m : ℕ) (ns : List ℕ) → n < m → AllOver n ns → AllOver n (with_number m ns)
-over_with n m [] less over = (less, tt)
-over_with n m (k ∷ ns) less over =
-    elim (cases_order m k) [
-      | inl same ↦ simp (le-ltb m k (omega arith), eq-eqb m k same) over
-      | inr o ↦ elim o [
-        | inl below ↦ rw (lt-ltb m k below) (less, over)
-        | inr above ↦ simp (le-ltb m k (omega arith), ne_eqb m k (omega arith)) (over.0, over_with n m ns less over.1)
-      ]
-    ]
-
-pub up_with : (m : ℕ) (ns : List ℕ) → IsUp ns → IsUp (with_number m ns)
-up_with m [] up = (tt, tt)
-up_with m (k ∷ ns) up =
-    elim (cases_order m k) [
-      | inl same ↦ simp (le-ltb m k (omega arith), eq-eqb m k same) up
-      | inr o ↦ elim o [
-        | inl below ↦ rw (lt-ltb m k below) ((below, over_chain m k ns below up.0), up)
-        | inr above ↦ simp (le-ltb m k (omega arith), ne_eqb m k (omega arith)) (over_with k m ns above up.0, up_with m ns up.1)
-      ]
-    ]
-
-pub rising_up : (ns : List ℕ) → IsUp (rising ns)
-rising_up [] = tt
-rising_up (n ∷ ns) = up_with n (rising ns) (rising_up ns)
+use Rattle.op_model.specs.Rising.{AllOver, IsUp}
 
 -- a number is one of these
 abbrev pub has : ℕ → List ℕ → Bool

@@ -2,5 +2,4 @@ pub mod Apart
 pub mod IsWalk
 pub mod Changed
 pub mod Histories
-pub mod Rising
 pub mod Asking

@@ -4,6 +4,7 @@ pub mod Walk
 pub mod Text
 pub mod Places
 pub mod Spans
+pub mod Rising
 pub mod Records
 pub mod Causality
 pub mod Made
@@ -13,4 +14,5 @@ pub mod Held
 pub mod Telling
 pub mod Tokens
 pub mod Tickets
+pub mod Waiting
 pub mod Machine

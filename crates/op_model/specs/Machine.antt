@@ -1,6 +1,6 @@
 -- What a replica with its store does, one event after another.
 use Rattle.std.specs.Prelude.{◌≡◌, ◌⊎◌, ℕ, ◌+◌, ◌≤◌, ◌<◌, Bool, true, false, not, ◌||◌, ◌==◌}
-use Rattle.std.specs.Prelude.{nat_le, if◌then◌else◌, List, [], ◌∷◌, ◌++◌, length, take, drop}
+use Rattle.std.specs.Prelude.{nat_le, if◌then◌else◌, List, [], ◌∷◌, ◌++◌, length, take}
 use Rattle.std.specs.Prelude.{Option, Some, None, is_some}
 use Rattle.std.specs.Option.{option_map, option_and_then}
 use Rattle.fixed_numbers.specs.declared.limits.TheConstants.{MAX_PENDING, MAX_STEPS, MAX_VERSION}
@@ -11,10 +11,11 @@ use Rattle.op_model.specs.declared.edit.Edit.{Edit}
 use Rattle.op_ids.specs.Clock.{is_ready}
 use Rattle.op_model.specs.Causality.{clock_of, is_known, first_failed}
 use Rattle.op_model.specs.Made.{made, edit_refusal}
-use Rattle.op_model.specs.Records.{stream_length}
+use Rattle.op_model.specs.Records.{record_length}
 use Rattle.op_model.specs.Held.{ReplicaHeld, opened_with, settled_list, with_edit, with_merge, with_settled, with_acked, with_told}
 use Rattle.op_model.specs.Telling.{untold, reach}
 use Rattle.op_model.specs.Tokens.{carries, last_of}
+use Rattle.op_model.specs.Waiting.{change_length, waiting_length}
 pub use Rattle.op_model.specs.Tickets.{Ticket, ticket_of, ticket_behind}
 
 -- a commit: of the first count operations of the list, and whether it is through
@@ -78,13 +79,17 @@ abbrev pub taken_in : Option Commit → ℕ → ℕ
 taken_in None settled = settled
 taken_in (Some c) settled = c.count
 
--- the operations that wait for the next commit
-abbrev pub pending : State → List Op
-pending s = drop (taken_in s.commit s.held.settled) s.held.list
+-- the bytes of what waits for the next commit
+abbrev pub pending : State → ℕ
+pending s = waiting_length (taken_in s.commit s.held.settled) s.held.steps s.held.list
 
--- the records of those that wait, with those of these behind them, have at most 1,048,576 bytes
-abbrev pub has_record_room : State → List Op → Bool
-has_record_room s more = nat_le (stream_length (pending s) + stream_length more) MAX_PENDING
+-- the records that wait, with this many bytes of others behind them, have at most 1,048,576 bytes
+abbrev pub has_record_room : State → ℕ → Bool
+has_record_room s more = nat_le (pending s + more) MAX_PENDING
+
+-- the bytes that an edit adds to what waits
+abbrev pub edit_length : ReplicaHeld → Edit → ℕ
+edit_length h e = change_length e.change (made h.list h.replica e)
 
 -- what would be appended is refused with 8 where its records have no room
 abbrev pub with_room : Bool → Answer → Answer
@@ -124,7 +129,7 @@ edit_alone h e = unless_known (known_ticket h e) (new_edit_alone h e)
 abbrev pub new_edit_answer : State → Edit → Answer
 new_edit_answer s e =
     if s.failure_told then refused FAILED
-    else with_room (has_record_room s (made s.held.list s.held.replica e)) (new_edit_alone s.held e)
+    else with_room (has_record_room s (edit_length s.held e)) (new_edit_alone s.held e)
 
 -- the answers to an edit: where it was made before, its ticket, even behind a failure
 abbrev pub edit_answer : State → Edit → Answer
@@ -146,7 +151,7 @@ merge_alone h op =
 -- the answers of a merge, in the order of test: a failure that is told 9, those of the replica alone, no room for the record 8
 abbrev pub merge_answer : State → Op → Answer
 merge_answer s op =
-    if s.failure_told then refused FAILED else with_room (has_record_room s (op ∷ [])) (merge_alone s.held op)
+    if s.failure_told then refused FAILED else with_room (has_record_room s (record_length op)) (merge_alone s.held op)
 
 -- the answers of a begin, in the order of test: failed 44, busy 8, nothing new, no further version 7
 abbrev pub begin_answer : State → Answer

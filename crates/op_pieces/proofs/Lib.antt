@@ -3,3 +3,4 @@ pub mod CutLemmas
 pub mod AdvancedLemmas
 pub mod UnrolledLemmas
 pub mod LengthLemmas
+pub mod TypedLemmas

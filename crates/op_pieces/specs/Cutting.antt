@@ -1,5 +1,5 @@
 -- Operations, cut into pieces that are as long as they can be.
-use Rattle.std.specs.Prelude.{ℕ, ◌+◌, Bool, true, false, not, ◌&&◌, ◌==◌, nat_lt, nat_le, if◌then◌else◌, List, [], ◌∷◌, length, Option, Some, None}
+use Rattle.std.specs.Prelude.{◌≡◌, ℕ, ◌+◌, Bool, true, false, not, ◌&&◌, ◌==◌, nat_lt, nat_le, if◌then◌else◌, List, [], ◌∷◌, length, Option, Some, None}
 use Rattle.fixed_numbers.specs.declared.limits.TheConstants.{MAX_COUNTER, MAX_EDIT}
 use Rattle.op_ids.specs.Id.{Id, is_same}
 use Rattle.op_ids.specs.Clock.{advanced, is_clock, is_same_clock}
@@ -51,6 +51,15 @@ cut_behind p last (op ∷ ops) =
 abbrev pub cut : List Op → List Run
 cut [] = []
 cut (op ∷ ops) = cut_behind (single op) op ops
+
+-- a piece that may go on, and its last operation
+pub record Open : Type 0 where
+  pub piece : Run
+  pub last : Op
+
+-- the last operation is that of the piece
+abbrev pub IsOpen : Open → Type 0
+IsOpen it = end_of it.piece ≡ it.last
 
 -- counters and deps are in their ranges
 abbrev pub is_valid : Op → Bool

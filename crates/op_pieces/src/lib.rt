@@ -2,6 +2,7 @@
 #![tactic(auto)]
 
 mod clocks;
+mod cutter;
 mod cutting;
 mod laws;
 mod lengths;
@@ -9,6 +10,9 @@ mod next;
 mod piece;
 mod unrolled;
 
+pub use cutter::Cutter;
 pub use cutting::cut;
-pub use laws::{pieces_are_longest, pieces_are_pieces, pieces_make_up_the_operations};
+pub use laws::{
+    an_insert_makes_one_piece, pieces_are_longest, pieces_are_pieces, pieces_make_up_the_operations,
+};
 pub use piece::Piece;

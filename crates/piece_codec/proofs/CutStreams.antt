@@ -67,7 +67,7 @@ all_parts f (p ∷ ps) runs parts pieces =
     )
 
 -- counters and deps of operations are in their ranges
-are_valid : (ops : List Op) → AreOperations ops → list_all is_valid ops ≡ true
+pub are_valid : (ops : List Op) → AreOperations ops → list_all is_valid ops ≡ true
 are_valid [] fits = refl
 are_valid (op ∷ ops) fits = and_from _ _ (and_from _ _ (le-leb _ _ fits.0.id.in_range) fits.0.deps) (are_valid ops fits.1)
 

@@ -23,7 +23,7 @@ typed_length : (op : Op) (vs : List ℕ) → 6 * length vs ≤ stream_length (ty
 typed_length op [] = omega arith
 typed_length op (v ∷ vs) = omega (arith, typed_length (next_typed op v) vs)
 
-insert_length : (body : Body) → is_insert body ≡ true → body_length body ≡ origin_length (origin_of body) + 4
+pub insert_length : (body : Body) → is_insert body ≡ true → body_length body ≡ origin_length (origin_of body) + 4
 insert_length (Insert origin value) is = omega arith
 insert_length (Remove target) is = absurd (let never : ⊥ = cc in never)
 insert_length (AddMark mark from to) is = absurd (let never : ⊥ = cc in never)
@@ -47,3 +47,15 @@ single_long op (v ∷ vs) n none long = absurd (omega arith)
 pub run_long : (op : Op) (vs : List ℕ) (n : ℕ) → 0 < length vs → n ≡ length (run_bytes op vs) → 4 + n ≡ length (spelled_with op vs)
 run_long op [] n some long = absurd (omega arith)
 run_long op (v ∷ vs) n some long = omega (arith, long, length-run op (v ∷ vs), length-spelled_run op (v ∷ vs))
+
+-- that of a run, by that of its first operation
+pub run_has_length : (p : Run) → is_piece p ≡ true → 0 < length p.others
+    → length (spelled_piece p) ≡ record_length p.first + 2 + 4 * length p.others
+run_has_length p piece some = by_others p.first p.others piece some
+  where
+    by_others : (op : Op) (vs : List ℕ) → fits_behind op vs ≡ true → 0 < length vs
+        → length (spelled_with op vs) ≡ record_length op + 2 + 4 * length vs
+    by_others op [] piece some = absurd (omega arith)
+    by_others op (v ∷ vs) piece some =
+        let inserts = (and_parts (is_insert op.body) _ piece).0 in
+        omega (arith, length-spelled_run op (v ∷ vs), insert_length op.body inserts)

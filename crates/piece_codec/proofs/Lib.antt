@@ -9,5 +9,7 @@ pub mod PartialLaws
 pub mod PieceLaws
 pub mod RunLaws
 pub mod Scalars
+pub mod Shares
 pub mod StreamLaws
 pub mod StreamOperations
+pub mod TypedLaws

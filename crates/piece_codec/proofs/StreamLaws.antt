@@ -85,7 +85,7 @@ joined-append : (a b : List Run) → joined (a ++ b) ≡ joined a ++ joined b
 joined-append [] b = refl
 joined-append (p ∷ ps) b = ap (λ ops. ops_of p ++ ops) (joined-append ps b) ∙ sym (append_assoc (ops_of p) (joined ps) (joined b))
 
-spelled_pieces-append : (a b : List Run) → spelled_pieces (a ++ b) ≡ spelled_pieces a ++ spelled_pieces b
+pub spelled_pieces-append : (a b : List Run) → spelled_pieces (a ++ b) ≡ spelled_pieces a ++ spelled_pieces b
 spelled_pieces-append [] b = refl
 spelled_pieces-append (p ∷ ps) b =
     ap (λ bytes. spelled_piece p ++ bytes) (spelled_pieces-append ps b) ∙ sym (append_assoc (spelled_piece p) (spelled_pieces ps) (spelled_pieces b))

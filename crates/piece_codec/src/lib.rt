@@ -12,11 +12,13 @@ mod run;
 mod spelling;
 pub mod stream_laws;
 mod text;
+mod typed;
 
 pub use fits::every_piece_has_a_spelling;
 pub use pieces::{pieces_length, put_pieces};
 pub use record::take_piece;
 pub use spelling::{piece_length, put_piece};
+pub use typed::put_typed;
 
 #[cfg(test)]
 mod tests;

@@ -13,13 +13,10 @@ use Rattle.doc_core.proofs.FittingLemmas.{document_stays}
 use Rattle.op_model.specs.declared.op.Op.{Op}
 use Rattle.op_model.specs.Causality.{documents}
 use Rattle.op_model.specs.Spans.{with_number}
-use Rattle.model_laws.specs.Rising.{AllOver, IsUp}
-use Rattle.model_laws.proofs.Up.{has, has-with, none_over, up_with}
+use Rattle.op_model.specs.Rising.{AllOver, IsUp}
+use Rattle.op_model.proofs.RisingLemmas.{documents_up}
+use Rattle.model_laws.proofs.Up.{has, has-with, none_over}
 use Rattle.replica_core.specs.Docs.{numbers, AllStand, AreDocs}
-
-pub documents_up : (ops : List Op) → IsUp (documents ops)
-documents_up [] = tt
-documents_up (op ∷ ops) = up_with op.doc (documents ops) (documents_up ops)
 
 -- the numbers of the documents rise
 pub docs_up : (ds : List Doc) (ops : List Op) → AreDocs ds ops → IsUp (numbers ds)

@@ -11,7 +11,7 @@ use Rattle.replica_core.specs.Docs.{doc_number}
 use Rattle.op_model.specs.Placing.{Fits}
 use Rattle.doc_core.proofs.FittingLemmas.{draft_stays}
 use Rattle.op_model.specs.declared.op.Op.{Op}
-use Rattle.model_laws.specs.Rising.{AllOver, IsUp}
+use Rattle.op_model.specs.Rising.{AllOver, IsUp}
 use Rattle.replica_core.specs.Docs.{draft_numbers, numbers, AllDrafts, AllStand}
 
 -- one more draft

@@ -20,3 +20,4 @@ pub mod CountLemmas
 pub mod EditLemmas
 pub mod RevLemmas
 pub mod KnownLemmas
+pub mod WaitingLemmas

@@ -13,9 +13,8 @@ use Rattle.op_model.specs.declared.edit.Edit.{Edit}
 use Rattle.op_model.specs.Causality.{clock_of, documents, is_in_range, has_room, is_within_limits, FollowInTurn, IsCausallyClosed, MayFollow}
 use Rattle.op_model.specs.Made.{greatest_counter, numbered, bodies_of, made, size_of}
 use Rattle.op_model.specs.Records.{stream_length, record_length}
-use Rattle.model_laws.proofs.Ready.{clock-push}
+use Rattle.model_laws.proofs.Ready.{clock-push, documents-push}
 use Rattle.op_model.specs.Spans.{with_number}
-use Rattle.model_laws.proofs.Deciding.{number_swapped}
 use Rattle.model_laws.specs.Asking.{IsAskedRight}
 use Rattle.model_laws.proofs.EditLimits.{clock_of-numbered, length-bodies_of, length-numbered, is_within_limits-uncounted, is_within_limits-full}
 use Rattle.model_laws.proofs.Overfull.{IsOverfull-advanced_by}
@@ -91,11 +90,6 @@ length-advanced_by_some : (clock : List (ℕ × ℕ)) (replica : ℕ) (bs : List
 length-advanced_by_some clock replica [] some = absurd (omega arith)
 length-advanced_by_some clock replica (b ∷ bs) some =
     length-advanced_by (advanced clock replica) replica bs (length-advanced_twice clock replica)
-
--- the documents with one operation more
-pub documents-push : (ops : List Op) (op : Op) → documents (ops ++ op ∷ []) ≡ with_number op.doc (documents ops)
-documents-push [] op = refl
-documents-push (x ∷ ops) op = rw (documents-push ops op) (number_swapped x.doc op.doc (documents ops))
 
 number_twice : (n : ℕ) (ns : List ℕ) → with_number n (with_number n ns) ≡ with_number n ns
 number_twice n [] = grind (arith, nat_tests)

@@ -37,7 +37,8 @@ use Rattle.replica_core.specs.Fields.{AreFields, held_of}
 use Rattle.op_model.specs.Held.{ReplicaHeld, with_edit, with_merge}
 use Rattle.replica_core.specs.Held.{CanEdit, IsSound}
 use Rattle.replica_core.specs.Merging.{CanMerge}
-use Rattle.replica_core.proofs.LimitLemmas.{documents-made, documents-push, length-made}
+use Rattle.model_laws.proofs.Ready.{documents-push}
+use Rattle.replica_core.proofs.LimitLemmas.{documents-made, length-made}
 
 -- the causes of an edit, where none holds
 abbrev causes : Bool → Bool → Bool → Option ℕ

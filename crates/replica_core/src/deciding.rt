@@ -6,13 +6,14 @@ ghost use Rattle.op_model.specs.Causality.{documents, is_within_limits as is_wit
 ghost use Rattle.op_model.specs.Made.{edit_refusal as edit_refusal_of, made as made_of};
 ghost use Rattle.op_model.specs.Records.{stream_length};
 ghost use Rattle.op_model.specs.Spans.{with_number};
+ghost use Rattle.op_model.specs.Waiting.{change_length};
 ghost use Rattle.replica_core.specs.Deciding.{AreCounted};
 ghost use Rattle.replica_core.specs.Refusal.{number_of};
 ghost use Rattle.model_laws.specs.Asking.{IsAskedRight};
 
 use crate::docs::count;
 use crate::index::Index;
-use crate::lengths::made_length;
+use crate::lengths::{made_length, waiting_length};
 use crate::refusal::Refusal;
 use doc_core::Doc;
 use fixed_numbers::limits::{MAX_COUNTER, MAX_OPERATIONS, MAX_STREAM_LENGTH};
@@ -20,9 +21,9 @@ use op_ids::{Clock, ReplicaId};
 use op_list::OpSlice;
 use op_model::Edit;
 
-/// How many bytes the records take of the operations that an edit of a document makes, or why it is
-/// refused, by the first cause: `Stale` (6), `Range` (5), `Limit` (7). There is room for its
-/// document or not. Takes no memory. Linear in the document.
+/// How many bytes the operations that an edit of a document makes add to what waits for a commit,
+/// or why it is refused, by the first cause: `Stale` (6), `Range` (5), `Limit` (7). There is room
+/// for its document or not. Takes no memory. Linear in the document.
 pub fn edit_length(
     ops: &OpSlice<'_>,
     clock: &Clock,
@@ -38,7 +39,7 @@ pub fn edit_length(
     requires place { has_place
         ≡ nat_le (length (with_number edit.now.doc (documents ops.now))) MAX_DOCUMENTS }
     ensures length { IfOk result (λ bytes. (edit_refusal_of ops.now replica edit.now ≡ None)
-        × (bytes ≡ stream_length (made_of ops.now replica edit.now))) }
+        × (bytes ≡ change_length edit.now.change (made_of ops.now replica edit.now))) }
     ensures refused { IfErr result (λ e.
         edit_refusal_of ops.now replica edit.now ≡ Some (number_of e)) }
 {
@@ -55,7 +56,7 @@ pub fn edit_length(
     if !is_within_limits(ops, clock, index, has_place, replica, edit, bytes) {
         return Err(Refusal::Limit);
     }
-    Ok(bytes)
+    Ok(waiting_length(doc, clock, edit, bytes))
 }
 
 /// Whether the operations, and then those of an edit that asks right, keep the limits of a store.

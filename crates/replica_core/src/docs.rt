@@ -2,12 +2,12 @@ ghost use Rattle.std.specs.Prelude.{◌≡◌, ℕ, List, [], ◌++◌, length, 
 ghost use Rattle.doc_core.specs.Standing.{StandsFor};
 ghost use Rattle.replica_core.specs.Docs.{doc_number};
 ghost use Rattle.char_sequence.specs.Content.{FitAfter};
-ghost use Rattle.model_laws.specs.Rising.{IsUp};
+ghost use Rattle.op_model.specs.Rising.{IsUp};
 ghost use Rattle.op_model.specs.declared.op.Op.{Op};
 ghost use Rattle.op_model.specs.Causality.{IsCausallyClosed};
 ghost use Rattle.op_model.specs.Spans.{with_number};
 ghost use Rattle.op_model.specs.Text.{rev};
-ghost use Rattle.replica_core.specs.Decided.{IsPlace};
+ghost use Rattle.op_model.specs.Rising.{IsPlace};
 ghost use Rattle.replica_core.specs.Docs.{numbers, AllStand, AreDocs};
 
 use doc_core::{Doc, Made, SequenceError};

@@ -1,17 +1,16 @@
 ghost use Rattle.std.specs.Prelude.{◌≡◌, List, [], ◌∷◌, ◌++◌, IfOk, IfErr, OnOk};
 ghost use Rattle.op_model.specs.Placing.{Fits};
-ghost use Rattle.model_laws.specs.Rising.{IsUp};
+ghost use Rattle.op_model.specs.Rising.{IsUp};
 ghost use Rattle.op_model.specs.declared.op.Op.{Op};
 ghost use Rattle.op_model.specs.Causality.{documents, IsCausallyClosed};
 ghost use Rattle.op_model.specs.Spans.{with_number};
 ghost use Rattle.replica_core.specs.Docs.{draft_numbers, numbers as doc_numbers};
 ghost use Rattle.replica_core.specs.Docs.{AllDrafts, AllStand, AreDocs, AreDrafts};
 
-use crate::document_numbers::place;
 use crate::refusal::Refusal;
 use doc_core::{Doc, Draft, SequenceError};
 use op_list::OpSlice;
-use op_model::Op;
+use op_model::{Op, place_among};
 use std::alloc::{AllocError, Global};
 
 /// The documents of a causally closed list, whose numbers are given. An error is want of memory
@@ -73,7 +72,7 @@ fn apply(drafts: &mut Vec<Draft>, numbers: &[u32], op: &Op) -> Result<(), Refusa
         → AreDrafts drafts.new.items numbers.now (ops ++ op.now ∷ [])) }
     ensures memory { IfErr result (λ e. e ≡ Refusal.Memory) }
 {
-    match place(numbers, op.doc) {
+    match place_among(numbers, op.doc) {
         Err(_) => unreachable!(),
         Ok(at) => {
             let draft = &mut drafts[at];

@@ -39,9 +39,9 @@ impl Replica {
         self.put_edit(session, edit, decided)
     }
 
-    /// How many bytes the records take of the operations that a new edit would put behind the list,
-    /// and the place of its document, or why it is refused, by the first cause: `Stale` (6),
-    /// `Range` (5), `Limit` (7), `Steps` (10). Takes no memory. A few steps for clocks, a search by
+    /// How many bytes a new edit would add to what waits for a commit, and the place of its
+    /// document, or why it is refused, by the first cause: `Stale` (6), `Range` (5), `Limit` (7),
+    /// `Steps` (10). Takes no memory. A few steps for clocks, a search by
     /// halves for the document, and linear in it.
     pub fn decide_edit(&self, edit: &Edit) -> Result<Decided, Refusal>
         ensures decided { IfOk result (IsDecided self.now edit.now) }

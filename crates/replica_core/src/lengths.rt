@@ -9,6 +9,7 @@ ghost use Rattle.op_model.specs.Made.{bodies_of, end_of, is_inside, is_small, ma
 ghost use Rattle.op_model.specs.Records.{end_length, head_length as head_length_of, origin_length, stream_length};
 ghost use Rattle.op_model.specs.Records.{token_length as token_length_of};
 ghost use Rattle.op_model.specs.Text.{visible};
+ghost use Rattle.op_model.specs.Waiting.{change_length};
 ghost use Rattle.replica_core.specs.Deciding.{lengths};
 ghost use Rattle.model_laws.specs.Asking.{IsAskedRight};
 
@@ -35,6 +36,32 @@ pub fn made_length(doc: &Doc, clock: &Clock, replica: ReplicaId, edit: &Edit) ->
     heads_length(first, later, count)
         + tokens_length(edit.token, count)
         + bodies_length(doc, &edit.change)
+}
+
+/// How many bytes the operations that a small edit of a document makes add to what waits for a
+/// commit, where their single records take `bytes`: what two or more characters add is one record.
+/// Takes no memory.
+pub fn waiting_length(doc: &Doc, clock: &Clock, edit: &Edit, bytes: u64) -> u64
+    requires { is_small edit.now.change ≡ true }
+    ensures { (ops : List Op) (replica : ℕ) → StandsFor doc.now ops
+        → doc_number doc.now ≡ edit.now.doc → clock.now ≡ clock_of ops → IsAskedRight ops edit.now
+        → bytes ≡ stream_length (made_of ops replica edit.now)
+        → result ≡ change_length edit.now.change (made_of ops replica edit.now) }
+{
+    match &edit.change {
+        Change::Insert { at, text } => {
+            let others = text.as_slice().len() as u64 - 1;
+            if others == 0 {
+                return bytes;
+            }
+            head_length(clock.len())
+                + tokens_length(edit.token, 1)
+                + insert_length(has_origin(doc, *at as usize))
+                + 2
+                + 4 * others
+        }
+        Change::Delete { .. } | Change::Mark { .. } | Change::Unmark { .. } => bytes,
+    }
 }
 
 /// How many bytes the tokens of `count` records take.

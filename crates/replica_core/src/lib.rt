@@ -5,7 +5,6 @@ mod counting;
 mod decided;
 mod deciding;
 mod docs;
-mod document_numbers;
 mod drafts;
 mod editing;
 mod following;

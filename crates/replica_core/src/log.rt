@@ -1,7 +1,7 @@
 ghost use Rattle.std.specs.Prelude.{◌≡◌, OnOk, OnErr, IsErrOf};
 ghost use Rattle.char_sequence.specs.Content.{FitAfter};
 ghost use Rattle.op_model.specs.Causality.{made_by};
-ghost use Rattle.replica_core.specs.Decided.{IsPlace};
+ghost use Rattle.op_model.specs.Rising.{IsPlace};
 ghost use Rattle.replica_core.specs.Docs.{numbers, AreDocs};
 ghost use Rattle.replica_core.specs.Log.{HasRoom, IsAppended, IsSame};
 

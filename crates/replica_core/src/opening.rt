@@ -7,7 +7,6 @@ ghost use Rattle.replica_core.specs.Deciding.{AreCounted, AreKnown};
 ghost use Rattle.replica_core.specs.Indexes.{IsIndexOf};
 
 use crate::counting::advance;
-use crate::document_numbers::add;
 use crate::drafts::documents_of;
 use crate::following::may_follow;
 use crate::index::Index;
@@ -16,7 +15,7 @@ use doc_core::Doc;
 use fixed_numbers::limits::MAX_DOCUMENTS;
 use op_ids::Clock;
 use op_list::OpSlice;
-use op_model::Op;
+use op_model::{Op, put_among};
 use std::alloc::Global;
 
 /// The clock, the documents and the index of a causally closed list. `BadOperation` (47) exactly
@@ -44,7 +43,7 @@ fn checked(alloc: Global, list: &OpSlice<'_>) -> Result<(Clock, Vec<u32>, Index)
     let mut index = Index::new(alloc);
     for i in 0..list.len() {
         let op = list.get(alloc, i)?;
-        add(&mut numbers, op.doc)?;
+        put_among(&mut numbers, op.doc)?;
         let has_place = numbers.len() <= MAX_DOCUMENTS;
         if !may_follow(&list.front(i), &clock, &index, &op, has_place) {
             return Err(Refusal::BadOperation);

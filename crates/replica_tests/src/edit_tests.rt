@@ -94,10 +94,15 @@ fn edits_keep_their_limits(rt: HostRuntime) -> Result<(), Fail> {
 
 #[test]
 fn the_length_of_an_edit_is_told_before_it_is_put(rt: HostRuntime) -> Result<(), Fail> {
-    let asks = [(0, Ask::Put(Wish::Insert(0, "a"))), (0, Ask::Len)];
+    // One character has its own record; two are one record, and not two of 87 bytes.
+    let asks = [
+        (0, Ask::Put(Wish::Insert(0, "a"))),
+        (0, Ask::Put(Wish::Insert(1, "bc"))),
+        (0, Ask::Len),
+    ];
     assert_eq!(rt;
         answers(rt.alloc(), &[1], &asks)?.as_slice(),
-        [39, 1].as_slice()
+        [39, 93, 3].as_slice()
     );
     Ok(())
 }

@@ -71,7 +71,7 @@ fn ticket_rev(replica: &mut Replica, edit: &Edit) -> usize {
     }
 }
 
-/// How many bytes the records take of an edit of document 1 that is put behind the list, or 0.
+/// How many bytes an edit of document 1 that is put behind the list adds to what waits, or 0.
 pub fn put_length(replica: &mut Replica, change: Option<Change>) -> usize {
     match change {
         Some(change) => put(replica, &first_edit(change)),

@@ -47,11 +47,13 @@ some_by_both body head rest = rw (root_is_head body, head, rest) refl
 -- the numbers of a head
 pub record Says (body : List ℕ) : Type 0 where
   pub size : length body ≡ 4088
+  pub start : is_magic (magic_of body) ≡ true
   pub version : 1 ≤ version_of body
   pub replica : 1 ≤ replica_of body
   pub stream : stream_length_of body ≤ 1073741824
   pub operations : count_of body ≤ 16777216
   pub tables : table_count body ≡ tables_for (stream_length_of body)
+  pub gap : gap_of body ≡ 0
 
 pub head_says : (body : List ℕ) → is_head body ≡ true → Says body
 unfolding is_head is_named are_counts
@@ -65,11 +67,13 @@ head_says body holds =
     let limits = and_parts _ _ most.0 in
     record {
       size = eqb-true _ _ front.0;
+      start = names.0;
       version = leb-true _ _ names.1;
       replica = leb-true _ _ named.1;
       stream = leb-true _ _ limits.0;
       operations = leb-true _ _ limits.1;
       tables = eqb-true _ _ most.1;
+      gap = eqb-true _ _ counts.1;
     }
 
 pub most_tables : (n : ℕ) → n ≤ 1073741824 → tables_for n ≤ 256

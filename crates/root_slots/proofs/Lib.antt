@@ -4,3 +4,4 @@ pub mod LiveLemmas
 pub mod SlotReads
 pub mod SlotWrites
 pub mod SpellingLemmas
+pub mod WrittenLemmas

@@ -46,7 +46,7 @@ live_on file slot stale_open head whole it =
       picked = sym (live_first file whole) ∙ it.picked;
       other = it.other ∙ ap (λ b. b == 1) (gate_first file (1 - slot) (omega arith));
       spells = rw (sym (body_first file slot it.below)) it.spells;
-      bytes = rw (sym (body_first file slot it.below)) it.bytes;
+      written = rw (sym (body_first file slot it.below)) it.written;
     }
 
 -- a slot is 0 or 1

@@ -1,10 +1,10 @@
 -- Which root slot of a file is live, and what it says.
-use Rattle.std.specs.Prelude.{◌≡◌, ℕ, ◌-◌, ◌<◌, ◌≤◌, ◌==◌, get_or, Bool, if◌then◌else◌, List, length, Result, Ok, Err}
+use Rattle.std.specs.Prelude.{◌≡◌, ℕ, ◌-◌, ◌<◌, ◌≤◌, ◌==◌, Bool, if◌then◌else◌, List, length, Result, Ok, Err}
 use Rattle.fixed_numbers.specs.declared.refusals.TheConstants.{BAD_ROOT}
 use Rattle.fixed_numbers.specs.declared.sizes.TheConstants.{SLOTS_SIZE}
 use Rattle.disk_trait.specs.declared.facts.DiskFacts.{Ghosts}
 use Rattle.root_slots.specs.Root.{is_root}
-use Rattle.root_slots.specs.Body.{Root, IsRoot, Spells}
+use Rattle.root_slots.specs.Body.{Root, IsRoot, Spells, body_bytes}
 use Rattle.root_slots.specs.Slots.{gate, body, live}
 
 -- which slot is live, 0 or 1, and whether the other one's gate reads 1
@@ -19,7 +19,7 @@ pub record IsLive (file : List ℕ) (slot : ℕ) (stale_open : Bool) (head : Roo
   pub picked : live file ≡ Ok slot
   pub other : stale_open ≡ (gate (1 - slot) file == 1)
   pub spells : Spells (body slot file) head
-  pub bytes : (i : ℕ) → get_or (body slot file) i 0 < 256
+  pub written : body slot file ≡ body_bytes head
 
 -- what was read of a disk's slots: which one is live, its root, and the size of the file
 pub record AreRead {D : Type 0} (facts : Ghosts D) (disk : D) (slots : SlotPair) (head : Root) (file_size : ℕ) : Type 0 where

@@ -105,6 +105,7 @@ impl RootBody {
     pub fn read(alloc: Global, body: &[u8]) -> Result<Option<RootBody>, AllocError>
         ensures valid { IfOk result (λ found. IsSome found ↔ (is_root body.now ≡ true)) }
         ensures says { IfOk result (λ found. IfSome found (λ root. root_of body.now ≡ root)) }
+        ensures written { IfOk result (λ found. IfSome found (λ root. body.now ≡ body_bytes root)) }
     {
         if !is_head(body) {
             return Ok(None);

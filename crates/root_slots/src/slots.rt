@@ -1,7 +1,7 @@
 //! Which root slot is live, of the bytes of both, and what it says.
 ghost use Rattle.std.specs.Prelude.{◌≡◌, ◌⊎◌, ◌-◌, ◌<◌, ◌==◌, true, length, IfOk, IfErr, IsOk, Ok};
 ghost use Rattle.fixed_numbers.specs.declared.sizes.TheConstants.{SLOTS_SIZE};
-ghost use Rattle.root_slots.specs.Body.{IsRoot, Spells};
+ghost use Rattle.root_slots.specs.Body.{IsRoot, Spells, body_bytes};
 ghost use Rattle.root_slots.specs.Root.{version_of};
 ghost use Rattle.root_slots.specs.Slots.{gate, body, greater, live};
 ghost use Rattle.root_slots.specs.Live.{IsLive, rooted, live_root};
@@ -93,6 +93,7 @@ fn live_slot(slots: &[u8]) -> Result<u64, RootsError>
 // What a body says, or 43 where it is no root body; 1 for want of memory.
 fn root_of(alloc: Global, body: &[u8]) -> Result<RootBody, RootsError>
     ensures says { IfOk result (λ root. Spells body.now root) }
+    ensures written { IfOk result (λ root. body.now ≡ body_bytes root) }
     ensures valid { IfOk result (λ root. IsRoot root) }
     ensures fault { IfErr result (λ e. NamesRootFault e (rooted body.now)) }
     ensures refused { IfErr result (λ e. (e ≡ Memory) ⊎ (e ≡ BadRoot)) }

@@ -8,7 +8,7 @@ use Rattle.op_model.specs.Made.{made, edit_refusal, is_at_rev, is_inside, is_sma
 use Rattle.op_model.specs.Held.{ReplicaHeld}
 use Rattle.op_model.specs.Machine.{State, Answer, Ticket, ticket, ticket_of, applied, refused}
 use Rattle.op_model.specs.Machine.{acknowledged, EditStep, AckStep, IsRefusal, known_ticket, unless_known, new_edit_alone, new_edit_answer}
-use Rattle.op_model.specs.Machine.{edit_answer_unless, has_record_room, with_room, has_places}
+use Rattle.op_model.specs.Machine.{edit_answer_unless, has_record_room, edit_length, with_room, has_places}
 use Rattle.model_laws.proofs.Tickets.{edit_cases, known_is, was_made, is_new}
 use Rattle.session_threads.specs.HubCalls.{IsQuiet, is_edit_refusal}
 
@@ -52,7 +52,7 @@ pub edit_refusals : (s next : State) (session : ℕ) (e : Edit) (n : ℕ)
     → EditStep s session e (refused n) next → IsTrue (is_edit_refusal n)
 edit_refusals s next session e n (is, same) =
     by_known (known_ticket s.held e) (new_edit_answer s e) n
-    (by_telling s.failure_told (has_record_room s (made s.held.list s.held.replica e)) (new_edit_alone s.held e) n
+    (by_telling s.failure_told (has_record_room s (edit_length s.held e)) (new_edit_alone s.held e) n
     (by_cause s.held e (edit_refusal s.held.list s.held.replica e) n (of_tests _ _ _))) is
 
 -- ---- what stays quiet

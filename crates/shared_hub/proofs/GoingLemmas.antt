@@ -86,8 +86,8 @@ pub meeting_goes : {D : Type 0} (facts : Ghosts D) (l : LockedHeld) (f : Flusher
 meeting_goes facts l f (Ok (Begun n)) l' f' leaves =
     record {
       list = (pending l, leaves.list);
-      live = rw leaves.begins.current (grind arith);
-      tells = rw leaves.begins.disk ((λ t. t), (λ t. t));
+      live = rw leaves.begins.begins.current (grind arith);
+      tells = rw leaves.begins.begins.disk ((λ t. t), (λ t. t));
     }
 meeting_goes facts l f (Ok (Settled n)) l' f' leaves =
     rw leaves.flusher (record {

@@ -1,13 +1,13 @@
-ghost use Rattle.std.specs.Prelude.{◌≡◌, ◌+◌, ◌≤◌, ◌<◌, List, ◌++◌, ◌∷◌, length, take, drop, nat_le, IfOk, OnOk, MatchOption};
+ghost use Rattle.std.specs.Prelude.{◌≡◌, ◌+◌, ◌<◌, List, ◌++◌, length, nat_le, IfOk, OnOk, MatchOption};
 ghost use Rattle.op_model.specs.declared.op.Op.{Op as Operation};
 ghost use Rattle.std.specs.List.{list_all};
-ghost use Rattle.op_model.specs.Spans.{with_number};
+ghost use Rattle.op_model.specs.Rising.{IsUp};
 ghost use Rattle.op_model.specs.Records.{stream_length};
 ghost use Rattle.op_model.specs.Causality.{clock_of, documents as documents_of, is_in_range as is_in_its_range, is_within_limits as is_within_limits_of};
 
 use fixed_numbers::limits::{MAX_DOCUMENTS, MAX_OPERATIONS, MAX_REPLICAS, MAX_STREAM_LENGTH};
 use op_ids::Clock;
-use op_model::Op;
+use op_model::{Op, put_among};
 use std::alloc::{AllocError, Global};
 
 /// Whether the operations, and then those made, keep the limits of a store. The clock counts all of
@@ -92,39 +92,15 @@ fn documents(alloc: Global, ops: &[Op], made: &[Op]) -> Result<Vec<u32>, AllocEr
 /// Puts the documents of operations among those of others that come behind them. An error is want
 /// of memory (1).
 fn insert_documents(found: &mut Vec<u32>, ops: &[Op]) -> Result<(), AllocError>
-    ensures { OnOk result ((behind : List Operation) → found.old.items ≡ documents_of behind
+    requires { IsUp found.old.items }
+    ensures up { OnOk result (IsUp found.new.items) }
+    ensures found { OnOk result ((behind : List Operation) → found.old.items ≡ documents_of behind
         → found.new.items ≡ documents_of (ops.now ++ behind)) }
 {
     let mut i = ops.len();
     while i > 0 {
         i -= 1;
-        insert_rising(found, ops[i].doc)?;
+        put_among(found, ops[i].doc)?;
     }
     Ok(())
-}
-
-fn insert_rising(documents: &mut Vec<u32>, doc: u32) -> Result<(), AllocError>
-    ensures { OnOk result (documents.new.items ≡ with_number doc documents.old.items) }
-{
-    if let Some(at) = place_rising(documents, doc) {
-        documents.insert(at, doc)?;
-    }
-    Ok(())
-}
-
-/// Where a document goes in a rising list, or `None` where it is there.
-fn place_rising(documents: &[u32], doc: u32) -> Option<usize>
-    ensures { MatchOption result (with_number doc documents.now ≡ documents.now)
-        (λ at. (at ≤ length documents.now)
-        × (with_number doc documents.now ≡ take at documents.now ++ doc ∷ drop at documents.now)) }
-{
-    for (i, other) in documents.iter().enumerate() {
-        if doc < *other {
-            return Some(i);
-        }
-        if doc == *other {
-            return None;
-        }
-    }
-    Some(documents.len())
 }

@@ -10,6 +10,8 @@ mod commit_tests;
 #[cfg(test)]
 mod load_tests;
 #[cfg(test)]
+mod moving_tests;
+#[cfg(test)]
 mod mute_tests;
 #[cfg(test)]
 mod number_tests;

@@ -1,45 +1,13 @@
 //! Which files are opened, and with which numbers the others are refused.
 use crate::test_files::{
     BOTH, INSERT_A, INSERT_B, MADE, ONE, ONE_OF_FIRST, RUN_AB, RUN_OF_FIRST, RUN_OF_SECOND,
-    RUN_OF_THIRD, TWO, TWO_OF_FIRST, bytes_of, file_with,
+    RUN_OF_THIRD, TWO, TWO_OF_FIRST, file_with,
 };
-use crate::test_store::{begin, file_of, finish, ops, replica};
-use change_codec::put_ops;
+use crate::test_store::{begin, disk_of, file_of, finish, has_records, ops, write};
 use disk_trait::{Disk, FaultDisk, MemDisk};
 use group_commit::{OpenError, Store};
-use op_ids::ReplicaId;
-use op_list::OpList;
 use std::alloc::Global;
 use std::test::Fail;
-
-// Writes these bytes, at most 4,096.
-fn write(disk: &mut MemDisk, at: u64, bytes: &[u8]) -> Result<(), Fail> {
-    disk.write_at(at, bytes)?;
-    Ok(())
-}
-
-fn sync(disk: &mut MemDisk) -> Result<(), Fail> {
-    disk.sync()?;
-    Ok(())
-}
-
-// Writes a file, page by page.
-fn fill(disk: &mut MemDisk, file: &[u8]) -> Result<(), Fail> {
-    let mut at: u64 = 0;
-    for page in file.chunks(4096) {
-        write(disk, at, page)?;
-        at = at.saturating_add(4096);
-    }
-    sync(disk)
-}
-
-// A disk with a file of these pages, each filled with zeros.
-fn disk_of(alloc: Global, pages: &[&str]) -> Result<Box<MemDisk>, Fail> {
-    let file = file_with(alloc, pages)?;
-    let mut disk = Box::new(alloc, MemDisk::new(alloc, 8 * 4096, 64)?)?;
-    fill(&mut disk, &file)?;
-    Ok(disk)
-}
 
 // The file after a commit of one insert.
 fn first_disk(alloc: Global) -> Result<Box<MemDisk>, Fail> {
@@ -52,30 +20,6 @@ fn number_of<D: Disk + Drop>(alloc: Global, disk: D) -> u8 {
         Ok(_) => 0,
         Err(fault) => fault.cause.number(),
     }
-}
-
-// The replica and the operations of a file.
-fn loaded(alloc: Global, disk: MemDisk) -> Result<(ReplicaId, OpList), Fail> {
-    match Store::load(alloc, disk) {
-        Ok(loaded) => Ok((loaded.replica, loaded.ops)),
-        Err(_) => Err("refused".into()),
-    }
-}
-
-// The records of operations.
-fn records_of(alloc: Global, ops: &OpList) -> Result<Vec<u8>, Fail> {
-    let mut bytes = Vec::new(alloc);
-    let copy = ops.as_slice().copy_from(alloc, 0)?;
-    put_ops(&copy, &mut bytes)?;
-    Ok(bytes)
-}
-
-// Whether a file is opened with these records, and of the replica.
-fn has_records(alloc: Global, disk: MemDisk, count: usize, records: &str) -> Result<bool, Fail> {
-    let (owner, ops) = loaded(alloc, disk)?;
-    let found = records_of(alloc, &ops)?;
-    let expected = bytes_of(alloc, records)?;
-    Ok(ops.len() == count && found == expected && owner.bytes() == replica()?.bytes())
 }
 
 // Whether the file of these pages is.

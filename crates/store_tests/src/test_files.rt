@@ -60,6 +60,15 @@ pub(crate) const RUN_OF_THIRD: &str = "0100000000000000 5054585450473033 0000000
 pub(crate) const RUN_OF_FIRST: &str = "0100000000000000 5054585450473031 0000000000000002 A
     000000000000002d 0000000000000002 00000001 00000000 00000003";
 
+/// That run and the third insert, one behind the other.
+pub(crate) const RUN_THEN_C: &str =
+    "00000029 05 00000001 0000000000000001 A 00 00 0002 00000061 00000062
+    00000053 01 00000001 0000000000000003 A 01 A 0000000000000002 01 0000000000000002 A 00000063";
+
+/// A slot that is open after a commit of these, behind two commits in the first format.
+pub(crate) const MOVED: &str = "0100000000000000 5054585450473033 0000000000000004 A
+    0000000000000084 0000000000000003 00000001 00000000 00000003";
+
 /// Appends the bytes that pairs of digits say.
 fn put_digits(digits: &str, bytes: &mut Vec<u8>) -> Result<(), Fail> {
     let mut high = None;

@@ -1,9 +1,10 @@
 //! What the tests share of stores: their calls, and their file.
-use crate::test_files::bytes_of;
+use crate::test_files::{bytes_of, file_with};
 use change_codec::{Format, put_ops, take_ops};
 use disk_trait::{Disk, MemDisk};
 use group_commit::{Phase, Store, StoreError};
 use op_ids::ReplicaId;
+use op_list::OpList;
 use op_model::Op;
 use std::alloc::Global;
 use std::test::Fail;
@@ -81,4 +82,62 @@ fn read(alloc: Global, disk: &mut MemDisk) -> Result<Vec<u8>, Fail> {
 pub(crate) fn file_of(alloc: Global, store: Box<Store<MemDisk>>) -> Result<Vec<u8>, Fail> {
     let mut disk = Box::into_inner(store).into_disk();
     read(alloc, &mut disk)
+}
+
+/// Writes these bytes, at most 4,096.
+pub(crate) fn write(disk: &mut MemDisk, at: u64, bytes: &[u8]) -> Result<(), Fail> {
+    disk.write_at(at, bytes)?;
+    Ok(())
+}
+
+fn sync(disk: &mut MemDisk) -> Result<(), Fail> {
+    disk.sync()?;
+    Ok(())
+}
+
+/// Writes a file, page by page.
+fn fill(disk: &mut MemDisk, file: &[u8]) -> Result<(), Fail> {
+    let mut at: u64 = 0;
+    for page in file.chunks(4096) {
+        write(disk, at, page)?;
+        at = at.saturating_add(4096);
+    }
+    sync(disk)
+}
+
+/// A disk with a file of these pages, each filled with zeros.
+pub(crate) fn disk_of(alloc: Global, pages: &[&str]) -> Result<Box<MemDisk>, Fail> {
+    let file = file_with(alloc, pages)?;
+    let mut disk = Box::new(alloc, MemDisk::new(alloc, 8 * 4096, 64)?)?;
+    fill(&mut disk, &file)?;
+    Ok(disk)
+}
+
+/// The replica and the operations of a file.
+fn loaded(alloc: Global, disk: MemDisk) -> Result<(ReplicaId, OpList), Fail> {
+    match Store::load(alloc, disk) {
+        Ok(loaded) => Ok((loaded.replica, loaded.ops)),
+        Err(_) => Err("refused".into()),
+    }
+}
+
+/// The records of operations.
+fn records_of(alloc: Global, ops: &OpList) -> Result<Vec<u8>, Fail> {
+    let mut bytes = Vec::new(alloc);
+    let copy = ops.as_slice().copy_from(alloc, 0)?;
+    put_ops(&copy, &mut bytes)?;
+    Ok(bytes)
+}
+
+/// Whether a file is opened with these records, and of the replica.
+pub(crate) fn has_records(
+    alloc: Global,
+    disk: MemDisk,
+    count: usize,
+    records: &str,
+) -> Result<bool, Fail> {
+    let (owner, ops) = loaded(alloc, disk)?;
+    let found = records_of(alloc, &ops)?;
+    let expected = bytes_of(alloc, records)?;
+    Ok(ops.len() == count && found == expected && owner.bytes() == replica()?.bytes())
 }

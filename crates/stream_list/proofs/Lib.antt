@@ -1,4 +1,5 @@
 pub mod AtFront
 pub mod FirstPass
+pub mod PackLemmas
 pub mod SecondPass
 pub mod Surveyed

@@ -3,10 +3,12 @@
 #![tactic(auto)]
 
 mod front;
+mod packing;
 mod read_error;
 mod reading;
 mod survey;
 mod unrolling;
 
+pub use packing::packed;
 pub use read_error::ReadError;
 pub use reading::read_stream;

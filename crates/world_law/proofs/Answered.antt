@@ -18,6 +18,7 @@ use Rattle.op_model.specs.Machine.{acknowledged, operations, clock, refused, hol
 use Rattle.op_model.specs.Machine.{ticket_behind, token_ticket, known_ticket, merge_answer, merge_alone, merge_answer_unless}
 use Rattle.op_model.specs.Machine.{EditStep, MergeStep, BeginStep, DeviceStep, SettleStep, AckStep, TellStep, HaveStep, Step}
 use Rattle.op_model.specs.Machine.{reopened, CrashLeavesOf, CrashLeaves}
+use Rattle.op_model.specs.Records.{record_length}
 use Rattle.model_laws.proofs.LastOf.{last_of-behind, last_of-take, last_of-within, numbered_other}
 use Rattle.model_laws.proofs.Tickets.{edit_cases, was_made, is_new}
 use Rattle.world_law.specs.World.{World, HasMachine, told_by}
@@ -86,7 +87,7 @@ is_foreign false false r answer e = refl
 
 merge_keeps : (s next : State) (peer : ℕ) (op : Op) (a : Answer) → MergeStep s peer op a next → KeepsAnswers s next
 merge_keeps s next peer op applied (is, at) token t h =
-    let alone = applied_alone s.failure_told (has_record_room s (op ∷ [])) (merge_alone s.held op) is in
+    let alone = applied_alone s.failure_told (has_record_room s (record_length op)) (merge_alone s.held op) is in
     let foreign : (op.id.replica == s.held.replica) ≡ false =
     is_foreign (is_known (clock_of s.held.list) op) (op.id.replica == s.held.replica) (is_ready (clock_of s.held.list) op.id.replica op.deps) (merge_answer_unless s.held (first_failed s.held.list op)) alone in
     rw at (grown s (with_merge s.held peer op) (op ∷ []) token t refl refl refl (rw foreign refl) h)

@@ -19,11 +19,12 @@ use Rattle.op_model.specs.Machine.{Commit, State, Ticket, Event, edit, merge, be
 use Rattle.op_model.specs.Machine.{settle, ack, tell, have, Answer, ticket, applied, known, early}
 use Rattle.op_model.specs.Machine.{begun, nothing_new, idle, goes_on, goes_through, settled_to}
 use Rattle.op_model.specs.Machine.{acknowledged, operations, clock, refused, holding}
-use Rattle.op_model.specs.Machine.{with_failure_told, has_record_room, with_room, new_edit_alone}
+use Rattle.op_model.specs.Machine.{with_failure_told, has_record_room, edit_length, with_room, new_edit_alone}
 use Rattle.op_model.specs.Machine.{new_edit_answer, edit_answer_unless, merge_answer, merge_alone}
 use Rattle.op_model.specs.Machine.{merge_answer_unless, through_of, through, EditStep, MergeStep}
 use Rattle.op_model.specs.Machine.{BeginStep, DeviceStep, SettleStep, AckStep, TellStep, HaveStep}
 use Rattle.op_model.specs.Machine.{Step, opened, reopened, CrashLeavesOf, CrashLeaves}
+use Rattle.op_model.specs.Records.{record_length}
 use Rattle.model_laws.proofs.Growth.{closed_push}
 use Rattle.model_laws.proofs.Makes.{closed_made}
 use Rattle.model_laws.proofs.Tickets.{edit_cases, was_made, is_new}
@@ -75,7 +76,7 @@ limits_of false i s l e = absurd (cc)
 edit_within : (s : State) (e : Edit) (t : Ticket) → new_edit_answer s e ≡ ticket t
     → is_within_limits (s.held.list ++ made s.held.list s.held.replica e) ≡ true
 edit_within s e t is =
-    let none = ticket_unless s.held e t (edit_refusal s.held.list s.held.replica e) (ticket_alone s.failure_told (has_record_room s (made s.held.list s.held.replica e)) t (new_edit_alone s.held e) is) in
+    let none = ticket_unless s.held e t (edit_refusal s.held.list s.held.replica e) (ticket_alone s.failure_told (has_record_room s (edit_length s.held e)) t (new_edit_alone s.held e) is) in
     limits_of (is_at_rev (rev s.held.list e.doc) e.rev) (is_inside (length (visible s.held.list e.doc)) e.change) (is_small e.change)
     (is_within_limits (s.held.list ++ made s.held.list s.held.replica e)) none
 
@@ -132,7 +133,7 @@ applied_alone false false answer is = is
 merge_made : (bag : List Message) (s : State) (peer : ℕ) (op : Op) → IsSound bag s → IsInBag bag op
     → merge_answer s op ≡ applied → Goes bag s (holding s (with_merge s.held peer op))
 merge_made bag s peer op h told is =
-    let alone = applied_alone s.failure_told (has_record_room s (op ∷ [])) (merge_alone s.held op) is in
+    let alone = applied_alone s.failure_told (has_record_room s (record_length op)) (merge_alone s.held op) is in
     let passes = merge_passes (is_known (clock_of s.held.list) op) (op.id.replica == s.held.replica)
     (is_ready (clock_of s.held.list) op.id.replica op.deps) (merge_answer_unless s.held (first_failed s.held.list op)) alone in
     let follows = passed_follows s.held.list op passes.0 (applied_unless s.held (first_failed s.held.list op) passes.1) in

@@ -1,12 +1,13 @@
-use Rattle.std.proofs.Common.{◌≡◌, ◌++◌, length, ap, sym, ◌∙◌, refl, inl}
+use Rattle.std.proofs.Common.{◌≡◌, [], ◌++◌, length, ap, sym, ◌∙◌, refl, inl}
 use Rattle.std.proofs.lemmas.Result.{err_from_is_err_and}
 use Rattle.root_slots.specs.Root.{format_of, count_of}
 use Rattle.root_slots.specs.Slots.{body}
-use Rattle.group_commit.specs.Saved.{with_stream, in_front}
+use Rattle.group_commit.specs.Saved.{with_stream}
 use Rattle.group_commit.specs.Image.{stored}
 use Rattle.group_commit.specs.Loading.{stream_at}
 use Rattle.group_commit.proofs.Faults.{names_on, quiet_ops, fault_of_ops}
 use Rattle.page_file.proofs.Looked.{looked_on}
+use Rattle.group_commit.proofs.MovingLemmas.{can_move}
 use Rattle.group_commit.proofs.ImageReads.{stream_fault, stored_stream, stands_read}
 use Rattle.group_commit.proofs.load_image.read_image.Goals as goal
 
@@ -45,7 +46,7 @@ returns-in_err-ops-clause-fault g c = λ told.
     let read : stream_at head file ≡ _ = ap (stream_at head) (sym (c.in_ok-roots.ensures.looks.looks told).same) ∙ c.in_ok-pages.ensures.read.stream (c.load_roots.ensures.looks.tells.1 told) in
     let holds = stored_stream file _ _ head c.in_ok-pages.field-0.bytes.items live read in
     let count : c.operations.result ≡ count_of (body c.in_ok-roots.field-0.roots.slot file) = c.operations.ensures ∙ ap (λ r. r.operations) (sym live.spells.says) in
-    let format : c.format.result ≡ format_of (body c.in_ok-roots.field-0.roots.slot file) = c.format.ensures ∙ ap (λ r. r.format) (sym live.spells.says) in
+    let format : c.format-format.result ≡ format_of (body c.in_ok-roots.field-0.roots.slot file) = c.format-format.ensures ∙ ap (λ r. r.format) (sym live.spells.says) in
     rw (p.1, p.2) (fault_of_ops file (body c.in_ok-roots.field-0.roots.slot file) c.in_ok-pages.field-0.bytes.items _ holds
     (rw (sym count, sym format) c.in_err-ops.ensures.fault))
 
@@ -59,6 +60,12 @@ pub returns-in_err-current-clause-fault : goal.returns-in_err-current-clause-fau
 returns-in_err-current-clause-fault g c = λ told.
     let p = err_from_is_err_and c.from_residual-in_err-current.result c.from_residual-in_err-current.ensures.1 in
     rw (p.1, p.2) (inl tt)
+
+pub returns-in_err-anew-clause-looks : goal.returns-in_err-anew-clause-looks
+returns-in_err-anew-clause-looks g c =
+    let p = err_from_is_err_and c.from_residual-in_err-anew.result c.from_residual-in_err-anew.ensures.1 in
+    rw (p.1, p.2)
+    (looked_on g.D.DiskFacts 0 0 c.args.disk.now c.load_roots.new.disk c.read_stream.new.disk c.in_ok-roots.ensures.looks c.in_ok-pages.ensures.looks)
 
 pub returns-in_err-current-clause-looks : goal.returns-in_err-current-clause-looks
 returns-in_err-current-clause-looks g c =
@@ -77,17 +84,23 @@ returns-clause-read g c = record {
       let told' = c.load_roots.ensures.looks.tells.1 told in
       rw (c.in_ok-stream.ensures ∙ ap (λ s. s ++ c.deref.result.now) c.new.ensures ∙ c.deref.ensures.value)
       (stands_read file c.in_ok-roots.field-0.roots.slot c.in_ok-roots.field-0.roots.stale_open head (with_stream c.in_ok-current.current c.in_ok-pages.field-0.bytes.items)
-      (in_front c.in_ok-current.next c.in_ok-pages.field-0.bytes.items) live
-      (c.in_ok-current.ensures.body (body c.in_ok-roots.field-0.roots.slot file) live.bytes live.spells)
+      (with_stream c.in_ok-current.next []) live
+      (c.in_ok-current.ensures.written ∙ sym live.written)
       (rw (sym same) (c.in_ok-pages.ensures.read.stream told'))
       (rw (c.in_ok-current.ensures.pages, sym same) (c.in_ok-pages.ensures.read.pages told')));
   long = ap length (c.in_ok-stream.ensures ∙ ap (λ s. s ++ c.deref.result.now) c.new.ensures ∙ c.deref.ensures.value) ∙ c.in_ok-pages.ensures.read.long ∙ ap (λ r. r.stream_length) (sym c.in_ok-current.ensures.says);
+  moving =
+      rw (c.in_ok-stream.ensures ∙ ap (λ s. s ++ c.deref.result.now) c.new.ensures ∙ c.deref.ensures.value)
+      (can_move (with_stream c.in_ok-current.current c.in_ok-pages.field-0.bytes.items) c.in_ok-ops.ops c.in_ok-anew.anew.items
+      (rw (ap (λ r. r.format) c.in_ok-current.ensures.says ∙ sym c.format-format.ensures, ap (λ r. r.operations) c.in_ok-current.ensures.says ∙ sym c.operations.ensures) c.in_ok-ops.ensures.found)
+      (rw (ap (λ r. r.format) c.in_ok-current.ensures.says ∙ sym c.format-format.ensures) c.in_ok-anew.ensures.spells)
+      (rw (ap (λ r. r.format) c.in_ok-current.ensures.says ∙ sym c.format-format.ensures) c.in_ok-anew.ensures.short));
   other = c.in_ok-current.ensures.other;
   history = record {
     spelled =
         rw (
           c.in_ok-stream.ensures ∙ ap (λ s. s ++ c.deref.result.now) c.new.ensures ∙ c.deref.ensures.value,
-          ap (λ r. r.format) c.in_ok-current.ensures.says ∙ sym c.format.ensures,
+          ap (λ r. r.format) c.in_ok-current.ensures.says ∙ sym c.format-format.ensures,
           ap (λ r. r.operations) c.in_ok-current.ensures.says ∙ sym c.operations.ensures,
         ) c.in_ok-ops.ensures.found;
     owner = refl;

@@ -23,7 +23,7 @@ returns-clause-grown c = λ stream long.
       has = c.in_ok-next-in-Some.ensures.has stream (long ∙ ap (λ h. h.stream_length) (sym c.in-Some.ensures.value));
       has_tables = ap (λ h. h.tables) is;
       format = ap (λ h. h.format) is;
-      version = ap (λ h. h.version) is ∙ ap (λ v. v + 1) c.version-version.ensures;
+      version = ap (λ h. h.version) is ∙ ap (λ v. v + 1) c.version-version.ensures.value;
       replica = ap (λ h. h.replica) is ∙ c.replica.ensures;
       count = ap (λ h. h.operations) is ∙ ap (λ n. n + c.args.more) c.count.ensures.value;
     }

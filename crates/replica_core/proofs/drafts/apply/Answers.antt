@@ -3,7 +3,7 @@ use Rattle.std.proofs.lemmas.List.{length-map}
 use Rattle.std.proofs.lemmas.Bool.{true≢false}
 use Rattle.doc_core.proofs.NamingLemmas.{fits_there}
 use Rattle.replica_core.specs.Docs.{draft_number}
-use Rattle.model_laws.specs.Rising.{IsUp}
+use Rattle.op_model.specs.Rising.{IsUp}
 use Rattle.replica_core.specs.Docs.{draft_numbers}
 use Rattle.replica_core.proofs.DraftLemmas.{draft_put, draft_takes, may_come_at, number_at, numbers_put}
 use Rattle.replica_core.proofs.drafts.apply.Goals as goal

@@ -1,6 +1,7 @@
 use Rattle.std.proofs.Common.{take, refl, arith}
 use Rattle.model_laws.proofs.Closed.{follows_fits}
-use Rattle.replica_core.proofs.DocLemmas.{doc_there, documents_up}
+use Rattle.op_model.proofs.RisingLemmas.{documents_up}
+use Rattle.replica_core.proofs.DocLemmas.{doc_there}
 use Rattle.replica_core.proofs.DraftLemmas.{take_push}
 use Rattle.replica_core.proofs.FollowLemmas.{follows_front}
 use Rattle.replica_core.proofs.drafts.apply_all.Goals as goal

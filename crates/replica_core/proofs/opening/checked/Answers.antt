@@ -3,10 +3,11 @@ use Rattle.std.proofs.lemmas.Bool.{false≢true}
 use Rattle.std.proofs.lemmas.List.{length-take-le}
 use Rattle.op_model.specs.Causality.{MayFollow}
 use Rattle.op_model.specs.Spans.{with_number}
-use Rattle.replica_core.proofs.DocLemmas.{documents_up}
+use Rattle.op_model.proofs.RisingLemmas.{documents_up}
 use Rattle.replica_core.proofs.DraftLemmas.{take_push}
 use Rattle.replica_core.proofs.FollowLemmas.{AreCounted-push, follows_front, record_fits}
-use Rattle.replica_core.proofs.LimitLemmas.{documents-push, never_overfull}
+use Rattle.model_laws.proofs.Ready.{documents-push}
+use Rattle.replica_core.proofs.LimitLemmas.{never_overfull}
 use Rattle.replica_core.proofs.opening.checked.Goals as goal
 
 pub count-requires-clause-small : goal.count-requires-clause-small
@@ -15,8 +16,8 @@ count-requires-clause-small c =
     let follows : MayFollow (take c.loop-i.i c.args.list.now) c.in_ok-op.op = says.0 refl in
     record_fits (take c.loop-i.i c.args.list.now) c.in_ok-op.op c.loop-i.index.stream follows c.loop-i.invariant.counted.index.stream
 
-pub add-requires : goal.add-requires
-add-requires c = rw c.loop-i.invariant.numbers (documents_up (take c.loop-i.i c.args.list.now))
+pub put_among-requires : goal.put_among-requires
+put_among-requires c = rw c.loop-i.invariant.numbers (documents_up (take c.loop-i.i c.args.list.now))
 
 pub count-requires-clause-counts : goal.count-requires-clause-counts
 count-requires-clause-counts c = λ full.
@@ -44,6 +45,6 @@ loop-i-preserved c =
           (AreCounted-push (take c.loop-i.i c.args.list.now) c.loop-i.clock c.loop-i.index c.count.new.index c.in_ok-op.op c.loop-i.invariant.counted
           follows (λ is. c.in_ok-count.ensures.index (take c.loop-i.i c.args.list.now) is long));
       numbers = rw grown
-          (c.in_ok-add.ensures.added
+          (c.in_ok-put_among.ensures.put
           ∙ (ap (with_number c.in_ok-op.op.doc) c.loop-i.invariant.numbers ∙ sym (documents-push (take c.loop-i.i c.args.list.now) c.in_ok-op.op)));
     }

@@ -3,7 +3,6 @@ use Rattle.std.proofs.lemmas.Result.{err_from_is_err_and}
 use Rattle.root_slots.specs.Slots.{live}
 use Rattle.root_slots.specs.Live.{rooted, root_at, live_root}
 use Rattle.root_slots.proofs.Faults.{names_on, not_memory, found_ok}
-use Rattle.root_slots.proofs.SlotReads.{small_part}
 use Rattle.root_slots.proofs.slots.live_root.Goals as goal
 
 pub returns-in_err-slot-clause-fault : goal.returns-in_err-slot-clause-fault
@@ -44,5 +43,5 @@ returns-clause-found c = record {
   picked = c.in_ok-slot.ensures.slot;
   other = c.is_open-stale_open.ensures;
   spells = rw (sym c.body_at.ensures.body) c.in_ok-root.ensures.says;
-  bytes = small_part c.args.slots.now (4096 * c.in_ok-slot.slot + 8) 4088 (λ i. omega (arith, c.type_inv.slots i));
+  written = rw (sym c.body_at.ensures.body) c.in_ok-root.ensures.written;
 }

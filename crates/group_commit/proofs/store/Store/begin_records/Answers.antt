@@ -1,138 +1,29 @@
-use Rattle.std.proofs.Common.{rules, ◌≡◌, ◌++◌, ap, sym, ◌∙◌, false, length, length-append, Ok, Err, inl, refl, arith}
-use Rattle.std.specs.Prelude.{ℕ, Vec, vec_len}
-use Rattle.std.specs.declared.alloc.Global.{Global}
-use Rattle.std.proofs.lemmas.Result.{err_from_is_err_and}
-use Rattle.root_slots.specs.Root.{stream_length_of}
-use Rattle.group_commit.specs.Standing.{IsSound}
-use Rattle.group_commit.specs.Paging.{taken_in}
-use Rattle.group_commit.specs.Saved.{with_stream}
-use Rattle.group_commit.specs.declared.phase.Phase.TheVariants.{Idle, Pages}
-use Rattle.group_commit.proofs.BeginLemmas.{IsDue, is_due, is_wanting}
-use Rattle.group_commit.proofs.DeviceCall.{left_of}
-use Rattle.group_commit.proofs.Doing.{live_idle}
-use Rattle.group_commit.proofs.PagingLemmas.{paging_begun, paging_roomy}
-use Rattle.group_commit.proofs.Sound.{sound_begin}
-use Rattle.group_commit.proofs.Streams.{streams_begun, front_all, front_more}
+use Rattle.std.proofs.Common.{◌≡◌, [], true, false, refl, sym, ◌∙◌, arith}
+use Rattle.std.proofs.lemmas.Bool.{true≢false}
+use Rattle.piece_codec.proofs.StreamLaws.{both_join}
+use Rattle.root_slots.specs.Root.{format_of}
+use Rattle.group_commit.specs.Moving.{moves}
+use Rattle.group_commit.specs.Plan.{newest}
+use Rattle.group_commit.proofs.BeginLemmas.{some_written}
+use Rattle.group_commit.proofs.MovingLemmas.{in_newest}
 use Rattle.group_commit.proofs.store.Store.begin_records.Goals as goal
 
-counted : (v : Vec ℕ Global) → vec_len v ≡ length v.items
-counted v = search rules
+pub begin-requires : goal.begin-requires
+begin-requires g c = λ some.
+    let are = c.requires.1 in
+    some_written c.requires.0 c.args.count c.args.records.now are.spells (omega (arith, are.counted)) some
 
-pub make_plan-requires : goal.make_plan-requires
-make_plan-requires g c =
-    let due : IsDue c.args.self.now c.args.count c.args.records.now = is_due c.args.self.now _ _ _ _ c.answer_due-due.ensures c.requires (c.in-Ok-Some.is ∙ ap Ok (rw c.in-Ok-Some.is at c.in-Ok-Some.field-0-is)) in
-    let idle : c.self.inside.phase ≡ Idle = ap (λ h. h.phase) c.self.view_is ∙ due.idle in
-    let works : c.self.inside.failed ≡ false = ap (λ h. h.failed) c.self.view_is ∙ due.works in
-    let long : length c.self.inside.stream ≡ stream_length_of c.self.inside.current.body = c.self.invariant.1.idle idle in
-    let all : c.args.self.now.current ≡ with_stream c.self.inside.current c.self.inside.stream =
-    sym (ap (λ h. h.current) c.self.view_is) ∙ ap (with_stream c.self.inside.current) (front_all (stream_length_of c.self.inside.current.body) c.self.inside.stream long) in
+pub returns-else-moves-clause-began : goal.returns-else-moves-clause-began
+returns-else-moves-clause-began g c = λ ops are n is.
+    let begins = c.begin.ensures.began ops are.spells n is in
+    let stays : moves c.args.self.now.current ≡ false = sym c.moves.ensures ∙ c.if-moves.false in
     record {
-      is_index = c.self.invariant.2.is_index;
-      none_taken = c.self.invariant.2.taken works ∙ ap (λ q. taken_in q c.self.inside.numbers.items) idle;
-      long = long;
-      some = due.some;
-      room = rw all at due.stream;
-      version = rw all at due.version;
-      count = rw all at due.room;
+      before = [];
+      written = ops;
+      begins = rw (stays, are.counted) begins;
+      stays = λ none. refl;
+      all_new = λ way. absurd (true≢false (sym way ∙ stays));
+      spells = λ list had.
+          rw begins.follows.stream (both_join newest list ops c.args.self.now.current.stream c.args.records.now
+          (in_newest (format_of c.args.self.now.current.body) list c.args.self.now.current.stream had) are.spells);
     }
-
-pub returns-in_default-clause-answer : goal.returns-in_default-clause-answer
-returns-in_default-clause-answer g c = inl c.answer_due-due.ensures
-
-pub returns-in_err-next-clause-answer : goal.returns-in_err-next-clause-answer
-returns-in_err-next-clause-answer g c =
-    let p = err_from_is_err_and c.from_residual.result c.from_residual.ensures.1 in
-    is_wanting c.args.self.now _ _ _ _ _ c.answer_due-due.ensures (c.in-Ok-Some.is ∙ ap Ok (rw c.in-Ok-Some.is at c.in-Ok-Some.field-0-is)) (p.1 ∙ ap Err p.2)
-
-pub returns-in_err-stream-clause-answer : goal.returns-in_err-stream-clause-answer
-returns-in_err-stream-clause-answer g c =
-    let p = err_from_is_err_and c.from_residual-in_err-stream.result c.from_residual-in_err-stream.ensures.1 in
-    is_wanting c.args.self.now _ _ _ _ _ c.answer_due-due.ensures (c.in-Ok-Some.is ∙ ap Ok (rw c.in-Ok-Some.is at c.in-Ok-Some.field-0-is)) (p.1 ∙ ap Err p.2)
-
-pub returns-in_err-reserve-clause-answer : goal.returns-in_err-reserve-clause-answer
-returns-in_err-reserve-clause-answer g c =
-    let p = err_from_is_err_and c.from_residual-in_err-reserve.result c.from_residual-in_err-reserve.ensures.1 in
-    is_wanting c.args.self.now _ _ _ _ _ c.answer_due-due.ensures (c.in-Ok-Some.is ∙ ap Ok (rw c.in-Ok-Some.is at c.in-Ok-Some.field-0-is)) (p.1 ∙ ap Err p.2)
-
-pub invariant_of-self : goal.invariant_of-self
-invariant_of-self g c =
-    let due : IsDue c.args.self.now c.args.count c.args.records.now = is_due c.args.self.now _ _ _ _ c.answer_due-due.ensures c.requires (c.in-Ok-Some.is ∙ ap Ok (rw c.in-Ok-Some.is at c.in-Ok-Some.field-0-is)) in
-    let idle : c.self.inside.phase ≡ Idle = ap (λ h. h.phase) c.self.view_is ∙ due.idle in
-    (c.self.invariant.0, c.self.invariant.1, paging_roomy _ _ _ _ _ _ _ _ _ c.self.invariant.2 idle c.in_err-reserve.ensures.same)
-
-sound_new : (g : _) (c : goal.After-self-3-1 g)
-    → IsSound g.D.DiskFacts (record {
-      disk = c.self.inside.disk;
-      phase = Pages 0;
-      slot = c.self.inside.roots.slot;
-      current = with_stream c.self.inside.current c.self.inside.stream;
-      next = with_stream c.in_ok-next.field-0.next (c.self.inside.stream ++ c.args.records.now);
-      numbers = c.in_ok-next.field-0.numbers.items;
-      stale_open = c.self.inside.roots.stale_open;
-      failed = c.self.inside.failed;
-    }) c.self.inside.roots.slot c.in_ok-next.field-0.numbers.items c.in_ok-next.field-0.fresh.items
-sound_new g c =
-    let due : IsDue c.args.self.now c.args.count c.args.records.now = is_due c.args.self.now _ _ _ _ c.answer_due-due.ensures c.requires (c.in-Ok-Some.is ∙ ap Ok (rw c.in-Ok-Some.is at c.in-Ok-Some.field-0-is)) in
-    let idle : c.self.inside.phase ≡ Idle = ap (λ h. h.phase) c.self.view_is ∙ due.idle in
-    let long : length c.self.inside.stream ≡ stream_length_of c.self.inside.current.body = c.self.invariant.1.idle idle in
-    sound_begin g.D.DiskFacts _ c.self.inside.roots.slot _ _ (with_stream c.in_ok-next.field-0.next (c.self.inside.stream ++ c.args.records.now)) _ _
-    (rw (front_all (stream_length_of c.self.inside.current.body) c.self.inside.stream long) at c.self.invariant.0) idle
-    c.in_ok-next.ensures.plan.room c.in_ok-next.ensures.plan.plan
-
-pub invariant_of-self-2 : goal.invariant_of-self-2
-invariant_of-self-2 g c =
-    let due : IsDue c.args.self.now c.args.count c.args.records.now = is_due c.args.self.now _ _ _ _ c.answer_due-due.ensures c.requires (c.in-Ok-Some.is ∙ ap Ok (rw c.in-Ok-Some.is at c.in-Ok-Some.field-0-is)) in
-    let idle : c.self.inside.phase ≡ Idle = ap (λ h. h.phase) c.self.view_is ∙ due.idle in
-    let works : c.self.inside.failed ≡ false = ap (λ h. h.failed) c.self.view_is ∙ due.works in
-    let long : length c.self.inside.stream ≡ stream_length_of c.self.inside.current.body = c.self.invariant.1.idle idle in
-    let next_all : length (c.self.inside.stream ++ c.args.records.now) ≡ stream_length_of c.in_ok-next.field-0.next.body =
-    length-append c.self.inside.stream c.args.records.now ∙ sym c.in_ok-next.ensures.long in (
-      rw (
-        c.in_ok-stream.ensures,
-        front_more (stream_length_of c.self.inside.current.body) c.self.inside.stream c.args.records.now long,
-        front_all (stream_length_of c.in_ok-next.field-0.next.body) (c.self.inside.stream ++ c.args.records.now) next_all,
-      ) (sound_new g c),
-      rw (c.in_ok-stream.ensures)
-          (streams_begun c.self.inside.phase c.self.inside.current c.self.inside.next c.in_ok-next.field-0.next c.self.inside.stream c.args.records.now
-          c.self.invariant.1 idle c.in_ok-next.ensures.long),
-      paging_begun _ _ _ _ _ _ _ _ _ _ _ _ _ c.self.invariant.2 idle works c.in_ok-next.ensures.renews c.in_ok-reserve.ensures.same
-          (omega (arith, c.in_ok-reserve.ensures.room, c.len.ensures, counted c.in_ok-next.field-0.numbers)),
-    )
-
-pub returns-clause-answer : goal.returns-clause-answer
-returns-clause-answer g c = inl c.answer_due-due.ensures
-
-pub returns-clause-began : goal.returns-clause-began
-returns-clause-began g c = λ ops are n is.
-    let due : IsDue c.args.self.now c.args.count c.args.records.now = is_due c.args.self.now _ _ _ _ c.answer_due-due.ensures c.requires (c.in-Ok-Some.is ∙ ap Ok (rw c.in-Ok-Some.is at c.in-Ok-Some.field-0-is)) in
-    let idle : c.self.inside.phase ≡ Idle = ap (λ h. h.phase) c.self.view_is ∙ due.idle in
-    let works : c.self.inside.failed ≡ false = ap (λ h. h.failed) c.self.view_is ∙ due.works in
-    let long : length c.self.inside.stream ≡ stream_length_of c.self.inside.current.body = c.self.invariant.1.idle idle in
-    let next_all : length (c.self.inside.stream ++ c.args.records.now) ≡ stream_length_of c.in_ok-next.field-0.next.body =
-    length-append c.self.inside.stream c.args.records.now ∙ sym c.in_ok-next.ensures.long in
-    let plan = c.in_ok-next.ensures.plan in
-    rw (
-      sym c.self.view_is,
-      c.in_ok-stream.ensures,
-      front_more (stream_length_of c.self.inside.current.body) c.self.inside.stream c.args.records.now long,
-      front_all (stream_length_of c.in_ok-next.field-0.next.body) (c.self.inside.stream ++ c.args.records.now) next_all,
-      front_all (stream_length_of c.self.inside.current.body) c.self.inside.stream long,
-    ) (record {
-      disk = refl;
-      current = refl;
-      stale_open = refl;
-      works = works;
-      phase = refl;
-      slot = refl;
-      numbers = plan.changes;
-      free = plan.plan.free;
-      lowest = plan.plan.lowest;
-      follows = rw are.counted plan.follows;
-      spells = are.spells;
-      pages = plan.pages;
-      live_slot = live_idle g.D.DiskFacts _ c.self.inside.roots.slot _ _ c.self.invariant.0 idle;
-      left = left_of g.D.DiskFacts _ c.self.inside.roots.slot _ _ (sound_new g c);
-    })
-
-pub returns-clause-same : goal.returns-clause-same
-returns-clause-same g c = λ other. absurd (other _ (c.in-Ok-Some.is ∙ ap Ok (rw c.in-Ok-Some.is at c.in-Ok-Some.field-0-is)))

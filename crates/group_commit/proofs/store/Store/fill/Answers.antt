@@ -6,7 +6,6 @@ use Rattle.group_commit.specs.declared.phase.Phase.{Phase}
 use Rattle.group_commit.specs.declared.phase.Phase.TheVariants.{Idle, Body, Sync2}
 use Rattle.group_commit.proofs.store.Store.fill.Goals as goal
 use Rattle.group_commit.proofs.PagingLemmas.{paging_failed, paging_on}
-use Rattle.group_commit.proofs.Streams.{streams_on, busy_at}
 use Rattle.group_commit.proofs.Sound.{sound_body}
 use Rattle.group_commit.proofs.Doing.{slots_whole}
 use Rattle.group_commit.proofs.DeviceCall.{device_call}
@@ -35,7 +34,7 @@ invariant_of-self g c = (
       (ap (λ h. h.phase) c.self.view_is ∙ c.requires.phase)
       c.in-Err.ensures.writes.tells.0 (λ told. sized c.body.result.now (ap length c.body.ensures.bytes ∙ (c.self.invariant.0.plan (not_idle _ (ap (λ h. h.phase) c.self.view_is ∙ c.requires.phase))).size) ((c.in-Err.ensures.writes.writes told).torn)) (λ told ok. absurd cc)
       (λ told. g.met.D.Disk.lawful c.self.inside.disk told),
-  streams_on c.self.inside.phase _ c.self.inside.current c.self.inside.next c.self.inside.stream c.self.invariant.1 (busy_at c.self.inside.phase Body (ap (λ h. h.phase) c.self.view_is ∙ c.requires.phase) (λ is. absurd cc)) (λ is. absurd cc),
+  c.self.invariant.1,
   paging_failed _ Body _ _ _ _ _ _ _ _ _ c.self.invariant.2 (ap (λ h. h.phase) c.self.view_is ∙ c.requires.phase) (λ is. absurd cc) refl refl,
 )
 
@@ -45,7 +44,7 @@ invariant_of-self-in_default g c = (
       (ap (λ h. h.phase) c.self.view_is ∙ c.requires.phase)
       c.in_default.ensures.writes.tells.0 (λ told. sized c.body.result.now (ap length c.body.ensures.bytes ∙ (c.self.invariant.0.plan (not_idle _ (ap (λ h. h.phase) c.self.view_is ∙ c.requires.phase))).size) ((c.in_default.ensures.writes.writes told).torn)) (λ told ok. (c.in_default.ensures.writes.writes told).written ∙ ap (overwritten _ _) c.body.ensures.bytes)
       (λ told. g.met.D.Disk.lawful c.self.inside.disk told),
-  streams_on c.self.inside.phase _ c.self.inside.current c.self.inside.next c.self.inside.stream c.self.invariant.1 (busy_at c.self.inside.phase Body (ap (λ h. h.phase) c.self.view_is ∙ c.requires.phase) (λ is. absurd cc)) (λ is. absurd cc),
+  c.self.invariant.1,
   paging_on _ Body Sync2 _ _ _ _ _ _ _ c.self.invariant.2 (ap (λ h. h.phase) c.self.view_is ∙ c.requires.phase) (λ is. absurd cc) refl (λ k is. absurd cc),
 )
 

@@ -2,7 +2,6 @@ use Rattle.std.proofs.Common.{ap, sym, ◌≡◌, ◌≢◌, ◌<◌, ◌≤◌,
 use Rattle.group_commit.proofs.store.Store.put.Goals as goal
 use Rattle.group_commit.proofs.Inside.{inside_page}
 use Rattle.group_commit.proofs.PagingLemmas.{paging_failed, paging_put, next_free, next_room}
-use Rattle.group_commit.proofs.Streams.{streams_on, busy_at, busy_behind}
 use Rattle.group_commit.proofs.Sound.{sound_page, sound_page_failed}
 use Rattle.group_commit.proofs.DeviceCall.{device_call}
 use Rattle.group_commit.specs.Step.{write_page}
@@ -64,7 +63,7 @@ invariant_of-self-2 g c = (
       ∙ ap (overwritten (g.D.DiskFacts.content c.self.inside.disk) _) (c.bytes_at.ensures.bytes ∙ ap (λ v. part v (4096 * c.args.k) 4096) c.deref-2.ensures.value))
       (λ told. inside_page g.D.DiskFacts _ c.self.inside.roots.slot _ _ c.args.k c.self.invariant.0 (ap (λ h. h.phase) c.self.view_is ∙ c.requires.phase) told (λ told. g.met.D.Disk.lawful c.self.inside.disk told) (ap (λ h. h.failed) c.self.view_is ∙ c.requires.works))
       refl (ap (λ h. h.failed) c.self.view_is ∙ c.requires.works)),
-  streams_on c.self.inside.phase _ c.self.inside.current c.self.inside.next c.self.inside.stream c.self.invariant.1 (busy_at c.self.inside.phase (Pages c.args.k) (ap (λ h. h.phase) c.self.view_is ∙ c.requires.phase) (λ is. absurd cc)) (rw (c.behind-self-inside.ensures) (busy_behind _ _ _)),
+  c.self.invariant.1,
   rw (c.behind-self-inside.ensures ∙ ap (behind_pages (c.args.k + 1) c.len.result) c.is_stale_open.ensures ∙ ap (λ n. behind_pages (c.args.k + 1) n c.self.inside.roots.stale_open) (c.len.ensures ∙ counted c.self.inside.numbers))
       (paging_put _ c.args.k c.self.inside.roots.stale_open _ _ _ _ c.number_at.result _ _ _ _ c.self.invariant.2 (ap (λ h. h.phase) c.self.view_is ∙ c.requires.phase) (ap (λ h. h.failed) c.self.view_is ∙ c.requires.works) ((c.self.invariant.0.plan (not_idle _ (ap (λ h. h.phase) c.self.view_is ∙ c.requires.phase))).under_way c.args.k (ap (λ h. h.phase) c.self.view_is ∙ c.requires.phase)) (c.number_at.ensures ∙ ap (λ v. get_or v c.args.k 0) c.deref.ensures.value) c.in_default.ensures.takes.taken),
 )

@@ -2,8 +2,8 @@ use Rattle.std.proofs.Common.{rules, refl, ◌≡◌, ap, ◌∙◌, sym}
 use Rattle.group_commit.proofs.store.Store.settle_gate.Goals as goal
 use Rattle.group_commit.specs.declared.phase.Phase.TheVariants.{Idle, Sync3}
 use Rattle.group_commit.specs.Paging.{taken_in}
+use Rattle.group_commit.proofs.MovingLemmas.{stays_put}
 use Rattle.group_commit.proofs.PagingLemmas.{paging_failed, paging_through}
-use Rattle.group_commit.proofs.Streams.{streams_through, busy_at}
 use Rattle.group_commit.proofs.Sound.{sound_sync3, sound_sync_failed}
 use Rattle.group_commit.proofs.DeviceCall.{device_call}
 use Rattle.group_commit.specs.Step.{sync}
@@ -29,11 +29,15 @@ adopt-requires g c =
 
 pub invariant_of-self-2 : goal.invariant_of-self-2
 invariant_of-self-2 g c = (
-  rw (c.swap.ensures.x_after, c.swap.ensures.y_after, c.change_places.ensures.slot, c.change_places.ensures.stale_open) (sound_sync3 g.D.DiskFacts _ c.self.inside.roots.slot _ _ c.settle.new.disk c.self.invariant.0
+  rw (c.swap.ensures.x_after, c.swap.ensures.y_after, c.swap-2.ensures.x_after, c.swap-2.ensures.y_after, c.change_places.ensures.slot, c.change_places.ensures.stale_open) (sound_sync3 g.D.DiskFacts _ c.self.inside.roots.slot _ _ c.settle.new.disk c.self.invariant.0
       (ap (λ h. h.phase) c.self.view_is ∙ c.requires.phase)
       (c.in_default.ensures).tells.0 (c.in_default.ensures).settled
       (λ told. g.met.D.Disk.lawful c.self.inside.disk told) (ap (λ h. h.failed) c.self.view_is ∙ c.requires.works)),
-  rw (c.swap.ensures.x_after, c.swap.ensures.y_after) (streams_through c.self.inside.phase c.self.inside.current c.self.inside.next c.self.inside.stream c.self.invariant.1 (busy_at c.self.inside.phase Sync3 (ap (λ h. h.phase) c.self.view_is ∙ c.requires.phase) (λ is. absurd cc))),
+  rw (c.swap.ensures.x_after, c.swap.ensures.y_after, c.swap-2.ensures.x_after, c.swap-2.ensures.y_after) (record {
+    of_current = c.self.invariant.1.of_next;
+    of_next = c.self.invariant.1.of_current;
+    moving = stays_put _ _ ((c.self.invariant.0.plan (λ idle. not_idle (sym (ap (λ h. h.phase) c.self.view_is ∙ c.requires.phase) ∙ idle))).format);
+  }),
   rw (c.swap.ensures.x_after, c.swap.ensures.y_after) (paging_through _ _ _ _ _ _ _ _ _ c.self.invariant.2 (ap (λ h. h.phase) c.self.view_is ∙ c.requires.phase) (ap (λ h. h.failed) c.self.view_is ∙ c.requires.works) c.adopt.ensures),
 )
 

@@ -2,7 +2,6 @@ use Rattle.std.proofs.Common.{rules, refl, ap, ◌∙◌, sym}
 use Rattle.group_commit.proofs.store.Store.settle_pages.Goals as goal
 use Rattle.group_commit.specs.declared.phase.Phase.TheVariants.{Sync1, Body}
 use Rattle.group_commit.proofs.PagingLemmas.{paging_failed, paging_on}
-use Rattle.group_commit.proofs.Streams.{streams_on, busy_at}
 use Rattle.group_commit.proofs.Sound.{sound_sync1, sound_sync_failed}
 use Rattle.group_commit.proofs.DeviceCall.{device_call}
 use Rattle.group_commit.specs.Step.{sync}
@@ -20,7 +19,7 @@ invariant_of-self-2 g c = (
       (ap (λ h. h.phase) c.self.view_is ∙ c.requires.phase)
       (c.in_default.ensures).tells.0 (c.in_default.ensures).settled
       (λ told. g.met.D.Disk.lawful c.self.inside.disk told) (ap (λ h. h.failed) c.self.view_is ∙ c.requires.works),
-  streams_on c.self.inside.phase _ c.self.inside.current c.self.inside.next c.self.inside.stream c.self.invariant.1 (busy_at c.self.inside.phase Sync1 (ap (λ h. h.phase) c.self.view_is ∙ c.requires.phase) (λ is. absurd cc)) (λ is. absurd cc),
+  c.self.invariant.1,
   paging_on _ Sync1 Body _ _ _ _ _ _ _ c.self.invariant.2 (ap (λ h. h.phase) c.self.view_is ∙ c.requires.phase) (λ is. absurd cc) refl (λ k is. absurd cc),
 )
 

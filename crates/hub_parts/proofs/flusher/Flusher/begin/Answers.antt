@@ -36,7 +36,7 @@ returns-clause-leaves g c =
     let are : AreRecords (pending c.args.locked.now) (c.len.result - c.begun-begun.result) c.records_from-records.result.now =
     waiting_records c.args.locked.now c.list-list.result c.begun-begun.result c.len.result c.records_from-records.result.now c.list-list.ensures.list c.begun-begun.ensures c.len.ensures c.records_from-records.ensures.spelled_so c.records_from-records.ensures.fits in
     let written : AreWritten (pending c.args.locked.now) (c.len.result - c.begun-begun.result) c.deref.result.now =
-    record { spells = rw (sym c.locked.view_is, c.deref.ensures.value) c.locked.invariant.1; counted = are.counted } in
+    record { spells = rw (sym c.locked.view_is, c.deref.ensures.value) c.locked.invariant.1.spells; counted = are.counted } in
     record {
       locked = c.take_all.ensures;
       records = c.deref.result.now;
@@ -52,7 +52,7 @@ returns-clause-fits g c =
     let test : IsTested c.args.locked.now c.args.self.now true =
     tested c.args.locked.now c.args.self.now c.self.inside.store c.self.inside.list c.self.inside.due (c.len.result - c.begun-begun.result) c.records_from-records.result.now true c.self.view_is are c.if-count-eq0.false (sym c.has_room.ensures ∙ c.if-not-has_room.false) in
     let written : AreWritten (pending c.args.locked.now) (c.len.result - c.begun-begun.result) c.deref.result.now =
-    record { spells = rw (sym c.locked.view_is, c.deref.ensures.value) c.locked.invariant.1; counted = are.counted } in
+    record { spells = rw (sym c.locked.view_is, c.deref.ensures.value) c.locked.invariant.1.spells; counted = are.counted } in
     rw c.take_all.ensures
     (meet_begun g.D.DiskFacts c.args.locked.now c.args.self.now.store c.begin_commit.new.self.store c.args.self.now.list c.begin_commit.new.self.list c.deref.result.now c.args.self.now.due c.begin_commit.new.self.due
     (record { sound = c.kept.ensures.sound; keeps = c.kept.ensures.keeps }) c.requires.settled c.requires.rests test.some

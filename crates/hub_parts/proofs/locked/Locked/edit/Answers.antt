@@ -1,6 +1,6 @@
-use Rattle.std.proofs.Common.{sym, ◌∙◌}
-use Rattle.op_model.specs.Made.{made}
-use Rattle.hub_parts.specs.Locked.{LockedHeld}
+use Rattle.std.proofs.Common.{◌≡◌, sym, ap, ◌∙◌}
+use Rattle.op_model.specs.Machine.{edit_length, has_record_room}
+use Rattle.hub_parts.specs.Locked.{state_of, LockedHeld}
 use Rattle.hub_parts.proofs.SharedCalls.{edit_refused}
 use Rattle.hub_parts.proofs.locked.Locked.edit.Goals as goal
 
@@ -12,5 +12,6 @@ returns-in-Err-clause-call c =
 pub put_edit-requires-clause-room : goal.put_edit-requires-clause-room
 put_edit-requires-clause-room c =
     let l : LockedHeld = record { replica = c.self.inside.replica; begun = c.self.inside.begun; failure_told = c.self.inside.failure_told } in
-    let room = c.has_record_room.ensures (made l.replica.list l.replica.replica c.args.edit.now) (sym c.in-Ok.ensures.decided.length) in
-    rw (sym c.self.view_is) (rw (sym c.self.view_is) at (sym room) ∙ c.if-not-has_record_room.false)
+    let sized : c.in-Ok.decided.bytes ≡ edit_length l.replica c.args.edit.now = c.in-Ok.ensures.decided.length in
+    let room : has_record_room (state_of l) c.in-Ok.decided.bytes ≡ c.has_record_room.result = rw (sym c.self.view_is) at (sym c.has_record_room.ensures) in
+    rw (sym c.self.view_is) (ap (λ n. has_record_room (state_of l) n) (sym sized) ∙ room ∙ c.if-not-has_record_room.false)

@@ -1,6 +1,5 @@
-use Rattle.std.proofs.Common.{◌≡◌, [], ◌∷◌, refl, sym, ap, ◌∙◌, arith}
+use Rattle.std.proofs.Common.{refl, sym, ap, ◌∙◌}
 use Rattle.op_model.specs.Held.{with_merge}
-use Rattle.op_model.specs.Records.{stream_length}
 use Rattle.replica_core.specs.Refusal.{number_of}
 use Rattle.hub_parts.specs.Locked.{LockedHeld}
 use Rattle.hub_parts.proofs.SharedCalls.{merge_known, merge_early, merge_refused, merge_full, merge_wanting, merge_applied}
@@ -24,21 +23,18 @@ returns-in-Err-clause-call c =
 pub returns-then-not-has_record_room-clause-call : goal.returns-then-not-has_record_room-clause-call
 returns-then-not-has_record_room-clause-call c =
     let l : LockedHeld = record { replica = c.self.inside.replica; begun = c.self.inside.begun; failure_told = c.self.inside.failure_told } in
-    let one : stream_length (c.args.op ∷ []) ≡ c.record_length.result = let long = c.record_length.ensures.value in omega arith in
-    let room = rw (sym c.self.view_is) at (sym (c.has_record_room.ensures (c.args.op ∷ []) one)) in
+    let room = rw (sym c.self.view_is, c.record_length.ensures.value) at (sym c.has_record_room.ensures) in
     let applies = rw c.in-Ok-Applied.field-0-is at c.in-Ok-Applied.ensures.answer in
     rw (sym c.self.view_is) (merge_full l c.args.peer c.args.op c.if-self.false applies (room ∙ c.if-not-has_record_room.true))
 
 pub put_merge-requires-clause-room : goal.put_merge-requires-clause-room
 put_merge-requires-clause-room c =
-    let one : stream_length (c.args.op ∷ []) ≡ c.record_length.result = let long = c.record_length.ensures.value in omega arith in
-    sym (c.has_record_room.ensures (c.args.op ∷ []) one) ∙ c.if-not-has_record_room.false
+    rw c.record_length.ensures.value at (sym c.has_record_room.ensures ∙ c.if-not-has_record_room.false)
 
 pub returns-in-Ok-clause-call : goal.returns-in-Ok-clause-call
 returns-in-Ok-clause-call c =
     let l : LockedHeld = record { replica = c.self.inside.replica; begun = c.self.inside.begun; failure_told = c.self.inside.failure_told } in
-    let one : stream_length (c.args.op ∷ []) ≡ c.record_length.result = let long = c.record_length.ensures.value in omega arith in
-    let room = rw (sym c.self.view_is) at (sym (c.has_record_room.ensures (c.args.op ∷ []) one)) in
+    let room = rw (sym c.self.view_is, c.record_length.ensures.value) at (sym c.has_record_room.ensures) in
     let applies = rw c.in-Ok-Applied.field-0-is at c.in-Ok-Applied.ensures.answer in
     rw (c.in-Ok.ensures.merged, sym c.self.view_is)
     (merge_applied l (with_merge l.replica c.args.peer c.args.op) c.args.peer c.args.op c.if-self.false applies (room ∙ c.if-not-has_record_room.false) refl)
@@ -46,8 +42,7 @@ returns-in-Ok-clause-call c =
 pub returns-in-Err-put_merge-clause-call : goal.returns-in-Err-put_merge-clause-call
 returns-in-Err-put_merge-clause-call c =
     let l : LockedHeld = record { replica = c.self.inside.replica; begun = c.self.inside.begun; failure_told = c.self.inside.failure_told } in
-    let one : stream_length (c.args.op ∷ []) ≡ c.record_length.result = let long = c.record_length.ensures.value in omega arith in
-    let room = rw (sym c.self.view_is) at (sym (c.has_record_room.ensures (c.args.op ∷ []) one)) in
+    let room = rw (sym c.self.view_is, c.record_length.ensures.value) at (sym c.has_record_room.ensures) in
     let applies = rw c.in-Ok-Applied.field-0-is at c.in-Ok-Applied.ensures.answer in
     rw (c.in-Err-put_merge.ensures.err, sym c.self.view_is)
     (merge_wanting l c.args.peer c.args.op _ c.if-self.false applies (room ∙ c.if-not-has_record_room.false) (ap number_of c.in-Err-put_merge.ensures.memory))

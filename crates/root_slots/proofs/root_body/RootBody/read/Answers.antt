@@ -1,5 +1,6 @@
 use Rattle.std.proofs.Common.{None, ◌∙◌, sym, arith}
 use Rattle.root_slots.proofs.HeadLemmas.{none_by_head, head_says, tables_within, found_valid, found_says}
+use Rattle.root_slots.proofs.WrittenLemmas.{found_written}
 use Rattle.root_slots.proofs.root_body.RootBody.read.Goals as goal
 
 pub returns-then-not-is_head-clause-valid : goal.returns-then-not-is_head-clause-valid
@@ -21,3 +22,6 @@ returns-clause-valid c = found_valid c.args.body.now c.with_tables.result c.with
 
 pub returns-clause-says : goal.returns-clause-says
 returns-clause-says c = found_says c.args.body.now c.with_tables.result c.with_tables.ensures
+
+pub returns-clause-written : goal.returns-clause-written
+returns-clause-written c = found_written c.args.body.now c.with_tables.result (λ i. omega (arith, c.type_inv.body i)) c.with_tables.ensures
