@@ -8,7 +8,7 @@ import os
 
 import page_file
 from program import PAGE, REPLICA, delete, fault, insert, line, read, run, text_of, write
-from words import FIRST, NAME, SECOND, slot, table
+from words import FIRST, NAME, ONE, SECOND, TWO, record, slot, table
 
 TOKEN = bytes.fromhex("000000000000400080000000000000d1")
 FORMS = (1, 2, 3)
@@ -129,6 +129,43 @@ TYPED = [
 ]
 
 
+# Files of the first format as it had them: right after `init`, and after one and two commits. What an insert behind their text leaves:
+# the whole list is written anew on free pages, what one could type in one record; the older slot and its pages stay.
+C = record(3, 2, 2, "c")
+MOVES = [
+    ("init", slot(1, form=1) + bytes(PAGE), "a", slot(1, form=1) + slot(2, 39, 1, (3,)) + FIRST.ljust(PAGE, b"\0") + table(2)),
+    (
+        "a commit",
+        slot(1, form=1) + slot(2, 39, 1, (3,), form=1) + ONE[2 * PAGE :],
+        "b",
+        slot(3, 126, 2, (5,)) + slot(2, 39, 1, (3,), form=1) + TWO[2 * PAGE :],
+    ),
+    (
+        "two commits",
+        slot(3, 126, 2, (5,), form=1) + slot(2, 39, 1, (3,), form=1) + TWO[2 * PAGE :],
+        "c",
+        slot(3, 126, 2, (5,), form=1) + slot(4, 132, 3, (3,)) + (AB + C).ljust(PAGE, b"\0") + table(2) + TWO[4 * PAGE :],
+    ),
+]
+
+
+def check_moves(checks, program):
+    """The first commit on a file of the first format, to the byte, and stopped in between."""
+    text = ""
+    for what, data, typed, wanted in MOVES:
+        name = "moved"
+        write(name, data)
+        checks.same(f"the text after {what}", (seen(data), text_of(program, name)), (text, text))
+        checks.same(f"an edit after {what}", run(program, "edit", name, lines=insert(len(text), typed))[::2], (0, b""))
+        checks.same(f"the file after {what} and an edit", read(name).hex(), wanted.hex())
+        check_stopped(checks, program, name, data, text)
+        text += typed
+        # The next commit is one of the third format, and changes what it has to alone.
+        write(name, wanted)
+        run(program, "edit", name, lines=insert(len(text), "!"))
+        checks.same(f"two edits after {what}", (seen(read(name)), page_file.format_of(read(name))), (text + "!", 3))
+
+
 def check_new(checks, program):
     """A new file is of the third format, and what is typed in one edit is one record in it."""
     for what, lines, stream, count in TYPED:
@@ -186,11 +223,15 @@ def check_earlier(checks, program):
         checks.same(f"an edit of {name}", run(program, "edit", name, lines=insert(0, "new"))[::2], (0, b""))
         checks.same(f"the format of {name}", page_file.format_of(read(name)), 3)
         checks.same(f"the text of {name}", (seen(read(name)), text_of(program, name)), ("new" + text, "new" + text))
+        before, after = page_file.stream(data), page_file.stream(read(name))
+        checks.same(f"the operations of {name}", after[2], before[2] + 3)
+        checks.holds(f"the records of {name} take fewer bytes", len(after[1]) < len(before[1]))
         check_stopped(checks, program, name, data, text)
 
 
 def check(checks, program, _until):
     check_new(checks, program)
+    check_moves(checks, program)
     check_earlier(checks, program)
     check_streams(checks, program)
     check_broken(checks, program)

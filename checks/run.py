@@ -5,6 +5,7 @@ import sys
 import tempfile
 import time
 
+import backups
 import crafted
 import damage
 import each_byte
@@ -17,6 +18,7 @@ import idle_links
 import kills
 import last_place
 import locks
+import long_runs
 import long_texts
 import lost_files
 import memory
@@ -37,8 +39,8 @@ from program import Checks
 
 LIMIT = 600
 GROUPS = (
-    words, examples, exports, long_texts, streams, locks, lost_files, full_disk, ending, crafted, formats, damage, each_byte, kills, memory, serving, served_limits, web_pages,
-    last_place, parting, put_back, parted_files, idle_links, rude, noise, worst, session_memory, renewal,
+    words, examples, exports, long_texts, streams, locks, lost_files, full_disk, ending, crafted, formats, long_runs, damage, each_byte, kills, memory, serving, served_limits, web_pages,
+    last_place, parting, put_back, backups, parted_files, idle_links, rude, noise, worst, session_memory, renewal,
 )
 
 

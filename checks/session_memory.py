@@ -20,7 +20,7 @@ LEAST = 39 * LISTED
 # As many sessions as there are places; so many read at once.
 SESSIONS, AT_ONCE = 32, 4
 PAUSE, HELD = 1, 64 * MEGABYTE
-# The allocator gives back what was freed (docs/OPERATING.md has the same in the unit); else it keeps some 21 MB for each of these sessions.
+# The allocator gives back what was freed (docs/peritext.service has the same); else it keeps some 21 MB for each of these sessions.
 GIVES_BACK = {**os.environ, "GLIBC_TUNABLES": "glibc.malloc.tcache_count=0"}
 
 
