@@ -1,5 +1,5 @@
 # The commands of the repository. `make test` is the gate.
-.PHONY: run test quick peritext demo test-demo
+.PHONY: run test quick peritext install demo test-demo
 
 PROGRAM = crates/edit_shell/out/edit_shell
 
@@ -15,6 +15,7 @@ run:
 # It is kept as bin/peritext with the line of its sources, unless these changed meanwhile. `rt ci` runs below a clock, which ends with what each crate cost, and with its status.
 test:
 	@mkdir -p bin; rm -f bin/sources; $(SUM) > bin/asked
+	python3 tools/edits.py
 	python3 tools/gate_times.py
 	@if $(SUM) | cmp -s - bin/asked; then python3 tools/quick.py --passed && cp $(PROGRAM) bin/peritext && mv bin/asked bin/sources; fi
 	python3 checks/run.py $(PROGRAM)
@@ -41,6 +42,16 @@ peritext:
 	    { $(SUM) | cmp -s - bin/asked || { echo "the sources changed meanwhile"; exit 1; }; } && \
 	    cp $(PROGRAM) bin/peritext && mv bin/asked bin/sources; \
 	fi
+
+# The proved program below PREFIX, with its manual page and the documents for whoever keeps files. DESTDIR goes in front, as packages want it.
+PREFIX ?= /usr/local
+SHARE = $(DESTDIR)$(PREFIX)/share
+
+install: peritext
+	install -D -m 755 bin/peritext $(DESTDIR)$(PREFIX)/bin/peritext
+	mkdir -p $(SHARE)/man/man1 $(SHARE)/doc/peritext
+	python3 tools/man_page.py bin/peritext > $(SHARE)/man/man1/peritext.1
+	install -m 644 README.md docs/OPERATING.md docs/PROTOCOL.md docs/FORMATS.md docs/peritext.service $(SHARE)/doc/peritext
 
 # What the demo and its test run: bin/peritext, which is built only where it isn't there, or another program that PERITEXT names.
 PERITEXT ?= bin/peritext
