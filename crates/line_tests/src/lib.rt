@@ -9,3 +9,5 @@ mod request_tests;
 mod saying_tests;
 #[cfg(test)]
 mod stream_tests;
+#[cfg(test)]
+mod token_tests;

@@ -9,7 +9,8 @@ use std::num::NonZeroU32;
 use std::process::Abort;
 use std::test::Fail;
 
-fn refused(rt: &impl Abort, alloc: Global, line: &[u8], refusal: Refusal) {
+/// A line is refused so.
+pub fn refused(rt: &impl Abort, alloc: Global, line: &[u8], refusal: Refusal) {
     match serve_line(alloc, line) {
         Ok(_) => assert!(rt; false, "served: {line:?}"),
         Err(found) => assert!(rt; found == refusal, "{found}: {line:?}"),

@@ -1,8 +1,10 @@
 -- What the tests of fields say of the definitions.
-use Rattle.std.proofs.Common.{◌≡◌, ℕ, zero, suc, ◌<◌, List, [], ◌∷◌, map, Bool, true, false}
-use Rattle.std.proofs.Common.{true≢false, ◌||◌, if◌then◌else◌, Option, Some, None, MatchOption, Err}
+use Rattle.std.proofs.Common.{◌≡◌, ◌↔◌, ℕ, zero, suc, ◌<◌, List, [], ◌∷◌, map, Bool, true, false}
+use Rattle.std.proofs.Common.{true≢false, ◌||◌, ◌==◌, if◌then◌else◌, Option, Some, None, IsNone, IfSome}
+use Rattle.std.proofs.Common.{MatchOption, Err}
 use Rattle.std.proofs.Common.{refl, sym, ap, subst, arith, String, string_bytes, Bor}
 use Rattle.std.proofs.Math.Bridge.{le_prop}
+use Rattle.std.proofs.lemmas.Bool.Decides.{nat_tests}
 use Rattle.std.specs.Option.{ok_or}
 use Rattle.std.specs.List.{list_any, list_all}
 use Rattle.std.specs.Map.{keys_of}
@@ -14,7 +16,7 @@ use Rattle.serde_json.specs.declared.value.Value.{Value}
 use Rattle.serde_json.specs.Read.{read}
 use Rattle.serde_json.specs.View.{members_view}
 use Rattle.session_lines.specs.declared.refusal.Refusal.TheVariants.{Syntax, Field}
-use Rattle.session_lines.specs.Fields.{Reads, or_field, is_among, are_among, non_zero}
+use Rattle.session_lines.specs.Fields.{Reads, or_field, is_among, are_among, non_zero, not_nil}
 use Rattle.session_lines.specs.Requests.{or_syntax, reading}
 
 -- a value that is nowhere found isn't there
@@ -51,6 +53,15 @@ same_number (suc n) x e = ap Some (same_value x.value (suc n) e x.ok _)
 pub is_non_zero : (o : Option NonZeroU32) (n : ℕ) → MatchOption o (n ≡ 0) (λ x. x.value ≡ n) → o ≡ non_zero n
 is_non_zero None n e = rw e refl
 is_non_zero (Some x) n e = same_number n x e
+
+-- a number that is there exactly where it isn't the nil UUID's
+by_zero : (t n : ℕ) (zero : Bool) → (n == 0) ≡ zero → (n ≡ 0 → ⊥) → t ≡ n → Some t ≡ (if zero then None else Some n)
+by_zero t n true is not_zero same = let nil : n ≡ 0 = grind (arith, nat_tests) in absurd (not_zero nil)
+by_zero t n false is not_zero same = ap Some same
+
+pub is_not_nil : (o : Option ℕ) (n : ℕ) → (IsNone o ↔ (n ≡ 0)) → IfSome o (λ t. t ≡ n) → o ≡ not_nil n
+is_not_nil None n nil same = let e : n ≡ 0 = nil.0 refl in rw e refl
+is_not_nil (Some t) n nil same = by_zero t n (n == 0) refl (λ e. true≢false (nil.1 e)) same
 
 -- a name is among names that are lent
 among_lent : (name : List ℕ) (names : List (Bor (List ℕ)))

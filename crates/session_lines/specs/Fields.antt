@@ -1,5 +1,5 @@
 -- The fields of a request, and what each is read as.
-use Rattle.std.specs.Prelude.{◌≡◌, ◌≢◌, ℕ, zero, suc, ◌^◌, Bool, false, ◌&&◌, nat_lt, nat_le}
+use Rattle.std.specs.Prelude.{◌≡◌, ◌≢◌, ℕ, zero, suc, ◌^◌, Bool, false, ◌&&◌, ◌==◌, nat_lt, nat_le}
 use Rattle.std.specs.Prelude.{if◌then◌else◌, List, [], ◌∷◌, length, Option, Some, None, option_map}
 use Rattle.std.specs.Prelude.{option_and_then, Result, Ok, Err, codes, ⊤}
 use Rattle.std.specs.Int.{w128, from_be_bytes}
@@ -135,3 +135,20 @@ url_of d = or_field (option_and_then some_url (text_at (codes "url") d))
 -- the number of a comment's name, a UUID in any of its text forms
 abbrev pub comment_of : Data → Result ℕ Refusal
 comment_of d = or_field (option_map (from_be_bytes w128) (option_and_then parsed (text_at (codes "id") d)))
+
+-- a number that isn't the nil UUID's
+abbrev pub not_nil : ℕ → Option ℕ
+not_nil n = if n == 0 then None else Some n
+
+-- the number of the token that a UUID is, in any of its text forms but nil
+abbrev pub token_named : List ℕ → Option ℕ
+token_named text = option_and_then (λ bytes. not_nil (from_be_bytes w128 bytes)) (parsed text)
+
+-- a token, if there is one
+abbrev pub if_token : Option Data → Result (Option ℕ) Refusal
+if_token None = Ok None
+if_token (Some d) = or_field (option_map (λ t. Some t) (option_and_then token_named (as_str d)))
+
+-- the number of the edit's token, if it has one
+abbrev pub token_of : Data → Result (Option ℕ) Refusal
+token_of d = if_token (get (codes "token") d)

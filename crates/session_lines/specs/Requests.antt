@@ -17,7 +17,7 @@ use Rattle.session_lines.specs.declared.verb.Verb.{Verb}
 use Rattle.session_lines.specs.declared.verb.Verb.TheVariants as verb
 use Rattle.session_lines.specs.declared.kind.Kind.{Kind}
 use Rattle.session_lines.specs.declared.kind.Kind.TheVariants as kind
-use Rattle.session_lines.specs.Fields.{◌>>=◌, verb_named, text_at, only, whole, rev_of, count_of, characters_of, kind_of, url_of, comment_of}
+use Rattle.session_lines.specs.Fields.{◌>>=◌, verb_named, text_at, only, whole, rev_of, token_of, count_of, characters_of, kind_of, url_of, comment_of}
 
 -- what isn't there is no request
 abbrev pub or_request : {A : Type 0} → Option A → Result A Refusal
@@ -30,15 +30,15 @@ verb_of d = or_request (option_and_then verb_named (text_at (codes "op") d))
 
 -- the fields of an insert
 abbrev pub insert_fields : List (List ℕ)
-insert_fields = codes "op" ∷ codes "doc" ∷ codes "rev" ∷ codes "at" ∷ codes "text" ∷ []
+insert_fields = codes "op" ∷ codes "doc" ∷ codes "rev" ∷ codes "token" ∷ codes "at" ∷ codes "text" ∷ []
 
 -- the fields of a delete
 abbrev pub delete_fields : List (List ℕ)
-delete_fields = codes "op" ∷ codes "doc" ∷ codes "rev" ∷ codes "at" ∷ codes "count" ∷ []
+delete_fields = codes "op" ∷ codes "doc" ∷ codes "rev" ∷ codes "token" ∷ codes "at" ∷ codes "count" ∷ []
 
 -- the fields of a mark or an unmark, with these besides
 abbrev pub mark_fields : List (List ℕ) → List (List ℕ)
-mark_fields more = codes "op" ∷ codes "doc" ∷ codes "rev" ∷ codes "from" ∷ codes "to" ∷ codes "kind" ∷ more
+mark_fields more = codes "op" ∷ codes "doc" ∷ codes "rev" ∷ codes "token" ∷ codes "from" ∷ codes "to" ∷ codes "kind" ∷ more
 
 -- the field that names a document
 abbrev pub doc_fields : List (List ℕ)
@@ -100,12 +100,13 @@ unmark_change d =
     whole (codes "to") 0 d >>= λ to.
     Ok (change.Unmark from to key)
 
--- the edit with this change, without a token
+-- the edit with this change
 abbrev pub edit_with : Change → Data → Result Command Refusal
 edit_with change d =
     whole (codes "doc") 1 d >>= λ doc.
     rev_of d >>= λ rev.
-    Ok (command.Edit (record { doc = doc; rev = rev; token = None; change = change }))
+    token_of d >>= λ token.
+    Ok (command.Edit (record { doc = doc; rev = rev; token = token; change = change }))
 
 -- the command of each request
 abbrev pub command_of : Verb → Data → Result Command Refusal

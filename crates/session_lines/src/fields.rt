@@ -6,9 +6,11 @@ ghost use Rattle.std.specs.BTreeMap.{keys};
 ghost use Rattle.serde_json.specs.View.{view};
 ghost use Rattle.session_lines.specs.Fields.{Reads, only, as_whole, whole, rev_of, count_of};
 ghost use Rattle.session_lines.specs.Fields.{characters_of, kind_of, url_of, comment_of};
+ghost use Rattle.session_lines.specs.Fields.{token_named, token_of};
 
 use crate::kind::Kind;
 use crate::refusal::Refusal;
+use op_ids::Token;
 use op_model::{CommentId, EditText, Url};
 use serde_json::{Map, Value};
 use std::alloc::Global;
@@ -73,6 +75,27 @@ pub fn rev(value: &Value) -> Result<Option<u32>, Refusal>
         },
         None => Ok(None),
     }
+}
+
+/// The token that a UUID is, in any of its text forms but nil.
+fn token_named(text: &str) -> Option<Token>
+    ensures { result ≡ token_named text.now }
+{
+    match Uuid::parse_str(text) {
+        Ok(id) => Token::from_uuid(id),
+        Err(_) => None,
+    }
+}
+
+/// The token of the edit, if it has one.
+pub fn token(value: &Value) -> Result<Option<Token>, Refusal>
+    ensures { Reads result (token_of (view value.now)) }
+{
+    let Some(found) = value.get("token") else {
+        return Ok(None);
+    };
+    let token = found.as_str().and_then(token_named).ok_or(Refusal::Field)?;
+    Ok(Some(token))
 }
 
 /// How many characters are deleted.

@@ -7,7 +7,7 @@ ghost use Rattle.session_lines.specs.Requests.{insert_of, delete_of, mark_change
 ghost use Rattle.session_lines.specs.Requests.{mark_of, key_of};
 
 use crate::command::Command;
-use crate::fields::{characters, comment, count, kind, only, rev, url, whole};
+use crate::fields::{characters, comment, count, kind, only, rev, token, url, whole};
 use crate::kind::Kind;
 use crate::refusal::Refusal;
 use crate::verb::Verb;
@@ -62,10 +62,11 @@ fn edit(value: &Value, change: Change) -> Result<Command, Refusal>
 {
     let doc = whole(value, "doc", 1)?;
     let rev = rev(value)?;
+    let token = token(value)?;
     Ok(Command::Edit(Edit {
         doc,
         rev,
-        token: None,
+        token,
         change,
     }))
 }
@@ -74,7 +75,7 @@ fn edit(value: &Value, change: Change) -> Result<Command, Refusal>
 fn insert(alloc: Global, value: &Value) -> Result<Change, Refusal>
     ensures { Reads result (insert_of (view value.now)) }
 {
-    only(value, &["op", "doc", "rev", "at", "text"])?;
+    only(value, &["op", "doc", "rev", "token", "at", "text"])?;
     let at = whole(value, "at", 0)?;
     let text = characters(alloc, value)?;
     Ok(Change::Insert { at, text })
@@ -84,7 +85,7 @@ fn insert(alloc: Global, value: &Value) -> Result<Change, Refusal>
 fn delete(value: &Value) -> Result<Change, Refusal>
     ensures { Reads result (delete_of (view value.now)) }
 {
-    only(value, &["op", "doc", "rev", "at", "count"])?;
+    only(value, &["op", "doc", "rev", "token", "at", "count"])?;
     let at = whole(value, "at", 0)?;
     let count = count(value)?;
     Ok(Change::Delete { at, count })
@@ -116,19 +117,25 @@ fn added(alloc: Global, value: &Value) -> Result<Mark, Refusal>
 {
     match kind(value)? {
         Kind::Strong => {
-            only(value, &["op", "doc", "rev", "from", "to", "kind"])?;
+            only(value, &["op", "doc", "rev", "token", "from", "to", "kind"])?;
             Ok(Mark::Strong)
         }
         Kind::Em => {
-            only(value, &["op", "doc", "rev", "from", "to", "kind"])?;
+            only(value, &["op", "doc", "rev", "token", "from", "to", "kind"])?;
             Ok(Mark::Em)
         }
         Kind::Link => {
-            only(value, &["op", "doc", "rev", "from", "to", "kind", "url"])?;
+            only(
+                value,
+                &["op", "doc", "rev", "token", "from", "to", "kind", "url"],
+            )?;
             Ok(Mark::Link(url(alloc, value)?))
         }
         Kind::Comment => {
-            only(value, &["op", "doc", "rev", "from", "to", "kind", "id"])?;
+            only(
+                value,
+                &["op", "doc", "rev", "token", "from", "to", "kind", "id"],
+            )?;
             Ok(Mark::Comment(comment(value)?))
         }
     }
@@ -140,19 +147,22 @@ fn removed(value: &Value) -> Result<MarkKey, Refusal>
 {
     match kind(value)? {
         Kind::Strong => {
-            only(value, &["op", "doc", "rev", "from", "to", "kind"])?;
+            only(value, &["op", "doc", "rev", "token", "from", "to", "kind"])?;
             Ok(MarkKey::Strong)
         }
         Kind::Em => {
-            only(value, &["op", "doc", "rev", "from", "to", "kind"])?;
+            only(value, &["op", "doc", "rev", "token", "from", "to", "kind"])?;
             Ok(MarkKey::Em)
         }
         Kind::Link => {
-            only(value, &["op", "doc", "rev", "from", "to", "kind"])?;
+            only(value, &["op", "doc", "rev", "token", "from", "to", "kind"])?;
             Ok(MarkKey::Link)
         }
         Kind::Comment => {
-            only(value, &["op", "doc", "rev", "from", "to", "kind", "id"])?;
+            only(
+                value,
+                &["op", "doc", "rev", "token", "from", "to", "kind", "id"],
+            )?;
             Ok(MarkKey::Comment(comment(value)?))
         }
     }
