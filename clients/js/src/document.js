@@ -31,9 +31,10 @@ export class Document {
    * @param {number} at
    * @param {string} text
    * @param {number} [rev]
+   * @param {string} [token]
    */
-  insert(at, text, rev) {
-    return this.edit({ op: "insert", at, text }, rev);
+  insert(at, text, rev, token) {
+    return this.edit({ op: "insert", at, text }, rev, token);
   }
 
   /**
@@ -41,9 +42,10 @@ export class Document {
    * @param {number} at
    * @param {number} count
    * @param {number} [rev]
+   * @param {string} [token]
    */
-  delete(at, count, rev) {
-    return this.edit({ op: "delete", at, count }, rev);
+  delete(at, count, rev, token) {
+    return this.edit({ op: "delete", at, count }, rev, token);
   }
 
   /**
@@ -52,9 +54,10 @@ export class Document {
    * @param {number} to
    * @param {Mark} mark
    * @param {number} [rev]
+   * @param {string} [token]
    */
-  mark(from, to, mark, rev) {
-    return this.edit({ op: "mark", from, to, ...mark }, rev);
+  mark(from, to, mark, rev, token) {
+    return this.edit({ op: "mark", from, to, ...mark }, rev, token);
   }
 
   /**
@@ -63,21 +66,23 @@ export class Document {
    * @param {number} to
    * @param {Mark} mark
    * @param {number} [rev]
+   * @param {string} [token]
    */
-  unmark(from, to, mark, rev) {
-    return this.edit({ op: "unmark", from, to, ...keyOf(mark) }, rev);
+  unmark(from, to, mark, rev, token) {
+    return this.edit({ op: "unmark", from, to, ...keyOf(mark) }, rev, token);
   }
 
   /**
    * Sends the fields of an edit.
    * @param {Record<string, unknown>} fields
    * @param {number} [rev]
+   * @param {string} [token]
    * @returns {Promise<number>}
    */
-  async edit(fields, rev) {
+  async edit(fields, rev, token) {
     // The number is another session's. After a crash, or at a peer, it may name another text, and would be taken for this one.
     if (rev !== undefined && !this.session.knowsRev(this.number)) throw new Stale(6, "stale");
-    const answer = await this.session.send({ doc: this.number, ...fields, rev });
+    const answer = await this.session.send({ doc: this.number, token, ...fields, rev });
     return answer.rev;
   }
 

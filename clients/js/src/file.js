@@ -108,7 +108,8 @@ export async function init(file, { replica = randomUUID(), program = "peritext" 
 
 /**
  * A session over a file, which no other program can have open meanwhile. `Refused` if it can't be opened, as 54 if
- * another program has it.
+ * another program has it. It sends nothing twice by itself: an edit that wasn't answered can be sent with its `token` again,
+ * once the file is opened anew.
  * @param {string} file
  * @param {{program?: string, timeout?: number | null}} options `timeout`: milliseconds without a byte while an answer is
  *   due, or null for no limit

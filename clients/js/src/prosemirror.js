@@ -2,19 +2,21 @@
  * One ProseMirror document of plain paragraphs as one document of peritext. The break between two paragraphs is the
  * character "\n" of the text; the marks are `strong`, `em`, `link` with an `href`, and `comment` with an `id`.
  *
- * Each step of a transaction becomes edits, one at a time, each with the `rev` that it is made at. Behind each edit the
- * spans are read: they tell what others did meanwhile, and which marks a character that was put in came to have.
+ * Each step of a transaction becomes edits, one at a time, each with a token, and with the `rev` that it is made at.
+ * Behind each edit the spans are read: they tell what others did meanwhile, and which marks a character that was put in
+ * came to have. After a lost answer the file is asked for the edit by its token, so that it is made once.
  */
 
+import { hasMade, newToken } from "./again.js";
 import { charactersOfSpans, documentOf, isHeld } from "./paragraphs/characters.js";
-import { isMade } from "./paragraphs/made.js";
 import { corrected, moved } from "./paragraphs/moved.js";
-import { applied, editsOf, requestOf, stepsBetween } from "./paragraphs/steps.js";
+import { behind, pendingOf } from "./paragraphs/pending.js";
+import { editsOf, requestOf, stepsBetween } from "./paragraphs/steps.js";
 import { Ended, Stale } from "./refusals.js";
 
 /**
  * @typedef {import("./document.js").Document} Document
- * @typedef {import("./paragraphs/steps.js").Edit} Edit
+ * @typedef {import("./paragraphs/pending.js").Pending} Pending
  * @typedef {import("./paragraphs/steps.js").Modules} Modules
  * @typedef {import("./paragraphs/characters.js").Node} Node
  * @typedef {import("prosemirror-state").Transaction} Transaction
@@ -22,8 +24,8 @@ import { Ended, Stale } from "./refusals.js";
  */
 
 /**
- * What the program has, as far as is known, and the local steps behind it that it doesn't have yet.
- * @typedef {{base: Node, rev: number, pending: Edit[]}} Known
+ * What the program has, as far as is known, and the local edits behind it that it doesn't have yet.
+ * @typedef {{base: Node, rev: number, pending: Pending[]}} Known
  */
 
 /**
@@ -50,12 +52,17 @@ class Binding {
   #work;
   #pulls = false;
   /**
-   * Where it goes on.
-   * @type {Document | undefined}
+   * Where it goes on, and whether that is the same file.
+   * @type {{document: Document, retry: boolean} | undefined}
    */
   #next;
   /** Whether the first pending edit may be made already, though nothing was answered. */
   #unsure = false;
+  /**
+   * The fields of an edit that was answered: the same file has it.
+   * @type {Record<string, unknown> | undefined}
+   */
+  #made;
 
   /**
    * @param {Modules} modules
@@ -83,11 +90,15 @@ class Binding {
   }
 
   /**
-   * Goes on over another session, where the first one has ended: what was typed meanwhile is sent there.
+   * Goes on over another session, where the first one has ended: what was typed meanwhile is sent there. An edit that
+   * wasn't answered is asked for first, by its token, and isn't made twice.
    * @param {Document} document the same one
+   * @param {{retry?: boolean}} options `retry`: false if it is of another file, a peer's: that knows no token of this one,
+   *   so an edit that wasn't answered is sent there as a new one. If an edit was answered, the binding sees by itself
+   *   whether it is the same file
    */
-  async resume(document) {
-    this.#next = document;
+  async resume(document, { retry = true } = {}) {
+    this.#next = { document, retry };
     // What is under way over the first session fails on its own.
     await this.#work?.catch(() => {});
     return this.settled();
@@ -145,7 +156,7 @@ class Binding {
   #followed(known, { steps, docs, doc }) {
     const after = [...docs.slice(1), doc];
     const edits = steps.flatMap((step, index) => editsOf(this.#modules, step, docs[index], after[index]));
-    return edits.length === 0 ? known : { ...known, pending: [...known.pending, ...edits] };
+    return edits.length === 0 ? known : { ...known, pending: [...known.pending, ...pendingOf(edits)] };
   }
 
   /** Begins to send what is pending, unless that is under way. */
@@ -173,17 +184,48 @@ class Binding {
     }
   }
 
-  /** @param {Document} document */
-  async #goOver(document) {
+  /** @param {{document: Document, retry: boolean}} next */
+  async #goOver(next) {
+    const { document, retry } = next;
+    const lost = this.#unsure ? this.#fieldsOfFirst(document) : undefined;
+    const isSame = retry && (await this.#isFileOf(document));
+    const isThere = isSame && lost !== undefined && (await hasMade(document.session, lost));
     const reading = await document.readSpans();
-    if (this.#view === undefined || this.#next !== document) return;
+    if (this.#view === undefined || this.#next !== next) return;
     this.#next = undefined;
     this.#document = document;
-    const { base, pending } = this.#known();
-    const isThere = this.#unsure && isMade(this.#modules, base, pending[0], this.#shown(reading.spans));
     this.#unsure = false;
-    if (isThere) this.#confirm(reading.rev, reading);
+    if (!isSame) this.#forget();
+    if (isThere) this.#confirm(lost, reading.rev, reading);
     this.#take(reading);
+  }
+
+  /**
+   * Whether a document is of the file that has been edited: it has what was answered. Before any answer it is taken for it.
+   * @param {Document} document
+   */
+  async #isFileOf({ session }) {
+    return this.#made === undefined || hasMade(session, this.#made);
+  }
+
+  /** Another file knows no token of this one, and is sent none: there the first pending edit is a new one. */
+  #forget() {
+    this.#made = undefined;
+    const known = this.#known();
+    const [first, ...rest] = known.pending;
+    if (first !== undefined) this.#tell({ ...known, pending: [{ ...first, token: newToken() }, ...rest] });
+  }
+
+  /**
+   * The fields of the first pending edit, as it is sent.
+   * @param {Document} document
+   * @returns {Record<string, unknown> | undefined}
+   */
+  #fieldsOfFirst({ number }) {
+    const { base, pending } = this.#known();
+    const [{ step, token }] = pending;
+    const request = requestOf(this.#modules, base, step);
+    return request && { doc: number, ...request, token };
   }
 
   async #read() {
@@ -193,24 +235,24 @@ class Binding {
 
   async #sendFirst() {
     const { base, rev, pending } = this.#known();
-    const request = requestOf(this.#modules, base, pending[0]);
-    if (request === undefined) this.#tell({ base: applied(base, pending.slice(0, 1)), rev, pending: pending.slice(1) });
-    else await this.#exchange(request, rev);
+    const fields = this.#fieldsOfFirst(this.#document);
+    if (fields === undefined) this.#tell({ base: behind(base, pending.slice(0, 1)), rev, pending: pending.slice(1) });
+    else await this.#exchange(fields, rev);
   }
 
   /**
    * Sends the first pending edit, and reads the spans behind it.
-   * @param {Record<string, unknown>} request
+   * @param {Record<string, unknown>} fields
    * @param {number} rev
    */
-  async #exchange(request, rev) {
-    const [edit, reading] = await Promise.allSettled([this.#document.edit(request, rev), this.#document.readSpans()]);
+  async #exchange(fields, rev) {
+    const [edit, reading] = await Promise.allSettled([this.#document.edit(fields, rev), this.#document.readSpans()]);
     if (this.#view === undefined) return;
     if (edit.status === "fulfilled") this.#unsure = false;
     // One that couldn't be sent leaves open what became of the one before.
     else if (!(edit.reason instanceof Ended)) this.#unsure = edit.reason.number === 9;
     else if (edit.reason.wasSent) this.#unsure = true;
-    if (edit.status === "fulfilled") this.#confirm(edit.value, reading.status === "fulfilled" ? reading.value : undefined);
+    if (edit.status === "fulfilled") this.#confirm(fields, edit.value, reading.status === "fulfilled" ? reading.value : undefined);
     else if (!(edit.reason instanceof Stale)) throw edit.reason;
     if (reading.status === "rejected") throw reading.reason;
     this.#take(reading.value);
@@ -219,16 +261,18 @@ class Binding {
   /**
    * The first pending edit is made. What the program shows is the wish of others; but characters that were just put in
    * get the editor's marks, where the program gave them those of their surroundings.
+   * @param {Record<string, unknown>} fields its own
    * @param {number} rev
    * @param {{spans: import("./marks.js").Span[]} | undefined} reading
    */
-  #confirm(rev, reading) {
+  #confirm(fields, rev, reading) {
+    this.#made = fields;
     const { base, pending } = this.#known();
-    const [step, ...rest] = pending;
-    const made = applied(base, [step]);
+    const [{ step }, ...rest] = pending;
+    const made = behind(base, pending.slice(0, 1));
     const isInsert = step instanceof this.#modules.transform.ReplaceStep && step.slice.size > 0;
     const marks = reading && isInsert ? corrected(this.#modules, made, step, this.#shown(reading.spans)) : [];
-    this.#tell({ base: made, rev, pending: [...marks, ...rest] });
+    this.#tell({ base: made, rev, pending: [...pendingOf(marks), ...rest] });
   }
 
   /**
@@ -257,7 +301,7 @@ class Binding {
   #tell(known) {
     const view = /** @type {EditorView} */ (this.#view);
     const { tr, selection, storedMarks } = view.state;
-    for (const step of stepsBetween(this.#modules, tr.doc, applied(known.base, known.pending))) tr.step(step);
+    for (const step of stepsBetween(this.#modules, tr.doc, behind(known.base, known.pending))) tr.step(step);
     if (tr.docChanged) this.#keepCaret(tr, selection).setStoredMarks(storedMarks).setMeta("addToHistory", false);
     view.dispatch(tr.setMeta(this.#key, known));
     if (this.#known() !== known) throw new Error("the editor didn't take what the program has");

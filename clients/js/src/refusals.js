@@ -12,7 +12,7 @@ const ADVICE = {
   1: "the system gave no memory; send it again",
   2: LINE,
   3: LINE,
-  4: LINE,
+  4: `${LINE}; a program that is older than this client takes no tokens`,
   5: "there is no such place in the text; read it anew",
   6: "the document has moved on; read it anew, and make the edit for what is there",
   7: "at most 256 characters in one request; else the file has reached a limit, and can only be read",

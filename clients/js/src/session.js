@@ -1,7 +1,9 @@
 /** A session, line by line. */
 
+import { isEdit, repeated, withToken } from "./again.js";
 import { NoAnswer, answerOf } from "./answers.js";
 import { Document } from "./document.js";
+import { Finder, RETRY, cut } from "./finder.js";
 import { Ended, Refused } from "./refusals.js";
 import { Silence, TIMEOUT } from "./silence.js";
 
@@ -25,24 +27,35 @@ import { Silence, TIMEOUT } from "./silence.js";
  */
 
 /**
- * An answer that is due, and what of its request says how to read it.
- * @typedef {{resolve: (answer: Answer) => void, reject: (error: Error) => void, op: unknown, doc: unknown}} Owed
+ * An answer that is due, its request, and how often that was sent.
+ * @typedef {{resolve: (answer: Answer) => void, reject: (error: Error) => void, request: Record<string, unknown>, sent: number}} Owed
  */
 
 /**
  * Requests and their answers, in order. Any number of requests can be under way. If no byte comes for `timeout`
  * milliseconds while an answer is due, the session ends; with null it waits as long as it takes.
+ *
+ * With `again` it outlives its transport: what wasn't answered is sent again over another one, in its order and before
+ * anything else. Each edit has a token, under which the file makes it once. `again` tries once to reach the same file; it
+ * is called again and again, for `retry` milliseconds without an answer.
  */
 export class Session {
   /** @type {Transport} */
   #transport;
   #timeout;
   #silence;
+  /** @type {Finder | undefined} */
+  #finder;
   /** @type {Owed[]} */
   #waiting = [];
   /** The documents whose `rev` was told in this session. */
   #told = new Set();
   #isOpen = true;
+  /** Whether this session asked for the end of the program. */
+  #stops = false;
+  /** Whether the transport ended and no other one is there yet, and whether one is looked for. */
+  #isParted = false;
+  #isLooking = false;
   /**
    * Why it ended, once it has.
    * @type {string | undefined}
@@ -55,20 +68,14 @@ export class Session {
 
   /**
    * @param {Transport} transport
-   * @param {{timeout?: number | null}} options
+   * @param {{timeout?: number | null, again?: () => Promise<Transport>, retry?: number}} options
    */
-  constructor(transport, { timeout = TIMEOUT } = {}) {
+  constructor(transport, { timeout = TIMEOUT, again, retry = RETRY } = {}) {
     this.#timeout = timeout;
     this.#silence = new Silence(timeout, () => this.#fallSilent());
-    this.#transport = transport;
+    if (again !== undefined) this.#finder = new Finder(again, retry, (other) => new Session(other, { timeout }));
     this.#end = new Promise((resolve) => (this.#ended = resolve));
-    transport.onPart = () => this.#silence.heard();
-    transport.onLine = (line) => this.#take(line);
-    transport.onEnd = () => {
-      this.#over("no more answers come");
-      this.#silence.close();
-      this.#ended();
-    };
+    this.#transport = this.#joined(transport);
   }
 
   /**
@@ -88,15 +95,14 @@ export class Session {
   send(fields) {
     if (!this.#isOpen) return Promise.reject(new Ended(`the session has ended (${this.#reason ?? "it was closed"})`));
     return new Promise((resolve, reject) => {
-      const line = JSON.stringify(fields);
-      this.#waiting.push({ resolve, reject, op: fields.op, doc: fields.doc });
+      const request = this.#finder === undefined ? fields : withToken(fields);
+      const line = JSON.stringify(request);
+      const owed = { resolve, reject, request, sent: 0 };
+      this.#stops ||= request.op === "stop";
+      this.#waiting.push(owed);
       this.#silence.begin();
-      try {
-        this.#transport.send(line);
-      } catch (error) {
-        // Nobody knows how much of it was sent.
-        this.#cutOff(`sending failed: ${error}`);
-      }
+      if (this.#finder !== undefined && this.#isParted) this.#goOn(this.#finder);
+      else this.#put(owed, line);
     });
   }
 
@@ -132,8 +138,77 @@ export class Session {
     this.#isOpen = false;
     // The end of the answers is due.
     this.#silence.begin();
-    this.#transport.close();
+    if (!this.#isParted) this.#transport.close();
+    else if (this.#waiting.length === 0) this.#finish("no more answers come");
     await this.#end;
+  }
+
+  /**
+   * A transport whose lines are this session's.
+   * @param {Transport} transport
+   */
+  #joined(transport) {
+    transport.onPart = () => this.#silence.heard();
+    transport.onLine = (line) => this.#take(line);
+    transport.onEnd = () => this.#part();
+    return transport;
+  }
+
+  /**
+   * @param {Owed} owed
+   * @param {string} line
+   */
+  #put(owed, line) {
+    if (this.#reason !== undefined) return;
+    owed.sent += 1;
+    try {
+      this.#transport.send(line);
+    } catch (error) {
+      // Nobody knows how much of it was sent.
+      this.#cutOff(`sending failed: ${error}`);
+    }
+  }
+
+  /** The transport has ended. Another one is looked for once there is something to send. */
+  #part() {
+    const isOver = this.#reason !== undefined || this.#stops || (!this.#isOpen && this.#waiting.length === 0);
+    if (this.#finder === undefined || isOver) return this.#finish("no more answers come");
+    this.#isParted = true;
+    // What was read needn't be there again.
+    this.#told.clear();
+    if (this.#waiting.length > 0) this.#goOn(this.#finder);
+  }
+
+  /**
+   * Sends what waits again, over another transport. It is looked for once at a time.
+   * @param {Finder} finder
+   */
+  async #goOn(finder) {
+    if (this.#isLooking) return;
+    this.#isLooking = true;
+    const found = await finder.find(() => this.#reason !== undefined).catch((error) => this.#finish(error.message));
+    this.#isLooking = false;
+    if (found) this.#sendAgain(found);
+  }
+
+  /** @param {Transport} transport */
+  #sendAgain(transport) {
+    if (this.#reason !== undefined) return cut(transport);
+    this.#isParted = false;
+    this.#transport = this.#joined(transport);
+    this.#silence.heard();
+    for (const owed of this.#waiting) this.#put(owed, JSON.stringify(repeated(owed.request)));
+    if (!this.#isOpen) transport.close();
+  }
+
+  /**
+   * No answer comes any more.
+   * @param {string} reason
+   */
+  #finish(reason) {
+    this.#over(reason);
+    this.#silence.close();
+    this.#ended();
   }
 
   /** @param {string} line */
@@ -153,12 +228,22 @@ export class Session {
     const [owed] = this.#waiting;
     if (owed === undefined) throw new NoAnswer("a line came that nobody asked for");
     // It waits on until this is known to be its answer.
-    const told = answerOf(line, owed.op);
+    const told = answerOf(line, owed.request.op);
     this.#waiting.shift();
     if (this.#waiting.length === 0 && this.#isOpen) this.#silence.end();
+    this.#finder?.answered(owed.request, told);
     if (told instanceof Refused) return owed.reject(told);
-    if (told.rev !== undefined) this.#told.add(owed.doc);
+    this.#note(owed, told);
     owed.resolve(told);
+  }
+
+  /**
+   * The answer to an edit which was sent before may be older than what is there: its `rev` isn't that of now.
+   * @param {Owed} owed
+   * @param {Answer} told
+   */
+  #note({ request, sent }, { rev }) {
+    if (rev !== undefined && !(isEdit(request) && sent > 1)) this.#told.add(request.doc);
   }
 
   #fallSilent() {
@@ -170,8 +255,7 @@ export class Session {
   /** @param {string} reason */
   #cutOff(reason) {
     this.#over(reason);
-    if (this.#transport.abandon !== undefined) this.#transport.abandon();
-    else this.#transport.close();
+    cut(this.#transport);
   }
 
   /**
@@ -184,6 +268,6 @@ export class Session {
     const left = this.#waiting;
     this.#waiting = [];
     const words = `the session ended before this request was answered (${this.#reason}): begin another one, and read what is there`;
-    for (const { reject } of left) reject(new Ended(words, { wasSent: true }));
+    for (const { reject, sent } of left) reject(new Ended(words, { wasSent: sent > 0 }));
   }
 }

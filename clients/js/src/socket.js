@@ -57,24 +57,45 @@ class Connection {
 /**
  * A session of the daemon whose `--sessions` port this is. `NoDaemon` if there is none; `Refused` with the number 8 if
  * all 32 places are taken.
+ *
+ * If the connection ends, the session connects again to the same port, which it takes for the same file, and sends again
+ * what wasn't answered. It asks first for an edit that it was answered, and is `Ended` if another file is served there.
  * @param {number} port
- * @param {{patience?: number, timeout?: number | null}} options `patience`: milliseconds until somebody who listens has to
- *   have answered first; `timeout`: those without a byte while an answer is due, or null for no limit
+ * @param {{patience?: number, timeout?: number | null, retry?: number | null}} options `patience`: milliseconds until
+ *   somebody who listens has to have answered first; `timeout`: those without a byte while an answer is due, or null for
+ *   no limit; `retry`: those without an answer for which a daemon is looked for, 10,000 unless it is given, or null to
+ *   send nothing twice and give edits no token, as where another file may come to the port
  */
-export async function connect(port, { patience = PATIENCE, timeout } = {}) {
-  const connection = new Connection(port);
-  const session = new Session(connection, { timeout });
-  const timer = setTimeout(() => connection.abandon(), patience);
+export async function connect(port, { patience = PATIENCE, timeout, retry } = {}) {
+  const again = () => connection(port, patience, timeout);
+  const begun = await again();
+  try {
+    return new Session(begun, retry === null ? { timeout } : { timeout, again, retry });
+  } catch (error) {
+    begun.abandon();
+    throw error;
+  }
+}
+
+/**
+ * A connection for which the daemon has a place.
+ * @param {number} port
+ * @param {number} patience
+ * @param {number | null | undefined} timeout
+ */
+async function connection(port, patience, timeout) {
+  const begun = new Connection(port);
+  const timer = setTimeout(() => begun.abandon(), patience);
   try {
     // A daemon without a place for this session says so in place of the answer.
-    await session.send({ op: "status" });
+    await new Session(begun, { timeout }).send({ op: "status" });
   } catch (error) {
-    connection.abandon();
-    throw error instanceof Ended ? noDaemon(port, connection.fault) : error;
+    begun.abandon();
+    throw error instanceof Ended ? noDaemon(port, begun.fault) : error;
   } finally {
     clearTimeout(timer);
   }
-  return session;
+  return begun;
 }
 
 /**

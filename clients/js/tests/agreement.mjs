@@ -3,8 +3,10 @@
 import assert from "node:assert/strict";
 import { test } from "node:test";
 
+import { Ended, Session } from "peritext";
+
 import { charactersOf } from "../src/paragraphs/characters.js";
-import { applied } from "../src/paragraphs/steps.js";
+import { behind } from "../src/paragraphs/pending.js";
 import { Store } from "./fake.mjs";
 import { editorOver, plainSchema, prosemirror } from "./support.mjs";
 
@@ -58,38 +60,71 @@ function seen(doc) {
   return charactersOf(doc).map(({ text, marks }) => [text, ...marks.map((mark) => JSON.stringify(mark)).sort()]);
 }
 
-async function agree(seed) {
+/** Three editors of a store. Where they are cut, the session of the first one goes on by itself, and the bindings of the others do. */
+function editorsOver(store) {
+  return Promise.all([true, false, false].map(async (goesOn) => {
+    const editor = { goesOn };
+    const options = goesOn ? { again: async () => editor.transport } : {};
+    return Object.assign(editor, await editorOver(store, modules, schema, {}, options));
+  }));
+}
+
+/** Ends an editor's session, and gives it another one. Nothing that was under way is answered, and so many lines of it are made. */
+function cut(editor, store, made) {
+  const { transport } = editor;
+  editor.transport = store.session();
+  transport.cut(made);
+  if (!editor.goesOn) editor.binding.resume(new Session(editor.transport).document(1)).catch(isEnded);
+}
+
+function isEnded(error) {
+  assert(error instanceof Ended, error);
+}
+
+/** One run: what editors do, in an order by the seed. Each letter is there once at the end, unless it was taken away. */
+async function agree(seed, { isCut = false } = {}) {
   const below = numbers(seed);
   const store = new Store();
-  const editors = await Promise.all([0, 1, 2].map(() => editorOver(store, modules, schema)));
+  const editors = await editorsOver(store);
   const typed = new Set();
   const removed = new Set();
   for (let turn = 0; turn < 120; turn += 1) {
-    const { view, binding, transport } = editors[below(editors.length)];
+    const editor = editors[below(editors.length)];
+    const { view, binding, transport } = editor;
     const letter = String.fromCodePoint((turn % 2 === 0 ? 0x4e00 : 0x1f300) + turn);
     const before = [...view.state.doc.textContent];
     view.dispatch(act(view.state, below, letter));
     const { base, pending } = binding.plugin.getState(view.state);
-    assert.deepEqual(seen(applied(base, pending)), seen(view.state.doc));
+    assert.deepEqual(seen(behind(base, pending)), seen(view.state.doc));
     const after = new Set(view.state.doc.textContent);
     if (after.has(letter)) typed.add(letter);
     for (const gone of before) if (!after.has(gone)) removed.add(gone);
     if (below(4) === 0) transport.held = true;
     if (below(3) === 0) transport.release();
     if (below(6) === 0) await new Promise(setImmediate);
-    if (below(10) === 0 && !transport.held) await binding.pull();
+    if (below(10) === 0 && !transport.held) await binding.pull().catch(isEnded);
+    if (isCut && below(8) === 0) cut(editor, store, below(3));
   }
   for (const { transport } of editors) transport.release();
+  // What was under way over a session that was cut ends on its own.
+  for (const { binding } of editors) await binding.settled().catch(isEnded);
   for (const { binding } of editors) await binding.settled();
   for (const { binding } of editors) await binding.pull();
-  const fresh = await editorOver(store, modules, schema);
-  for (const { view } of editors) assert.deepEqual(seen(view.state.doc), seen(fresh.view.state.doc));
-  for (const letter of typed) assert(removed.has(letter) || fresh.view.state.doc.textContent.includes(letter));
+  const fresh = (await editorOver(store, modules, schema)).view.state.doc;
+  for (const { view } of editors) assert.deepEqual(seen(view.state.doc), seen(fresh));
+  for (const letter of typed) assert(removed.has(letter) || fresh.textContent.includes(letter));
+  assert.equal(new Set(fresh.textContent).size, [...fresh.textContent].length);
   return typed.size;
 }
 
 test("all editors come to show one document", async () => {
   let typed = 0;
   for (let seed = 1; seed <= 40; seed += 1) typed += await agree(seed);
+  assert(typed > 1_000);
+});
+
+test("so they do where sessions end, and each letter is there once", async () => {
+  let typed = 0;
+  for (let seed = 1; seed <= 40; seed += 1) typed += await agree(seed, { isCut: true });
   assert(typed > 1_000);
 });

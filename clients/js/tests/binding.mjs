@@ -47,7 +47,7 @@ test("the document is read, and typing is sent", async () => {
   assert.equal(await document.text(), "e \nquick fox\nruns😀!");
 });
 
-test("each edit has the rev that it was made at", async () => {
+test("each edit has the rev that it was made at, and a token of its own", async () => {
   const { view, binding, transport } = await editor(new Store());
   const sent = [];
   const send = transport.send.bind(transport);
@@ -59,7 +59,9 @@ test("each edit has the rev that it was made at", async () => {
   change(view, (tr) => tr.addMark(2, 4, strong.create()));
   change(view, (tr) => tr.delete(1, 2));
   await binding.settled();
-  assert.deepEqual(sent, [
+  const tokens = new Set(sent.map(({ token }) => token));
+  assert.deepEqual([tokens.size, tokens.has(undefined)], [3, false]);
+  assert.deepEqual(sent.map(({ token, ...fields }) => fields), [
     { doc: 1, op: "insert", at: 0, text: "abc", rev: 0 },
     { doc: 1, op: "mark", from: 1, to: 3, kind: "strong", rev: 3 },
     { doc: 1, op: "delete", at: 0, count: 1, rev: 4 },
@@ -99,6 +101,30 @@ test("what is typed has the editor's marks, whatever it came to have", async () 
     { text: "x" },
     { link: "u", text: "cd" },
   ]);
+});
+
+test("a stale edit keeps its token, and each part into which it came has one", async () => {
+  const store = new Store();
+  const { view, binding, transport } = await editor(store);
+  change(view, (tr) => tr.insertText("abcd", 1));
+  await binding.settled();
+  const other = (await editor(store)).document;
+  const sent = [];
+  const send = transport.send.bind(transport);
+  transport.send = (line) => {
+    if (!line.includes('"spans"')) sent.push(JSON.parse(line));
+    send(line);
+  };
+  transport.held = true;
+  change(view, (tr) => tr.delete(1, 5));
+  await other.insert(2, "xy");
+  transport.release();
+  await binding.settled();
+  assert.equal(await other.text(), "xy");
+  assert.deepEqual(sent.map(({ at, count }) => [at, count]), [[0, 4], [4, 2], [0, 2]]);
+  const [stale, first, second] = sent.map(({ token }) => token);
+  assert.equal(first, stale);
+  assert.notEqual(second, stale);
 });
 
 test("a stale edit is moved and sent again", async () => {

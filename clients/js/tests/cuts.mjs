@@ -70,7 +70,7 @@ for (const [name, [fields, line]] of Object.entries(EXCHANGES)) {
     };
     await withTalk(talk, async (port) => {
       for (cut = 0; cut < whole.length; cut += 1) {
-        const session = await connect(port);
+        const session = await connect(port, { retry: null });
         const [first, ...others] = [1, 2, 3].map(() => session.send(fields));
         others.forEach((answer) => answer.catch(() => {}));
         await assertTold(first, line);
@@ -133,7 +133,7 @@ test("a connection of which nothing can be told apart is ended by the client", a
     await ended;
   };
   await withTalk(talk, async (port) => {
-    const session = await connect(port);
+    const session = await connect(port, { retry: null });
     await assertEnded([session.send(TEXT)]);
     await soon(ended);
     await soon(session.close());

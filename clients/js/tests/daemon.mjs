@@ -1,14 +1,16 @@
 // Sessions over a daemon of the real program, which PERITEXT names.
 
 import assert from "node:assert/strict";
+import { randomUUID } from "node:crypto";
 import { once } from "node:events";
 import { readFileSync } from "node:fs";
 import { createServer } from "node:net";
 import { test } from "node:test";
 
-import { Ended, NoDaemon, STRONG, Stale, connect, open } from "peritext";
+import { Ended, NoDaemon, STRONG, Stale, connect, init, open } from "peritext";
 
 import { freePort, program, start, withDaemon } from "./served.mjs";
+import { withFile } from "./support.mjs";
 
 const SESSIONS = 32;
 
@@ -42,9 +44,9 @@ test("the 33rd session is refused", () =>
     await Promise.all(held.map((session) => session.close()));
   }));
 
-test("a kill ends all that waits, and stop ends the daemon", () =>
+test("a kill ends all that waits where nothing is sent again, and stop ends the daemon", () =>
   withDaemon(async (daemon, file) => {
-    const session = await connect(daemon.port);
+    const session = await connect(daemon.port, { retry: null });
     assert.equal(await session.document(1).insert(0, "x"), 1);
     const waits = Promise.allSettled([...Array(20)].map(() => session.document(1).insert(0, "y")));
     await daemon.kill();
@@ -58,6 +60,60 @@ test("a kill ends all that waits, and stop ends the daemon", () =>
     assert.deepEqual(await again.ended, [0, null]);
     await other.close();
   }));
+
+test("what is under way is made once, whenever the daemon is killed and started again", () =>
+  withDaemon(async (daemon, file) => {
+    const session = await connect(daemon.port);
+    const document = session.document(1);
+    const letters = [...Array(600).keys()].map((number) => String.fromCodePoint(0x4e00 + number));
+    const answers = [];
+    let served = daemon;
+    try {
+      for (const [place, letter] of letters.entries()) {
+        answers.push(document.insert(place, letter));
+        if (place % 150 !== 100) continue;
+        await answers[place - 50];
+        await served.kill();
+        served = await start(file, daemon.port);
+      }
+      assert.deepEqual(await Promise.all(answers), letters.map((_, place) => place + 1));
+      assert.equal(await document.text(), letters.join(""));
+      await session.close();
+    } finally {
+      await served.kill();
+    }
+  }));
+
+test("a file that is opened anew answers the same token as at first", () =>
+  withFile(async (file) => {
+    await init(file, { program });
+    const token = randomUUID();
+    for (const rev of [1, 1]) {
+      const session = await open(file, { program });
+      assert.equal(await session.document(1).insert(0, "a", undefined, token), rev);
+      assert.equal(await session.document(1).text(), "a");
+      await session.close();
+    }
+  }));
+
+test("the daemon of another file on the same port is sent nothing", () =>
+  withDaemon(async (daemon) =>
+    withFile(async (other) => {
+      await init(other, { program });
+      const session = await connect(daemon.port);
+      await session.document(1).insert(0, "a");
+      await daemon.kill();
+      const served = await start(other, daemon.port);
+      try {
+        await assert.rejects(session.document(1).insert(1, "b"), { name: "Ended", message: /another file is served there now/ });
+        const fresh = await connect(daemon.port);
+        assert.equal(await fresh.document(1).text(), "");
+        await fresh.close();
+      } finally {
+        await served.kill();
+      }
+    }),
+  ));
 
 test("the example of the page is so", () =>
   withDaemon(async ({ port }) => {

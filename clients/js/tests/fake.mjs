@@ -2,10 +2,13 @@
 // to have of marks is near what the program does, not the same.
 
 const KINDS = ["strong", "em", "link", "comment"];
+const TOKEN = /^(?!0{8}-0{4}-0{4}-0{4}-0{12}$)[0-9a-f]{8}(-[0-9a-f]{4}){3}-[0-9a-f]{12}$/;
 const WORDS = { 2: "syntax", 3: "request", 4: "field", 5: "range", 6: "stale", 7: "limit", 12: "stopping" };
 
 export class Store {
   #documents = new Map();
+  /** What each edit with a token was answered. */
+  #tokens = new Map();
 
   /** A transport of a session of its own over this store. While it is `held`, nothing is answered. */
   session() {
@@ -31,11 +34,15 @@ export class Store {
     if (does === undefined) return 3;
     if (!Number.isInteger(request.doc) || request.doc < 1) return 4;
     const before = this.#documents.get(request.doc) ?? { rev: 0, characters: [] };
-    if (does === text || does === spans) return { rev: before.rev, ...does(before.characters) };
-    if (request.rev !== undefined && request.rev !== before.rev) return 6;
+    const { rev, token } = request;
+    if (does === text || does === spans) return token === undefined ? { rev: before.rev, ...does(before.characters) } : 4;
+    if (token !== undefined && !TOKEN.test(token)) return 4;
+    if (this.#tokens.has(token)) return { rev: this.#tokens.get(token) };
+    if (rev !== undefined && rev !== before.rev) return 6;
     const after = does(before, request);
     if (typeof after === "number") return after;
     this.#documents.set(request.doc, after);
+    if (token !== undefined) this.#tokens.set(token, after.rev);
     return { rev: after.rev };
   }
 }
@@ -46,6 +53,7 @@ class FakeTransport {
   #answer;
   #lines = [];
   #closed = false;
+  #hasEnded = false;
 
   constructor(answer) {
     this.#answer = answer;
@@ -66,9 +74,19 @@ class FakeTransport {
     this.#go();
   }
 
+  /** Ends a little later, without an answer to what it holds, of which so many lines are made. */
+  cut(made) {
+    for (const line of this.#lines.splice(0).slice(0, made)) this.#answer(line);
+    this.#answer = undefined;
+    setImmediate(() => this.#go());
+  }
+
   #go() {
-    while (!this.held && this.#lines.length > 0) this.onLine(this.#answer(this.#lines.shift()));
-    if (this.#closed && this.#lines.length === 0) this.onEnd();
+    if (this.onEnd === undefined || this.#hasEnded) return;
+    while (this.#answer !== undefined && !this.held && this.#lines.length > 0) this.onLine(this.#answer(this.#lines.shift()));
+    if (this.#answer !== undefined && !(this.#closed && this.#lines.length === 0)) return;
+    this.#hasEnded = true;
+    this.onEnd();
   }
 }
 

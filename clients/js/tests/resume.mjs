@@ -4,24 +4,24 @@ import assert from "node:assert/strict";
 import { test } from "node:test";
 
 import { Ended, Session } from "peritext";
+import { bind } from "peritext/prosemirror";
 
 import { Store } from "./fake.mjs";
-import { editorOver, plainSchema, prosemirror } from "./support.mjs";
+import { View, editorOver, plainSchema, prosemirror } from "./support.mjs";
 
 const modules = prosemirror();
 const schema = plainSchema(modules.model);
+const NEVER = 2 ** 32 - 1;
 
-/** An editor over a text, that so many letters came to and went from before. What it sends isn't answered; what is under way is made where `made` says so, and then the session ends. */
-async function cutOff(text, act, { made, before = 0 }) {
+/** An editor over a text, in which it makes an edit first where `first` says so. What it sends then isn't answered; what is under way is made where `made` says so, and then the session ends. */
+async function cutOff(text, act, { made, first }) {
   const store = new Store();
   const document = new Session(store.session()).document(1);
-  for (let left = before; left > 0; left -= 1) {
-    await document.insert(0, "z");
-    await document.delete(0, 1);
-  }
   await document.insert(0, text);
   const errors = [];
   const { view, binding, transport } = await editorOver(store, modules, schema, { onError: (error) => errors.push(error) });
+  if (first !== undefined) view.dispatch(first(view.state.tr));
+  await binding.settled();
   const sent = [];
   transport.send = (line) => sent.push(line);
   view.dispatch(act(view.state.tr));
@@ -30,7 +30,19 @@ async function cutOff(text, act, { made, before = 0 }) {
   transport.onEnd();
   await turn();
   assert(errors[0] instanceof Ended);
-  return { store, document, view, binding };
+  return { store, document, view, binding, lost: JSON.parse(sent[0]) };
+}
+
+/** A session of a store, and the lines that it sends. */
+function listened(store) {
+  const transport = store.session();
+  const sent = [];
+  const { send } = transport;
+  transport.send = (line) => {
+    sent.push(JSON.parse(line));
+    send.call(transport, line);
+  };
+  return { document: new Session(transport).document(1), sent };
 }
 
 function turn() {
@@ -82,6 +94,25 @@ for (const made of [false, true]) {
     assert.equal(await resumed(cut), "abc");
     assert.deepEqual(await cut.document.spans(), [{ strong: true, text: "ab" }, { text: "c" }]);
   });
+
+  test(`over a session that goes on by itself, an edit that ${how} is there once`, async () => {
+    const store = new Store();
+    const transport = store.session();
+    const document = new Session(transport, { again: async () => store.session() }).document(1);
+    const binding = await bind(modules, schema, document);
+    const view = new View(null, { state: modules.state.EditorState.create({ doc: binding.doc, plugins: [binding.plugin] }) });
+    transport.send = (line) => made && store.answer(line);
+    view.dispatch(view.state.tr.insertText("x", 1));
+    await turn();
+    const other = new Session(store.session()).document(1);
+    await other.insert(0, "y");
+    view.dispatch(view.state.tr.insertText("z", 2));
+    transport.onEnd();
+    await binding.settled();
+    assert.equal(binding.waiting, 0);
+    assert.equal([...(await other.text())].sort().join(""), "xyz");
+    assert.equal(view.state.doc.textContent, await other.text());
+  });
 }
 
 test("the marks of an insert that was made are put right", async () => {
@@ -91,31 +122,67 @@ test("the marks of an insert that was made are put right", async () => {
   assert.deepEqual(await cut.document.spans(), [{ text: "a" }, { em: true, text: "x" }, { text: "b" }]);
 });
 
-test("an insert that was made is there once, whatever the numbers are there", async () => {
-  // The other store came to the same text in fewer operations, as a file that is opened anew, or a peer's, may.
-  const cut = await cutOff("abab", (tr) => tr.insertText("xy", 3), { made: false, before: 9 });
-  const store = new Store();
-  const document = new Session(store.session()).document(1);
-  await document.insert(0, "abxyab");
-  assert.equal(await resumed({ ...cut, store, document }), "abxyab");
+test("an edit is asked for by its token, before any other one, and names no rev of the connection before", async () => {
+  for (const made of [false, true]) {
+    const cut = await cutOff("ab", (tr) => tr.insertText("x", 2), { made });
+    cut.view.dispatch(cut.view.state.tr.insertText("y", 3));
+    const { document, sent } = listened(cut.store);
+    await cut.binding.resume(document);
+    assert.deepEqual(sent[0], { ...cut.lost, rev: NEVER });
+    assert.equal(sent[1].op, "spans");
+    assert.equal(await document.text(), "axyb");
+  }
 });
 
-test("an edit names no rev of the connection before", async () => {
+test("what others typed isn't taken for an edit that wasn't answered", async () => {
   const cut = await cutOff("ab", (tr) => tr.insertText("x", 2), { made: false });
-  // There the number of the text that was read is that of another text.
+  await cut.document.insert(1, "x");
+  assert.equal(await resumed(cut), "axxb");
+});
+
+test("an edit that was made is there once, though others took it away", async () => {
+  const cut = await cutOff("ab", (tr) => tr.insertText("x", 2), { made: true });
+  await cut.document.delete(1, 1);
+  assert.equal(await resumed(cut), "ab");
+});
+
+test("a long text that was cut into edits is there once", async () => {
+  const text = "abcd".repeat(200);
+  for (const made of [false, true]) {
+    const cut = await cutOff("[]", (tr) => tr.insertText(text, 2), { made });
+    assert(cut.binding.waiting > 1);
+    assert.equal(await resumed(cut), `[${text}]`);
+  }
+});
+
+/** The operations and tokens of what is sent where an editor goes on over another file, and the text there. */
+async function elsewhere(cut, options) {
   const store = new Store();
-  const document = new Session(store.session()).document(1);
-  await document.insert(0, "cd");
-  const transport = store.session();
-  const sent = [];
-  const { send } = transport;
-  transport.send = (line) => {
-    sent.push(JSON.parse(line).op);
-    send.call(transport, line);
-  };
-  await cut.binding.resume(new Session(transport).document(1));
-  assert.equal(sent[0], "spans");
-  assert.equal([...(await document.text())].sort().join(""), "cdx");
+  const other = listened(store);
+  await other.document.insert(0, "cd");
+  other.sent.length = 0;
+  await cut.binding.resume(other.document, options);
+  const edits = other.sent.filter(({ op, rev }) => op !== "spans" && rev !== NEVER);
+  assert.equal(cut.binding.waiting, 0);
+  return { ...other, edits, text: await other.document.text() };
+}
+
+test("at another file, as one sees by an edit that was answered, it is a new edit", async () => {
+  const first = (tr) => tr.insertText("!", 3);
+  const cut = await cutOff("ab", (tr) => tr.insertText("x", 2), { made: true, first });
+  const { sent, edits, text } = await elsewhere(cut);
+  assert.deepEqual([sent[0].text, sent[0].rev], ["!", NEVER]);
+  assert(sent.every(({ token }) => token !== cut.lost.token));
+  assert.deepEqual(edits.map((edit) => edit.text), ["x"]);
+  assert.equal([...text].sort().join(""), "cdx");
+});
+
+test("at a file that is said to be another one, nothing is asked for", async () => {
+  const cut = await cutOff("ab", (tr) => tr.insertText("x", 2), { made: true });
+  const { sent, text } = await elsewhere(cut, { retry: false });
+  assert.equal(sent[0].op, "spans");
+  assert(sent.every(({ token }) => token !== cut.lost.token));
+  assert.equal([...text].sort().join(""), "cdx");
 });
 
 test("a session that has ended too is no place to go on", async () => {

@@ -23,6 +23,7 @@ const noEditor = hasEditor ? undefined : "for node-prosemirror-state isn't insta
 run("client");
 run("cuts");
 run("limits");
+run("again");
 run("file", noProgram);
 run("daemon", noProgram);
 run("slow", noProgram);

@@ -27,9 +27,9 @@ async function isHeard(port) {
   return heard;
 }
 
-/** A daemon over a file. */
-export async function start(file) {
-  const [port, peers] = [await freePort(), await freePort()];
+/** A daemon over a file, on a port for sessions that may be given. */
+export async function start(file, given) {
+  const [port, peers] = [given ?? (await freePort()), await freePort()];
   const child = spawn(program, ["serve", file, "--sessions", port, "--peers", peers], { stdio: "ignore" });
   const ended = once(child, "exit");
   while (!(await isHeard(port))) await new Promise((done) => setTimeout(done, 20));

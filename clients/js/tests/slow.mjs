@@ -57,7 +57,7 @@ test("a slow reader has it all, or is told that it ended", () =>
     const held = await slow(daemon.port, () => process.kill(daemon.pid, "SIGSTOP"), { timeout: 500 });
     for (const fault of held) assert.match(fault.message, /no byte came for 500 milliseconds/);
     process.kill(daemon.pid, "SIGCONT");
-    const killed = await slow(daemon.port, () => process.kill(daemon.pid, "SIGKILL"));
+    const killed = await slow(daemon.port, () => process.kill(daemon.pid, "SIGKILL"), { retry: null });
     for (const fault of killed) assert(fault instanceof Ended, String(fault));
   }));
 
@@ -70,7 +70,7 @@ test("15 megabytes come, and end in the middle", () => {
     socket.write(answer.slice(0, -100));
   };
   return withTalk(talk, async (port) => {
-    const session = await connect(port);
+    const session = await connect(port, { retry: null });
     assert.equal((await soon(session.document(1).text())).length, SIZE);
     await assert.rejects(soon(session.document(1).text()), Ended);
     await session.close();

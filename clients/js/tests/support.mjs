@@ -77,9 +77,9 @@ export class View {
 }
 
 /** An editor with a session of its own over a document of a store. */
-export async function editorOver(store, modules, schema, options) {
+export async function editorOver(store, modules, schema, options, sessionOptions) {
   const transport = store.session();
-  const document = new Session(transport).document(1);
+  const document = new Session(transport, sessionOptions).document(1);
   const binding = await bind(modules, schema, document, options);
   const state = modules.state.EditorState.create({ doc: binding.doc, plugins: [binding.plugin] });
   return { binding, document, transport, view: new View(null, { state }) };

@@ -34,7 +34,8 @@ class Writer {
 
   async #run() {
     while (!this.isOver) {
-      const session = await connect(this.daemon.ports?.sessions ?? 1).catch(() => undefined);
+      // The daemon starts on other ports each time, so the binding is what goes on.
+      const session = await connect(this.daemon.ports?.sessions ?? 1, { retry: null }).catch(() => undefined);
       try {
         if (session !== undefined) await this.#begin(session.document(1));
         while (session !== undefined && !this.isOver) {

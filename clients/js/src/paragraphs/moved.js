@@ -2,6 +2,7 @@
 
 import { BREAK, charactersOf, placeOf } from "./characters.js";
 import { difference } from "./difference.js";
+import { pendingOf } from "./pending.js";
 import { applied, markSteps, textsOf } from "./steps.js";
 
 /**
@@ -9,31 +10,33 @@ import { applied, markSteps, textsOf } from "./steps.js";
  * @typedef {import("./characters.js").Node} Node
  * @typedef {import("./steps.js").Edit} Edit
  * @typedef {import("./steps.js").Modules} Modules
+ * @typedef {import("./pending.js").Pending} Pending
  */
 
 /**
- * Moves steps that were made in a document over others that were made in it too. What is put in is kept, wherever it
- * was put; what was put in meanwhile isn't taken away.
+ * Moves edits that were made in a document over steps of others that were made in it too. What is put in is kept,
+ * wherever it was put; what was put in meanwhile isn't taken away.
  * @param {Modules} modules
- * @param {readonly Edit[]} steps
+ * @param {readonly Pending[]} pending
  * @param {Node} doc behind the other steps
  * @param {readonly Edit[]} others
- * @returns {Edit[]}
+ * @returns {Pending[]}
  */
-export function moved(modules, steps, doc, others) {
-  const undone = steps.map((step) => step.getMap().invert()).reverse();
+export function moved(modules, pending, doc, others) {
+  const undone = pending.map(({ step }) => step.getMap().invert()).reverse();
   const mapping = new modules.transform.Mapping([...undone, ...others.map((step) => step.getMap())]);
-  /** @type {Edit[]} */
+  /** @type {Pending[]} */
   const result = [];
   let reached = doc;
-  steps.forEach((step, index) => {
-    const undoing = steps.length - index;
+  pending.forEach(({ step, token }, index) => {
+    const undoing = pending.length - index;
     const parts = partsOf(modules, step, mapping.slice(undoing));
     for (const part of parts) {
       reached = applied(reached, [part]);
       mapping.appendMap(part.getMap(), parts.length === 1 ? undoing - 1 : undefined);
     }
-    result.push(...parts);
+    // In parts it is several edits: the first one keeps the token.
+    if (parts.length > 0) result.push({ step: parts[0], token }, ...pendingOf(parts.slice(1)));
   });
   return result;
 }

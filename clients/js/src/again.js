@@ -1,0 +1,60 @@
+/** Edits that are sent again, and how often each of them is made all the same: once. */
+
+import { Stale } from "./refusals.js";
+
+const EDITS = new Set(["insert", "delete", "mark", "unmark"]);
+
+/** No document has so many operations: an edit that names this `rev` is never made, and answered only if it was made before. */
+const NEVER = 2 ** 32 - 1;
+
+/**
+ * The fields of a request.
+ * @typedef {Record<string, unknown>} Request
+ */
+
+/** A name for one edit, a random UUID. However often that is sent under it, it is made once. */
+export function newToken() {
+  // A page that came over plain HTTP has no `randomUUID`.
+  const bytes = crypto.getRandomValues(new Uint8Array(16));
+  bytes[6] = 0x40 | (bytes[6] & 0x0f);
+  bytes[8] = 0x80 | (bytes[8] & 0x3f);
+  const digits = Array.from(bytes, (byte) => byte.toString(16).padStart(2, "0")).join("");
+  return digits.replace(/^(.{8})(.{4})(.{4})(.{4})/, "$1-$2-$3-$4-");
+}
+
+/** @param {Request} request */
+export function isEdit({ op }) {
+  return EDITS.has(/** @type {string} */ (op));
+}
+
+/**
+ * An edit with a token of its own, unless it has one; any other request as it is.
+ * @param {Request} request
+ */
+export function withToken(request) {
+  return isEdit(request) && request.token === undefined ? { ...request, token: newToken() } : request;
+}
+
+/**
+ * What is sent if the answer to a request was lost. A `rev` holds on its connection alone: an edit that named one is
+ * answered if it was made, and is `Stale` if it wasn't.
+ * @param {Request} request
+ */
+export function repeated(request) {
+  return request.rev === undefined ? request : { ...request, rev: NEVER };
+}
+
+/**
+ * Whether the file of a session has an edit, under its token. To ask makes nothing.
+ * @param {import("./session.js").Session} session
+ * @param {Request} edit
+ */
+export async function hasMade(session, edit) {
+  try {
+    await session.send({ ...edit, rev: NEVER });
+    return true;
+  } catch (error) {
+    if (error instanceof Stale) return false;
+    throw error;
+  }
+}

@@ -1,0 +1,87 @@
+/** Where a session goes on whose transport has ended. */
+
+import { hasMade, isEdit } from "./again.js";
+import { Ended, Refused } from "./refusals.js";
+
+/**
+ * @typedef {import("./again.js").Request} Request
+ * @typedef {import("./session.js").Session} Session
+ * @typedef {import("./session.js").Transport} Transport
+ */
+
+/** Milliseconds for which it is looked for, unless the caller says otherwise, and between two looks. */
+export const RETRY = 10_000;
+const PAUSE = 50;
+
+/** Looks for another transport to the same file. */
+export class Finder {
+  #again;
+  #retry;
+  #begin;
+  /**
+   * An edit that was answered: the same file has it.
+   * @type {Request | undefined}
+   */
+  #made;
+  /**
+   * Since when nothing was answered, though it was looked for.
+   * @type {number | undefined}
+   */
+  #since;
+
+  /**
+   * @param {() => Promise<Transport>} again tries once
+   * @param {number} retry milliseconds
+   * @param {(transport: Transport) => Session} begin a session to ask with
+   */
+  constructor(again, retry, begin) {
+    if (!(retry > 0)) throw new RangeError(`retry is ${retry}; it has to be more than 0 milliseconds`);
+    this.#again = again;
+    this.#retry = retry;
+    this.#begin = begin;
+  }
+
+  /**
+   * A request was answered.
+   * @param {Request} request
+   * @param {import("./session.js").Answer | Refused} told
+   */
+  answered(request, told) {
+    this.#since = undefined;
+    if (isEdit(request) && request.token !== undefined && !(told instanceof Refused)) this.#made = request;
+  }
+
+  /**
+   * Another transport; nothing if it is over before. `Ended` if none comes in time, or another file is there.
+   * @param {() => boolean} isOver
+   */
+  async find(isOver) {
+    this.#since ??= performance.now();
+    while (!isOver()) {
+      if (performance.now() - this.#since > this.#retry) {
+        throw new Ended(`no more answers come, and none came again for ${this.#retry} milliseconds`);
+      }
+      const found = await this.#tried();
+      if (found !== undefined) return found;
+      await new Promise((done) => setTimeout(done, PAUSE));
+    }
+  }
+
+  async #tried() {
+    const transport = await this.#again().catch(() => undefined);
+    if (transport === undefined || this.#made === undefined) return transport;
+    const isSame = await hasMade(this.#begin(transport), this.#made).catch(() => undefined);
+    if (isSame) return transport;
+    cut(transport);
+    if (isSame === false) throw new Ended("another file is served there now");
+  }
+}
+
+/**
+ * Cuts off a transport, as far as it can be.
+ * @param {Transport} transport
+ */
+export function cut(transport) {
+  if (transport.abandon !== undefined) transport.abandon();
+  else transport.close();
+}
