@@ -20,12 +20,13 @@ def origin_of(counter, shape, chance):
     return counter - 1
 
 
-def record(counter, doc=1, origin=None):
-    """The record of an insert behind the one of another counter, or the one before it; 0 is the beginning."""
+def record(counter, doc=1, origin=None, token=b""):
+    """The record of an insert behind the one of another counter, or the one before it; 0 is the beginning. It may have a token."""
     before = counter - 1
     origin = before if origin is None else origin
-    body = b"\1" + doc.to_bytes(4, "big") + counter.to_bytes(8, "big") + NAME
+    body = (b"\x11" if token else b"\1") + doc.to_bytes(4, "big") + counter.to_bytes(8, "big") + NAME
     body += b"\1" + NAME + before.to_bytes(8, "big") if before else b"\0"
+    body += token
     body += b"\1" + origin.to_bytes(8, "big") + NAME if origin else b"\0"
     body += (97 + counter % 26).to_bytes(4, "big")
     return len(body).to_bytes(4, "big") + body
@@ -37,12 +38,13 @@ def slot(version, length, count, tables):
     return (head + b"".join(n.to_bytes(4, "big") for n in tables)).ljust(PAGE, b"\0")
 
 
-def make(name, count, shape="end"):
-    """A file of a store that has so many characters, in document 1, or in the documents from 1 to 1,000."""
+def make(name, count, shape="end", has_tokens=False):
+    """A file of a store that has so many characters, in document 1, or in the documents from 1 to 1,000; each may have a token of its own."""
     chance = random.Random(count)
     docs = 1000 if shape == "documents" else 1
     stream = b"".join(
-        record(i, 1 + (i - 1) % docs, origin_of(i, shape, chance)) for i in range(1, count + 1)
+        record(i, 1 + (i - 1) % docs, origin_of(i, shape, chance), chance.randbytes(16) if has_tokens else b"")
+        for i in range(1, count + 1)
     )
     pages = -(-len(stream) // PAGE)
     tables = -(-pages // 1024)

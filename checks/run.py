@@ -32,6 +32,7 @@ import served_limits
 import serving
 import session_memory
 import streams
+import tokens
 import web_pages
 import words
 import worst
@@ -39,7 +40,7 @@ from program import Checks
 
 LIMIT = 600
 GROUPS = (
-    words, examples, exports, long_texts, streams, locks, lost_files, full_disk, ending, crafted, formats, long_runs, damage, each_byte, kills, memory, serving, served_limits, web_pages,
+    words, examples, exports, long_texts, streams, locks, lost_files, full_disk, ending, crafted, formats, long_runs, damage, each_byte, kills, tokens, memory, serving, served_limits, web_pages,
     last_place, parting, put_back, backups, parted_files, idle_links, rude, noise, worst, session_memory, renewal,
 )
 

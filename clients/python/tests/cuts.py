@@ -77,7 +77,7 @@ class Cut(Answered):
         whole = line.encode() + b"\n"
         daemon = self.over((whole + whole[:cut] for cut in range(len(whole))), 3)
         for cut in range(len(whole)):
-            with self.subTest(answer=name, cut=cut), peritext.connect(daemon.port) as session:
+            with self.subTest(answer=name, cut=cut), peritext.connect(daemon.port, retry=None) as session:
                 first, *others = [session.send(**fields) for _ in range(3)]
                 self.assert_told(first, name)
                 self.assert_ended(others)
@@ -129,7 +129,7 @@ class Wrong(Answered):
         daemon = FakeDaemon(self.wrong(iter(WRONG)))
         self.addCleanup(daemon.close)
         for line in WRONG:
-            with self.subTest(line=line[:50]), peritext.connect(daemon.port) as session:
+            with self.subTest(line=line[:50]), peritext.connect(daemon.port, retry=None) as session:
                 self.assert_ended([session.send(**TEXT) for _ in range(3)])
 
     def wrong(self, lines_to_say):
@@ -145,7 +145,7 @@ class Wrong(Answered):
     def test_a_line_that_nobody_asked_for(self):
         fields, line = EXCHANGES["text"]
         daemon = self.over([(line.encode() + b"\n") * 2], 1)
-        with peritext.connect(daemon.port) as session:
+        with peritext.connect(daemon.port, retry=None) as session:
             self.assertEqual(session.send(**fields).result(PATIENCE)["rev"], 12)
             with self.assertRaises(peritext.Ended):
                 for _ in range(1_000):
@@ -153,7 +153,7 @@ class Wrong(Answered):
 
     def test_the_words_say_why(self):
         daemon = self.over([b'{"ok":false}\n'], 1)
-        with peritext.connect(daemon.port) as session:
+        with peritext.connect(daemon.port, retry=None) as session:
             fault = session.send(**TEXT).exception(PATIENCE)
         self.assertIn("an answer came without a right `code`", str(fault))
 
@@ -174,7 +174,7 @@ class NotWanted(Answered):
     def test_an_answer_that_nobody_wants_any_more_leaves_the_others_theirs(self):
         fields, line = EXCHANGES["text"]
         daemon = self.over([(line.encode() + b"\n") * 3], 3)
-        with peritext.connect(daemon.port) as session:
+        with peritext.connect(daemon.port, retry=None) as session:
             under_way = [session.send(**fields) for _ in range(2)]
             under_way[0].cancel()
             under_way.append(session.send(**fields))
@@ -183,7 +183,7 @@ class NotWanted(Answered):
     def test_a_fault_in_what_is_done_with_an_answer_leaves_them_too(self):
         fields, line = EXCHANGES["text"]
         daemon = self.over([(line.encode() + b"\n") * 2], 2)
-        with mock.patch("concurrent.futures._base.LOGGER"), peritext.connect(daemon.port) as session:
+        with mock.patch("concurrent.futures._base.LOGGER"), peritext.connect(daemon.port, retry=None) as session:
             first = session.send(**fields)
             first.add_done_callback(lambda _: 1 / 0)
             self.assertEqual(session.send(**fields).result(PATIENCE)["rev"], 12)

@@ -85,7 +85,7 @@ class RefusedOverSockets(WithDaemon):
         self.assertEqual(again.document(1).insert(0, "x"), 1)
 
     def test_stop_ends_the_daemon_for_all(self):
-        one, other = self.connect(), self.connect()
+        one, other = self.connect(), self.connect(retry=None)
         one.document(1).insert(0, "x")
         one.stop()
         self.assertEqual(self.daemon.ended(), (0, ""))
@@ -95,7 +95,7 @@ class RefusedOverSockets(WithDaemon):
             peritext.connect(self.daemon.port)
 
     def test_what_was_answered_is_there_after_a_kill(self):
-        opened = self.connect()
+        opened = self.connect(retry=None)
         for place in range(20):
             opened.document(1).insert(place, "x")
         self.daemon.kill()
@@ -108,7 +108,7 @@ class RefusedOverSockets(WithDaemon):
         self.assertIn("ended", str(caught.exception))
 
     def test_a_kill_ends_all_that_is_under_way(self):
-        opened = self.connect()
+        opened = self.connect(retry=None)
         under_way = [opened.document(1).send_insert(0, "x") for _ in range(200)]
         under_way[0].result()
         self.daemon.kill()

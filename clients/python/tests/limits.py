@@ -46,7 +46,7 @@ class OverSockets(Limits):
 
     def test_silence_ends_the_session_for_all_who_wait(self):
         port = self.over(lambda connection, lines: list(lines))
-        with peritext.connect(port, timeout=SHORT) as session:
+        with peritext.connect(port, timeout=SHORT, retry=None) as session:
             other = session.send(op="text", doc=1)
             self.assert_silent(session.document(1).text)
             self.assertIsInstance(other.exception(PATIENCE), peritext.Ended)
@@ -60,7 +60,7 @@ class OverSockets(Limits):
             connection.sendall(LINE[:20])
             list(lines)
 
-        with peritext.connect(self.over(talk), timeout=SHORT) as session:
+        with peritext.connect(self.over(talk), timeout=SHORT, retry=None) as session:
             self.assert_silent(session.document(1).text)
 
     def test_an_answer_that_comes_byte_by_byte_has_its_time(self):
@@ -70,7 +70,7 @@ class OverSockets(Limits):
                 connection.sendall(bytes([byte]))
                 time.sleep(SHORT / 6)
 
-        with peritext.connect(self.over(talk), timeout=SHORT) as session:
+        with peritext.connect(self.over(talk), timeout=SHORT, retry=None) as session:
             before = time.monotonic()
             self.assertEqual(session.document(1).text(), "abc")
             self.assertGreater(time.monotonic() - before, 3 * SHORT)
@@ -80,7 +80,7 @@ class OverSockets(Limits):
             for _ in lines:
                 connection.sendall(LINE)
 
-        with peritext.connect(self.over(talk), timeout=SHORT) as session:
+        with peritext.connect(self.over(talk), timeout=SHORT, retry=None) as session:
             for _ in range(2):
                 self.assertEqual(session.document(1).text(), "abc")
                 time.sleep(2 * SHORT)
@@ -94,7 +94,7 @@ class OverSockets(Limits):
             connection.sendall(LINE)
 
         for timeout in (None, float("inf")):
-            with peritext.connect(self.over(talk), timeout=timeout) as session:
+            with peritext.connect(self.over(talk), timeout=timeout, retry=None) as session:
                 self.assertEqual(session.document(1).text(), "abc")
 
     def test_a_daemon_that_doesn_t_read(self):
@@ -104,11 +104,11 @@ class OverSockets(Limits):
             for _ in range(1_000):
                 session.send(op="text", doc=1, much="x" * 60_000)
 
-        with peritext.connect(port, timeout=SHORT) as session:
+        with peritext.connect(port, timeout=SHORT, retry=None) as session:
             self.assert_silent(send_much)
 
     def test_a_close_waits_no_longer(self):
-        session = peritext.connect(self.over(lambda connection, lines: time.sleep(PATIENCE)), timeout=SHORT)
+        session = peritext.connect(self.over(lambda connection, lines: time.sleep(PATIENCE)), timeout=SHORT, retry=None)
         before = time.monotonic()
         session.close()
         self.assertLess(time.monotonic() - before, PATIENCE / 2)
@@ -122,7 +122,7 @@ class OverSockets(Limits):
             stopped.wait(PATIENCE)
             connection.sendall(LINE)
 
-        code = "import peritext, sys\nprint(peritext.connect(int(sys.argv[1]), timeout=1).document(1).text())"
+        code = "import peritext, sys\nprint(peritext.connect(int(sys.argv[1]), timeout=1, retry=None).document(1).text())"
         words = [sys.executable, "-c", f"import sys; sys.path[:0] = {sys.path!r}\n{code}", str(self.over(talk))]
         with subprocess.Popen(words, stdout=subprocess.PIPE, stderr=subprocess.PIPE) as client:
             try:

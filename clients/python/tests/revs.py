@@ -62,7 +62,7 @@ class OpenedAnew(WithDaemon):
         self.addCleanup(daemon.close)
         wanted, rev = 8, None
         while len(made) < wanted:
-            with peritext.connect(daemon.port) as session:
+            with peritext.connect(daemon.port, retry=None) as session:
                 text = session.document(1)
                 try:
                     while len(made) < wanted:
@@ -74,7 +74,7 @@ class OpenedAnew(WithDaemon):
         self.assertEqual([fields["rev"] for fields in made], list(range(wanted)))
 
     def test_what_is_under_way_ends(self):
-        opened = self.connect()
+        opened = self.connect(retry=None)
         with self.connect() as other:
             other.stop()
         self.daemon.ended()

@@ -35,7 +35,7 @@ class SlowReader:
     """A session that asks for 15 MB, and whose answers aren't read until they are let through."""
 
     def __init__(self, port, others):
-        self.session = peritext.connect(port)
+        self.session = peritext.connect(port, retry=None)
         self._connection = self.session._connection
         # As much as the answer may wait on this side.
         self._connection.setsockopt(socket.SOL_SOCKET, socket.SO_RCVBUF, 1 << 20)
@@ -131,6 +131,6 @@ class Large(WithDaemon):
 
         daemon = FakeDaemon(talk)
         self.addCleanup(daemon.close)
-        with peritext.connect(daemon.port) as session:
+        with peritext.connect(daemon.port, retry=None) as session:
             self.assertEqual(len(session.document(1).text()), MEGABYTES * 1_000_000)
             self.assertIsInstance(session.send(op="text", doc=1).exception(PATIENCE), peritext.Ended)

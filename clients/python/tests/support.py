@@ -38,8 +38,8 @@ class WithDaemon(WithFile):
         self.daemon = Daemon(self.name)
         self.addCleanup(self.daemon.kill)
 
-    def connect(self):
-        session = peritext.connect(self.daemon.port)
+    def connect(self, **how):
+        session = peritext.connect(self.daemon.port, **how)
         self.addCleanup(session.close)
         return session
 

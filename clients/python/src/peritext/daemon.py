@@ -4,11 +4,16 @@ from __future__ import annotations
 
 import contextlib
 import socket
+import threading
 import time
+from collections import deque
+from typing import Any
 
+from .again import is_edit, is_known, repeated, with_token
 from .answers import NoAnswer, answer_of
+from .lines import line_of
 from .refusals import NoDaemon, Refused
-from .session import Session
+from .session import Owed, Session
 from .silence import TIMEOUT
 
 # A daemon listens on this machine alone.
@@ -19,11 +24,26 @@ PATIENCE = 10.0
 LONGEST = 65_536
 
 
-class SocketSession(Session):
-    """A session of a daemon, beside those of other programs."""
+# Seconds for which a daemon whose connection ended is looked for again, and between two looks.
+RETRY = 10.0
+PAUSE = 0.05
 
-    def __init__(self, connection: socket.socket, timeout: float | None = TIMEOUT) -> None:
+
+class SocketSession(Session):
+    """A session of a daemon, beside those of other programs.
+
+    With `retry` each edit has a token, by which the daemon makes it once, however often it is sent. If the connection ends, the session
+    connects again, and sends again what wasn't answered, in its order and before anything else.
+    """
+
+    def __init__(self, connection: socket.socket, port: int, timeout: float | None = TIMEOUT, retry: float | None = RETRY) -> None:
         self._connection = connection
+        self._port = port
+        self._retry = retry
+        # Whether this session asked the daemon to end.
+        self._stops = False
+        # An edit that this session was answered.
+        self._made: dict[str, Any] | None = None
         super().__init__(connection.makefile("wb"), connection.makefile("rb"), timeout)
 
     def close(self) -> None:
@@ -41,24 +61,106 @@ class SocketSession(Session):
         with contextlib.suppress(OSError):
             self._connection.shutdown(socket.SHUT_RDWR)
 
+    def _named(self, request: dict[str, Any]) -> dict[str, Any]:
+        if request.get("op") == "stop":
+            self._stops = True
+        return request if self._retry is None else with_token(request)
 
-def connect(port: int, timeout: float | None = TIMEOUT) -> SocketSession:
+    def _note(self, owed: Owed, told: dict[str, Any]) -> None:
+        super()._note(owed, told)
+        if is_edit(owed.request) and "token" in owed.request:
+            self._made = owed.request
+
+    def _goes_on(self) -> bool:
+        if self._retry is None or not self._is_asked():
+            return False
+        connection = self._connected_again(time.monotonic() + self._retry)
+        if connection is None:
+            return False
+        # Nobody goes on writing where nobody reads.
+        self._abandon()
+        self._writing.acquire()
+        self._connection.close()
+        self._connection = connection
+        self._requests, self._answers = connection.makefile("wb"), connection.makefile("rb")
+        self._silence.heard()
+        # Another thread writes, so that this one reads meanwhile: what is answered may be more than there is room for.
+        threading.Thread(target=self._send_again, args=(self._all_again(),), daemon=True).start()
+        return True
+
+    def _is_asked(self) -> bool:
+        """Waits until something is to be sent again. False if the session is over, or was to end the daemon."""
+        with self._listing:
+            # What was read may be of another file soon.
+            self._told.clear()
+            self._listing.wait_for(lambda: self._waiting or self._closes or self._end is not None)
+            return bool(self._waiting) and self._end is None and not self._stops
+
+    def _connected_again(self, until: float) -> socket.socket | None:
+        """A new connection to the same file. None if there is none in time, or another file is served on the port."""
+        while self._end is None:
+            with contextlib.suppress(NoAnswer, OSError, Refused):
+                return self._of_the_same_file(_connection(self._port))
+            if time.monotonic() > until:
+                return None
+            time.sleep(PAUSE)
+        return None
+
+    def _of_the_same_file(self, connection: socket.socket) -> socket.socket | None:
+        """The connection, if what was answered is known there: else another file is served on the port, and the session is over."""
+        try:
+            if is_known(self._made, lambda request: _answer_to(connection, line_of(request))):
+                connection.settimeout(None)
+                return connection
+        except BaseException:
+            connection.close()
+            raise
+        connection.close()
+        self._over(f"another file is served on port {self._port} now")
+        return None
+
+    def _all_again(self) -> list[dict[str, Any]]:
+        """What wasn't answered, in its order."""
+        with self._listing:
+            requests = [owed.request for owed in self._waiting]
+            self._waiting = deque(owed._replace(is_repeated=True) for owed in self._waiting)
+        return requests
+
+    def _send_again(self, requests: list[dict[str, Any]]) -> None:
+        """Sends requests before any other one, and ends the requests if the session closes."""
+        try:
+            for request in requests:
+                self._write(line_of(repeated(request)))
+            if self._closes:
+                with contextlib.suppress(OSError):
+                    self._end_requests()
+        finally:
+            self._writing.release()
+
+
+def connect(port: int, timeout: float | None = TIMEOUT, retry: float | None = RETRY) -> SocketSession:
     """A session of the daemon whose `--sessions` port this is. `NoDaemon` if there is none; `Refused` with the number 8 if all 32 places are taken.
 
-    `timeout` is how many seconds may pass without a byte while an answer is due; None waits as long as it takes.
+    `timeout` is how many seconds may pass without a byte while an answer is due; None waits as long as it takes. `retry` is for how many
+    seconds the daemon is looked for again where a connection ends before all is answered; None sends nothing twice, and gives edits no token.
 
     >>> with connect(port) as one, connect(port) as other:
     ...     rev = one.document(7).insert(0, "seen by all")
     ...     other.document(7).text()
     'seen by all'
     """
+    return SocketSession(_connection(port), port, timeout, retry)
+
+
+def _connection(port: int) -> socket.socket:
+    """A connection of which the daemon has a place."""
     try:
         connection = socket.create_connection((HOST, port), timeout=PATIENCE)
     except OSError as error:
         raise NoDaemon(f"nobody listens on port {port} ({error.strerror or error}): start `peritext serve FILE --sessions {port} --peers PORT`") from None
     try:
         _greet(connection, port)
-        return SocketSession(connection, timeout)
+        return connection
     except BaseException:
         connection.close()
         raise
@@ -69,7 +171,7 @@ def _greet(connection: socket.socket, port: int) -> None:
     # A request is small, and waits for nothing.
     connection.setsockopt(socket.IPPROTO_TCP, socket.TCP_NODELAY, 1)
     try:
-        answer = answer_of(_first_line(connection), "status")
+        answer = answer_of(_answer_to(connection, b'{"op":"status"}\n'), "status")
     except (NoAnswer, OSError):
         raise NoDaemon(f"no session is served on port {port}: name the port behind --sessions, not that behind --peers") from None
     if isinstance(answer, Refused):
@@ -77,12 +179,12 @@ def _greet(connection: socket.socket, port: int) -> None:
     connection.settimeout(None)
 
 
-def _first_line(connection: socket.socket) -> bytes:
-    """What comes up to the first end of a line, within the time and the length that it may have."""
+def _answer_to(connection: socket.socket, line: bytes) -> bytes:
+    """What comes after a line, while nothing else is under way, up to the first end of a line, within the time and the length that it may have."""
     until = time.monotonic() + PATIENCE
     with contextlib.suppress(OSError):
         # The daemon may have answered and closed already.
-        connection.sendall(b'{"op":"status"}\n')
+        connection.sendall(line)
     came = b""
     while not came.endswith(b"\n"):
         connection.settimeout(max(until - time.monotonic(), 0.001))

@@ -3,6 +3,7 @@
 from __future__ import annotations
 
 from typing import TYPE_CHECKING, Any, NamedTuple
+from uuid import UUID, uuid5
 
 from .marks import Mark, Span
 from .refusals import Stale
@@ -27,14 +28,16 @@ class Reading(NamedTuple):
 class Document:
     """A document, by its number. Places are counted in characters, from 0; an edit may name the `rev` that it was made for.
 
-    Each edit answers the document's new `rev` once it is settled on the disk: it then outlives a power cut.
+    Each edit answers the document's new `rev` once it is settled on the disk: it then outlives a power cut. An edit with a `token` is made
+    once, however often it is sent, and answered as at first: also by another session of the same file, and after a crash. A session of a daemon
+    draws one where none is given.
     """
 
     def __init__(self, session: Session, number: int) -> None:
         self.session = session
         self.number = number
 
-    def insert(self, at: int, text: str, rev: int | None = None) -> int:
+    def insert(self, at: int, text: str, rev: int | None = None, token: UUID | None = None) -> int:
         """Puts characters before the one at a place, or at the end.
 
         A request has at most 256 of them: a longer text goes in as several edits, each of which is answered before the next one is sent. If another
@@ -42,22 +45,23 @@ class Document:
         """
         if not text:
             raise ValueError("an empty text is no request")
-        rev = self._edit(rev, op="insert", at=at, text=text[:LONGEST])
+        rev = self._edit(rev, token, op="insert", at=at, text=text[:LONGEST])
         for first in range(LONGEST, len(text), LONGEST):
-            rev = self._edit(rev, op="insert", at=at + first, text=text[first : first + LONGEST])
+            part = token and uuid5(token, str(first))
+            rev = self._edit(rev, part, op="insert", at=at + first, text=text[first : first + LONGEST])
         return rev
 
-    def delete(self, at: int, count: int, rev: int | None = None) -> int:
+    def delete(self, at: int, count: int, rev: int | None = None, token: UUID | None = None) -> int:
         """Takes away 1 to 256 characters from a place on."""
-        return self._edit(rev, op="delete", at=at, count=count)
+        return self._edit(rev, token, op="delete", at=at, count=count)
 
-    def mark(self, start: int, end: int, mark: Mark, rev: int | None = None) -> int:
+    def mark(self, start: int, end: int, mark: Mark, rev: int | None = None, token: UUID | None = None) -> int:
         """Marks the characters from a place up to another, that one not included."""
-        return self._edit(rev, op="mark", **{"from": start, "to": end}, **mark.fields())
+        return self._edit(rev, token, op="mark", **{"from": start, "to": end}, **mark.fields())
 
-    def unmark(self, start: int, end: int, mark: Mark, rev: int | None = None) -> int:
+    def unmark(self, start: int, end: int, mark: Mark, rev: int | None = None, token: UUID | None = None) -> int:
         """Takes a mark away from the characters from a place up to another, that one not included."""
-        return self._edit(rev, op="unmark", **{"from": start, "to": end}, **mark.key())
+        return self._edit(rev, token, op="unmark", **{"from": start, "to": end}, **mark.key())
 
     def text(self) -> str:
         return self.read().text
@@ -79,11 +83,12 @@ class Document:
         """How many operations the document has."""
         return self.read().rev
 
-    def _edit(self, rev: int | None, **fields: Any) -> int:
+    def _edit(self, rev: int | None, token: UUID | None, **fields: Any) -> int:
         if rev is not None and not self.session.knows_rev(self.number):
             # The number is another session's. After a crash, or at a peer, it may name another text, and would be taken for this one.
             raise Stale(6, "stale")
-        answer = self.session.ask(doc=self.number, **fields, **({} if rev is None else {"rev": rev}))
+        given = {"rev": rev, "token": token and str(token)}
+        answer = self.session.ask(doc=self.number, **fields, **{name: value for name, value in given.items() if value is not None})
         return int(answer["rev"])
 
     def send_insert(self, at: int, text: str) -> Future[dict[str, Any]]:

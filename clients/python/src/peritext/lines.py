@@ -1,6 +1,14 @@
-"""Lines of bytes that come in parts."""
+"""Lines of bytes: one that is sent, and those that come in parts."""
 
 from __future__ import annotations
+
+import json
+from typing import Any
+
+
+def line_of(request: dict[str, Any]) -> bytes:
+    """The line of a request."""
+    return json.dumps(request, ensure_ascii=False).encode() + b"\n"
 
 
 class Lines:

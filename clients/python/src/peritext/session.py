@@ -2,7 +2,6 @@
 
 from __future__ import annotations
 
-import json
 import threading
 from collections import deque
 from concurrent.futures import Future
@@ -12,7 +11,7 @@ from typing import IO, Any, NamedTuple
 
 from .answers import NoAnswer, answer_of
 from .document import Document
-from .lines import Lines
+from .lines import Lines, line_of
 from .refusals import Ended, Refused
 from .silence import TIMEOUT, Silence
 
@@ -21,11 +20,11 @@ PART = 65_536
 
 
 class Owed(NamedTuple):
-    """An answer that is due, and what of its request says how to read it."""
+    """An answer that is due, its request, and whether that was sent before, over a connection that ended."""
 
     answer: Future[dict[str, Any]]
-    op: object
-    doc: object
+    request: dict[str, Any]
+    is_repeated: bool = False
 
 
 class Session:
@@ -47,7 +46,7 @@ class Session:
         # Held while a request is written and its place among those that wait is taken.
         self._writing = threading.Lock()
         # Held while that list changes, or what is known of the end.
-        self._listing = threading.Lock()
+        self._listing = threading.Condition()
         self._timeout = timeout
         self._silence = Silence(timeout, self._fall_silent)
         self._reader = threading.Thread(target=self._read, daemon=True)
@@ -63,7 +62,8 @@ class Session:
 
     def send(self, **fields: Any) -> Future[dict[str, Any]]:
         """Sends a request and doesn't wait for its answer."""
-        line = json.dumps(fields, ensure_ascii=False).encode() + b"\n"
+        request = self._named(fields)
+        line = line_of(request)
         answer: Future[dict[str, Any]] = Future()
         # It is under way from now on: who doesn't want the answer any more can't take it out of its order.
         answer.set_running_or_notify_cancel()
@@ -71,15 +71,23 @@ class Session:
             with self._listing:
                 if self._end is not None:
                     raise Ended(f"the session has ended ({self._end})")
-                self._waiting.append(Owed(answer, fields.get("op"), fields.get("doc")))
+                self._waiting.append(Owed(answer, request))
                 self._silence.begin()
-            try:
-                self._requests.write(line)
-                self._requests.flush()
-            except (OSError, ValueError):
-                # The reader sees the end too, and tells all that wait.
-                pass
+                self._listing.notify_all()
+            self._write(line)
         return answer
+
+    def _named(self, request: dict[str, Any]) -> dict[str, Any]:
+        """The request as it is sent."""
+        return request
+
+    def _write(self, line: bytes) -> None:
+        try:
+            self._requests.write(line)
+            self._requests.flush()
+        except (OSError, ValueError):
+            # The reader sees the end too, and goes on elsewhere or tells all that wait.
+            pass
 
     def knows_rev(self, document: int) -> bool:
         """Whether this session was told a `rev` of a document. Before, the number of another session could name another text."""
@@ -100,6 +108,7 @@ class Session:
             self._closes = True
             # The end of the answers is due.
             self._silence.begin()
+            self._listing.notify_all()
         with self._writing:
             try:
                 self._end_requests()
@@ -125,17 +134,29 @@ class Session:
         """Gives answers until no more can come. However that ends, all who wait are told."""
         end = "no more answers come"
         try:
-            end = self._read_all() or end
+            end = self._read_to_end()
+            while self._goes_on():
+                end = self._read_to_end()
+        finally:
+            self._over(end)
+            self._silence.close()
+
+    def _goes_on(self) -> bool:
+        """Whether the answers that are due come over another connection, which is there then."""
+        return False
+
+    def _read_to_end(self) -> str:
+        """Gives the answers that come, and why there are no more."""
+        try:
+            return self._read_all() or "no more answers come"
         except OSError as error:
-            end = f"reading failed: {error}"
+            return f"reading failed: {error}"
         except Exception as error:
             end = str(error) if isinstance(error, NoAnswer) else f"an answer couldn't be read: {error!r}"
             # Nothing after it can be told apart.
             self._over(end)
             self._abandon()
-        finally:
-            self._over(end)
-            self._silence.close()
+            return end
 
     def _read_all(self) -> str | None:
         """Why the answers ended, if they didn't do so between two of them."""
@@ -152,7 +173,7 @@ class Session:
         if owed is None:
             raise NoAnswer("a line came that nobody asked for")
         # It waits on until this is known to be its answer.
-        told = answer_of(line, owed.op)
+        told = answer_of(line, owed.request.get("op"))
         if self._is_taken_off(told):
             if isinstance(told, Refused):
                 owed.answer.set_exception(told)
@@ -167,9 +188,15 @@ class Session:
             owed = self._waiting.popleft()
             if not self._waiting and not self._closes:
                 self._silence.end()
-            if not isinstance(told, Refused) and "rev" in told and isinstance(owed.doc, int):
-                self._told.add(owed.doc)
+            if not isinstance(told, Refused):
+                self._note(owed, told)
             return True
+
+    def _note(self, owed: Owed, told: dict[str, Any]) -> None:
+        """Keeps what an answer tells. That to an edit which was sent before may be older than what is there."""
+        doc = owed.request.get("doc")
+        if "rev" in told and isinstance(doc, int) and not (owed.is_repeated and "token" in owed.request):
+            self._told.add(doc)
 
     def _fall_silent(self) -> None:
         self._over(f"no byte came for {self._timeout:g} seconds, its timeout")

@@ -1,0 +1,158 @@
+"""Edits whose answers were lost act once."""
+
+import contextlib
+import json
+import signal
+import threading
+import time
+from uuid import UUID
+
+import peritext
+from fake import FakeDaemon
+from support import PATIENCE, PROGRAM, Daemon, WithDaemon, WithFile
+
+TOKEN = UUID("00000000-0000-4000-8000-0000000000d1")
+
+
+class Lost(WithDaemon):
+    """A daemon is killed, and started again on the same port."""
+
+    def again(self):
+        self.daemon.kill()
+        self.daemon = Daemon(self.name, self.daemon.port)
+        self.addCleanup(self.daemon.kill)
+
+    def test_a_session_goes_on_where_the_daemon_comes_again(self):
+        session = self.connect()
+        text = session.document(1)
+        text.insert(0, "a")
+        self.again()
+        self.assertEqual(text.insert(1, "b"), 2)
+        self.assertEqual(text.text(), "ab")
+
+    def test_all_that_is_under_way_is_made_once_and_in_order(self):
+        session = self.connect()
+        text = session.document(1)
+        letters = "".join(chr(0x100 + k) for k in range(600))
+        under_way = []
+        for at, letter in enumerate(letters):
+            under_way.append(text.send_insert(at, letter))
+            if at % 200 == 150:
+                under_way[at - 100].result(3 * PATIENCE)
+                self.again()
+        self.assertEqual([edit.result(3 * PATIENCE)["rev"] for edit in under_way], list(range(1, len(letters) + 1)))
+        self.assertEqual(text.text(), letters)
+
+    def test_an_edit_with_a_rev_is_made_before_the_end_or_stale(self):
+        session = self.connect()
+        text = session.document(1)
+        rev = text.insert(0, "a")
+        self.daemon.run.send_signal(signal.SIGSTOP)
+        # Nobody reads this one.
+        edit = session.send(op="insert", doc=1, at=0, text="b", rev=rev)
+        self.again()
+        self.assertIsInstance(edit.exception(PATIENCE), peritext.Stale)
+        with self.assertRaises(peritext.Stale):
+            text.insert(0, "c", rev)
+        self.assertEqual(text.text(), "a")
+
+    def test_nothing_is_sent_to_the_daemon_of_another_file(self):
+        session = self.connect()
+        session.document(1).insert(0, "a")
+        other = self.name + "2"
+        peritext.init(other, program=PROGRAM)
+        self.daemon.kill()
+        self.daemon = Daemon(other, self.daemon.port)
+        self.addCleanup(self.daemon.kill)
+        with self.assertRaises(peritext.Ended) as caught:
+            session.document(1).insert(1, "b")
+        self.assertIn("another file is served", str(caught.exception))
+        self.assertEqual(self.connect().document(1).text(), "")
+
+    def test_without_retry_it_ends(self):
+        session = peritext.connect(self.daemon.port, retry=None)
+        self.addCleanup(session.close)
+        self.again()
+        with self.assertRaises(peritext.Ended):
+            session.document(1).insert(0, "a")
+
+    def test_a_daemon_that_stays_away_is_looked_for_no_longer(self):
+        session = peritext.connect(self.daemon.port, retry=0.3)
+        self.addCleanup(session.close)
+        self.daemon.kill()
+        begun = time.monotonic()
+        with self.assertRaises(peritext.Ended):
+            session.document(1).insert(0, "a")
+        self.assertLess(time.monotonic() - begun, PATIENCE / 2)
+
+    def test_a_stop_is_sent_once(self):
+        session = self.connect()
+        session.stop()
+        self.daemon.ended()
+        self.daemon = Daemon(self.name, self.daemon.port)
+        self.addCleanup(self.daemon.kill)
+        with self.assertRaises(peritext.Ended):
+            session.document(1).insert(0, "a")
+
+    def test_a_close_waits_for_what_is_sent_again(self):
+        session = self.connect()
+        self.daemon.run.send_signal(signal.SIGSTOP)
+        edits = [session.document(1).send_insert(0, "x") for _ in range(3)]
+        threading.Timer(0.2, self.again).start()
+        session.close()
+        self.assertEqual([edit.result()["rev"] for edit in edits], [1, 2, 3])
+
+
+class MadeAndLost(WithFile):
+    def test_an_edit_that_was_made_is_answered_as_at_first(self):
+        made, sent = {}, []
+
+        def talk(connection, lines):
+            for line in lines:
+                request = json.loads(line)
+                sent.append(request)
+                is_known = request["token"] in made
+                if not is_known and request.get("rev") == 2**32 - 1:
+                    connection.sendall(b'{"code":6,"error":"stale","ok":false}\n')
+                    continue
+                made.setdefault(request["token"], len(made) + 1)
+                if not is_known and len(made) == 2:
+                    return
+                connection.sendall(b'{"ok":true,"rev":%d}\n' % made[request["token"]])
+
+        daemon = FakeDaemon(talk)
+        self.addCleanup(daemon.close)
+        with peritext.connect(daemon.port) as session:
+            text = session.document(1)
+            rev = text.insert(0, "a")
+            self.assertEqual(text.insert(1, "b", rev), 2)
+            # What it was answered may be older than what is there.
+            with self.assertRaises(peritext.Stale):
+                text.insert(2, "c", 2)
+        self.assertEqual([request["text"] for request in sent], ["a", "b", "a", "b"])
+        self.assertEqual([request.get("rev") for request in sent], [None, 1, 2**32 - 1, 2**32 - 1])
+
+
+class Tokens(WithFile):
+    def test_a_token_acts_once_across_sessions(self):
+        for _ in range(2):
+            with self.open() as opened:
+                text = opened.document(1)
+                self.assertEqual(text.insert(0, "a", token=TOKEN), 1)
+                self.assertEqual(text.insert(0, "x" * 600, token=UUID(int=7)), 601)
+                self.assertEqual(text.mark(0, 1, peritext.EM, token=UUID(int=8)), 602)
+                self.assertEqual(text.unmark(0, 1, peritext.EM, token=UUID(int=9)), 603)
+                self.assertEqual(text.delete(0, 1, token=UUID(int=10)), 604)
+                self.assertEqual(text.read(), ("x" * 599 + "a", 604))
+
+    def test_a_refused_edit_leaves_no_token(self):
+        with self.open() as opened:
+            text = opened.document(1)
+            self.assertEqual(self.refusal(text.insert, 9, "a", token=TOKEN), (5, "range"))
+            self.assertEqual(text.insert(0, "a", token=TOKEN), 1)
+            self.assertEqual(self.refusal(opened.ask, op="insert", doc=1, at=0, text="b", token=str(UUID(int=0))), (4, "field"))
+
+    def test_a_file_session_draws_none(self):
+        with self.open() as opened, contextlib.suppress(peritext.Ended):
+            self.assertEqual(opened.document(1).insert(0, "a"), 1)
+            self.assertEqual(opened.document(1).insert(0, "a"), 2)
