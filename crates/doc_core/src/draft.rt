@@ -1,10 +1,11 @@
-ghost use Rattle.std.specs.Prelude.{◌≡◌, ◌↔◌, ℕ, List, [], false, IfOk, OnOk, OnErr, IsErrOf};
+ghost use Rattle.std.specs.Prelude.{◌≡◌, ◌↔◌, ◌<◌, ◌^◌, ℕ, List, [], false, IfOk, OnOk, OnErr, IsErrOf};
 ghost use Rattle.char_sequence.specs.Woven.{IsWovenOf};
 ghost use Rattle.doc_core.specs.Drafting.{IsDraftOf, TakesDraft};
 ghost use Rattle.doc_core.specs.Standing.{are_there, is_remove, StandsFor};
 ghost use Rattle.doc_core.specs.Taking.{TakesWoven};
 ghost use Rattle.op_model.specs.declared.op.Op.{Op};
 ghost use Rattle.op_model.specs.Causality.{named_by};
+ghost use Rattle.op_model.specs.Text.{rev as rev_of};
 
 use crate::doc::Doc;
 use char_sequence::{SequenceError, Weave};
@@ -57,6 +58,14 @@ impl Draft {
         ensures { result ≡ self.now.number }
     {
         self.doc
+    }
+
+    /// How many operations it has, if fewer than 2^64. Takes no memory. Constant.
+    pub fn rev(&self) -> u64
+        ensures { (ops : List Op) → IsDraftOf self.now ops
+            → rev_of ops self.now.number < 2 ^ 64 → result ≡ rev_of ops self.now.number }
+    {
+        self.rev
     }
 
     /// Takes an operation of the document. `UnknownId` (60) exactly where a character that it names

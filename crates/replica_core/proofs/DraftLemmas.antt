@@ -1,5 +1,5 @@
 -- The drafts of the documents of a list, and one of them with an operation more.
-use Rattle.std.proofs.Common.{◌≡◌, ℕ, zero, suc, ◌+◌, ◌<◌, List, [], ◌∷◌, ◌++◌, length, take, get_or, refl, sym, ◌∙◌, ap, arith}
+use Rattle.std.proofs.Common.{◌≡◌, ℕ, zero, suc, ◌+◌, ◌<◌, ◌^◌, List, [], ◌∷◌, ◌++◌, length, take, get_or, refl, sym, ◌∙◌, ap, arith}
 use Rattle.std.specs.Prelude.{slice_set}
 use Rattle.std.proofs.lemmas.List.{take_more}
 use Rattle.doc_core.specs.declared.doc.Doc.{Doc}
@@ -12,6 +12,7 @@ use Rattle.op_model.specs.Placing.{Fits}
 use Rattle.doc_core.proofs.FittingLemmas.{draft_stays}
 use Rattle.op_model.specs.declared.op.Op.{Op}
 use Rattle.op_model.specs.Rising.{AllOver, IsUp}
+use Rattle.op_model.specs.Text.{rev}
 use Rattle.replica_core.specs.Docs.{draft_numbers, numbers, AllDrafts, AllStand}
 
 -- one more draft
@@ -82,6 +83,14 @@ draft_put (x ∷ ds) (suc i) d new list op up here is_it same all takes =
 -- the first i and the next one
 pub take_push : (list : List Op) (i : ℕ) (op : Op) → i < length list → op ≡ get_or list i op → take (i + 1) list ≡ take i list ++ op ∷ []
 take_push list i op here is_it = rw (take_more list i op here, ← is_it) refl
+
+-- how many operations a draft has that took one more of its document
+pub draft_rev : (d new : Draft) (ops : List Op) (op : Op) (n : ℕ) → op.doc ≡ draft_number d → draft_number new ≡ draft_number d
+    → IsDraftOf new (ops ++ op ∷ []) → rev (ops ++ op ∷ []) op.doc < 2 ^ 64
+    → ((all : List Op) → IsDraftOf new all → rev all (draft_number new) < 2 ^ 64 → n ≡ rev all (draft_number new)) → n ≡ rev (ops ++ op ∷ []) op.doc
+draft_rev d new ops op n same kept is few says =
+    let number : draft_number new ≡ op.doc = kept ∙ sym same in
+    rw number at (says (ops ++ op ∷ []) is (rw number few))
 
 -- what may come to a document may come to the one of the same number
 pub may_come_at : (ops : List Op) (n m : ℕ) (op : Op) → n ≡ m → Fits ops n op → Fits ops m op

@@ -19,5 +19,5 @@ pub mod DraftLemmas
 pub mod CountLemmas
 pub mod EditLemmas
 pub mod RevLemmas
-pub mod KnownLemmas
+pub mod TokenLemmas
 pub mod WaitingLemmas

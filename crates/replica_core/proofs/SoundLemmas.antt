@@ -26,6 +26,9 @@ use Rattle.model_laws.proofs.Ready.{clock-push}
 use Rattle.model_laws.specs.Asking.{IsAskedRight}
 use Rattle.doc_core.specs.declared.doc.Doc.{Doc}
 use Rattle.char_sequence.specs.Content.{FitAfter}
+use Rattle.edit_tokens.specs.declared.place.Place.{Place}
+use Rattle.edit_tokens.specs.Places.{AreTokens}
+use Rattle.edit_tokens.proofs.PlaceLemmas.{tokens_foreign}
 use Rattle.model_laws.proofs.Closed.{follows_fits}
 use Rattle.doc_core.proofs.FittingLemmas.{made_fit}
 use Rattle.replica_core.specs.declared.index.Index.{Index}
@@ -151,12 +154,12 @@ IsSound-with_edit h session e sound can =
 
 -- so are its fields
 pub AreFields-with_edit : (h : ReplicaHeld) (session : ℕ) (e : Edit) (counts_before counts : List (ℕ × ℕ)) (docs_before docs : List Doc) (before after : Index)
-    → AreFields h counts_before docs_before before → CanEdit h e → 0 < size_of e.change
+    → (places_before places : List (ℕ × Place)) → AreFields h counts_before docs_before before places_before → CanEdit h e → 0 < size_of e.change
     → counts ≡ clock_of (h.list ++ made h.list h.replica e) → numbers docs ≡ with_number e.doc (numbers docs_before)
     → (AreDocs docs_before h.list → FitAfter h.list e.doc (made h.list h.replica e) → AllStand docs (h.list ++ made h.list h.replica e))
     → (IsIndexOf before h.list → IsIndexOf after (h.list ++ made h.list h.replica e))
-    → AreFields (with_edit h session e) counts docs after
-AreFields-with_edit h session e counts_before counts docs_before docs before after fields can some is_clock are_numbers stand indexed =
+    → AreTokens places h.replica (h.list ++ made h.list h.replica e) → AreFields (with_edit h session e) counts docs after places
+AreFields-with_edit h session e counts_before counts docs_before docs before after places_before places fields can some is_clock are_numbers stand indexed are_tokens =
     record {
       sound = IsSound-with_edit h session e fields.sound can;
       clock = is_clock;
@@ -165,6 +168,7 @@ AreFields-with_edit h session e counts_before counts docs_before docs before aft
         stand = stand fields.docs (made_fit h.list h.replica e (due_within h.list h.replica e can.due));
       };
       index = indexed fields.index;
+      tokens = are_tokens;
     }
 
 -- what a replica holds behind an edit's operations and its step
@@ -179,19 +183,19 @@ held_of-edit id opened settled acked told session first count steps old new adde
 
 -- and that its fields are those
 pub AreFields-edit : (id opened settled acked told session first count : ℕ) (steps : List Kept) (old new : Log) (added : List Op) (e : Edit)
-    → (counts_before counts : List (ℕ × ℕ))
-    → AreFields (held_of id old.list opened settled acked told steps) counts_before old.docs.items old.index
+    → (counts_before counts : List (ℕ × ℕ)) (places_before places : List (ℕ × Place))
+    → AreFields (held_of id old.list opened settled acked told steps) counts_before old.docs.items old.index places_before
     → CanEdit (held_of id old.list opened settled acked told steps) e → 0 < size_of e.change
     → counts ≡ clock_of (old.list ++ made old.list id e)
     → IsAppended old new added e.doc → added ≡ made old.list id e
-    → first ≡ length old.list → count ≡ size_of e.change
-    → AreFields (held_of id new.list opened settled acked told (edited session e first count ∷ steps)) counts new.docs.items new.index
-AreFields-edit id opened settled acked told session first count steps old new added e counts_before counts fields can some is_clock is are at many =
+    → first ≡ length old.list → count ≡ size_of e.change → AreTokens places id (old.list ++ made old.list id e)
+    → AreFields (held_of id new.list opened settled acked told (edited session e first count ∷ steps)) counts new.docs.items new.index places
+AreFields-edit id opened settled acked told session first count steps old new added e counts_before counts places_before places fields can some is_clock is are at many are_tokens =
     let h : ReplicaHeld = held_of id old.list opened settled acked told steps in
     let held = held_of-edit id opened settled acked told session first count steps old new added e is are at many (due_asks_right old.list id e can.due) in
     rw held
-    (AreFields-with_edit h session e counts_before counts old.docs.items new.docs.items old.index new.index
-    fields can some is_clock is.numbers (λ docs come. rw are at (is.stand docs (rw are come))) (λ was. rw (← are, ← is.list) (is.index was)))
+    (AreFields-with_edit h session e counts_before counts old.docs.items new.docs.items old.index new.index places_before places
+    fields can some is_clock is.numbers (λ docs come. rw are at (is.stand docs (rw are come))) (λ was. rw (← are, ← is.list) (is.index was)) are_tokens)
 
 -- the checks of an operation, where none fails
 abbrev checks : Bool → Bool → Bool → Bool → Option ℕ
@@ -242,12 +246,12 @@ held_of-merge id opened settled acked told peer index steps old new added op is 
 
 -- and that its fields are those
 pub AreFields-merge : (id opened settled acked told peer index : ℕ) (steps : List Kept) (old new : Log) (added : List Op) (op : Op)
-    → (counts_before counts : List (ℕ × ℕ))
-    → AreFields (held_of id old.list opened settled acked told steps) counts_before old.docs.items old.index
+    → (counts_before counts : List (ℕ × ℕ)) (places : List (ℕ × Place))
+    → AreFields (held_of id old.list opened settled acked told steps) counts_before old.docs.items old.index places
     → CanMerge (held_of id old.list opened settled acked told steps) op → counts ≡ advanced counts_before op.id.replica
     → IsAppended old new added op.doc → added ≡ op ∷ [] → index ≡ length old.list
-    → AreFields (held_of id new.list opened settled acked told (merged peer index ∷ steps)) counts new.docs.items new.index
-AreFields-merge id opened settled acked told peer index steps old new added op counts_before counts fields can is_clock is are at =
+    → AreFields (held_of id new.list opened settled acked told (merged peer index ∷ steps)) counts new.docs.items new.index places
+AreFields-merge id opened settled acked told peer index steps old new added op counts_before counts places fields can is_clock is are at =
     let h : ReplicaHeld = held_of id old.list opened settled acked told steps in
     let held = held_of-merge id opened settled acked told peer index steps old new added op is are at in
     rw held (record {
@@ -258,6 +262,7 @@ AreFields-merge id opened settled acked told peer index steps old new added op c
         stand = rw are at (is.stand fields.docs (rw are (follows_fits old.list op.doc op can.joins.follows refl, tt)));
       };
       index = rw (← are, ← is.list) (is.index fields.index);
+      tokens = tokens_foreign places id old.list op can.joins.foreign fields.tokens;
     })
 
 differs : (a b : ℕ) → (a == b) ≡ false → a ≢ b
@@ -280,10 +285,10 @@ merge_alone-applied h op new ready other passed places =
     rw (new, other, ready, passed, fits) refl
 
 -- what a replica keeps is kept where it told of settled operations
-pub AreFields-told : (h : ReplicaHeld) (n now : ℕ) (counts : List (ℕ × ℕ)) (docs : List Doc) (known : Index)
-    → AreFields h counts docs known → n ≤ h.settled
-    → now ≡ max h.told n → AreFields (record h { told = now }) counts docs known
-AreFields-told h n now counts docs known fields within is_it = record {
+pub AreFields-told : (h : ReplicaHeld) (n now : ℕ) (counts : List (ℕ × ℕ)) (docs : List Doc) (known : Index) (places : List (ℕ × Place))
+    → AreFields h counts docs known places → n ≤ h.settled
+    → now ≡ max h.told n → AreFields (record h { told = now }) counts docs known places
+AreFields-told h n now counts docs known places fields within is_it = record {
   sound = record {
     closed = fields.sound.closed;
     opened = fields.sound.opened;
@@ -297,4 +302,5 @@ AreFields-told h n now counts docs known fields within is_it = record {
   clock = fields.clock;
   docs = fields.docs;
   index = fields.index;
+  tokens = fields.tokens;
 }

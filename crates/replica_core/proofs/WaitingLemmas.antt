@@ -1,15 +1,14 @@
 -- How many bytes an edit adds to what waits.
-use Rattle.std.proofs.Common.{◌≡◌, ℕ, ◌+◌, ◌-◌, ◌*◌, ◌<◌, ◌≤◌, List, [], ◌∷◌, suc, length, refl, ap, ◌∙◌, Option, Some, arith}
+use Rattle.std.proofs.Common.{◌≡◌, ℕ, ◌+◌, ◌-◌, ◌*◌, ◌<◌, ◌≤◌, List, [], ◌∷◌, suc, length, refl, ap, Option, Some, arith}
 use Rattle.op_ids.specs.Id.{Id}
 use Rattle.op_ids.specs.Clock.{advanced}
 use Rattle.op_model.specs.declared.op.Op.{Op}
 use Rattle.op_model.specs.declared.op.Body.{Body}
-use Rattle.op_model.specs.declared.op.Body.TheVariants as body
 use Rattle.op_model.specs.declared.edit.Edit.{Edit}
 use Rattle.op_model.specs.declared.edit.Change.{Change}
 use Rattle.op_model.specs.declared.edit.Change.TheVariants as change
 use Rattle.op_model.specs.Causality.{clock_of}
-use Rattle.op_model.specs.Made.{greatest_counter, numbered, insert_bodies, bodies_of, made, origin_of}
+use Rattle.op_model.specs.Made.{greatest_counter, numbered, insert_bodies, bodies_of, origin_of}
 use Rattle.op_model.specs.Records.{head_length, token_length, origin_length, stream_length}
 use Rattle.op_model.specs.Waiting.{change_length}
 use Rattle.model_laws.proofs.EditLimits.{length-insert_bodies}

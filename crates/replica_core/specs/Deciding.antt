@@ -8,8 +8,9 @@ use Rattle.op_model.specs.declared.op.Op.{Op}
 use Rattle.op_model.specs.declared.op.Body.{Body}
 use Rattle.op_model.specs.Causality.{IsCausallyClosed, clock_of, is_covered_insert}
 use Rattle.op_model.specs.Records.{body_length}
-use Rattle.doc_core.specs.declared.doc.Doc.{Doc}
+use Rattle.edit_tokens.specs.Places.{AreTokens}
 use Rattle.replica_core.specs.declared.index.Index.{Index}
+use Rattle.replica_core.specs.declared.opening.Opened.{Opened}
 use Rattle.replica_core.specs.Docs.{AreDocs}
 use Rattle.replica_core.specs.Indexes.{IsIndexOf}
 
@@ -19,12 +20,13 @@ pub record AreCounted (ops : List Op) (counts : List (ℕ × ℕ)) (known : Inde
   pub clock : counts ≡ clock_of ops
   pub index : IsIndexOf known ops
 
--- a causally closed list, its clock, its documents and its index
-pub record AreKnown (ops : List Op) (counts : List (ℕ × ℕ)) (kept : List Doc) (known : Index) : Type 0 where
+-- a causally closed list, its clock, its documents, its index, and the tokens of a replica's edits in it
+pub record AreKnown (ops : List Op) (replica : ℕ) (found : Opened) : Type 0 where
   pub closed : IsCausallyClosed ops
-  pub clock : counts ≡ clock_of ops
-  pub docs : AreDocs kept ops
-  pub index : IsIndexOf known ops
+  pub clock : found.clock ≡ clock_of ops
+  pub docs : AreDocs found.docs.items ops
+  pub index : IsIndexOf found.index ops
+  pub tokens : AreTokens found.tokens replica ops
 
 -- how many bytes the contents of these records take
 abbrev pub lengths : List Body → ℕ

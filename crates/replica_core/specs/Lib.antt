@@ -10,4 +10,3 @@ pub mod Makers
 pub mod Indexes
 pub mod Docs
 pub mod Telling
-pub mod Known

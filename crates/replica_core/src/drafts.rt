@@ -1,30 +1,42 @@
-ghost use Rattle.std.specs.Prelude.{◌≡◌, List, [], ◌∷◌, ◌++◌, IfOk, IfErr, OnOk};
+ghost use Rattle.std.specs.Prelude.{◌≡◌, ◌<◌, ◌^◌, List, [], ◌∷◌, ◌++◌, IfOk, IfErr, OnOk};
 ghost use Rattle.op_model.specs.Placing.{Fits};
 ghost use Rattle.op_model.specs.Rising.{IsUp};
 ghost use Rattle.op_model.specs.declared.op.Op.{Op};
 ghost use Rattle.op_model.specs.Causality.{documents, IsCausallyClosed};
 ghost use Rattle.op_model.specs.Spans.{with_number};
+ghost use Rattle.op_model.specs.Text.{rev as rev_of};
+ghost use Rattle.edit_tokens.specs.Places.{AreTokens};
 ghost use Rattle.replica_core.specs.Docs.{draft_numbers, numbers as doc_numbers};
 ghost use Rattle.replica_core.specs.Docs.{AllDrafts, AllStand, AreDocs, AreDrafts};
 
 use crate::refusal::Refusal;
 use doc_core::{Doc, Draft, SequenceError};
+use edit_tokens::{Place, Tokens};
+use op_ids::ReplicaId;
 use op_list::OpSlice;
 use op_model::{Op, place_among};
 use std::alloc::{AllocError, Global};
 
-/// The documents of a causally closed list, whose numbers are given. An error is want of memory
-/// (1). For each operation a search by halves for its document, and what its draft takes for it.
-pub fn documents_of(alloc: Global, list: &OpSlice<'_>, numbers: &[u32]) -> Result<Vec<Doc>, Refusal>
+/// The documents of a causally closed list, whose numbers are given, and the tokens of a replica's
+/// edits in it. An error is want of memory (1). For each operation a search by halves for its
+/// document, and what its draft takes for it; for an own one with a token a search in an ordered
+/// map.
+pub fn documents_of(
+    alloc: Global,
+    replica: ReplicaId,
+    list: &OpSlice<'_>,
+    numbers: &[u32],
+) -> Result<(Vec<Doc>, Tokens), Refusal>
     requires closed { IsCausallyClosed list.now }
     requires numbers { numbers.now ≡ documents list.now }
-    ensures docs { IfOk result (λ docs. AreDocs docs.items list.now) }
+    ensures docs { IfOk result (λ found. AreDocs found.0.items list.now) }
+    ensures tokens { IfOk result (λ found. AreTokens found.1 replica list.now) }
     ensures memory { IfErr result (λ e. e ≡ Refusal.Memory) }
 {
     let mut drafts = empty(alloc, numbers)?;
-    apply_all(alloc, &mut drafts, numbers, list)?;
+    let tokens = apply_all(alloc, replica, &mut drafts, numbers, list)?;
     let docs = finished(alloc, drafts)?;
-    Ok(docs)
+    Ok((docs, tokens))
 }
 
 /// The drafts of documents without operations. An error is want of memory (1).
@@ -40,29 +52,38 @@ fn empty(alloc: Global, numbers: &[u32]) -> Result<Vec<Draft>, AllocError>
 }
 
 /// Gives each operation of a list to its document's draft, and lets it go before the next one is
-/// read. An error is want of memory (1).
+/// read. Returns the tokens of a replica's edits. An error is want of memory (1).
 fn apply_all(
     alloc: Global,
+    replica: ReplicaId,
     drafts: &mut Vec<Draft>,
     numbers: &[u32],
     list: &OpSlice<'_>,
-) -> Result<(), Refusal>
+) -> Result<Tokens, Refusal>
     requires closed { IsCausallyClosed list.now }
     requires numbers { numbers.now ≡ documents list.now }
     requires empty { AreDrafts drafts.old.items numbers.now [] }
     ensures drafts { OnOk result (AreDrafts drafts.new.items numbers.now list.now) }
+    ensures tokens { IfOk result (λ tokens. AreTokens tokens replica list.now) }
     ensures memory { IfErr result (λ e. e ≡ Refusal.Memory) }
 {
+    let mut tokens = Tokens::new(alloc);
     for i in 0..list.len() {
         let op = list.get(alloc, i)?;
-        apply(drafts, numbers, &op)?;
+        let rev = apply(drafts, numbers, &op)?;
+        let place = Place {
+            end: (i + 1) as u32,
+            rev: rev as u32,
+        };
+        tokens.count(replica, &op, place)?;
     }
-    Ok(())
+    Ok(tokens)
 }
 
-/// Gives an operation that may come to its document's draft. An error is want of memory (1). A
-/// search by halves for the document, and what its draft takes for it.
-fn apply(drafts: &mut Vec<Draft>, numbers: &[u32], op: &Op) -> Result<(), Refusal>
+/// Gives an operation that may come to its document's draft, and returns how many operations that
+/// has then. An error is want of memory (1). A search by halves for the document, and what its
+/// draft takes for it.
+fn apply(drafts: &mut Vec<Draft>, numbers: &[u32], op: &Op) -> Result<u64, Refusal>
     requires rising { IsUp numbers.now }
     requires there { with_number op.now.doc numbers.now ≡ numbers.now }
     requires may_come { (ops : List Op) × AreDrafts drafts.old.items numbers.now ops
@@ -70,6 +91,9 @@ fn apply(drafts: &mut Vec<Draft>, numbers: &[u32], op: &Op) -> Result<(), Refusa
     ensures drafts { OnOk result ((ops : List Op) → AreDrafts drafts.old.items numbers.now ops
         → Fits ops op.now.doc op.now
         → AreDrafts drafts.new.items numbers.now (ops ++ op.now ∷ [])) }
+    ensures rev { IfOk result (λ rev. (ops : List Op) → AreDrafts drafts.old.items numbers.now ops
+        → Fits ops op.now.doc op.now → rev_of (ops ++ op.now ∷ []) op.now.doc < 2 ^ 64
+        → rev ≡ rev_of (ops ++ op.now ∷ []) op.now.doc) }
     ensures memory { IfErr result (λ e. e ≡ Refusal.Memory) }
 {
     match place_among(numbers, op.doc) {
@@ -77,7 +101,7 @@ fn apply(drafts: &mut Vec<Draft>, numbers: &[u32], op: &Op) -> Result<(), Refusa
         Ok(at) => {
             let draft = &mut drafts[at];
             match draft.apply(op) {
-                Ok(()) => Ok(()),
+                Ok(()) => Ok(draft.rev()),
                 Err(SequenceError::Memory) => Err(Refusal::Memory),
                 Err(SequenceError::UnknownId) => unreachable!(),
             }

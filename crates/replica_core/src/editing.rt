@@ -14,6 +14,7 @@ use crate::replica::Replica;
 use crate::step::Step;
 use crate::ticket::Ticket;
 use doc_core::{Doc, SequenceError};
+use edit_tokens::Place;
 use ghost_lists::Seen;
 use op_model::Edit;
 
@@ -63,7 +64,8 @@ impl Replica {
 
     /// Makes the operations of a session's new edit that nothing refuses, as `decide_edit` tells,
     /// and puts them behind the list. An error is want of memory (1), and changes nothing. A few
-    /// steps for clocks, and what the document takes for it, which isn't searched again.
+    /// steps for clocks, and what the document takes for it, which isn't searched again. With a
+    /// token a search in an ordered map too, and about 40 bytes of memory.
     pub fn put_edit(
         &mut self,
         session: u64,
@@ -87,13 +89,24 @@ impl Replica {
         let mut clock = self.clock.copy()?;
         count_all(&mut clock, made.as_slice())?;
         let first = self.log.list.len();
+        let count = edit.change.size();
+        let end = first + count;
+        let rev = rev + count;
+        let place = Place {
+            end: end as u32,
+            rev: rev as u32,
+        };
+        let before = self.tokens.keep(edit.token, place)?;
         match self.log.append(&made, self.id, edit.doc, decided.place) {
             Ok(()) => {}
-            Err(SequenceError::Memory) => return Err(Refusal::Memory),
+            Err(SequenceError::Memory) => {
+                // A refused edit may be sent again, and is made then.
+                self.tokens.take_back(edit.token, before);
+                return Err(Refusal::Memory);
+            }
             Err(SequenceError::UnknownId) => unreachable!(),
         }
         self.clock = clock;
-        let count = edit.change.size();
         self.steps.push(Step::Edit {
             session,
             edit: Seen::of(edit),
@@ -101,8 +114,8 @@ impl Replica {
             count,
         });
         Ok(Ticket {
-            end: first + count,
-            rev: rev + count,
+            end,
+            rev,
             known: false,
         })
     }

@@ -12,23 +12,39 @@ use crate::following::may_follow;
 use crate::index::Index;
 use crate::refusal::Refusal;
 use doc_core::Doc;
+use edit_tokens::Tokens;
 use fixed_numbers::limits::MAX_DOCUMENTS;
-use op_ids::Clock;
+use op_ids::{Clock, ReplicaId};
 use op_list::OpSlice;
 use op_model::{Op, put_among};
 use std::alloc::Global;
 
-/// The clock, the documents and the index of a causally closed list. `BadOperation` (47) exactly
-/// where the list isn't; `Memory` (1) says nothing of that. The list is gone through twice: what
-/// may follow is decided before a document takes anything.
-pub fn counted(alloc: Global, list: &OpSlice<'_>) -> Result<(Clock, Vec<Doc>, Index), Refusal>
-    ensures known { IfOk result (λ found. AreKnown list.now found.0 found.1.items found.2) }
+/// What a replica knows of a list that it was opened with.
+#[derive(Drop)]
+pub struct Opened {
+    pub clock: Clock,
+    pub docs: Vec<Doc>,
+    pub index: Index,
+    pub tokens: Tokens,
+}
+
+/// The clock, the documents and the index of a causally closed list, and the tokens of a replica's
+/// edits in it. `BadOperation` (47) exactly where the list isn't; `Memory` (1) says nothing of
+/// that. The list is gone through twice: what may follow is decided before a document takes
+/// anything.
+pub fn counted(alloc: Global, replica: ReplicaId, list: &OpSlice<'_>) -> Result<Opened, Refusal>
+    ensures known { IfOk result (λ found. AreKnown list.now replica found) }
     ensures bad { IfErr result (λ e. e ≢ Refusal.Memory
         → (e ≡ Refusal.BadOperation) × (IsCausallyClosed list.now → ⊥)) }
 {
     let (clock, numbers, index) = checked(alloc, list)?;
-    let docs = documents_of(alloc, list, &numbers)?;
-    Ok((clock, docs, index))
+    let (docs, tokens) = documents_of(alloc, replica, list, &numbers)?;
+    Ok(Opened {
+        clock,
+        docs,
+        index,
+        tokens,
+    })
 }
 
 /// The clock, the documents' numbers and the index of a causally closed list. Refuses as `counted`.

@@ -149,3 +149,66 @@ fn a_list_that_is_not_closed_is_no_replica(rt: HostRuntime) -> Result<(), Fail> 
     );
     Ok(())
 }
+
+#[test]
+fn an_edit_with_a_token_is_made_once(rt: HostRuntime) -> Result<(), Fail> {
+    let asks = [
+        (0, Ask::EditUnder(1, Wish::Insert(0, "ab"))),
+        (0, Ask::EditUnder(2, Wish::Insert(2, "c"))),
+        (0, Ask::EditUnder(1, Wish::Insert(0, "ab"))),
+        (0, Ask::EditUnder(2, Wish::Delete(0, 1))),
+        (0, Ask::HasText("abc")),
+    ];
+    assert_eq!(rt;
+        answers(rt.alloc(), &[1], &asks)?.as_slice(),
+        [2, 3, 2, 3, 1].as_slice()
+    );
+    Ok(())
+}
+
+#[test]
+fn a_token_is_known_after_opening(rt: HostRuntime) -> Result<(), Fail> {
+    let asks = [
+        (0, Ask::EditUnder(1, Wish::Insert(0, "ab"))),
+        (0, Ask::Edit(Wish::Insert(2, "c"))),
+        (0, Ask::Open(0, 0)),
+        (0, Ask::EditUnder(1, Wish::Insert(0, "ab"))),
+        (0, Ask::HasText("abc")),
+    ];
+    assert_eq!(rt;
+        answers(rt.alloc(), &[1], &asks)?.as_slice(),
+        [2, 3, 0, 2, 1].as_slice()
+    );
+    Ok(())
+}
+
+#[test]
+fn a_refused_edit_leaves_no_token(rt: HostRuntime) -> Result<(), Fail> {
+    let asks = [
+        (0, Ask::EditUnder(1, Wish::Insert(9, "a"))),
+        (0, Ask::EditUnder(1, Wish::Insert(0, "a"))),
+        (0, Ask::HasText("a")),
+    ];
+    assert_eq!(rt;
+        answers(rt.alloc(), &[1], &asks)?.as_slice(),
+        [0, 1, 1].as_slice()
+    );
+    Ok(())
+}
+
+#[test]
+fn a_token_of_another_replica_does_not_count(rt: HostRuntime) -> Result<(), Fail> {
+    let asks = [
+        (1, Ask::EditUnder(1, Wish::Insert(0, "a"))),
+        (0, Ask::MergeAll(1)),
+        (0, Ask::EditUnder(1, Wish::Insert(1, "b"))),
+        (0, Ask::Open(0, 0)),
+        (0, Ask::EditUnder(1, Wish::Insert(1, "b"))),
+        (0, Ask::HasText("ab")),
+    ];
+    assert_eq!(rt;
+        answers(rt.alloc(), &[1, 2], &asks)?.as_slice(),
+        [1, 0, 2, 0, 2, 1].as_slice()
+    );
+    Ok(())
+}

@@ -2,7 +2,8 @@
 //! them: it holds no replica, since each way out past one is what the proof of a test costs.
 use crate::test_peers::{
     acks, clock_of, edit_and_settle, has_text, has_text_of, id_of, merge, op_at, ops_from,
-    put_length, refusal, replica_id, rev_after, spans_of, tells_clock, told, told_to_none,
+    put_length, refusal, replica_id, rev_after, rev_under, spans_of, tells_clock, told,
+    told_to_none,
 };
 use op_ids::{Clock, OpId};
 use op_list::OpList;
@@ -33,9 +34,11 @@ pub enum Wish<'a> {
 pub enum Ask<'a> {
     /// An edit of document 1: the rev of its ticket, or 0.
     Edit(Wish<'a>),
+    /// The same under a token that ends with this byte.
+    EditUnder(u8, Wish<'a>),
     /// An edit of a document at a rev: the number of its refusal, or 0.
     Refusal(u32, Option<u32>, Wish<'a>),
-    /// The same in two calls, of document 1: how many bytes its records take, or 0.
+    /// An edit in two calls, of document 1: how many bytes its records take, or 0.
     Put(Wish<'a>),
     /// An edit of document 1 that is settled: the settled number, or 0.
     Settle(Wish<'a>),
@@ -126,6 +129,7 @@ pub fn answer(alloc: Global, peers: &mut Vec<Replica>, peer: usize, ask: &Ask<'_
 fn answer_alone(alloc: Global, replica: &mut Replica, ask: &Ask<'_>) -> usize {
     match ask {
         Ask::Edit(wish) => rev_after(replica, change(alloc, wish)),
+        Ask::EditUnder(token, wish) => rev_under(replica, *token, change(alloc, wish)),
         Ask::Refusal(doc, rev, wish) => refusal(replica, *doc, *rev, change(alloc, wish)),
         Ask::Put(wish) => put_length(replica, change(alloc, wish)),
         Ask::Settle(wish) => edit_and_settle(replica, change(alloc, wish)),

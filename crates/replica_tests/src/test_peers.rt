@@ -1,5 +1,5 @@
 //! What the tests ask of one replica. The answers are plain values.
-use op_ids::{Clock, OpId, ReplicaId};
+use op_ids::{Clock, OpId, ReplicaId, Token};
 use op_list::{OpList, OpSlice};
 use op_model::{Change, Edit, Op, Text};
 use replica_core::{Merged, Replica, Ticket};
@@ -60,6 +60,23 @@ fn first_edit(change: Change) -> Edit {
 pub fn rev_after(replica: &mut Replica, change: Option<Change>) -> usize {
     match change {
         Some(change) => ticket_rev(replica, &first_edit(change)),
+        None => 0,
+    }
+}
+
+/// The rev of the ticket of an edit of document 1 under a token that ends with this byte, or 0
+/// where it is refused.
+pub fn rev_under(replica: &mut Replica, token: u8, change: Option<Change>) -> usize {
+    match change {
+        Some(change) => ticket_rev(
+            replica,
+            &Edit {
+                doc: 1,
+                rev: None,
+                token: Token::read(bytes_ending(token)),
+                change,
+            },
+        ),
         None => 0,
     }
 }

@@ -5,7 +5,7 @@ use Rattle.doc_core.proofs.NamingLemmas.{fits_there}
 use Rattle.replica_core.specs.Docs.{draft_number}
 use Rattle.op_model.specs.Rising.{IsUp}
 use Rattle.replica_core.specs.Docs.{draft_numbers}
-use Rattle.replica_core.proofs.DraftLemmas.{draft_put, draft_takes, may_come_at, number_at, numbers_put}
+use Rattle.replica_core.proofs.DraftLemmas.{draft_put, draft_rev, draft_takes, may_come_at, number_at, numbers_put}
 use Rattle.replica_core.proofs.drafts.apply.Goals as goal
 
 pub returns-in-Ok-apply-clause-drafts : goal.returns-in-Ok-apply-clause-drafts
@@ -24,6 +24,20 @@ returns-in-Ok-apply-clause-drafts c = λ ops are may.
       drafts = draft_put c.args.drafts.now.items c.in-Ok.at c.index_mut-draft.result.now c.apply.new.self ops c.args.op.now up here c.index_mut-draft.ensures.value
           same are.drafts (λ draft. c.in-Ok-apply.ensures.taken ops draft (may_come_at ops c.args.op.now.doc (draft_number c.index_mut-draft.result.now) c.args.op.now same may));
     }
+
+pub returns-in-Ok-apply-clause-rev : goal.returns-in-Ok-apply-clause-rev
+returns-in-Ok-apply-clause-rev c = λ ops are may few.
+    let many = length-map c.args.drafts.now.items draft_number in
+    let as_many = ap length are.numbers in
+    let there = c.in-Ok.ensures.0 in
+    let here : c.in-Ok.at < length c.args.drafts.now.items = omega arith in
+    let same : c.args.op.now.doc ≡ draft_number c.index_mut-draft.result.now =
+    number_at c.args.drafts.now.items c.in-Ok.at c.index_mut-draft.result.now c.args.op.now.doc here c.index_mut-draft.ensures.value
+    (rw are.numbers c.in-Ok.ensures.1) in
+    let takes = draft_takes c.args.drafts.now.items c.in-Ok.at c.index_mut-draft.result.now c.args.op.now ops here c.index_mut-draft.ensures.value same
+    are.drafts may in
+    draft_rev c.index_mut-draft.result.now c.apply.new.self ops c.args.op.now c.rev.result same c.in-Ok-apply.ensures.number
+    (c.in-Ok-apply.ensures.taken ops takes.0 takes.1) few c.rev.ensures
 
 pub unreachable-requires-in-Err-UnknownId : goal.unreachable-requires-in-Err-UnknownId
 unreachable-requires-in-Err-UnknownId c =

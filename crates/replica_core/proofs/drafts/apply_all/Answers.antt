@@ -1,9 +1,11 @@
-use Rattle.std.proofs.Common.{take, refl, arith}
+use Rattle.std.proofs.Common.{take, refl, sym, arith}
 use Rattle.model_laws.proofs.Closed.{follows_fits}
 use Rattle.op_model.proofs.RisingLemmas.{documents_up}
 use Rattle.replica_core.proofs.DocLemmas.{doc_there}
 use Rattle.replica_core.proofs.DraftLemmas.{take_push}
 use Rattle.replica_core.proofs.FollowLemmas.{follows_front}
+use Rattle.replica_core.proofs.RevLemmas.{few_operations, few_with}
+use Rattle.replica_core.proofs.TokenLemmas.{place_front}
 use Rattle.replica_core.proofs.drafts.apply_all.Goals as goal
 
 pub apply-requires-clause-rising : goal.apply-requires-clause-rising
@@ -17,13 +19,30 @@ pub apply-requires-clause-may_come : goal.apply-requires-clause-may_come
 apply-requires-clause-may_come c =
     let front = follows_front c.args.list.now c.loop-i.i c.in_ok-op.op c.requires.closed (omega arith) c.in_ok-op.ensures in (
       take c.loop-i.i c.args.list.now,
-      c.loop-i.invariant,
+      c.loop-i.invariant.drafts,
       follows_fits (take c.loop-i.i c.args.list.now) c.in_ok-op.op.doc c.in_ok-op.op front.1 refl,
     )
+
+pub overflow_cast-place : goal.overflow_cast-place
+overflow_cast-place c = let few = few_operations c.args.list.now c.requires.closed in record { fits = omega arith }
+
+pub overflow_cast-place-in-loop-i : goal.overflow_cast-place-in-loop-i
+overflow_cast-place-in-loop-i c =
+    let front = follows_front c.args.list.now c.loop-i.i c.in_ok-op.op c.requires.closed (omega arith) c.in_ok-op.ensures in
+    let fits = follows_fits (take c.loop-i.i c.args.list.now) c.in_ok-op.op.doc c.in_ok-op.op front.1 refl in
+    let few = few_with (take c.loop-i.i c.args.list.now) c.in_ok-op.op c.in_ok-op.op.doc front.0 front.1 in
+    let revs = c.in_ok-rev.ensures.rev (take c.loop-i.i c.args.list.now) c.loop-i.invariant.drafts fits (omega arith) in
+    record { fits = omega arith }
 
 pub loop-i-preserved : goal.loop-i-preserved
 loop-i-preserved c =
     let front = follows_front c.args.list.now c.loop-i.i c.in_ok-op.op c.requires.closed (omega arith) c.in_ok-op.ensures in
+    let fits = follows_fits (take c.loop-i.i c.args.list.now) c.in_ok-op.op.doc c.in_ok-op.op front.1 refl in
+    let few = few_with (take c.loop-i.i c.args.list.now) c.in_ok-op.op c.in_ok-op.op.doc front.0 front.1 in
+    let revs = c.in_ok-rev.ensures.rev (take c.loop-i.i c.args.list.now) c.loop-i.invariant.drafts fits (omega arith) in
     rw (take_push c.args.list.now c.loop-i.i c.in_ok-op.op (omega arith) c.in_ok-op.ensures)
-    (c.in_ok-apply.ensures.drafts (take c.loop-i.i c.args.list.now) c.loop-i.invariant
-    (follows_fits (take c.loop-i.i c.args.list.now) c.in_ok-op.op.doc c.in_ok-op.op front.1 refl))
+    (record {
+      drafts = c.in_ok-rev.ensures.drafts (take c.loop-i.i c.args.list.now) c.loop-i.invariant.drafts fits;
+      tokens = c.in_ok-count.ensures.counted (take c.loop-i.i c.args.list.now) (sym (place_front c.args.list.now c.loop-i.i c.in_ok-op.op _ _ (omega arith) refl revs))
+          c.loop-i.invariant.tokens;
+    })

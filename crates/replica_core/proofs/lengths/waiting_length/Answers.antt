@@ -1,6 +1,5 @@
-use Rattle.std.proofs.Common.{◌≡◌, ◌+◌, ◌<◌, ◌≤◌, ◌∙◌, true, length, ap, sym, refl, arith}
+use Rattle.std.proofs.Common.{◌≡◌, ◌<◌, ◌≤◌, ◌∙◌, true, length, ap, arith}
 use Rattle.replica_core.specs.Docs.{doc_number}
-use Rattle.op_model.specs.Causality.{clock_of}
 use Rattle.op_model.specs.Made.{is_inside, origin_of}
 use Rattle.op_model.specs.Records.{origin_length}
 use Rattle.op_model.specs.Text.{visible}

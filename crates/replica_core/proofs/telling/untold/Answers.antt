@@ -1,6 +1,6 @@
 use Rattle.std.proofs.Common.{◌∙◌, ◌<◌, length, take, sym, arith}
 use Rattle.std.proofs.lemmas.List.{get_or-take, length-take-le}
-use Rattle.replica_core.proofs.TellLemmas.{told_none, told_more, told_all, told_full, known_in_front}
+use Rattle.replica_core.proofs.TellLemmas.{told_none, told_more, told_all, known_in_front}
 use Rattle.replica_core.proofs.telling.untold.Goals as goal
 
 pub loop-alloc-init : goal.loop-alloc-init

@@ -36,7 +36,7 @@ invariant_of-self-2 c =
     let counts : c.advance.new.clock ≡ advanced c.self.inside.clock c.args.op.id.replica = rw (c.in_ok-clock.ensures, c.replica.ensures) at c.in_ok-advance.ensures in
     rw c.push.ensures
     (AreFields-merge c.self.inside.id c.self.inside.opened c.self.inside.settled c.self.inside.acked c.self.inside.told c.args.peer c.len-index.result
-    c.self.inside.steps c.self.inside.log c.append.new.self c.in_ok-made.made c.args.op c.self.inside.clock c.advance.new.clock
+    c.self.inside.steps c.self.inside.log c.append.new.self c.in_ok-made.made c.args.op c.self.inside.clock c.advance.new.clock c.self.inside.tokens
     c.self.invariant can counts c.in-Ok.ensures.ok c.in_ok-made.ensures at)
 
 pub unreachable-requires : goal.unreachable-requires
