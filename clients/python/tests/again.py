@@ -133,6 +133,21 @@ class MadeAndLost(WithFile):
         self.assertEqual([request.get("rev") for request in sent], [None, 1, 2**32 - 1, 2**32 - 1])
 
 
+    def test_a_daemon_that_dies_at_each_line_is_looked_for_no_longer(self):
+        connections = []
+
+        def talk(connection, lines):
+            connections.append(lines.readline())
+
+        daemon = FakeDaemon(talk)
+        self.addCleanup(daemon.close)
+        begun = time.monotonic()
+        with peritext.connect(daemon.port, retry=0.5) as session, self.assertRaises(peritext.Ended):
+            session.document(1).insert(0, "a")
+        self.assertLess(time.monotonic() - begun, PATIENCE / 2)
+        self.assertLess(len(connections), 15)
+
+
 class Tokens(WithFile):
     def test_a_token_acts_once_across_sessions(self):
         for _ in range(2):

@@ -44,6 +44,8 @@ class SocketSession(Session):
         self._stops = False
         # An edit that this session was answered.
         self._made: dict[str, Any] | None = None
+        # Since when nothing was answered, though it was looked for.
+        self._since: float | None = None
         super().__init__(connection.makefile("wb"), connection.makefile("rb"), timeout)
 
     def close(self) -> None:
@@ -66,15 +68,21 @@ class SocketSession(Session):
             self._stops = True
         return request if self._retry is None else with_token(request)
 
-    def _note(self, owed: Owed, told: dict[str, Any]) -> None:
+    def _note(self, owed: Owed, told: dict[str, Any] | Refused) -> None:
         super()._note(owed, told)
-        if is_edit(owed.request) and "token" in owed.request:
+        self._since = None
+        if is_edit(owed.request) and "token" in owed.request and not isinstance(told, Refused):
             self._made = owed.request
 
     def _goes_on(self) -> bool:
         if self._retry is None or not self._is_asked():
             return False
-        connection = self._connected_again(time.monotonic() + self._retry)
+        if self._since is None:
+            self._since = time.monotonic()
+        else:
+            # It was found, and ended again without an answer.
+            time.sleep(PAUSE)
+        connection = self._connected_again(self._since + self._retry)
         if connection is None:
             return False
         # Nobody goes on writing where nobody reads.
@@ -98,11 +106,9 @@ class SocketSession(Session):
 
     def _connected_again(self, until: float) -> socket.socket | None:
         """A new connection to the same file. None if there is none in time, or another file is served on the port."""
-        while self._end is None:
+        while self._end is None and time.monotonic() < until:
             with contextlib.suppress(NoAnswer, OSError, Refused):
                 return self._of_the_same_file(_connection(self._port))
-            if time.monotonic() > until:
-                return None
             time.sleep(PAUSE)
         return None
 
@@ -142,7 +148,7 @@ def connect(port: int, timeout: float | None = TIMEOUT, retry: float | None = RE
     """A session of the daemon whose `--sessions` port this is. `NoDaemon` if there is none; `Refused` with the number 8 if all 32 places are taken.
 
     `timeout` is how many seconds may pass without a byte while an answer is due; None waits as long as it takes. `retry` is for how many
-    seconds the daemon is looked for again where a connection ends before all is answered; None sends nothing twice, and gives edits no token.
+    seconds the daemon is looked for again where a connection ends before all is answered, counted from the last answer; None sends nothing twice, and gives edits no token.
 
     >>> with connect(port) as one, connect(port) as other:
     ...     rev = one.document(7).insert(0, "seen by all")

@@ -188,14 +188,13 @@ class Session:
             owed = self._waiting.popleft()
             if not self._waiting and not self._closes:
                 self._silence.end()
-            if not isinstance(told, Refused):
-                self._note(owed, told)
+            self._note(owed, told)
             return True
 
-    def _note(self, owed: Owed, told: dict[str, Any]) -> None:
+    def _note(self, owed: Owed, told: dict[str, Any] | Refused) -> None:
         """Keeps what an answer tells. That to an edit which was sent before may be older than what is there."""
-        doc = owed.request.get("doc")
-        if "rev" in told and isinstance(doc, int) and not (owed.is_repeated and "token" in owed.request):
+        doc, is_old = owed.request.get("doc"), owed.is_repeated and "token" in owed.request
+        if not isinstance(told, Refused) and "rev" in told and isinstance(doc, int) and not is_old:
             self._told.add(doc)
 
     def _fall_silent(self) -> None:
