@@ -1,6 +1,7 @@
 //! What the locked part tells of itself.
 ghost use Rattle.std.specs.Prelude.{◌≡◌, IfOk};
 ghost use Rattle.op_model.specs.Causality.{clock_of};
+ghost use Rattle.op_model.specs.Machine.{known_ticket};
 ghost use Rattle.op_model.specs.Spans.{spans as spans_of};
 ghost use Rattle.op_model.specs.Text.{text as text_of, rev as rev_of};
 ghost use Rattle.replica_core.specs.Held.{IsSound};
@@ -8,7 +9,8 @@ ghost use Rattle.replica_core.specs.Held.{IsSound};
 use crate::locked::Locked;
 use op_ids::{Clock, ReplicaId};
 use op_list::OpSlice;
-use op_model::{Span, Text};
+use op_model::{Edit, Span, Text};
+use replica_core::Ticket;
 use std::alloc::AllocError;
 
 impl Locked {
@@ -68,6 +70,14 @@ impl Locked {
         ensures { result ≡ self.now.failure_told }
     {
         self.failure_told
+    }
+
+    /// The ticket that an edit had when it was made, if it has a token under which one was made.
+    /// Takes no memory. Costs what `Replica::known` does.
+    pub fn known(&self, edit: &Edit) -> Option<Ticket>
+        ensures { result ≡ known_ticket self.now.replica edit.now }
+    {
+        self.replica.known(edit)
     }
 
     /// How many operations a document has. Costs what `Replica::rev` does.

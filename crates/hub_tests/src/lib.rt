@@ -14,6 +14,8 @@ mod session_tests;
 #[cfg(test)]
 mod test_hubs;
 #[cfg(test)]
+mod token_session_tests;
+#[cfg(test)]
 mod token_tests;
 #[cfg(test)]
 mod world_run;

@@ -1,6 +1,7 @@
 //! What a hub tells of itself.
 ghost use Rattle.std.specs.Prelude.{◌≡◌, IfOk};
 ghost use Rattle.op_model.specs.Causality.{clock_of};
+ghost use Rattle.op_model.specs.Machine.{known_ticket};
 ghost use Rattle.op_model.specs.Spans.{spans as spans_of};
 ghost use Rattle.op_model.specs.Text.{text as text_of, rev as rev_of};
 ghost use Rattle.replica_core.specs.Held.{IsSound};
@@ -9,7 +10,8 @@ use crate::hub::Hub;
 use disk_trait::Disk;
 use op_ids::{Clock, ReplicaId};
 use op_list::OpSlice;
-use op_model::{Span, Text};
+use op_model::{Edit, Span, Text};
+use replica_core::Ticket;
 use std::alloc::AllocError;
 
 impl<D: Disk> Hub<D> {
@@ -62,6 +64,14 @@ impl<D: Disk> Hub<D> {
         ensures { result ≡ self.now.store.failed }
     {
         self.flusher.has_failed()
+    }
+
+    /// The ticket that an edit had when it was made, if it has a token under which one was made.
+    /// Takes no memory. Costs what `Replica::known` does.
+    pub fn known(&self, edit: &Edit) -> Option<Ticket>
+        ensures { result ≡ known_ticket self.now.replica edit.now }
+    {
+        self.locked.known(edit)
     }
 
     /// How many operations a document has. Costs what `Replica::rev` does.

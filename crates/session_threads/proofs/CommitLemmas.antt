@@ -1,8 +1,8 @@
 -- The machine's steps of a commit that is begun where none is under way.
-use Rattle.std.proofs.Common.{◌≡◌, ◌⊎◌, ℕ, ◌≤◌, ◌||◌, Bool, true, false, List, length, Option, Some, None, refl, sym, ap, ◌∙◌, subst, inl, inr, arith}
+use Rattle.std.proofs.Common.{◌≡◌, ◌⊎◌, ℕ, ◌≤◌, ◌||◌, Bool, true, false, length, Option, Some, None, refl, sym, ap, ◌∙◌, subst, inl, inr, arith}
 use Rattle.std.proofs.lemmas.Bool.Decides.{nat_tests}
 use Rattle.std.specs.Prelude.{is_some, nat_le, if◌then◌else◌}
-use Rattle.op_model.specs.Machine.{State, Commit, Answer, begun, nothing_new, refused, settled_to, idle, goes_on, goes_through, begin_answer}
+use Rattle.op_model.specs.Machine.{State, Commit, Answer, begun, nothing_new, refused, settled_to}
 use Rattle.op_model.specs.Machine.{BeginStep, DeviceStep, SettleStep, settle_answer, IsRefusal, is_under_way, with_failure_told, with_settlement}
 use Rattle.group_commit.specs.declared.phase.Phase.{Phase}
 use Rattle.group_commit.specs.declared.phase.Phase.TheVariants.{Idle, Pages, Close, Sync1, Body, Sync2, Gate, Sync3}

@@ -1,12 +1,11 @@
 -- What the machine answers to an edit.
-use Rattle.std.proofs.Common.{◌≡◌, ℕ, ◌≤◌, ◌<◌, ◌++◌, Bool, true, false, not, ◌&&◌, List, length}
-use Rattle.std.proofs.Common.{Option, Some, None, IfSome, IsTrue, refl, sym, ap, ◌∙◌, subst, arith}
-use Rattle.std.proofs.Common.{cond}
+use Rattle.std.proofs.Common.{◌≡◌, ℕ, ◌≤◌, Bool, true, false}
+use Rattle.std.proofs.Common.{Option, Some, None, IfSome, IsTrue, refl, sym, ap, subst, arith}
 use Rattle.std.specs.Prelude.{if◌then◌else◌}
 use Rattle.op_model.specs.declared.edit.Edit.{Edit}
-use Rattle.op_model.specs.Made.{made, edit_refusal, is_at_rev, is_inside, is_small}
+use Rattle.op_model.specs.Made.{edit_refusal}
 use Rattle.op_model.specs.Held.{ReplicaHeld}
-use Rattle.op_model.specs.Machine.{State, Answer, Ticket, ticket, ticket_of, applied, refused}
+use Rattle.op_model.specs.Machine.{State, Answer, Ticket, ticket, applied, refused}
 use Rattle.op_model.specs.Machine.{acknowledged, EditStep, AckStep, IsRefusal, known_ticket, unless_known, new_edit_alone, new_edit_answer}
 use Rattle.op_model.specs.Machine.{edit_answer_unless, has_record_room, edit_length, with_room, has_places}
 use Rattle.model_laws.proofs.Tickets.{edit_cases, known_is, was_made, is_new}

@@ -1,6 +1,6 @@
 -- Where the first line feed is.
 use Rattle.std.proofs.Common.{◌≡◌, ◌<◌, ◌+◌, ◌-◌, ◌==◌, ℕ, List, [], ◌∷◌, ◌++◌, Bool, true, false}
-use Rattle.std.proofs.Common.{cond, Option, Some, None, length, take, drop, refl, ap, arith}
+use Rattle.std.proofs.Common.{cond, Some, None, length, take, drop, refl, ap, arith}
 use Rattle.std.proofs.Common.{add-one}
 use Rattle.std.proofs.lemmas.Bool.{eqb-true}
 use Rattle.std.proofs.lemmas.Bool.Decides.{nat_tests}

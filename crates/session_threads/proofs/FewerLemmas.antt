@@ -1,12 +1,12 @@
 -- Each device call of a commit leaves fewer.
-use Rattle.std.proofs.Common.{◌≡◌, ℕ, ◌+◌, ◌-◌, ◌<◌, ◌≤◌, Bool, true, false, nat_lt, length, refl, ap, arith, Option, Some, None}
+use Rattle.std.proofs.Common.{◌≡◌, ℕ, ◌+◌, ◌-◌, ◌<◌, Bool, true, false, nat_lt, length, refl, ap, arith, Some, None}
 use Rattle.std.specs.Prelude.{if◌then◌else◌}
 use Rattle.std.proofs.lemmas.Bool.{ltb-true}
 use Rattle.group_commit.specs.Begin.{is_idle}
-use Rattle.group_commit.specs.Held.{StoreHeld, gone_on, behind_pages}
+use Rattle.group_commit.specs.Held.{StoreHeld, gone_on}
 use Rattle.group_commit.specs.declared.phase.Phase.{Phase}
 use Rattle.group_commit.specs.declared.phase.Phase.TheVariants.{Idle, Pages, Close, Sync1, Body, Sync2, Gate, Sync3}
-use Rattle.op_model.specs.Machine.{Commit, is_under_way}
+use Rattle.op_model.specs.Machine.{is_under_way}
 use Rattle.op_model.specs.Held.{ReplicaHeld}
 use Rattle.locked_replica.specs.Hub.{commit_in, commit_of}
 use Rattle.session_threads.proofs.CallsLeft.{calls_from, calls_left}

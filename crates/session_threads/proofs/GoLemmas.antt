@@ -1,9 +1,9 @@
 -- The device calls of a commit under way.
-use Rattle.std.proofs.Common.{◌≡◌, ℕ, Bool, true, false, List, refl, sym, ap, ◌∙◌, subst, arith}
+use Rattle.std.proofs.Common.{◌≡◌, ℕ, true, false, ap, ◌∙◌, subst, arith}
 use Rattle.disk_trait.specs.declared.facts.DiskFacts.{Ghosts}
 use Rattle.group_commit.specs.declared.phase.Phase.{Phase}
 use Rattle.group_commit.specs.declared.phase.Phase.TheVariants.{Sync3}
-use Rattle.op_model.specs.Machine.{State, device_step, refused, goes_through, is_under_way, DeviceStep}
+use Rattle.op_model.specs.Machine.{State, device_step, refused, is_under_way, DeviceStep}
 use Rattle.locked_replica.specs.Calls.{IsCall}
 use Rattle.locked_replica.specs.Hub.{Parts, state_of}
 use Rattle.locked_replica.specs.Steps.{stepped_in}

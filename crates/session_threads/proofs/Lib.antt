@@ -7,6 +7,7 @@ pub mod ExchangeLemmas
 pub mod FeedLemmas
 pub mod FewerLemmas
 pub mod GoLemmas
+pub mod KnownEdits
 pub mod LineLemmas
 pub mod OutcomeLemmas
 pub mod RanLemmas

@@ -1,8 +1,8 @@
 -- What is answered to an edit.
-use Rattle.std.proofs.Common.{◌≡◌, ℕ, ◌≤◌, Bool, true, false, List, ◌∷◌, [], ◌++◌, length, IsTrue, refl, sym, ap, ◌∙◌, subst, inl, inr, arith}
+use Rattle.std.proofs.Common.{◌≡◌, ℕ, ◌≤◌, Bool, true, false, ◌∷◌, [], ◌++◌, length, IsTrue, refl, sym, ap, subst, inl, inr, arith}
 use Rattle.disk_trait.specs.declared.facts.DiskFacts.{Ghosts}
 use Rattle.op_model.specs.declared.edit.Edit.{Edit}
-use Rattle.op_model.specs.Machine.{State, Event, Answer as Reply, Ticket, edit, ack, ticket, acknowledged, refused}
+use Rattle.op_model.specs.Machine.{Ticket, edit, ack, ticket, acknowledged, refused}
 use Rattle.locked_replica.specs.Calls.{IsCall}
 use Rattle.locked_replica.specs.Hub.{Parts, state_of}
 use Rattle.session_lines.specs.Saying.{number_of}
@@ -10,9 +10,8 @@ use Rattle.session_lines.specs.declared.answer.Answer.{Answer}
 use Rattle.session_lines.specs.declared.answer.Answer.TheVariants.{Edited, Text, Spans, Status, Stopped, Done, Refused}
 use Rattle.session_lines.specs.declared.refusal.Refusal.{Refusal}
 use Rattle.session_lines.specs.declared.refusal.Refusal.TheVariants.{Failed}
-use Rattle.locked_replica.specs.Run.{Calls}
 use Rattle.session_threads.specs.HubCalls.{IsQuiet, Commits, is_edit_refusal}
-use Rattle.session_threads.specs.HubServing.{AnswersEdit, AnswersTicket}
+use Rattle.session_threads.specs.HubServing.{AnswersEdit, AnswersTicket, at_once, after_commit}
 use Rattle.session_threads.proofs.CallLemmas.{Calls-append, one_call}
 use Rattle.hub_parts.proofs.TicketEnds.{ticket_within}
 use Rattle.session_threads.proofs.EditLemmas.{edit_refusals, edit_is_quiet, refused_is_quiet, acknowledges, ack_is_quiet}
@@ -21,8 +20,8 @@ module _ {D : Type 0} (facts : Ghosts D) where
   -- a ticket's answer is the edit's
   pub answered : (session : ℕ) (old between new : Parts D) (e : Edit) (t : Ticket) (answer : Answer) → IsCall facts (edit session e) (ticket t) old between
       → AnswersTicket facts between t answer new → AnswersEdit facts session old e answer new
-  answered session old between new e t (Edited rev) call (commit, only, calls, same) =
-      record { given = t; commit = commit; only = only; calls = (between, call, calls); same = same }
+  answered session old between new e t (Edited rev) call (acks, how, calls, same) =
+      record { given = t; acks = acks; how = how; calls = (between, call, calls); same = same }
   answered session old between new e t (Refused refusal) call (commit, only, calls, failed, cause) =
       inr (failed, record { given = t; commit = commit; only = only; calls = (between, call, calls); cause = cause })
   answered session old between new e t (Text rev text) call never = absurd never
@@ -53,28 +52,46 @@ module _ {D : Type 0} (facts : Ghosts D) where
       → IsQuiet (state_of new)
   quiet_refused session old new e n quiet call = refused_is_quiet (state_of old) (state_of new) session e n quiet call.step
 
-  -- what all is settled behind is acknowledged
-  pub is_acknowledged : (old between new : Parts D) (t : Ticket) (b : Bool) → t.end ≤ length old.replica.list
-      → between.replica.list ≡ old.replica.list → Commits facts old true between
+  -- a ticket that isn't settled leaves the list
+  pub left_by_ack : (old new : Parts D) (t : Ticket) → IsCall facts (ack t) (acknowledged false) old new → new.replica.list ≡ old.replica.list
+  left_by_ack old new t call = ap (λ s. s.held.list) call.step.1
+
+  -- behind a commit of all that there is each ticket is acknowledged
+  pub is_acknowledged : (old mid between new : Parts D) (t : Ticket) (b : Bool) → t.end ≤ length old.replica.list
+      → IsCall facts (ack t) (acknowledged false) old mid → between.replica.list ≡ mid.replica.list → Commits facts mid true between
       → IsCall facts (ack t) (acknowledged b) between new → b ≡ true
-  is_acknowledged old between new t b within same commits call =
-      let settled : t.end ≤ between.replica.settled = omega (arith, within, ap length same, commits.ends) in
+  is_acknowledged old mid between new t b within first same commits call =
+      let settled : t.end ≤ between.replica.settled =
+      omega (arith, within, ap length (left_by_ack old mid t first), ap length same, commits.ends) in
       acknowledges (state_of between) (state_of new) t b settled call.step
 
   pub quiet_acknowledged : (old new : Parts D) (t : Ticket) (b : Bool) → IsQuiet (state_of old) → IsCall facts (ack t) (acknowledged b) old new
       → IsQuiet (state_of new)
   quiet_acknowledged old new t b quiet call = ack_is_quiet (state_of old) (state_of new) t b quiet call.step
 
-  pub ticket_acknowledged : (old between new : Parts D) (t : Ticket) → Commits facts old true between
-      → IsCall facts (ack t) (acknowledged true) between new → AnswersTicket facts old t (Edited t.rev) new
-  ticket_acknowledged old between new t commits call = (
-    commits.calls.events,
-    commits.calls.only,
-    Calls-append facts old between new commits.calls.events ((ack t, acknowledged true) ∷ []) commits.calls.calls
-        (one_call facts between new (ack t) (acknowledged true) call),
-    refl,
-  )
+  -- a ticket that is settled is acknowledged at once
+  pub ticket_settled : (old new : Parts D) (t : Ticket) → IsCall facts (ack t) (acknowledged true) old new
+      → AnswersTicket facts old t (Edited t.rev) new
+  ticket_settled old new t call =
+      ((ack t, acknowledged true) ∷ [], at_once refl, one_call facts old new (ack t) (acknowledged true) call, refl)
 
-  pub ticket_left_open : (old new : Parts D) (t : Ticket) → Commits facts old false new → AnswersTicket facts old t (Refused Failed) new
-  ticket_left_open old new t commits =
-      (commits.calls.events, commits.calls.only, commits.calls.calls, refl, commits.ends)
+  -- another one behind a commit
+  pub ticket_acknowledged : (old mid between new : Parts D) (t : Ticket) → IsCall facts (ack t) (acknowledged false) old mid
+      → Commits facts mid true between → IsCall facts (ack t) (acknowledged true) between new → AnswersTicket facts old t (Edited t.rev) new
+  ticket_acknowledged old mid between new t first commits call =
+      let last = (ack t, acknowledged true) ∷ [] in (
+        (ack t, acknowledged false) ∷ commits.calls.events ++ last,
+        after_commit commits.calls.events commits.calls.only refl,
+        (
+          mid,
+          first,
+          Calls-append facts mid between new commits.calls.events last commits.calls.calls
+              (one_call facts between new (ack t) (acknowledged true) call),
+        ),
+        refl,
+      )
+
+  pub ticket_left_open : (old mid new : Parts D) (t : Ticket) → IsCall facts (ack t) (acknowledged false) old mid
+      → Commits facts mid false new → AnswersTicket facts old t (Refused Failed) new
+  ticket_left_open old mid new t first commits =
+      (commits.calls.events, commits.calls.only, (mid, first, commits.calls.calls), refl, commits.ends)

@@ -1,5 +1,5 @@
 -- What a desk over a hub makes of the lines of a session is one list of calls.
-use Rattle.std.proofs.Common.{◌≡◌, ℕ, Bool, true, false, List, [], ◌∷◌, ◌++◌, ap, inl, inr, Option, Result, Ok, Err}
+use Rattle.std.proofs.Common.{◌≡◌, ℕ, Bool, true, false, List, [], ◌∷◌, ◌++◌, ap, refl, inl, inr, Option, Result, Ok, Err}
 use Rattle.disk_trait.specs.declared.facts.DiskFacts.{Ghosts}
 use Rattle.op_model.specs.declared.edit.Edit.{Edit}
 use Rattle.op_model.specs.Machine.{Event, Answer as Reply, edit, ack, ticket, acknowledged, refused}
@@ -13,7 +13,7 @@ use Rattle.session_lines.specs.declared.answer.Answer.TheVariants.{Edited, Text,
 use Rattle.session_lines.specs.declared.refusal.Refusal.{Refusal}
 use Rattle.session_threads.specs.Exchanges.{IsAnswered, Exchange, Exchanges}
 use Rattle.session_threads.specs.HeldDesk.{HeldDesk}
-use Rattle.session_threads.specs.HubServing.{AnswersEdit, ServesEdit, Serves}
+use Rattle.session_threads.specs.HubServing.{comes_too_late, AnswersEdit, ServesEdit, Serves}
 use Rattle.session_threads.specs.Outcomes.{CutOff}
 use Rattle.session_threads.proofs.CallLemmas.{Calls-append}
 
@@ -26,23 +26,23 @@ module _ {D : Type 0} (facts : Ghosts D) where
   stays old new same = ([], ap (λ (d : HeldDesk D). d.hub) same)
 
   edit_goes : (session : ℕ) (old new : Parts D) (e : Edit) (answer : Answer) → AnswersEdit facts session old e answer new → Goes old new
-  edit_goes session old new e (Edited rev) it = ((edit session e, ticket it.given) ∷ it.commit ++ (ack it.given, acknowledged true) ∷ [], it.calls)
+  edit_goes session old new e (Edited rev) it = ((edit session e, ticket it.given) ∷ it.acks, it.calls)
   edit_goes session old new e (Refused refusal) (inl calls) = ((edit session e, refused (number_of refusal)) ∷ [], calls)
-  edit_goes session old new e (Refused refusal) (inr (failed, it)) = ((edit session e, ticket it.given) ∷ it.commit, it.calls)
+  edit_goes session old new e (Refused refusal) (inr (failed, it)) = ((edit session e, ticket it.given) ∷ (ack it.given, acknowledged false) ∷ it.commit, it.calls)
   edit_goes session old new e (Text rev text) never = absurd never
   edit_goes session old new e (Spans rev spans) never = absurd never
   edit_goes session old new e (Status applied settled s) never = absurd never
   edit_goes session old new e Stopped never = absurd never
   edit_goes session old new e Done never = absurd never
 
-  -- behind a stop the hub isn't asked
-  desk_edit_goes : (hub : Parts D) (session : ℕ) (stopping : Bool) (new : HeldDesk D) (e : Edit) (answer : Answer)
-      → ServesEdit facts (record { hub = hub; session = session; stopping = stopping }) e answer new → Goes hub new.hub
-  desk_edit_goes hub session true new e answer (said, same) = stays (record { hub = hub; session = session; stopping = true }) new same
-  desk_edit_goes hub session false new e answer (answered, goes_on) = edit_goes session hub new.hub e answer answered
+  -- an edit that comes too late changes nothing
+  edit_goes_unless : (late : Bool) (old new : HeldDesk D) (e : Edit) (answer : Answer) → comes_too_late old e ≡ late
+      → ServesEdit facts old e answer new → Goes old.hub new.hub
+  edit_goes_unless true old new e answer is it = stays old new (rw (is, ServesEdit) at it).1
+  edit_goes_unless false old new e answer is it = edit_goes old.session old.hub new.hub e answer (rw (is, ServesEdit) at it).0
 
   command_goes : (old new : HeldDesk D) (c : Command) (answer : Answer) → Serves facts old c answer new → Goes old.hub new.hub
-  command_goes old new (command.Edit e) answer it = desk_edit_goes old.hub old.session old.stopping new e answer it
+  command_goes old new (command.Edit e) answer it = edit_goes_unless (comes_too_late old e) old new e answer refl it
   command_goes old new (command.Text doc) answer (said, same) = stays old new same
   command_goes old new (command.Spans doc) answer (said, same) = stays old new same
   command_goes old new command.Status answer (said, same) = stays old new same

@@ -1,8 +1,8 @@
 -- How a commit ends.
-use Rattle.std.proofs.Common.{◌≡◌, ℕ, ◌≤◌, Bool, true, false, List, ◌++◌, length, Result, Ok, Err, refl, sym, ap, ◌∙◌, subst, inl, arith}
+use Rattle.std.proofs.Common.{◌≡◌, ℕ, ◌≤◌, Bool, true, false, length, Result, Ok, Err, sym, ap, ◌∙◌, subst, inl, arith}
 use Rattle.std.specs.Prelude.{is_ok}
 use Rattle.disk_trait.specs.declared.facts.DiskFacts.{Ghosts}
-use Rattle.op_model.specs.Machine.{State, Answer, settle, refused, settled_to, SettleStep}
+use Rattle.op_model.specs.Machine.{Answer, settle, refused, settled_to, SettleStep}
 use Rattle.locked_replica.specs.declared.refusal.HubRefusal.{HubRefusal}
 use Rattle.locked_replica.specs.Calls.{IsCall}
 use Rattle.locked_replica.specs.Hub.{Parts, state_of}

@@ -2,7 +2,7 @@
 use Rattle.std.specs.Prelude.{◌≡◌, ◌⊎◌, ℕ, ◌-◌, ◌≤◌, ◌==◌, ◌||◌, Bool, true, false, List, [], ◌∷◌, ◌++◌, length, Option, Some, None, ⊤}
 use Rattle.fixed_numbers.specs.declared.refusals.TheConstants.{MEMORY, RANGE, STALE, LIMIT, BUSY, FAILED, STEPS}
 use Rattle.disk_trait.specs.declared.facts.DiskFacts.{Ghosts}
-use Rattle.op_model.specs.Machine.{State, Event, Answer, edit, begin, device_step, settle, refused, with_through, Commit}
+use Rattle.op_model.specs.Machine.{State, Event, Answer, begin, device_step, settle, refused, with_through, Commit}
 use Rattle.hub_parts.specs.declared.meeting.TheConstants.{BEGIN_TRIES}
 use Rattle.locked_replica.specs.Hub.{Parts, state_of}
 use Rattle.locked_replica.specs.Run.{Calls}

@@ -1,10 +1,10 @@
 -- What a desk over a hub answers to a command, and what it makes of the hub.
-use Rattle.std.specs.Prelude.{◌≡◌, ◌⊎◌, ℕ, Bool, true, false, List, [], ◌∷◌, ◌++◌, length}
+use Rattle.std.specs.Prelude.{◌≡◌, ◌⊎◌, ℕ, Bool, true, false, ◌&&◌, List, [], ◌∷◌, ◌++◌, length, is_none}
 use Rattle.disk_trait.specs.declared.facts.DiskFacts.{Ghosts}
 use Rattle.op_model.specs.declared.edit.Edit.{Edit}
 use Rattle.op_model.specs.Text.{text, rev}
 use Rattle.op_model.specs.Spans.{spans}
-use Rattle.op_model.specs.Machine.{Event, Answer as Reply, Ticket, edit, ack, ticket, acknowledged, refused}
+use Rattle.op_model.specs.Machine.{Event, Answer as Reply, Ticket, edit, ack, ticket, acknowledged, refused, known_ticket}
 use Rattle.hub_parts.specs.declared.meeting.TheConstants.{BEGIN_TRIES}
 use Rattle.locked_replica.specs.Hub.{Parts, state_of}
 use Rattle.session_lines.specs.Saying.{number_of}
@@ -43,21 +43,31 @@ ServesStatus desk answer =
     let held = desk.hub.replica in
     answer ≡ Status (length held.list) held.settled (state_in desk.hub.store.failed desk.stopping)
 
+-- an edit comes too late: after a stop, and it wasn't made before, under its token
+abbrev pub comes_too_late : {D : Type 0} → HeldDesk D → Edit → Bool
+comes_too_late desk e = desk.stopping && is_none (known_ticket desk.hub.replica e)
+
+-- these calls acknowledge a ticket: at once, since it is settled already; or it isn't, all is committed, and then it is
+pub data Acknowledge (t : Ticket) (calls : List (Event × Reply)) : Type 0 where
+  at_once : calls ≡ (ack t, acknowledged true) ∷ [] → Acknowledge t calls
+  after_commit : (commit : List (Event × Reply)) → AreOfCommit BEGIN_TRIES commit
+      → calls ≡ (ack t, acknowledged false) ∷ commit ++ (ack t, acknowledged true) ∷ [] → Acknowledge t calls
+
 module _ {D : Type 0} (facts : Ghosts D) where
-  -- the hub gave a ticket for the session's edit, all was committed, and then the ticket was acknowledged: only so an edit is answered
+  -- the hub gave a ticket for the session's edit, and then the ticket was acknowledged: only so an edit is answered
   pub record IsAcknowledged (session : ℕ) (old new : Parts D) (e : Edit) (rev : ℕ) : Type 0 where
     pub given : Ticket
-    pub commit : List (Event × Reply)
-    pub only : AreOfCommit BEGIN_TRIES commit
-    pub calls : Calls facts old ((edit session e, ticket given) ∷ commit ++ (ack given, acknowledged true) ∷ []) new
+    pub acks : List (Event × Reply)
+    pub how : Acknowledge given acks
+    pub calls : Calls facts old ((edit session e, ticket given) ∷ acks) new
     pub same : given.rev ≡ rev
 
-  -- the hub gave a ticket, and then not all could be settled
+  -- the hub gave a ticket, which wasn't settled, and then not all could be settled
   pub record IsLeftOpen (session : ℕ) (old new : Parts D) (e : Edit) : Type 0 where
     pub given : Ticket
     pub commit : List (Event × Reply)
     pub only : AreOfCommit BEGIN_TRIES commit
-    pub calls : Calls facts old ((edit session e, ticket given) ∷ commit) new
+    pub calls : Calls facts old ((edit session e, ticket given) ∷ (ack given, acknowledged false) ∷ commit) new
     pub cause : CannotSettle (state_of new) commit
 
   -- a session's edit is acknowledged; or the hub refused it so; or it is answered as failed
@@ -68,19 +78,18 @@ module _ {D : Type 0} (facts : Ghosts D) where
       ⊎ ((refusal ≡ Failed) × IsLeftOpen session old new e)
   AnswersEdit session old e _ new = ⊥
 
-  -- behind a ticket, all was committed and it was acknowledged; or not all could be settled
+  -- a ticket was acknowledged; or it wasn't settled, and then not all could be settled
   abbrev pub AnswersTicket : Parts D → Ticket → Answer → Parts D → Type 0
   AnswersTicket old given (Edited rev) new =
-      (commit : List (Event × Reply)) × AreOfCommit BEGIN_TRIES commit
-      × Calls facts old (commit ++ (ack given, acknowledged true) ∷ []) new × (given.rev ≡ rev)
+      (acks : List (Event × Reply)) × Acknowledge given acks × Calls facts old acks new × (given.rev ≡ rev)
   AnswersTicket old given (Refused refusal) new =
-      (commit : List (Event × Reply)) × AreOfCommit BEGIN_TRIES commit × Calls facts old commit new
-      × (refusal ≡ Failed) × CannotSettle (state_of new) commit
+      (commit : List (Event × Reply)) × AreOfCommit BEGIN_TRIES commit
+      × Calls facts old ((ack given, acknowledged false) ∷ commit) new × (refusal ≡ Failed) × CannotSettle (state_of new) commit
   AnswersTicket old given _ new = ⊥
 
-  -- after a stop an edit is refused, and the hub isn't asked
+  -- an edit that comes too late is refused, and nothing changes; each other one the hub is asked for
   abbrev pub ServesEdit : HeldDesk D → Edit → Answer → HeldDesk D → Type 0
-  ServesEdit old e answer new = elim old.stopping [
+  ServesEdit old e answer new = elim (comes_too_late old e) [
     | true ↦ (answer ≡ Refused Stopping) × (new ≡ old)
     | false ↦ AnswersEdit old.session old.hub e answer new.hub × (new ≡ record old { hub = new.hub })
   ]

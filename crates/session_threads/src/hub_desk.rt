@@ -10,7 +10,8 @@ use std::marker::Model;
 /// A hub that serves one session alone, the number of that session, and whether it was asked to
 /// stop. Contracts see these three.
 ///
-/// Between two commands no commit is under way; or the device failed, and each edit is answered so.
+/// Between two commands no commit is under way; or the device failed, and each new edit is answered
+/// so.
 #[derive(Drop)]
 pub struct HubDesk<D: Disk> {
     pub(crate) hub: Hub<D>,

@@ -14,7 +14,10 @@ use op_model::Edit;
 use replica_core::Ticket;
 use session_lines::{Answer, Refusal};
 
-/// Makes a session's edit and commits it to the end: it is answered only where it is acknowledged.
+/// Makes a session's edit and commits it to the end: it is answered only if it is acknowledged. An
+/// edit that was made before, under its token, and is settled is answered without a commit, so also
+/// after a failure. Any other is refused as `Hub::edit` does (9, 6, 5, 7, 10, 8, 1), or with 9 if
+/// not all can be settled.
 pub fn answer_edit<D: Disk>(hub: &mut Hub<D>, session: u64, edit: &Edit) -> Answer
     requires { IsQuiet (state_of hub.old) }
     ensures answer { AnswersEdit D.DiskFacts session hub.old edit.now result hub.new }
@@ -26,22 +29,27 @@ pub fn answer_edit<D: Disk>(hub: &mut Hub<D>, session: u64, edit: &Edit) -> Answ
     }
 }
 
-/// Commits all that there is, and acknowledges the edit of a ticket.
+/// Acknowledges the edit of a ticket: if it isn't settled yet, after a commit of all that there is.
 fn answer_ticket<D: Disk>(hub: &mut Hub<D>, ticket: Ticket) -> Answer
     requires quiet { IsQuiet (state_of hub.old) }
     requires within { ticket.end ≤ length hub.old.replica.list }
     ensures answer { AnswersTicket D.DiskFacts hub.old ticket result hub.new }
     ensures quiet { IsQuiet (state_of hub.new) }
 {
+    let answer = Answer::Edited {
+        rev: ticket.rev as u64,
+    };
+    // An edit that was made before may be settled: no failure of a commit is to hide its answer.
+    if hub.ack(ticket) {
+        return answer;
+    }
     if !commit(hub) {
         return Answer::Refused(Refusal::Failed);
     }
     if !hub.ack(ticket) {
         unreachable!();
     }
-    Answer::Edited {
-        rev: ticket.rev as u64,
-    }
+    answer
 }
 
 /// Why an edit isn't served, by why a hub refuses it.

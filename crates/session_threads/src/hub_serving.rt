@@ -1,5 +1,7 @@
 //! The commands that a desk over a hub serves.
-ghost use Rattle.session_threads.specs.HubServing.{ServesEdit, ServesText, ServesSpans, ServesStatus, ServesStop};
+ghost use Rattle.std.specs.Prelude.{◌≡◌};
+ghost use Rattle.session_threads.specs.HubServing.{comes_too_late, ServesEdit, ServesText, ServesSpans};
+ghost use Rattle.session_threads.specs.HubServing.{ServesStatus, ServesStop};
 
 use crate::committing::commit;
 use crate::desk::Desk;
@@ -29,14 +31,21 @@ impl<D: Disk> Desk for HubDesk<D> {
 }
 
 impl<D: Disk> HubDesk<D> {
-    /// Makes an edit, unless the desk was asked to stop.
+    /// Makes an edit, unless it comes too late.
     fn edit(&mut self, edit: &Edit) -> Answer
         ensures { ServesEdit D.DiskFacts self.old edit.now result self.new }
     {
-        if self.is_stopping {
+        if self.comes_too_late(edit) {
             return Answer::Refused(Refusal::Stopping);
         }
         answer_edit(&mut self.hub, self.session, edit)
+    }
+
+    /// Whether an edit comes after a stop, and wasn't made before, under its token.
+    fn comes_too_late(&self, edit: &Edit) -> bool
+        ensures { result ≡ comes_too_late self.now edit.now }
+    {
+        self.is_stopping && self.hub.known(edit).is_none()
     }
 
     /// The text of a document.

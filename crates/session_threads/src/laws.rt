@@ -1,14 +1,17 @@
 //! What follows for the calls that a desk makes of its hub.
-ghost use Rattle.std.specs.Prelude.{◌≡◌, List, ℕ, Option, true};
+ghost use Rattle.std.specs.Prelude.{◌≡◌, ◌≤◌, List, ℕ, Option, Some, true};
 ghost use Rattle.fixed_numbers.specs.declared.refusals.TheConstants.{FAILED};
 ghost use Rattle.op_model.specs.declared.edit.Edit.{Edit};
-ghost use Rattle.op_model.specs.Machine.{Event, Answer, State, refused, known_ticket, unless_known, EditStep};
+ghost use Rattle.op_model.specs.Machine.{Event, Answer, State, Ticket, refused, known_ticket};
+ghost use Rattle.op_model.specs.Machine.{unless_known, EditStep};
 ghost use Rattle.locked_replica.specs.Hub.{Parts};
 ghost use Rattle.locked_replica.specs.Run.{Calls, Ran};
+ghost use Rattle.session_lines.specs.declared.answer.Answer.{Answer as LineAnswer};
+ghost use Rattle.session_lines.specs.declared.answer.Answer.TheVariants.{Edited};
 ghost use Rattle.session_threads.specs.Exchanges.{Exchanges};
 ghost use Rattle.session_threads.specs.HeldDesk.{HeldDesk};
 ghost use Rattle.session_threads.specs.HubCalls.{IsQuiet};
-ghost use Rattle.session_threads.specs.HubServing.{Serves};
+ghost use Rattle.session_threads.specs.HubServing.{Serves, ServesEdit};
 ghost use Rattle.session_threads.specs.Outcomes.{CutOff};
 
 use crate::hub_desk::HubDesk;
@@ -44,4 +47,14 @@ pub fn edits_fail_behind_a_failure()
     ensures { (session : ℕ) (s next : State) (e : Edit) (answer : Answer) → IsQuiet s
         → s.failed ≡ true → EditStep s session e answer next
         → (answer ≡ unless_known (known_ticket s.held e) (refused FAILED)) × (next ≡ s) }
+{}
+
+/// An edit that was made before, under its token, and is settled is answered with the rev that it
+/// had then, though the device failed and though the desk was asked to stop; and nothing is written.
+/// Costs nothing.
+pub fn settled_edits_are_answered<D: Disk>(desk: &HubDesk<D>)
+    ensures { (e : Edit) (t : Ticket) (answer : LineAnswer) (new : HeldDesk D)
+        → known_ticket desk.now.hub.replica e ≡ Some t → t.end ≤ desk.now.hub.replica.settled
+        → ServesEdit D.DiskFacts desk.now e answer new
+        → (answer ≡ Edited t.rev) × (new.hub.store ≡ desk.now.hub.store) }
 {}

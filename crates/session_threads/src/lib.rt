@@ -19,5 +19,7 @@ mod session;
 pub use desk::Desk;
 pub use fault::SessionFault;
 pub use hub_desk::HubDesk;
-pub use laws::{a_session_is_a_run, calls_are_a_run, edits_fail_behind_a_failure};
+pub use laws::{
+    a_session_is_a_run, calls_are_a_run, edits_fail_behind_a_failure, settled_edits_are_answered,
+};
 pub use session::Session;

@@ -1,1 +1,2 @@
+mod EditLemmas
 mod RefusalLemmas

@@ -1,5 +1,5 @@
 -- Why a shared hub refuses an edit.
-use Rattle.std.proofs.Common.{◌≡◌, ◌≢◌, ℕ, ◌||◌, Bool, true, false, IsTrue, refl}
+use Rattle.std.proofs.Common.{◌≡◌, ◌≢◌, Bool, true, false, IsTrue, refl}
 use Rattle.op_model.specs.declared.edit.Edit.{Edit}
 use Rattle.op_model.specs.Machine.{edit, refused}
 use Rattle.hub_parts.specs.Locked.{state_of}
@@ -11,15 +11,14 @@ use Rattle.shared_hub.specs.declared.refusal.SharedRefusal.{SharedRefusal}
 use Rattle.shared_hub.specs.declared.refusal.SharedRefusal.TheVariants as refusal
 use Rattle.shared_desk.specs.Serving.{is_edit_refusal}
 
-or_more : (b more : Bool) → IsTrue b → (b || more) ≡ true
-or_more true more is = refl
-or_more false more is = absurd (cc)
+is_true : (b : Bool) → IsTrue b → b ≡ true
+is_true true is = refl
+is_true false is = absurd (cc)
 
--- an edit is refused with one of these numbers
+-- an edit is refused so
 pub edit_refused : (r : SharedRefusal) (old new : PassHeld) (e : Edit)
-    → (r ≢ refusal.Stopping → HappensTo old new (edit old.number e) (refused (number_of r))) → is_edit_refusal (number_of r) ≡ true
+    → (r ≢ refusal.Stopping → HappensTo old new (edit old.number e) (refused (number_of r))) → is_edit_refusal r ≡ true
 edit_refused refusal.Stopping old new e happens = refl
 edit_refused (refusal.Locked l) old new e happens =
-    let it = happens (λ same. absurd (cc)) in
-    or_more _ _ (edit_refusals (state_of it.before) (state_of it.after) old.number e
-    (number_of (refusal.Locked l)) it.makes.makes.step)
+    let it = happens (λ same. let never : ⊥ = cc in never) in
+    is_true _ (edit_refusals (state_of it.before) (state_of it.after) old.number e (number_of (refusal.Locked l)) it.makes.makes.step)

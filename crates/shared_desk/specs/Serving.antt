@@ -1,13 +1,13 @@
 -- What a desk over a shared hub answers to a command, and what it makes of its pass.
-use Rattle.std.specs.Prelude.{◌≡◌, ◌≢◌, ◌⊎◌, ℕ, ◌≤◌, ◌==◌, ◌||◌, Bool, true, false, length}
+use Rattle.std.specs.Prelude.{◌≡◌, ◌≢◌, ◌⊎◌, ℕ, ◌≤◌, ◌<◌, Bool, true, false, None, length}
 use Rattle.op_model.specs.declared.edit.Edit.{Edit}
 use Rattle.op_model.specs.Text.{text, rev}
 use Rattle.op_model.specs.Spans.{spans}
-use Rattle.op_model.specs.Machine.{Ticket, edit, ack, ticket, acknowledged, refused}
+use Rattle.op_model.specs.Machine.{Ticket, edit, ack, ticket, acknowledged, refused, known_ticket}
+use Rattle.hub_parts.specs.Refusal.{number_of as number_of_locked}
 use Rattle.pass_books.specs.Accounts.{PassHeld}
 use Rattle.session_lines.specs.Saying.{number_of}
 use Rattle.session_lines.specs.declared.command.Command.{Command}
-use Rattle.fixed_numbers.specs.declared.refusals.TheConstants.{STOPPING}
 use Rattle.session_lines.specs.declared.command.Command.TheVariants as command
 use Rattle.session_lines.specs.declared.answer.Answer.{Answer}
 use Rattle.session_lines.specs.declared.answer.Answer.TheVariants.{Edited, Text, Spans, Status, Stopped, Done, Refused}
@@ -17,10 +17,13 @@ use Rattle.session_lines.specs.declared.refusal.Refusal.{Refusal}
 use Rattle.session_lines.specs.declared.refusal.Refusal.TheVariants.{Memory, Failed, Stopping}
 use Rattle.session_threads.specs.HubCalls.{is_edit_refusal as is_hub_refusal}
 use Rattle.shared_hub.specs.Shared.{HappensTo, Moment, MomentOf}
+use Rattle.shared_hub.specs.declared.refusal.SharedRefusal.{SharedRefusal}
+use Rattle.shared_hub.specs.declared.refusal.SharedRefusal.TheVariants as refused_as
 
--- the numbers that an edit may be refused with: those of a hub, and 12
-abbrev pub is_edit_refusal : ℕ → Bool
-is_edit_refusal n = is_hub_refusal n || n == STOPPING
+-- an edit may be refused so: as by a hub that is held alone, or since the hub was asked to stop
+abbrev pub is_edit_refusal : SharedRefusal → Bool
+is_edit_refusal (refused_as.Locked e) = is_hub_refusal (number_of_locked e)
+is_edit_refusal refused_as.Stopping = true
 
 -- the hub gave a ticket for the edit, and later the ticket was acknowledged: only so an edit is answered
 pub record IsAcknowledged (old : PassHeld) (e : Edit) (rev : ℕ) (new : PassHeld) : Type 0 where
@@ -29,15 +32,18 @@ pub record IsAcknowledged (old : PassHeld) (e : Edit) (rev : ℕ) (new : PassHel
   pub acked : HappensTo new new (ack given) (acknowledged true)
   pub same : given.rev ≡ rev
 
--- the hub gave a ticket, and what became of that isn't known: the device failed, or no commit could begin
+-- the hub gave a ticket, which at some moment wasn't settled; what became of it isn't known: the device failed, or no commit could
+-- begin
 pub record IsLeftOpen (old : PassHeld) (e : Edit) (new : PassHeld) : Type 0 where
   pub given : Ticket
   pub edited : HappensTo old new (edit old.number e) (ticket given)
+  pub unsettled : MomentOf new (λ l. l.replica.settled < given.end)
 
--- the hub refused the edit with this number, or was asked to stop before
+-- the hub refused the edit with this number; or it was asked to stop before, and at some moment no edit was made under its token
 pub record IsRefusedEdit (old : PassHeld) (e : Edit) (refusal : Refusal) (new : PassHeld) : Type 0 where
   pub same : new ≡ old
   pub cause : refusal ≢ Stopping → HappensTo old old (edit old.number e) (refused (number_of refusal))
+  pub stopped : refusal ≡ Stopping → MomentOf old (λ l. known_ticket l.replica e ≡ None)
 
 -- an edit is acknowledged; or the hub refused it so; or it is answered as failed
 abbrev pub ServesEdit : PassHeld → Edit → Answer → PassHeld → Type 0

@@ -1,12 +1,17 @@
 //! The commands that a desk over a shared hub serves.
-ghost use Rattle.std.specs.Prelude.{◌≡◌, true};
+ghost use Rattle.std.specs.Prelude.{◌≡◌, ◌≢◌, ◌↔◌, true};
+ghost use Rattle.hub_parts.specs.Refusal.{number_of as number_of_locked};
 ghost use Rattle.session_lines.specs.Saying.{number_of};
+ghost use Rattle.session_lines.specs.declared.refusal.Refusal.TheVariants.{Stopping};
+ghost use Rattle.session_threads.specs.HubCalls.{is_edit_refusal as is_hub_refusal};
 ghost use Rattle.shared_hub.specs.Refusal.{number_of as number_of_shared};
+ghost use Rattle.shared_hub.specs.declared.refusal.SharedRefusal.TheVariants.{Stopping as AskedToStop};
 ghost use Rattle.shared_desk.specs.Serving.{is_edit_refusal, ServesEdit, ServesText, ServesSpans, ServesStatus, ServesStop};
 
 use crate::desk::SharedDesk;
 use crate::ending::End;
-use fixed_numbers::refusals::{BUSY, FAILED, LIMIT, MEMORY, RANGE, STALE, STEPS, STOPPING};
+use fixed_numbers::refusals::{BUSY, FAILED, LIMIT, MEMORY, RANGE, STALE, STEPS};
+use hub_parts::LockedRefusal;
 use op_model::Edit;
 use pass_books::Desks;
 use session_lines::{Answer, Command, Refusal, SpanList, State};
@@ -36,8 +41,9 @@ impl<'a, R: Wait, J: Desks, G: Gate> Desk for SharedDesk<'a, R, J, G> {
 }
 
 impl<'a, R: Wait, J: Desks, G: Gate> SharedDesk<'a, R, J, G> {
-    /// Makes an edit, and waits until it is settled: it is answered only where it is acknowledged.
-    /// One that finds no steps left (10) asks the daemon to open its file anew.
+    /// Makes an edit, and waits until it is settled: it is answered only if it is acknowledged. One
+    /// that was made before, under its token, isn't refused after a stop, and if it is settled, not
+    /// after a failure. One that finds no steps left (10) asks the daemon to open its file anew.
     fn edit(&mut self, edit: &Edit) -> Answer
         ensures { ServesEdit self.old edit.now result self.new }
     {
@@ -123,8 +129,21 @@ impl<'a, R: Wait, J: Desks, G: Gate> SharedDesk<'a, R, J, G> {
 
 /// Why an edit isn't served, by why the hub refuses it.
 fn refusal_of(refusal: SharedRefusal) -> Refusal
-    requires { is_edit_refusal (number_of_shared refusal) ≡ true }
-    ensures { number_of result ≡ number_of_shared refusal }
+    requires { is_edit_refusal refusal ≡ true }
+    ensures number { number_of result ≡ number_of_shared refusal }
+    ensures stopping { (result ≡ Stopping) ↔ (refusal ≡ AskedToStop) }
+{
+    match refusal {
+        SharedRefusal::Locked(refusal) => refusal_of_locked(refusal),
+        SharedRefusal::Stopping => Refusal::Stopping,
+    }
+}
+
+/// Why an edit isn't served, by why the locked part of the hub refuses it.
+fn refusal_of_locked(refusal: LockedRefusal) -> Refusal
+    requires { is_hub_refusal (number_of_locked refusal) ≡ true }
+    ensures number { number_of result ≡ number_of_locked refusal }
+    ensures going_on { result ≢ Stopping }
 {
     match refusal.number() {
         MEMORY => Refusal::Memory,
@@ -134,7 +153,6 @@ fn refusal_of(refusal: SharedRefusal) -> Refusal
         BUSY => Refusal::Busy,
         FAILED => Refusal::Failed,
         STEPS => Refusal::Steps,
-        STOPPING => Refusal::Stopping,
         _ => unreachable!(),
     }
 }

@@ -1,7 +1,7 @@
 //! Edits and merges under the lock of a shared hub.
-ghost use Rattle.std.specs.Prelude.{◌≡◌, true, false, Err, length, OnErr, IfOk};
+ghost use Rattle.std.specs.Prelude.{◌≡◌, ◌≢◌, ◌↔◌, true, false, None, Err, length, OnErr, IfOk};
 ghost use Rattle.op_model.specs.Machine.{after_edit as replica_after_edit, edit as edit_event};
-ghost use Rattle.op_model.specs.Machine.{merge as merge_event, EditStep, MergeStep};
+ghost use Rattle.op_model.specs.Machine.{known_ticket, merge as merge_event, EditStep, MergeStep};
 ghost use Rattle.hub_parts.specs.Locked.{state_of};
 ghost use Rattle.replica_core.specs.Merging.{after_merge as replica_after_merge};
 ghost use Rattle.shared_hub.specs.Guarded.{IsMine, after_edit, after_merge};
@@ -16,13 +16,15 @@ use pass_books::{Desks, Pass};
 use replica_core::{Merged, Ticket};
 
 impl<J: Desks> Guarded<J> {
-    /// Makes an edit, as a step of the pass's number, and enters it; an edit that was made before,
-    /// under its token, has its ticket, and is no step. Refuses with 12 where it was asked to stop,
-    /// else as `Locked::edit` does (9, 6, 5, 7, 10, 8, 1). A refused edit changes nothing. Costs
-    /// what `Locked::edit` does.
+    /// Makes an edit, as a step of the pass's number, and enters it. An edit that was made before,
+    /// under its token, has the ticket that it had then, and is no step. Refuses another one with
+    /// 12 if it was asked to stop, else as `Locked::edit` does (9, 6, 5, 7, 10, 8, 1). A refused
+    /// edit changes nothing. Costs what `Locked::edit` does.
     pub fn edit(&mut self, pass: &mut Pass<J>, edit: &Edit) -> Result<Ticket, SharedRefusal>
-        ensures stopping { self.old.stopping ≡ true → result ≡ Err Stopping }
-        ensures call { self.old.stopping ≡ false → MakesFor self.old.locked self.new.locked
+        ensures mine { IsMine self.old.locked pass.old }
+        ensures stopping { (result ≡ Err Stopping) ↔ ((self.old.stopping ≡ true)
+            × (known_ticket self.old.locked.replica edit.now ≡ None)) }
+        ensures call { result ≢ Err Stopping → MakesFor self.old.locked self.new.locked
             pass.old pass.new (edit_event pass.old.number edit.now) (edited result) }
         ensures made { IfOk result (λ t. self.new.locked ≡ record self.old.locked {
           replica = replica_after_edit t self.old.locked.replica pass.old.number edit.now;
@@ -31,10 +33,10 @@ impl<J: Desks> Guarded<J> {
         ensures same { OnErr result (self.new ≡ self.old) }
         ensures goes_on { self.new.stopping ≡ self.old.stopping }
     {
-        if self.is_stopping {
+        self.audit(pass);
+        if self.is_stopping && self.locked.known(edit).is_none() {
             return Err(SharedRefusal::Stopping);
         }
-        self.audit(pass);
         let result = self.enter_edit(pass, edit);
         self.audit(pass);
         result
@@ -49,6 +51,7 @@ impl<J: Desks> Guarded<J> {
           replica = replica_after_edit t self.old.locked.replica pass.old.number edit.now;
         }) }
         ensures pass { pass.new ≡ after_edit result pass.old }
+        ensures other { result ≢ Err Stopping }
         ensures same { OnErr result (self.new ≡ self.old) }
         ensures goes_on { self.new.stopping ≡ self.old.stopping }
     {

@@ -1,6 +1,7 @@
 //! What a thread under the lock of a shared hub waits for.
-ghost use Rattle.std.specs.Prelude.{◌≡◌, ◌≢◌, ◌≤◌, true, length};
+ghost use Rattle.std.specs.Prelude.{◌≡◌, ◌≢◌, ◌≤◌, ◌<◌, true, length};
 ghost use Rattle.op_model.specs.Machine.{ack as ack_event, acknowledged};
+ghost use Rattle.shared_hub.specs.Guarded.{IsMine};
 ghost use Rattle.shared_hub.specs.Shared.{MakesFor, Moment};
 ghost use Rattle.shared_hub.specs.declared.awaited.Awaited.TheVariants.{Settled};
 
@@ -18,8 +19,11 @@ use std::time::Duration;
 const TURN: u64 = 20;
 
 impl<J: Desks> Guarded<J> {
-    /// Acknowledges a ticket where its operations are settled; else says whether to wait for that.
+    /// Acknowledges a ticket if its operations are settled, also after a failure; else says whether
+    /// to wait for that.
     pub(crate) fn try_ack(&mut self, pass: &mut Pass<J>, ticket: Ticket) -> Awaited
+        ensures mine { IsMine self.old.locked pass.old }
+        ensures unsettled { result ≢ Settled → self.old.locked.replica.settled < ticket.end }
         ensures call { result ≡ Settled → MakesFor self.old.locked self.new.locked
             pass.old pass.new (ack_event ticket) (acknowledged true) }
         ensures pass { pass.new ≡ pass.old }

@@ -1,9 +1,9 @@
 //! A hub that threads share.
-ghost use Rattle.std.specs.Prelude.{◌≡◌, ◌≢◌, Err};
-ghost use Rattle.op_model.specs.Machine.{edit as edit_event, merge as merge_event};
+ghost use Rattle.std.specs.Prelude.{◌≡◌, ◌≢◌, None, Err};
+ghost use Rattle.op_model.specs.Machine.{edit as edit_event, known_ticket, merge as merge_event};
 ghost use Rattle.shared_hub.specs.Guarded.{after_edit, Merges};
 ghost use Rattle.shared_hub.specs.Refusal.{edited, merged};
-ghost use Rattle.shared_hub.specs.Shared.{HappensTo};
+ghost use Rattle.shared_hub.specs.Shared.{HappensTo, MomentOf};
 ghost use Rattle.shared_hub.specs.declared.refusal.SharedRefusal.TheVariants.{Stopping};
 
 use crate::awaited::Parity;
@@ -47,10 +47,11 @@ impl<J: Desks> Shared<J> {
         guarded.into_inner()
     }
 
-    /// Makes an edit, as a step of the pass's number; an edit that was made before, under its
-    /// token, has its ticket, and is no step. Refuses with 12 behind `stop`, else as `Locked::edit`
-    /// does (9, 6, 5, 7, 10, 8, 1), which then changes nothing. Wakes the flusher where it sleeps
-    /// and waits for no further edit. Costs what `Locked::edit` does.
+    /// Makes an edit, as a step of the pass's number. An edit that was made before, under its
+    /// token, has the ticket that it had then, and is no step. Refuses another one with 12 after
+    /// `stop`, else as `Locked::edit` does (9, 6, 5, 7, 10, 8, 1), which then changes nothing.
+    /// Wakes the flusher if it sleeps and waits for no further edit. Costs what `Locked::edit`
+    /// does.
     pub fn edit<R: Wait>(
         &self,
         rt: &R,
@@ -59,6 +60,8 @@ impl<J: Desks> Shared<J> {
     ) -> Result<Ticket, SharedRefusal>
         // The pass has one entry more exactly where a new edit has a ticket: the ticket's end.
         ensures pass { pass.new ≡ after_edit result pass.old }
+        ensures stopping { result ≡ Err Stopping → MomentOf pass.old
+            (λ l. known_ticket l.replica edit.now ≡ None) }
         ensures call { result ≢ Err Stopping → HappensTo pass.old pass.new
             (edit_event pass.old.number edit.now) (edited result) }
     {

@@ -1,7 +1,7 @@
 //! What threads of a shared hub wait for.
-ghost use Rattle.std.specs.Prelude.{◌≡◌, ◌≤◌, IsTrue, true, length};
+ghost use Rattle.std.specs.Prelude.{◌≡◌, ◌≤◌, ◌<◌, IsTrue, true, false, length};
 ghost use Rattle.op_model.specs.Machine.{ack as ack_event, acknowledged};
-ghost use Rattle.shared_hub.specs.Shared.{HappensTo, Moment};
+ghost use Rattle.shared_hub.specs.Shared.{HappensTo, Moment, MomentOf};
 
 use crate::awaited::Awaited;
 use crate::guarded::Guarded;
@@ -20,12 +20,14 @@ const ANEW: u64 = 2_000;
 
 impl<J: Desks> Shared<J> {
     /// Waits until the operations of a ticket are settled, and acknowledges them; else the device
-    /// failed, no commit could begin, or the flusher has ended (9). Wakes for the settlement of its
-    /// commit alone.
+    /// failed, no commit could begin, or the flusher has ended (9). Those that are settled it
+    /// acknowledges whatever has failed. Wakes for the settlement of its commit alone.
     pub fn acknowledge<R: Wait>(&self, rt: &R, pass: &mut Pass<J>, ticket: Ticket) -> bool
         ensures same { pass.new ≡ pass.old }
         ensures call { IsTrue result
             → HappensTo pass.old pass.old (ack_event ticket) (acknowledged true) }
+        ensures unsettled { result ≡ false
+            → MomentOf pass.old (λ l. l.replica.settled < ticket.end) }
     {
         let mut guard = self.guarded.lock(rt);
         for _ in rt.forever() {

@@ -1,4 +1,4 @@
-use Rattle.std.proofs.Common.{◌≡◌, ℕ, refl, arith, ◌∙◌}
+use Rattle.std.proofs.Common.{arith, ◌∙◌}
 use Rattle.session_threads.proofs.BeginLemmas.{one_more_try, begins_under_way, begins_settled, begins_refused, begins_never}
 use Rattle.session_threads.proofs.committing.begin.Goals as goal
 

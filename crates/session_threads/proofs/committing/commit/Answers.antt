@@ -1,4 +1,4 @@
-use Rattle.std.proofs.Common.{◌≡◌, true, false, sym, subst}
+use Rattle.std.proofs.Common.{subst}
 use Rattle.session_threads.specs.HubCalls.{GoesThrough}
 use Rattle.session_threads.proofs.SettleLemmas.{ended_wrong, ended_through}
 use Rattle.session_threads.proofs.committing.commit.Goals as goal

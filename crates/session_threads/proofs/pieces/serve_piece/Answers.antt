@@ -1,7 +1,6 @@
-use Rattle.std.proofs.Common.{◌≡◌, ℕ, List, [], ◌∷◌, ◌++◌, Option, refl, sym, ap, ◌∙◌, append-nil}
+use Rattle.std.proofs.Common.{[], ◌∷◌, ◌++◌, refl, sym, ap, ◌∙◌, append-nil}
 use Rattle.std.proofs.lemmas.Result.{err_from_is_err_and}
 use Rattle.std.proofs.KnownBytes.{Appends-trans}
-use Rattle.session_threads.specs.Held.{lines_after}
 use Rattle.session_threads.proofs.ExchangeLemmas.{one_exchange, Exchanges-append, CutOff-append}
 use Rattle.session_threads.proofs.LineLemmas.{lines_after-more, held_after-more, lines_after-none, held_after-none}
 use Rattle.session_threads.proofs.pieces.serve_piece.Goals as goal

@@ -1,4 +1,4 @@
-use Rattle.std.proofs.Common.{◌≡◌, ℕ, List, [], ◌++◌, Option, Some, rules, arith, refl, sym, ap, ◌∙◌, take}
+use Rattle.std.proofs.Common.{[], ◌++◌, Some, arith, sym, ap, ◌∙◌, take}
 use Rattle.std.proofs.lemmas.Result.{err_from_is_err_and}
 use Rattle.std.proofs.KnownBytes.{Appends-trans, Consumes-trans, Consumes-kept}
 use Rattle.session_threads.specs.Held.{lines_after, held_after}

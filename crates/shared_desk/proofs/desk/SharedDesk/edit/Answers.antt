@@ -1,7 +1,31 @@
+use Rattle.std.proofs.Common.{Err, ap, sym}
+use Rattle.op_model.specs.Machine.{Ticket}
+use Rattle.shared_desk.proofs.EditLemmas.{edit_acknowledged, edit_left_open, edit_refused_so}
 use Rattle.shared_desk.proofs.RefusalLemmas.{edit_refused}
 use Rattle.shared_desk.proofs.desk.SharedDesk.edit.Goals as goal
+use Rattle.shared_desk.proofs.desk.SharedDesk.edit.Goals.{then-acknowledge, else-acknowledge}
 
 -- an edit is refused with one of the numbers that have an answer
 pub refusal_of-refusal-requires : goal.refusal_of-refusal-requires
 refusal_of-refusal-requires g c =
     edit_refused c.in-Err.refusal c.self.inside.pass c.edit.new.pass c.args.edit.now (λ other. c.in-Err.ensures.call (λ same. other (cc)))
+
+-- a ticket was given: it was acknowledged, or not
+pub returns-after-acknowledge : goal.returns-after-acknowledge
+returns-after-acknowledge g c =
+    let edited = c.in-Ok.ensures.call (λ same. let never : ⊥ = cc in never) in
+    elim c.if-acknowledge.branch [
+      | then-acknowledge w ↦ rw (w.result-is, c.acknowledge.ensures.same, ← c.self.view_is)
+          (edit_acknowledged c.self.inside.pass c.edit.new.pass c.args.edit.now c.in-Ok.ticket _ edited (c.acknowledge.ensures.call w.if-acknowledge.true)
+          (ap (λ (t : Ticket). t.rev) (sym c.ticket.view_is)))
+      | else-acknowledge w ↦ rw (w.result-is, c.acknowledge.ensures.same, ← c.self.view_is)
+          (edit_left_open c.self.inside.pass c.edit.new.pass c.args.edit.now c.in-Ok.ticket edited (c.acknowledge.ensures.unsettled w.if-acknowledge.false))
+    ]
+
+-- the hub refused it
+pub returns-after-eq : goal.returns-after-eq
+returns-after-eq g c =
+    rw (← c.self.view_is)
+    (edit_refused_so c.in-Err.refusal c.refusal_of-refusal.result c.self.inside.pass c.edit.new.pass c.args.edit.now
+    c.refusal_of-refusal.ensures.number c.refusal_of-refusal.ensures.stopping c.in-Err.ensures.pass
+    (λ asked. c.in-Err.ensures.stopping (ap Err asked)) (λ other. c.in-Err.ensures.call (λ same. other (cc))))
