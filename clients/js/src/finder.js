@@ -56,24 +56,58 @@ export class Finder {
    * @param {() => boolean} isOver
    */
   async find(isOver) {
+    // It was found, and ended again without an answer.
+    if (this.#since !== undefined) await pause(PAUSE);
     this.#since ??= performance.now();
     while (!isOver()) {
-      if (performance.now() - this.#since > this.#retry) {
-        throw new Ended(`no more answers come, and none came again for ${this.#retry} milliseconds`);
-      }
-      const found = await this.#tried();
+      const left = this.#since + this.#retry - performance.now();
+      if (left <= 0) throw new Ended(`no more answers come, and none came again for ${this.#retry} milliseconds`);
+      const found = await this.#tried(left);
       if (found !== undefined) return found;
-      await new Promise((done) => setTimeout(done, PAUSE));
+      await pause(PAUSE);
     }
   }
 
-  async #tried() {
-    const transport = await this.#again().catch(() => undefined);
+  /** @param {number} left milliseconds */
+  async #tried(left) {
+    const until = performance.now() + left;
+    const transport = await within(this.#again(), left, cut);
     if (transport === undefined || this.#made === undefined) return transport;
-    const isSame = await hasMade(this.#begin(transport), this.#made).catch(() => undefined);
+    const isSame = await within(hasMade(this.#begin(transport), this.#made), until - performance.now());
     if (isSame) return transport;
     cut(transport);
     if (isSame === false) throw new Ended("another file is served there now");
+  }
+}
+
+/** @param {number} time milliseconds */
+function pause(time) {
+  return new Promise((done) => setTimeout(done, time));
+}
+
+/**
+ * What is promised, if that comes in time; else nothing, and what comes later is let go.
+ * @template T
+ * @param {Promise<T>} promised
+ * @param {number} time milliseconds
+ * @param {(late: T) => void} [letGo]
+ * @returns {Promise<T | undefined>}
+ */
+async function within(promised, time, letGo = () => {}) {
+  let isLate = false;
+  /** @type {NodeJS.Timeout | number | undefined} */
+  let timer;
+  const tooLate = new Promise((done) => {
+    timer = setTimeout(() => {
+      isLate = true;
+      done(undefined);
+    }, time);
+  });
+  const came = promised.then((it) => (isLate ? letGo(it) : it)).catch(() => undefined);
+  try {
+    return /** @type {T | undefined} */ (await Promise.race([came, tooLate]));
+  } finally {
+    clearTimeout(timer);
   }
 }
 

@@ -84,6 +84,7 @@ class SocketSession(Session):
             time.sleep(PAUSE)
         connection = self._connected_again(self._since + self._retry)
         if connection is None:
+            self._over(f"no more answers come, and none came again for {self._retry:g} seconds")
             return False
         # Nobody goes on writing where nobody reads.
         self._abandon()
@@ -108,14 +109,14 @@ class SocketSession(Session):
         """A new connection to the same file. None if there is none in time, or another file is served on the port."""
         while self._end is None and time.monotonic() < until:
             with contextlib.suppress(NoAnswer, OSError, Refused):
-                return self._of_the_same_file(_connection(self._port))
+                return self._of_the_same_file(_connection(self._port, until), until)
             time.sleep(PAUSE)
         return None
 
-    def _of_the_same_file(self, connection: socket.socket) -> socket.socket | None:
+    def _of_the_same_file(self, connection: socket.socket, until: float) -> socket.socket | None:
         """The connection, if what was answered is known there: else another file is served on the port, and the session is over."""
         try:
-            if is_known(self._made, lambda request: _answer_to(connection, line_of(request))):
+            if is_known(self._made, lambda request: _answer_to(connection, line_of(request), until)):
                 connection.settimeout(None)
                 return connection
         except BaseException:
@@ -155,29 +156,29 @@ def connect(port: int, timeout: float | None = TIMEOUT, retry: float | None = RE
     ...     other.document(7).text()
     'seen by all'
     """
-    return SocketSession(_connection(port), port, timeout, retry)
+    return SocketSession(_connection(port, time.monotonic() + PATIENCE), port, timeout, retry)
 
 
-def _connection(port: int) -> socket.socket:
-    """A connection of which the daemon has a place."""
+def _connection(port: int, until: float) -> socket.socket:
+    """A connection of which the daemon has a place, if it says so by then."""
     try:
         connection = socket.create_connection((HOST, port), timeout=PATIENCE)
     except OSError as error:
         raise NoDaemon(f"nobody listens on port {port} ({error.strerror or error}): start `peritext serve FILE --sessions {port} --peers PORT`") from None
     try:
-        _greet(connection, port)
+        _greet(connection, port, until)
         return connection
     except BaseException:
         connection.close()
         raise
 
 
-def _greet(connection: socket.socket, port: int) -> None:
+def _greet(connection: socket.socket, port: int, until: float) -> None:
     """Asks for the status, so that a daemon without a place for this session can say so."""
     # A request is small, and waits for nothing.
     connection.setsockopt(socket.IPPROTO_TCP, socket.TCP_NODELAY, 1)
     try:
-        answer = answer_of(_answer_to(connection, b'{"op":"status"}\n'), "status")
+        answer = answer_of(_answer_to(connection, b'{"op":"status"}\n', until), "status")
     except (NoAnswer, OSError):
         raise NoDaemon(f"no session is served on port {port}: name the port behind --sessions, not that behind --peers") from None
     if isinstance(answer, Refused):
@@ -185,9 +186,9 @@ def _greet(connection: socket.socket, port: int) -> None:
     connection.settimeout(None)
 
 
-def _answer_to(connection: socket.socket, line: bytes) -> bytes:
-    """What comes after a line, while nothing else is under way, up to the first end of a line, within the time and the length that it may have."""
-    until = time.monotonic() + PATIENCE
+def _answer_to(connection: socket.socket, line: bytes, until: float) -> bytes:
+    """What comes after a line, while nothing else is under way, up to the first end of a line, by then and within the length that it may have."""
+    until = min(until, time.monotonic() + PATIENCE)
     with contextlib.suppress(OSError):
         # The daemon may have answered and closed already.
         connection.sendall(line)
