@@ -133,6 +133,23 @@ class MadeAndLost(WithFile):
         self.assertEqual([request.get("rev") for request in sent], [None, 1, 2**32 - 1, 2**32 - 1])
 
 
+    def test_an_edit_that_found_no_steps_is_made_behind_the_opening(self):
+        rounds = []
+
+        def talk(connection, lines):
+            rounds.append([json.loads(line)["text"] for _, line in zip(range(2), lines)])
+            if len(rounds) == 1:
+                connection.sendall(b'{"code":10,"error":"steps","ok":false}\n')
+            else:
+                connection.sendall(b'{"ok":true,"rev":1}\n{"ok":true,"rev":2}\n')
+
+        daemon = FakeDaemon(talk)
+        self.addCleanup(daemon.close)
+        with peritext.connect(daemon.port) as session:
+            under_way = [session.document(1).send_insert(0, letter) for letter in "ab"]
+            self.assertEqual([edit.result(PATIENCE)["rev"] for edit in under_way], [1, 2])
+        self.assertEqual(rounds, [["a", "b"], ["a", "b"]])
+
     def test_a_daemon_that_dies_at_each_line_is_looked_for_no_longer(self):
         connections = []
 

@@ -24,6 +24,8 @@ PATIENCE = 10.0
 LONGEST = 65_536
 
 
+# The refusal of a daemon that is about to open its file anew.
+STEPS = 10
 # Seconds for which a daemon whose connection ended is looked for again, and between two looks.
 RETRY = 10.0
 PAUSE = 0.05
@@ -74,7 +76,18 @@ class SocketSession(Session):
         if is_edit(owed.request) and "token" in owed.request and not isinstance(told, Refused):
             self._made = owed.request
 
+    def _puts_off(self, owed: Owed, told: dict[str, Any] | Refused) -> bool:
+        # A daemon that has no steps left opens its file anew, and ends its connections.
+        return isinstance(told, Refused) and told.number == STEPS and self._retry is not None and "token" in owed.request
+
     def _goes_on(self) -> bool:
+        if self._goes_on_elsewhere():
+            return True
+        # Nobody goes on writing where nobody reads.
+        self._abandon()
+        return False
+
+    def _goes_on_elsewhere(self) -> bool:
         if self._retry is None or not self._is_asked():
             return False
         if self._since is None:
@@ -86,15 +99,25 @@ class SocketSession(Session):
         if connection is None:
             self._over(f"no more answers come, and none came again for {self._retry:g} seconds")
             return False
-        # Nobody goes on writing where nobody reads.
         self._abandon()
         self._writing.acquire()
-        self._connection.close()
-        self._connection = connection
-        self._requests, self._answers = connection.makefile("wb"), connection.makefile("rb")
-        self._silence.heard()
+        if not self._is_taken_up(connection):
+            self._writing.release()
+            return False
         # Another thread writes, so that this one reads meanwhile: what is answered may be more than there is room for.
         threading.Thread(target=self._send_again, args=(self._all_again(),), daemon=True).start()
+        return True
+
+    def _is_taken_up(self, connection: socket.socket) -> bool:
+        """Goes on over a connection, unless the session is over."""
+        with self._listing:
+            old, new = (connection, self._connection) if self._end is not None else (self._connection, connection)
+            self._connection = new
+        old.close()
+        if old is connection:
+            return False
+        self._requests, self._answers = new.makefile("wb"), new.makefile("rb")
+        self._silence.heard()
         return True
 
     def _is_asked(self) -> bool:
@@ -102,8 +125,8 @@ class SocketSession(Session):
         with self._listing:
             # What was read may be of another file soon.
             self._told.clear()
-            self._listing.wait_for(lambda: self._waiting or self._closes or self._end is not None)
-            return bool(self._waiting) and self._end is None and not self._stops
+            self._listing.wait_for(lambda: self._waiting or self._put_off or self._closes or self._end is not None)
+            return bool(self._waiting or self._put_off) and self._end is None and not self._stops
 
     def _connected_again(self, until: float) -> socket.socket | None:
         """A new connection to the same file. None if there is none in time, or another file is served on the port."""
@@ -129,9 +152,9 @@ class SocketSession(Session):
     def _all_again(self) -> list[dict[str, Any]]:
         """What wasn't answered, in its order."""
         with self._listing:
-            requests = [owed.request for owed in self._waiting]
-            self._waiting = deque(owed._replace(is_repeated=True) for owed in self._waiting)
-        return requests
+            again = [*self._put_off, *self._waiting]
+            self._put_off, self._waiting = deque(), deque(owed._replace(is_repeated=True) for owed in again)
+        return [owed.request for owed in again]
 
     def _send_again(self, requests: list[dict[str, Any]]) -> None:
         """Sends requests before any other one, and ends the requests if the session closes."""

@@ -6,7 +6,6 @@ from typing import TYPE_CHECKING, Any, NamedTuple
 from uuid import UUID, uuid5
 
 from .marks import Mark, Span
-from .refusals import Stale
 
 if TYPE_CHECKING:
     from concurrent.futures import Future
@@ -84,12 +83,8 @@ class Document:
         return self.read().rev
 
     def _edit(self, rev: int | None, token: UUID | None, **fields: Any) -> int:
-        if rev is not None and not self.session.knows_rev(self.number):
-            # The number is another session's. After a crash, or at a peer, it may name another text, and would be taken for this one.
-            raise Stale(6, "stale")
         given = {"rev": rev, "token": token and str(token)}
-        answer = self.session.ask(doc=self.number, **fields, **{name: value for name, value in given.items() if value is not None})
-        return int(answer["rev"])
+        return self.session.edit(doc=self.number, **fields, **{name: value for name, value in given.items() if value is not None})
 
     def send_insert(self, at: int, text: str) -> Future[dict[str, Any]]:
         """The same as `insert`, without waiting, of 1 to 256 characters: many may be under way, and they are made in this order.

@@ -12,7 +12,7 @@ from typing import IO, Any, NamedTuple
 from .answers import NoAnswer, answer_of
 from .document import Document
 from .lines import Lines, line_of
-from .refusals import Ended, Refused
+from .refusals import Ended, Refused, Stale
 from .silence import TIMEOUT, Silence
 
 # Bytes that are read at once.
@@ -38,6 +38,8 @@ class Session:
         self._requests = requests
         self._answers = answers
         self._waiting: deque[Owed] = deque()
+        # What was answered, but is to be sent again over the next connection before those that wait.
+        self._put_off: deque[Owed] = deque()
         # The documents whose `rev` was told in this session.
         self._told: set[int] = set()
         self._closes = False
@@ -60,8 +62,16 @@ class Session:
         """The answer to a request, as it comes. `Refused` if it is refused, `Ended` if none comes."""
         return self.send(**fields).result()
 
+    def edit(self, **fields: Any) -> int:
+        """The `rev` behind an edit. `Stale` if it names one and this session was told none of its document: before, the number of another
+        session, or of the connection before, could name another text."""
+        return int(self._sent(fields, needs_rev="rev" in fields).result()["rev"])
+
     def send(self, **fields: Any) -> Future[dict[str, Any]]:
         """Sends a request and doesn't wait for its answer."""
+        return self._sent(fields, needs_rev=False)
+
+    def _sent(self, fields: dict[str, Any], needs_rev: bool) -> Future[dict[str, Any]]:
         request = self._named(fields)
         line = line_of(request)
         answer: Future[dict[str, Any]] = Future()
@@ -71,6 +81,8 @@ class Session:
             with self._listing:
                 if self._end is not None:
                     raise Ended(f"the session has ended ({self._end})")
+                if needs_rev and request["doc"] not in self._told:
+                    raise Stale(6, "stale")
                 self._waiting.append(Owed(answer, request))
                 self._silence.begin()
                 self._listing.notify_all()
@@ -88,10 +100,6 @@ class Session:
         except (OSError, ValueError):
             # The reader sees the end too, and goes on elsewhere or tells all that wait.
             pass
-
-    def knows_rev(self, document: int) -> bool:
-        """Whether this session was told a `rev` of a document. Before, the number of another session could name another text."""
-        return document in self._told
 
     def settled(self) -> bool:
         """Whether all that was edited is settled on the disk."""
@@ -174,22 +182,29 @@ class Session:
             raise NoAnswer("a line came that nobody asked for")
         # It waits on until this is known to be its answer.
         told = answer_of(line, owed.request.get("op"))
-        if self._is_taken_off(told):
+        if self._is_taken_off(told, self._puts_off(owed, told)):
             if isinstance(told, Refused):
                 owed.answer.set_exception(told)
             else:
                 owed.answer.set_result(told)
 
-    def _is_taken_off(self, told: dict[str, Any] | Refused) -> bool:
-        """Takes the first of those that wait off the list, unless all of them were told of the end meanwhile."""
+    def _puts_off(self, owed: Owed, told: dict[str, Any] | Refused) -> bool:
+        """Whether a request is to be sent again, over the next connection, though it was answered."""
+        return False
+
+    def _is_taken_off(self, told: dict[str, Any] | Refused, is_put_off: bool) -> bool:
+        """Takes the first of those that wait off the list, and whether its answer is told: it isn't where the request is put off, or all of them
+        were told of the end meanwhile."""
         with self._listing:
             if self._end is not None:
                 return False
             owed = self._waiting.popleft()
-            if not self._waiting and not self._closes:
+            if is_put_off:
+                self._put_off.append(owed)
+            elif not self._waiting and not self._put_off and not self._closes:
                 self._silence.end()
             self._note(owed, told)
-            return True
+            return not is_put_off
 
     def _note(self, owed: Owed, told: dict[str, Any] | Refused) -> None:
         """Keeps what an answer tells. That to an edit which was sent before may be older than what is there."""
@@ -206,7 +221,8 @@ class Session:
         with self._listing:
             if self._end is None:
                 self._end = end
-            left, self._waiting = self._waiting, deque()
+            left = [*self._put_off, *self._waiting]
+            self._put_off, self._waiting = deque(), deque()
         for owed in left:
             owed.answer.set_exception(
                 Ended(f"the session ended before this request was answered ({self._end}): begin another one, and read what is there")
