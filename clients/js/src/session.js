@@ -7,6 +7,9 @@ import { Finder, RETRY, cut } from "./finder.js";
 import { Ended, Refused } from "./refusals.js";
 import { Silence, TIMEOUT } from "./silence.js";
 
+/** The refusal of a daemon that is about to open its file anew. */
+const STEPS = 10;
+
 /**
  * What carries lines to the program and back. A session sets `onLine`, `onPart` and `onEnd`. The transport calls the
  * first with each line that comes, without its end, the second for each part of a line, and the last once no more will
@@ -48,6 +51,11 @@ export class Session {
   #finder;
   /** @type {Owed[]} */
   #waiting = [];
+  /**
+   * What was answered, but is to be sent again over the next transport before those that wait.
+   * @type {Owed[]}
+   */
+  #putOff = [];
   /** The documents whose `rev` was told in this session. */
   #told = new Set();
   #isOpen = true;
@@ -139,7 +147,7 @@ export class Session {
     // The end of the answers is due.
     this.#silence.begin();
     if (!this.#isParted) this.#transport.close();
-    else if (this.#waiting.length === 0) this.#finish("no more answers come");
+    else if (!this.#isDue()) this.#finish("no more answers come");
     await this.#end;
   }
 
@@ -169,14 +177,21 @@ export class Session {
     }
   }
 
+  /** Whether an answer is due. */
+  #isDue() {
+    return this.#waiting.length + this.#putOff.length > 0;
+  }
+
   /** The transport has ended. Another one is looked for once there is something to send. */
   #part() {
-    const isOver = this.#reason !== undefined || this.#stops || (!this.#isOpen && this.#waiting.length === 0);
+    const isOver = this.#reason !== undefined || this.#stops || (!this.#isOpen && !this.#isDue());
     if (this.#finder === undefined || isOver) return this.#finish("no more answers come");
     this.#isParted = true;
+    // What comes over it now is for nobody.
+    Object.assign(this.#transport, { onLine() {}, onPart() {}, onEnd() {} });
     // What was read needn't be there again.
     this.#told.clear();
-    if (this.#waiting.length > 0) this.#goOn(this.#finder);
+    if (this.#isDue()) this.#goOn(this.#finder);
   }
 
   /**
@@ -197,6 +212,7 @@ export class Session {
     this.#isParted = false;
     this.#transport = this.#joined(transport);
     this.#silence.heard();
+    this.#waiting.unshift(...this.#putOff.splice(0));
     for (const owed of this.#waiting) this.#put(owed, JSON.stringify(repeated(owed.request)));
     if (!this.#isOpen) transport.close();
   }
@@ -230,11 +246,23 @@ export class Session {
     // It waits on until this is known to be its answer.
     const told = answerOf(line, owed.request.op);
     this.#waiting.shift();
-    if (this.#waiting.length === 0 && this.#isOpen) this.#silence.end();
+    const isPutOff = this.#puts(owed, told);
+    if (isPutOff) this.#putOff.push(owed);
+    if (!this.#isDue() && this.#isOpen) this.#silence.end();
     this.#finder?.answered(owed.request, told);
+    if (isPutOff) return;
     if (told instanceof Refused) return owed.reject(told);
     this.#note(owed, told);
     owed.resolve(told);
+  }
+
+  /**
+   * Whether an edit is put off: a daemon that has no steps left opens its file anew, and ends its connections.
+   * @param {Owed} owed
+   * @param {Answer | Refused} told
+   */
+  #puts({ request }, told) {
+    return this.#finder !== undefined && told instanceof Refused && told.number === STEPS && request.token !== undefined;
   }
 
   /**
@@ -265,8 +293,7 @@ export class Session {
   #over(reason) {
     this.#isOpen = false;
     this.#reason ??= reason;
-    const left = this.#waiting;
-    this.#waiting = [];
+    const left = [...this.#putOff.splice(0), ...this.#waiting.splice(0)];
     const words = `the session ended before this request was answered (${this.#reason}): begin another one, and read what is there`;
     for (const { reject, sent } of left) reject(new Ended(words, { wasSent: sent > 0 }));
   }

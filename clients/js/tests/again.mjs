@@ -167,6 +167,27 @@ test("a stop is sent once", () =>
     assert.equal(over.sent.length, 1);
   }));
 
+test("an edit that found no steps is made behind the opening, and in its order", () => {
+  const rounds = [];
+  const talk = async (socket, lines) => {
+    const round = [];
+    rounds.push(round);
+    for await (const line of { [Symbol.asyncIterator]: () => lines }) {
+      round.push(JSON.parse(line).text);
+      if (round.length < 2) continue;
+      if (rounds.length === 1) return void socket.write('{"code":10,"error":"steps","ok":false}\n');
+      socket.write('{"ok":true,"rev":1}\n{"ok":true,"rev":2}\n');
+    }
+  };
+  return withTalk(talk, async (port) => {
+    const session = await connect(port);
+    const underWay = ["a", "b"].map((letter) => session.document(1).insert(0, letter));
+    assert.deepEqual(await soon(Promise.all(underWay)), [1, 2]);
+    assert.deepEqual(rounds, [["a", "b"], ["a", "b"]]);
+    await session.close();
+  });
+});
+
 test("a daemon that never answers is looked for no longer", () =>
   withStores(async (port, over) => {
     const session = await connect(port, { retry: SHORT });

@@ -39,6 +39,8 @@ class SocketSession(Session):
     """
 
     def __init__(self, connection: socket.socket, port: int, timeout: float | None = TIMEOUT, retry: float | None = RETRY) -> None:
+        if retry is not None and not retry > 0:
+            raise ValueError(f"retry is {retry}; it has to be more than 0 seconds, or None to send nothing twice")
         self._connection = connection
         self._port = port
         self._retry = retry
