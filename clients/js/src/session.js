@@ -249,8 +249,8 @@ export class Session {
     const isPutOff = this.#puts(owed, told);
     if (isPutOff) this.#putOff.push(owed);
     if (!this.#isDue() && this.#isOpen) this.#silence.end();
-    this.#finder?.answered(owed.request, told);
     if (isPutOff) return;
+    this.#finder?.answered(owed.request, told);
     if (told instanceof Refused) return owed.reject(told);
     this.#note(owed, told);
     owed.resolve(told);

@@ -30,6 +30,13 @@ class Lost(WithDaemon):
         self.assertEqual(text.insert(1, "b"), 2)
         self.assertEqual(text.text(), "ab")
 
+    def test_a_long_text_goes_on_over_a_lost_connection(self):
+        text = self.connect().document(1)
+        long = "".join(chr(0x100 + k % 700) for k in range(60_000))
+        threading.Timer(0.05, self.again).start()
+        self.assertEqual(text.insert(0, long), len(long))
+        self.assertEqual(text.text(), long)
+
     def test_all_that_is_under_way_is_made_once_and_in_order(self):
         session = self.connect()
         text = session.document(1)

@@ -6,6 +6,7 @@ from typing import TYPE_CHECKING, Any, NamedTuple
 from uuid import UUID, uuid5
 
 from .marks import Mark, Span
+from .refusals import Stale
 
 if TYPE_CHECKING:
     from concurrent.futures import Future
@@ -47,8 +48,17 @@ class Document:
         rev = self._edit(rev, token, op="insert", at=at, text=text[:LONGEST])
         for first in range(LONGEST, len(text), LONGEST):
             part = token and uuid5(token, str(first))
-            rev = self._edit(rev, part, op="insert", at=at + first, text=text[first : first + LONGEST])
+            rev = self._insert_next(rev, part, at + first, text[first : first + LONGEST])
         return rev
+
+    def _insert_next(self, rev: int, token: UUID | None, at: int, text: str) -> int:
+        """Puts in what comes next to an edit that was answered with this `rev`. If it is `Stale` for a lost connection alone, it is sent anew."""
+        while True:
+            try:
+                return self._edit(rev, token, op="insert", at=at, text=text)
+            except Stale:
+                if self.rev() != rev:
+                    raise
 
     def delete(self, at: int, count: int, rev: int | None = None, token: UUID | None = None) -> int:
         """Takes away 1 to 256 characters from a place on."""

@@ -201,10 +201,11 @@ class Session:
             owed = self._waiting.popleft()
             if is_put_off:
                 self._put_off.append(owed)
-            elif not self._waiting and not self._put_off and not self._closes:
+                return False
+            if not self._waiting and not self._put_off and not self._closes:
                 self._silence.end()
             self._note(owed, told)
-            return not is_put_off
+            return True
 
     def _note(self, owed: Owed, told: dict[str, Any] | Refused) -> None:
         """Keeps what an answer tells. That to an edit which was sent before may be older than what is there."""
