@@ -69,7 +69,10 @@ export class Peer {
     for (;;) {
       const wire = new Wire(`session/${this.#name}`);
       try {
-        await this.#begin(new Session(wire).document(DOCUMENT));
+        const session = new Session(wire);
+        // The last place is for those who first ask for the status.
+        await session.settled();
+        await this.#begin(session.document(DOCUMENT));
         while (!wire.isOver) {
           await this.#binding.pull();
           this.#notice.clear("fault");

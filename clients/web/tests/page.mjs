@@ -162,9 +162,9 @@ export class Page {
     return this.browser.until((id, wanted) => document.querySelector(`#${id} .saved`).dataset.state === wanted, name, state);
   }
 
-  /** A session of one's own at the daemon of a peer. */
+  /** A session of one's own at the daemon of a peer, which ends with its connection. */
   session(name) {
-    return connect(this.demo.daemon(name).ports.sessions);
+    return connect(this.demo.daemon(name).ports.sessions, { retry: null });
   }
 
   /** Takes a picture of the page, with nothing under the mouse and no caret. */
