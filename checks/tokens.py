@@ -84,12 +84,31 @@ def check_rows(checks, program):
     checks.same("once more", answers_of(program, "rows", [token_insert(0, "a"), token_insert(0, "c", OTHER), token_insert(0, "c", OTHER)]), [done(1), done(3), done(3)])
 
 
+def limit():
+    resource.setrlimit(resource.RLIMIT_FSIZE, (12 * PAGE, 12 * PAGE))
+
+
+def check_failed_daemon(checks, program):
+    """The same of a daemon, in two of its sessions; and a known edit in one burst behind a stop."""
+    daemon = new_daemon(program, "failing", preexec_fn=limit)
+    one, other = daemon.talk(), daemon.talk()
+    edits = [token_insert(0, "f" * 256, str(uuid.UUID(int=k + 1))) for k in range(40)]
+    answers = [one.ask(edit) for edit in edits]
+    settled = sum(answer["ok"] for answer in answers)
+    wanted = [done(256 * (k + 1)) if k < settled else FAILED for k in range(40)]
+    checks.holds(f"a daemon on a full disk: {settled} settled", 0 < settled < 40)
+    checks.same("a daemon on a full disk: each answer", answers, wanted)
+    checks.same("each again, in another session", [other.ask(edit) for edit in edits], wanted)
+    daemon.kill()
+    daemon = new_daemon(program, "stopping")
+    talk = daemon.talk()
+    talk.send(token_insert(0, "a") + STOP + token_insert(0, "a") + token_insert(0, "b", OTHER))
+    checks.same("a daemon's stop, and behind it", [talk.answer() for _ in range(4)], [done(1), OK, done(1), STOPPING])
+    checks.same("the end", daemon.ended(), (0, b"", b""))
+
+
 def check_failed(checks, program):
     """Behind a device that failed, what was settled before is answered as it was; a new edit isn't, and is there once or not at all."""
-
-    def limit():
-        resource.setrlimit(resource.RLIMIT_FSIZE, (12 * PAGE, 12 * PAGE))
-
     new_file(program, "failed")
     tokens = [str(uuid.UUID(int=k + 1)) for k in range(40)]
     edits = [token_insert(0, "f" * 256, token) for token in tokens]
@@ -205,6 +224,7 @@ def daemon_text(daemon, doc):
 def check(checks, program, until):
     check_rows(checks, program)
     check_failed(checks, program)
+    check_failed_daemon(checks, program)
     check_peer(checks, program)
     check_kills(checks, program, SHORT)
 
