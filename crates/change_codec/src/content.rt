@@ -1,6 +1,5 @@
 //! What an operation does, by the kind of its record.
 ghost use Rattle.std.specs.Prelude.{◌≡◌, ◌≤◌, Option, IfOk, is_some};
-ghost use Rattle.op_ids.specs.Id.{Id};
 ghost use Rattle.change_codec.specs.Spelling.{content_bytes, origin_bytes, kind_byte, tagged};
 ghost use Rattle.change_codec.specs.Lent.{body_of, HasUrl};
 ghost use Rattle.change_codec.specs.Reading.{Reads, kind_at, kind_named, body_at, content_at, origin_at, scalar_at};

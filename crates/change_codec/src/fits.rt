@@ -1,6 +1,6 @@
 //! Every operation has a spelling: what the types keep is what the rules of the fields ask. The
 //! fields are read for the proof alone, which knows from that what their types keep.
-ghost use Rattle.std.specs.Prelude.{ℕ, ◌<◌, ◌^◌};
+ghost use Rattle.std.specs.Prelude.{◌<◌};
 ghost use Rattle.change_codec.specs.Fits.{IsId, IsOrigin, IsMark, IsKey, IsAnchor, IsStart, IsEnd, IsContent, IsToken, HaveSixteen, IsOperation};
 
 use op_ids::laws::token_is_not_nil;

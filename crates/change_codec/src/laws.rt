@@ -2,7 +2,7 @@
 ghost use Rattle.std.specs.Prelude.{◌≡◌, ◌++◌, ◌<◌, ℕ, List, length, take, slice_index, Ok, Some};
 ghost use Rattle.op_model.specs.Records.{record_length, stream_length};
 ghost use Rattle.op_model.specs.declared.op.Op.{Op as Operation};
-ghost use Rattle.change_codec.specs.Spelling.{spelled, Spells};
+ghost use Rattle.change_codec.specs.Spelling.{spelled};
 ghost use Rattle.change_codec.specs.declared.format.Format.{Format as StreamFormat};
 ghost use Rattle.change_codec.specs.Fits.{IsOperation};
 ghost use Rattle.change_codec.specs.Formats.{IsOf};

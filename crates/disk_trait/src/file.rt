@@ -1,5 +1,5 @@
 //! A disk over a file of the operating system, of which nothing is known.
-ghost use Rattle.std.specs.Prelude.{◌≡◌, ◌⊎◌, [], IfErr};
+ghost use Rattle.std.specs.Prelude.{◌≡◌, [], IfErr};
 ghost use Rattle.disk_trait.specs.declared.error.DiskError.TheVariants.{OpenFailed};
 
 use crate::opening::{make_alone, open_alone, open_shared, remove_made};

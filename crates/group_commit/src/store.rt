@@ -1,5 +1,4 @@
 //! A store over a disk.
-ghost use Rattle.std.specs.Prelude.{◌≡◌};
 ghost use Rattle.group_commit.specs.Held.{StoreHeld};
 ghost use Rattle.group_commit.specs.Standing.{IsSound, HasStreams};
 ghost use Rattle.group_commit.specs.Paging.{IsPaging};

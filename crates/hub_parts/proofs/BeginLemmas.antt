@@ -20,7 +20,7 @@ use Rattle.group_commit.specs.declared.error.StoreError.{StoreError}
 use Rattle.group_commit.specs.declared.error.StoreError.TheVariants.{Memory, Limit}
 use Rattle.hub_parts.specs.Flusher.{FlusherHeld}
 use Rattle.hub_parts.specs.Locked.{has_commit, IsLocked, LockedHeld}
-use Rattle.hub_parts.specs.Meet.{FitTogether, side_of}
+use Rattle.hub_parts.specs.Fitting.{FitTogether, side_of}
 use Rattle.hub_parts.specs.Meeting.{pending, due_without, IsMet}
 use Rattle.hub_parts.specs.declared.met.Met.TheVariants.{Begun}
 

@@ -7,7 +7,7 @@ use Rattle.root_slots.specs.Root.{count_of}
 use Rattle.group_commit.specs.Held.{StoreHeld}
 use Rattle.hub_parts.specs.Flusher.{IsFlusher, IsUnderWay}
 use Rattle.hub_parts.specs.Locked.{IsLocked, LockedHeld}
-use Rattle.hub_parts.specs.Meet.{FitTogether, side_of}
+use Rattle.hub_parts.specs.Fitting.{FitTogether, side_of}
 use Rattle.hub_parts.proofs.FlusherSteps.{GoesThrough, Outcome}
 
 -- the flusher's list has as many operations as were taken

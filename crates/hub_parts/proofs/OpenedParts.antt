@@ -15,7 +15,7 @@ use Rattle.group_commit.specs.Loading.{IsHistory}
 use Rattle.group_commit.specs.declared.phase.Phase.TheVariants.{Idle}
 use Rattle.hub_parts.specs.Flusher.{IsFlusher}
 use Rattle.hub_parts.specs.Locked.{due_behind, Keeps, LockedHeld}
-use Rattle.hub_parts.specs.Meet.{FitTogether, side_of}
+use Rattle.hub_parts.specs.Fitting.{FitTogether, side_of}
 use Rattle.hub_parts.proofs.FlusherSteps.{CrashLeaves}
 use Rattle.hub_parts.proofs.WaitingLengths.{none_waiting}
 

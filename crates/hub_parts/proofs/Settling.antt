@@ -8,7 +8,7 @@ use Rattle.group_commit.specs.Begin.{is_idle}
 use Rattle.group_commit.specs.Held.{StoreHeld}
 use Rattle.hub_parts.specs.Flusher.{IsFlusher}
 use Rattle.hub_parts.specs.Locked.{IsLocked, LockedHeld}
-use Rattle.hub_parts.specs.Meet.{FitTogether, side_of}
+use Rattle.hub_parts.specs.Fitting.{FitTogether, side_of}
 use Rattle.hub_parts.proofs.Fronts.{whole_list}
 use Rattle.hub_parts.proofs.MeetSteps.{front_length}
 

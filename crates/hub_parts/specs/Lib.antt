@@ -1,7 +1,7 @@
 pub mod Adding
 pub mod Flusher
 pub mod Locked
-pub mod Meet
+pub mod Fitting
 pub mod Meeting
 pub mod Opening
 pub mod Refusal

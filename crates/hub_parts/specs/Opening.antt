@@ -4,7 +4,7 @@ use Rattle.op_model.specs.Held.{opened_with}
 use Rattle.group_commit.specs.declared.phase.Phase.TheVariants.{Idle}
 use Rattle.hub_parts.specs.Flusher.{FlusherHeld}
 use Rattle.hub_parts.specs.Locked.{LockedHeld}
-use Rattle.hub_parts.specs.Meet.{FitTogether, side_of}
+use Rattle.hub_parts.specs.Fitting.{FitTogether, side_of}
 
 -- two parts right after opening: all is settled, no commit is under way, no device call has failed, and the two fit
 pub record IsOpened {D : Type 0} (l : LockedHeld) (f : FlusherHeld D) : Type 0 where

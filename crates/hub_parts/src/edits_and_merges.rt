@@ -3,7 +3,7 @@ ghost use Rattle.std.specs.Prelude.{◌≡◌, IfOk, OnErr};
 ghost use Rattle.op_model.specs.Machine.{after_edit, has_record_room, EditStep, MergeStep};
 ghost use Rattle.replica_core.specs.Merging.{after_merge};
 ghost use Rattle.hub_parts.specs.Locked.{state_of};
-ghost use Rattle.hub_parts.specs.Meet.{FitTogether, Side};
+ghost use Rattle.hub_parts.specs.Fitting.{FitTogether, Side};
 ghost use Rattle.hub_parts.specs.Refusal.{edited, merged};
 
 use crate::locked::Locked;

@@ -1,6 +1,6 @@
 //! Whether two parts are those of one hub.
 ghost use Rattle.std.specs.Prelude.{◌↔◌, IsTrue};
-ghost use Rattle.hub_parts.specs.Meet.{FitTogether, side_of};
+ghost use Rattle.hub_parts.specs.Fitting.{FitTogether, side_of};
 
 use crate::flusher::Flusher;
 use crate::locked::Locked;

@@ -2,7 +2,7 @@
 ghost use Rattle.std.specs.Prelude.{◌≡◌};
 ghost use Rattle.hub_parts.specs.Flusher.{IsFlusher, IsStoreStep};
 ghost use Rattle.hub_parts.specs.Locked.{IsLocked, LockedHeld};
-ghost use Rattle.hub_parts.specs.Meet.{FitTogether, side_of};
+ghost use Rattle.hub_parts.specs.Fitting.{FitTogether, side_of};
 
 use disk_trait::Disk;
 use fixed_numbers::limits::{MAX_PENDING, MAX_PENDING_RECORDS};

@@ -7,7 +7,7 @@ ghost use Rattle.root_slots.specs.Root.{count_of};
 ghost use Rattle.group_commit.specs.Begin.{AreWritten, Begins};
 ghost use Rattle.group_commit.specs.declared.error.StoreError.TheVariants.{Memory};
 ghost use Rattle.hub_parts.specs.Locked.{has_commit};
-ghost use Rattle.hub_parts.specs.Meet.{FitTogether, side_of};
+ghost use Rattle.hub_parts.specs.Fitting.{FitTogether, side_of};
 ghost use Rattle.hub_parts.specs.Meeting.{due_without, CanCommit, IsMet, LeavesBoth, Meets};
 
 use crate::flusher::Flusher;

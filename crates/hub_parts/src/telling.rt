@@ -4,7 +4,7 @@ ghost use Rattle.op_model.specs.Telling.{reach};
 ghost use Rattle.op_model.specs.Machine.{acknowledged, AckStep, TellStep, HaveStep};
 ghost use Rattle.op_model.specs.Held.{settled_list, with_acked, with_told};
 ghost use Rattle.hub_parts.specs.Locked.{state_of};
-ghost use Rattle.hub_parts.specs.Meet.{FitTogether, Side};
+ghost use Rattle.hub_parts.specs.Fitting.{FitTogether, Side};
 ghost use Rattle.hub_parts.specs.Refusal.{told, had};
 
 use crate::locked::Locked;

@@ -15,7 +15,7 @@ use Rattle.group_commit.specs.declared.error.StoreError.{StoreError}
 use Rattle.group_commit.specs.declared.error.StoreError.TheVariants.{Limit, Failed}
 use Rattle.hub_parts.specs.Locked.{has_commit, IsLocked, LockedHeld}
 use Rattle.hub_parts.specs.Flusher.{RestsOrCommits, IsAtRest, IsFlusher, FlusherHeld}
-use Rattle.hub_parts.specs.Meet.{FitTogether, side_of}
+use Rattle.hub_parts.specs.Fitting.{FitTogether, side_of}
 use Rattle.hub_parts.specs.Meeting.{differ, due_without, meeting_due, pending, IsMet, LeavesBoth, Meets}
 use Rattle.hub_parts.specs.declared.met.Met.{Met}
 use Rattle.hub_parts.specs.declared.met.Met.TheVariants.{Begun, Settled, Nothing}

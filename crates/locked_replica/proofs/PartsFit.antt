@@ -11,7 +11,7 @@ use Rattle.group_commit.specs.Saved.{Saved}
 use Rattle.hub_parts.specs.Locked.{IsLocked, has_commit, LockedHeld}
 use Rattle.hub_parts.specs.Locked.{commit_of as locked_commit}
 use Rattle.hub_parts.specs.Flusher.{RestsOrCommits, HasFront, IsFlusher, FlusherHeld}
-use Rattle.hub_parts.specs.Meet.{FitTogether, side_of}
+use Rattle.hub_parts.specs.Fitting.{FitTogether, side_of}
 use Rattle.locked_replica.specs.Hub.{Parts, commit_in, commit_of, committed}
 use Rattle.locked_replica.proofs.Fits.{CommitFits, Fits, IsFront}
 use Rattle.locked_replica.proofs.PartsOf.{parts}

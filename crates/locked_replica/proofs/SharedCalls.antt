@@ -20,7 +20,7 @@ use Rattle.replica_core.specs.declared.merged.Merged.TheVariants as merged_as
 use Rattle.hub_parts.specs.Locked.{IsLocked, LockedHeld}
 use Rattle.hub_parts.specs.Locked.{commit_of as locked_commit, state_of as locked_state}
 use Rattle.hub_parts.specs.Flusher.{IsFlusher, FlusherHeld}
-use Rattle.hub_parts.specs.Meet.{FitTogether, side_of}
+use Rattle.hub_parts.specs.Fitting.{FitTogether, side_of}
 use Rattle.root_slots.specs.Root.{version_of}
 use Rattle.locked_replica.specs.Calls.{IsCall}
 use Rattle.locked_replica.specs.Hub.{commit_of, state_of}

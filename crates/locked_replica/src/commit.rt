@@ -79,7 +79,6 @@ impl<D: Disk> Hub<D> {
     /// through. A refused call changes nothing else. It is a meeting of the two parts.
     pub fn settle(&mut self) -> Result<u64, HubRefusal>
         ensures call { IsCall D.DiskFacts settle_event (settle_answered result) self.old self.new }
-        ensures store { self.new.store ≡ self.old.store }
     {
         self.locked.kept();
         self.flusher.kept();

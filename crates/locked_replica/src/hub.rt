@@ -17,7 +17,7 @@ pub struct Hub<D: Disk> {
 }
 
 impl<D: Disk> Model for Hub<D> {
-    ghost use Rattle.hub_parts.specs.Meet.{FitTogether, side_of};
+    ghost use Rattle.hub_parts.specs.Fitting.{FitTogether, side_of};
     ghost use Rattle.locked_replica.specs.Hub.{Parts};
 
     ghost Value = { Parts D };

@@ -60,7 +60,6 @@ impl<D: Disk> Hub<D> {
     pub fn ack(&mut self, ticket: Ticket) -> bool
         ensures call { IsCall D.DiskFacts (ack_event ticket) (acknowledged result)
             self.old self.new }
-        ensures store { self.new.store ≡ self.old.store }
     {
         self.locked.kept();
         self.flusher.kept();

@@ -1,5 +1,5 @@
 //! A list of calls.
-ghost use Rattle.std.specs.Prelude.{◌≡◌, List, length, IfOk, OnOk, OnErr};
+ghost use Rattle.std.specs.Prelude.{◌≡◌, List, length, IfOk, OnErr};
 ghost use Rattle.locked_replica.specs.Calls.{IsCall};
 ghost use Rattle.locked_replica.specs.Run.{Replied};
 ghost use Rattle.locked_replica.specs.Steps.{event_of, answer_of, IsReplyTo, NamesPhase};

@@ -3,13 +3,13 @@ ghost use Rattle.std.specs.List.{list_all};
 ghost use Rattle.char_sequence.specs.Content.{is_there};
 ghost use Rattle.mark_anchors.specs.Naming.{NamesUnknown};
 ghost use Rattle.op_model.specs.declared.op.Op.{Op};
-ghost use Rattle.op_model.specs.Causality.{optional, named_by_start, named_by_end};
+ghost use Rattle.op_model.specs.Causality.{named_by_start, named_by_end};
 ghost use Rattle.op_model.specs.Characters.{characters};
 ghost use Rattle.op_model.specs.Placing.{has_id};
 
 use char_sequence::{Sequence, SequenceError, Weave};
 use op_ids::OpId;
-use op_model::{Anchor, Body, End, Start};
+use op_model::{Body, End, Start};
 
 /// The characters of a document, among which one is looked for.
 pub trait Characters {
@@ -66,7 +66,7 @@ fn check_ends<C: Characters>(text: &C, start: &Start, end: &End) -> Result<(), S
         (named_by_start start.now ++ named_by_end end.now) ≡ false)) }
     ensures memory { IsErrOf result SequenceError.Memory → ⊥ }
 {
-    if knows(text, &start_id(start)) && knows(text, &end_id(end)) {
+    if knows(text, &start.character()) && knows(text, &end.character()) {
         return Ok(());
     }
     Err(SequenceError::UnknownId)
@@ -80,27 +80,5 @@ fn knows<C: Characters>(text: &C, id: &Option<OpId>) -> bool
     match id {
         None => true,
         Some(id) => text.has(*id),
-    }
-}
-
-/// The character that a start names.
-fn start_id(start: &Start) -> Option<OpId>
-    ensures { optional result ≡ named_by_start start.now }
-{
-    match start {
-        Start::OfText => None,
-        Start::From(Anchor::Before(id)) => Some(*id),
-        Start::From(Anchor::After(id)) => Some(*id),
-    }
-}
-
-/// The character that an end names.
-fn end_id(end: &End) -> Option<OpId>
-    ensures { optional result ≡ named_by_end end.now }
-{
-    match end {
-        End::OfText => None,
-        End::To(Anchor::Before(id)) => Some(*id),
-        End::To(Anchor::After(id)) => Some(*id),
     }
 }

@@ -1,4 +1,4 @@
-ghost use Rattle.std.specs.Prelude.{◌≡◌, ◌+◌, ◌<◌, ◌≤◌, ◌^◌, [], ◌++◌, length, take, IfOk, OnOk, OnErr, IsErrOf};
+ghost use Rattle.std.specs.Prelude.{◌≡◌, ◌+◌, ◌<◌, ◌^◌, [], ◌++◌, length, take, IfOk, OnOk, OnErr, IsErrOf};
 ghost use Rattle.change_codec.specs.declared.stream_error.StreamError.TheVariants.{Stream};
 ghost use Rattle.change_codec.specs.Formats.{AreOf};
 ghost use Rattle.change_codec.specs.Stream.{spelled_all, AreOperations, IsNoStream};

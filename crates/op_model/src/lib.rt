@@ -28,7 +28,7 @@ pub use mark::{Mark, MarkKey, Marks};
 pub use marking::Marking;
 pub use numbering::{insert_bodies, numbered};
 pub use op::{Body, Op};
-pub use rising::{insert_rising, place_among, put_among};
+pub use rising::{place_among, put_among};
 pub use span::Span;
 pub use text::Text;
 pub use ticks::Ticks;

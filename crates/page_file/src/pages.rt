@@ -1,5 +1,5 @@
 //! Which pages of a file are live, and which are free.
-ghost use Rattle.std.specs.Prelude.{◌≡◌, ℕ, ◌+◌, ◌<◌, ◌≤◌, ◌++◌, true, [], length, IfOk, OnOk};
+ghost use Rattle.std.specs.Prelude.{◌≡◌, ◌+◌, ◌<◌, ◌≤◌, ◌++◌, true, [], length, IfOk, OnOk};
 ghost use Rattle.std.specs.Prelude.{OnErr};
 ghost use Rattle.fixed_numbers.specs.declared.sizes.TheConstants.{MAX_PAGES};
 ghost use Rattle.page_file.specs.Free.{IsLowestFree, AreLowest};

@@ -17,7 +17,7 @@ pub struct Share {
 
 impl Model for Share {
     ghost use Rattle.std.specs.Prelude.{◌≡◌, length};
-    ghost use Rattle.rtrb.specs.Ring.{sent, known_free, producer_capacity};
+    ghost use Rattle.rtrb.specs.Ring.{known_free, producer_capacity};
     ghost use Rattle.pass_books.specs.Accounts.{Account, newest_of, share_of};
 
     ghost Value = { Account };

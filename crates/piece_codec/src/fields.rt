@@ -1,7 +1,7 @@
 //! The fields of a run's record, but for its deps and its characters.
 ghost use Rattle.std.specs.Prelude.{◌≡◌};
 ghost use Rattle.op_pieces.specs.Cutting.{value_of};
-ghost use Rattle.change_codec.specs.Reading.{Reads, origin_at, scalar_at};
+ghost use Rattle.change_codec.specs.Reading.{Reads, origin_at};
 ghost use Rattle.change_codec.specs.Spelling.{origin_bytes};
 ghost use Rattle.change_codec.specs.Writing.{Appends, HasRoom};
 ghost use Rattle.piece_codec.specs.Reading.{run_head_at, run_tail_at};

@@ -2,9 +2,9 @@
 ghost use Rattle.std.specs.Prelude.{◌≡◌, ◌≢◌, ◌⊎◌, ◌↔◌, ℕ, Ok, Err, Some, None, IfSome, IsErrOf, IfOk, slice_index};
 ghost use Rattle.op_pieces.specs.Pieces.{Run};
 ghost use Rattle.change_codec.specs.declared.codec_error.CodecError.TheVariants.{Memory};
-ghost use Rattle.change_codec.specs.Record.{length_at, IsPartial};
+ghost use Rattle.change_codec.specs.Record.{IsPartial};
 ghost use Rattle.piece_codec.specs.Formats.{IsPieceOf, run_named as run_named_in};
-ghost use Rattle.piece_codec.specs.Record.{taken_as, taken_piece, first_fault, run_record_at, Answers, BeginsWithPiece, BeginsWithOneOf};
+ghost use Rattle.piece_codec.specs.Record.{taken_as, taken_piece, first_fault, Answers, BeginsWithPiece, BeginsWithOneOf};
 
 use crate::kind::run_named;
 use crate::run::take_run;

@@ -1,7 +1,7 @@
 //! Pieces as bytes.
 ghost use Rattle.std.specs.Prelude.{◌≡◌, ◌++◌, ◌<◌, ◌≤◌, ℕ, List, length, OnOk, OnErr};
 ghost use Rattle.change_codec.specs.Writing.{Appends, HasRoom};
-ghost use Rattle.piece_codec.specs.Spelling.{origin_of, run_bytes, run_fields, spelled_piece, spelled_run};
+ghost use Rattle.piece_codec.specs.Spelling.{run_bytes, run_fields, spelled_piece, spelled_run};
 
 use crate::fields::{insert_of, put_origin};
 use crate::kind::run_byte;

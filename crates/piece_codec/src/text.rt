@@ -1,5 +1,5 @@
 //! The characters of a run.
-ghost use Rattle.std.specs.Prelude.{◌≡◌, ◌∷◌, ◌<◌, length};
+ghost use Rattle.std.specs.Prelude.{◌∷◌, ◌<◌, length};
 ghost use Rattle.change_codec.specs.Lent.{Collects, Gives};
 ghost use Rattle.change_codec.specs.Reading.{Reads, only_rest, only_value, scalar_at};
 ghost use Rattle.change_codec.specs.Writing.{Appends, HasRoom};

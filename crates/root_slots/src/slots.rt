@@ -1,5 +1,5 @@
 //! Which root slot is live, of the bytes of both, and what it says.
-ghost use Rattle.std.specs.Prelude.{◌≡◌, ◌⊎◌, ◌-◌, ◌<◌, ◌==◌, true, length, IfOk, IfErr, IsOk, Ok};
+ghost use Rattle.std.specs.Prelude.{◌≡◌, ◌⊎◌, ◌-◌, ◌<◌, ◌==◌, length, IfOk, IfErr, IsOk, Ok};
 ghost use Rattle.fixed_numbers.specs.declared.sizes.TheConstants.{SLOTS_SIZE};
 ghost use Rattle.root_slots.specs.Body.{IsRoot, Spells, body_bytes};
 ghost use Rattle.root_slots.specs.Root.{version_of};
@@ -11,7 +11,7 @@ ghost use Rattle.root_slots.specs.declared.error.RootsError.TheVariants.{Memory,
 use crate::error::RootsError;
 use crate::root_body::RootBody;
 use fixed_numbers::sizes::{BODY_LENGTH, PAGE_SIZE};
-use std::alloc::{AllocError, Global};
+use std::alloc::Global;
 
 /// The live slot, whether the other one is open too, and what the live one says.
 #[derive(Drop)]

@@ -1,6 +1,6 @@
 //! The bytes of a root body.
 ghost use Rattle.std.specs.Prelude.{◌≡◌, ◌++◌, OnOk, IfOk};
-ghost use Rattle.root_slots.specs.Body.{Root, IsRoot, Spells, head_bytes, body_bytes};
+ghost use Rattle.root_slots.specs.Body.{IsRoot, Spells, head_bytes, body_bytes};
 
 use crate::fields::magic;
 use change_codec::Format;

@@ -1,5 +1,5 @@
 //! A disk whose write of a body waits until a session was served.
-ghost use Rattle.std.specs.Prelude.{◌≡◌, ◌⊎◌, [], IfErr};
+ghost use Rattle.std.specs.Prelude.{[]};
 
 use crate::test_daemons::TURNS;
 use disk_trait::{Disk, DiskError, DiskFacts, MemDisk};

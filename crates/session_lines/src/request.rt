@@ -1,5 +1,4 @@
 //! What a request asks for, by its fields.
-ghost use Rattle.std.specs.Prelude.{◌≡◌};
 ghost use Rattle.serde_json.specs.View.{view};
 ghost use Rattle.session_lines.specs.Fields.{Reads};
 ghost use Rattle.session_lines.specs.Requests.{verb_of, edit_with, request_of};

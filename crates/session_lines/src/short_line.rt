@@ -1,5 +1,5 @@
 //! The answers that need no memory of their own, put where there is room for them.
-ghost use Rattle.std.specs.Prelude.{◌≡◌, ◌++◌, ◌+◌, ◌≤◌, length, codes, decimal, vec_len, vec_capacity};
+ghost use Rattle.std.specs.Prelude.{◌≡◌, ◌++◌, ◌+◌, ◌≤◌, length, decimal, vec_len, vec_capacity};
 ghost use Rattle.session_lines.specs.Saying.{said_edited, said_status, said_refused, said_done};
 ghost use Rattle.session_lines.specs.Saying.{state_word};
 

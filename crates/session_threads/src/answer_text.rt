@@ -1,5 +1,5 @@
 //! The text of an answer.
-ghost use Rattle.std.specs.Prelude.{◌≡◌, ◌≤◌, List, [], ℕ, IfOk, vec_capacity};
+ghost use Rattle.std.specs.Prelude.{◌≡◌, ◌≤◌, List, [], ℕ, vec_capacity};
 ghost use Rattle.session_threads.specs.Exchanges.{IsSaid};
 
 use session_lines::{Answer, Refusal, say};

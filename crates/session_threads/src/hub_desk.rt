@@ -1,5 +1,5 @@
 //! A desk over a hub that is held alone.
-ghost use Rattle.std.specs.Prelude.{◌≡◌, ◌+◌, IsTrue, false};
+ghost use Rattle.std.specs.Prelude.{◌≡◌, false};
 ghost use Rattle.locked_replica.specs.Hub.{state_of};
 ghost use Rattle.session_threads.specs.HubCalls.{IsQuiet};
 

@@ -1,6 +1,6 @@
 //! The meetings of the flusher and what stands under the lock.
 ghost use Rattle.std.specs.Prelude.{◌≡◌};
-ghost use Rattle.hub_parts.specs.Meet.{FitTogether, side_of};
+ghost use Rattle.hub_parts.specs.Fitting.{FitTogether, side_of};
 ghost use Rattle.shared_hub.specs.Going.{Goes};
 ghost use Rattle.shared_hub.specs.Shared.{MeetsSound};
 

@@ -6,10 +6,10 @@ ghost use Rattle.op_model.specs.Places.{start_place as start_place_of, end_place
 ghost use Rattle.op_model.specs.Places.{covers as is_covered};
 ghost use Rattle.op_model.specs.Spans.{deciding as deciding_of, decided as decided_of, comment_ids as comment_ids_of, marks_of as marks_at};
 
+use crate::rising::insert_rising;
 use op_ids::OpId;
 use op_model::{
     Anchor, Character, CommentId, CommentIds, End, Mark, MarkKey, Marking, Marks, Op, Start,
-    insert_rising,
 };
 use std::alloc::{AllocError, Global};
 

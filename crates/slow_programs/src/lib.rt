@@ -10,6 +10,7 @@ mod numbering;
 mod order;
 mod placing;
 mod reading;
+mod rising;
 mod spanning;
 
 pub use edit_error::EditError;

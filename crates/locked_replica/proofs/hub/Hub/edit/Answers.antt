@@ -1,5 +1,5 @@
 use Rattle.std.proofs.Common.{sym}
-use Rattle.hub_parts.specs.Meet.{side_of}
+use Rattle.hub_parts.specs.Fitting.{side_of}
 use Rattle.locked_replica.proofs.SharedCalls.{call_edit, call_edit_refused}
 use Rattle.locked_replica.proofs.hub.Hub.edit.Goals.{in-Ok, in-Err}
 use Rattle.locked_replica.proofs.hub.Hub.edit.Goals as goal
