@@ -1,4 +1,5 @@
-use crate::test_asks::{Ask, Wish, answers};
+use crate::asks::{Ask, Wish};
+use crate::test_asks::answers;
 use replica_core::Refusal;
 use std::alloc::Global;
 use std::test::Fail;
@@ -162,6 +163,20 @@ fn an_edit_with_a_token_is_made_once(rt: HostRuntime) -> Result<(), Fail> {
     assert_eq!(rt;
         answers(rt.alloc(), &[1], &asks)?.as_slice(),
         [2, 3, 2, 3, 1].as_slice()
+    );
+    Ok(())
+}
+
+#[test]
+fn the_steps_of_one_opening_run_out(rt: HostRuntime) -> Result<(), Fail> {
+    let asks = [
+        (0, Ask::EditsUntilRefused(Wish::Insert(0, "x"))),
+        (0, Ask::Refusal(1, None, Wish::Delete(0, 1))),
+        (0, Ask::Len),
+    ];
+    assert_eq!(rt;
+        answers(rt.alloc(), &[1], &asks)?.as_slice(),
+        [349_525, 10, 349_525].as_slice()
     );
     Ok(())
 }

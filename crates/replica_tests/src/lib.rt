@@ -2,6 +2,8 @@
 #![tactic(auto)]
 
 #[cfg(test)]
+mod asks;
+#[cfg(test)]
 mod edit_tests;
 #[cfg(test)]
 mod merge_tests;
@@ -9,6 +11,8 @@ mod merge_tests;
 mod tell_tests;
 #[cfg(test)]
 mod test_asks;
+#[cfg(test)]
+mod test_edits;
 #[cfg(test)]
 mod test_exchange;
 #[cfg(test)]

@@ -1,4 +1,5 @@
-use crate::test_asks::{Ask, Wish, answers};
+use crate::asks::{Ask, Wish};
+use crate::test_asks::answers;
 use crate::test_exchange::answers_of_merged;
 use std::alloc::{AllocError, Global};
 use std::test::Fail;

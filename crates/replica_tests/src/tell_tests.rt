@@ -1,4 +1,4 @@
-use crate::test_asks::Ask;
+use crate::asks::Ask;
 use crate::test_exchange::answers_of_merged;
 use std::test::Fail;
 

@@ -1,9 +1,12 @@
 //! What a test asks of some peers, one thing after another. A test gets plain numbers and compares
 //! them: it holds no replica, since each way out past one is what the proof of a test costs.
+use crate::asks::{Ask, Wish};
+use crate::test_edits::{
+    edit_and_settle, edits_until_refused, put_length, refusal, rev_after, rev_under,
+};
 use crate::test_peers::{
-    acks, clock_of, edit_and_settle, has_text, has_text_of, id_of, merge, op_at, ops_from,
-    put_length, refusal, replica_id, rev_after, rev_under, spans_of, tells_clock, told,
-    told_to_none,
+    NOTHING, acks, clock_of, has_text, has_text_of, id_of, merge, op_at, ops_from, replica_id,
+    spans_of, tells_clock, told, told_to_none,
 };
 use op_ids::{Clock, OpId};
 use op_list::OpList;
@@ -12,72 +15,6 @@ use replica_core::{Refusal, Replica};
 use std::alloc::{AllocError, Global};
 use std::num::NonZeroU32;
 use std::test::Fail;
-
-/// What stands for an answer where what it takes isn't there, or couldn't be made.
-const NOTHING: usize = 255;
-
-/// What an edit changes.
-#[derive(Clone, Copy)]
-pub enum Wish<'a> {
-    /// Inserts a text at an index.
-    Insert(u32, &'a str),
-    /// Removes, from an index on, this number of characters.
-    Delete(u32, u32),
-    /// Makes characters strong, from an index up to another.
-    Mark(u32, u32),
-    /// Takes strong from them.
-    Unmark(u32, u32),
-}
-
-/// What is asked of a peer. Other peers are named by their places.
-#[derive(Clone, Copy)]
-pub enum Ask<'a> {
-    /// An edit of document 1: the rev of its ticket, or 0.
-    Edit(Wish<'a>),
-    /// The same under a token that ends with this byte.
-    EditUnder(u8, Wish<'a>),
-    /// An edit of a document at a rev: the number of its refusal, or 0.
-    Refusal(u32, Option<u32>, Wish<'a>),
-    /// An edit in two calls, of document 1: how many bytes its records take, or 0.
-    Put(Wish<'a>),
-    /// An edit of document 1 that is settled: the settled number, or 0.
-    Settle(Wish<'a>),
-    /// A merge of another peer's operation at an index: 0 applied, 2 known, 3 early, or the number
-    /// of the refusal.
-    Merge(usize, usize),
-    /// A merge of an operation that replica 3 never made: a remove of another peer's first
-    /// character, on which it doesn't depend.
-    MergeRemove(usize),
-    /// A merge of another peer's first operation, but of document 0.
-    MergeNowhere(usize),
-    /// A merge of an insert of another peer, with a counter and a document, that depends on all
-    /// that the peer has: behind the first character of some peer, or at the beginning.
-    MergeSecond(usize, u64, u32, Option<usize>),
-    /// Merges of all operations of another peer.
-    MergeAll(usize),
-    /// An opening with another peer's operations from an index on: the number of the refusal, or 0.
-    Open(usize, usize),
-    /// Whether document 1 has a text: 1 or 0.
-    HasText(&'a str),
-    /// How many operations it has.
-    Len,
-    /// How many operations a document has.
-    Rev(u32),
-    /// How many spans document 1 has.
-    Spans,
-    /// How many operations are told to a peer that has nothing.
-    Tell,
-    /// How many operations are told to a peer with these counts of replicas 1, 2 and 3, or 255
-    /// where the operations aren't those that a look at each one finds.
-    TellBehind([u64; 3]),
-    /// Whether the operations before an end are settled: 1 or 0.
-    Ack(usize),
-    /// Whether the clock told is that of another peer: 1 or 0.
-    HasClockOf(usize),
-    /// Whether a document has the text and the number of operations that it has at another peer: 1
-    /// or 0.
-    IsSame(usize, u32),
-}
 
 /// What peers with these ids, by their last bytes, answer.
 pub fn answers(alloc: Global, ids: &[u8], asks: &[(usize, Ask<'_>)]) -> Result<Vec<usize>, Fail> {
@@ -131,6 +68,7 @@ fn answer_alone(alloc: Global, replica: &mut Replica, ask: &Ask<'_>) -> usize {
         Ask::Edit(wish) => rev_after(replica, change(alloc, wish)),
         Ask::EditUnder(token, wish) => rev_under(replica, *token, change(alloc, wish)),
         Ask::Refusal(doc, rev, wish) => refusal(replica, *doc, *rev, change(alloc, wish)),
+        Ask::EditsUntilRefused(wish) => edits_until_refused(replica, change(alloc, wish)),
         Ask::Put(wish) => put_length(replica, change(alloc, wish)),
         Ask::Settle(wish) => edit_and_settle(replica, change(alloc, wish)),
         Ask::HasText(text) => has_text(alloc, replica, text) as usize,

@@ -1,5 +1,6 @@
 //! Three peers that exchange edits of two documents.
-use crate::test_asks::{Ask, Wish, answer, answers_of, peers};
+use crate::asks::{Ask, Wish};
+use crate::test_asks::{answer, answers_of, peers};
 use replica_core::{Refusal, Replica};
 use std::alloc::Global;
 use std::test::Fail;

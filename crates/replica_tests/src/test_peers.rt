@@ -1,15 +1,15 @@
 //! What the tests ask of one replica. The answers are plain values.
-use op_ids::{Clock, OpId, ReplicaId, Token};
+use op_ids::{Clock, OpId, ReplicaId};
 use op_list::{OpList, OpSlice};
-use op_model::{Change, Edit, Op, Text};
+use op_model::{Op, Text};
 use replica_core::{Merged, Replica, Ticket};
 use std::alloc::{AllocError, Global};
 use std::test::Fail;
 
 /// What stands for an answer where a helper couldn't make what it needs.
-const NOTHING: usize = 255;
+pub const NOTHING: usize = 255;
 
-fn bytes_ending(last: u8) -> [u8; 16] {
+pub fn bytes_ending(last: u8) -> [u8; 16] {
     let mut bytes = [0; 16];
     bytes[15] = last;
     bytes
@@ -21,112 +21,6 @@ pub fn replica_id(last: u8) -> Result<ReplicaId, Fail> {
 
 pub fn id_of(counter: u64, last: u8) -> Option<OpId> {
     OpId::try_new(counter, ReplicaId::read(bytes_ending(last))?)
-}
-
-/// The number of the refusal of an edit, or 0.
-pub fn refusal(replica: &mut Replica, doc: u32, rev: Option<u32>, change: Option<Change>) -> usize {
-    match change {
-        Some(change) => refusal_of(
-            replica,
-            &Edit {
-                doc,
-                rev,
-                token: None,
-                change,
-            },
-        ),
-        None => NOTHING,
-    }
-}
-
-fn refusal_of(replica: &mut Replica, edit: &Edit) -> usize {
-    match replica.edit(1, edit) {
-        Ok(_) => 0,
-        Err(refusal) => refusal.number() as usize,
-    }
-}
-
-/// An edit of document 1, whatever its number of operations.
-fn first_edit(change: Change) -> Edit {
-    Edit {
-        doc: 1,
-        rev: None,
-        token: None,
-        change,
-    }
-}
-
-/// The rev of the ticket of an edit of document 1, or 0 where it is refused.
-pub fn rev_after(replica: &mut Replica, change: Option<Change>) -> usize {
-    match change {
-        Some(change) => ticket_rev(replica, &first_edit(change)),
-        None => 0,
-    }
-}
-
-/// The rev of the ticket of an edit of document 1 under a token that ends with this byte, or 0
-/// where it is refused.
-pub fn rev_under(replica: &mut Replica, token: u8, change: Option<Change>) -> usize {
-    match change {
-        Some(change) => ticket_rev(
-            replica,
-            &Edit {
-                doc: 1,
-                rev: None,
-                token: Token::read(bytes_ending(token)),
-                change,
-            },
-        ),
-        None => 0,
-    }
-}
-
-fn ticket_rev(replica: &mut Replica, edit: &Edit) -> usize {
-    match replica.edit(1, edit) {
-        Ok(ticket) => ticket.rev,
-        Err(_) => 0,
-    }
-}
-
-/// How many bytes an edit of document 1 that is put behind the list adds to what waits, or 0.
-pub fn put_length(replica: &mut Replica, change: Option<Change>) -> usize {
-    match change {
-        Some(change) => put(replica, &first_edit(change)),
-        None => 0,
-    }
-}
-
-fn put(replica: &mut Replica, edit: &Edit) -> usize {
-    match replica.decide_edit(edit) {
-        Ok(decided) => match replica.put_edit(1, edit, decided) {
-            Ok(_) => decided.bytes as usize,
-            Err(_) => 0,
-        },
-        Err(_) => 0,
-    }
-}
-
-/// Makes an edit of document 1 and settles it. The settled number, or 0 where the edit is refused.
-pub fn edit_and_settle(replica: &mut Replica, change: Option<Change>) -> usize {
-    match change {
-        Some(change) => settled_after(replica, &first_edit(change)),
-        None => 0,
-    }
-}
-
-/// The same of an edit that has no token.
-fn settled_after(replica: &mut Replica, edit: &Edit) -> usize {
-    let Ok(decided) = replica.decide_edit(edit) else {
-        return 0;
-    };
-    match replica.put_edit(1, edit, decided) {
-        Ok(_) => {
-            let end = replica.list().len();
-            replica.settle(end);
-            replica.settled()
-        }
-        Err(_) => 0,
-    }
 }
 
 /// What a merge answers: 0 applied, 2 known, 3 early, or the number of the refusal.

@@ -1,5 +1,5 @@
 use crate::test_names::id;
-use char_sequence::Sequence;
+use char_sequence::{EndsAfter, Sequence};
 use mark_anchors::{Anchors, Place};
 use op_ids::{Clock, OpId};
 use op_model::{Anchor, Body, End, MarkKey, Marking, Op, Start};
