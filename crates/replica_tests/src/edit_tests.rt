@@ -1,3 +1,4 @@
+//! Edits of one replica.
 use crate::asks::{Ask, Wish};
 use crate::test_asks::answers;
 use replica_core::Refusal;

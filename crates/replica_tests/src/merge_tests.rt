@@ -1,3 +1,4 @@
+//! Merges among a few replicas.
 use crate::asks::{Ask, Wish};
 use crate::test_asks::answers;
 use crate::test_exchange::answers_of_merged;
