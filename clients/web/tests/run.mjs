@@ -8,8 +8,8 @@ import { fileURLToPath } from "node:url";
 import { LIBRARIES, missing } from "../src/packages.js";
 import { missingBrowser } from "./webdriver.mjs";
 
-/** Milliseconds that one file of tests may take. */
-const TIME = 240_000;
+/** Milliseconds that one file of tests may take, beside the kills that are asked for. */
+const TIME = 240_000 + 1000 * Number(process.env.KILL_SECONDS ?? 0);
 
 function run(name, lack) {
   if (lack !== undefined) return console.log(`skipped: ${name}, ${lack}`);
@@ -24,4 +24,4 @@ const noProgram = existsSync(program) ? undefined : `for there is no program ${p
 run("bridge", missing());
 run("demo", missing() ?? noProgram);
 run("kills", missing() ?? noProgram);
-for (const name of ["browser", "comments", "tools", "wire"]) run(name, missing() ?? noProgram ?? missingBrowser());
+for (const name of ["browser", "comments", "tools", "typing", "wire"]) run(name, missing() ?? noProgram ?? missingBrowser());
