@@ -7,3 +7,5 @@ mod book_tests;
 mod link_tests;
 #[cfg(test)]
 mod shared_tests;
+#[cfg(test)]
+mod test_ends;
