@@ -14,12 +14,12 @@ use Rattle.locked_replica.proofs.hub.Hub.settle.Goals.{else-not-has_failed-via-t
 use Rattle.locked_replica.proofs.hub.Hub.settle.Goals.{else-not-has_failed-via-else-not-has_failed, in-Ok-Settled, in-Err}
 use Rattle.locked_replica.proofs.hub.Hub.settle.Goals as goal
 
-pub returns-then-not-is_through-clause-call : goal.returns-then-not-is_through-clause-call
-returns-then-not-is_through-clause-call g c =
+pub returns-then-not-is_through : goal.returns-then-not-is_through
+returns-then-not-is_through g c =
     let fits = hub_fits g.D.DiskFacts c.self.inside.locked c.self.inside.flusher c.kept.ensures c.kept-2.ensures c.self.invariant in
     let works = sym c.has_failed.ensures ∙ c.if-not-has_failed.true in
     let none = ap is_through c.self.view_is ∙ sym c.is_through.ensures ∙ c.if-not-is_through.true in
-    rw (sym c.self.view_is) (settle_busy g.D.DiskFacts c.self.inside.locked.replica c.self.inside.flusher.store (λ told. g.met.D.Disk.lawful c.self.inside.flusher.store.disk told) fits works none)
+    rw (sym c.self.view_is) (record { call = settle_busy g.D.DiskFacts c.self.inside.locked.replica c.self.inside.flusher.store (λ told. g.met.D.Disk.lawful c.self.inside.flusher.store.disk told) fits works none })
 
 pub unreachable-requires : goal.unreachable-requires
 unreachable-requires g c =
@@ -49,8 +49,8 @@ unreachable-requires-in-Ok-Nothing g c =
     let same : c.in-Ok-Nothing.field-0 ≡ Nothing = rw c.in-Ok-Nothing.is at c.in-Ok-Nothing.field-0-is in
     never_nothing c.meet-answer.result c.self.inside.locked.begun (c.in-Ok-Nothing.is ∙ ap Ok same) alone
 
-pub returns-clause-call : goal.returns-clause-call
-returns-clause-call g c =
+pub returns : goal.returns
+returns g c =
     let through = through_is g.D.DiskFacts c.self.inside.locked c.self.inside.flusher (λ disk told. g.met.D.Disk.lawful disk told) c.kept.ensures c.kept-2.ensures c.self.invariant in
     let none : (not c.self.inside.flusher.store.failed && not (c.self.inside.flusher.due && is_idle c.self.inside.flusher.store.phase)) ≡ false = elim c.else-not-has_failed.branch [
       | else-not-has_failed-via-then-not-has_failed+else-not-is_through w ↦
@@ -65,6 +65,6 @@ returns-clause-call g c =
     elim c.match-answer.branch [
       | in-Ok-Settled w ↦
           let same : w.in-Ok-Settled.field-0 ≡ Settled w.in-Ok-Settled.count = rw w.in-Ok-Settled.is at w.in-Ok-Settled.field-0-is in
-          rw (w.result-is, sym c.self.view_is) (call (Ok (Settled w.in-Ok-Settled.count)) (rw (w.in-Ok-Settled.is, same) at c.meet-answer.ensures.met))
-      | in-Err w ↦ rw (w.result-is, sym c.self.view_is) (call (Err w.in-Err.error) w.in-Err.ensures.met)
+          rw (w.result-is, sym c.self.view_is) (record { call = call (Ok (Settled w.in-Ok-Settled.count)) (rw (w.in-Ok-Settled.is, same) at c.meet-answer.ensures.met) })
+      | in-Err w ↦ rw (w.result-is, sym c.self.view_is) (record { call = call (Err w.in-Err.error) w.in-Err.ensures.met })
     ]
