@@ -38,7 +38,7 @@ impl Gathered {
     }
 
     /// Counts an operation that came behind others, where it is the last one so far: if it is the
-    /// replica's own and has a token, its place is kept. An error is want of memory (1), and
+    /// replica's own and has a token, its place is kept. An error is out of memory (1), and
     /// changes nothing. Constant.
     pub fn count(&mut self, replica: ReplicaId, op: &Op, place: Place) -> Result<(), AllocError>
         ensures counted { OnOk result ((ops : List Op) → place ≡ place_at (ops, op.now)
@@ -52,7 +52,7 @@ impl Gathered {
     }
 
     /// Puts a place, if there is a token, behind the others, or in place of the last one of the
-    /// same token: most operations of an edit follow each other. An error is want of memory (1),
+    /// same token: most operations of an edit follow each other. An error is out of memory (1),
     /// and changes nothing.
     fn put(&mut self, token: Option<Token>, place: Place) -> Result<(), AllocError>
         ensures put { OnOk result (Puts token (Some place) self.old self.new) }
@@ -68,7 +68,7 @@ impl Gathered {
         Ok(())
     }
 
-    /// The same tokens, to be looked up. An error is want of memory (1): they are sorted, which
+    /// The same tokens, to be looked up. An error is out of memory (1): they are sorted, which
     /// takes as much again until this returns.
     pub fn into_tokens(self, alloc: Global) -> Result<Tokens, AllocError>
         ensures { IfOk result (FindsAlike self) }

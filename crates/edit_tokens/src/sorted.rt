@@ -34,7 +34,7 @@ impl Sorted {
         }
     }
 
-    /// These, sorted. Of equal ones the first counts. An error is want of memory (1): the sort takes
+    /// These, sorted. Of equal ones the first counts. An error is out of memory (1): the sort takes
     /// as much again. As many steps as a sort takes.
     pub fn of(mut places: Vec<(Token, Place)>) -> Result<Sorted, AllocError>
         ensures { IfOk result (FindsAlike places.items) }

@@ -1,3 +1,4 @@
+//! The tokens of a replica's edits.
 ghost use Rattle.std.specs.Prelude.{◌≡◌, ℕ, [], Some, IfOk, IfSome, IsSome, OnOk, OnErr};
 ghost use Rattle.std.specs.Option.{option_and_then};
 ghost use Rattle.edit_tokens.specs.Places.{place_of, AreTokens, FindsAlike, Puts};
@@ -58,7 +59,7 @@ impl Tokens {
     }
 
     /// Keeps where an edit stands, if it has a token, in place of what was kept for the token
-    /// before, which is returned. An error is want of memory (1), which only a new token takes, and
+    /// before, which is returned. An error is out of memory (1), which only a new token takes, and
     /// changes nothing. A search by halves, and one in an ordered map.
     pub fn keep(&mut self, token: Option<Token>, place: Place) -> Result<Option<Place>, AllocError>
         ensures kept { OnOk result (Puts token (Some place) self.old self.new) }
