@@ -1,2 +1,4 @@
 pub mod PlaceLemmas
+pub mod FoundLemmas
+pub mod GatherLemmas
 pub mod EditLemmas

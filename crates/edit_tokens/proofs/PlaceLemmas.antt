@@ -13,7 +13,7 @@ use Rattle.edit_tokens.specs.declared.place.Place.{Place}
 use Rattle.edit_tokens.specs.Places.{place_of, place_at, Puts, AreTokens}
 
 -- a query finds just its number
-found_at : (a b : ℕ) → is_at (nat_cmp a) b ≡ (a == b)
+pub found_at : (a b : ℕ) → is_at (nat_cmp a) b ≡ (a == b)
 found_at a b =
     elim (cases_order a b) [
       | inl same ↦ simp (le-ltb a b (omega arith), eq-eqb a b same) refl
@@ -22,6 +22,16 @@ found_at a b =
         | inr above ↦ simp (le-ltb a b (omega arith), ne_eqb a b (omega arith)) refl
       ]
     ]
+
+-- and from the other side
+pub found_from : (a b : ℕ) → is_at (nat_cmp a) b ≡ (b == a)
+found_from a b = found_at a b ∙ elim (cases_order a b) [
+  | inl same ↦ rw (eq-eqb a b same, eq-eqb b a (sym same)) refl
+  | inr o ↦ elim o [
+    | inl below ↦ rw (ne_eqb a b (omega arith), ne_eqb b a (omega arith)) refl
+    | inr above ↦ rw (ne_eqb a b (omega arith), ne_eqb b a (omega arith)) refl
+  ]
+]
 
 -- a map that has one token more, or one less
 pub puts_one : (old new : List (ℕ × Place)) (token : ℕ) (place : Option Place)

@@ -4,8 +4,11 @@
 //! that count.
 #![tactic(auto)]
 
+mod gathered;
 mod place;
+mod sorted;
 mod tokens;
 
+pub use gathered::Gathered;
 pub use place::Place;
 pub use tokens::Tokens;

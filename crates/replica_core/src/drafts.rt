@@ -12,7 +12,7 @@ ghost use Rattle.replica_core.specs.Docs.{AllDrafts, AllStand, AreDocs, AreDraft
 
 use crate::refusal::Refusal;
 use doc_core::{Doc, Draft, SequenceError};
-use edit_tokens::{Place, Tokens};
+use edit_tokens::{Gathered, Place, Tokens};
 use op_ids::ReplicaId;
 use op_list::OpSlice;
 use op_model::{Op, place_among};
@@ -20,8 +20,8 @@ use std::alloc::{AllocError, Global};
 
 /// The documents of a causally closed list, whose numbers are given, and the tokens of a replica's
 /// edits in it. An error is out of memory (1). For each operation a search by halves for its
-/// document, and what its draft takes for it; for an own one with a token a search in an ordered
-/// map.
+/// document, and what its draft takes for it; then the tokens of the own ones are sorted, once the
+/// drafts are let go.
 pub fn documents_of(
     alloc: Global,
     replica: ReplicaId,
@@ -35,8 +35,9 @@ pub fn documents_of(
     ensures memory { IfErr result (λ e. e ≡ Refusal.Memory) }
 {
     let mut drafts = empty(alloc, numbers)?;
-    let tokens = apply_all(alloc, replica, &mut drafts, numbers, list)?;
+    let gathered = apply_all(alloc, replica, &mut drafts, numbers, list)?;
     let docs = finished(alloc, drafts)?;
+    let tokens = gathered.into_tokens(alloc)?;
     Ok((docs, tokens))
 }
 
@@ -60,15 +61,15 @@ fn apply_all(
     drafts: &mut Vec<Draft>,
     numbers: &[u32],
     list: &OpSlice<'_>,
-) -> Result<Tokens, Refusal>
+) -> Result<Gathered, Refusal>
     requires closed { IsCausallyClosed list.now }
     requires numbers { numbers.now ≡ documents list.now }
     requires empty { AreDrafts drafts.old.items numbers.now [] }
     ensures drafts { OnOk result (AreDrafts drafts.new.items numbers.now list.now) }
-    ensures tokens { IfOk result (λ tokens. AreTokens tokens replica list.now) }
+    ensures tokens { IfOk result (λ gathered. AreTokens gathered replica list.now) }
     ensures memory { IfErr result (λ e. e ≡ Refusal.Memory) }
 {
-    let mut tokens = Tokens::new(alloc);
+    let mut gathered = Gathered::new(alloc);
     for i in 0..list.len() {
         let op = list.get(alloc, i)?;
         let rev = apply(drafts, numbers, &op)?;
@@ -76,9 +77,9 @@ fn apply_all(
             end: (i + 1) as u32,
             rev: rev as u32,
         };
-        tokens.count(replica, &op, place)?;
+        gathered.count(replica, &op, place)?;
     }
-    Ok(tokens)
+    Ok(gathered)
 }
 
 /// Gives an operation that may come to its document's draft, and returns how many operations that

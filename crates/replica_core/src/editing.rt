@@ -66,7 +66,7 @@ impl Replica {
     /// Makes the operations of a session's new edit that nothing refuses, as `decide_edit` tells,
     /// and puts them behind the list. An error is out of memory (1), and changes nothing. A few
     /// steps for clocks, and what the document takes for it, which isn't searched again. With a
-    /// token a search in an ordered map too, and about 40 bytes of memory.
+    /// token a search by halves and one in an ordered map too, and some 60 bytes of memory.
     pub fn put_edit(
         &mut self,
         session: u64,

@@ -8,7 +8,8 @@ use op_model::Edit;
 
 impl Replica {
     /// The ticket that an edit had when it was made, where it has a token under which one was made.
-    /// Takes no memory. Constant for an edit without a token, else a search in an ordered map.
+    /// Takes no memory. Constant for an edit without a token, else a search by halves and one in an
+    /// ordered map.
     pub fn known(&self, edit: &Edit) -> Option<Ticket>
         ensures { result ≡ known_ticket self.now edit.now }
     {

@@ -92,8 +92,9 @@ impl Replica {
     /// lets the operation go before the next one; nothing else reads a record. An operation takes a
     /// few steps for clocks, a search by halves for its document, one for each character that it
     /// names (a few steps where its replica edits alone), and for an insert a step for each greater
-    /// id that follows its origin; an own one with a token takes a search in an ordered map, and
-    /// about 40 bytes. For each character 72 bytes, of which 40 are given back.
+    /// id that follows its origin. An own edit with a token takes 32 bytes, which are sorted at the
+    /// end, when as much again is taken for a while. For each character 72 bytes, of which 40 are
+    /// given back before that.
     pub fn from_list(alloc: Global, id: ReplicaId, list: OpList) -> Result<Replica, Refusal>
         ensures opened { IfOk result (λ r. r ≡ opened_with id list) }
         ensures closed { OnOk result (IsCausallyClosed list) }

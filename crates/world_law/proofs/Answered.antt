@@ -1,5 +1,5 @@
 -- What is answered for a token of a settled edit is answered from then on.
-use Rattle.std.proofs.Common.{◌≡◌, ℕ, ◌+◌, ◌≤◌, ◌<◌, Bool, true, false, not, ◌&&◌, ◌⊎◌, inl, inr}
+use Rattle.std.proofs.Common.{◌≡◌, ℕ, ◌+◌, ◌≤◌, Bool, true, false, not, ◌⊎◌, inl, inr}
 use Rattle.std.proofs.Common.{List, [], ◌∷◌, ◌++◌, length, take, Option, Some, None, arith, ap, refl, sym, ◌∙◌}
 use Rattle.std.specs.Prelude.{◌==◌, if◌then◌else◌}
 use Rattle.std.specs.Option.{option_map, option_and_then}
@@ -8,24 +8,24 @@ use Rattle.op_ids.specs.Clock.{is_ready}
 use Rattle.op_model.specs.declared.op.Op.{Op}
 use Rattle.op_model.specs.declared.edit.Edit.{Edit}
 use Rattle.op_model.specs.Causality.{clock_of, is_known, first_failed}
-use Rattle.op_model.specs.Made.{numbered, made, greatest_counter, bodies_of}
+use Rattle.op_model.specs.Made.{made, greatest_counter, bodies_of}
 use Rattle.op_model.specs.Held.{ReplicaHeld, with_edit, with_merge}
 use Rattle.op_model.specs.Tokens.{carries, is_token, last_of}
 use Rattle.op_model.specs.Machine.{Commit, State, Ticket, Event, edit, merge, begin, device_step}
 use Rattle.op_model.specs.Machine.{settle, ack, tell, have, Answer, ticket, applied, known, early}
 use Rattle.op_model.specs.Machine.{begun, nothing_new, idle, goes_on, goes_through, settled_to}
 use Rattle.op_model.specs.Machine.{acknowledged, operations, clock, refused, holding, has_record_room}
-use Rattle.op_model.specs.Machine.{ticket_behind, token_ticket, known_ticket, merge_answer, merge_alone, merge_answer_unless}
+use Rattle.op_model.specs.Machine.{ticket_behind, token_ticket, known_ticket, merge_alone, merge_answer_unless}
 use Rattle.op_model.specs.Machine.{EditStep, MergeStep, BeginStep, DeviceStep, SettleStep, AckStep, TellStep, HaveStep, Step}
-use Rattle.op_model.specs.Machine.{reopened, CrashLeavesOf, CrashLeaves}
+use Rattle.op_model.specs.Machine.{reopened, CrashLeavesOf}
 use Rattle.op_model.specs.Records.{record_length}
 use Rattle.model_laws.proofs.LastOf.{last_of-behind, last_of-take, last_of-within, numbered_other}
 use Rattle.model_laws.proofs.Tickets.{edit_cases, was_made, is_new}
-use Rattle.world_law.specs.World.{World, HasMachine, told_by}
+use Rattle.world_law.specs.World.{World, HasMachine}
 use Rattle.world_law.specs.Histories.{Happening, step, crash, Happens, History, IsChanged}
 use Rattle.world_law.specs.Laws.{Answers, AnsweredForever}
 use Rattle.world_law.proofs.Members.{HasMachine-cases, HasMachine-at, one_machine}
-use Rattle.world_law.proofs.Sound.{IsWithin, IsSound}
+use Rattle.world_law.proofs.Sound.{IsWithin}
 use Rattle.world_law.proofs.Steps.{applied_alone, settled_by_commit, step_goes, crash_goes}
 use Rattle.world_law.proofs.Worlds.{IsSoundWorld, happens_sound}
 use Rattle.world_law.proofs.Clauses.{history_of_beginning}
@@ -54,7 +54,7 @@ is_found : (s : State) (token : ℕ) (t : Ticket) (asked : Option ℕ) → is_to
 is_found s token t None is k = let never : ⊥ = cc in absurd never
 is_found s token t (Some u) is k = let same : u ≡ token = eqb-true u token is in rw same k
 
-other_token : (s : State) (e : Edit) (token : ℕ) (t : Ticket) → known_ticket s.held e ≡ None → token_ticket s.held token ≡ Some t
+pub other_token : (s : State) (e : Edit) (token : ℕ) (t : Ticket) → known_ticket s.held e ≡ None → token_ticket s.held token ≡ Some t
     → is_token token e.token ≡ false
 other_token s e token t none k =
     elim (cases_Bool (is_token token e.token)) [
@@ -79,7 +79,7 @@ edit_keeps s next session e (refused n) (is, at) token t h = rw at h
 edit_keeps s next session e _ k token t h = absurd k
 
 -- an operation that is applied is no own one
-is_foreign : (known_op own ready : Bool) (answer : Answer)
+pub is_foreign : (known_op own ready : Bool) (answer : Answer)
     → (if known_op then known else if own then refused 20 else if not ready then early else answer) ≡ applied → own ≡ false
 is_foreign true o r answer e = let never : ⊥ = cc in absurd never
 is_foreign false true r answer e = let never : ⊥ = cc in absurd never

@@ -1,8 +1,7 @@
 -- An edit that was made before is answered as it was, and adds nothing.
-use Rattle.std.proofs.Common.{◌≡◌, ◌≢◌, ℕ, ◌+◌, Bool, true, false, ◌&&◌, List, [], ◌∷◌, ◌++◌, length, Option, Some, None, arith, ap, refl, sym, ◌∙◌}
+use Rattle.std.proofs.Common.{◌≡◌, ◌≢◌, ℕ, ◌+◌, true, List, [], ◌∷◌, ◌++◌, length, Some, arith, ap, refl, sym, ◌∙◌}
 use Rattle.std.proofs.Common.{append_assoc, length-append}
-use Rattle.std.specs.Prelude.{◌==◌}
-use Rattle.std.specs.Option.{option_map, option_and_then}
+use Rattle.std.specs.Option.{option_map}
 use Rattle.std.proofs.lemmas.Bool.Decides.{nat_tests}
 use Rattle.op_ids.specs.Clock.{advanced}
 use Rattle.op_model.specs.declared.op.Op.{Op}
@@ -13,11 +12,11 @@ use Rattle.op_model.specs.Text.{rev}
 use Rattle.op_model.specs.Made.{numbered, made, greatest_counter, bodies_of}
 use Rattle.op_model.specs.Held.{ReplicaHeld, with_edit}
 use Rattle.op_model.specs.Tokens.{carries, last_of}
-use Rattle.op_model.specs.Machine.{State, Ticket, Answer, ticket, refused, holding, ticket_of, ticket_behind, token_ticket, known_ticket}
-use Rattle.op_model.specs.Machine.{unless_known, edit_answer, new_edit_answer, EditStep}
+use Rattle.op_model.specs.Machine.{State, Ticket, ticket, refused, ticket_of, ticket_behind, token_ticket, known_ticket}
+use Rattle.op_model.specs.Machine.{edit_answer}
 use Rattle.model_laws.proofs.LastOf.{last_of-here}
 use Rattle.model_laws.proofs.Tickets.{token_known, edit_cases, was_made, is_new}
-use Rattle.world_law.specs.Tokens.{IsNamed, IsAnsweredAsItWas, IsAnsweredFromThenOn}
+use Rattle.world_law.specs.Tokens.{IsAnsweredAsItWas, IsAnsweredFromThenOn}
 
 known_answer : (s : State) (e : Edit) (token : ℕ) (t : Ticket) → e.token ≡ Some token → token_ticket s.held token ≡ Some t
     → known_ticket s.held e ≡ Some t

@@ -7,3 +7,4 @@ pub mod Clauses
 pub mod SmallHistory
 pub mod Answered
 pub mod Known
+pub mod Stays

@@ -23,7 +23,7 @@ use Rattle.op_model.specs.Machine.{with_failure_told, has_record_room, edit_leng
 use Rattle.op_model.specs.Machine.{new_edit_answer, edit_answer_unless, merge_answer, merge_alone}
 use Rattle.op_model.specs.Machine.{merge_answer_unless, through_of, through, EditStep, MergeStep}
 use Rattle.op_model.specs.Machine.{BeginStep, DeviceStep, SettleStep, AckStep, TellStep, HaveStep}
-use Rattle.op_model.specs.Machine.{Step, opened, reopened, CrashLeavesOf, CrashLeaves}
+use Rattle.op_model.specs.Machine.{Step, reopened, CrashLeavesOf, CrashLeaves}
 use Rattle.op_model.specs.Records.{record_length}
 use Rattle.model_laws.proofs.Growth.{closed_push}
 use Rattle.model_laws.proofs.Makes.{closed_made}

@@ -1,14 +1,15 @@
 -- What is so of every world that a history leads to.
-use Rattle.std.specs.Prelude.{◌≡◌, ◌≢◌, ℕ, ◌≤◌, List, ◌++◌, take, Some}
+use Rattle.std.specs.Prelude.{◌≡◌, ◌≢◌, ℕ, ◌≤◌, List, ◌++◌, take, Some, true}
 use Rattle.op_model.specs.declared.op.Op.{Op}
 use Rattle.op_model.specs.declared.edit.Edit.{Edit}
 use Rattle.op_model.specs.Causality.{clock_of, HasOp}
 use Rattle.op_model.specs.Text.{text, rev}
 use Rattle.op_model.specs.Spans.{spans}
 use Rattle.op_model.specs.Made.{made}
-use Rattle.op_model.specs.Machine.{State, Ticket, token_ticket}
+use Rattle.op_model.specs.Machine.{State, Answer, Ticket, ticket, token_ticket, EditStep}
 use Rattle.world_law.specs.World.{World, HasMachine, IsInBag, IsBeginning}
 use Rattle.world_law.specs.Histories.{Happening, History}
+use Rattle.world_law.specs.Tokens.{WasAnswered}
 
 -- no two replicas hold different operations under one id, nor does one
 abbrev pub HoldsOneOperation : World → Type 0
@@ -68,3 +69,13 @@ AnsweredForever =
     (w mid after : World) (hs more : List Happening) (m n : State) (token : ℕ) (t : Ticket) → IsBeginning w → History w hs mid
     → HasMachine mid.machines m → Answers m token t → History mid more after → HasMachine after.machines n
     → n.held.replica ≡ m.held.replica → Answers n token t
+
+-- An edit that was answered under its token acts once: whatever any replica does from then on, and however often it crashes and is opened
+-- again, the same edit is answered the first ticket whenever it is sent again, in whichever session, and nothing changes: the list has no
+-- operation more.
+abbrev pub ActsOnce : Type 0
+ActsOnce =
+    (w mid after : World) (hs more : List Happening) (s m n next : State) (session again : ℕ) (e : Edit) (answer : Answer) (token : ℕ) (t : Ticket)
+    → IsBeginning w → History w hs mid → HasMachine mid.machines m → WasAnswered s session e token t m → History mid more after
+    → HasMachine after.machines n → n.held.replica ≡ m.held.replica → EditStep n again e answer next
+    → (answer ≡ ticket (record t { known = true })) × (next ≡ n)

@@ -1,8 +1,8 @@
 -- What an edit's token promises of one replica.
-use Rattle.std.specs.Prelude.{◌≡◌, ◌≢◌, ℕ, [], Some, true}
+use Rattle.std.specs.Prelude.{◌≡◌, ◌≢◌, ℕ, List, [], Some, true}
 use Rattle.op_model.specs.declared.edit.Edit.{Edit}
 use Rattle.op_model.specs.Made.{made}
-use Rattle.op_model.specs.Machine.{State, Answer, Ticket, ticket, token_ticket, EditStep}
+use Rattle.op_model.specs.Machine.{State, Event, Answer, Ticket, ticket, acknowledged, token_ticket, EditStep, AckStep, Run}
 
 -- the edit has this token, whose ticket is this one: it was made before
 abbrev pub IsNamed : State → Edit → ℕ → Ticket → Type 0
@@ -19,3 +19,15 @@ abbrev pub IsAnsweredFromThenOn : Type 0
 IsAnsweredFromThenOn =
     (s next : State) (session : ℕ) (e : Edit) (token : ℕ) (t : Ticket) → e.token ≡ Some token → made s.held.list s.held.replica e ≢ []
     → EditStep s session e (ticket t) next → token_ticket next.held token ≡ Some (record t { known = true })
+
+-- The session's edit with this token was answered with this ticket, whatever events came behind it, and then the ticket was acknowledged:
+-- only so a session is told that its edit is made.
+pub record WasAnswered (old : State) (session : ℕ) (e : Edit) (token : ℕ) (t : Ticket) (new : State) : Type 0 where
+  pub named : e.token ≡ Some token
+  pub some : made old.held.list old.held.replica e ≢ []
+  pub behind : State
+  pub given : EditStep old session e (ticket t) behind
+  pub events : List (Event × Answer)
+  pub before : State
+  pub run : Run behind events before
+  pub acknowledged : AckStep before t (acknowledged true) new

@@ -15,5 +15,8 @@ pub use histories::{
     equal_clocks_show_the_same, fronts_of_histories_are_histories, ids_name_one_operation,
     told_ids_are_never_made_again, told_operations_stay_settled,
 };
-pub use tokens::{known_edits_are_answered_as_they_were, settled_tokens_are_answered_forever};
+pub use tokens::{
+    answered_edits_act_once, known_edits_are_answered_as_they_were,
+    settled_tokens_are_answered_forever,
+};
 pub use witness::an_operation_goes_from_one_replica_to_another;

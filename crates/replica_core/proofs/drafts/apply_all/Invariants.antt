@@ -7,5 +7,5 @@ use Rattle.replica_core.proofs.drafts.apply_all.Given as goal
 abbrev pub invariant-loop-i : goal.invariant-loop-i
 invariant-loop-i l = record {
   drafts : AreDrafts l.drafts.items l.numbers (take l.i l.list);
-  tokens : AreTokens l.tokens l.replica (take l.i l.list);
+  tokens : AreTokens l.gathered l.replica (take l.i l.list);
 }
