@@ -25,6 +25,7 @@ import memory
 import noise
 import parted_files
 import parting
+import peers
 import put_back
 import renewal
 import rude
@@ -41,7 +42,7 @@ from program import Checks
 LIMIT = 600
 GROUPS = (
     words, examples, exports, long_texts, streams, locks, lost_files, full_disk, ending, crafted, formats, long_runs, damage, each_byte, kills, tokens, memory, serving, served_limits, web_pages,
-    last_place, parting, put_back, backups, parted_files, idle_links, rude, noise, worst, session_memory, renewal,
+    last_place, peers, parting, put_back, backups, parted_files, idle_links, rude, noise, worst, session_memory, renewal,
 )
 
 

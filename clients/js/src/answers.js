@@ -76,6 +76,16 @@ function areSpans(value) {
   return Array.isArray(value) && value.every(isSpan);
 }
 
+/** @param {unknown} value */
+function arePeers(value) {
+  return Array.isArray(value) && value.every(isPeer);
+}
+
+/** @param {any} value */
+function isPeer(value) {
+  return isObject(value) && isNumber(value.has) && isNumber(value.lacks) && isText(value.replica);
+}
+
 /** @param {any} value */
 function isSpan(value) {
   return isObject(value) && isText(value.text) && MARKS.every(([key, isRight]) => value[key] === undefined || isRight(value[key]));
@@ -98,5 +108,6 @@ const FIELDS = new Map(
     text: { rev: isNumber, text: isText },
     spans: { rev: isNumber, spans: areSpans },
     status: { applied: isNumber, settled: isNumber, state: isText },
+    peers: { peers: arePeers, sessions: isNumber },
   }),
 );

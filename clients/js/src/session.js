@@ -26,7 +26,8 @@ const STEPS = 10;
 /**
  * An answer has those of these fields that its request asks for.
  * @typedef {import("./marks.js").Span} Span
- * @typedef {{ok: true, rev: number, text: string, spans: Span[], applied: number, settled: number, state: string}} Answer
+ * @typedef {{has: number, lacks: number, replica: string}} Peer
+ * @typedef {{ok: true, rev: number, text: string, spans: Span[], applied: number, settled: number, state: string, peers: Peer[], sessions: number}} Answer
  */
 
 /**
@@ -131,6 +132,15 @@ export class Session {
   async settled() {
     const { settled, applied } = await this.send({ op: "status" });
     return settled === applied;
+  }
+
+  /**
+   * Who is connected to the daemon: its peers, with how many operations each has and lacks, and how many sessions. Over a
+   * file it is this session alone.
+   */
+  async peers() {
+    const { peers, sessions } = await this.send({ op: "peers" });
+    return { peers, sessions };
   }
 
   /**

@@ -18,6 +18,7 @@ const EXCHANGES = {
   "an edit": [{ op: "insert", doc: 1, at: 0, text: "x" }, '{"ok":true,"rev":12}'],
   "a refusal": [{ op: "insert", doc: 1, at: 9, text: "x" }, '{"code":5,"error":"range","ok":false}'],
   "a status": [{ op: "status" }, '{"applied":12,"ok":true,"settled":12,"state":"open"}'],
+  peers: [{ op: "peers" }, '{"ok":true,"peers":[{"has":12,"lacks":0,"replica":"00000000-0000-4000-8000-000000000002"}],"sessions":3}'],
 };
 const TEXT = { op: "text", doc: 1 };
 

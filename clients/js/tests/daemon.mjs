@@ -36,6 +36,16 @@ test("many under way are answered in order, and before the close", () =>
     await assert.rejects(session.document(1).text(), Ended);
   }));
 
+test("who is connected", () =>
+  withDaemon(async ({ port }) => {
+    const [one, other] = [await connect(port), await connect(port)];
+    const { peers, sessions } = await one.peers();
+    assert.deepEqual(peers, []);
+    assert(sessions >= 2);
+    await one.close();
+    await other.close();
+  }));
+
 test("the 33rd session is refused", () =>
   withDaemon(async ({ port }) => {
     const held = await Promise.all([...Array(SESSIONS)].map(() => connect(port)));

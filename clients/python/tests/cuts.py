@@ -16,6 +16,7 @@ EXCHANGES = {
     "edit": ({"op": "insert", "doc": 1, "at": 0, "text": "x"}, '{"ok":true,"rev":12}'),
     "refusal": ({"op": "insert", "doc": 1, "at": 9, "text": "x"}, '{"code":5,"error":"range","ok":false}'),
     "status": ({"op": "status"}, '{"applied":12,"ok":true,"settled":12,"state":"open"}'),
+    "peers": ({"op": "peers"}, '{"ok":true,"peers":[{"has":12,"lacks":0,"replica":"00000000-0000-4000-8000-000000000002"}],"sessions":3}'),
 }
 TEXT = EXCHANGES["text"][0]
 # What is no answer to a request for a text.
@@ -106,6 +107,9 @@ class Cut(Answered):
 
     def test_a_status(self):
         self.check_each_byte("status")
+
+    def test_peers(self):
+        self.check_each_byte("peers")
 
     def test_the_first_answer_of_a_session(self):
         """It is read before the session begins."""

@@ -27,6 +27,13 @@ class Shared(WithDaemon):
         self.assertEqual(text.text(), "quick 🦊")
         self.assertTrue(one.settled())
 
+    def test_who_is_connected(self):
+        one, other = self.connect(), self.connect()
+        one.document(1).insert(0, "x")
+        connected = other.peers()
+        self.assertEqual(connected.peers, [])
+        self.assertGreaterEqual(connected.sessions, 2)
+
     def test_what_another_session_did_makes_an_edit_stale(self):
         one, other = self.connect().document(1), self.connect().document(1)
         _, rev = one.read()

@@ -26,7 +26,7 @@ impl Desk for Counter {
             Command::Edit(_) => Answer::Refused(Refusal::Stopping),
             Command::Text { doc } => Answer::Edited { rev: doc as u64 },
             Command::Spans { .. } => Answer::Done,
-            Command::Status => Answer::Edited { rev: self.asked },
+            Command::Status | Command::Peers => Answer::Edited { rev: self.asked },
             Command::Stop => Answer::Stopped,
         }
     }

@@ -119,6 +119,7 @@ fn readings_and_the_stop_are_served(rt: HostRuntime) {
         Command::Spans { doc: 1 },
     );
     served(&rt, alloc, "{\"op\":\"status\"}", Command::Status);
+    served(&rt, alloc, "{\"op\":\"peers\"}", Command::Peers);
     served(&rt, alloc, "{\"op\":\"stop\"}", Command::Stop);
 }
 

@@ -1,6 +1,8 @@
 //! How answers are said, in tests; and long ones.
+use op_ids::ReplicaId;
 use op_model::{CommentIds, Marks, Span, Text, Url};
-use session_lines::{Answer, SpanList, say};
+use peer_counts::PeerCounts;
+use session_lines::{Answer, PeerList, SpanList, say};
 use std::alloc::{AllocError, Global};
 use std::process::Abort;
 use std::test::Fail;
@@ -25,6 +27,45 @@ pub fn said(rt: &impl Abort, alloc: Global, answer: &Answer, text: &str) {
         out.as_slice().strip_prefix(b"before") == Some(text.as_bytes()),
         "{out:?}: {text}"
     );
+}
+
+#[test]
+fn peers_are_said(rt: HostRuntime) -> Result<(), Fail> {
+    let alloc = rt.alloc();
+    let none = PeerList::from(Vec::new(alloc));
+    let answer = Answer::Peers {
+        peers: none,
+        sessions: 1,
+    };
+    said(
+        &rt,
+        alloc,
+        &answer,
+        "{\"ok\":true,\"peers\":[],\"sessions\":1}\n",
+    );
+    let peers = vec![in alloc; peer(&rt, 1, 12, 0), peer(&rt, 2, 3, 9)]?;
+    let answer = Answer::Peers {
+        peers: PeerList::from(peers),
+        sessions: 32,
+    };
+    said(
+        &rt,
+        alloc,
+        &answer,
+        "{\"ok\":true,\"peers\":[{\"has\":12,\"lacks\":0,\"replica\":\"00000000-0000-0000-0000-000000000001\"},{\"has\":3,\"lacks\":9,\"replica\":\"00000000-0000-0000-0000-000000000002\"}],\"sessions\":32}\n",
+    );
+    Ok(())
+}
+
+/// A peer whose replica's number is this.
+fn peer(rt: &impl Abort, number: u8, has: u64, lacks: u64) -> PeerCounts {
+    let mut bytes = [0; 16];
+    bytes[15] = number;
+    PeerCounts {
+        replica: ReplicaId::read(bytes).expect(rt, "not nil"),
+        has,
+        lacks,
+    }
 }
 
 /// Characters of each kind that is written in its own way, and how they are written.

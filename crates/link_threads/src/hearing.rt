@@ -105,7 +105,16 @@ impl<'a, R: Wait + Clock, J: Desks, G: Gate> Hearing<'a, R, J, G> {
             if !self.hear_frames() || fed.is_err() {
                 return;
             }
+            self.note_peer();
             self.wake_telling();
+        }
+    }
+
+    /// Notes what the other end has said that it has, once for all frames of a piece.
+    fn note_peer(&self) {
+        if let Some((replica, its)) = self.end.take_heard(self.rt) {
+            self.shared
+                .note_peer(self.rt, self.pass.number(), replica, its);
         }
     }
 

@@ -34,8 +34,12 @@ pub(crate) enum Said {
 struct EndState {
     own: ReplicaId,
     link: Link,
+    /// The replica of the other end.
+    peer: Option<ReplicaId>,
     /// The clock of the last HAVE.
     heard: Option<Clock>,
+    /// Whether it is another one than was taken last.
+    is_new: bool,
     /// What was told since, which the base counts too.
     told: Told,
     /// Whether a HAVE counted no more than the one before it.
@@ -53,7 +57,9 @@ impl LinkEnd {
             held: Mutex::new(EndState {
                 own,
                 link,
+                peer: None,
                 heard: None,
+                is_new: false,
                 told: Told::nothing(),
                 is_asked_again: false,
                 has_heard_all: false,
@@ -116,6 +122,12 @@ impl LinkEnd {
         self.held.lock(rt).base()
     }
 
+    /// The other end's replica, and the clock of its last HAVE, if that is another one than the
+    /// last time. If there is no memory for it, it is given the next time.
+    pub fn take_heard<R: Wait>(&self, rt: &R) -> Option<(ReplicaId, Clock)> {
+        self.held.lock(rt).take_heard()
+    }
+
     /// Says a HAVE, as `Link::say_have` does.
     pub fn say_have<R: Wait>(&self, rt: &R, clock: &Clock) -> Result<(), LinkError> {
         self.held.lock(rt).link.say_have(clock)
@@ -143,7 +155,10 @@ impl LinkEnd {
 impl EndState {
     fn next(&mut self) -> Option<Said> {
         let said = match self.link.next()? {
-            Heard::Hello(_) => Said::Hello,
+            Heard::Hello(peer) => {
+                self.peer = Some(peer);
+                Said::Hello
+            }
             Heard::Bye => Said::Bye,
             Heard::Have(clock) => Said::Have {
                 own: clock.get(self.own),
@@ -164,7 +179,18 @@ impl EndState {
         }
         self.told.hear_have(&clock);
         self.heard = Some(clock);
+        self.is_new = true;
         is_news
+    }
+
+    fn take_heard(&mut self) -> Option<(ReplicaId, Clock)> {
+        if !self.is_new {
+            return None;
+        }
+        let clock = self.heard.as_ref()?.copy().ok()?;
+        let peer = self.peer?;
+        self.is_new = false;
+        Some((peer, clock))
     }
 
     fn say_ops(&mut self, ops: &[Op]) -> Result<(), LinkError>

@@ -111,6 +111,7 @@ fn hear_and_tell<'a, R: Wait + Clock + Threads + Sync, J: Desks + Send + Sync, G
         end.end_unless_due(rt);
         shared.call(rt, link);
     });
+    shared.forget_peer(rt, link);
     Parted {
         was_of_use: hearing.has_taken,
         is_out_of_steps: hearing.is_out_of_steps,

@@ -3,7 +3,8 @@ use Rattle.std.proofs.Common.{◌≡◌, ℕ, suc, ◌+◌, ◌<◌, List, ◌�
 use Rattle.std.proofs.Common.{add-one, drop-cons, sym, ap, ◌∙◌, ◌≤◌, [], false, true≢false, eqb, codes, refl, arith, length-drop}
 use Rattle.std.proofs.lemmas.List.{nil_from_length}
 use Rattle.op_model.specs.declared.span.Span.{Span}
-use Rattle.session_lines.specs.Saying.{comma_after, said_id, said_ids, said_span, said_spans, said_comments}
+use Rattle.peer_counts.specs.declared.peer_counts.PeerCounts.{PeerCounts}
+use Rattle.session_lines.specs.Saying.{comma_after, said_id, said_ids, said_span, said_spans, said_comments, said_peer, said_peers}
 
 -- a piece moves from what is still to be said to what is said
 moved : (before comma item rest whole : List ℕ) → before ++ (comma ++ (item ++ rest)) ≡ whole
@@ -28,6 +29,15 @@ said_span_more before ss i later s whole within is so_far =
     let split : drop i ss ≡ s ∷ drop (suc i) ss = drop-cons ss i s within ∙ ap (λ x. x ∷ drop (suc i) ss) (sym is) in
     rw add-one (moved before (comma_after later) (said_span s) _ whole (rw split at so_far))
 
+-- one more peer is said
+pub said_peer_more : (before : List ℕ) (ps : List PeerCounts) (i : ℕ) (later : Bool) (p : PeerCounts) (whole : List ℕ) → i < length ps
+    → p ≡ get_or ps i p
+    → before ++ said_peers later (drop i ps) ≡ whole
+    → (before ++ (comma_after later ++ said_peer p)) ++ said_peers true (drop (i + 1) ps) ≡ whole
+said_peer_more before ps i later p whole within is so_far =
+    let split : drop i ps ≡ p ∷ drop (suc i) ps = drop-cons ps i p within ∙ ap (λ x. x ∷ drop (suc i) ps) (sym is) in
+    rw add-one (moved before (comma_after later) (said_peer p) _ whole (rw split at so_far))
+
 -- no more comment is left
 pub said_ids_end : (before ids : List ℕ) (i : ℕ) (later : Bool) (whole : List ℕ) → length ids ≤ i
     → before ++ said_ids later (drop i ids) ≡ whole → whole ≡ before ++ codes "]"
@@ -37,6 +47,11 @@ said_ids_end before ids i later whole past so_far = sym (rw (nil_from_length (dr
 pub said_spans_end : (before : List ℕ) (ss : List Span) (i : ℕ) (later : Bool) (whole : List ℕ) → length ss ≤ i
     → before ++ said_spans later (drop i ss) ≡ whole → whole ≡ before ++ codes "]"
 said_spans_end before ss i later whole past so_far = sym (rw (nil_from_length (drop i ss) (omega (arith, length-drop i ss))) at so_far)
+
+-- no more peer is left
+pub said_peers_end : (before : List ℕ) (ps : List PeerCounts) (i : ℕ) (later : Bool) (whole : List ℕ) → length ps ≤ i
+    → before ++ said_peers later (drop i ps) ≡ whole → whole ≡ before ++ codes "]"
+said_peers_end before ps i later whole past so_far = sym (rw (nil_from_length (drop i ps) (omega (arith, length-drop i ps))) at so_far)
 
 -- some comments are said with the name of their member
 pub said_some_comments : (ids : List ℕ) → eqb (length ids) 0 ≡ false

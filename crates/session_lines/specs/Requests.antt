@@ -117,6 +117,7 @@ command_of verb.Unmark d = unmark_change d >>= λ change. edit_with change d
 command_of verb.Text d = only doc_fields d >>= λ _. whole (codes "doc") 1 d >>= λ doc. Ok (command.Text doc)
 command_of verb.Spans d = only doc_fields d >>= λ _. whole (codes "doc") 1 d >>= λ doc. Ok (command.Spans doc)
 command_of verb.Status d = only (codes "op" ∷ []) d >>= λ _. Ok command.Status
+command_of verb.Peers d = only (codes "op" ∷ []) d >>= λ _. Ok command.Peers
 command_of verb.Stop d = only (codes "op" ∷ []) d >>= λ _. Ok command.Stop
 
 -- what a JSON value asks for

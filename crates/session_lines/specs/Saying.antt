@@ -7,6 +7,7 @@ use Rattle.serde_json.specs.Written.{compact_text}
 use Rattle.fixed_numbers.specs.declared.refusals.TheConstants.{BUSY, FAILED, FIELD, LIMIT, LINE, MEMORY, RANGE, REQUEST, STALE, STEPS, STOPPING, SYNTAX}
 use Rattle.op_model.specs.declared.mark.Marks.{Marks}
 use Rattle.op_model.specs.declared.span.Span.{Span}
+use Rattle.peer_counts.specs.declared.peer_counts.PeerCounts.{PeerCounts}
 use Rattle.session_lines.specs.declared.refusal.Refusal.{Refusal}
 use Rattle.session_lines.specs.declared.refusal.Refusal.TheVariants as refusal
 use Rattle.session_lines.specs.declared.answer.Answer.{Answer}
@@ -123,6 +124,28 @@ said_status applied settled state =
     ++ (codes ",\"ok\":true,\"settled\":" ++ (decimal settled
     ++ (codes ",\"state\":\"" ++ (state_word state ++ codes "\"}\n")))))
 
+-- the name of a replica as a JSON string: a UUID, hyphenated in lower case
+abbrev pub said_replica : ℕ → List ℕ
+said_replica replica = quoted (hyphenated_text lower (to_be_bytes w128 replica))
+
+-- a peer: what it has, what it lacks, and its replica
+abbrev pub said_peer : PeerCounts → List ℕ
+said_peer p =
+    codes "{\"has\":" ++ (decimal p.has
+    ++ (codes ",\"lacks\":" ++ (decimal p.lacks
+    ++ (codes ",\"replica\":" ++ (said_replica p.replica ++ codes "}")))))
+
+-- peers, and the closing bracket
+abbrev pub said_peers : Bool → List PeerCounts → List ℕ
+said_peers later [] = codes "]"
+said_peers later (p ∷ ps) = comma_after later ++ (said_peer p ++ said_peers true ps)
+
+-- the answer that says who is connected
+abbrev pub said_connected : List PeerCounts → ℕ → List ℕ
+said_connected peers sessions =
+    codes "{\"ok\":true,\"peers\":[" ++ (said_peers false peers
+    ++ (codes ",\"sessions\":" ++ (decimal sessions ++ codes "}\n")))
+
 -- the answer that says why a request isn't served
 abbrev pub said_refused : Refusal → List ℕ
 said_refused r =
@@ -139,16 +162,18 @@ said (answer.Edited rev) = said_edited rev
 said (answer.Text rev text) = said_text rev text
 said (answer.Spans rev spans) = said_listed rev spans
 said (answer.Status applied settled state) = said_status applied settled state
+said (answer.Peers peers sessions) = said_connected peers sessions
 said answer.Stopped = said_done
 said answer.Done = said_done
 said (answer.Refused r) = said_refused r
 
--- an answer that shows what a document has is as long as that: it needs memory to be said
+-- an answer that shows what a document has, or who is linked, is as long as that: it needs memory to be said
 abbrev pub is_long : Answer → Bool
 is_long (answer.Edited rev) = false
 is_long (answer.Text rev text) = true
 is_long (answer.Spans rev spans) = true
 is_long (answer.Status applied settled state) = false
+is_long (answer.Peers peers sessions) = true
 is_long answer.Stopped = false
 is_long answer.Done = false
 is_long (answer.Refused r) = false

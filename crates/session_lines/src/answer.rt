@@ -1,4 +1,6 @@
 //! What a session is answered.
+
+use crate::peer_list::PeerList;
 use crate::refusal::Refusal;
 use crate::span_list::SpanList;
 use op_model::Text;
@@ -25,6 +27,11 @@ pub enum Answer {
         applied: u64,
         settled: u64,
         state: State,
+    },
+    /// The peers that are linked and have said what they have, and how many sessions are in use.
+    Peers {
+        peers: PeerList,
+        sessions: u64,
     },
     /// All that was applied before the stop is settled.
     Stopped,

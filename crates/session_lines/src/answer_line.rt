@@ -2,9 +2,11 @@
 ghost use Rattle.std.specs.Prelude.{◌≡◌, ◌≤◌, ◌+◌, ◌++◌, IsTrue, OnOk, OnErr};
 ghost use Rattle.std.specs.Prelude.{vec_len, vec_capacity};
 ghost use Rattle.session_lines.specs.Putting.{Puts};
-ghost use Rattle.session_lines.specs.Saying.{said, is_long, said_text, said_listed};
+ghost use Rattle.session_lines.specs.Saying.{said, is_long, said_text, said_listed, said_connected};
 
 use crate::answer::Answer;
+use crate::peer_list::PeerList;
+use crate::peers::{put_number, put_peers};
 use crate::quoted::{put, put_characters};
 use crate::short_line::{SHORT, put_done, put_edited, put_refused, put_status};
 use crate::span_list::SpanList;
@@ -14,8 +16,8 @@ use op_model::Text;
 use std::alloc::{AllocError, Global};
 
 /// Puts an answer as text behind what is there: compact JSON with its keys in the order of their
-/// bytes, and a line feed. An error is out of memory (1), and leaves what is there as it was;
-/// where there is room for 128 bytes, it comes for a text or spans alone. The time is that of the
+/// bytes, and a line feed. An error is out of memory (1), and leaves what is there as it was; where
+/// there is room for 128 bytes, it comes for a text, spans or peers alone. The time is that of the
 /// text's length, and nothing but `out` takes memory.
 pub fn say(_alloc: Global, answer: &Answer, out: &mut Vec<u8>) -> Result<(), AllocError>
     ensures ok { OnOk result (out.new.items ≡ out.old.items ++ said answer.now) }
@@ -41,6 +43,7 @@ fn put_answer(answer: &Answer, out: &mut Vec<u8>) -> Result<(), AllocError>
     match answer {
         Answer::Text { rev, text } => put_shown(*rev, text, out),
         Answer::Spans { rev, spans } => put_listed(*rev, spans, out),
+        Answer::Peers { peers, sessions } => put_connected(peers, *sessions, out),
         Answer::Edited { rev } => {
             out.reserve(SHORT)?;
             put_edited(*rev, out);
@@ -87,5 +90,16 @@ fn put_listed(rev: u64, spans: &SpanList, out: &mut Vec<u8>) -> Result<(), Alloc
     put(Buffer::new().format(rev).as_bytes(), out)?;
     put(b",\"spans\":[", out)?;
     put_spans(spans.as_slice(), out)?;
+    put(b"}\n", out)
+}
+
+/// Puts the answer that says who is connected.
+fn put_connected(peers: &PeerList, sessions: u64, out: &mut Vec<u8>) -> Result<(), AllocError>
+    ensures { Puts result out.old out.new (said_connected peers.now sessions) }
+{
+    put(b"{\"ok\":true,\"peers\":[", out)?;
+    put_peers(peers.as_slice(), out)?;
+    put(b",\"sessions\":", out)?;
+    put_number(sessions, out)?;
     put(b"}\n", out)
 }

@@ -12,6 +12,8 @@ pub enum Command {
     Spans { doc: u32 },
     /// How far the replica is.
     Status,
+    /// Who is connected.
+    Peers,
     /// That no more edits be taken, and all be settled.
     Stop,
 }

@@ -2,7 +2,7 @@
 ghost use Rattle.std.specs.Prelude.{◌≡◌, ◌<◌, [], ◌∷◌, encode_utf8_all};
 ghost use Rattle.std.specs.Char.{digit_char};
 ghost use Rattle.session_lines.specs.Putting.{Puts, inside};
-ghost use Rattle.session_lines.specs.Saying.{quoted, said_characters};
+ghost use Rattle.session_lines.specs.Saying.{comma_after, quoted, said_characters};
 
 use std::alloc::AllocError;
 
@@ -11,6 +11,13 @@ pub fn put(bytes: &[u8], out: &mut Vec<u8>) -> Result<(), AllocError>
     ensures { Puts result out.old out.new bytes.now }
 {
     out.extend_from_slice(bytes)
+}
+
+/// A comma if something stands before.
+pub fn comma(later: bool) -> &'static [u8]
+    ensures { result.now ≡ comma_after later }
+{
+    if later { b"," } else { b"" }
 }
 
 /// A digit in base 16.

@@ -37,6 +37,10 @@ pub fn request(alloc: Global, value: &Value) -> Result<Command, Refusal>
             only(value, &["op"])?;
             Ok(Command::Status)
         }
+        Verb::Peers => {
+            only(value, &["op"])?;
+            Ok(Command::Peers)
+        }
         Verb::Stop => {
             only(value, &["op"])?;
             Ok(Command::Stop)

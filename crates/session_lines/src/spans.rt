@@ -1,20 +1,13 @@
 //! Spans and what they are made of, as JSON.
-ghost use Rattle.std.specs.Prelude.{◌≡◌, false};
+ghost use Rattle.std.specs.Prelude.{false};
 ghost use Rattle.session_lines.specs.Putting.{Puts};
-ghost use Rattle.session_lines.specs.Saying.{comma_after, said_id, said_ids, said_comments};
+ghost use Rattle.session_lines.specs.Saying.{said_id, said_ids, said_comments};
 ghost use Rattle.session_lines.specs.Saying.{said_if, said_link, said_marks, said_span, said_spans};
 
-use crate::quoted::{put, put_characters, put_quoted};
+use crate::quoted::{comma, put, put_characters, put_quoted};
 use op_model::{CommentId, Marks, Span, Url};
 use std::alloc::AllocError;
 use uuid::Uuid;
-
-/// A comma if something stands before.
-fn comma(later: bool) -> &'static [u8]
-    ensures { result.now ≡ comma_after later }
-{
-    if later { b"," } else { b"" }
-}
 
 /// Puts the name of a comment as a JSON string.
 fn put_id(id: CommentId, out: &mut Vec<u8>) -> Result<(), AllocError>

@@ -12,6 +12,7 @@ pub enum Verb {
     Text,
     Spans,
     Status,
+    Peers,
     Stop,
 }
 
@@ -28,6 +29,7 @@ impl Verb {
             "text" => Some(Verb::Text),
             "spans" => Some(Verb::Spans),
             "status" => Some(Verb::Status),
+            "peers" => Some(Verb::Peers),
             "stop" => Some(Verb::Stop),
             _ => None,
         }

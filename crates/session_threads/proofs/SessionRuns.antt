@@ -9,7 +9,7 @@ use Rattle.session_lines.specs.Saying.{number_of}
 use Rattle.session_lines.specs.declared.command.Command.{Command}
 use Rattle.session_lines.specs.declared.command.Command.TheVariants as command
 use Rattle.session_lines.specs.declared.answer.Answer.{Answer}
-use Rattle.session_lines.specs.declared.answer.Answer.TheVariants.{Edited, Text, Spans, Status, Stopped, Done, Refused}
+use Rattle.session_lines.specs.declared.answer.Answer.TheVariants.{Edited, Text, Spans, Status, Peers, Stopped, Done, Refused}
 use Rattle.session_lines.specs.declared.refusal.Refusal.{Refusal}
 use Rattle.session_threads.specs.Exchanges.{IsAnswered, Exchange, Exchanges}
 use Rattle.session_threads.specs.HeldDesk.{HeldDesk}
@@ -32,6 +32,7 @@ module _ {D : Type 0} (facts : Ghosts D) where
   edit_goes session old new e (Text rev text) never = absurd never
   edit_goes session old new e (Spans rev spans) never = absurd never
   edit_goes session old new e (Status applied settled s) never = absurd never
+  edit_goes session old new e (Peers peers sessions) never = absurd never
   edit_goes session old new e Stopped never = absurd never
   edit_goes session old new e Done never = absurd never
 
@@ -46,6 +47,7 @@ module _ {D : Type 0} (facts : Ghosts D) where
   command_goes old new (command.Text doc) answer (said, same) = stays old new same
   command_goes old new (command.Spans doc) answer (said, same) = stays old new same
   command_goes old new command.Status answer (said, same) = stays old new same
+  command_goes old new command.Peers answer (said, same) = stays old new same
   command_goes old new command.Stop answer (is_settled, said, commits, stopping) = (commits.calls.events, commits.calls.calls)
 
   answer_goes : (old new : HeldDesk D) (taken : Result Command Refusal) (answer : Answer) → IsAnswered (Serves facts) old taken answer new

@@ -11,7 +11,7 @@ use Rattle.session_lines.specs.Saying.{number_of}
 use Rattle.session_lines.specs.declared.command.Command.{Command}
 use Rattle.session_lines.specs.declared.command.Command.TheVariants as command
 use Rattle.session_lines.specs.declared.answer.Answer.{Answer}
-use Rattle.session_lines.specs.declared.answer.Answer.TheVariants.{Edited, Text, Spans, Status, Stopped, Refused}
+use Rattle.session_lines.specs.declared.answer.Answer.TheVariants.{Edited, Text, Spans, Status, Peers, Stopped, Refused}
 use Rattle.session_lines.specs.declared.answer.State.{State}
 use Rattle.session_lines.specs.declared.answer.State.TheVariants as state
 use Rattle.session_lines.specs.declared.refusal.Refusal.TheVariants.{Memory, Failed, Stopping}
@@ -42,6 +42,10 @@ abbrev pub ServesStatus : {D : Type 0} → HeldDesk D → Answer → Type 0
 ServesStatus desk answer =
     let held = desk.hub.replica in
     answer ≡ Status (length held.list) held.settled (state_in desk.hub.store.failed desk.stopping)
+
+-- a session over a hub that is held alone is the only one, and no peers are linked
+abbrev pub ServesPeers : Answer → Type 0
+ServesPeers answer = answer ≡ Peers [] 1
 
 -- an edit comes too late: after a stop, and it wasn't made before, under its token
 abbrev pub comes_too_late : {D : Type 0} → HeldDesk D → Edit → Bool
@@ -110,4 +114,5 @@ module _ {D : Type 0} (facts : Ghosts D) where
   Serves old (command.Text doc) answer new = ServesText old doc answer × (new ≡ old)
   Serves old (command.Spans doc) answer new = ServesSpans old doc answer × (new ≡ old)
   Serves old command.Status answer new = ServesStatus old answer × (new ≡ old)
+  Serves old command.Peers answer new = ServesPeers answer × (new ≡ old)
   Serves old command.Stop answer new = ServesStop old answer new

@@ -1,14 +1,14 @@
 //! An edit of a hub that is held alone.
 ghost use Rattle.std.specs.Prelude.{◌≡◌, ◌≤◌, length, IsTrue};
 ghost use Rattle.locked_replica.specs.Hub.{state_of};
-ghost use Rattle.locked_replica.specs.Steps.{number_of as number_of_hub};
+ghost use Rattle.locked_replica.specs.Steps.{IsNotOfStore, number_of as number_of_hub};
 ghost use Rattle.session_lines.specs.Saying.{number_of};
 ghost use Rattle.session_threads.specs.HubCalls.{IsQuiet, is_edit_refusal};
 ghost use Rattle.session_threads.specs.HubServing.{AnswersEdit, AnswersTicket};
 
 use crate::committing::commit;
+use crate::edit_refusal::edit_refusal;
 use disk_trait::Disk;
-use fixed_numbers::refusals::{BUSY, FAILED, LIMIT, MEMORY, RANGE, STALE, STEPS};
 use locked_replica::{Hub, HubRefusal};
 use op_model::Edit;
 use replica_core::Ticket;
@@ -54,17 +54,14 @@ fn answer_ticket<D: Disk>(hub: &mut Hub<D>, ticket: Ticket) -> Answer
 
 /// Why an edit isn't served, by why a hub refuses it.
 fn refusal_of(refusal: HubRefusal) -> Refusal
-    requires { IsTrue (is_edit_refusal (number_of_hub refusal)) }
+    requires number { IsTrue (is_edit_refusal (number_of_hub refusal)) }
+    requires kind { IsNotOfStore refusal }
     ensures { number_of result ≡ number_of_hub refusal }
 {
-    match refusal.number() {
-        MEMORY => Refusal::Memory,
-        RANGE => Refusal::Range,
-        STALE => Refusal::Stale,
-        LIMIT => Refusal::Limit,
-        BUSY => Refusal::Busy,
-        FAILED => Refusal::Failed,
-        STEPS => Refusal::Steps,
-        _ => unreachable!(),
+    match refusal {
+        HubRefusal::Replica(refusal) => edit_refusal(refusal),
+        HubRefusal::Full => Refusal::Busy,
+        HubRefusal::Failed => Refusal::Failed,
+        HubRefusal::Store(_) => unreachable!(),
     }
 }

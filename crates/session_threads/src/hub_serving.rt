@@ -1,7 +1,7 @@
 //! The commands that a desk over a hub serves.
 ghost use Rattle.std.specs.Prelude.{◌≡◌};
 ghost use Rattle.session_threads.specs.HubServing.{comes_too_late, ServesEdit, ServesText, ServesSpans};
-ghost use Rattle.session_threads.specs.HubServing.{ServesStatus, ServesStop};
+ghost use Rattle.session_threads.specs.HubServing.{ServesStatus, ServesPeers, ServesStop};
 
 use crate::committing::commit;
 use crate::desk::Desk;
@@ -9,7 +9,7 @@ use crate::hub_desk::HubDesk;
 use crate::hub_edit::answer_edit;
 use disk_trait::Disk;
 use op_model::Edit;
-use session_lines::{Answer, Command, Refusal, SpanList, State};
+use session_lines::{Answer, Command, PeerList, Refusal, SpanList, State};
 use std::alloc::Global;
 
 impl<D: Disk> Desk for HubDesk<D> {
@@ -19,12 +19,13 @@ impl<D: Disk> Desk for HubDesk<D> {
 
     fn line_read(&mut self) {}
 
-    fn serve(&mut self, _alloc: Global, command: Command) -> Answer {
+    fn serve(&mut self, alloc: Global, command: Command) -> Answer {
         match command {
             Command::Edit(edit) => self.edit(&edit),
             Command::Text { doc } => self.text(doc),
             Command::Spans { doc } => self.spans(doc),
             Command::Status => self.status(),
+            Command::Peers => alone(alloc),
             Command::Stop => self.stop(),
         }
     }
@@ -102,5 +103,15 @@ impl<D: Disk> HubDesk<D> {
         } else {
             Answer::Refused(Refusal::Failed)
         }
+    }
+}
+
+/// Who is connected: this session alone.
+fn alone(alloc: Global) -> Answer
+    ensures { ServesPeers result }
+{
+    Answer::Peers {
+        peers: PeerList::from(Vec::new(alloc)),
+        sessions: 1,
     }
 }

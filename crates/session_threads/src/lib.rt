@@ -8,6 +8,7 @@ mod answer_text;
 mod begun;
 mod committing;
 mod desk;
+mod edit_refusal;
 mod exchange;
 mod fault;
 mod held_line;
@@ -20,6 +21,7 @@ mod room;
 mod session;
 
 pub use desk::Desk;
+pub use edit_refusal::edit_refusal;
 pub use fault::SessionFault;
 pub use hub_desk::HubDesk;
 pub use laws::{

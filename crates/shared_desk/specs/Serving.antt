@@ -1,21 +1,23 @@
 -- What a desk over a shared hub answers to a command, and what it makes of its pass.
-use Rattle.std.specs.Prelude.{◌≡◌, ◌≢◌, ◌⊎◌, ℕ, ◌≤◌, ◌<◌, Bool, true, false, None, length}
+use Rattle.std.specs.Prelude.{◌≡◌, ◌≢◌, ◌⊎◌, ℕ, ◌≤◌, ◌<◌, Bool, true, false, None, List, All, length}
 use Rattle.op_model.specs.declared.edit.Edit.{Edit}
 use Rattle.op_model.specs.Text.{text, rev}
 use Rattle.op_model.specs.Spans.{spans}
 use Rattle.op_model.specs.Machine.{Ticket, edit, ack, ticket, acknowledged, refused, known_ticket}
 use Rattle.hub_parts.specs.Refusal.{number_of as number_of_locked}
 use Rattle.pass_books.specs.Accounts.{PassHeld}
+use Rattle.peer_counts.specs.declared.peer_counts.PeerCounts.{PeerCounts}
 use Rattle.session_lines.specs.Saying.{number_of}
 use Rattle.session_lines.specs.declared.command.Command.{Command}
 use Rattle.session_lines.specs.declared.command.Command.TheVariants as command
 use Rattle.session_lines.specs.declared.answer.Answer.{Answer}
-use Rattle.session_lines.specs.declared.answer.Answer.TheVariants.{Edited, Text, Spans, Status, Stopped, Done, Refused}
+use Rattle.session_lines.specs.declared.answer.Answer.TheVariants.{Edited, Text, Spans, Status, Peers, Stopped, Done, Refused}
 use Rattle.session_lines.specs.declared.answer.State.{State}
 use Rattle.session_lines.specs.declared.answer.State.TheVariants as state
 use Rattle.session_lines.specs.declared.refusal.Refusal.{Refusal}
 use Rattle.session_lines.specs.declared.refusal.Refusal.TheVariants.{Memory, Failed, Stopping}
 use Rattle.session_threads.specs.HubCalls.{is_edit_refusal as is_hub_refusal}
+use Rattle.shared_hub.specs.Peers.{IsCounted}
 use Rattle.shared_hub.specs.Shared.{HappensTo, Moment, MomentOf}
 use Rattle.shared_hub.specs.declared.refusal.SharedRefusal.{SharedRefusal}
 use Rattle.shared_hub.specs.declared.refusal.SharedRefusal.TheVariants as refused_as
@@ -52,6 +54,7 @@ ServesEdit old e (Refused refusal) new = IsRefusedEdit old e refusal new ⊎ ((r
 ServesEdit old e (Text rev t) new = ⊥
 ServesEdit old e (Spans rev s) new = ⊥
 ServesEdit old e (Status applied settled s) new = ⊥
+ServesEdit old e (Peers peers sessions) new = ⊥
 ServesEdit old e Stopped new = ⊥
 ServesEdit old e Done new = ⊥
 
@@ -82,6 +85,14 @@ ServesStatus old answer new =
     × MomentOf old (λ l. (stopping : Bool)
     × (answer ≡ Status (length l.replica.list) l.replica.settled (state_in l.failure_told stopping)))
 
+-- who was connected: the counts of each peer are those beside the list at some moment; or out of memory
+abbrev pub ServesPeers : PassHeld → Answer → PassHeld → Type 0
+ServesPeers old answer new =
+    (new ≡ old)
+    × ((answer ≡ Refused Memory)
+    ⊎ MomentOf old (λ l. (peers : List PeerCounts) × (sessions : ℕ)
+    × (answer ≡ Peers peers sessions) × All (IsCounted l.replica.list) peers))
+
 -- a stop is answered where at some moment all was settled, or as failed
 abbrev pub ServesStop : PassHeld → Answer → PassHeld → Type 0
 ServesStop old answer new =
@@ -95,4 +106,5 @@ Serves old (command.Edit e) answer new = ServesEdit old e answer new
 Serves old (command.Text doc) answer new = ServesText old doc answer new
 Serves old (command.Spans doc) answer new = ServesSpans old doc answer new
 Serves old command.Status answer new = ServesStatus old answer new
+Serves old command.Peers answer new = ServesPeers old answer new
 Serves old command.Stop answer new = ServesStop old answer new

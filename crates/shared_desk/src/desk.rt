@@ -28,7 +28,8 @@ impl<'a, R: Wait, J: Desks, G: Gate> Model for SharedDesk<'a, R, J, G> {
 }
 
 impl<'a, R: Wait, J: Desks, G: Gate> SharedDesk<'a, R, J, G> {
-    /// The desk of a session with this pass. Those who read take turns by `read_turn`.
+    /// The desk of a session with this pass, which is counted from now on. Those who read take
+    /// turns by `read_turn`.
     pub fn new(
         rt: &'a R,
         shared: &'a Shared<J>,
@@ -39,6 +40,7 @@ impl<'a, R: Wait, J: Desks, G: Gate> SharedDesk<'a, R, J, G> {
     ) -> SharedDesk<'a, R, J, G>
         ensures { result ≡ pass }
     {
+        shared.note_session(rt);
         SharedDesk {
             rt,
             shared,
@@ -49,11 +51,14 @@ impl<'a, R: Wait, J: Desks, G: Gate> SharedDesk<'a, R, J, G> {
         }
     }
 
-    /// The pass, of which the desk lets go.
+    /// The pass, of which the desk lets go; the session is counted no more.
     pub fn into_pass(self) -> Pass<J>
         ensures { result ≡ self.entry }
     {
-        let SharedDesk { pass, .. } = self;
+        let SharedDesk {
+            pass, shared, rt, ..
+        } = self;
+        shared.forget_session(rt);
         pass
     }
 }

@@ -6,16 +6,15 @@ ghost use Rattle.session_lines.specs.declared.refusal.Refusal.TheVariants.{Stopp
 ghost use Rattle.session_threads.specs.HubCalls.{is_edit_refusal as is_hub_refusal};
 ghost use Rattle.shared_hub.specs.Refusal.{number_of as number_of_shared};
 ghost use Rattle.shared_hub.specs.declared.refusal.SharedRefusal.TheVariants.{Stopping as AskedToStop};
-ghost use Rattle.shared_desk.specs.Serving.{is_edit_refusal, ServesEdit, ServesText, ServesSpans, ServesStatus, ServesStop};
+ghost use Rattle.shared_desk.specs.Serving.{is_edit_refusal, ServesEdit, ServesText, ServesSpans, ServesStatus, ServesPeers, ServesStop};
 
 use crate::desk::SharedDesk;
 use crate::ending::End;
-use fixed_numbers::refusals::{BUSY, FAILED, LIMIT, MEMORY, RANGE, STALE, STEPS};
 use hub_parts::LockedRefusal;
 use op_model::Edit;
 use pass_books::Desks;
-use session_lines::{Answer, Command, Refusal, SpanList, State};
-use session_threads::Desk;
+use session_lines::{Answer, Command, PeerList, Refusal, SpanList, State};
+use session_threads::{Desk, edit_refusal};
 use shared_hub::{Gate, Point, SharedRefusal, Shown};
 use std::alloc::Global;
 use std::sync::Wait;
@@ -29,12 +28,13 @@ impl<'a, R: Wait, J: Desks, G: Gate> Desk for SharedDesk<'a, R, J, G> {
         self.gate.pass(Point::LineRead);
     }
 
-    fn serve(&mut self, _alloc: Global, command: Command) -> Answer {
+    fn serve(&mut self, alloc: Global, command: Command) -> Answer {
         match command {
             Command::Edit(edit) => self.edit(&edit),
             Command::Text { doc } => self.text(doc),
             Command::Spans { doc } => self.spans(doc),
             Command::Status => self.status(),
+            Command::Peers => self.peers(alloc),
             Command::Stop => self.stop(),
         }
     }
@@ -113,6 +113,19 @@ impl<'a, R: Wait, J: Desks, G: Gate> SharedDesk<'a, R, J, G> {
         }
     }
 
+    /// Who is connected.
+    fn peers(&mut self, alloc: Global) -> Answer
+        ensures { ServesPeers self.old result self.new }
+    {
+        match self.shared.peers(self.rt, alloc, &mut self.pass) {
+            Ok(peers) => Answer::Peers {
+                peers: PeerList::from(peers),
+                sessions: self.shared.sessions(self.rt),
+            },
+            Err(_) => Answer::Refused(Refusal::Memory),
+        }
+    }
+
     /// Takes no more edits from anybody, waits until all is settled, and asks the daemon to end.
     fn stop(&mut self) -> Answer
         ensures { ServesStop self.old result self.new }
@@ -145,14 +158,9 @@ fn refusal_of_locked(refusal: LockedRefusal) -> Refusal
     ensures number { number_of result ≡ number_of_locked refusal }
     ensures going_on { result ≢ Stopping }
 {
-    match refusal.number() {
-        MEMORY => Refusal::Memory,
-        RANGE => Refusal::Range,
-        STALE => Refusal::Stale,
-        LIMIT => Refusal::Limit,
-        BUSY => Refusal::Busy,
-        FAILED => Refusal::Failed,
-        STEPS => Refusal::Steps,
-        _ => unreachable!(),
+    match refusal {
+        LockedRefusal::Replica(refusal) => edit_refusal(refusal),
+        LockedRefusal::Full => Refusal::Busy,
+        LockedRefusal::Failed => Refusal::Failed,
     }
 }

@@ -2,3 +2,4 @@ mod BookLemmas
 pub mod GoingLemmas
 mod MeetLemmas
 mod OpeningLemmas
+mod PeerLemmas

@@ -1,5 +1,6 @@
 pub mod Books
 pub mod Going
 pub mod Guarded
+pub mod Peers
 pub mod Refusal
 pub mod Shared

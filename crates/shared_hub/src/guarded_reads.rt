@@ -1,14 +1,17 @@
 //! What is read under the lock of a shared hub.
-ghost use Rattle.std.specs.Prelude.{◌≡◌, IfOk, length};
+ghost use Rattle.std.specs.Prelude.{◌≡◌, All, IfOk, length};
 ghost use Rattle.op_model.specs.Spans.{spans as spans_of};
 ghost use Rattle.op_model.specs.Text.{text as text_of, rev as rev_of};
+ghost use Rattle.shared_hub.specs.Peers.{IsCounted};
 
+use crate::connected::{Connected, Peer};
 use crate::guarded::Guarded;
 use crate::shown::Shown;
 use crate::status::Status;
 use op_model::{Span, Text};
 use pass_books::Desks;
-use std::alloc::AllocError;
+use peer_counts::PeerCounts;
+use std::alloc::{AllocError, Global};
 
 impl<J: Desks> Guarded<J> {
     /// How far it is. Takes no memory. Constant.
@@ -51,5 +54,23 @@ impl<J: Desks> Guarded<J> {
             rev: self.locked.rev(doc) as u64,
             content: self.locked.spans(doc)?,
         })
+    }
+
+    /// What is known of the peers that are connected. An error is out of memory (1).
+    pub(crate) fn peers(
+        &self,
+        alloc: Global,
+        connected: &Connected,
+    ) -> Result<Vec<PeerCounts>, AllocError>
+        ensures { IfOk result (λ peers. All (IsCounted self.now.locked.replica.list) peers.items) }
+    {
+        let mut peers = Vec::new(alloc);
+        for peer in &connected.peers {
+            if let Some(Peer { replica, its }) = peer {
+                let counts = PeerCounts::of(*replica, its, self.locked.clock());
+                peers.push(counts)?;
+            }
+        }
+        Ok(peers)
     }
 }

@@ -6,6 +6,7 @@
 #![tactic(auto)]
 
 mod awaited;
+mod connected;
 mod flushing;
 mod gate;
 mod guarded;
@@ -21,6 +22,7 @@ mod refusal;
 mod rooms;
 mod shared;
 mod shared_links;
+mod shared_peers;
 mod shared_reads;
 mod shared_tells;
 mod shared_waits;

@@ -7,6 +7,7 @@ ghost use Rattle.shared_hub.specs.Shared.{HappensTo, MomentOf};
 ghost use Rattle.shared_hub.specs.declared.refusal.SharedRefusal.TheVariants.{Stopping};
 
 use crate::awaited::Parity;
+use crate::connected::Connected;
 use crate::guarded::Guarded;
 use crate::refusal::SharedRefusal;
 use crate::rooms::Rooms;
@@ -28,6 +29,8 @@ pub struct Shared<J: Desks> {
     pub(crate) work: Condvar,
     /// The threads that tell.
     pub(crate) news: Rooms,
+    /// Who is connected, under a lock of its own. Whoever takes both takes the hub's first.
+    pub(crate) connected: Mutex<Connected>,
 }
 
 impl<J: Desks> Shared<J> {
@@ -38,6 +41,7 @@ impl<J: Desks> Shared<J> {
             odd: Condvar::new(),
             work: Condvar::new(),
             news: Rooms::new(),
+            connected: Mutex::new(Connected::new()),
         }
     }
 

@@ -17,17 +17,20 @@ from .daemon import connect
 from .document import Document, Reading
 from .file import init, open
 from .marks import EM, STRONG, Comment, Link, Mark, Span
+from .peers import Connected, Peer
 from .refusals import Ended, NoDaemon, Refused, Stale
 from .session import Session
 
 __all__ = [
     "Comment",
+    "Connected",
     "Document",
     "EM",
     "Ended",
     "Link",
     "Mark",
     "NoDaemon",
+    "Peer",
     "Reading",
     "Refused",
     "STRONG",

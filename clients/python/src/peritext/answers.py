@@ -71,6 +71,15 @@ def _are_texts(value: Any) -> bool:
     return isinstance(value, list) and all(map(_is_text, value))
 
 
+def _are_peers(value: Any) -> bool:
+    return isinstance(value, list) and all(map(_is_peer, value))
+
+
+def _is_peer(value: Any) -> bool:
+    return isinstance(value, dict) and all(is_right(value.get(key)) for key, is_right in _PEER.items())
+
+
+_PEER = {"has": _is_number, "lacks": _is_number, "replica": _is_text}
 _MARKS = {"strong": _is_flag, "em": _is_flag, "link": _is_text, "comments": _are_texts}
 _REFUSAL = {"code": _is_number, "error": _is_text}
 _EDITED = {"rev": _is_number}
@@ -83,4 +92,5 @@ _FIELDS: dict[str, dict[str, Callable[[Any], bool]]] = {
     "text": {"rev": _is_number, "text": _is_text},
     "spans": {"rev": _is_number, "spans": _are_spans},
     "status": {"applied": _is_number, "settled": _is_number, "state": _is_text},
+    "peers": {"peers": _are_peers, "sessions": _is_number},
 }

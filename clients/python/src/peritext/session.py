@@ -12,6 +12,7 @@ from typing import IO, Any, NamedTuple
 from .answers import NoAnswer, answer_of
 from .document import Document
 from .lines import Lines, line_of
+from .peers import Connected, connected_of
 from .refusals import Ended, Refused, Stale
 from .silence import TIMEOUT, Silence
 
@@ -105,6 +106,10 @@ class Session:
         """Whether all that was edited is settled on the disk."""
         status = self.ask(op="status")
         return bool(status["settled"] == status["applied"])
+
+    def peers(self) -> Connected:
+        """Who is connected to the daemon: its peers, with what each has and lacks, and how many sessions. Over a file it is this session alone."""
+        return connected_of(self.ask(op="peers"))
 
     def stop(self) -> None:
         """Has all that was edited settled, and no more edits taken (`Refused`, 12). A daemon ends with that, for all its sessions and peers."""

@@ -9,8 +9,8 @@ pub returns-in-Err-clause-answer : goal.returns-in-Err-clause-answer
 returns-in-Err-clause-answer g c =
     answered_refusal g.D.DiskFacts c.args.session _ _ c.args.edit.now c.refusal_of.result _ c.refusal_of.ensures c.in-Err.ensures.call
 
-pub refusal_of-requires : goal.refusal_of-requires
-refusal_of-requires g c = can_be_refused g.D.DiskFacts c.args.session _ _ c.args.edit.now _ c.in-Err.ensures.call
+pub refusal_of-requires-clause-number : goal.refusal_of-requires-clause-number
+refusal_of-requires-clause-number g c = can_be_refused g.D.DiskFacts c.args.session _ _ c.args.edit.now _ c.in-Err.ensures.call
 
 pub answer_ticket-requires-clause-within : goal.answer_ticket-requires-clause-within
 answer_ticket-requires-clause-within g c = ends_within g.D.DiskFacts c.args.session _ _ c.args.edit.now c.in-Ok.ticket c.in-Ok.ensures.call

@@ -1,0 +1,31 @@
+//! Why an edit isn't served.
+ghost use Rattle.std.specs.Prelude.{◌≡◌, ◌≢◌, IsTrue};
+ghost use Rattle.replica_core.specs.Refusal.{number_of as number_of_replica};
+ghost use Rattle.session_lines.specs.Saying.{number_of};
+ghost use Rattle.session_lines.specs.declared.refusal.Refusal.TheVariants.{Stopping};
+ghost use Rattle.session_threads.specs.HubCalls.{is_edit_refusal};
+
+use replica_core::Refusal as ReplicaRefusal;
+use session_lines::Refusal;
+
+/// Why an edit isn't served, by why its replica refuses it: with the same number.
+pub fn edit_refusal(refusal: ReplicaRefusal) -> Refusal
+    requires { IsTrue (is_edit_refusal (number_of_replica refusal)) }
+    ensures number { number_of result ≡ number_of_replica refusal }
+    ensures going_on { result ≢ Stopping }
+{
+    match refusal {
+        ReplicaRefusal::Memory => Refusal::Memory,
+        ReplicaRefusal::Range => Refusal::Range,
+        ReplicaRefusal::Stale => Refusal::Stale,
+        ReplicaRefusal::Limit => Refusal::Limit,
+        ReplicaRefusal::Steps => Refusal::Steps,
+        // Merges and openings alone are refused so.
+        ReplicaRefusal::OwnUnknown
+        | ReplicaRefusal::Counter
+        | ReplicaRefusal::Names
+        | ReplicaRefusal::Document
+        | ReplicaRefusal::StoreLimit
+        | ReplicaRefusal::BadOperation => unreachable!(),
+    }
+}
