@@ -19,7 +19,7 @@ pub(crate) struct LinkEnd {
 /// What a frame of the other end is to the thread that hears.
 #[derive(Drop)]
 pub(crate) enum Said {
-    Hello,
+    Hello(ReplicaId),
     Have {
         /// Whether it may change the base, so that other operations are due.
         is_news: bool,
@@ -65,6 +65,18 @@ impl LinkEnd {
     /// Takes bytes of the other end, as `Link::feed` does.
     pub fn feed<R: Wait>(&self, rt: &R, bytes: &[u8]) -> Result<(), LinkError> {
         self.held.lock(rt).link.feed(bytes)
+    }
+
+    /// Whether bytes begin with the HELLO that this replica says itself. Not where there is no
+    /// memory to tell.
+    pub fn is_own_hello(alloc: Global, own: ReplicaId, bytes: &[u8]) -> bool {
+        match Link::start(alloc, own) {
+            Ok(link) => {
+                let mut link = link;
+                bytes.starts_with(link.take_out().as_slice())
+            }
+            Err(AllocError) => false,
+        }
     }
 
     /// The next frame of the other end.
@@ -143,7 +155,7 @@ impl LinkEnd {
 impl EndState {
     fn next(&mut self) -> Option<Said> {
         let said = match self.link.next()? {
-            Heard::Hello(_) => Said::Hello,
+            Heard::Hello(replica) => Said::Hello(replica),
             Heard::Bye => Said::Bye,
             Heard::Have(clock) => Said::Have {
                 own: clock.get(self.own),

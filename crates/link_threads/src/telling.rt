@@ -3,7 +3,7 @@
 use crate::link_end::LinkEnd;
 use crate::locked_line::LockedLine;
 use crate::shared_peer::SharedPeer;
-use link_speaker::{SpeakError, Speaker, write_out};
+use link_speaker::{Line, SpeakError, Speaker, write_out};
 use pass_books::Desks;
 use rtrb::Consumer;
 use shared_hub::{News, Shared};
