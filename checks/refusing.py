@@ -96,7 +96,7 @@ class RefusedDaemon(Daemon):
         self.run_it()
 
     def start_again(self):
-        """After an end for want of memory; with all memory."""
+        """After an end when out of memory; with all memory."""
         end = ended(self.run)
         if end != MEMORY:
             raise Wrong(f"it ended with {end}")

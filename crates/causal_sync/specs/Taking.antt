@@ -13,7 +13,7 @@ abbrev pub Reads : {X Y : Type 0} → (X → Y) → Result X LinkError → Resul
 Reads view (Ok x) read = read ≡ Ok (view x)
 Reads view (Err e) read = read ≡ Err e
 
--- what a function returned is what is read; want of memory may stand in place of anything
+-- what a function returned is what is read; out of memory may stand in place of anything
 abbrev pub Gives : {X Y : Type 0} → (X → Y) → Result X LinkError → Result Y LinkError → Type 0
 Gives view (Ok x) read = read ≡ Ok (view x)
 Gives view (Err e) read = (read ≡ Err e) ⊎ (e ≡ Memory)

@@ -1,3 +1,4 @@
+//! What a peer says in one frame, as the link above takes it.
 ghost use Rattle.std.specs.Prelude.{◌≡◌, ◌≤◌, length};
 ghost use Rattle.fixed_numbers.specs.declared.limits.TheConstants.{MAX_TOLD};
 ghost use Rattle.causal_sync.specs.Frames.{is_bye};

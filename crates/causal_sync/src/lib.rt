@@ -1,5 +1,8 @@
 //! Peer links over bytes: the frames that a peer says are heard however their bytes are cut, and
 //! what is said to it is spelled.
+//!
+//! It knows no threads and no sockets, so what a peer hears and says is proved for any cutting of
+//! the bytes.
 #![tactic(auto)]
 
 mod heard;

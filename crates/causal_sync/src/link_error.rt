@@ -1,3 +1,4 @@
+//! Why a link refuses a call.
 ghost use Rattle.std.specs.Prelude.{◌≡◌};
 ghost use Rattle.causal_sync.specs.declared.link_error.LinkError.TheVariants.{Memory};
 ghost use Rattle.causal_sync.specs.LinkError.{number_of};

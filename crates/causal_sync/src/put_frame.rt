@@ -13,7 +13,7 @@ use op_pieces::Piece;
 use piece_codec::{every_piece_has_a_spelling, put_piece};
 use std::alloc::{AllocError, Global};
 
-/// The spelling of a HELLO. An error is want of memory (1).
+/// The spelling of a HELLO. An error is out of memory (1).
 pub(crate) fn spelled_hello(alloc: Global, own: ReplicaId) -> Result<Vec<u8>, AllocError>
     ensures { IfOk result (λ bytes. bytes.items ≡ frame_bytes (frame.Hello own)) }
 {
@@ -23,7 +23,7 @@ pub(crate) fn spelled_hello(alloc: Global, own: ReplicaId) -> Result<Vec<u8>, Al
     Ok(bytes)
 }
 
-/// The spelling of a HAVE. An error is want of memory (1).
+/// The spelling of a HAVE. An error is out of memory (1).
 pub(crate) fn spelled_have(alloc: Global, clock: &Clock) -> Result<Vec<u8>, AllocError>
     ensures { IfOk result (λ bytes. bytes.items ≡ frame_bytes (frame.Have clock.now)) }
 {
@@ -33,7 +33,7 @@ pub(crate) fn spelled_have(alloc: Global, clock: &Clock) -> Result<Vec<u8>, Allo
     Ok(bytes)
 }
 
-/// The spelling of an OPS of these pieces. An error is want of memory (1).
+/// The spelling of an OPS of these pieces. An error is out of memory (1).
 pub(crate) fn spelled_ops(alloc: Global, pieces: &[Piece]) -> Result<Vec<u8>, AllocError>
     requires { length pieces.now ≤ MAX_TOLD }
     ensures { IfOk result (λ bytes. bytes.items ≡ frame_bytes (frame.Ops pieces.now)) }
@@ -46,7 +46,7 @@ pub(crate) fn spelled_ops(alloc: Global, pieces: &[Piece]) -> Result<Vec<u8>, Al
     Ok(bytes)
 }
 
-/// The spelling of a BYE. An error is want of memory (1).
+/// The spelling of a BYE. An error is out of memory (1).
 pub(crate) fn spelled_bye(alloc: Global) -> Result<Vec<u8>, AllocError>
     ensures { IfOk result (λ bytes. bytes.items ≡ frame_bytes frame.Bye) }
 {

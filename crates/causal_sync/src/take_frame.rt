@@ -39,7 +39,7 @@ impl Found {
     }
 }
 
-/// The frames at the front of bytes, up to a BYE, a fault or one that isn't whole. An error is want
+/// The frames at the front of bytes, up to a BYE, a fault or one that isn't whole. An error is out
 /// of memory (1). One pass.
 pub(crate) fn take_frames(
     alloc: Global,

@@ -1,3 +1,4 @@
+//! The frame that a link has read and not yet given.
 ghost use Rattle.std.specs.Prelude.{◌≡◌, IfOk};
 ghost use Rattle.causal_sync.specs.Buffer.{clock_in};
 
@@ -27,7 +28,7 @@ impl Model for Waiting {
 }
 
 impl Waiting {
-    /// This frame. An error is want of memory (1).
+    /// This frame. An error is out of memory (1).
     pub(crate) fn new(heard: Heard) -> Result<Waiting, AllocError>
         ensures { IfOk result (λ waiting. waiting ≡ heard) }
     {

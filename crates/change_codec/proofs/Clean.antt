@@ -1,4 +1,4 @@
--- No fault of the bytes is want of memory.
+-- No fault of the bytes is out of memory.
 use Rattle.std.proofs.Common.{◌≡◌, ◌≢◌, ℕ, zero, suc, ◌+◌, ◌-◌, ◌&&◌, Bool, true, false, cond, ltb, eqb, List, [], ◌∷◌, length, take, drop, Some}
 use Rattle.std.proofs.Common.{None, Result, Ok, Err}
 use Rattle.std.specs.Int.{Width, w16, w32, w64, w128, byte_len, from_be_bytes, is_in_range}
@@ -216,6 +216,6 @@ no_memory_of : {A : Type 0} (r : Result A CodecError) → IsClean r → r ≡ Er
 no_memory_of (Ok x) h e = cc
 no_memory_of (Err d) h e = let same : d ≡ fault.Memory = cc in h same
 
--- what is read is never want of memory
+-- what is read is never out of memory
 pub no_memory : (format : Format) (bytes : List ℕ) → taken format bytes ≡ Err fault.Memory → ⊥
 no_memory format bytes e = no_memory_of (taken format bytes) (taken_clean format bytes) e

@@ -48,12 +48,12 @@ found_deps (Err e) = []
 unfoldable pub deps_of : List ℕ → List (ℕ × ℕ)
 deps_of bytes = found_deps (deps_at bytes)
 
--- what a function returned is what is read; want of memory may stand in place of anything
+-- what a function returned is what is read; out of memory may stand in place of anything
 abbrev pub Collects : {X Y : Type 0} → (X → Y) → Result X CodecError → Result Y CodecError → Type 0
 Collects view (Ok x) read = read ≡ Ok (view x)
 Collects view (Err e) read = (read ≡ Err e) ⊎ (e ≡ Memory)
 
--- what a function returned is what is read; want of memory may stand in place of a value
+-- what a function returned is what is read; out of memory may stand in place of a value
 abbrev pub Gives : {X Y : Type 0} → (X → Y) → Result X CodecError → Result Y CodecError → Type 0
 Gives view (Ok x) read = read ≡ Ok (view x)
 Gives view (Err e) read = (read ≡ Err e) ⊎ ((e ≡ Memory) × IsOk read)

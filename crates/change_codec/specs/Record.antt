@@ -52,7 +52,7 @@ BeginsWithSome bytes = (op : Op) × (n : ℕ) × BeginsWithOp bytes op n
 abbrev pub BeginsWithOneOf : Format → List ℕ → Type 0
 BeginsWithOneOf format bytes = (op : Op) × (n : ℕ) × IsOf format op × BeginsWithOp bytes op n
 
--- what a function returned is what is read; want of memory may stand in place of an operation
+-- what a function returned is what is read; out of memory may stand in place of an operation
 abbrev pub Answers : Result (Option (Op × ℕ)) CodecError → Result (Option (Op × ℕ)) CodecError → Type 0
 Answers (Ok found) read = read ≡ Ok found
 Answers (Err e) read = (read ≡ Err e) ⊎ ((e ≡ Memory) × ((found : Op × ℕ) × (read ≡ Ok (Some found))))

@@ -10,7 +10,7 @@ use op_ids::Clock;
 use std::alloc::{AllocError, Global};
 
 /// Appends a clock: its number of entries in one byte, and each replica in sixteen bytes with its
-/// count in eight. An error is want of memory (1), and leaves the bytes as they were.
+/// count in eight. An error is out of memory (1), and leaves the bytes as they were.
 pub fn put_clock(clock: &Clock, out: &mut Vec<u8>) -> Result<(), AllocError>
     ensures ok { OnOk result (out.new.items ≡ out.old.items ++ deps_bytes clock.now) }
     ensures err { OnErr result (out.new.items ≡ out.old.items) }

@@ -1,3 +1,4 @@
+//! Why bytes give no operation.
 ghost use Rattle.std.specs.Prelude.{◌≡◌};
 ghost use Rattle.change_codec.specs.declared.codec_error.CodecError.TheVariants.{Memory};
 

@@ -129,7 +129,7 @@ fn named(byte: u8) -> Result<Kind, CodecError>
 }
 
 impl LentBody<'_> {
-    /// The content with a URL of its own. An error is want of memory.
+    /// The content with a URL of its own. An error is out of memory.
     pub fn to_body(self, alloc: Global) -> Result<Body, AllocError>
         requires { HasUrl (body_of self) }
         ensures { IfOk result (λ body. body ≡ body_of self.entry) }

@@ -44,7 +44,7 @@ pub fn skip_deps(bytes: &[u8]) -> Result<&[u8], CodecError>
     skip_entries(count, rest)
 }
 
-/// The clock of deps that were tested. An error is want of memory (1).
+/// The clock of deps that were tested. An error is out of memory (1).
 pub fn collect_deps(alloc: Global, bytes: &[u8]) -> Result<Clock, CodecError>
     requires { IsOk (deps_at bytes.now) }
     ensures ok { IfOk result (λ clock. clock ≡ deps_of bytes.now) }

@@ -1,3 +1,4 @@
+//! The formats of a stream of records.
 ghost use Rattle.std.specs.Prelude.{◌≡◌};
 ghost use Rattle.change_codec.specs.Formats.{has_tokens as has_tokens_of, longest as longest_of};
 

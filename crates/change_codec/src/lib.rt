@@ -1,4 +1,7 @@
 //! The record codec: each operation as bytes, in both directions.
+//!
+//! Files and frames stand on it: both hold the same records, so one grammar and one proof serve
+//! them.
 #![tactic(auto)]
 
 mod anchor;

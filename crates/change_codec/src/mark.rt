@@ -23,7 +23,7 @@ pub enum LentMark<'a> {
 }
 
 impl LentMark<'_> {
-    /// The mark with a URL of its own. An error is want of memory.
+    /// The mark with a URL of its own. An error is out of memory.
     pub fn to_mark(self, alloc: Global) -> Result<Mark, AllocError>
         requires { HasUrlOf (mark_of self) }
         ensures { IfOk result (λ mark. mark ≡ mark_of self.entry) }

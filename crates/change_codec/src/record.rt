@@ -22,7 +22,7 @@ use op_model::Op;
 use std::alloc::{AllocError, Global};
 
 /// Appends the record of an operation: four bytes for the length of its body, and the body. Memory
-/// is reserved once, before anything is written; each byte is written once. An error is want of
+/// is reserved once, before anything is written; each byte is written once. An error is out of
 /// memory (1), and leaves the bytes as they were.
 pub fn put_op(op: &Op, out: &mut Vec<u8>) -> Result<(), AllocError>
     ensures ok { OnOk result (out.new.items ≡ out.old.items ++ spelled op.now) }
@@ -138,7 +138,7 @@ fn take_rest(alloc: Global, head: Head, deps: &[u8], bytes: &[u8]) -> Result<Op,
     }
 }
 
-/// The operation with memory of its own. An error is want of memory (1).
+/// The operation with memory of its own. An error is out of memory (1).
 fn make_op(
     alloc: Global,
     head: Head,

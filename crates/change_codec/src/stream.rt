@@ -13,7 +13,7 @@ use crate::{CodecError, Format, StreamError, put_op, take_op};
 use op_model::Op;
 use std::alloc::{AllocError, Global};
 
-/// Appends the records of operations, one after another. An error is want of memory (1), and leaves
+/// Appends the records of operations, one after another. An error is out of memory (1), and leaves
 /// the bytes as they were. Each byte is written once.
 pub fn put_ops(ops: &[Op], out: &mut Vec<u8>) -> Result<(), AllocError>
     ensures ok { OnOk result (out.new.items ≡ out.old.items ++ spelled_all ops.now) }

@@ -1,3 +1,4 @@
+//! Why bytes give no list of operations.
 ghost use Rattle.std.specs.Prelude.{◌≡◌};
 ghost use Rattle.change_codec.specs.declared.stream_error.StreamError.TheVariants.{Memory};
 

@@ -1,3 +1,4 @@
+//! A sequence takes inserts and removes.
 ghost use Rattle.std.specs.Prelude.{◌≡◌, ◌↔◌, ℕ, List, Some, map, true, false};
 ghost use Rattle.std.specs.Prelude.{IfOk, OnOk, OnErr, IsErrOf};
 ghost use Rattle.std.specs.List.{list_all};
@@ -132,7 +133,7 @@ fn cell_of(insert: &(OpId, char)) -> Cell
     }
 }
 
-/// The cells of inserts. An error is want of memory (1).
+/// The cells of inserts. An error is out of memory (1).
 fn cells(alloc: Global, run: &[(OpId, char)]) -> Result<Vec<Cell>, AllocError>
     ensures { IfOk result (λ cells. cells.items ≡ map cell_of_insert run.now) }
 {

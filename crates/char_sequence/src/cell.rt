@@ -1,3 +1,4 @@
+//! One character in its place.
 use op_ids::OpId;
 
 /// A character in its place: its id, its value, and whether it was removed and is a tombstone.

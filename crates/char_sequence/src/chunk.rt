@@ -36,7 +36,7 @@ impl Model for Chunk {
 }
 
 impl Chunk {
-    /// A chunk of these cells, from 1 to 512 of them. An error is want of memory (1).
+    /// A chunk of these cells, from 1 to 512 of them. An error is out of memory (1).
     pub fn of(alloc: Global, cells: &[Cell]) -> Result<Chunk, AllocError>
         requires some { 0 < length cells.now }
         requires few { length cells.now ≤ MAX_CHUNK }
@@ -86,7 +86,7 @@ impl Chunk {
         self.cells.len() < MAX_CHUNK
     }
 
-    /// Puts a cell before its j-th cell, or behind its last one. An error is want of memory (1),
+    /// Puts a cell before its j-th cell, or behind its last one. An error is out of memory (1),
     /// and leaves it as it was. The cells behind move.
     pub fn insert(&mut self, j: usize, cell: Cell) -> Result<(), AllocError>
         requires place { j ≤ length self.old }

@@ -1,3 +1,4 @@
+//! The cells of a sequence, cut into chunks.
 ghost use Rattle.std.specs.Prelude.{◌≤◌, ◌≡◌, ◌++◌, ◌∷◌, [], ◌<◌, ◌+◌, ◌*◌, ◌^◌, length};
 ghost use Rattle.std.specs.Prelude.{Some, true, OnOk, OnErr};
 ghost use Rattle.std.proofs.Common.{get_or};
@@ -129,7 +130,7 @@ impl Chunks {
 
     /// Puts cells, one behind the other, at a place: before the j-th cell of the i-th chunk, or
     /// behind its last one. How many chunks there are more: they stand behind the i-th. No cells
-    /// change nothing. An error is want of memory (1), and leaves all as it was. It moves at most
+    /// change nothing. An error is out of memory (1), and leaves all as it was. It moves at most
     /// the cells of one chunk, and where chunks come, the chunks behind.
     pub fn insert(&mut self, i: usize, j: usize, cells: &[Cell]) -> Result<usize, AllocError>
         requires { IsPlace self.old i j }
@@ -189,7 +190,7 @@ impl Chunks {
         Ok(self.chunks.len().saturating_sub(before))
     }
 
-    /// Puts a cell behind all others. An error is want of memory (1), and leaves all as it was.
+    /// Puts a cell behind all others. An error is out of memory (1), and leaves all as it was.
     pub fn push(&mut self, cell: Cell) -> Result<(), AllocError>
         ensures put { OnOk result (cells_of self.new ≡ cells_of self.old ++ cell ∷ []) }
         ensures err { OnErr result (self.new ≡ self.old) }

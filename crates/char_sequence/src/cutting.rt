@@ -8,7 +8,7 @@ use crate::cell::Cell;
 use crate::chunk::{Chunk, MAX_CHUNK, MIN_CHUNK};
 use std::alloc::{AllocError, Global};
 
-/// The cells of a chunk, with a run of cells before the j-th one. An error is want of memory (1).
+/// The cells of a chunk, with a run of cells before the j-th one. An error is out of memory (1).
 pub fn joined(alloc: Global, old: &[Cell], j: usize, run: &[Cell]) -> Result<Vec<Cell>, AllocError>
     requires { j ≤ length old.now }
     ensures { IfOk result (λ all. all.items ≡ take j old.now ++ (run.now ++ drop j old.now)) }
@@ -21,7 +21,7 @@ pub fn joined(alloc: Global, old: &[Cell], j: usize, run: &[Cell]) -> Result<Vec
 }
 
 /// Chunks of these cells: one, if they are at most 512; else of 256 each, but the last one, which
-/// has from 257 to 512. An error is want of memory (1).
+/// has from 257 to 512. An error is out of memory (1).
 pub fn cut(alloc: Global, cells: &[Cell]) -> Result<Vec<Chunk>, AllocError>
     ensures cells { IfOk result (λ chunks. cells_of chunks.items ≡ cells.now) }
     ensures chunks { IfOk result (λ chunks. AreChunks chunks.items) }
@@ -52,7 +52,7 @@ pub fn cells_at(chunks: &[Chunk], i: usize) -> &[Cell]
 }
 
 /// Puts these chunks in place of the i-th one, or behind all where there is no i-th. An error is
-/// want of memory (1), and leaves all as it was. The chunks behind move.
+/// out of memory (1), and leaves all as it was. The chunks behind move.
 pub fn replace(chunks: &mut Vec<Chunk>, i: usize, by: Vec<Chunk>) -> Result<(), AllocError>
     requires { i ≤ length chunks.old.items }
     ensures put { OnOk result (chunks.new.items

@@ -1,3 +1,4 @@
+//! What an insert has to know of marks, told by whoever keeps them.
 ghost use Rattle.std.specs.Prelude.{◌≡◌, Bool};
 ghost use Rattle.std.specs.List.{list_any};
 ghost use Rattle.op_ids.specs.Id.{is_same, Id};

@@ -1,3 +1,4 @@
+//! Why a sequence stays as it was.
 use fixed_numbers::refusals::{MEMORY, UNKNOWN_ID};
 use std::alloc::AllocError;
 use thiserror::Error;

@@ -1,3 +1,4 @@
+//! A place in the text, as an edit names it.
 ghost use Rattle.std.specs.Prelude.{◌≡◌};
 
 use crate::place::Place;

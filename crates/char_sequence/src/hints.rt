@@ -1,3 +1,4 @@
+//! Where a character should be, by its id.
 use crate::chunks::Chunks;
 use crate::place::Place;
 use crate::track::{Track, gather, hinted, note, sort};

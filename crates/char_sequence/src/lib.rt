@@ -1,4 +1,7 @@
 //! The characters of a document in the order of its text, tombstones too.
+//!
+//! It is apart from marks, since a place in the text is found without them, and most edits are of
+//! characters.
 #![tactic(auto)]
 
 mod applying;

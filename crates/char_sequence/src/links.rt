@@ -1,3 +1,4 @@
+//! The links of a weave: which character comes after which.
 ghost use Rattle.std.specs.Prelude.{◌≡◌, ℕ, ◌≤◌, ◌<◌, List, length, slice_set};
 ghost use Rattle.char_sequence.specs.declared.cell.Cell.{Cell};
 ghost use Rattle.char_sequence.specs.Links.{cell_at_place, next_of as next_of_place, Leads, Passes};

@@ -1,3 +1,4 @@
+//! A place between cells.
 ghost use Rattle.std.specs.Prelude.{◌↔◌, IsTrue};
 ghost use Rattle.char_sequence.specs.Reading.{IsAhead};
 

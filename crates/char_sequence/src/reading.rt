@@ -38,7 +38,7 @@ pub fn next(chunks: &Chunks, place: &Place) -> Option<(Cell, Place)>
     }
 }
 
-/// The ids of the tombstones from a place on. An error is want of memory (1).
+/// The ids of the tombstones from a place on. An error is out of memory (1).
 pub fn tombstones(chunks: &Chunks, from: &Place) -> Result<Vec<OpId>, AllocError>
     requires { IsPlace chunks.now from.now.chunk from.now.at }
     ensures { IfOk result (λ found. found.items
@@ -56,7 +56,7 @@ pub fn tombstones(chunks: &Chunks, from: &Place) -> Result<Vec<OpId>, AllocError
     Ok(found)
 }
 
-/// The values of the cells that a reader sees. An error is want of memory (1).
+/// The values of the cells that a reader sees. An error is out of memory (1).
 pub fn values(chunks: &Chunks) -> Result<Vec<char>, AllocError>
     ensures { IfOk result (λ found. found.items ≡ shown_values (cells_of chunks.now)) }
 {
@@ -69,7 +69,7 @@ pub fn values(chunks: &Chunks) -> Result<Vec<char>, AllocError>
     Ok(found)
 }
 
-/// Adds the value of a cell, if a reader sees it. An error is want of memory (1).
+/// Adds the value of a cell, if a reader sees it. An error is out of memory (1).
 fn push_value(found: &mut Vec<char>, cell: &Cell) -> Result<(), AllocError>
     ensures { OnOk result (found.new.items ≡ found.old.items ++ shown_values (cell.now ∷ [])) }
 {

@@ -1,3 +1,4 @@
+//! The plain search for a character.
 ghost use Rattle.std.specs.Prelude.{◌≡◌, MatchOption, false};
 ghost use Rattle.char_sequence.specs.Cells.{has_cell, place_of, IsAt};
 

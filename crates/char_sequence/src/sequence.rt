@@ -1,3 +1,4 @@
+//! The characters of one document.
 ghost use Rattle.std.specs.Prelude.{◌≡◌, ◌+◌, ◌*◌, ◌≤◌, ◌<◌, ◌/◌, ◌^◌, ℕ, List, Some, map, filter, length, take, drop, false, true};
 ghost use Rattle.std.specs.Prelude.{is_some, nat_le, MatchOption, IfOk, IfSome};
 ghost use Rattle.char_sequence.specs.Chunks.{cells_of, cell_at, size_at, AreChunks};
@@ -152,7 +153,7 @@ impl Sequence {
     }
 
     /// The ids of `count` characters that a reader sees, from the k-th on, counted from 0, or of as
-    /// many as there are. An error is want of memory (1). Costs what `visible` does, and a step for
+    /// many as there are. An error is out of memory (1). Costs what `visible` does, and a step for
     /// each character up to the last one, but for chunks of tombstones alone one step each.
     pub fn visible_range(&self, k: usize, count: usize) -> Result<Vec<OpId>, AllocError>
         ensures range { IfOk result (λ ids. (ops : List Op) (doc : ℕ) → Holds self.now ops doc
@@ -163,7 +164,7 @@ impl Sequence {
     }
 
     /// The tombstones between the first `count` characters that a reader sees and the next one, in
-    /// order. An error is want of memory (1). Costs what `visible` does, and a step for each.
+    /// order. An error is out of memory (1). Costs what `visible` does, and a step for each.
     pub fn run_after(&self, count: usize) -> Result<Vec<OpId>, AllocError>
         ensures { IfOk result (λ run. (ops : List Op) (doc : ℕ) → Holds self.now ops doc
             → run.items ≡ map (λ c. c.id) (tombstones_at ops doc count)) }
@@ -201,7 +202,7 @@ impl Sequence {
         last_ended(&self.chunks, &self.hints, &gap.place, gap.before, marks)
     }
 
-    /// The text that a reader sees. An error is want of memory (1). Linear.
+    /// The text that a reader sees. An error is out of memory (1). Linear.
     pub fn text(&self) -> Result<Text, AllocError>
         ensures { IfOk result (λ text. (ops : List Op) (doc : ℕ) → Holds self.now ops doc
             → text ≡ text_of ops doc) }

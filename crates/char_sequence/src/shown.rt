@@ -166,7 +166,7 @@ pub fn shown_from(chunks: &Chunks, k: usize, count: usize) -> Result<Vec<OpId>, 
     Ok(ids)
 }
 
-/// Adds the id of a cell, if a reader sees it. An error is want of memory (1).
+/// Adds the id of a cell, if a reader sees it. An error is out of memory (1).
 fn push_shown(ids: &mut Vec<OpId>, cell: &Cell) -> Result<(), AllocError>
     ensures { OnOk result
         (ids.new.items ≡ ids.old.items ++ map (λ c. c.id) (shown_of (cell.now ∷ []))) }

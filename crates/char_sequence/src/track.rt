@@ -1,3 +1,4 @@
+//! The chunks of one replica's characters.
 use op_ids::{OpId, ReplicaId};
 use std::alloc::AllocError;
 
@@ -15,7 +16,7 @@ struct Spot {
     serial: u32,
 }
 
-/// Notes the chunk of a character. An error is want of memory (1). A step or two where it is its
+/// Notes the chunk of a character. An error is out of memory (1). A step or two where it is its
 /// replica's last one or its replica inserts alone, else a binary search.
 pub fn note(tracks: &mut Vec<Track>, id: OpId, serial: u32) -> Result<(), AllocError> {
     let i = index_of(tracks, id.replica())?;
@@ -26,7 +27,7 @@ pub fn note(tracks: &mut Vec<Track>, id: OpId, serial: u32) -> Result<(), AllocE
 }
 
 /// Notes the chunk of a character that isn't noted, behind all others of its replica: `sort` brings
-/// them in order. An error is want of memory (1).
+/// them in order. An error is out of memory (1).
 pub fn gather(tracks: &mut Vec<Track>, id: OpId, serial: u32) -> Result<(), AllocError> {
     let i = index_of(tracks, id.replica())?;
     if let Some(track) = tracks.get_mut(i) {

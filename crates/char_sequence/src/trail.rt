@@ -1,3 +1,4 @@
+//! The places of one replica's characters in a weave.
 use crate::cell::Cell;
 use op_ids::{OpId, ReplicaId};
 use std::alloc::{AllocError, Global};
@@ -10,7 +11,7 @@ pub struct Trail {
     places: Vec<u32>,
 }
 
-/// Notes that a replica's next character is at a place. An error is want of memory (1).
+/// Notes that a replica's next character is at a place. An error is out of memory (1).
 pub fn note(
     trails: &mut Vec<Trail>,
     alloc: Global,

@@ -1,3 +1,4 @@
+//! The characters of one document while it is opened.
 ghost use Rattle.std.specs.Prelude.{◌≡◌, ◌↔◌, ℕ, ◌<◌, List, [], Some, length, vec_len, vec_capacity};
 ghost use Rattle.std.specs.Prelude.{MatchOption, IfOk, OnOk, OnErr, IsErrOf, true, false};
 ghost use Rattle.op_ids.specs.Id.{Id, is_same};
@@ -53,7 +54,7 @@ impl Model for Weave {
 }
 
 impl Weave {
-    /// The weave of an empty document. An error is want of memory (1).
+    /// The weave of an empty document. An error is out of memory (1).
     pub fn new(alloc: Global) -> Result<Weave, AllocError>
         ensures { IfOk result (λ w. w ≡ []) }
     {
@@ -137,7 +138,7 @@ impl Weave {
         }
     }
 
-    /// The sequence of these characters. An error is want of memory (1). A step for each.
+    /// The sequence of these characters. An error is out of memory (1). A step for each.
     pub fn sequence(&self, alloc: Global) -> Result<Sequence, AllocError>
         ensures { IfOk result (λ s. cells_of s ≡ self.now) }
     {
@@ -188,7 +189,7 @@ fn place_of(trails: &[Trail], cells: &[Cell], id: &OpId) -> Option<usize>
     }
 }
 
-/// Makes room for a character of a replica, and gives its place. An error is want of memory (1), or
+/// Makes room for a character of a replica, and gives its place. An error is out of memory (1), or
 /// the limit of a weave; the characters stay as they are.
 fn make_room(
     cells: &mut Vec<Cell>,

@@ -1,3 +1,4 @@
+//! Clocks: entries, order, limits.
 use crate::test_names::replica;
 use op_ids::{Clock, ClockError};
 use std::test::Fail;

@@ -1,3 +1,4 @@
+//! Frames that a link refuses, byte by byte.
 use crate::test_bytes::bytes_of;
 use crate::test_links::{BYE, HELLO, started};
 use std::alloc::Global;

@@ -1,3 +1,4 @@
+//! Links that speak and hear.
 use crate::test_bytes::bytes_of;
 use crate::test_links::{BYE, EMPTY_HAVE, HAVE, HELLO, OPERATIONS, RUN, number, started};
 use crate::test_names::{id, replica};

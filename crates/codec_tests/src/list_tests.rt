@@ -1,3 +1,4 @@
+//! Lists of operations that are held as records.
 use crate::test_names::{id, place};
 use change_codec::{Format, put_ops, stream_length};
 use op_list::OpList;

@@ -1,3 +1,4 @@
+//! Ids, replicas and tokens.
 use op_ids::{OpId, ReplicaId, Token};
 use std::test::Fail;
 use uuid::Uuid;

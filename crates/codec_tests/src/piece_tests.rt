@@ -1,3 +1,4 @@
+//! How a list is cut into pieces.
 use crate::test_names::replica;
 use op_ids::{Clock, OpId};
 use op_model::{Body, Op};

@@ -1,3 +1,4 @@
+//! Streams that have runs, read as lists.
 use crate::test_bytes::{bytes_of, push_pieces};
 use crate::test_ops::{AB, FIRST_INSERT, SECOND_INSERT, STRONG_TO_THE_END};
 use change_codec::Format;

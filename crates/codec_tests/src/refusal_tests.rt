@@ -1,3 +1,4 @@
+//! Bytes that are no record, and the number of each refusal.
 use crate::test_bytes::bytes_of;
 use crate::test_ops::{WITH_TOKEN, is_unfinished};
 use change_codec::{Format, take_op};

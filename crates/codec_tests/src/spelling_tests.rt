@@ -1,3 +1,4 @@
+//! Records to the byte, both ways.
 use crate::test_bytes::bytes_of;
 use crate::test_names::id;
 use crate::test_ops::{

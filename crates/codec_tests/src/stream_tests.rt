@@ -1,3 +1,4 @@
+//! Streams of single records, written and read.
 use crate::test_bytes::{bytes_of, push_pieces};
 use crate::test_names::id;
 use crate::test_ops::{FIRST_INSERT, SECOND_INSERT, STRONG_TO_THE_END};

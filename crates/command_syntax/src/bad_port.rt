@@ -1,3 +1,4 @@
+//! A port that is none.
 use thiserror::Error;
 
 /// A word that is no port, and the option that it was given for.

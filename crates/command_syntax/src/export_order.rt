@@ -1,3 +1,4 @@
+//! The words of `export`.
 use span_export::Form;
 
 /// A document of a store, by its number from 1 on, in a form that other programs read.

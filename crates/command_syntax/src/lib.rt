@@ -1,4 +1,7 @@
 //! The words of a command line: what they may ask for, and the values that aren't taken as written.
+//!
+//! It is apart from `clap`, so that what an order may be is said, and compared in tests, without
+//! it.
 #![tactic(auto)]
 
 mod bad_port;

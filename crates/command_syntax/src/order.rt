@@ -1,3 +1,4 @@
+//! What a command line asks for.
 use crate::dump_order::DumpOrder;
 use crate::export_order::ExportOrder;
 use crate::list_order::ListOrder;

@@ -1,3 +1,5 @@
+//! The words of `serve`.
+
 /// The sessions and the peers of a store, over sockets of 127.0.0.1.
 #[derive(Clone, Copy, Debug, PartialEq, Eq)]
 pub struct ServeOrder<'a> {

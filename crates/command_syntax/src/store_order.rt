@@ -1,3 +1,4 @@
+//! What the words ask of one store.
 use op_ids::ReplicaId;
 
 /// What is done over one disk, a reader and writers.

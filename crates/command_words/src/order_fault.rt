@@ -1,3 +1,4 @@
+//! Why words give no order.
 ghost use Rattle.std.specs.Prelude.{◌≡◌};
 ghost use Rattle.command_words.specs.declared.order_fault.OrderFault.TheVariants.{Memory};
 

@@ -1,3 +1,4 @@
+//! Which mark operation of a key decides.
 ghost use Rattle.std.specs.Prelude.{◌≡◌, map};
 ghost use Rattle.std.specs.Option.{option_copied};
 ghost use Rattle.comment_marks.specs.Standing.{decided as decided_of, deciding as deciding_of};

@@ -1,3 +1,4 @@
+//! The comments that stand.
 ghost use Rattle.std.specs.Prelude.{◌≡◌, ◌↔◌, ℕ, List, IsTrue, Contains, map, filter, IfOk};
 ghost use Rattle.std.specs.BTreeMap.{keys};
 ghost use Rattle.comment_marks.specs.Decisions.{about, is_added};
@@ -24,7 +25,7 @@ impl Model for Comments {
 
 impl Comments {
     /// The comments that stand in a set: of the mark operations about each the one with the
-    /// greatest id adds it. An error is want of memory (1). For each mark operation of the set a
+    /// greatest id adds it. An error is out of memory (1). For each mark operation of the set a
     /// search among the comments that it names.
     pub fn of(alloc: Global, set: &[&Marking]) -> Result<Comments, AllocError>
         ensures { IfOk result (λ comments. comments ≡ standing (map (λ m. m.now) set.now)) }
@@ -58,7 +59,7 @@ impl Comments {
     }
 }
 
-/// The comments that are added, in rising order. An error is want of memory (1).
+/// The comments that are added, in rising order. An error is out of memory (1).
 fn added(
     alloc: Global,
     decisions: &BTreeMap<CommentId, Decision>,

@@ -1,3 +1,4 @@
+//! What is decided of each comment.
 ghost use Rattle.std.specs.Prelude.{◌≡◌, map, IfOk, OnOk};
 ghost use Rattle.op_model.specs.Spans.{comment_of};
 ghost use Rattle.comment_marks.specs.Decisions.{decisions as decisions_of, about, greater, says, with_decision};
@@ -26,7 +27,7 @@ impl Decision {
     }
 }
 
-/// What a set of mark operations decides about each comment that it names. An error is want of
+/// What a set of mark operations decides about each comment that it names. An error is out of
 /// memory (1). For each of them a search among the comments.
 pub fn decisions(
     alloc: Global,
@@ -43,7 +44,7 @@ pub fn decisions(
     Ok(found)
 }
 
-/// Takes one more mark operation. An error is want of memory (1).
+/// Takes one more mark operation. An error is out of memory (1).
 fn decide(found: &mut BTreeMap<CommentId, Decision>, marking: &Marking) -> Result<(), AllocError>
     ensures { OnOk result (found.new.entries
         ≡ with_decision (comment_of marking.now.key) (says marking.now) found.old.entries) }

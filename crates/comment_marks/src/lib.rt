@@ -1,4 +1,7 @@
 //! The marks that a set of mark operations decides, and the comments that stand in it.
+//!
+//! It decides over a set, as the definitions do; `span_flatten` holds the same decisions while it
+//! passes a text.
 #![tactic(auto)]
 
 mod choosing;

@@ -1,3 +1,4 @@
+//! A disk in memory: survivors, torn writes, syncs.
 ghost use Rattle.std.specs.Prelude.{◌≡◌, ◌≢◌, ◌+◌, ◌<◌, List, ℕ, length, OnOk, IfOk, IfErr};
 ghost use Rattle.disk_trait.specs.File.{overwritten, Torn};
 ghost use Rattle.disk_trait.specs.Calls.{LeavesOnly};

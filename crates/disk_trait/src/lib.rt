@@ -1,4 +1,7 @@
 //! A disk that tells what a crash may leave, and its bodies: in memory, failing, and over a file.
+//!
+//! All promises about power cuts rest on what it says of writes and syncs, so nothing else touches
+//! a file.
 #![tactic(auto)]
 
 mod calls;

@@ -1,3 +1,4 @@
+//! A document takes operations.
 ghost use Rattle.std.specs.Prelude.{◌≡◌, ◌↔◌, ℕ, [], List, false, OnErr, OnOk, IsErrOf};
 ghost use Rattle.char_sequence.specs.Content.{Holds};
 ghost use Rattle.doc_core.specs.Standing.{are_removes, are_there, is_remove, named_outside, StandsFor, Takes, TakesAll};

@@ -1,3 +1,4 @@
+//! One document.
 ghost use Rattle.std.specs.Prelude.{◌≡◌, ◌≤◌, ◌<◌, ◌^◌, List, [], IfOk, IfSome, IsErrOf, is_some, length, nat_le};
 ghost use Rattle.char_sequence.specs.Gaps.{IsGap};
 ghost use Rattle.fixed_numbers.specs.declared.limits.TheConstants.{MAX_LISTED};
@@ -62,7 +63,7 @@ impl Doc {
         self.doc
     }
 
-    /// The text that a reader sees. An error is want of memory (1). Linear in the characters,
+    /// The text that a reader sees. An error is out of memory (1). Linear in the characters,
     /// tombstones counted.
     pub fn text(&self) -> Result<Text, AllocError>
         ensures { IfOk result (λ text. (ops : List Op) → StandsFor self.now ops

@@ -1,3 +1,4 @@
+//! One document while it is opened.
 ghost use Rattle.std.specs.Prelude.{◌≡◌, ◌↔◌, ◌<◌, ◌^◌, ℕ, List, [], false, IfOk, OnOk, OnErr, IsErrOf};
 ghost use Rattle.char_sequence.specs.Woven.{IsWovenOf};
 ghost use Rattle.doc_core.specs.Drafting.{IsDraftOf, TakesDraft};
@@ -40,7 +41,7 @@ impl Model for Draft {
 }
 
 impl Draft {
-    /// The draft of the document of this number without operations. An error is want of memory (1).
+    /// The draft of the document of this number without operations. An error is out of memory (1).
     pub fn new(alloc: Global, doc: u32) -> Result<Draft, AllocError>
         ensures number { IfOk result (λ d. d.number ≡ doc) }
         ensures empty { IfOk result (λ d. IsDraftOf d []) }
@@ -88,7 +89,7 @@ impl Draft {
     }
 
     /// The document, in place of the draft: it keeps the draft's marks, and the weave is let go. An
-    /// error is want of memory (1). A step for each character.
+    /// error is out of memory (1). A step for each character.
     pub fn finish(self, alloc: Global) -> Result<Doc, AllocError>
         ensures number { IfOk result (λ d. d.number ≡ self.number) }
         ensures stands { IfOk result (λ d. (ops : List Op) → IsDraftOf self ops

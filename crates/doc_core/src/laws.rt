@@ -1,3 +1,4 @@
+//! Laws of documents: calls that do nothing, and whose contracts are the laws.
 ghost use Rattle.std.specs.Prelude.{◌≡◌, ◌≢◌, ℕ, true, List, [], ◌∷◌, ◌++◌};
 ghost use Rattle.char_sequence.specs.Content.{FitAfter};
 ghost use Rattle.op_model.specs.declared.edit.Edit.{Edit};

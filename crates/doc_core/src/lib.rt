@@ -1,4 +1,6 @@
 //! One document: what operations make of it, and the operations that an edit of it makes.
+//!
+//! Characters and marks meet here; a replica has one of these for each document.
 #![tactic(auto)]
 
 mod apply;

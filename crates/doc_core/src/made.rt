@@ -1,3 +1,4 @@
+//! The operations of one edit.
 ghost use Rattle.std.specs.Prelude.{◌≡◌, ◌∷◌, [], IfOk};
 
 use op_ids::OpId;
@@ -44,7 +45,7 @@ impl Model for Made {
 }
 
 impl Made {
-    /// An edit of one operation. An error is want of memory (1).
+    /// An edit of one operation. An error is out of memory (1).
     pub fn one(alloc: Global, op: Op) -> Result<Made, AllocError>
         ensures { IfOk result (λ made. made ≡ op ∷ []) }
     {

@@ -1,3 +1,4 @@
+//! An insert or a removal becomes operations.
 ghost use Rattle.std.specs.Prelude.{◌≡◌, ◌↔◌, ◌≤◌, List, length, map, take, drop, true, false};
 ghost use Rattle.std.specs.Prelude.{IfOk, IsErrOf};
 ghost use Rattle.op_model.specs.declared.edit.Change.TheVariants as change;
@@ -99,7 +100,7 @@ impl Doc {
         Ok(self.erased(alloc, replica, token, counter, clock, at as usize, count)?)
     }
 
-    /// The inserts of a text at a place in it. An error is want of memory (1).
+    /// The inserts of a text at a place in it. An error is out of memory (1).
     fn typed(
         &self,
         alloc: Global,
@@ -131,7 +132,7 @@ impl Doc {
     }
 
     /// The removes of `count` visible characters from an index on, or of as many as there are. An
-    /// error is want of memory (1).
+    /// error is out of memory (1).
     fn erased(
         &self,
         alloc: Global,
@@ -157,7 +158,7 @@ impl Doc {
     }
 
     /// The ids of `count` visible characters from an index on, or of as many as there are. An error
-    /// is want of memory (1).
+    /// is out of memory (1).
     fn targets(&self, at: usize, count: usize) -> Result<Vec<OpId>, AllocError>
         ensures all { IfOk result (λ targets. (ops : List Op) → StandsFor self.now ops
             → targets.items

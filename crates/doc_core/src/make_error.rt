@@ -1,3 +1,4 @@
+//! Why no operations were made.
 use fixed_numbers::refusals::{LIMIT, MEMORY, RANGE};
 use op_ids::ClockError;
 use std::alloc::AllocError;

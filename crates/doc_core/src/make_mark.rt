@@ -1,3 +1,4 @@
+//! A mark or its removal becomes an operation.
 ghost use Rattle.std.specs.Prelude.{◌≡◌, ◌↔◌, true, false, List, [], ◌∷◌, length, IfOk, IsErrOf};
 ghost use Rattle.op_model.specs.declared.edit.Change.TheVariants as change;
 ghost use Rattle.op_model.specs.declared.op.Op.{Op};
@@ -125,7 +126,7 @@ impl Doc {
         }
     }
 
-    /// The operation that puts a mark on characters. An error is want of memory (1).
+    /// The operation that puts a mark on characters. An error is out of memory (1).
     fn marked(
         &self,
         alloc: Global,
@@ -150,7 +151,7 @@ impl Doc {
         self.one(alloc, replica, token, counter, clock, body)
     }
 
-    /// The operation that takes a mark from characters. An error is want of memory (1).
+    /// The operation that takes a mark from characters. An error is out of memory (1).
     fn unmarked(
         &self,
         alloc: Global,
@@ -175,7 +176,7 @@ impl Doc {
         self.one(alloc, replica, token, counter, clock, body)
     }
 
-    /// The one operation that does this. An error is want of memory (1).
+    /// The one operation that does this. An error is out of memory (1).
     fn one(
         &self,
         alloc: Global,
@@ -218,7 +219,7 @@ impl Doc {
     }
 }
 
-/// The list of one body. An error is want of memory (1).
+/// The list of one body. An error is out of memory (1).
 fn only(alloc: Global, body: Body) -> Result<Vec<Body>, AllocError>
     ensures { IfOk result (λ bodies. bodies.items ≡ body ∷ []) }
 {

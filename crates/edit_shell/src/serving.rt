@@ -55,7 +55,7 @@ fn telling<F: IsTerminal>(order: ServeOrder<'_>, faults: &F) -> Option<Telling> 
     }
 }
 
-/// A journal, for whoever tells and for whoever writes. An error is want of memory (1).
+/// A journal, for whoever tells and for whoever writes. An error is out of memory (1).
 fn journals(alloc: Global, telling: Telling) -> Result<(Arc<Journal>, Arc<Journal>), AllocError> {
     let journal = Arc::new(alloc, Journal::new(alloc, telling))?;
     let same = journal.clone()?;

@@ -1,3 +1,5 @@
+//! Where an edit stands in a list.
+
 /// Where an edit stands in a list, as its ticket says. It is plain data that anybody may write out.
 #[derive(Clone, Copy, Debug, PartialEq, Eq)]
 pub struct Place {

@@ -1,3 +1,4 @@
+//! The tokens of a replica's edits.
 ghost use Rattle.std.specs.Prelude.{◌≡◌, ◌==◌, ℕ, List, [], ◌∷◌, ◌++◌, Some, IfOk, IfSome, IsSome, OnOk, OnErr};
 ghost use Rattle.std.specs.Option.{option_and_then};
 ghost use Rattle.op_model.specs.declared.op.Op.{Op};
@@ -45,7 +46,7 @@ impl Tokens {
     }
 
     /// Keeps where an edit stands, if it has a token, in place of what was kept for the token
-    /// before, which is returned. An error is want of memory (1), which only a new token takes, and
+    /// before, which is returned. An error is out of memory (1), which only a new token takes, and
     /// changes nothing. A search in an ordered map.
     pub fn keep(&mut self, token: Option<Token>, place: Place) -> Result<Option<Place>, AllocError>
         ensures kept { OnOk result (Puts token (Some place) self.old self.new) }
@@ -80,7 +81,7 @@ impl Tokens {
     }
 
     /// Counts an operation that came behind others, where it is the last one so far: if it is the
-    /// replica's own and has a token, its place is kept. An error is want of memory (1), and
+    /// replica's own and has a token, its place is kept. An error is out of memory (1), and
     /// changes nothing. Constant for another operation, else a search in an ordered map.
     pub fn count(&mut self, replica: ReplicaId, op: &Op, place: Place) -> Result<(), AllocError>
         ensures counted { OnOk result ((ops : List Op) → place ≡ place_at (ops, op.now)

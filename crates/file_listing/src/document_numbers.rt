@@ -6,7 +6,7 @@ use op_list::OpSlice;
 use op_model::put_among;
 use std::alloc::{AllocError, Global};
 
-/// The numbers of the documents that have operations, in rising order. An error is want of memory
+/// The numbers of the documents that have operations, in rising order. An error is out of memory
 /// (1). For each operation a search by halves.
 pub fn documents(alloc: Global, list: &OpSlice<'_>) -> Result<Vec<u32>, AllocError>
     ensures { IfOk result (λ numbers. numbers.items ≡ documents list.now) }

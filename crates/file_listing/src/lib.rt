@@ -1,4 +1,6 @@
 //! What is told of all documents of a file, and of the room in it.
+//!
+//! It reads the list alone, so `list` needs no document in memory.
 #![tactic(auto)]
 
 mod document_numbers;

@@ -19,7 +19,7 @@ pub struct FileRoom {
 }
 
 /// Puts the line of a document, with how many characters it shows and how many operations it has.
-/// An error is want of memory (1).
+/// An error is out of memory (1).
 pub fn put_document(chars: u64, doc: u32, ops: u64, out: &mut Vec<u8>) -> Result<(), AllocError>
     ensures { Puts result out.old out.new (said_document chars doc ops) }
 {
@@ -29,7 +29,7 @@ pub fn put_document(chars: u64, doc: u32, ops: u64, out: &mut Vec<u8>) -> Result
     put(b"}\n", out)
 }
 
-/// Puts the line of a file's room: each number and its limit. An error is want of memory (1).
+/// Puts the line of a file's room: each number and its limit. An error is out of memory (1).
 pub fn put_room(room: FileRoom, out: &mut Vec<u8>) -> Result<(), AllocError>
     ensures { Puts result out.old out.new (said_room room) }
 {

@@ -29,7 +29,7 @@ names_on TooLong r s on named = absurd named
 names_on ReadFailed r s on named = tt
 names_on SyncFailed r s on named = absurd named
 
--- want of memory and the device say nothing of the file
+-- out of memory and the device say nothing of the file
 pub names_nothing : {A : Type 0} (e : OpenError) (r : Result A ℕ) → (e ≡ Memory) ⊎ (e ≡ ReadFailed) → NamesLoadFault e r
 names_nothing e r (inl is) = rw is tt
 names_nothing e r (inr is) = rw is tt

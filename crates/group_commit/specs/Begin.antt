@@ -66,7 +66,7 @@ abbrev pub IsBegun : Result (Option ℕ) StoreError → Type 0
 IsBegun (Ok (Some n)) = Unit {0}
 IsBegun answer = ⊥
 
--- the answer is the one that is due, or want of memory in place of a commit
+-- the answer is the one that is due, or out of memory in place of a commit
 abbrev pub IsAnswer : Result (Option ℕ) StoreError → Result (Option ℕ) StoreError → Type 0
 IsAnswer due answer = (answer ≡ due) ⊎ ((answer ≡ Err Memory) × IsBegun due)
 

@@ -97,7 +97,7 @@ pub record HasLongHistory (file : List ℕ) : Type 0 where
   pub holds : stored file ≡ Ok (body, bytes)
   pub long : HasTooLong (format_of body) bytes (count_of body)
 
--- why a stream isn't read as so many operations; want of memory says nothing of it
+-- why a stream isn't read as so many operations; out of memory says nothing of it
 abbrev pub IsStreamFault : OpenError → Format → List ℕ → ℕ → Type 0
 IsStreamFault Memory format bytes count = ⊤
 IsStreamFault BadStream format bytes count = HasNone format bytes count

@@ -131,7 +131,7 @@ pub record RefusesInit {D : Type 0} (facts : Ghosts D) (replica : ℕ) (cause : 
   -- 48 is of a file that has bytes; and where it has some, it is 48, or 50 where the device failed
   pub not_empty : cause ≡ NotEmpty → facts.content old ≢ []
   pub occupied : facts.content old ≢ [] → (cause ≡ NotEmpty) ⊎ (cause ≡ ReadFailed)
-  -- these two and want of memory leave the disk as it was, at every moment
+  -- these two and out of memory leave the disk as it was, at every moment
   pub kept : is_unwritten cause ≡ true → IsUntouched facts old new
   pub stops : Stops facts replica cause old new
 

@@ -31,7 +31,7 @@ fn has_room(root: &Root, before: u64, count: u64, bytes: u64) -> bool
         && before.saturating_add(bytes) <= MAX_STREAM_LENGTH
 }
 
-// Some bytes, and others behind them. An error is want of memory (1).
+// Some bytes, and others behind them. An error is out of memory (1).
 fn joined(front: &Vec<u8>, more: &[u8]) -> Result<Vec<u8>, AllocError>
     ensures { IfOk result (λ all. all.items ≡ front.now.items ++ more.now) }
 {

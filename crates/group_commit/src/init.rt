@@ -27,7 +27,7 @@ use std::alloc::{AllocError, Global};
 // The gate of an open slot.
 const OPEN: [u8; 1] = [1];
 
-// The page of a slot with a closed gate and this body. An error is want of memory (1).
+// The page of a slot with a closed gate and this body. An error is out of memory (1).
 fn closed_slot(alloc: Global, body: &[u8]) -> Result<Vec<u8>, AllocError>
     ensures { IfOk result (λ page. page.items ≡ slot_page 0 body.now) }
 {
@@ -113,7 +113,7 @@ fn open_first<D: Disk>(disk: &mut D) -> Result<(), InitError>
     settle(disk)
 }
 
-// The file of a new store with this body. An error is want of memory (1) or the device's.
+// The file of a new store with this body. An error is out of memory (1) or the device's.
 fn make_file<D: Disk>(alloc: Global, disk: &mut D, body: &[u8]) -> Result<(), InitError>
     requires empty { D.tells disk.old → D.content disk.old ≡ [] }
     requires size { length body.now ≡ BODY_LENGTH }
@@ -131,7 +131,7 @@ fn make_file<D: Disk>(alloc: Global, disk: &mut D, body: &[u8]) -> Result<(), In
     open_first(disk)
 }
 
-// The two roots of a new store: the live one, and one in the place of a commit's. An error is want
+// The two roots of a new store: the live one, and one in the place of a commit's. An error is out
 // of memory (1).
 fn empty_roots(alloc: Global, replica: ReplicaId) -> Result<(Root, Root, Pages), AllocError>
     ensures roots { IfOk result (λ roots. AreFirst replica roots.0 roots.1 roots.2) }

@@ -1,4 +1,7 @@
 //! Operations, committed together under two gates.
+//!
+//! It is the one place that decides what is written where and when, so a crash is reasoned about
+//! once.
 #![tactic(auto)]
 
 mod begin;

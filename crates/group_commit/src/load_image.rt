@@ -43,7 +43,7 @@ pub(crate) struct Image {
 
 // The root slots of a file, and its live root. 42 where it has fewer than 8,192 bytes or no open
 // slot; 43 where two are open with equal versions, or the live one holds no root body; 50 where the
-// device failed, 1 for want of memory.
+// device failed, 1 when out of memory.
 fn load_roots<D: Disk>(alloc: Global, disk: &mut D) -> Result<LoadedRoots, OpenError>
     ensures size { D.tells disk.old
         → IfOk result (λ it. it.file_size ≡ length (D.content disk.old)) }
@@ -92,7 +92,7 @@ fn roots_on(alloc: Global, head: RootBody, pages: &Pages) -> Result<(Root, Root)
 }
 
 // The records of operations in the newest format, where theirs has no runs; else nothing. An error
-// is want of memory (1).
+// is out of memory (1).
 fn spelled_anew(alloc: Global, format: Format, ops: &OpList) -> Result<Vec<u8>, AllocError>
     ensures spells { IfOk result (λ anew. has_runs format ≡ false
         → SpellsList newest ops.now anew.items) }

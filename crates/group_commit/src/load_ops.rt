@@ -11,8 +11,8 @@ use std::alloc::Global;
 use stream_list::read_stream;
 
 /// The operations that a stream spells in its format, as many as there have to be; 46 where it
-/// spells none or others, 47 where their records take more than 2^30 bytes one by one, and 1 for
-/// want of memory.
+/// spells none or others, 47 where their records take more than 2^30 bytes one by one, and 1 when
+/// out of memory.
 pub(crate) fn ops_of(
     alloc: Global,
     format: Format,

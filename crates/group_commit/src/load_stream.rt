@@ -21,7 +21,7 @@ pub(crate) struct Stream {
 }
 
 // The pages of a root. 43 where a table page isn't whole in the file, 45 where the table pages
-// break their rules, 50 where a read failed, 1 for want of memory.
+// break their rules, 50 where a read failed, 1 when out of memory.
 fn read_tables<D: Disk>(
     alloc: Global,
     disk: &mut D,
@@ -50,7 +50,7 @@ fn read_tables<D: Disk>(
 }
 
 // The stream of this length that these data pages hold. 45 where one isn't whole in the file, 46
-// where the rest of the last one isn't zero, 50 where a read failed, 1 for want of memory.
+// where the rest of the last one isn't zero, 50 where a read failed, 1 when out of memory.
 fn read_data<D: Disk>(
     alloc: Global,
     disk: &mut D,
@@ -82,7 +82,7 @@ fn read_data<D: Disk>(
 
 /// The stream of a root, page by page. 43 where a table page isn't whole in the file; 45 where the
 /// table pages break their rules or a data page isn't whole; 46 where the rest of the last one
-/// isn't zero; 50 where a read failed, 1 for want of memory.
+/// isn't zero; 50 where a read failed, 1 when out of memory.
 pub(crate) fn read_stream<D: Disk>(
     alloc: Global,
     disk: &mut D,

@@ -35,7 +35,7 @@ pub(crate) struct Plan {
 }
 
 /// A plan for these records of `more` operations, and the stream of its root: they come behind the
-/// live root's stream, or are the whole one. An error is want of memory (1).
+/// live root's stream, or are the whole one. An error is out of memory (1).
 pub(crate) fn plan_next(
     current: &Root,
     pages: &Pages,
@@ -67,7 +67,7 @@ pub(crate) fn plan_next(
 }
 
 // A plan for these records of `more` operations behind a base: the live root, or one without
-// pages. An error is want of memory (1). The base's pages whose bytes or entries stay keep their
+// pages. An error is out of memory (1). The base's pages whose bytes or entries stay keep their
 // numbers; the others are written anew, on free pages.
 fn make_plan(
     current: &Root,
@@ -172,7 +172,7 @@ struct DataPages {
 }
 
 // The first `kept` of these data pages, and new ones behind them. The entries are fewer than 1,024
-// of those, and the new ones. An error is want of memory (1).
+// of those, and the new ones. An error is out of memory (1).
 fn next_data_pages(
     alloc: Global,
     olds: &[u32],

@@ -47,7 +47,7 @@ impl Model for Root {
 impl Root {
     ghost use Rattle.group_commit.specs.Saved.{IsInMemory};
 
-    /// A root of these parts. One allocation; an error is want of memory (1).
+    /// A root of these parts. One allocation; an error is out of memory (1).
     pub(crate) fn new(
         alloc: Global,
         head: RootBody,
@@ -69,7 +69,7 @@ impl Root {
     }
 
     /// The root of a new file: of the third format, version 1, without operations. Two
-    /// allocations; an error is want of memory (1).
+    /// allocations; an error is out of memory (1).
     pub(crate) fn empty(alloc: Global, replica: ReplicaId) -> Result<Root, AllocError>
         ensures pages { IfOk result (λ root. root.pages ≡ []) }
         ensures valid { IfOk result (λ root. is_root root.body ≡ true) }
@@ -89,7 +89,7 @@ impl Root {
     }
 
     /// The root of the same version, replica and number of operations without a stream: no page of
-    /// it stays in a root behind it. No file has it. One allocation; an error is want of memory
+    /// it stays in a root behind it. No file has it. One allocation; an error is out of memory
     /// (1).
     pub(crate) fn emptied(&self) -> Result<Root, AllocError>
         ensures { IfOk result (λ empty. IsEmptied self.now empty) }

@@ -38,7 +38,7 @@ impl StreamTail {
     }
 
     /// The stream with more bytes at its end. Two growths at most, of its new tail; an error is
-    /// want of memory (1).
+    /// out of memory (1).
     pub(crate) fn and(&self, more: &[u8]) -> Result<StreamTail, AllocError>
         ensures { IfOk result (λ all. all ≡ self.now ++ more.now) }
     {
@@ -57,7 +57,7 @@ impl StreamTail {
     }
 }
 
-// The bytes behind the full pages of these two, one behind the other. An error is want of memory
+// The bytes behind the full pages of these two, one behind the other. An error is out of memory
 // (1).
 fn next_tail(alloc: Global, tail: &[u8], more: &[u8]) -> Result<Vec<u8>, AllocError>
     requires { length tail.now < PAGE_SIZE }

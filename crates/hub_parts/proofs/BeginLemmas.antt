@@ -63,7 +63,7 @@ pub began_something : (due : Result (Option ℕ) StoreError) (n : ℕ) → due �
 began_something due n is (inl same) = absurd (cc)
 began_something due n is (inr memory) = let never = memory.0 in absurd (cc)
 
--- and it is refused for want of memory alone
+-- and it is refused when out of memory alone
 pub refused_so : (due : Result (Option ℕ) StoreError) (n : ℕ) (error : StoreError) → due ≡ Ok (Some n) → IsAnswer due (Err error) → error ≡ Memory
 refused_so due n error is (inl same) = absurd (cc)
 refused_so due n error is (inr memory) = let same = memory.0 in cc
@@ -109,7 +109,7 @@ pub met_begun : {D : Type 0} (l : LockedHeld) (f : FlusherHeld D) (n count : ℕ
 met_begun l f n count records test are is =
     inl (sym (met_due l f test.some test.room ∙ ap (λ k. Ok (Begun (count_of f.store.current.body + k))) are.counted ∙ ap (λ k. Ok (Begun k)) (sym is)))
 
--- want of memory may stand in its place
+-- out of memory may stand in its place
 pub met_memory : {D : Type 0} (l : LockedHeld) (f : FlusherHeld D) (error : StoreError) → IsTested l f true → error ≡ Memory
     → IsMet (due_without l f) (Err error)
 met_memory l f error test is = rw (met_due l f test.some test.room) (inr (ap Err is, tt))

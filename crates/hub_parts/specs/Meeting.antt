@@ -46,7 +46,7 @@ abbrev pub IsBeginning : Result Met StoreError → Type 0
 IsBeginning (Ok (Begun n)) = Unit {0}
 IsBeginning answer = ⊥
 
--- the answer is the one that is due, or want of memory in place of a commit
+-- the answer is the one that is due, or out of memory in place of a commit
 abbrev pub IsMet : Result Met StoreError → Result Met StoreError → Type 0
 IsMet due answer = (answer ≡ due) ⊎ ((answer ≡ Err Memory) × IsBeginning due)
 

@@ -17,7 +17,7 @@ impl Locked {
     /// yet. An edit that was made before, under its token, has the ticket that it had then, and
     /// changes nothing. Refuses another one, in this order, with 9 where a meeting has told a
     /// failure of the device, as `Replica::edit` does (6, 5, 7, 10), with 8 where the records have
-    /// no room behind those that wait for a commit (1,048,576 bytes), and with 1 for want of
+    /// no room behind those that wait for a commit (1,048,576 bytes), and with 1 when out of
     /// memory. A refused edit changes nothing. Costs what `Replica::edit` does, and a copy of the
     /// records of what it makes.
     pub fn edit(&mut self, session: u64, edit: &Edit) -> Result<Ticket, LockedRefusal>
@@ -50,7 +50,7 @@ impl Locked {
     /// Puts a peer's operation behind the list, or says that it is there already or comes early.
     /// Refuses, in this order, with 9 where a meeting has told a failure of the device, as
     /// `Replica::merge` does (20 to 24, 10), with 8 where the record has no room behind those that
-    /// wait for a commit (1,048,576 bytes), and with 1 for want of memory. A refused merge changes
+    /// wait for a commit (1,048,576 bytes), and with 1 when out of memory. A refused merge changes
     /// nothing. Costs what `Replica::merge` does.
     pub fn merge(&mut self, peer: u64, op: Op) -> Result<Merged, LockedRefusal>
         ensures call { MergeStep (state_of self.old) peer op (merged result)

@@ -65,7 +65,7 @@ impl<D: Disk> Flusher<D> {
 
     /// Makes room in the list for the most that a meeting takes, 87,031,808 bytes of single
     /// records, so that it moves no record under the lock; if there is no memory for so much, for
-    /// 1,048,576 bytes. Room that stays empty is address space alone. An error is want of memory
+    /// 1,048,576 bytes. Room that stays empty is address space alone. An error is out of memory
     /// (1). Linear in the list where it moves, else constant.
     pub fn reserve(&mut self) -> Result<(), AllocError>
         ensures { self.new ≡ self.old }

@@ -1,5 +1,8 @@
 //! The two parts of a hub: the one that stands under a lock, and the flusher, which makes device
 //! calls without it. They meet twice a commit.
+//!
+//! A device call takes as long as many edits: nobody who edits or reads waits for one under the
+//! lock.
 #![tactic(auto)]
 
 mod edits_and_merges;

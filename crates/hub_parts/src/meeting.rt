@@ -83,7 +83,7 @@ impl<D: Disk> Flusher<D> {
 
     /// Begins a commit of the `count` operations whose single records these are, and which the
     /// pieces spell too, where there is room for them, and answers the length of the list that it
-    /// commits. It is refused for want of memory alone, and changes nothing then.
+    /// commits. It is refused when out of memory alone, and changes nothing then.
     fn begin_commit(&mut self, records: &[u8], pieces: &[u8], count: u64) -> Result<u64, StoreError>
         requires { CanCommit self.old records.now pieces.now count }
         ensures length { IfOk result (λ n. n ≡ count_of self.old.store.current.body + count) }

@@ -1,3 +1,5 @@
+//! What a meeting of the two parts did.
+
 /// What a meeting of the two parts did.
 #[derive(Clone, Copy, Debug, PartialEq, Eq)]
 pub enum Met {

@@ -16,7 +16,7 @@ use replica_core::{Decided, Refusal, Ticket};
 
 impl Locked {
     /// Makes the operations of a new edit that nothing refuses, and for whose records there is
-    /// room. An error is want of memory (1), and changes nothing.
+    /// room. An error is out of memory (1), and changes nothing.
     pub(crate) fn put_edit(
         &mut self,
         session: u64,
@@ -44,7 +44,7 @@ impl Locked {
     }
 
     /// Puts a peer's operation that may follow, and for whose record there is room, behind the
-    /// list. An error is want of memory (1), and changes nothing.
+    /// list. An error is out of memory (1), and changes nothing.
     pub(crate) fn put_merge(&mut self, peer: u64, op: Op) -> Result<(), Refusal>
         requires may { CanMerge self.old.replica op }
         requires room { has_record_room (state_of self.old) (record_length op) ≡ true }

@@ -28,7 +28,7 @@ impl Locked {
     }
 
     /// The first settled operations, at most 64 in the order of the list, that a clock doesn't
-    /// count. They count as told. An error is want of memory (1), and changes nothing. Costs what
+    /// count. They count as told. An error is out of memory (1), and changes nothing. Costs what
     /// `Replica::tell` does.
     pub fn tell(&mut self, clock: &Clock) -> Result<Vec<Op>, LockedRefusal>
         ensures call { TellStep (state_of self.old) clock.now (told result)
@@ -47,7 +47,7 @@ impl Locked {
     }
 
     /// How many operations of each replica are settled. All settled ones count as told. An error is
-    /// want of memory (1), and changes nothing. Costs what `Replica::have` does.
+    /// out of memory (1), and changes nothing. Costs what `Replica::have` does.
     pub fn have(&mut self) -> Result<Clock, LockedRefusal>
         ensures call { HaveStep (state_of self.old) (had result) (state_of self.new) }
         ensures made { OnOk result (self.new ≡ record self.old {

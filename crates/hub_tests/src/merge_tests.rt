@@ -1,3 +1,4 @@
+//! A hub takes what peers made.
 use crate::test_hubs::{commit, insert, merge, peer, replica};
 use disk_trait::MemDisk;
 use locked_replica::Hub;

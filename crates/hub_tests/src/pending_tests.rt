@@ -1,3 +1,4 @@
+//! How much may wait for a commit.
 use crate::test_hubs::{commit, insert, peer, typed};
 use disk_trait::MemDisk;
 use locked_replica::Hub;

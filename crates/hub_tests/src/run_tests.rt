@@ -1,3 +1,4 @@
+//! A list of calls, replayed.
 use crate::test_hubs::{edit_of, insert, open, peer};
 use disk_trait::{Fate, MemDisk};
 use group_commit::Phase;

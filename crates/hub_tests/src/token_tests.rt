@@ -1,3 +1,4 @@
+//! Edits under a token, in a hub.
 use crate::test_hubs::{commit, insert, merge, open, peer};
 use disk_trait::{Fate, MemDisk};
 use locked_replica::Hub;

@@ -1,3 +1,4 @@
+//! What the first line of a session asks for.
 use first_bytes::FirstLine;
 
 #[test]

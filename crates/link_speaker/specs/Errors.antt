@@ -4,7 +4,7 @@ use Rattle.causal_sync.specs.declared.link_error.LinkError.TheVariants as link
 use Rattle.link_speaker.specs.declared.speak_error.SpeakError.{SpeakError}
 use Rattle.link_speaker.specs.declared.speak_error.SpeakError.TheVariants.{Memory, Link}
 
--- want of memory is one thing, wherever it comes
+-- out of memory is one thing, wherever it comes
 abbrev pub speak_error : LinkError → SpeakError
 speak_error link.Memory = Memory
 speak_error link.Limit = Link link.Limit

@@ -22,7 +22,7 @@ HasNoRoom s (Hello replica) = ⊥
 HasNoRoom s (Have clock) = ⊥
 HasNoRoom s Bye = ⊥
 
--- closed where nothing more may be said, and limit where the base has no room for operations; want of memory may come
+-- closed where nothing more may be said, and limit where the base has no room for operations; out of memory may come
 -- for any frame
 abbrev pub LinkRefuses : LinkState → Heard → LinkError → Type 0
 LinkRefuses s frame Closed = is_silent s ≡ true

@@ -54,7 +54,7 @@ module _ {P L : Type 0} (peers : PeerFacts P) (lines : LineFacts L) where
     pub said : Says line_old (have_frames (is_due is_asked last clock) clock) line_new
     pub next_is : next ≡ Some clock
 
-  -- why what is due of the peer's clock wasn't said: want of memory, after which the peer may have been asked; or the line
+  -- why what is due of the peer's clock wasn't said: out of memory, after which the peer may have been asked; or the line
   -- refused the HAVE so
   abbrev pub IsHaveUnsaid : Bool → Option (List (ℕ × ℕ)) → P → P → L → SpeakError → Type 0
   IsHaveUnsaid is_asked last peer_old peer_new line Memory =
@@ -74,7 +74,7 @@ module _ {P L : Type 0} (peers : PeerFacts P) (lines : LineFacts L) where
     pub said : Says line (ops_frames ops) line_new
     pub told_some : has_told ≡ has_some ops
 
-  -- why operations for this base weren't said: want of memory, after which they may have been told; or the line refused
+  -- why operations for this base weren't said: out of memory, after which they may have been told; or the line refused
   -- them so
   abbrev pub AreOpsUnsaid : Option (List (ℕ × ℕ)) → P → P → L → SpeakError → Type 0
   AreOpsUnsaid base peer_old peer_new line Memory = (peer_new ≡ peer_old) ⊎ ((ops : List Op) × TellsFor peer_old base ops peer_new)
@@ -82,7 +82,7 @@ module _ {P L : Type 0} (peers : PeerFacts P) (lines : LineFacts L) where
       (ops : List Op) × TellsFor peer_old base ops peer_new × Refuses line (ops_frames ops) refusal
   AreOpsUnsaid base peer_old peer_new line (Stream error) = ⊥
 
-  -- no OPS was said: want of memory kept the line from giving its base; or it gave one, and the operations for it weren't said
+  -- no OPS was said: out of memory kept the line from giving its base; or it gave one, and the operations for it weren't said
   abbrev pub StopsBeforeOps : P → P → L → L → SpeakError → Type 0
   StopsBeforeOps peer_old peer_new line_old line_new error =
       ((error ≡ Memory) × (peer_new ≡ peer_old) × (line_new ≡ line_old))

@@ -1,4 +1,7 @@
 //! Saying what is due over a link: a HAVE, then operations, over any peer and any line.
+//!
+//! It is apart from threads and sockets, so what is said over a link is proved over any peer and
+//! line.
 #![tactic(auto)]
 
 mod line;

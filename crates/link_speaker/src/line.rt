@@ -29,7 +29,7 @@ pub trait Line {
     /// These bytes may be taken out: the line before, the bytes, the line after.
     ghost gives: { Self → List ℕ → Self → Type 0 };
 
-    /// The clock of what the other end has or was told; `None` before a HAVE was heard. Want of
+    /// The clock of what the other end has or was told; `None` before a HAVE was heard. Out of
     /// memory changes nothing.
     fn base(&mut self, alloc: Global) -> Result<Option<Clock>, AllocError>
         ensures ok { IfOk result (λ base. has_base self.old base self.new) }

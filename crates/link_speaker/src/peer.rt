@@ -20,12 +20,12 @@ pub trait Peer {
     /// clock, the operations, the peer after.
     ghost tells: { Self → List (ℕ × ℕ) → List Op → Self → Type 0 };
 
-    /// The clock of what is settled. Want of memory changes nothing.
+    /// The clock of what is settled. Out of memory changes nothing.
     fn have(&mut self) -> Result<Clock, AllocError>
         ensures ok { IfOk result (λ clock. has self.old clock self.new) }
         ensures err { OnErr result (self.new ≡ self.old) };
 
-    /// The first settled operations that a clock doesn't count, at most `MAX_TOLD`. Want of memory
+    /// The first settled operations that a clock doesn't count, at most `MAX_TOLD`. Out of memory
     /// changes nothing.
     fn tell(&mut self, clock: &Clock) -> Result<Vec<Op>, AllocError>
         ensures ok { IfOk result (λ ops. tells self.old clock.now ops.items self.new) }

@@ -33,7 +33,7 @@ const PAUSE: u64 = 3;
 enum Merging {
     /// They are in the list, or are asked for again at once: the link goes on.
     GoesOn,
-    /// One can't be taken for now, for want of memory (1), or since too much waits for a commit
+    /// One can't be taken for now, when out of memory (1), or since too much waits for a commit
     /// (8).
     CantTake,
     /// One is refused for good: nothing more is heard, and the link ends once all that is due is

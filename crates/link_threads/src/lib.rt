@@ -1,4 +1,7 @@
 //! What the two threads of a link do: one hears, the other says what is due.
+//!
+//! Logic stands below, in `causal_sync` and `link_speaker`; here it is run by two threads over one
+//! socket.
 #![tactic(auto)]
 
 mod hearing;

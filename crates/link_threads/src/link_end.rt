@@ -46,7 +46,7 @@ struct EndState {
 }
 
 impl LinkEnd {
-    /// A link of this replica. An error is want of memory (1).
+    /// A link of this replica. An error is out of memory (1).
     pub fn start(alloc: Global, own: ReplicaId) -> Result<LinkEnd, AllocError> {
         let link = Link::start(alloc, own)?;
         Ok(LinkEnd {

@@ -161,7 +161,7 @@ module _ {D : Type 0} (facts : Ghosts D) where
         new_ids = makes_new hub.replica;
       }
 
-  -- or is refused for want of memory, or by the device
+  -- or is refused when out of memory, or by the device
   pub refused_by : (old new : Parts D) (events : List (Event × Answer)) (k : ℕ) (file : List ℕ) (cause : OpenError) → Crashes facts old events new k file
       → IsFault cause file → (number_of cause ≡ 1) ⊎ ((number_of cause ≡ 50) ⊎ (number_of cause ≡ 52))
   refused_by old new events k file cause crash fault =

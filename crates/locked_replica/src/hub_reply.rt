@@ -1,3 +1,4 @@
+//! What a call of a hub answers, as data.
 use crate::refusal::HubRefusal;
 use group_commit::Phase;
 use op_ids::Clock;

@@ -1,3 +1,4 @@
+//! A call of a hub, as data.
 use op_ids::Clock;
 use op_model::{Edit, Op};
 use replica_core::Ticket;

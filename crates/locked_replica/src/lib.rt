@@ -1,5 +1,8 @@
 //! A replica and its store as one: what its calls do together is a run of the replica machine, and
 //! a crash at any moment leaves a beginning of its list.
+//!
+//! It has no lock: it is for whoever holds both parts alone, as `edit` does, and here the headline
+//! is proved. The lock stands in `shared_hub`.
 #![tactic(auto)]
 
 mod commit;

@@ -81,7 +81,7 @@ impl<D: Disk> Hub<D> {
         self.locked.rev(doc)
     }
 
-    /// The text of a document, unsettled operations included. An error is want of memory (1). Costs
+    /// The text of a document, unsettled operations included. An error is out of memory (1). Costs
     /// what `Replica::text` does.
     pub fn text(&self, doc: u32) -> Result<Text, AllocError>
         ensures { IfOk result (λ seen. seen ≡ text_of self.now.replica.list doc) }
@@ -89,7 +89,7 @@ impl<D: Disk> Hub<D> {
         self.locked.text(doc)
     }
 
-    /// The text of a document, cut where the marks change. An error is want of memory (1). Costs
+    /// The text of a document, cut where the marks change. An error is out of memory (1). Costs
     /// what `Replica::spans` does.
     pub fn spans(&self, doc: u32) -> Result<Vec<Span>, AllocError>
         ensures { IfOk result (λ found. found.items ≡ spans_of self.now.replica.list doc) }

@@ -19,7 +19,7 @@ impl<D: Disk> Hub<D> {
     /// changes nothing. Refuses another one, in this order, with 9 where a refused `begin` or
     /// `settle` has told that the device failed, as `Replica::edit` does (6, 5, 7, 10), with 8
     /// where the records have no room behind those that wait for a commit (1,048,576 bytes), and
-    /// with 1 for want of memory. A refused edit changes nothing. Costs what `Replica::edit` does.
+    /// with 1 when out of memory. A refused edit changes nothing. Costs what `Replica::edit` does.
     pub fn edit(&mut self, session: u64, edit: &Edit) -> Result<Ticket, HubRefusal>
         ensures call { IsCall D.DiskFacts (edit_event session edit.now) (edited result)
             self.old self.new }
@@ -38,7 +38,7 @@ impl<D: Disk> Hub<D> {
     /// Puts a peer's operation behind the list, or says that it is there already or comes early.
     /// Refuses, in this order, with 9 where a refused `begin` or `settle` has told that the device
     /// failed, as `Replica::merge` does (20 to 24, 10), with 8 where the record has no room behind
-    /// those that wait for a commit (1,048,576 bytes), and with 1 for want of memory. A refused
+    /// those that wait for a commit (1,048,576 bytes), and with 1 when out of memory. A refused
     /// merge changes nothing. Costs what `Replica::merge` does.
     pub fn merge(&mut self, peer: u64, op: Op) -> Result<Merged, HubRefusal>
         ensures call { IsCall D.DiskFacts (merge_event peer op) (merge_answered result)
@@ -69,7 +69,7 @@ impl<D: Disk> Hub<D> {
     }
 
     /// The first settled operations, at most 64 in the order of the list, that a clock doesn't
-    /// count. They count as told. An error is want of memory (1), and changes nothing. Costs what
+    /// count. They count as told. An error is out of memory (1), and changes nothing. Costs what
     /// `Replica::tell` does.
     pub fn tell(&mut self, clock: &Clock) -> Result<Vec<Op>, HubRefusal>
         ensures call { IsCall D.DiskFacts (tell_event clock.now) (told result) self.old self.new }
@@ -86,7 +86,7 @@ impl<D: Disk> Hub<D> {
     }
 
     /// How many operations of each replica are settled. All settled ones count as told. An error is
-    /// want of memory (1), and changes nothing. Costs what `Replica::have` does.
+    /// out of memory (1), and changes nothing. Costs what `Replica::have` does.
     pub fn have(&mut self) -> Result<Clock, HubRefusal>
         ensures call { IsCall D.DiskFacts have_event (had result) self.old self.new }
         ensures kind { IfErr result IsNotOfStore }

@@ -13,7 +13,7 @@ use std::alloc::{AllocError, Global};
 
 /// Makes these calls in order, and answers what each one answers, as a reply of the call's own
 /// kind: a refused call is its own reply, and the calls go on. A reply to a device step names the
-/// phase whose call was made. An error is want of memory (1): then a beginning of the calls is
+/// phase whose call was made. An error is out of memory (1): then a beginning of the calls is
 /// made, with such replies.
 pub fn run<D: Disk>(
     alloc: Global,
@@ -35,7 +35,7 @@ pub fn run<D: Disk>(
     Ok(replies)
 }
 
-// Makes one call. An error is want of memory (1) for the copy of an operation, and changes nothing.
+// Makes one call. An error is out of memory (1) for the copy of an operation, and changes nothing.
 fn make<D: Disk>(hub: &mut Hub<D>, step: &HubStep) -> Result<HubReply, AllocError>
     ensures call { IfOk result (λ reply.
         IsCall D.DiskFacts (event_of step.now) (answer_of reply) hub.old hub.new) }

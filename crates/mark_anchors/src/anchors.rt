@@ -1,3 +1,4 @@
+//! The mark operations of one document, and their ends.
 ghost use Rattle.std.specs.Prelude.{◌≡◌, ◌↔◌, ℕ, List, [], ◌∷◌, ◌++◌, IfOk, IfErr, IsSome, OnOk, OnErr};
 ghost use Rattle.std.specs.Prelude.{filter, map, IsErrOf};
 ghost use Rattle.char_sequence.specs.Content.{Holds};
@@ -59,7 +60,7 @@ impl Anchors {
     }
 
     /// Those of a document whose mark operations are given in the order in which they came. An
-    /// error is want of memory (1). Their edges are sorted: as many steps as there are mark
+    /// error is out of memory (1). Their edges are sorted: as many steps as there are mark
     /// operations, times their logarithm.
     pub fn from_markings(markings: Vec<Marking>) -> Result<Anchors, AllocError>
         ensures { IfOk result (λ a. (ops : List Op) (doc : ℕ)
@@ -96,7 +97,7 @@ impl Anchors {
     }
 
     /// The mark operations that are in force at a place, in the order in which they came: each
-    /// begins there or before, and ends behind. An error is want of memory (1). A search for both
+    /// begins there or before, and ends behind. An error is out of memory (1). A search for both
     /// characters of each mark operation, as `Sequence::find` does it.
     pub fn set_at(
         &self,
@@ -153,7 +154,7 @@ impl EndsAfter for Anchors {
     }
 }
 
-/// Keeps a mark operation and its edges; another operation adds nothing. An error is want of memory
+/// Keeps a mark operation and its edges; another operation adds nothing. An error is out of memory
 /// (1), and leaves those that are kept as they were.
 fn keep(
     markings: &mut Vec<Marking>,
@@ -175,7 +176,7 @@ fn keep(
     }
 }
 
-/// Keeps one more mark operation and its edges. An error is want of memory (1), and leaves those
+/// Keeps one more mark operation and its edges. An error is out of memory (1), and leaves those
 /// that are kept as they were.
 fn add(
     markings: &mut Vec<Marking>,

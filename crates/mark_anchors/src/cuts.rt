@@ -39,7 +39,7 @@ fn first_chunk(edges: &[Edge]) -> usize
     border(edges, MAX_CHUNK / 2)
 }
 
-/// Chunks of edges in order. An error is want of memory (1). A step for each edge.
+/// Chunks of edges in order. An error is out of memory (1). A step for each edge.
 pub fn chunks_of(alloc: Global, edges: &[Edge]) -> Result<Vec<EdgeChunk>, AllocError>
     requires { AreInOrder edges.now }
     ensures edges { IfOk result (λ chunks. edges_in chunks.items ≡ edges.now) }
@@ -57,7 +57,7 @@ pub fn chunks_of(alloc: Global, edges: &[Edge]) -> Result<Vec<EdgeChunk>, AllocE
 }
 
 /// Cuts a chunk in two near its middle, if it is full and has edges of several characters. An error
-/// is want of memory (1). The edges stay, also after an error.
+/// is out of memory (1). The edges stay, also after an error.
 pub fn cut(chunks: &mut Vec<EdgeChunk>, i: usize) -> Result<(), AllocError>
     requires chunks { AreChunks chunks.old.items }
     requires inside { i < length chunks.old.items }

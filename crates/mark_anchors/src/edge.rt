@@ -1,3 +1,4 @@
+//! A character at which a mark operation begins or ends.
 ghost use Rattle.std.specs.Prelude.{◌≡◌, ◌&&◌, option_to_list};
 ghost use Rattle.mark_anchors.specs.Edges.{edge_beside, end_edges, start_edges};
 

@@ -28,7 +28,7 @@ impl Model for EdgeChunk {
 }
 
 impl EdgeChunk {
-    /// A chunk of these edges. An error is want of memory (1).
+    /// A chunk of these edges. An error is out of memory (1).
     pub fn of(alloc: Global, edges: &[Edge]) -> Result<EdgeChunk, AllocError>
         ensures { IfOk result (λ chunk. chunk ≡ edges.now) }
     {
@@ -70,7 +70,7 @@ impl EdgeChunk {
         }
     }
 
-    /// Puts an edge at its place. An error is want of memory (1), and leaves it as it was. The
+    /// Puts an edge at its place. An error is out of memory (1), and leaves it as it was. The
     /// edges behind move.
     pub fn put(&mut self, edge: Edge) -> Result<(), AllocError>
         requires { AreInOrder self.old }

@@ -46,7 +46,7 @@ impl EdgeChunks {
         }
     }
 
-    /// These edges, which are in order. An error is want of memory (1). A step for each.
+    /// These edges, which are in order. An error is out of memory (1). A step for each.
     pub fn of(alloc: Global, edges: &[Edge]) -> Result<EdgeChunks, AllocError>
         requires { AreInOrder edges.now }
         ensures { IfOk result (λ all. all ≡ edges.now) }
@@ -67,7 +67,7 @@ impl EdgeChunks {
         at(self.chunks[n - 1].edges(), id)
     }
 
-    /// Puts the edges of a mark operation among them. An error is want of memory (1), and leaves
+    /// Puts the edges of a mark operation among them. An error is out of memory (1), and leaves
     /// them as they were. Each moves at most the edges of one chunk, and if that is cut, the places
     /// of the chunks behind.
     pub fn put_both(&mut self, start: Option<Edge>, end: Option<Edge>) -> Result<(), AllocError>
@@ -101,7 +101,7 @@ impl EdgeChunks {
         Ok(())
     }
 
-    /// Puts an edge behind those that don't stand at a character above its own. An error is want of
+    /// Puts an edge behind those that don't stand at a character above its own. An error is out of
     /// memory (1), and leaves them as they were.
     fn put(&mut self, edge: Edge) -> Result<(), AllocError>
         ensures put { OnOk result (self.new ≡ put_in edge self.old) }

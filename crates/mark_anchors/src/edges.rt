@@ -1,3 +1,4 @@
+//! Searches among edges in order.
 ghost use Rattle.std.specs.Prelude.{◌≡◌, ◌≤◌, ◌++◌, ◌&&◌, true, false, filter, length, slice_range};
 ghost use Rattle.std.specs.Prelude.{option_to_list, IfOk, OnOk};
 ghost use Rattle.std.specs.List.{list_any};
@@ -62,7 +63,7 @@ pub fn not_above(edges: &[Edge], id: OpId) -> usize
     edges.partition_point(|edge| !id.is_below(edge.id))
 }
 
-/// The edges of these mark operations, in order and in chunks. An error is want of memory (1).
+/// The edges of these mark operations, in order and in chunks. An error is out of memory (1).
 /// Sorts them.
 pub fn edges_of(alloc: Global, markings: &[Marking]) -> Result<EdgeChunks, AllocError>
     ensures { IfOk result (λ edges. AreEdges markings.now edges) }
@@ -72,7 +73,7 @@ pub fn edges_of(alloc: Global, markings: &[Marking]) -> Result<EdgeChunks, Alloc
     EdgeChunks::of(alloc, &edges)
 }
 
-/// The edges of these mark operations, in the order of these. An error is want of memory (1).
+/// The edges of these mark operations, in the order of these. An error is out of memory (1).
 fn listed(alloc: Global, markings: &[Marking]) -> Result<Vec<Edge>, AllocError>
     ensures { IfOk result (λ edges. edges.items ≡ edges_from 0 markings.now) }
 {
@@ -84,7 +85,7 @@ fn listed(alloc: Global, markings: &[Marking]) -> Result<Vec<Edge>, AllocError>
     Ok(edges)
 }
 
-/// Puts an edge behind others. An error is want of memory (1).
+/// Puts an edge behind others. An error is out of memory (1).
 fn push(edges: &mut Vec<Edge>, edge: Option<Edge>) -> Result<(), AllocError>
     ensures { OnOk result (edges.new.items ≡ edges.old.items ++ option_to_list edge) }
 {

@@ -1,3 +1,4 @@
+//! The characters that marks end just after.
 ghost use Rattle.std.specs.Prelude.{◌≡◌, ◌<◌, ◌++◌, option_to_list, vec_len, vec_capacity, IfOk};
 ghost use Rattle.mark_anchors.specs.Ended.{ended_by, ended_of};
 
@@ -5,7 +6,7 @@ use op_ids::OpId;
 use op_model::{Anchor, End, Marking};
 use std::alloc::{AllocError, Global};
 
-/// The characters that these mark operations end just after, in their order. An error is want of
+/// The characters that these mark operations end just after, in their order. An error is out of
 /// memory (1).
 pub fn listed(alloc: Global, markings: &[Marking]) -> Result<Vec<OpId>, AllocError>
     ensures { IfOk result (λ ids. ids.items ≡ ended_of markings.now) }

@@ -15,7 +15,7 @@ use op_ids::OpId;
 use op_model::{Anchor, End, Marking, Start, Ticks};
 use std::alloc::{AllocError, Global};
 
-/// Of these mark operations those that are in force at a place. An error is want of memory (1). A
+/// Of these mark operations those that are in force at a place. An error is out of memory (1). A
 /// search for each character that they name, as `Sequence::find` does it.
 pub fn in_force<'a>(
     alloc: Global,
@@ -36,7 +36,7 @@ pub fn in_force<'a>(
 }
 
 /// Puts a mark operation behind others, if it is in force at a place, where it is given how many
-/// characters there are. An error is want of memory (1).
+/// characters there are. An error is out of memory (1).
 fn push<'a>(
     sequence: &Sequence,
     count: usize,

@@ -1,3 +1,4 @@
+//! The mark operations of one document while it is opened.
 ghost use Rattle.std.specs.Prelude.{◌≡◌, ◌↔◌, ℕ, List, [], ◌∷◌, ◌++◌, IfOk, IfErr, IsSome, OnOk, OnErr, IsErrOf};
 ghost use Rattle.char_sequence.specs.Woven.{IsWovenOf};
 ghost use Rattle.mark_anchors.specs.Gathered.{AreGathered};
@@ -59,7 +60,7 @@ impl Gathering {
         Ok(())
     }
 
-    /// The anchors of a document whose mark operations these are. An error is want of memory (1).
+    /// The anchors of a document whose mark operations these are. An error is out of memory (1).
     /// Their edges are sorted: as many steps as there are mark operations, times their logarithm.
     pub fn anchors(self) -> Result<Anchors, AllocError>
         ensures { IfOk result (λ a. (ops : List Op) (doc : ℕ)
@@ -69,7 +70,7 @@ impl Gathering {
     }
 }
 
-/// Keeps a mark operation behind the others; another operation adds nothing. An error is want of
+/// Keeps a mark operation behind the others; another operation adds nothing. An error is out of
 /// memory (1), and leaves those that are kept as they were.
 fn keep(markings: &mut Vec<Marking>, op: &Op) -> Result<(), AllocError>
     ensures taken { OnOk result (markings.new.items

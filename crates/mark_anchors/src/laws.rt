@@ -1,3 +1,4 @@
+//! Laws of anchors: calls that do nothing, and whose contracts are the laws.
 ghost use Rattle.std.specs.Prelude.{◌≡◌, ◌≢◌, ℕ, List, [], ◌∷◌, ◌++◌, Option};
 ghost use Rattle.char_sequence.specs.Content.{AreRemoves, IsRun};
 ghost use Rattle.mark_anchors.specs.Keeping.{kept_end_after, AreMarksOf, Kept};

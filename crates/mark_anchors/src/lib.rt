@@ -1,4 +1,7 @@
 //! The mark operations of a document, where they end, and which are in force at a place.
+//!
+//! Marks are found by the characters at which they begin and end, so an edit doesn't pass over all
+//! of them.
 #![tactic(auto)]
 
 mod anchors;

@@ -1,3 +1,4 @@
+//! Whether the characters that a mark operation names are there.
 ghost use Rattle.std.specs.Prelude.{◌≡◌, ◌↔◌, ℕ, List, ◌++◌, false, IsErrOf, Some};
 ghost use Rattle.std.specs.List.{list_all};
 ghost use Rattle.char_sequence.specs.Content.{is_there};

@@ -1,3 +1,4 @@
+//! Places in a text, and what lies between two.
 ghost use Rattle.std.specs.Prelude.{◌≡◌, nat_le};
 ghost use Rattle.mark_anchors.specs.Force.{number};
 ghost use Rattle.mark_anchors.specs.Intervals.{is_within};

@@ -10,7 +10,7 @@ use crate::spot::{Spot, chunks_to};
 use op_ids::OpId;
 use std::alloc::AllocError;
 
-/// Cuts the chunk that an edge of this character goes into, if it is full. An error is want of
+/// Cuts the chunk that an edge of this character goes into, if it is full. An error is out of
 /// memory (1). The edges stay, also after an error.
 pub fn make_room(chunks: &mut Vec<EdgeChunk>, id: OpId) -> Result<(), AllocError>
     requires { AreChunks chunks.old.items }
@@ -24,7 +24,7 @@ pub fn make_room(chunks: &mut Vec<EdgeChunk>, id: OpId) -> Result<(), AllocError
     Ok(())
 }
 
-/// Puts an edge at its spot. An error is want of memory (1), and leaves all as it was.
+/// Puts an edge at its spot. An error is out of memory (1), and leaves all as it was.
 pub fn put_at(chunks: &mut Vec<EdgeChunk>, spot: Spot, edge: Edge) -> Result<(), AllocError>
     requires chunks { AreChunks chunks.old.items }
     requires spot { IsSpot chunks.old.items edge.id spot }

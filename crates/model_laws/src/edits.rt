@@ -1,3 +1,4 @@
+//! Laws of edits: what they make, and what that shows.
 ghost use Rattle.std.specs.Prelude.{◌≡◌, ℕ, true, false, List, ◌∷◌, ◌++◌, length, Contains};
 ghost use Rattle.std.specs.List.{list_all};
 ghost use Rattle.op_ids.specs.Id.{Id, is_below};

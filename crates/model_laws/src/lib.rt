@@ -1,5 +1,8 @@
 //! Laws of the order and the text: what follows from the definitions of the model, for every list
 //! of operations.
+//!
+//! Each is a call that does nothing, and whose contract is the law, so the gate proves it as it
+//! proves code.
 #![tactic(auto)]
 
 mod edits;

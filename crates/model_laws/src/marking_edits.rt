@@ -1,3 +1,4 @@
+//! Laws of mark edits, and of marks that grow.
 ghost use Rattle.std.specs.Prelude.{◌≡◌, ◌≤◌, ℕ, true, false, ◌&&◌, if◌then◌else◌, List, ◌∷◌, ◌++◌, length, Some, None};
 ghost use Rattle.op_model.specs.declared.character.Character.{Character};
 ghost use Rattle.op_model.specs.declared.edit.Change.TheVariants as change;

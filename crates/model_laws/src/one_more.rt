@@ -1,3 +1,4 @@
+//! Laws of a list with one more operation.
 ghost use Rattle.std.specs.Prelude.{◌≡◌, ◌≢◌, ℕ, false, List, [], ◌∷◌, ◌++◌};
 ghost use Rattle.op_ids.specs.Id.{is_same};
 ghost use Rattle.op_model.specs.declared.op.Op.{Op};

@@ -1,3 +1,4 @@
+//! Laws of the order in which a document's operations may come.
 ghost use Rattle.std.specs.Prelude.{◌≡◌, ℕ, List, [], ◌∷◌, ◌++◌};
 ghost use Rattle.op_model.specs.declared.op.Op.{Op};
 ghost use Rattle.op_model.specs.Causality.{MayFollow, IsCausallyClosed};

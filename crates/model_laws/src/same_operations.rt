@@ -1,3 +1,4 @@
+//! Laws of peers that have the same operations.
 ghost use Rattle.std.specs.Prelude.{◌≡◌, ℕ, List};
 ghost use Rattle.op_model.specs.declared.op.Op.{Op};
 ghost use Rattle.op_model.specs.Causality.{HaveSameOps, IsCausallyClosed, clock_of};

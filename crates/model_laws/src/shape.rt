@@ -1,3 +1,4 @@
+//! Laws of the walk through the insertion tree.
 ghost use Rattle.std.specs.Prelude.{◌≡◌, ℕ, ◌≤◌, true, List, ◌∷◌, ◌++◌, Option, Some};
 ghost use Rattle.op_ids.specs.Id.{Id};
 ghost use Rattle.op_model.specs.declared.op.Op.{Op};

@@ -1,3 +1,4 @@
+//! Laws of spans.
 ghost use Rattle.std.specs.Prelude.{◌≡◌, ◌↔◌, ℕ, true, false, List, map, Some, Contains};
 ghost use Rattle.std.specs.List.{concat};
 ghost use Rattle.op_ids.specs.Id.{is_below};

@@ -1,3 +1,4 @@
+//! How many operations of each replica.
 ghost use Rattle.std.specs.Prelude.{◌≤◌, length, ◌≡◌, ℕ, List, [], ◌==◌, ◌↔◌, IsTrue, IsSome, IfSome, IfOk, OnOk, OnErr, IsErrOf, true, false, nat_le, max};
 ghost use Rattle.fixed_numbers.specs.declared.limits.TheConstants.{MAX_REPLICAS};
 ghost use Rattle.op_ids.specs.Clock.{count_of, advanced, joined, is_within, is_ready, is_clock, with_count, place_of, missing_from, is_same_clock, IsOverfull};

@@ -1,3 +1,4 @@
+//! Why a clock stays as it was.
 ghost use Rattle.std.specs.Prelude.{◌≡◌};
 ghost use Rattle.op_ids.specs.declared.clock_error.ClockError.TheVariants.{Memory};
 

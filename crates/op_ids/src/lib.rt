@@ -1,5 +1,7 @@
 //! Names that are unique among all peers: replicas, operations, tokens of edits, and clocks that
 //! count operations.
+//!
+//! Everything above names operations by them; whoever can make no wrong one needs no check later.
 #![tactic(auto)]
 
 mod clock;

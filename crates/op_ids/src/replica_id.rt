@@ -1,3 +1,4 @@
+//! The name of a replica.
 ghost use Rattle.std.specs.Prelude.{◌≡◌, ℕ, ◌<◌, ◌↔◌, Some, None, IfSome, IsNone};
 ghost use Rattle.std.specs.Int.{w128, from_be_bytes, to_be_bytes};
 

@@ -1,3 +1,4 @@
+//! What an operation's record begins with.
 ghost use Rattle.std.specs.Prelude.{◌≡◌};
 ghost use Rattle.op_list.specs.Heads.{is_insert_kind, recorded};
 

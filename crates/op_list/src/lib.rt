@@ -1,4 +1,7 @@
 //! A list of operations, held as their records.
+//!
+//! Records take less memory than what they are read into, and a list may have sixteen million of
+//! them.
 #![tactic(auto)]
 
 mod ends;

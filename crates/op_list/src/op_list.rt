@@ -1,3 +1,4 @@
+//! A list of operations, held as records.
 ghost use Rattle.std.specs.Prelude.{◌≡◌, ◌+◌, ◌<◌, ◌^◌, [], ◌++◌, length, take, IfOk, OnOk, OnErr, IsErrOf};
 ghost use Rattle.change_codec.specs.declared.stream_error.StreamError.TheVariants.{Stream};
 ghost use Rattle.change_codec.specs.Formats.{AreOf};
@@ -77,7 +78,7 @@ impl OpList {
         *self.records.allocator()
     }
 
-    /// Puts operations behind the others: all of them, or none. An error is want of memory (1).
+    /// Puts operations behind the others: all of them, or none. An error is out of memory (1).
     /// Linear in their records.
     pub fn append(&mut self, ops: &[Op]) -> Result<(), AllocError>
         requires { stream_length self.old + stream_length ops.now < 2 ^ 32 }

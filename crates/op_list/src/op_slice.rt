@@ -1,3 +1,4 @@
+//! A borrowed list of operations.
 ghost use Rattle.std.specs.Prelude.{◌≡◌, ◌<◌, ◌≤◌, length, map, take, drop, slice_index_or, IfOk};
 ghost use Rattle.op_list.specs.Heads.{heads};
 ghost use Rattle.op_list.specs.Held.{held, IsHeld};
@@ -75,7 +76,7 @@ impl<'a> OpSlice<'a> {
         record_token(self.records_from(i))
     }
 
-    /// The i-th operation, counted from 0. An error is want of memory (1). Linear in its record.
+    /// The i-th operation, counted from 0. An error is out of memory (1). Linear in its record.
     pub fn get(&self, alloc: Global, i: usize) -> Result<Op, AllocError>
         requires { i < length self.now }
         ensures { IfOk result (λ op. op ≡ slice_index_or self.now i op) }
@@ -88,7 +89,7 @@ impl<'a> OpSlice<'a> {
         }
     }
 
-    /// The operations from the n-th on, counted from 0. An error is want of memory (1). Linear in
+    /// The operations from the n-th on, counted from 0. An error is out of memory (1). Linear in
     /// their records.
     pub fn copy_from(&self, alloc: Global, n: usize) -> Result<Vec<Op>, AllocError>
         requires { n ≤ length self.now }

@@ -64,7 +64,7 @@ impl Records {
         self.bytes.as_slice() == ops.records_from(0)
     }
 
-    /// Makes room for `more` further bytes of records. An error is want of memory (1). Linear in
+    /// Makes room for `more` further bytes of records. An error is out of memory (1). Linear in
     /// the records where they move, else constant.
     pub fn reserve(&mut self, more: usize) -> Result<(), AllocError>
         ensures { self.new ≡ self.old }
@@ -73,7 +73,7 @@ impl Records {
     }
 
     /// Puts the `count` operations whose records these bytes are behind the others: all of them, or
-    /// none. An error is want of memory (1). Linear in these records where there is room.
+    /// none. An error is out of memory (1). Linear in these records where there is room.
     pub fn append(&mut self, records: &[u8], count: u64) -> Result<(), AllocError>
         requires { (ops : List Operation) × AreRecords ops count records.now }
         ensures ok { OnOk result ((ops : List Operation) → AreRecords ops count records.now

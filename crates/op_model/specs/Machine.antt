@@ -180,7 +180,7 @@ through (Some c) = Some (record c { through = true })
 abbrev pub with_through : State → State
 with_through s = record s { version = s.version + 1; commit = through s.commit }
 
--- this number may be answered where that answer is due: the refusal's own, or 1, want of memory, in place of a success that grows
+-- this number may be answered where that answer is due: the refusal's own, or 1, out of memory, in place of a success that grows
 -- something
 abbrev pub IsRefusal : ℕ → Answer → Type 0
 IsRefusal n (refused m) = n ≡ m

@@ -1,3 +1,4 @@
+//! Places beside characters, and where marks begin and end.
 ghost use Rattle.std.specs.Prelude.{◌≡◌, ◌∷◌, []};
 ghost use Rattle.op_model.specs.Causality.{named_by_anchor, named_by_end, named_by_start, optional};
 

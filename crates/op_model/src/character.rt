@@ -1,3 +1,4 @@
+//! A character with its ids.
 use op_ids::OpId;
 
 /// A character of a document, with the ids of its insert and of the character behind which it was

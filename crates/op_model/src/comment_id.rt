@@ -1,3 +1,4 @@
+//! The names of comments.
 ghost use Rattle.std.specs.Prelude.{◌≡◌, ℕ, List, IfOk};
 ghost use Rattle.std.specs.Int.{w128, from_be_bytes, to_be_bytes};
 ghost use Rattle.std.specs.Prelude.{◌==◌};
@@ -91,7 +92,7 @@ impl CommentIds {
         &self.ids
     }
 
-    /// The same comments again. An error is want of memory (1).
+    /// The same comments again. An error is out of memory (1).
     pub fn copy(&self) -> Result<CommentIds, AllocError>
         ensures { IfOk result (λ copied. copied ≡ self.now) }
     {

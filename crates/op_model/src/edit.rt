@@ -1,3 +1,4 @@
+//! What a session asks to change.
 ghost use Rattle.std.specs.Prelude.{◌≡◌, ℕ, List, ◌<◌, IfOk, IfSome, IsSome, ◌↔◌, length, vec_len};
 ghost use Rattle.std.specs.Prelude.{◌==◌};
 ghost use Rattle.std.proofs.Common.{rules};
@@ -59,7 +60,7 @@ impl EditText {
         &self.characters
     }
 
-    /// The same text again. An error is want of memory (1).
+    /// The same text again. An error is out of memory (1).
     pub fn copy(&self) -> Result<EditText, AllocError>
         ensures { IfOk result (λ copied. copied ≡ self.now) }
     {
@@ -96,7 +97,7 @@ pub enum Change {
 }
 
 impl Change {
-    /// The same change again. An error is want of memory (1).
+    /// The same change again. An error is out of memory (1).
     pub fn copy(&self) -> Result<Change, AllocError>
         ensures { IfOk result (λ copied. copied ≡ self.now) }
     {
@@ -124,7 +125,7 @@ impl Change {
 }
 
 impl Edit {
-    /// The same edit again. An error is want of memory (1).
+    /// The same edit again. An error is out of memory (1).
     pub fn copy(&self) -> Result<Edit, AllocError>
         ensures { IfOk result (λ copied. copied ≡ self.now) }
     {

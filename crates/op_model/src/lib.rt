@@ -1,5 +1,7 @@
 //! Operations of replicated rich text: what they are made of, and the definitions of what they
 //! mean.
+//!
+//! It is the one place that says what a document shows; code above is proved to show just that.
 #![tactic(auto)]
 
 mod anchor;

@@ -1,3 +1,4 @@
+//! Marks, what they are decided by, and all marks of a character.
 ghost use Rattle.std.specs.Prelude.{◌≡◌, IfOk};
 ghost use Rattle.op_model.specs.Marks.{key_of};
 
@@ -47,7 +48,7 @@ impl Mark {
         }
     }
 
-    /// The same mark again. An error is want of memory (1).
+    /// The same mark again. An error is out of memory (1).
     pub fn copy(&self) -> Result<Mark, AllocError>
         ensures { IfOk result (λ copied. copied ≡ self.now) }
     {
@@ -61,7 +62,7 @@ impl Mark {
 }
 
 impl Marks {
-    /// The same marks again. An error is want of memory (1).
+    /// The same marks again. An error is out of memory (1).
     pub fn copy(&self) -> Result<Marks, AllocError>
         ensures { IfOk result (λ copied. copied ≡ self.now) }
     {

@@ -1,3 +1,4 @@
+//! A mark operation.
 use crate::anchor::{End, Start};
 use crate::mark::{Mark, MarkKey};
 use op_ids::OpId;

@@ -10,7 +10,7 @@ use std::alloc::{AllocError, Global};
 
 /// Inserts of characters, the first behind this origin, or at the beginning where there is none,
 /// each later one behind the one before; their operations have the ids of a replica from a counter
-/// on. An error is want of memory (1).
+/// on. An error is out of memory (1).
 pub fn insert_bodies(
     alloc: Global,
     replica: ReplicaId,
@@ -39,7 +39,7 @@ pub fn insert_bodies(
 
 /// An operation of a document for each body, their counters rising by one from this one on, each
 /// with this token, if there is one. The first depends on this clock, each later one also on those
-/// before it. An error is want of memory (1).
+/// before it. An error is out of memory (1).
 pub fn numbered(
     alloc: Global,
     replica: ReplicaId,

@@ -1,3 +1,4 @@
+//! An operation.
 ghost use Rattle.std.specs.Prelude.{◌≡◌, IfOk, IfErr, IsSome};
 ghost use Rattle.op_model.specs.Characters.{character_of};
 ghost use Rattle.op_model.specs.Marks.{marking_of};
@@ -51,7 +52,7 @@ pub enum Body {
 }
 
 impl Body {
-    /// The same body again. An error is want of memory (1).
+    /// The same body again. An error is out of memory (1).
     pub fn copy(&self) -> Result<Body, AllocError>
         ensures { IfOk result (λ copied. copied ≡ self.now) }
     {
@@ -76,7 +77,7 @@ impl Body {
 }
 
 impl Op {
-    /// The same operation again. An error is want of memory (1).
+    /// The same operation again. An error is out of memory (1).
     pub fn copy(&self) -> Result<Op, AllocError>
         ensures { IfOk result (λ copied. copied ≡ self.now) }
     {
@@ -103,7 +104,7 @@ impl Op {
         }
     }
 
-    /// What the operation does as a mark operation, if it is one. An error is want of memory (1),
+    /// What the operation does as a mark operation, if it is one. An error is out of memory (1),
     /// which only a mark operation takes.
     pub fn marking(&self) -> Result<Option<Marking>, AllocError>
         ensures same { IfOk result (λ marking. marking ≡ marking_of self.now.id self.now.body) }

@@ -13,7 +13,7 @@ pub fn place_among(numbers: &[u32], number: u32) -> Result<usize, usize>
     numbers.binary_search(&number)
 }
 
-/// Puts a number among these, which rise, if it isn't there. An error is want of memory (1), and
+/// Puts a number among these, which rise, if it isn't there. An error is out of memory (1), and
 /// leaves them as they were. A search by halves, and a step for each greater number if it is new.
 pub fn put_among(numbers: &mut Vec<u32>, number: u32) -> Result<(), AllocError>
     requires { IsUp numbers.old.items }

@@ -1,3 +1,4 @@
+//! A run of characters with equal marks.
 use crate::mark::Marks;
 use crate::text::Text;
 

@@ -1,3 +1,4 @@
+//! A text.
 ghost use Rattle.std.specs.Prelude.{◌≡◌, ℕ, ◌≤◌, ◌==◌, List, ◌∷◌, ◌++◌, length, take, drop, IfOk, OnOk, OnErr};
 ghost use Rattle.std.proofs.Common.{rules};
 ghost use Rattle.std.specs.Cmp.Rules.{comparing};
@@ -49,7 +50,7 @@ impl Text {
         &self.characters
     }
 
-    /// Puts a character before the one at a place, or at the end. An error is want of memory (1),
+    /// Puts a character before the one at a place, or at the end. An error is out of memory (1),
     /// and leaves the text as it was.
     pub fn insert(&mut self, at: usize, character: char) -> Result<(), AllocError>
         requires { at ≤ length self.old }
@@ -60,7 +61,7 @@ impl Text {
         Ok(())
     }
 
-    /// The same text again. An error is want of memory (1).
+    /// The same text again. An error is out of memory (1).
     pub fn copy(&self) -> Result<Text, AllocError>
         ensures { IfOk result (λ copied. copied ≡ self.now) }
     {

@@ -1,3 +1,4 @@
+//! Where a link leads.
 ghost use Rattle.std.specs.Prelude.{◌≡◌, ℕ, List, ◌≤◌, ◌<◌, IfOk, IfSome, IsSome, ◌↔◌, length, string_bytes, string_len};
 ghost use Rattle.std.specs.Prelude.{◌==◌};
 ghost use Rattle.std.proofs.Common.{rules};
@@ -62,7 +63,7 @@ impl Url {
         self.text.as_str()
     }
 
-    /// The same URL again. An error is want of memory (1).
+    /// The same URL again. An error is out of memory (1).
     pub fn copy(&self) -> Result<Url, AllocError>
         ensures { IfOk result (λ copied. copied ≡ self.now) }
     {

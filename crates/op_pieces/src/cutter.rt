@@ -29,7 +29,7 @@ impl Model for Cutter {
 }
 
 impl Cutter {
-    /// Begins with the first operation of a list. An error is want of memory (1).
+    /// Begins with the first operation of a list. An error is out of memory (1).
     pub fn new(alloc: Global, first: Op) -> Result<Cutter, AllocError>
         ensures { IfOk result (λ cutter. (rest : List Operation)
             → cut_of (first ∷ rest) ≡ cut_behind cutter.piece cutter.last rest) }
@@ -42,7 +42,7 @@ impl Cutter {
     }
 
     /// Takes the next operation, and gives the open piece where it ends before that. An error is
-    /// want of memory (1), and says nothing of what is open then.
+    /// out of memory (1), and says nothing of what is open then.
     pub fn take(&mut self, alloc: Global, op: Op) -> Result<Option<Piece>, AllocError>
         ensures { IfOk result (λ ended. (rest : List Operation)
             → cut_behind self.old.piece self.old.last (op ∷ rest)

@@ -10,7 +10,7 @@ use op_model::Op;
 use std::alloc::{AllocError, Global};
 
 /// The pieces of operations: each goes on as long as it can, so that as few as can be make up the
-/// list. An error is want of memory (1). Linear in the operations.
+/// list. An error is out of memory (1). Linear in the operations.
 pub fn cut(alloc: Global, ops: &[Op]) -> Result<Vec<Piece>, AllocError>
     ensures { IfOk result (λ pieces. pieces.items ≡ cut_of ops.now) }
 {

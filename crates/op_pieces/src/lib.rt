@@ -1,4 +1,7 @@
 //! Operations in a row that one record can hold: any operation, or a run of typed characters.
+//!
+//! A pasted text is one record in place of hundreds, in files and over links, and still the same
+//! operations.
 #![tactic(auto)]
 
 mod clocks;

@@ -1,3 +1,4 @@
+//! Operations that one record can hold.
 ghost use Rattle.std.specs.Prelude.{◌≡◌, true, OnOk, OnErr};
 ghost use Rattle.op_pieces.specs.Pieces.{Run, is_piece, longer, single};
 
@@ -58,7 +59,7 @@ impl Piece {
         &self.others
     }
 
-    /// Puts a character behind the others, with which it still is a piece. An error is want of
+    /// Puts a character behind the others, with which it still is a piece. An error is out of
     /// memory (1).
     pub(crate) fn grow(&mut self, value: char) -> Result<(), AllocError>
         requires { is_piece (longer self.old value) ≡ true }

@@ -9,7 +9,7 @@ use std::alloc::{AllocError, Global};
 
 impl Piece {
     /// The operations that it stands for, in their order: 1 to 256. Each is made from the one
-    /// before. An error is want of memory (1). Linear in the operations and their deps.
+    /// before. An error is out of memory (1). Linear in the operations and their deps.
     pub fn ops(&self, alloc: Global) -> Result<Vec<Op>, AllocError>
         ensures { IfOk result (λ ops. ops.items ≡ ops_of self.now) }
     {
@@ -27,7 +27,7 @@ impl Piece {
 }
 
 /// The insert of a character right behind an operation, where it fits, as the first of some. An
-/// error is want of memory (1).
+/// error is out of memory (1).
 fn next_typed(op: &Op, value: char) -> Result<Op, AllocError>
     requires { (behind : List ℕ) × (fits_behind op.now (value ∷ behind) ≡ true) }
     ensures { IfOk result (λ next. next ≡ next_of op.now value) }

@@ -18,7 +18,7 @@ pub struct Gap {
 const NUMBERS: u64 = 4294967296;
 
 /// All pages behind the root slots as one range, with room for `more` ranges besides. One
-/// allocation; an error is want of memory (1).
+/// allocation; an error is out of memory (1).
 pub(crate) fn all_pages(alloc: Global, more: usize) -> Result<Vec<Gap>, AllocError>
     requires few { more ≤ 2147483648 }
     ensures all { IfOk result (λ gaps. AreOthers [] gaps.items) }

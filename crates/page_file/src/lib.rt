@@ -1,6 +1,9 @@
 //! The pages of a file: their numbers, and the bytes that these are written in. A table page is
 //! 1,024 numbers of 4 bytes, big-endian, of the data pages in the order of the stream. What is left
 //! of the last table page is zero.
+//!
+//! A number of a page is a type of its own, so none can be taken for a count or for a place in
+//! bytes.
 #![tactic(auto)]
 
 mod adopting;

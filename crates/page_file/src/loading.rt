@@ -53,7 +53,7 @@ fn take_pages(gaps: &mut Vec<Gap>, pages: &[u32]) -> bool
     true
 }
 
-// These pages, sorted. An error is want of memory (1).
+// These pages, sorted. An error is out of memory (1).
 fn sorted_of(alloc: Global, tables: &[u32], named: &[u32]) -> Result<Vec<u32>, AllocError>
     ensures same { IfOk result
         (λ sorted. IsPermutation (tables.now ++ named.now) sorted.items) }
@@ -68,7 +68,7 @@ fn sorted_of(alloc: Global, tables: &[u32], named: &[u32]) -> Result<Vec<u32>, A
 }
 
 // The live pages of a root with these table pages and data pages. Refused with 45 where one of them
-// is a root slot or stands twice, and with 1 for want of memory.
+// is a root slot or stands twice, and with 1 when out of memory.
 fn index_of(alloc: Global, tables: &[u32], named: &[u32]) -> Result<Pages, PageError>
     requires few { length tables.now + length named.now ≤ MAX_PAGES }
     ensures value { IfOk result (λ it. it ≡ record {
@@ -98,7 +98,7 @@ fn index_of(alloc: Global, tables: &[u32], named: &[u32]) -> Result<Pages, PageE
 
 // The live pages of a root with these table pages, in which the numbers `found` stand, and with
 // `count` data pages. Refused with 45 where a page is a root slot or stands twice, where a number
-// is left behind the data pages, or where there are fewer; and with 1 for want of memory.
+// is left behind the data pages, or where there are fewer; and with 1 when out of memory.
 fn pages_of(alloc: Global, tables: &[u32], count: u64, found: &[u32]) -> Result<Pages, PageError>
     requires few { length tables.now + length found.now ≤ MAX_PAGES }
     ensures value { IfOk result (λ it. reached_by tables.now count found.now ≡ Ok (live_pages it)) }
@@ -124,7 +124,7 @@ impl Pages {
     ///
     /// Refuses with 45 where a page is a root slot or stands twice, where a number is left behind
     /// those of the data pages, or where there are fewer; with 50 where the device failed; and with
-    /// 1 for want of memory.
+    /// 1 when out of memory.
     pub fn load<D: Disk>(
         alloc: Global,
         disk: &mut D,

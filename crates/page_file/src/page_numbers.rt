@@ -7,7 +7,7 @@ ghost use Rattle.page_file.specs.Pages.{numbers, number_bytes};
 use std::alloc::{AllocError, Global};
 
 /// Appends numbers, each in four bytes. Memory is reserved once, before anything is written. An
-/// error is want of memory (1), and leaves the bytes as they were.
+/// error is out of memory (1), and leaves the bytes as they were.
 pub fn put_numbers(numbers: &[u32], out: &mut Vec<u8>) -> Result<(), AllocError>
     ensures ok { OnOk result (out.new.items ≡ out.old.items ++ number_bytes numbers.now) }
     ensures err { OnErr result (out.new.items ≡ out.old.items) }
@@ -19,7 +19,7 @@ pub fn put_numbers(numbers: &[u32], out: &mut Vec<u8>) -> Result<(), AllocError>
     Ok(())
 }
 
-/// The first `count` numbers, of four bytes each. One allocation; an error is want of memory (1).
+/// The first `count` numbers, of four bytes each. One allocation; an error is out of memory (1).
 pub fn take_numbers(alloc: Global, bytes: &[u8], count: usize) -> Result<Vec<u32>, AllocError>
     requires { 4 * count ≤ length bytes.now }
     ensures { IfOk result (λ found. found.items ≡ numbers count bytes.now) }

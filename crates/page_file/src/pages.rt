@@ -49,7 +49,7 @@ impl Model for Pages {
 }
 
 impl Pages {
-    /// The pages of a file without live ones. One small allocation; an error is want of memory (1).
+    /// The pages of a file without live ones. One small allocation; an error is out of memory (1).
     pub fn new(alloc: Global) -> Result<Pages, AllocError>
         ensures { IfOk result (λ pages. pages ≡ record {
           tables = [];
@@ -93,7 +93,7 @@ impl Pages {
     }
 
     /// So many lowest free pages, in rising order. Two allocations, of sixteen bytes for each range
-    /// of free pages and of four bytes for each page that is asked for; an error is want of memory
+    /// of free pages and of four bytes for each page that is asked for; an error is out of memory
     /// (1). A few steps for each of these.
     pub fn lowest_free_pages(&self, count: usize) -> Result<Vec<u32>, AllocError>
         requires few { length (used self.now) + count ≤ MAX_PAGES }
@@ -112,7 +112,7 @@ impl Pages {
     }
 
     /// Makes room for the next `count` calls of `put_free`, and for the `adopt` behind them. Four
-    /// growths at most; an error is want of memory (1), and changes nothing.
+    /// growths at most; an error is out of memory (1), and changes nothing.
     pub fn reserve(&mut self, count: usize) -> Result<(), AllocError>
         requires few { count ≤ MAX_PAGES }
         ensures room { OnOk result (count ≤ self.new.room) }

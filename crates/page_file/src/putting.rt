@@ -70,7 +70,7 @@ impl Pages {
     /// The bytes of a page of a file. Takes 4,096 bytes of memory, and makes one device call.
     ///
     /// Refuses with 40 where the page is a root slot, without that call; with 41 exactly where the
-    /// file hasn't the whole page; with 50 where the device failed; and with 1 for want of memory.
+    /// file hasn't the whole page; with 50 where the device failed; and with 1 when out of memory.
     pub fn page<D: Disk>(&self, disk: &mut D, number: u32) -> Result<Vec<u8>, PageError>
         ensures number { number < 2 → (result ≡ Err PageNumber) × (disk.new ≡ disk.old) }
         ensures whole { IfOk result (λ bytes. length bytes.items ≡ PAGE_SIZE) }

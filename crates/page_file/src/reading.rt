@@ -11,7 +11,7 @@ use disk_trait::{Disk, read_inside};
 use fixed_numbers::sizes::PAGE_SIZE;
 use std::alloc::Global;
 
-// Appends the bytes of a page that lies whole in the file. Refused with 1 for want of memory, and
+// Appends the bytes of a page that lies whole in the file. Refused with 1 when out of memory, and
 // with 50 where the device failed.
 fn append_page<D: Disk>(disk: &mut D, number: u32, out: &mut Vec<u8>) -> Result<(), PageError>
     requires inside { D.tells disk.old
@@ -31,7 +31,7 @@ fn append_page<D: Disk>(disk: &mut D, number: u32, out: &mut Vec<u8>) -> Result<
 }
 
 /// The bytes of pages that lie whole in the file, one behind the other. One device call a page, and
-/// their bytes in memory, with 4,096 more. Of a disk that tells it is refused only with 1 for want
+/// their bytes in memory, with 4,096 more. Of a disk that tells it is refused only with 1 when out
 /// of memory, and with 50 where the device failed.
 pub fn read_pages<D: Disk>(
     alloc: Global,

@@ -27,7 +27,7 @@ impl Model for Book {
     ghost invariant = { λ b. (consumer_capacity b.ring ≡ 1) × (known_items b.ring ≡ []) };
 }
 
-/// A book without entries, and the share of it. An error is want of memory (1); no other call takes
+/// A book without entries, and the share of it. An error is out of memory (1); no other call takes
 /// any.
 pub fn open(alloc: Global) -> Result<(Book, Share), AllocError>
     ensures name { IfOk result (λ it. it.0.name ≡ it.1.name) }

@@ -1,5 +1,8 @@
 //! Books that stand under a lock, and the shares of them that threads hold: a book and its share
 //! have the same entries, whoever had the lock meanwhile.
+//!
+//! The lock tells nobody what others did meanwhile; a share tells its owner what is still so of its
+//! own entries.
 #![tactic(auto)]
 
 mod book;

@@ -43,7 +43,7 @@ found_single f bytes op n p is of_format begins = rw (is, begins_taken f bytes o
 pub none_single : (f : Format) (bytes : List ℕ) → IsPartial f bytes → taken_as None f bytes ≡ Ok None
 none_single f bytes partial = rw (partial_taken f bytes partial) refl
 
--- a fault is want of memory, or it isn't
+-- a fault is out of memory, or it isn't
 is_memory : (e : CodecError) → (e ≡ Memory) ⊎ (e ≢ Memory)
 is_memory fault.Memory = inl refl
 is_memory fault.Length = inr (λ e. cc)
@@ -148,7 +148,7 @@ first_is_fault f bytes (Err d) e (inr (memory, found)) first =
     let other = found.1 in
     absurd cc
 
--- what is read is never want of memory
+-- what is read is never out of memory
 run_no_memory : (has_token : Bool) (f : Format) (bytes : List ℕ) → taken_as (Some has_token) f bytes ≡ Err Memory → ⊥
 run_no_memory has_token f bytes e =
     let len = length_at bytes in

@@ -1,4 +1,4 @@
--- No fault of a run's bytes is want of memory.
+-- No fault of a run's bytes is out of memory.
 use Rattle.std.proofs.Common.{◌≡◌, ◌≢◌, ℕ, zero, suc, ◌-◌, Bool, true, false, cond, ltb, eqb, List, [], ◌∷◌, length, take, drop, Result, Ok, Err}
 use Rattle.std.specs.Int.{Width, w16, w32, w64, w128, byte_len, from_be_bytes, is_in_range}
 use lib.Utf8.{scalar}

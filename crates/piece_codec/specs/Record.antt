@@ -50,7 +50,7 @@ pub record BeginsWithPiece (bytes : List ℕ) (p : Run) (n : ℕ) : Type 0 where
 abbrev pub BeginsWithOneOf : Format → List ℕ → Type 0
 BeginsWithOneOf format bytes = (p : Run) × (n : ℕ) × IsPieceOf format p × BeginsWithPiece bytes p n
 
--- what a function returned is what is read; want of memory may stand in place of a piece
+-- what a function returned is what is read; out of memory may stand in place of a piece
 abbrev pub Answers : Result (Option (Run × ℕ)) CodecError → Result (Option (Run × ℕ)) CodecError → Type 0
 Answers (Ok found) read = read ≡ Ok found
 Answers (Err e) read = (read ≡ Err e) ⊎ ((e ≡ Memory) × ((found : Run × ℕ) × (read ≡ Ok (Some found))))

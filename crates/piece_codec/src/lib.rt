@@ -1,4 +1,7 @@
 //! The codec of pieces: an operation as its record, and a run of typed characters as one record.
+//!
+//! It stands over `change_codec`, whose records it holds as they are, so single operations keep
+//! their proofs.
 #![tactic(auto)]
 
 mod fields;

@@ -8,7 +8,7 @@ use crate::spelling::{piece_length, put_piece};
 use op_pieces::Piece;
 use std::alloc::AllocError;
 
-/// Appends the records of pieces, one after another: all of them, or none. An error is want of
+/// Appends the records of pieces, one after another: all of them, or none. An error is out of
 /// memory (1), and leaves the bytes as they were. Each byte is written once.
 pub fn put_pieces(pieces: &[Piece], out: &mut Vec<u8>) -> Result<(), AllocError>
     ensures ok { OnOk result (out.new.items ≡ out.old.items ++ spelled_pieces pieces.now) }

@@ -55,7 +55,7 @@ fn take_counted(
     }
 }
 
-/// The run with memory of its own. An error is want of memory (1).
+/// The run with memory of its own. An error is out of memory (1).
 fn make_run(
     alloc: Global,
     head: RunHead,

@@ -13,7 +13,7 @@ use std::alloc::AllocError;
 
 /// Appends the record of a piece: that of an operation, or one of kind 5 for a run, 21 where it has
 /// a token. Memory is reserved once, before anything is written; each byte is written once. An
-/// error is want of memory (1), and leaves the bytes as they were.
+/// error is out of memory (1), and leaves the bytes as they were.
 pub fn put_piece(piece: &Piece, out: &mut Vec<u8>) -> Result<(), AllocError>
     ensures ok { OnOk result (out.new.items ≡ out.old.items ++ spelled_piece piece.now) }
     ensures err { OnErr result (out.new.items ≡ out.old.items) }

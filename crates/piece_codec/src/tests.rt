@@ -1,3 +1,4 @@
+//! Records of runs to the byte, both ways, and those that are refused.
 use super::*;
 use change_codec::Format;
 use op_ids::{Clock, OpId, ReplicaId, Token};

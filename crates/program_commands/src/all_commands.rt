@@ -86,7 +86,7 @@ Examples:
   peritext serve notes --sessions 7001 --peers 7002
   peritext serve copy --sessions 7101 --peers 7102 --link 7002";
 
-/// All commands of the program, with their help. An error is want of memory (1).
+/// All commands of the program, with their help. An error is out of memory (1).
 pub fn commands<'a>(alloc: Global) -> Result<Command<'a>, AllocError>
     ensures { IfOk result (λ command. app_of command ≡ program) }
 {

@@ -47,7 +47,7 @@ no_longer file r v ops image it =
     let same : ops ≡ it.long.ops = same_list file r v ops it.long.ops it.body it.bytes image it.holds it.long.some in
     absurd (omega (arith, closed_is_short ops image.closed, ap stream_length same, it.long.long))
 
--- a refusal of it is want of memory or a failure of the device
+-- a refusal of it is out of memory or a failure of the device
 pub no_fault : (file : List ℕ) (r v : ℕ) (ops : List Op) (cause : OpenError) → IsImage file r v ops → IsFault cause file
     → (number_of cause ≡ 1) ⊎ (failures_of cause ≡ 1)
 no_fault file r v ops BadOperation image bad = absurd (no_bad file r v ops image bad)

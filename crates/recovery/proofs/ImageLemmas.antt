@@ -60,7 +60,7 @@ is_memory refusal.Document = inr (λ is. absurd (cc))
 is_memory refusal.StoreLimit = inr (λ is. absurd (cc))
 is_memory refusal.BadOperation = inr (λ is. absurd (cc))
 
--- a list that isn't taken over, for want of memory or for an operation
+-- a list that isn't taken over, when out of memory or for an operation
 pub fault_of : (e : Refusal) (cause : OpenError) (file : List ℕ) → (e ≡ refusal.Memory → cause ≡ Load LoadMemory)
     → (e ≢ refusal.Memory → cause ≡ BadOperation) → (e ≢ refusal.Memory → HasBadOperation file) → IsFault cause file
 fault_of e cause file memory other bad = by_cause (is_memory e)

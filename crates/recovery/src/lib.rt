@@ -1,5 +1,7 @@
 //! The opening of a page file: the replica that it stands for, and its store. And what holds of all
 //! replicas.
+//!
+//! Opening is the other half of the promise about crashes: what a commit left is read back here.
 #![tactic(auto)]
 
 mod laws;

@@ -1,3 +1,4 @@
+//! Stores that are opened, whole and broken.
 use crate::open;
 use disk_trait::MemDisk;
 use group_commit::Store;

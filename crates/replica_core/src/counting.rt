@@ -1,3 +1,4 @@
+//! The clock of a list.
 ghost use Rattle.std.specs.Prelude.{◌≡◌, List, ◌++◌, take, true, IfOk, OnOk};
 ghost use Rattle.op_ids.specs.Clock.{advanced, IsOverfull};
 ghost use Rattle.op_model.specs.declared.op.Op.{Op};
@@ -11,7 +12,7 @@ use op_model::Op;
 use std::alloc::{AllocError, Global};
 
 /// How many operations each replica has among the first `count` of a causally closed list, with its
-/// clock and its index. An error is want of memory (1). A search by halves for each replica.
+/// clock and its index. An error is out of memory (1). A search by halves for each replica.
 pub fn clock_of_front(
     alloc: Global,
     ops: &OpSlice<'_>,
@@ -36,7 +37,7 @@ pub fn clock_of_front(
 }
 
 /// Counts operations that come behind others, with which they keep the limits of a store. An error
-/// is want of memory (1).
+/// is out of memory (1).
 pub fn count_all(clock: &mut Clock, ops: &[Op]) -> Result<(), AllocError>
     requires { (earlier : List Op) × (clock.old ≡ clock_of earlier)
         × (is_within_limits (earlier ++ ops.now) ≡ true) }
@@ -49,7 +50,7 @@ pub fn count_all(clock: &mut Clock, ops: &[Op]) -> Result<(), AllocError>
     Ok(())
 }
 
-/// Counts one more operation of a replica, for which the clock has room. An error is want of memory
+/// Counts one more operation of a replica, for which the clock has room. An error is out of memory
 /// (1). At most 16 steps.
 pub fn advance(clock: &mut Clock, replica: ReplicaId) -> Result<(), AllocError>
     requires { IsOverfull (advanced clock.old replica) → ⊥ }

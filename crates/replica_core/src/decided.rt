@@ -1,3 +1,5 @@
+//! What is decided of an edit that nothing refuses.
+
 /// What is decided of an edit that nothing refuses, as `Replica::decide_edit` tells it and
 /// `Replica::put_edit` takes it.
 #[derive(Clone, Copy, Debug)]

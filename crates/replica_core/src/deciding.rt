@@ -1,3 +1,4 @@
+//! Whether an edit keeps the limits of a store.
 ghost use Rattle.std.specs.Prelude.{◌≡◌, ◌+◌, ◌++◌, ◌&&◌, nat_le, length, IfOk, IfErr, Some, None};
 ghost use Rattle.fixed_numbers.specs.declared.limits.TheConstants.{MAX_COUNTER, MAX_DOCUMENTS};
 ghost use Rattle.doc_core.specs.Standing.{StandsFor};

@@ -1,3 +1,4 @@
+//! The documents of a list, by their numbers.
 ghost use Rattle.std.specs.Prelude.{◌≡◌, ℕ, List, [], ◌++◌, length, nat_le, OnOk, OnErr, IsErrOf};
 ghost use Rattle.doc_core.specs.Standing.{StandsFor};
 ghost use Rattle.replica_core.specs.Docs.{doc_number};

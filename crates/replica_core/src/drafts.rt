@@ -1,3 +1,4 @@
+//! The documents of a list that is opened.
 ghost use Rattle.std.specs.Prelude.{◌≡◌, ◌<◌, ◌^◌, List, [], ◌∷◌, ◌++◌, IfOk, IfErr, OnOk};
 ghost use Rattle.op_model.specs.Placing.{Fits};
 ghost use Rattle.op_model.specs.Rising.{IsUp};
@@ -18,7 +19,7 @@ use op_model::{Op, place_among};
 use std::alloc::{AllocError, Global};
 
 /// The documents of a causally closed list, whose numbers are given, and the tokens of a replica's
-/// edits in it. An error is want of memory (1). For each operation a search by halves for its
+/// edits in it. An error is out of memory (1). For each operation a search by halves for its
 /// document, and what its draft takes for it; for an own one with a token a search in an ordered
 /// map.
 pub fn documents_of(
@@ -39,7 +40,7 @@ pub fn documents_of(
     Ok((docs, tokens))
 }
 
-/// The drafts of documents without operations. An error is want of memory (1).
+/// The drafts of documents without operations. An error is out of memory (1).
 fn empty(alloc: Global, numbers: &[u32]) -> Result<Vec<Draft>, AllocError>
     ensures { IfOk result (λ drafts. AreDrafts drafts.items numbers.now []) }
 {
@@ -52,7 +53,7 @@ fn empty(alloc: Global, numbers: &[u32]) -> Result<Vec<Draft>, AllocError>
 }
 
 /// Gives each operation of a list to its document's draft, and lets it go before the next one is
-/// read. Returns the tokens of a replica's edits. An error is want of memory (1).
+/// read. Returns the tokens of a replica's edits. An error is out of memory (1).
 fn apply_all(
     alloc: Global,
     replica: ReplicaId,
@@ -81,7 +82,7 @@ fn apply_all(
 }
 
 /// Gives an operation that may come to its document's draft, and returns how many operations that
-/// has then. An error is want of memory (1). A search by halves for the document, and what its
+/// has then. An error is out of memory (1). A search by halves for the document, and what its
 /// draft takes for it.
 fn apply(drafts: &mut Vec<Draft>, numbers: &[u32], op: &Op) -> Result<u64, Refusal>
     requires rising { IsUp numbers.now }
@@ -110,7 +111,7 @@ fn apply(drafts: &mut Vec<Draft>, numbers: &[u32], op: &Op) -> Result<u64, Refus
 }
 
 /// The documents of drafts. One after another, so that a weave is let go before the next document
-/// takes memory. An error is want of memory (1).
+/// takes memory. An error is out of memory (1).
 fn finished(alloc: Global, drafts: Vec<Draft>) -> Result<Vec<Doc>, AllocError>
     ensures numbers { IfOk result (λ docs. doc_numbers docs.items ≡ draft_numbers drafts.items) }
     ensures stand { IfOk result (λ docs. (ops : List Op) → AllDrafts drafts.items ops

@@ -1,3 +1,4 @@
+//! A replica makes edits.
 ghost use Rattle.std.specs.Prelude.{◌≡◌, IfOk, IfErr, OnOk, OnErr};
 ghost use Rattle.op_model.specs.Machine.{after_edit, edit_alone, new_edit_alone, IsRefusal, ticket, refused};
 ghost use Rattle.op_model.specs.Held.{with_edit};
@@ -63,7 +64,7 @@ impl Replica {
     }
 
     /// Makes the operations of a session's new edit that nothing refuses, as `decide_edit` tells,
-    /// and puts them behind the list. An error is want of memory (1), and changes nothing. A few
+    /// and puts them behind the list. An error is out of memory (1), and changes nothing. A few
     /// steps for clocks, and what the document takes for it, which isn't searched again. With a
     /// token a search in an ordered map too, and about 40 bytes of memory.
     pub fn put_edit(

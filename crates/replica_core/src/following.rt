@@ -1,3 +1,4 @@
+//! Whether an operation may follow a list.
 ghost use Rattle.std.specs.Prelude.{◌≡◌, ◌<◌, ◌++◌, ◌∷◌, [], ◌&&◌, ◌==◌, nat_le, nat_lt, length, true, MatchOption, Some, None, IsTrue, ◌↔◌};
 ghost use Rattle.fixed_numbers.specs.declared.limits.TheConstants.{MAX_DOCUMENTS};
 ghost use Rattle.op_model.specs.Causality.{IsCausallyClosed, MayFollow, documents, first_failed as first_failed_of};

@@ -1,3 +1,4 @@
+//! Where each replica's operations stand in a list.
 ghost use Rattle.std.specs.Prelude.{◌≡◌, ◌+◌, ◌≤◌, ◌<◌, ◌^◌, List, [], ◌∷◌, ◌++◌, length, take, MatchOption, OnOk};
 ghost use Rattle.op_model.specs.declared.op.Op.{Op};
 ghost use Rattle.op_model.specs.Causality.{made_by};
@@ -56,7 +57,7 @@ impl Index {
         }
     }
 
-    /// Makes room for `count` more operations of a replica. An error is want of memory (1).
+    /// Makes room for `count` more operations of a replica. An error is out of memory (1).
     pub fn reserve(
         &mut self,
         alloc: Global,

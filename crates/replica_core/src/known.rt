@@ -1,3 +1,4 @@
+//! Edits that were made before.
 ghost use Rattle.std.specs.Prelude.{◌≡◌};
 ghost use Rattle.op_model.specs.Machine.{known_ticket};
 

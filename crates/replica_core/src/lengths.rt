@@ -1,3 +1,4 @@
+//! How many bytes an edit's records take.
 ghost use Rattle.std.specs.Prelude.{◌≡◌, ℕ, ◌+◌, ◌-◌, ◌*◌, ◌≤◌, ◌<◌, true, List, length};
 ghost use Rattle.std.specs.Prelude.{if◌then◌else◌};
 ghost use Rattle.fixed_numbers.specs.declared.limits.TheConstants.{MAX_EDIT, MAX_REPLICAS};

@@ -1,4 +1,7 @@
 //! One peer's list of operations, its clock, how much of it is settled, and the steps that made it.
+//!
+//! All that one peer knows stands here, without a disk and without threads, as one value with one
+//! invariant.
 #![tactic(auto)]
 
 mod counting;

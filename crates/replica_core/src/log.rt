@@ -1,3 +1,4 @@
+//! The operations of a replica, and what is known of them.
 ghost use Rattle.std.specs.Prelude.{◌≡◌, OnOk, OnErr, IsErrOf};
 ghost use Rattle.char_sequence.specs.Content.{FitAfter};
 ghost use Rattle.op_model.specs.Causality.{made_by};

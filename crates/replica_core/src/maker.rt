@@ -1,3 +1,4 @@
+//! Where one replica's operations stand in a list.
 ghost use Rattle.std.specs.Prelude.{◌≡◌, ◌≢◌, ℕ, ◌+◌, ◌≤◌, ◌<◌, [], ◌∷◌, ◌++◌, true, false, nat_lt, length, MatchOption, OnOk};
 ghost use Rattle.std.specs.List.Sorted.{IsNonDecreasing, IsPartitionPoint};
 ghost use Rattle.replica_core.specs.Makers.{maker_place, places_of as places_in, room_of};
@@ -48,7 +49,7 @@ fn place(makers: &[Maker], replica: ReplicaId) -> Option<usize>
     None
 }
 
-/// Makes room for `count` more operations of a replica. An error is want of memory (1).
+/// Makes room for `count` more operations of a replica. An error is out of memory (1).
 pub fn reserve(
     makers: &mut Vec<Maker>,
     alloc: Global,

@@ -1,3 +1,4 @@
+//! The operations of an edit.
 ghost use Rattle.std.specs.Prelude.{◌≡◌, IfOk, IfErr, None};
 ghost use Rattle.doc_core.specs.Standing.{StandsFor};
 ghost use Rattle.op_model.specs.Made.{edit_refusal, made as made_of};
@@ -14,7 +15,7 @@ use op_model::Edit;
 use std::alloc::Global;
 
 /// The operations of an edit of a document that nothing refuses. The list is there for the proof.
-/// An error is want of memory (1). Costs what `Doc::make` does.
+/// An error is out of memory (1). Costs what `Doc::make` does.
 pub fn made(
     alloc: Global,
     ops: &OpSlice<'_>,

@@ -1,3 +1,5 @@
+//! What a merge made of an operation.
+
 /// What a merge made of an operation that isn't refused.
 #[derive(Clone, Copy, Debug, Drop, PartialEq, Eq)]
 pub enum Merged {

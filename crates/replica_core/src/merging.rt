@@ -1,3 +1,4 @@
+//! A replica takes what peers made.
 ghost use Rattle.std.specs.Prelude.{◌≡◌, ◌≤◌, ◌+◌, length, None, Ok};
 ghost use Rattle.std.specs.Prelude.{IfOk, IfErr, OnOk, OnErr, MatchOption};
 ghost use Rattle.fixed_numbers.specs.declared.limits.TheConstants.{MAX_STEPS};
@@ -87,7 +88,7 @@ impl Replica {
     }
 
     /// Puts an operation behind the list that nothing refuses, as `decide_merge` tells. An error is
-    /// want of memory (1), and changes nothing. A few steps for clocks, a search by halves for the
+    /// out of memory (1), and changes nothing. A few steps for clocks, a search by halves for the
     /// document, and what that takes for it.
     pub fn put_merge(&mut self, peer: u64, op: Op) -> Result<(), Refusal>
         requires { CanMerge self.old op }

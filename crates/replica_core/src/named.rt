@@ -1,3 +1,4 @@
+//! Whether the character that an operation names is there for it.
 ghost use Rattle.std.specs.Prelude.{◌≡◌, ◌<◌, ◌==◌, ◌&&◌, length, take, slice_index_or};
 ghost use Rattle.std.specs.List.{list_any};
 ghost use Rattle.op_ids.specs.Id.{is_same};

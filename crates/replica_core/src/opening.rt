@@ -1,3 +1,4 @@
+//! What is known of a list that is opened.
 ghost use Rattle.std.specs.Prelude.{◌≡◌, ◌≢◌, ◌+◌, ◌<◌, ◌^◌, List, ◌∷◌, [], ◌++◌, length, IfOk, IfErr, OnOk};
 ghost use Rattle.op_ids.specs.Clock.{advanced, IsOverfull};
 ghost use Rattle.op_model.specs.declared.op.Op.{Op};
@@ -70,7 +71,7 @@ fn checked(alloc: Global, list: &OpSlice<'_>) -> Result<(Clock, Vec<u32>, Index)
 }
 
 /// Counts an operation that may follow the `behind` counted ones, so that the clock has room for
-/// it. An error is want of memory (1).
+/// it. An error is out of memory (1).
 fn count(
     alloc: Global,
     clock: &mut Clock,

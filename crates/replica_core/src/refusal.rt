@@ -1,3 +1,4 @@
+//! Why a replica refuses a call.
 use fixed_numbers::refusals::{
     BAD_OPERATION, COUNTER, DOCUMENT, LIMIT, MEMORY, NAMES, OWN_UNKNOWN, RANGE, STALE, STEPS,
     STORE_LIMIT,

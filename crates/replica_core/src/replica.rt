@@ -1,3 +1,4 @@
+//! One peer's operations.
 ghost use Rattle.std.specs.Prelude.{◌≡◌, ◌≢◌, ◌↔◌, ◌≤◌, ◌<◌, if◌then◌else◌};
 ghost use Rattle.std.specs.Prelude.{[], length, Contains};
 ghost use Rattle.std.specs.Prelude.{IsTrue, IfOk, IfErr, OnOk, OnErr};
@@ -170,7 +171,7 @@ impl Replica {
         count(find(&self.log.docs, &empty), &self.log.list.as_slice())
     }
 
-    /// The text of a document, unsettled operations included. An error is want of memory (1). A
+    /// The text of a document, unsettled operations included. An error is out of memory (1). A
     /// search by halves for the document, and linear in it.
     pub fn text(&self, doc: u32) -> Result<Text, AllocError>
         ensures { IfOk result (λ seen. seen ≡ text_of self.now.list doc) }
@@ -179,7 +180,7 @@ impl Replica {
         find(&self.log.docs, &empty).text()
     }
 
-    /// The text of a document, cut where the marks change. An error is want of memory (1). An
+    /// The text of a document, cut where the marks change. An error is out of memory (1). An
     /// answer lists at most 1,048,576 comment ids, one counted in each span that lists it: beyond
     /// it is 1. A search by halves for the document, and what `Doc::spans` costs.
     pub fn spans(&self, doc: u32) -> Result<Vec<Span>, AllocError>
@@ -219,7 +220,7 @@ impl Replica {
     }
 
     /// The first settled operations, at most 64 in the order of the list, that a clock doesn't
-    /// count. They count as told. An error is want of memory (1), and changes nothing. For each
+    /// count. They count as told. An error is out of memory (1), and changes nothing. For each
     /// that is told a search by halves among the operations of each replica, and linear in its
     /// record.
     pub fn tell(&mut self, clock: &Clock) -> Result<Vec<Op>, Refusal>
@@ -239,7 +240,7 @@ impl Replica {
     }
 
     /// How many operations of each replica are settled. All settled ones count as told. An error is
-    /// want of memory (1), and changes nothing. A search by halves for each replica.
+    /// out of memory (1), and changes nothing. A search by halves for each replica.
     pub fn have(&mut self) -> Result<Clock, Refusal>
         ensures clock { IfOk result (λ c. c ≡ clock_of (settled_list self.old)) }
         ensures raised { OnOk result (self.new ≡ with_told self.old self.old.settled) }

@@ -1,3 +1,4 @@
+//! A step that a replica made, for contracts alone.
 use ghost_lists::Seen;
 use op_model::Edit;
 

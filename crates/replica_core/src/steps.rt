@@ -1,3 +1,4 @@
+//! The steps that a replica made since it was opened.
 ghost use Rattle.std.specs.Prelude.{◌≡◌, ◌+◌, ◌<◌, nat_le, [], ◌∷◌, length};
 ghost use Rattle.replica_core.specs.Steps.{kept_of};
 

@@ -1,3 +1,4 @@
+//! What a peer lacks.
 ghost use Rattle.std.specs.Prelude.{◌≡◌, ◌≤◌, ◌==◌, length, take, true, IfOk};
 ghost use Rattle.op_model.specs.Causality.{IsCausallyClosed};
 ghost use Rattle.op_model.specs.Telling.{reach, untold as untold_of};
@@ -15,7 +16,7 @@ use std::alloc::{AllocError, Global};
 
 /// Of the first `settled` operations of a causally closed list, with its clock and its index, the
 /// first ones, at most `MAX_TOLD`, that a peer's clock doesn't count, and how many operations the
-/// last of them needs. An error is want of memory (1). For each that is told a search by halves in
+/// last of them needs. An error is out of memory (1). For each that is told a search by halves in
 /// the indexes of each replica; no other operation is looked at.
 pub fn untold(
     alloc: Global,

@@ -1,3 +1,4 @@
+//! What the maker of an edit gets.
 use std::marker::Model;
 
 /// What the maker of an edit gets: the length of the list right after the edit, how many operations

@@ -1,3 +1,4 @@
+//! Edits of one replica.
 use crate::test_asks::{Ask, Wish, answers};
 use replica_core::Refusal;
 use std::alloc::Global;

@@ -1,3 +1,4 @@
+//! Merges among a few replicas.
 use crate::test_asks::{Ask, Wish, answers};
 use crate::test_exchange::answers_of_merged;
 use std::alloc::{AllocError, Global};

@@ -1,3 +1,4 @@
+//! What is told to a peer.
 use crate::test_asks::Ask;
 use crate::test_exchange::answers_of_merged;
 use std::test::Fail;

@@ -3,6 +3,9 @@
 //! version, 24 the replica, 40 the length of the stream, 48 the number of operations, 56 the
 //! number of table pages, 60 zero, from 64 on the numbers of the table pages, 4 bytes each, and
 //! the rest zero. All numbers are big-endian.
+//!
+//! A commit becomes true with one byte, the gate: whatever happens before it, the old root is what
+//! a file stands for.
 #![tactic(auto)]
 
 mod error;

@@ -100,7 +100,7 @@ impl RootBody {
 
     /// The root that these bytes are, or `None` where they are no root body: not 4,088 bytes, a
     /// number out of its range, a wrong number of table pages, one of them below 2 or twice, or a
-    /// rest that isn't zero. One allocation; an error is want of memory (1), and says nothing of
+    /// rest that isn't zero. One allocation; an error is out of memory (1), and says nothing of
     /// the bytes.
     pub fn read(alloc: Global, body: &[u8]) -> Result<Option<RootBody>, AllocError>
         ensures valid { IfOk result (λ found. IsSome found ↔ (is_root body.now ≡ true)) }
@@ -134,7 +134,7 @@ impl RootBody {
         })
     }
 
-    /// The 4,088 bytes that say this. One allocation; an error is want of memory (1).
+    /// The 4,088 bytes that say this. One allocation; an error is out of memory (1).
     pub fn write(&self, alloc: Global) -> Result<Vec<u8>, AllocError>
         ensures bytes { IfOk result (λ body. body.items ≡ body_bytes self.now) }
         ensures read_back { IfOk result (λ body. Spells body.items self.now) }

@@ -90,7 +90,7 @@ fn live_slot(slots: &[u8]) -> Result<u64, RootsError>
     }
 }
 
-// What a body says, or 43 where it is no root body; 1 for want of memory.
+// What a body says, or 43 where it is no root body; 1 when out of memory.
 fn root_of(alloc: Global, body: &[u8]) -> Result<RootBody, RootsError>
     ensures says { IfOk result (λ root. Spells body.now root) }
     ensures written { IfOk result (λ root. body.now ≡ body_bytes root) }
@@ -106,7 +106,7 @@ fn root_of(alloc: Global, body: &[u8]) -> Result<RootBody, RootsError>
 }
 
 /// The live slot and what it says, of the bytes of both slots. 42 where none is open; 43 where two
-/// are with equal versions, or the live one holds no root body; 1 for want of memory.
+/// are with equal versions, or the live one holds no root body; 1 when out of memory.
 pub fn live_root(alloc: Global, slots: &[u8]) -> Result<Live, RootsError>
     requires { length slots.now ≡ SLOTS_SIZE }
     ensures found { IfOk result (λ it. IsLive slots.now it.slot it.stale_open it.root) }

@@ -10,7 +10,7 @@ use op_ids::laws::{read_undoes_bytes, replica_is_not_nil};
 use page_file::put_numbers;
 use std::alloc::{AllocError, Global};
 
-/// The 4,088 bytes of a root with these fields. One allocation; an error is want of memory (1).
+/// The 4,088 bytes of a root with these fields. One allocation; an error is out of memory (1).
 pub fn spelled(
     alloc: Global,
     format: Format,

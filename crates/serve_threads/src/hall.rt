@@ -38,7 +38,7 @@ pub(crate) struct Hall<J: Desks> {
 
 impl<J: Desks> Hall<J> {
     /// Nobody is connected yet. A place is kept for the link that the daemon joins, where it joins
-    /// one. An error is want of memory (1).
+    /// one. An error is out of memory (1).
     pub fn new(
         alloc: Global,
         own: ReplicaId,

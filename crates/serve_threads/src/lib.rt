@@ -1,5 +1,8 @@
 //! The daemon's threads: sessions and peer links over sockets, which share one hub, and its
 //! flusher.
+//!
+//! It has no logic that could stand elsewhere: it lets connections in, gives each a thread, and
+//! ends them all.
 #![tactic(auto)]
 
 mod accepting;

@@ -39,7 +39,7 @@ struct Connected {
 }
 
 impl<J: Desks> Lobby<J> {
-    /// Nobody is connected. An error is want of memory (1).
+    /// Nobody is connected. An error is out of memory (1).
     pub fn new(alloc: Global, passes: Vec<Pass<J>>) -> Result<Lobby<J>, AllocError> {
         let places = passes.len();
         let connected = Vec::with_capacity(alloc, places)?;

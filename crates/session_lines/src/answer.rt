@@ -1,3 +1,4 @@
+//! What a session is answered.
 use crate::refusal::Refusal;
 use crate::span_list::SpanList;
 use op_model::Text;

@@ -1,3 +1,4 @@
+//! An answer as a line of JSON.
 ghost use Rattle.std.specs.Prelude.{◌≡◌, ◌≤◌, ◌+◌, ◌++◌, IsTrue, OnOk, OnErr};
 ghost use Rattle.std.specs.Prelude.{vec_len, vec_capacity};
 ghost use Rattle.session_lines.specs.Putting.{Puts};
@@ -13,7 +14,7 @@ use op_model::Text;
 use std::alloc::{AllocError, Global};
 
 /// Puts an answer as text behind what is there: compact JSON with its keys in the order of their
-/// bytes, and a line feed. An error is want of memory (1), and leaves what is there as it was;
+/// bytes, and a line feed. An error is out of memory (1), and leaves what is there as it was;
 /// where there is room for 128 bytes, it comes for a text or spans alone. The time is that of the
 /// text's length, and nothing but `out` takes memory.
 pub fn say(_alloc: Global, answer: &Answer, out: &mut Vec<u8>) -> Result<(), AllocError>

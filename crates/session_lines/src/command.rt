@@ -1,3 +1,4 @@
+//! What a line asks for.
 use op_model::Edit;
 
 /// What a line of a session asks for.

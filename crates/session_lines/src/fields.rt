@@ -106,7 +106,7 @@ pub fn count(value: &Value) -> Result<NonZeroU32, Refusal>
     NonZeroU32::new(count).ok_or(Refusal::Field)
 }
 
-/// The characters that are inserted. An error is want of memory, or no text of at least one
+/// The characters that are inserted. An error is out of memory, or no text of at least one
 /// character.
 #[tactic(auto, using(std::proofs::lemmas::Str::chars_from_encodes))]
 pub fn characters(alloc: Global, value: &Value) -> Result<EditText, Refusal>
@@ -130,7 +130,7 @@ pub fn kind(value: &Value) -> Result<Kind, Refusal>
         .ok_or(Refusal::Field)
 }
 
-/// Where a link leads. An error is want of memory, or no text of 1 to 1,024 bytes.
+/// Where a link leads. An error is out of memory, or no text of 1 to 1,024 bytes.
 pub fn url(alloc: Global, value: &Value) -> Result<Url, Refusal>
     ensures { Reads result (url_of (view value.now)) }
 {

@@ -1,4 +1,6 @@
 //! The lines of a session: a line as it is read into a command, and an answer as it is written.
+//!
+//! It knows nothing of documents: text comes in, a command goes out, and back.
 #![tactic(auto)]
 
 mod answer;

@@ -1,3 +1,4 @@
+//! A line becomes a command.
 ghost use Rattle.std.specs.Prelude.{◌≡◌, ◌≢◌, IfOk, IfErr, Ok, Err};
 ghost use Rattle.serde_json.specs.View.{view};
 ghost use Rattle.session_lines.specs.declared.refusal.Refusal.TheVariants.{Memory};

@@ -1,3 +1,4 @@
+//! Why a request isn't served.
 ghost use Rattle.std.specs.Prelude.{◌≡◌};
 ghost use Rattle.session_lines.specs.declared.refusal.Refusal.TheVariants.{Memory};
 

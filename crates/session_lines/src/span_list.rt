@@ -1,3 +1,4 @@
+//! The spans of an answer.
 ghost use Rattle.std.specs.Prelude.{◌≡◌};
 
 use op_model::Span;

@@ -13,12 +13,12 @@ abbrev pub request_in : Option (List ℕ) → Result Command Refusal
 request_in None = Err Line
 request_in (Some line) = answer_to line
 
--- what a line is taken for: its request; or want of memory, which can come while a line is read that isn't too long
+-- what a line is taken for: its request; or out of memory, which can come while a line is read that isn't too long
 abbrev pub IsTaken : Option (List ℕ) → Result Command Refusal → Type 0
 IsTaken None taken = taken ≡ Err Line
 IsTaken (Some line) taken = (taken ≡ answer_to line) ⊎ (taken ≡ Err Memory)
 
--- what is said for an answer: its text; or want of memory, which can come in place of a text or spans alone
+-- what is said for an answer: its text; or out of memory, which can come in place of a text or spans alone
 abbrev pub IsSaid : Answer → List ℕ → Type 0
 IsSaid answer text = (text ≡ said answer) ⊎ (IsTrue (is_long answer) × (text ≡ said (Refused Memory)))
 

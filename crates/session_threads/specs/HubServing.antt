@@ -19,13 +19,13 @@ use Rattle.session_threads.specs.HeldDesk.{HeldDesk}
 use Rattle.locked_replica.specs.Run.{Calls}
 use Rattle.session_threads.specs.HubCalls.{AreOfCommit, CannotSettle, Commits}
 
--- the text of a document, or want of memory
+-- the text of a document, or out of memory
 abbrev pub ServesText : {D : Type 0} → HeldDesk D → ℕ → Answer → Type 0
 ServesText desk doc answer =
     let list = desk.hub.replica.list in
     (answer ≡ Text (rev list doc) (text list doc)) ⊎ (answer ≡ Refused Memory)
 
--- the spans of a document, or want of memory
+-- the spans of a document, or out of memory
 abbrev pub ServesSpans : {D : Type 0} → HeldDesk D → ℕ → Answer → Type 0
 ServesSpans desk doc answer =
     let list = desk.hub.replica.list in

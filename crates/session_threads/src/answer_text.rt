@@ -40,7 +40,7 @@ impl AnswerText {
         self.text.as_slice()
     }
 
-    /// Makes this the text of an answer, or of want of memory (1) in place of a long one.
+    /// Makes this the text of an answer, or of out of memory (1) in place of a long one.
     pub fn say(&mut self, alloc: Global, answer: &Answer)
         ensures { IsSaid answer.now self.new }
     {

@@ -17,7 +17,7 @@ pub trait Desk {
     fn line_read(&mut self)
         ensures { self.new ≡ self.old };
 
-    /// Serves a command. Want of memory is an answer like any other refusal.
+    /// Serves a command. Out of memory is an answer like any other refusal.
     fn serve(&mut self, alloc: Global, command: Command) -> Answer
         ensures { serves self.old command result self.new };
 }

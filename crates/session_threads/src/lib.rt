@@ -1,4 +1,7 @@
 //! Sessions: requests are read line by line, a desk serves them, and its answers are written.
+//!
+//! It has no thread: a session is a loop over any reader, writer and desk. Threads begin in
+//! `serve_threads`.
 #![tactic(auto)]
 
 mod answer_text;

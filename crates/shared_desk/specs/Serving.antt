@@ -55,7 +55,7 @@ ServesEdit old e (Status applied settled s) new = ⊥
 ServesEdit old e Stopped new = ⊥
 ServesEdit old e Done new = ⊥
 
--- the text of a document at some moment, at which the pass's entries were the kept steps of its number; or want of memory
+-- the text of a document at some moment, at which the pass's entries were the kept steps of its number; or out of memory
 abbrev pub ServesText : PassHeld → ℕ → Answer → PassHeld → Type 0
 ServesText old doc answer new =
     (new ≡ old)

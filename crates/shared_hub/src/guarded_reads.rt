@@ -28,7 +28,7 @@ impl<J: Desks> Guarded<J> {
         }
     }
 
-    /// The text of a document, unsettled operations included. An error is want of memory (1). Costs
+    /// The text of a document, unsettled operations included. An error is out of memory (1). Costs
     /// what `Locked::text` does.
     pub fn text(&self, doc: u32) -> Result<Shown<Text>, AllocError>
         ensures rev { IfOk result (λ it. it.rev ≡ rev_of self.now.locked.replica.list doc) }
@@ -40,7 +40,7 @@ impl<J: Desks> Guarded<J> {
         })
     }
 
-    /// The text of a document, cut where its marks change. An error is want of memory (1). Costs
+    /// The text of a document, cut where its marks change. An error is out of memory (1). Costs
     /// what `Locked::spans` does.
     pub fn spans(&self, doc: u32) -> Result<Shown<Vec<Span>>, AllocError>
         ensures rev { IfOk result (λ it. it.rev ≡ rev_of self.now.locked.replica.list doc) }

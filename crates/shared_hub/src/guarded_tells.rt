@@ -27,7 +27,7 @@ impl<J: Desks> Guarded<J> {
     }
 
     /// The first settled operations, at most 64 in the order of the list, that a clock doesn't
-    /// count. They count as told. An error is want of memory (1), and changes nothing. Costs what
+    /// count. They count as told. An error is out of memory (1), and changes nothing. Costs what
     /// `Locked::tell` does.
     pub fn tell(&mut self, clock: &Clock) -> Result<Vec<Op>, SharedRefusal>
         ensures call { Makes self.old.locked self.new.locked (tell_event clock.now)
@@ -44,7 +44,7 @@ impl<J: Desks> Guarded<J> {
     }
 
     /// How many operations of each replica are settled. All settled ones count as told. An error is
-    /// want of memory (1), and changes nothing. Costs what `Locked::have` does.
+    /// out of memory (1), and changes nothing. Costs what `Locked::have` does.
     pub fn have(&mut self) -> Result<Clock, SharedRefusal>
         ensures call { Makes self.old.locked self.new.locked have_event (had result) }
         ensures others { self.new ≡ record self.old { locked = self.new.locked } }

@@ -1,5 +1,8 @@
 //! A hub that threads share: what stands under its lock, the passes of the threads that use it, and
 //! what the flusher's thread does.
+//!
+//! The lock of the hub stands here, with all who wait for it, so whoever reads how threads wait
+//! reads this.
 #![tactic(auto)]
 
 mod awaited;

@@ -44,7 +44,7 @@ pub struct Named<J: Desks> {
 }
 
 impl Opened {
-    /// Opens the books. An error is want of memory (1).
+    /// Opens the books. An error is out of memory (1).
     pub fn new(alloc: Global) -> Result<Opened, AllocError> {
         let mut books = Vec::new(alloc);
         let mut shares = Vec::new(alloc);
@@ -58,7 +58,7 @@ impl Opened {
     }
 
     /// Puts the locked part of a hub that has made no step under a lock, with these books. Gives 40
-    /// passes, numbered from 1. An error is want of memory (1).
+    /// passes, numbered from 1. An error is out of memory (1).
     pub fn share<J: Desks>(self, alloc: Global, locked: Locked) -> Result<Named<J>, AllocError>
         requires names { self ≡ J.names }
         requires fresh { locked.replica.steps ≡ [] }
@@ -74,7 +74,7 @@ impl Opened {
     }
 }
 
-/// The passes with these shares, by number. An error is want of memory (1).
+/// The passes with these shares, by number. An error is out of memory (1).
 fn numbered<J: Desks>(alloc: Global, shares: Vec<Share>) -> Result<Vec<Pass<J>>, AllocError>
     requires names { names_of shares.items ≡ J.names }
     requires fresh { All (λ (s : Account). s.entries ≡ []) shares.items }

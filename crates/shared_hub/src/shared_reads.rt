@@ -25,7 +25,7 @@ impl<J: Desks> Shared<J> {
         guard.status()
     }
 
-    /// The text of a document, unsettled operations included. An error is want of memory (1). Costs
+    /// The text of a document, unsettled operations included. An error is out of memory (1). Costs
     /// what `Locked::text` does.
     pub fn text<R: Wait>(
         &self,
@@ -43,7 +43,7 @@ impl<J: Desks> Shared<J> {
         guard.text(doc)
     }
 
-    /// The text of a document, cut where its marks change. An error is want of memory (1). Costs
+    /// The text of a document, cut where its marks change. An error is out of memory (1). Costs
     /// what `Locked::spans` does.
     pub fn spans<R: Wait>(
         &self,

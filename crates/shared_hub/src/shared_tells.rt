@@ -16,7 +16,7 @@ use std::sync::Wait;
 
 impl<J: Desks> Shared<J> {
     /// The first settled operations, at most 64 in the order of the list, that a clock doesn't
-    /// count. They count as told. An error is want of memory (1). Costs what `Locked::tell` does.
+    /// count. They count as told. An error is out of memory (1). Costs what `Locked::tell` does.
     pub fn tell<R: Wait>(&self, rt: &R, clock: &Clock) -> Result<Vec<Op>, SharedRefusal>
         ensures { Happens (tell_event clock.now) (told result) }
     {
@@ -24,7 +24,7 @@ impl<J: Desks> Shared<J> {
     }
 
     /// How many operations of each replica are settled. All settled ones count as told. An error is
-    /// want of memory (1). Costs what `Locked::have` does.
+    /// out of memory (1). Costs what `Locked::have` does.
     pub fn have<R: Wait>(&self, rt: &R) -> Result<Clock, SharedRefusal>
         ensures { Happens have_event (had result) }
     {

@@ -1,3 +1,4 @@
+//! Why an edit makes nothing.
 ghost use Rattle.std.specs.Prelude.{◌≡◌};
 
 use fixed_numbers::refusals::{LIMIT, MEMORY, RANGE, STALE};

@@ -1,3 +1,4 @@
+//! Edits, as the definitions make operations of them.
 ghost use Rattle.std.specs.Prelude.{◌≡◌, ◌≢◌, ◌↔◌, ◌+◌, ◌≤◌, ◌<◌, ◌++◌, length, map};
 ghost use Rattle.std.specs.Prelude.{Some, None, true, false, IfOk, IfErr, IsErrOf, ℕ};
 ghost use Rattle.fixed_numbers.specs.declared.limits.TheConstants.{MAX_COUNTER};

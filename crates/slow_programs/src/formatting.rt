@@ -1,3 +1,4 @@
+//! The marks of a character, by a look at all mark operations.
 ghost use Rattle.std.specs.Prelude.{◌≡◌, ◌+◌, ◌≤◌, ◌<◌, length, IfOk, Option, Some, None, filter};
 ghost use Rattle.std.specs.Option.{option_copied};
 ghost use Rattle.op_model.specs.Marks.{markings as markings_of};
@@ -13,7 +14,7 @@ use op_model::{
 };
 use std::alloc::{AllocError, Global};
 
-/// The mark operations of a document. An error is want of memory (1).
+/// The mark operations of a document. An error is out of memory (1).
 pub fn markings(alloc: Global, ops: &[Op], doc: u32) -> Result<Vec<Marking>, AllocError>
     ensures { IfOk result (λ found. found.items ≡ markings_of ops.now doc) }
 {
@@ -127,7 +128,7 @@ fn comment_ids(alloc: Global, markings: &[Marking]) -> Result<Vec<CommentId>, Al
     Ok(ids)
 }
 
-/// The marks of the k-th character of a text. An error is want of memory (1).
+/// The marks of the k-th character of a text. An error is out of memory (1).
 pub fn marks_of(
     alloc: Global,
     characters: &[Character],

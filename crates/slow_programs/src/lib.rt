@@ -1,5 +1,7 @@
 //! The definitions of the model as plain programs over a list of operations: slow, but exactly what
 //! they say.
+//!
+//! Tests compare the fast programs with them, and who doubts a definition can run it.
 #![tactic(auto)]
 
 mod edit_error;

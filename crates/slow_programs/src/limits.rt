@@ -1,3 +1,4 @@
+//! Whether a list keeps the limits of a store.
 ghost use Rattle.std.specs.Prelude.{◌≡◌, ◌+◌, ◌<◌, List, ◌++◌, length, nat_le, IfOk, OnOk, MatchOption};
 ghost use Rattle.op_model.specs.declared.op.Op.{Op as Operation};
 ghost use Rattle.std.specs.List.{list_all};
@@ -11,7 +12,7 @@ use op_model::{Op, put_among};
 use std::alloc::{AllocError, Global};
 
 /// Whether the operations, and then those made, keep the limits of a store. The clock counts all of
-/// them. An error is want of memory (1).
+/// them. An error is out of memory (1).
 #[tactic(auto, using(model_laws::proofs::Limits::parts))]
 pub fn is_within_limits(
     alloc: Global,
@@ -79,7 +80,7 @@ fn room_behind(ops: &[Op], room: u64) -> Option<u64>
     Some(left)
 }
 
-/// The documents that have operations, in rising order. An error is want of memory (1).
+/// The documents that have operations, in rising order. An error is out of memory (1).
 fn documents(alloc: Global, ops: &[Op], made: &[Op]) -> Result<Vec<u32>, AllocError>
     ensures { IfOk result (λ found. found.items ≡ documents_of (ops.now ++ made.now)) }
 {
@@ -89,7 +90,7 @@ fn documents(alloc: Global, ops: &[Op], made: &[Op]) -> Result<Vec<u32>, AllocEr
     Ok(found)
 }
 
-/// Puts the documents of operations among those of others that come behind them. An error is want
+/// Puts the documents of operations among those of others that come behind them. An error is out
 /// of memory (1).
 fn insert_documents(found: &mut Vec<u32>, ops: &[Op]) -> Result<(), AllocError>
     requires { IsUp found.old.items }

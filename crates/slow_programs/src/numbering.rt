@@ -1,3 +1,4 @@
+//! Counters and clocks, by a look at all operations.
 ghost use Rattle.std.specs.Prelude.{◌≡◌, ◌≤◌, IfOk, IsErrOf};
 ghost use Rattle.fixed_numbers.specs.declared.limits.TheConstants.{MAX_COUNTER};
 ghost use Rattle.op_model.specs.Causality.{clock_of as clock_of_list};

@@ -1,3 +1,4 @@
+//! The walk through the insertion tree.
 ghost use Rattle.std.specs.Prelude.{◌≡◌, ◌≤◌, ◌<◌, ◌∷◌, ◌++◌, length, take, drop, IfOk, OnOk, Option, Some, None};
 ghost use Rattle.op_model.specs.Characters.{character_in, characters as characters_of, in_order};
 ghost use Rattle.op_model.specs.Walk.{is_parent, below, walk as walk_of};
@@ -6,7 +7,7 @@ use op_ids::OpId;
 use op_model::{Character, Op};
 use std::alloc::{AllocError, Global};
 
-/// The characters that were ever inserted into a document, in rising order of id. An error is want
+/// The characters that were ever inserted into a document, in rising order of id. An error is out
 /// of memory (1).
 pub fn characters(alloc: Global, ops: &[Op], doc: u32) -> Result<Vec<Character>, AllocError>
     ensures { IfOk result (λ found. found.items ≡ characters_of ops.now doc) }
@@ -22,7 +23,7 @@ pub fn characters(alloc: Global, ops: &[Op], doc: u32) -> Result<Vec<Character>,
     Ok(found)
 }
 
-/// All characters of a document in the order of its text, tombstones too. An error is want of
+/// All characters of a document in the order of its text, tombstones too. An error is out of
 /// memory (1). Recurses as deep as inserts hang below one another.
 pub fn walk(alloc: Global, ops: &[Op], doc: u32) -> Result<Vec<Character>, AllocError>
     ensures { IfOk result (λ walked. walked.items ≡ walk_of ops.now doc) }

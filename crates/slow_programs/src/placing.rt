@@ -1,3 +1,4 @@
+//! Where an edit's characters and ends stand.
 ghost use Rattle.std.specs.Prelude.{◌≡◌, ◌≤◌, ◌<◌, length, drop, Option, filter};
 ghost use Rattle.op_model.specs.Text.{is_removed as is_removed_in};
 ghost use Rattle.op_model.specs.Made.{first_hidden, behind_visible, is_end_after, is_marking_up_to};

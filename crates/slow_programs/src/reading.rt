@@ -1,3 +1,4 @@
+//! The text, by a look at all operations.
 ghost use Rattle.std.specs.Prelude.{◌≡◌, IfOk, filter, map};
 ghost use Rattle.op_model.specs.Text.{is_removal_of, is_removed as is_removed_in, visible as visible_of, text as text_of, rev as rev_of};
 
@@ -23,7 +24,7 @@ fn removes(body: &Body, id: &OpId) -> bool
     }
 }
 
-/// The characters that a reader sees, in the order of the text. An error is want of memory (1).
+/// The characters that a reader sees, in the order of the text. An error is out of memory (1).
 pub fn visible(alloc: Global, ops: &[Op], doc: u32) -> Result<Vec<Character>, AllocError>
     ensures { IfOk result (λ seen. seen.items ≡ visible_of ops.now doc) }
 {
@@ -35,7 +36,7 @@ pub fn visible(alloc: Global, ops: &[Op], doc: u32) -> Result<Vec<Character>, Al
         .collect(alloc)
 }
 
-/// The text that a reader sees. An error is want of memory (1).
+/// The text that a reader sees. An error is out of memory (1).
 pub fn text(alloc: Global, ops: &[Op], doc: u32) -> Result<Text, AllocError>
     ensures { IfOk result (λ seen. seen ≡ text_of ops.now doc) }
 {

@@ -5,7 +5,7 @@ ghost use Rattle.op_model.specs.Spans.{with_number};
 use op_model::CommentId;
 use std::alloc::AllocError;
 
-/// Puts a comment into a rising list, if it isn't there. An error is want of memory (1). Linear.
+/// Puts a comment into a rising list, if it isn't there. An error is out of memory (1). Linear.
 pub fn insert_rising(ids: &mut Vec<CommentId>, id: CommentId) -> Result<(), AllocError>
     ensures { OnOk result (ids.new.items ≡ with_number id ids.old.items) }
 {

@@ -1,3 +1,4 @@
+//! The spans, character by character.
 ghost use Rattle.std.specs.Prelude.{◌≡◌, IfOk, OnOk};
 ghost use Rattle.slow_programs.specs.Joining.{joins_first_of};
 ghost use Rattle.op_model.specs.Spans.{with_front, spans as spans_of};
@@ -8,7 +9,7 @@ use crate::reading::is_removed;
 use op_model::{Marks, Op, Span, Text};
 use std::alloc::{AllocError, Global};
 
-/// The greatest runs of visible characters of a document with equal marks. An error is want of
+/// The greatest runs of visible characters of a document with equal marks. An error is out of
 /// memory (1).
 pub fn spans(alloc: Global, ops: &[Op], doc: u32) -> Result<Vec<Span>, AllocError>
     ensures { IfOk result (λ found. found.items ≡ spans_of ops.now doc) }

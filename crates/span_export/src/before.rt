@@ -1,3 +1,4 @@
+//! What stands before a byte of Markdown.
 ghost use Rattle.std.specs.Prelude.{◌≡◌};
 ghost use Rattle.span_export.specs.Draft.{is_line_start, is_digits, is_sign_end, is_end};
 ghost use Rattle.span_export.specs.Draft.{is_text, is_loose};

@@ -1,3 +1,4 @@
+//! Spans in the form that is asked for.
 ghost use Rattle.std.specs.Prelude.{◌≡◌, IfOk};
 ghost use Rattle.span_export.specs.Exported.{exported, form_named};
 
@@ -32,7 +33,7 @@ impl Form {
     }
 }
 
-/// Spans in this form, as UTF-8. An error is want of memory (1). The time is that of the result's
+/// Spans in this form, as UTF-8. An error is out of memory (1). The time is that of the result's
 /// length.
 pub fn export(alloc: Global, form: Form, spans: &[Span]) -> Result<Vec<u8>, AllocError>
     ensures { IfOk result (λ bytes. bytes.items ≡ exported form spans.now) }

@@ -14,7 +14,7 @@ use std::alloc::{AllocError, Global};
 
 /// A page of HTML that shows spans: `<strong>`, `<em>`, `<a href>` for a link that is tame (no
 /// scheme, `http`, `https` or `mailto`; any other is shown as text alone), and for each comment a
-/// `<span data-comment>` with its UUID. White space is shown as it stands. An error is want of
+/// `<span data-comment>` with its UUID. White space is shown as it stands. An error is out of
 /// memory (1). The time is that of the page's length.
 pub fn html(alloc: Global, spans: &[Span]) -> Result<Vec<u8>, AllocError>
     ensures page { IfOk result (λ page. page.items ≡ html_page spans.now) }

@@ -1,4 +1,6 @@
 //! A document's spans as a text that other programs read: its characters alone, Markdown, or HTML.
+//!
+//! It takes spans alone, so what is exported of a file is what a session shows of it.
 #![tactic(auto)]
 
 mod before;

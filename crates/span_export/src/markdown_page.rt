@@ -22,7 +22,7 @@ use std::alloc::{AllocError, Global};
 /// link that is tame (no scheme, `http`, `https` or `mailto`; any other is shown as text alone),
 /// and for each comment a tag `<span data-comment>` with its UUID. Line feeds are breaks of the
 /// line. White space at the ends of a span stands outside of its stars, and an empty tag keeps
-/// apart stars that would run together. An error is want of memory (1). The time is that of the
+/// apart stars that would run together. An error is out of memory (1). The time is that of the
 /// page's length.
 pub fn markdown(alloc: Global, spans: &[Span]) -> Result<Vec<u8>, AllocError>
     ensures page { IfOk result (λ page. page.items ≡ markdown_page spans.now) }

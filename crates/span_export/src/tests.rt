@@ -1,3 +1,4 @@
+//! Exports to the byte.
 use super::*;
 use op_model::{CommentId, CommentIds, Marks, Span, Text, Url};
 use std::alloc::Global;

@@ -1,3 +1,4 @@
+//! The mark operations over a character, while one after another is passed.
 ghost use Rattle.std.specs.Prelude.{◌≡◌, [], ◌==◌};
 ghost use Rattle.std.specs.Prelude.{◌||◌, ◌&&◌, ℕ, Bool, List, true, false, not};
 ghost use Rattle.std.specs.Prelude.{length, nat_lt, IfOk, OnOk};
@@ -30,7 +31,7 @@ pub struct Active {
 }
 
 impl Active {
-    /// Those at the start of the text. An error is want of memory (1). For each mark operation a
+    /// Those at the start of the text. An error is out of memory (1). For each mark operation a
     /// search among those of its key.
     pub fn new(alloc: Global, markings: &[Marking]) -> Result<Active, AllocError>
         ensures active { IfOk result (λ a. IsActive a (length markings.now)
@@ -47,7 +48,7 @@ impl Active {
         Ok(active)
     }
 
-    /// Of `count` mark operations that none has begun. An error is want of memory (1).
+    /// Of `count` mark operations that none has begun. An error is out of memory (1).
     fn none(alloc: Global, count: usize) -> Result<Active, AllocError>
         ensures active { IfOk result (λ a. IsActive a count (λ i. false) (λ i. false)) }
         ensures noted { IfOk result (λ a. IsNoted a.deciding.comments []) }
@@ -61,7 +62,7 @@ impl Active {
         })
     }
 
-    /// Takes the edges on one side of a character. An error is want of memory (1). For each edge a
+    /// Takes the edges on one side of a character. An error is out of memory (1). For each edge a
     /// search among those of its key that have begun and not ended.
     pub fn take(
         &mut self,
@@ -86,7 +87,7 @@ impl Active {
         Ok(())
     }
 
-    /// Takes an edge, if it is on this side of its character. An error is want of memory (1).
+    /// Takes an edge, if it is on this side of its character. An error is out of memory (1).
     fn take_one(
         &mut self,
         alloc: Global,
@@ -109,7 +110,7 @@ impl Active {
         self.pass(alloc, edge, markings)
     }
 
-    /// Takes an edge. An error is want of memory (1).
+    /// Takes an edge. An error is out of memory (1).
     fn pass(&mut self, alloc: Global, edge: &Edge, markings: &[Marking]) -> Result<(), AllocError>
         ensures active { OnOk result ((n : ℕ) (begun ended : ℕ → Bool)
             → IsActive self.old n begun ended → IsActive self.new n
@@ -126,7 +127,7 @@ impl Active {
         self.begin(alloc, edge.marking, markings)
     }
 
-    /// A mark operation begins: it is kept, unless it has ended. An error is want of memory (1).
+    /// A mark operation begins: it is kept, unless it has ended. An error is out of memory (1).
     fn begin(&mut self, alloc: Global, i: usize, markings: &[Marking]) -> Result<(), AllocError>
         ensures active { OnOk result ((n : ℕ) (begun ended : ℕ → Bool)
             → IsActive self.old n begun ended
@@ -151,7 +152,7 @@ impl Active {
         i < self.in_force.len() && !has_ended(&self.ended, i)
     }
 
-    /// A mark operation ends: it isn't kept, even where it begins later. An error is want of memory
+    /// A mark operation ends: it isn't kept, even where it begins later. An error is out of memory
     /// (1): an older comment may stand again.
     fn end(&mut self, i: usize, markings: &[Marking]) -> Result<(), AllocError>
         ensures active { OnOk result ((n : ℕ) (begun ended : ℕ → Bool)
@@ -168,7 +169,7 @@ impl Active {
     }
 
     /// The marks of a character that just the mark operations cover that have begun and not ended.
-    /// An error is want of memory (1). A copy of the link, and of the comments that stand.
+    /// An error is out of memory (1). A copy of the link, and of the comments that stand.
     pub fn marks(&self, alloc: Global, markings: &[Marking]) -> Result<Marks, AllocError>
         ensures { IfOk result (λ marks. IsUp (kept self.now)
             → Decides self.now.deciding markings.now (kept self.now)
@@ -198,7 +199,7 @@ impl Active {
     }
 }
 
-/// For `count` mark operations a flag that isn't set. An error is want of memory (1).
+/// For `count` mark operations a flag that isn't set. An error is out of memory (1).
 fn no_flags(alloc: Global, count: usize) -> Result<Vec<bool>, AllocError>
     ensures { IfOk result (λ flags. flags.items ≡ replicate count false) }
 {

@@ -1,3 +1,4 @@
+//! Which of them decide.
 ghost use Rattle.std.specs.Prelude.{◌≡◌, ◌&&◌, ◌==◌, ℕ, List, [], filter, not, IfOk, OnOk};
 ghost use Rattle.std.specs.Prelude.{option_and_then};
 ghost use Rattle.std.specs.Option.{option_copied};
@@ -39,7 +40,7 @@ impl Deciding {
         }
     }
 
-    /// The i-th mark operation begins. An error is want of memory (1). A search among those of its
+    /// The i-th mark operation begins. An error is out of memory (1). A search among those of its
     /// key, and among the comments.
     pub fn begin(&mut self, alloc: Global, i: usize, markings: &[Marking]) -> Result<(), AllocError>
         ensures noted { OnOk result ((ids : List ℕ) → IsNoted self.old.comments ids
@@ -59,7 +60,7 @@ impl Deciding {
         }
     }
 
-    /// The i-th mark operation ends. An error is want of memory (1). A search among those of its
+    /// The i-th mark operation ends. An error is out of memory (1). A search among those of its
     /// key, and among the comments.
     pub fn end(&mut self, i: usize, markings: &[Marking]) -> Result<(), AllocError>
         ensures noted { OnOk result ((ids : List ℕ) → IsNoted self.old.comments ids
@@ -81,7 +82,7 @@ impl Deciding {
     }
 
     /// The marks of a character that just the mark operations that have begun and not ended cover.
-    /// An error is want of memory (1). A copy of the link, and of the comments that stand.
+    /// An error is out of memory (1). A copy of the link, and of the comments that stand.
     pub fn marks(&self, alloc: Global, markings: &[Marking]) -> Result<Marks, AllocError>
         ensures { IfOk result (λ marks. (set : List ℕ) → IsUp set
             → Decides self.now markings.now set → marks ≡ marks_in (picked markings.now set)) }
@@ -137,7 +138,7 @@ fn leads_to(mark: Option<&Mark>, link: &Option<Url>) -> bool
     }
 }
 
-/// Where a link leads. An error is want of memory (1).
+/// Where a link leads. An error is out of memory (1).
 fn link_of(mark: Option<&Mark>) -> Result<Option<Url>, AllocError>
     ensures { IfOk result (λ url. url ≡ option_and_then url_of (option_copied mark.entry)) }
 {

@@ -1,3 +1,4 @@
+//! Those about comments.
 ghost use Rattle.std.specs.Prelude.{◌≡◌, ◌==◌, ◌&&◌, ◌||◌, ℕ, Bool, List, [], cond, true, is_some};
 ghost use Rattle.std.specs.Prelude.{filter, not, IfOk, OnOk, None};
 ghost use Rattle.std.specs.BTreeMap.{get, is_at};
@@ -43,7 +44,7 @@ impl Discussed {
         }
     }
 
-    /// The i-th mark operation, which is about this comment, begins. An error is want of memory
+    /// The i-th mark operation, which is about this comment, begins. An error is out of memory
     /// (1). A search among the comments, and one among those about this one.
     pub fn begin(
         &mut self,
@@ -67,7 +68,7 @@ impl Discussed {
         Ok(())
     }
 
-    /// The i-th mark operation, which is about this comment, ends. An error is want of memory (1).
+    /// The i-th mark operation, which is about this comment, ends. An error is out of memory (1).
     /// A search among the comments, and one among those about this one.
     pub fn end(&mut self, id: CommentId, i: usize, markings: &[Marking]) -> Result<(), AllocError>
         ensures noted { OnOk result ((ids : List ℕ) → IsNoted self.old ids
@@ -85,7 +86,7 @@ impl Discussed {
         Ok(())
     }
 
-    /// Those that stand, in order. An error is want of memory (1). Linear in them.
+    /// Those that stand, in order. An error is out of memory (1). Linear in them.
     pub fn standing(&self, alloc: Global) -> Result<CommentIds, AllocError>
         ensures { IfOk result (λ ids. (ms : List stored.Marking) (set : List ℕ)
             → AreDiscussed self.now ms set → ids ≡ standing (picked ms set)) }
@@ -111,7 +112,7 @@ impl Discussed {
     }
 }
 
-/// These comments, in order. An error is want of memory (1). Linear in them.
+/// These comments, in order. An error is out of memory (1). Linear in them.
 fn listed(alloc: Global, standing: &BTreeSet<CommentId>) -> Result<Vec<CommentId>, AllocError>
     ensures items { IfOk result (λ ids. ids.items ≡ keys standing.now) }
     ensures ordered { IsOrdered nat_cmp standing.now }
@@ -119,7 +120,7 @@ fn listed(alloc: Global, standing: &BTreeSet<CommentId>) -> Result<Vec<CommentId
     standing.iter().copied().collect::<Vec<CommentId>>(alloc)
 }
 
-/// One more rank of a comment. An error is want of memory (1).
+/// One more rank of a comment. An error is out of memory (1).
 fn insert(
     alloc: Global,
     ranks: &mut BTreeMap<CommentId, Ranks>,
@@ -135,7 +136,7 @@ fn insert(
     }
 }
 
-/// The first rank of a comment. An error is want of memory (1).
+/// The first rank of a comment. An error is out of memory (1).
 fn insert_first(
     alloc: Global,
     ranks: &mut BTreeMap<CommentId, Ranks>,
@@ -176,7 +177,7 @@ fn stands(ranks: &BTreeMap<CommentId, Ranks>, id: CommentId, markings: &[Marking
 }
 
 /// Puts a comment among those that stand, or takes it out; if it wasn't so before, it differs from
-/// what was noted where it didn't. An error is want of memory (1).
+/// what was noted where it didn't. An error is out of memory (1).
 fn settle(
     standing: &mut BTreeSet<CommentId>,
     since: &mut BTreeSet<CommentId>,
@@ -199,7 +200,7 @@ fn settle(
     put(since, id, !differed)
 }
 
-/// Puts a comment among others, or takes it out. An error is want of memory (1).
+/// Puts a comment among others, or takes it out. An error is out of memory (1).
 fn put(set: &mut BTreeSet<CommentId>, id: CommentId, is_in: bool) -> Result<(), AllocError>
     ensures { OnOk result ((other : ℕ) → contains nat_cmp set.new other
         ≡ cond (id == other) is_in (contains nat_cmp set.old other)) }

@@ -1,3 +1,4 @@
+//! Why there are no spans.
 use fixed_numbers::refusals::MEMORY;
 use std::alloc::AllocError;
 use thiserror::Error;

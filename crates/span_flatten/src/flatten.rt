@@ -1,3 +1,4 @@
+//! The spans of a document.
 ghost use Rattle.std.specs.Prelude.{◌≡◌, ◌+◌, ◌*◌, ◌≤◌, ◌<◌, ℕ, List};
 ghost use Rattle.std.specs.Prelude.{Some, take, IfOk, IsErrOf, OnOk};
 ghost use Rattle.fixed_numbers.specs.declared.limits.TheConstants.{MAX_LISTED};
@@ -67,7 +68,7 @@ pub fn spans_in(
     sweep.spans(alloc)
 }
 
-/// The same, character by character, however many comment ids are listed. An error is want of
+/// The same, character by character, however many comment ids are listed. An error is out of
 /// memory (1). A copy of the characters, tombstones too; for each visible character a search for
 /// both characters of each mark operation, and the square of those about comments that cover it.
 pub fn spans_slow(sequence: &Sequence, anchors: &Anchors) -> Result<Vec<Span>, AllocError>
@@ -80,7 +81,7 @@ pub fn spans_slow(sequence: &Sequence, anchors: &Anchors) -> Result<Vec<Span>, A
     spans_of(alloc, runs)
 }
 
-/// The characters of a sequence in the order of the text, tombstones too. An error is want of
+/// The characters of a sequence in the order of the text, tombstones too. An error is out of
 /// memory (1).
 fn cells(alloc: Global, sequence: &Sequence) -> Result<Vec<Cell>, AllocError>
     ensures { IfOk result (λ found. found.items ≡ cells_of sequence.now) }
@@ -96,7 +97,7 @@ fn cells(alloc: Global, sequence: &Sequence) -> Result<Vec<Cell>, AllocError>
     Ok(found)
 }
 
-/// The characters of one more chunk, behind those before it. An error is want of memory (1).
+/// The characters of one more chunk, behind those before it. An error is out of memory (1).
 fn add_chunk(
     sequence: &Sequence,
     i: usize,
@@ -119,7 +120,7 @@ fn add_chunk(
 }
 
 /// The greatest runs of the visible ones among the cells of a document, the last one first. An
-/// error is want of memory (1).
+/// error is out of memory (1).
 fn runs(
     alloc: Global,
     cells: &[Cell],

@@ -1,3 +1,4 @@
+//! The marks of one character.
 ghost use Rattle.std.specs.Prelude.{◌≡◌, map, IfOk};
 ghost use Rattle.span_flatten.specs.Formatting.{marks_in};
 
@@ -5,7 +6,7 @@ use comment_marks::{Comments, decided};
 use op_model::{Mark, MarkKey, Marking, Marks};
 use std::alloc::{AllocError, Global};
 
-/// The marks of a character that these mark operations cover. An error is want of memory (1). For
+/// The marks of a character that these mark operations cover. An error is out of memory (1). For
 /// each of them a search among the comments that they name.
 pub fn marks_of(alloc: Global, set: &[&Marking]) -> Result<Marks, AllocError>
     ensures { IfOk result (λ marks. marks ≡ marks_in (map (λ m. m.now) set.now)) }

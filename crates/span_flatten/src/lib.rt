@@ -1,4 +1,6 @@
 //! The spans of a document: the greatest runs of its visible characters with equal marks.
+//!
+//! One pass over the text and its marks, where the definitions look at all marks of each character.
 #![tactic(auto)]
 
 mod active;

@@ -1,3 +1,4 @@
+//! How many comment ids are listed.
 ghost use Rattle.std.specs.Prelude.{◌≡◌, ◌+◌, ◌<◌, OnErr, OnOk};
 
 use crate::error::SpansError;

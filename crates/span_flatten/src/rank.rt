@@ -1,3 +1,4 @@
+//! The rank of a mark operation among those of its key.
 ghost use Rattle.std.specs.Prelude.{◌≡◌};
 
 use op_ids::OpId;

@@ -1,3 +1,4 @@
+//! The ranks of the mark operations of one key.
 ghost use Rattle.std.specs.Prelude.{◌≡◌, ℕ, List, IsTrue, IfSome, IfNone, OnOk, cond};
 ghost use Rattle.std.specs.Prelude.{true, false, option_and_then, slice_get};
 ghost use Rattle.std.specs.BTreeMap.{is_at};
@@ -31,7 +32,7 @@ impl Ranks {
         }
     }
 
-    /// One more. An error is want of memory (1). A search among them.
+    /// One more. An error is out of memory (1). A search among them.
     pub fn insert(&mut self, rank: Rank) -> Result<(), AllocError>
         ensures { OnOk result ((q : ranked.Rank) → has_rank self.new q
             ≡ cond (is_at (rank_cmp rank) q) true (has_rank self.old q)) }

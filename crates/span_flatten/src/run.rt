@@ -1,3 +1,4 @@
+//! Runs of characters with equal marks.
 ghost use Rattle.std.specs.Prelude.{◌≡◌, IfOk, OnOk};
 ghost use Rattle.op_model.specs.Spans.{with_front};
 ghost use Rattle.span_flatten.specs.Runs.{span_of, spans_of_runs};
@@ -13,7 +14,7 @@ pub struct Run {
 }
 
 /// Puts a character before these runs, which are taken from the last one on: it joins the run
-/// behind it, if that has its marks. An error is want of memory (1).
+/// behind it, if that has its marks. An error is out of memory (1).
 pub fn put_before(
     alloc: Global,
     value: char,
@@ -35,7 +36,7 @@ pub fn put_before(
     Ok(())
 }
 
-/// The spans of runs that were taken from the last one on. An error is want of memory (1).
+/// The spans of runs that were taken from the last one on. An error is out of memory (1).
 pub fn spans_of(alloc: Global, runs: Vec<Run>) -> Result<Vec<Span>, AllocError>
     ensures { IfOk result (λ spans. spans.items ≡ spans_of_runs runs.items) }
 {

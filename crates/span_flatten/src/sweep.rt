@@ -1,3 +1,4 @@
+//! One pass over the characters of a document.
 ghost use Rattle.std.specs.Prelude.{◌≡◌, ◌+◌, ◌≤◌, ◌<◌, ℕ, List, [], ◌∷◌, ◌++◌, length, take};
 ghost use Rattle.std.specs.Prelude.{Some, false, map, slice_get, IfOk, IsErrOf, OnOk};
 ghost use Rattle.fixed_numbers.specs.declared.limits.TheConstants.{MAX_LISTED};
@@ -39,7 +40,7 @@ pub struct Sweep {
 }
 
 impl Sweep {
-    /// Before the first character. An error is want of memory (1). Linear in the mark operations.
+    /// Before the first character. An error is out of memory (1). Linear in the mark operations.
     pub fn new(alloc: Global, markings: &[Marking]) -> Result<Sweep, AllocError>
         ensures { IfOk result (λ s. (cells : List stored.Cell) → IsSwept s cells markings.now 0) }
     {
@@ -51,7 +52,7 @@ impl Sweep {
         })
     }
 
-    /// Passes the characters of one more chunk. An error is want of memory, or that the spans would
+    /// Passes the characters of one more chunk. An error is out of memory, or that the spans would
     /// list too many comment ids (1). A tick for each.
     pub fn pass_chunk(
         &mut self,
@@ -145,7 +146,7 @@ impl Sweep {
     }
 
     /// The same where mark operations changed: the character joins the last run, if that has its
-    /// marks, else it begins one. The comments are listed only then. An error is want of memory
+    /// marks, else it begins one. The comments are listed only then. An error is out of memory
     /// (1), or that more are listed than may be.
     fn show_changed(
         &mut self,
@@ -175,7 +176,7 @@ impl Sweep {
         Ok(())
     }
 
-    /// The spans. An error is want of memory (1).
+    /// The spans. An error is out of memory (1).
     pub fn spans(self, alloc: Global) -> Result<Vec<Span>, SpansError>
         ensures spans { IfOk result (λ spans. spans.items ≡ map forward_span self.runs.items) }
         ensures memory { IsErrOf result SpansError.Listing → ⊥ }
@@ -195,7 +196,7 @@ fn is_changed(was: bool, edges: &[Edge]) -> bool
 }
 
 /// Puts a character behind these runs as one more, whose comment ids are counted first. An error is
-/// want of memory (1), or that they are more than may yet be listed.
+/// out of memory (1), or that they are more than may yet be listed.
 fn begin_run(
     alloc: Global,
     value: char,
@@ -213,7 +214,7 @@ fn begin_run(
     Ok(push_run(alloc, value, marks, runs)?)
 }
 
-/// Puts a character behind these runs as one more. An error is want of memory (1).
+/// Puts a character behind these runs as one more. An error is out of memory (1).
 fn push_run(alloc: Global, value: char, marks: Marks, runs: &mut Vec<Run>) -> Result<(), AllocError>
     ensures { OnOk result (map forward_span runs.new.items ≡ map forward_span runs.old.items
         ++ record { text = value ∷ []; marks = marks } ∷ []) }
@@ -236,7 +237,7 @@ fn is_last_same(runs: &[Run], active: &Active, markings: &[Marking]) -> bool
     }
 }
 
-/// Puts a character behind the last of these runs. An error is want of memory (1).
+/// Puts a character behind the last of these runs. An error is out of memory (1).
 fn join(value: char, runs: &mut Vec<Run>) -> Result<(), SpansError>
     ensures joined { OnOk result (map forward_span runs.new.items
         ≡ extended value (map forward_span runs.old.items)) }
@@ -245,7 +246,7 @@ fn join(value: char, runs: &mut Vec<Run>) -> Result<(), SpansError>
     Ok(extend(value, runs)?)
 }
 
-/// The same, of which the only error is want of memory.
+/// The same, of which the only error is out of memory.
 fn extend(value: char, runs: &mut Vec<Run>) -> Result<(), AllocError>
     ensures { OnOk result (map forward_span runs.new.items
         ≡ extended value (map forward_span runs.old.items)) }
@@ -256,7 +257,7 @@ fn extend(value: char, runs: &mut Vec<Run>) -> Result<(), AllocError>
     Ok(())
 }
 
-/// The spans of runs. An error is want of memory (1).
+/// The spans of runs. An error is out of memory (1).
 fn spans_of(alloc: Global, runs: Vec<Run>) -> Result<Vec<Span>, AllocError>
     ensures { IfOk result (λ spans. spans.items ≡ map forward_span runs.items) }
 {

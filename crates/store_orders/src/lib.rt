@@ -1,4 +1,6 @@
 //! What an order over one disk does, and how a run of the program ends.
+//!
+//! It takes any disk, reader and writers, so whole runs of the program are tested in memory.
 #![tactic(auto)]
 
 mod ended;

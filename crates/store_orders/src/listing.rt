@@ -21,7 +21,7 @@ pub fn listing<D: Disk>(alloc: Global, hub: &Hub<D>) -> Result<Vec<u8>, Fault>
     Ok(lines)
 }
 
-/// Puts a line for each of these documents. An error is want of memory (1).
+/// Puts a line for each of these documents. An error is out of memory (1).
 fn put_documents<D: Disk>(
     hub: &Hub<D>,
     numbers: &[u32],
@@ -36,7 +36,7 @@ fn put_documents<D: Disk>(
     Ok(())
 }
 
-/// Puts the line of a document. An error is want of memory (1).
+/// Puts the line of a document. An error is out of memory (1).
 fn put_line<D: Disk>(hub: &Hub<D>, number: u32, lines: &mut Vec<u8>) -> Result<(), AllocError>
     ensures { OnOk result (lines.new.items
         ≡ lines.old.items ++ document_line hub.now.replica.list number) }

@@ -1,3 +1,4 @@
+//! Numbers in bytes, and page numbers.
 use page_file::{are_pages, is_zero, put_numbers, take_numbers};
 use std::test::Fail;
 

@@ -1,3 +1,4 @@
+//! Pages and tables that are loaded.
 use disk_trait::{Disk, FaultDisk, MemDisk};
 use page_file::{PageError, Pages, put_numbers};
 use std::alloc::Global;

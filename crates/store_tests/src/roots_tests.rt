@@ -1,3 +1,4 @@
+//! Root slots: which one is live, and what is refused.
 ghost use Rattle.std.specs.Prelude.{◌≡◌, ◌≤◌, length};
 
 use crate::body_tests::{FIRST, MADE, SECOND, body_of};

@@ -54,7 +54,7 @@ pub fn measure(alloc: Global, format: Format, bytes: &[u8]) -> Result<Front, Str
 }
 
 /// The piece at the front of some bytes that are a stream of the format, and how many bytes its
-/// record takes. An error is want of memory (1).
+/// record takes. An error is out of memory (1).
 pub fn first_piece(
     alloc: Global,
     format: Format,

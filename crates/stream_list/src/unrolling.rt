@@ -10,7 +10,7 @@ use change_codec::Format;
 use op_list::OpList;
 use std::alloc::{AllocError, Global};
 
-/// The operations of a stream of a format, one by one. An error is want of memory (1). Two passes
+/// The operations of a stream of a format, one by one. An error is out of memory (1). Two passes
 /// over the stream, and linear in the records of its operations, which it takes memory for.
 pub fn unrolled(alloc: Global, format: Format, stream: &[u8]) -> Result<OpList, AllocError>
     requires { (ops : List Operation) × SpellsList format ops stream.now

@@ -1,3 +1,4 @@
+//! Where marks begin and end.
 use crate::test_names::id;
 use char_sequence::Sequence;
 use mark_anchors::{Anchors, Place};

@@ -1,3 +1,4 @@
+//! Which comments stand.
 use crate::test_names::{comment, id};
 use comment_marks::Comments;
 use op_model::{End, Mark, MarkKey, Marking, Start};

@@ -1,3 +1,4 @@
+//! Documents that are edited and merged.
 use crate::test_documents::Peer;
 use op_model::{Anchor, Change, End, Mark, MarkKey};
 use std::test::Fail;

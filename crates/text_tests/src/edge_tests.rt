@@ -1,3 +1,4 @@
+//! Many ends of marks, in chunks.
 use crate::test_names::id;
 use char_sequence::Sequence;
 use mark_anchors::{Anchors, Edge};

@@ -1,3 +1,4 @@
+//! The worked examples, by the plain programs.
 use crate::test_names::{comment, replica, text_of};
 use crate::test_plain::{Look, PlainPeer, Shown, asked, edit_text, link, span_marks};
 use op_model::{Change, CommentIds, Edit, Mark, MarkKey, Marks, Text};

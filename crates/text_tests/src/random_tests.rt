@@ -1,3 +1,4 @@
+//! Random edits of a few replicas, against the plain programs.
 use crate::test_documents::Peer;
 use op_model::{Change, CommentId, Mark, MarkKey, Url};
 use slow_programs::spans;

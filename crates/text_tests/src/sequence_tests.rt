@@ -1,3 +1,4 @@
+//! Sequences of characters.
 use crate::test_sequences::{has_run_after, has_text, is_done, refusal, some_names};
 use char_sequence::{EndsAfter, Sequence};
 use op_ids::OpId;

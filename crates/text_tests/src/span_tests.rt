@@ -1,3 +1,4 @@
+//! Spans.
 use crate::test_names::{id, text_of};
 use char_sequence::Sequence;
 use mark_anchors::Anchors;

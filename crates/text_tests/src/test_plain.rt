@@ -24,7 +24,7 @@ impl PlainPeer {
     }
 
     // While a test holds a peer it returns nowhere, since each early return would drop it: so these
-    // calls answer plain values, and false for want of memory, too.
+    // calls answer plain values, and false when out of memory, too.
 
     pub(crate) fn change(&mut self, change: Change) -> bool {
         let edit = asked(1, None, change);

@@ -1,3 +1,4 @@
+//! Weaves, against sequences.
 use crate::test_sequences::{has_run_after, has_text, is_done, refusal, some_names};
 use char_sequence::{Sequence, Weave};
 use op_ids::OpId;

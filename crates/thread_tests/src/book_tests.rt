@@ -1,3 +1,4 @@
+//! The books of passes.
 use pass_books::open;
 use std::test::Fail;
 

@@ -1,3 +1,4 @@
+//! A hub that threads share.
 ghost use Rattle.std.specs.Prelude.{◌≡◌, [], IfSome};
 
 use disk_trait::MemDisk;

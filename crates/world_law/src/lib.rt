@@ -1,4 +1,6 @@
 //! Laws of a world of replicas: no id names two things, anywhere, ever.
+//!
+//! One replica's proof says nothing of two; here many tell one another, lose and repeat, and crash.
 #![tactic(auto)]
 
 mod closed_lists;
