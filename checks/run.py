@@ -15,6 +15,7 @@ import exports
 import formats
 import full_disk
 import idle_links
+import journal
 import kills
 import last_place
 import locks
@@ -29,10 +30,12 @@ import peers
 import put_back
 import renewal
 import rude
+import sentences
 import served_limits
 import serving
 import session_memory
 import streams
+import terminal
 import tokens
 import web_pages
 import words
@@ -41,7 +44,7 @@ from program import Checks
 
 LIMIT = 600
 GROUPS = (
-    words, examples, exports, long_texts, streams, locks, lost_files, full_disk, ending, crafted, formats, long_runs, damage, each_byte, kills, tokens, memory, serving, served_limits, web_pages,
+    words, sentences, terminal, examples, exports, long_texts, streams, locks, lost_files, full_disk, ending, crafted, formats, long_runs, damage, each_byte, kills, tokens, memory, serving, served_limits, journal, web_pages,
     last_place, peers, parting, put_back, backups, parted_files, idle_links, rude, noise, worst, session_memory, renewal,
 )
 

@@ -12,4 +12,6 @@ pub struct ServeOrder<'a> {
     pub link: Option<u16>,
     /// Whether the program ends once the device failed.
     pub ends_on_failure: bool,
+    /// Whether each event is written to standard error.
+    pub logs: bool,
 }

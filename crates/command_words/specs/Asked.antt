@@ -17,7 +17,7 @@ use Rattle.command_syntax.specs.declared.bad_port.BadPort.{BadPort}
 
 -- a session in memory, a new store of a replica, a session over a store, a document of a store, all its documents, one of them in a
 -- form for other programs, or a store served at a port for sessions and one for peers, with the port of a peer to join where one is named, to its end or until
--- the device failed
+-- the device failed, with its events written or not
 pub data Asked : Type 0 where
   in_memory : Asked
   init : List ℕ → ℕ → Asked
@@ -25,7 +25,7 @@ pub data Asked : Type 0 where
   dump : List ℕ → ℕ → Asked
   list : List ℕ → Asked
   export : List ℕ → ℕ → Form → Asked
-  serve : List ℕ → ℕ → ℕ → Option ℕ → Bool → Asked
+  serve : List ℕ → ℕ → ℕ → Option ℕ → Bool → Bool → Asked
 
 -- what an order over one disk asks for
 abbrev pub meant_of_store : StoreOrder → Asked
@@ -39,7 +39,7 @@ meant (order.Store order) = meant_of_store order
 meant (order.Dump order) = dump order.file.now order.doc
 meant (order.List order) = list order.file.now
 meant (order.Export order) = export order.file.now order.doc order.form
-meant (order.Serve order) = serve order.file.now order.sessions order.peers order.link order.ends_on_failure
+meant (order.Serve order) = serve order.file.now order.sessions order.peers order.link order.ends_on_failure order.logs
 
 -- an `init` with the values of its arguments
 abbrev pub init_of : List Row → Option Asked
@@ -85,7 +85,7 @@ is_flag_given flag rows = is_true (first_of flag rows)
 abbrev pub serve_of : List Row → Option Asked
 serve_of rows =
     option_and_then (λ file. option_and_then (λ sessions. option_and_then (λ peers.
-    option_map (λ link. serve file sessions peers link (is_flag_given (codes "end-on-failure") rows))
+    option_map (λ link. serve file sessions peers link (is_flag_given (codes "end-on-failure") rows) (is_flag_given (codes "log") rows))
     (optional_port_of (first_of (codes "link") rows)))
     (port_at (codes "peers") rows))
     (port_at (codes "sessions") rows))

@@ -131,6 +131,7 @@ fn serve<'a>(matches: &ArgMatches<'a>) -> Option<Order<'a>>
         peers,
         link,
         ends_on_failure,
+        logs: is_given(matches, "log"),
     }))
 }
 

@@ -1,7 +1,12 @@
 //! The program `peritext`.
 #![tactic(auto)]
 
+mod error_stream;
 mod held;
+mod looking;
+mod refusing;
+mod serving;
+mod sockets;
 mod standard;
 
 use std::process::ExitCode;

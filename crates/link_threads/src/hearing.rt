@@ -1,13 +1,17 @@
 //! The thread of a link that hears.
 
 use crate::link_end::{LinkEnd, Said};
+use crate::link_log::LinkLog;
+use crate::over::Over;
 use crate::patience::Patience;
-use causal_sync::Ops;
+use causal_sync::{LinkError, Ops};
 use fixed_numbers::refusals::{BUSY, FAILED, MEMORY, STEPS, STOPPING};
+use op_ids::ReplicaId;
 use pass_books::{Desks, Pass};
 use replica_core::Merged;
 use rtrb::Producer;
 use shared_hub::{Gate, Point, Shared, SharedRefusal};
+use std::alloc::Global;
 use std::io::{ErrorKind, Read};
 use std::rt::Clock;
 use std::sync::Wait;
@@ -61,6 +65,9 @@ pub(crate) struct Hearing<'a, R: Wait + Clock, J: Desks, G: Gate> {
     pub patience: Patience,
     /// Whether an operation found no steps left (10), so that none can be taken any more.
     pub is_out_of_steps: bool,
+    /// What ended the link, once it has.
+    pub over: Over,
+    pub log: LinkLog<'a>,
 }
 
 impl<'a, R: Wait + Clock, J: Desks, G: Gate> Hearing<'a, R, J, G> {
@@ -72,6 +79,7 @@ impl<'a, R: Wait + Clock, J: Desks, G: Gate> Hearing<'a, R, J, G> {
         gate: &'a G,
         pass: &'a mut Pass<J>,
         notes: Producer<u8>,
+        log: LinkLog<'a>,
     ) -> Hearing<'a, R, J, G> {
         Hearing {
             rt,
@@ -86,13 +94,15 @@ impl<'a, R: Wait + Clock, J: Desks, G: Gate> Hearing<'a, R, J, G> {
             has_taken: false,
             patience: Patience::new(),
             is_out_of_steps: false,
+            over: Over::Closed,
+            log,
         }
     }
 
     /// Hears what the other end says, and merges its operations, until the stream ends, breaks its
     /// rules or says BYE; an operation is refused for good, for want of steps (10) or since the
     /// device failed (9); or the other end has operations of this replica that aren't here.
-    pub fn run<S: Read>(&mut self, stream: &mut S) {
+    pub fn run<S: Read>(&mut self, alloc: Global, own: ReplicaId, stream: &mut S) {
         let mut piece = [0; PIECE];
         for _ in self.rt.forever() {
             let count = match stream.read(&mut piece) {
@@ -102,7 +112,15 @@ impl<'a, R: Wait + Clock, J: Desks, G: Gate> Hearing<'a, R, J, G> {
                 Err(_) => return,
             };
             let fed = self.end.feed(self.rt, &piece[..count]);
-            if !self.hear_frames() || fed.is_err() {
+            if !self.hear_frames() {
+                return;
+            }
+            if let Err(error) = fed {
+                self.over = Over::Broken(error);
+                let is_hello = error == LinkError::BadHello;
+                if is_hello && LinkEnd::is_own_hello(alloc, own, &piece[..count]) {
+                    self.log.greeted_by_copy(self.rt, own);
+                }
                 return;
             }
             self.note_peer();
@@ -126,10 +144,16 @@ impl<'a, R: Wait + Clock, J: Desks, G: Gate> Hearing<'a, R, J, G> {
             };
             self.gate.pass(Point::FrameRead);
             let goes_on = match said {
-                Said::Hello => true,
+                Said::Hello(replica) => {
+                    self.log.greeted(self.rt, replica);
+                    true
+                }
                 Said::Have { is_news, own } => self.hear_have(is_news, own),
                 Said::Ops(ops) => self.hear_ops(ops),
-                Said::Bye => false,
+                Said::Bye => {
+                    self.over = Over::Bye;
+                    false
+                }
             };
             if !goes_on {
                 return false;
@@ -145,6 +169,7 @@ impl<'a, R: Wait + Clock, J: Desks, G: Gate> Hearing<'a, R, J, G> {
         if self.counted < own {
             self.counted = own;
             if self.shared.stop_if_put_back(self.rt, own) {
+                self.over = Over::PutBack;
                 return false;
             }
         }
@@ -196,7 +221,11 @@ impl<'a, R: Wait + Clock, J: Desks, G: Gate> Hearing<'a, R, J, G> {
                     Ok(Merged::Early) => is_early = true,
                     Err(refusal) => {
                         self.is_out_of_steps = refusal.number() == STEPS;
-                        return behind(refusal);
+                        let merging = behind(refusal);
+                        if merging != Merging::CantTake {
+                            self.over = Over::Refused(refusal);
+                        }
+                        return merging;
                     }
                 }
             }

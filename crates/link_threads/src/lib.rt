@@ -6,11 +6,14 @@
 
 mod hearing;
 mod link_end;
+mod link_log;
 mod link_thread;
 mod locked_line;
+mod over;
 mod patience;
 mod shared_peer;
 mod telling;
 mod told;
 
+pub use link_log::LinkLog;
 pub use link_thread::{Parted, serve_link};

@@ -19,7 +19,7 @@ pub(crate) struct LinkEnd {
 /// What a frame of the other end is to the thread that hears.
 #[derive(Drop)]
 pub(crate) enum Said {
-    Hello,
+    Hello(ReplicaId),
     Have {
         /// Whether it may change the base, so that other operations are due.
         is_news: bool,
@@ -71,6 +71,18 @@ impl LinkEnd {
     /// Takes bytes of the other end, as `Link::feed` does.
     pub fn feed<R: Wait>(&self, rt: &R, bytes: &[u8]) -> Result<(), LinkError> {
         self.held.lock(rt).link.feed(bytes)
+    }
+
+    /// Whether bytes begin with the HELLO that this replica says itself. Not where there is no
+    /// memory to tell.
+    pub fn is_own_hello(alloc: Global, own: ReplicaId, bytes: &[u8]) -> bool {
+        match Link::start(alloc, own) {
+            Ok(link) => {
+                let mut link = link;
+                bytes.starts_with(link.take_out().as_slice())
+            }
+            Err(AllocError) => false,
+        }
     }
 
     /// The next frame of the other end.
@@ -155,9 +167,9 @@ impl LinkEnd {
 impl EndState {
     fn next(&mut self) -> Option<Said> {
         let said = match self.link.next()? {
-            Heard::Hello(peer) => {
-                self.peer = Some(peer);
-                Said::Hello
+            Heard::Hello(replica) => {
+                self.peer = Some(replica);
+                Said::Hello(replica)
             }
             Heard::Bye => Said::Bye,
             Heard::Have(clock) => Said::Have {

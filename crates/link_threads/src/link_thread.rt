@@ -2,6 +2,8 @@
 
 use crate::hearing::Hearing;
 use crate::link_end::LinkEnd;
+use crate::link_log::LinkLog;
+use crate::over::Over;
 use crate::telling::{PAUSE, Telling};
 use link_speaker::Speaker;
 use op_ids::ReplicaId;
@@ -38,7 +40,8 @@ impl Parted {
 }
 
 /// Serves a link of this replica to its end: this thread hears, and another one tells. Tells what
-/// became of it. It isn't begun once the hub's links are over.
+/// became of it, and the log of the greeting and the end. It isn't begun once the hub's links are
+/// over.
 pub fn serve_link<R: Wait + Clock + Threads + Sync, J: Desks + Send + Sync, G: Gate + Sync>(
     rt: &R,
     alloc: Global,
@@ -47,25 +50,30 @@ pub fn serve_link<R: Wait + Clock + Threads + Sync, J: Desks + Send + Sync, G: G
     pass: &mut Pass<J>,
     stream: &TcpStream,
     gate: &G,
+    log: LinkLog<'_>,
 ) -> Parted {
     if shared.are_links_over(rt) {
         return Parted::AT_ONCE;
     }
     let Ok(end) = LinkEnd::start(alloc, own) else {
+        log.ended(rt, alloc, Over::NoMemory);
         return Parted::AT_ONCE;
     };
     let Ok((producer, consumer)) = RingBuffer::new(alloc, NOTES) else {
+        log.ended(rt, alloc, Over::NoMemory);
         return Parted::AT_ONCE;
     };
     let parted = hear_and_tell(
         rt,
         alloc,
+        own,
         shared,
         &end,
         pass,
         (producer, consumer),
         stream,
         gate,
+        log,
     );
     Parted {
         was_of_use: parted.was_of_use || end.was_taken(rt),
@@ -78,15 +86,17 @@ pub fn serve_link<R: Wait + Clock + Threads + Sync, J: Desks + Send + Sync, G: G
 fn hear_and_tell<'a, R: Wait + Clock + Threads + Sync, J: Desks + Send + Sync, G: Gate + Sync>(
     rt: &'a R,
     alloc: Global,
+    own: ReplicaId,
     shared: &'a Shared<J>,
     end: &'a LinkEnd,
     pass: &'a mut Pass<J>,
     (producer, consumer): (Producer<u8>, Consumer<u8>),
     stream: &'a TcpStream,
     gate: &'a G,
+    log: LinkLog<'a>,
 ) -> Parted {
     let link = pass.number();
-    let mut hearing = Hearing::new(rt, shared, end, gate, pass, producer);
+    let mut hearing = Hearing::new(rt, shared, end, gate, pass, producer, log);
     let telling = Telling {
         rt,
         shared,
@@ -106,12 +116,13 @@ fn hear_and_tell<'a, R: Wait + Clock + Threads + Sync, J: Desks + Send + Sync, G
         });
         if told.is_ok() {
             let mut reader = stream;
-            hearing.run(&mut reader);
+            hearing.run(alloc, own, &mut reader);
         }
         end.end_unless_due(rt);
         shared.call(rt, link);
     });
     shared.forget_peer(rt, link);
+    log.ended(rt, alloc, hearing.over);
     Parted {
         was_of_use: hearing.has_taken,
         is_out_of_steps: hearing.is_out_of_steps,

@@ -47,15 +47,17 @@ needed_port name = record (port_option name) { required = true }
 abbrev pub flag_option : List ℕ → Rule
 flag_option name = record (new_rule name) { long = Some name; action = Some SetTrue }
 
--- `serve FILE --sessions PORT --peers PORT [--link PORT] [--end-on-failure]`
+-- `serve FILE --sessions PORT --peers PORT [--link PORT] [--end-on-failure] [--log]`
 abbrev pub serve_app : App
 serve_app =
     with_rule
     (with_rule
+    (with_rule
     (with_rule (with_rule (with_rule (new_app (codes "serve")) (needed (codes "FILE"))) (needed_port (codes "sessions")))
     (needed_port (codes "peers")))
     (port_option (codes "link")))
-    (flag_option (codes "end-on-failure"))
+    (flag_option (codes "end-on-failure")))
+    (flag_option (codes "log"))
 
 -- a command that tells its version
 abbrev pub versioned : Shape → Shape

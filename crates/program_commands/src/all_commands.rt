@@ -77,7 +77,10 @@ Sessions and peers come in on 127.0.0.1, at a port each: a number from 1 to 6553
 digits. A session writes requests and reads answers, a line each, as with 'edit'; the first 'stop'
 ends the program. Nobody else can have the file open meanwhile (54). A port that is taken, or where
 no peer can be joined, is refused (70). With --end-on-failure the program ends as soon as the
-device failed, so that whoever watches it starts it again; else it serves on what it has.
+device failed, so that whoever watches it starts it again; else it serves on what it has. With --log
+each event is a line on standard error, as 'event=session_up session=3'. Lines that nobody reads in
+time are dropped and counted. Without it nothing is written there, but on a terminal where it
+listens, and its end.
 
 Examples:
   peritext serve notes --sessions 7001 --peers 7002
@@ -198,7 +201,7 @@ fn form<'a>(alloc: Global) -> Arg<'a>
         .help("text, markdown or html [default: text]")
 }
 
-/// `serve FILE --sessions PORT --peers PORT [--link PORT] [--end-on-failure]`.
+/// `serve FILE --sessions PORT --peers PORT [--link PORT] [--end-on-failure] [--log]`.
 fn serve_command<'a>(alloc: Global) -> Result<Command<'a>, AllocError>
     ensures app { IfOk result (λ command. app_of command ≡ serve_app) }
     ensures local { IfOk result (λ command. (out-Command command).has_globals ≡ false) }
@@ -208,6 +211,11 @@ fn serve_command<'a>(alloc: Global) -> Result<Command<'a>, AllocError>
     let peers = port(alloc, "peers", "Where peers come in").required(true);
     let link = port(alloc, "link", "Where the peer listens that is joined");
     let failure = flag(alloc, "end-on-failure", "Ends once the device failed (9)");
+    let log = flag(
+        alloc,
+        "log",
+        "Writes a line for each event to standard error",
+    );
     let command = Command::new(alloc, "serve")
         .about("Serves sessions and peers over sockets")
         .after_help(SERVE_EXAMPLES)
@@ -215,7 +223,8 @@ fn serve_command<'a>(alloc: Global) -> Result<Command<'a>, AllocError>
         .arg(sessions)?
         .arg(peers)?
         .arg(link)?
-        .arg(failure)?;
+        .arg(failure)?
+        .arg(log)?;
     Ok(command)
 }
 

@@ -6,7 +6,7 @@ use std::io;
 use std::io::Write;
 use std::process::Abort;
 use std::test::Fail;
-use store_orders::perform;
+use store_orders::{perform, status};
 
 #[test]
 fn a_failed_device_ends_edits_and_not_readings(rt: HostRuntime) -> Result<(), Fail> {
@@ -56,8 +56,8 @@ fn a_failed_store_is_told_before_a_failed_output(rt: HostRuntime) -> Result<(), 
     for (call, due) in [(6, "peritext: 9 failed\n"), (0, "peritext: 71 stream\n")] {
         let mut faults = Vec::new(alloc);
         let disk = FaultDisk::new(made(&rt)?, call);
-        let ran = perform(alloc, &EDIT, disk, input, &mut NoOutput, &mut faults);
-        assert_eq!(rt; ran.status, 1);
+        let ended = perform(alloc, &EDIT, disk, input, &mut NoOutput);
+        assert_eq!(rt; status(alloc, ended.end, &mut faults), 1);
         assert!(rt; faults.as_slice() == due.as_bytes(), "{faults:?}");
     }
     Ok(())

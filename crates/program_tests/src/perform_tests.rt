@@ -3,7 +3,7 @@ use crate::test_runs::{EDIT, dumped, fresh, made, replica, run, session, written
 use command_syntax::StoreOrder;
 use disk_trait::Disk;
 use std::test::Fail;
-use store_orders::Fault;
+use store_orders::{Fault, Place, Sentence, explain};
 
 #[test]
 fn without_a_file_a_new_store_is_edited(rt: HostRuntime) -> Result<(), Fail> {
@@ -126,6 +126,34 @@ fn a_fault_has_its_word(rt: HostRuntime) -> Result<(), Fail> {
     ] {
         assert_eq!(rt; fault.number(), number);
         assert_eq!(rt; fault.to_string(alloc)?.as_str(), word);
+    }
+    Ok(())
+}
+
+#[test]
+fn a_refusal_is_explained(rt: HostRuntime) -> Result<(), Fail> {
+    let alloc = rt.alloc();
+    for (place, fault, line) in [
+        (
+            Some(Place::File("notes")),
+            Fault::NotEmpty,
+            "peritext: notes: something is in the file already; open it, or choose another name\n",
+        ),
+        (
+            Some(Place::Port(80)),
+            Fault::Socket,
+            "peritext: port 80: a port is taken (choose another), or nobody listens where --link points (start that daemon first)\n",
+        ),
+        (
+            None,
+            Fault::Stream,
+            "peritext: standard input or output failed; look at the other end of the pipe\n",
+        ),
+    ] {
+        let mut said = Vec::new(alloc);
+        explain(alloc, place, Sentence::from(fault), &mut said);
+        assert!(rt; said.as_slice() == line.as_bytes(), "{said:?}");
+        assert_eq!(rt; fault.is_of_file(), fault == Fault::NotEmpty);
     }
     Ok(())
 }

@@ -5,7 +5,7 @@ use op_ids::ReplicaId;
 use std::alloc::{AllocError, Global};
 use std::process::Abort;
 use std::test::Fail;
-use store_orders::{Performed, Shown, perform, print, show, status};
+use store_orders::{Ended, Shown, perform, print, show, status};
 
 /// What a run leaves: its disk, its exit status, and what it wrote.
 #[derive(Drop)]
@@ -19,17 +19,10 @@ pub struct Ran<D: Disk> {
 pub fn run<D: Disk>(alloc: Global, order: &StoreOrder<'_>, disk: D, input: &str) -> Ran<D> {
     let mut output = Vec::new(alloc);
     let mut faults = Vec::new(alloc);
-    let Performed { disk, status } = perform(
-        alloc,
-        order,
-        disk,
-        input.as_bytes(),
-        &mut output,
-        &mut faults,
-    );
+    let Ended { disk, end } = perform(alloc, order, disk, input.as_bytes(), &mut output);
     Ran {
         disk,
-        status,
+        status: status(alloc, end, &mut faults),
         output,
         faults,
     }

@@ -90,6 +90,7 @@ fn a_serve_names_a_file_and_ports(rt: HostRuntime) {
             peers: 7_002,
             link: None,
             ends_on_failure: false,
+            logs: false,
         });
         match order(rt.alloc(), words.as_slice()) {
             Ok(found) => assert!(rt; found == asked),
@@ -114,6 +115,7 @@ fn a_serve_joins_a_peer_where_one_is_named(rt: HostRuntime) {
         peers: 7_002,
         link: Some(7_102),
         ends_on_failure: false,
+        logs: false,
     });
     match order(rt.alloc(), words.as_slice()) {
         Ok(found) => assert!(rt; found == asked),
@@ -137,6 +139,31 @@ fn a_serve_ends_on_failure_where_that_is_asked(rt: HostRuntime) {
         peers: 7_002,
         link: None,
         ends_on_failure: true,
+        logs: false,
+    });
+    match order(rt.alloc(), words.as_slice()) {
+        Ok(found) => assert!(rt; found == asked),
+        Err(fault) => assert!(rt; false, "{fault}"),
+    }
+}
+
+#[test]
+fn a_serve_tells_its_events_where_that_is_asked(rt: HostRuntime) {
+    let words = [
+        "peritext",
+        "serve",
+        "--log",
+        "store",
+        "--sessions=7001",
+        "--peers=7002",
+    ];
+    let asked = Order::Serve(ServeOrder {
+        file: "store",
+        sessions: 7_001,
+        peers: 7_002,
+        link: None,
+        ends_on_failure: false,
+        logs: true,
     });
     match order(rt.alloc(), words.as_slice()) {
         Ok(found) => assert!(rt; found == asked),

@@ -74,6 +74,7 @@ pub fn sockets<R: Net<Listener = TcpListener, Stream = TcpStream>>(
         peers,
         joined: None,
         ends_on_failure: false,
+        journal: None,
     };
     Some((sockets, at_sessions, at_peers))
 }

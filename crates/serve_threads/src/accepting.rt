@@ -6,7 +6,9 @@ use crate::entry::Entry;
 use crate::hall::Hall;
 use crate::lobby::Lobby;
 use crate::session_thread::serve_session;
-use link_threads::serve_link;
+use event_journal::{Event, LinkPlace, Reason};
+use fixed_numbers::refusals::BUSY;
+use link_threads::{LinkLog, serve_link};
 use pass_books::Desks;
 use shared_desk::End;
 use shared_hub::Gate;
@@ -58,15 +60,44 @@ pub(crate) fn accept<R: Wait + Clock + Threads + Sync, J: Desks + Send + Sync, G
                 if kind == Kind::Session {
                     say_busy(&stream);
                 }
+                tell_refused(rt, hall, kind, &stream);
                 continue;
             };
             let served = scope.spawn(move || serve(rt, alloc, hall, gate, kind, entry, &stream));
             if served.is_err() {
                 lobby.turn_away(rt, entry, kind);
+                hall.tell(rt, &refused_at(kind, 0));
             }
         }
         door.note_left(rt);
     });
+}
+
+/// Tells that a connection was turned away, unless the daemon ends.
+fn tell_refused<R: Wait, J: Desks>(rt: &R, hall: &Hall<J>, kind: Kind, stream: &TcpStream) {
+    if !hall.ending.is_asked(rt) {
+        hall.tell(rt, &refused_at(kind, port_of(stream)));
+    }
+}
+
+/// A connection of this kind, and from this port, for which there is no place or no thread.
+fn refused_at(kind: Kind, port: u16) -> Event<'static> {
+    let reason = Reason {
+        code: BUSY,
+        word: "busy",
+    };
+    match kind {
+        Kind::Session => Event::SessionRefused { reason },
+        Kind::Link => Event::LinkRefused { port, reason },
+    }
+}
+
+/// The port of the other end of a connection; 0 where that can't be told.
+pub(crate) fn port_of(stream: &TcpStream) -> u16 {
+    match stream.peer_addr() {
+        Ok(place) => place.port(),
+        Err(_) => 0,
+    }
 }
 
 /// Serves a connection that is in the lobby of its kind, to its end, and gives its place back.
@@ -82,7 +113,12 @@ fn serve<R: Wait + Clock + Threads + Sync, J: Desks + Send + Sync, G: Gate + Syn
     match kind {
         Kind::Session => serve_session(rt, alloc, hall, gate, entry, stream),
         Kind::Link => {
-            let _is_of_use = link(rt, alloc, hall, gate, &hall.links, entry, stream);
+            let place = LinkPlace {
+                link: entry.number,
+                is_joined: false,
+                port: port_of(stream),
+            };
+            let _is_of_use = link(rt, alloc, hall, gate, &hall.links, entry, place, stream);
         }
     }
 }
@@ -97,6 +133,7 @@ pub(crate) fn link<R: Wait + Clock + Threads + Sync, J: Desks + Send + Sync, G: 
     gate: &G,
     lobby: &Lobby<J>,
     entry: Entry,
+    place: LinkPlace,
     stream: &TcpStream,
 ) -> bool {
     let _ = stream.set_nodelay(true);
@@ -105,7 +142,20 @@ pub(crate) fn link<R: Wait + Clock + Threads + Sync, J: Desks + Send + Sync, G: 
         lobby.leave(rt, entry, None);
         return false;
     };
-    let parted = serve_link(rt, alloc, hall.own, &hall.shared, &mut pass, stream, gate);
+    let log = LinkLog {
+        journal: hall.journal.as_deref(),
+        place,
+    };
+    let parted = serve_link(
+        rt,
+        alloc,
+        hall.own,
+        &hall.shared,
+        &mut pass,
+        stream,
+        gate,
+        log,
+    );
     if parted.is_out_of_steps {
         hall.ending.ask(rt, End::Renewal);
     }

@@ -2,12 +2,13 @@
 
 use crate::accepting::Kind;
 use crate::lobby::Lobby;
+use event_journal::{Event, Journal};
 use op_ids::ReplicaId;
 use pass_books::Desks;
 use shared_desk::Ending;
 use shared_hub::{Named, Shared};
 use std::alloc::{AllocError, Global};
-use std::sync::Mutex;
+use std::sync::{Arc, Mutex, Wait};
 
 /// How many sessions are served at once; the other passes are for links.
 const SESSIONS: usize = 32;
@@ -31,6 +32,8 @@ pub(crate) struct Hall<J: Desks> {
     pub ending: Ending,
     /// Whether the threads are to end once the device failed.
     pub ends_on_failure: bool,
+    /// Where they tell what happens, if anybody is to be told.
+    pub journal: Option<Arc<Journal>>,
 }
 
 impl<J: Desks> Hall<J> {
@@ -42,6 +45,7 @@ impl<J: Desks> Hall<J> {
         named: Named<J>,
         joins: bool,
         ends_on_failure: bool,
+        journal: Option<Arc<Journal>>,
     ) -> Result<Hall<J>, AllocError> {
         let Named { shared, passes } = named;
         let mut sessions = passes;
@@ -57,7 +61,15 @@ impl<J: Desks> Hall<J> {
             read_turn: Mutex::new(()),
             ending: Ending::new(),
             ends_on_failure,
+            journal,
         })
+    }
+
+    /// Tells of an event, if anybody is to be told.
+    pub fn tell<R: Wait>(&self, rt: &R, event: &Event<'_>) {
+        if let Some(journal) = &self.journal {
+            journal.tell(rt, event);
+        }
     }
 
     /// Those of one kind that came in.

@@ -3,6 +3,7 @@
 use crate::accepting::link;
 use crate::hall::Hall;
 use crate::pauses::{Outcome, Pauses};
+use event_journal::LinkPlace;
 use pass_books::Desks;
 use shared_hub::Gate;
 use std::alloc::Global;
@@ -60,7 +61,7 @@ pub(crate) fn keep_joined<
     };
     for _ in rt.forever() {
         let outcome = match stream {
-            Some(stream) => serve_joined(rt, alloc, hall, gate, &stream),
+            Some(stream) => serve_joined(rt, alloc, hall, gate, port, &stream),
             None => Outcome::NotThere,
         };
         let pause = Duration::from_millis(pauses.behind(outcome));
@@ -87,13 +88,20 @@ fn serve_joined<R: Wait + Clock + Threads + Sync, J: Desks + Send + Sync, G: Gat
     alloc: Global,
     hall: &Hall<J>,
     gate: &G,
+    port: u16,
     stream: &TcpStream,
 ) -> Outcome {
     let Some(entry) = hall.own_link.enter(rt, stream) else {
         return Outcome::OfNoUse;
     };
     let start = Instant::now(rt);
-    if link(rt, alloc, hall, gate, &hall.own_link, entry, stream) || has_lasted(rt, start) {
+    let place = LinkPlace {
+        link: entry.number,
+        is_joined: true,
+        port,
+    };
+    let lobby = &hall.own_link;
+    if link(rt, alloc, hall, gate, lobby, entry, place, stream) || has_lasted(rt, start) {
         Outcome::OfUse
     } else {
         Outcome::OfNoUse

@@ -5,6 +5,7 @@ ghost use Rattle.serve_threads.specs.Turns.{Turns, IsNotOpened};
 
 use crate::serving::{Served, Sockets, serve_all};
 use disk_trait::Disk;
+use event_journal::Event;
 use hub_parts::{Parts, open};
 use recovery::OpenFault;
 use shared_hub::Gate;
@@ -41,6 +42,9 @@ pub fn serve_on<
             Ok(next) => next,
             Err(ended) => return Ok(ended),
         };
+        if let Some(journal) = &sockets.journal {
+            journal.tell(rt, &Event::OpenedAnew);
+        }
         let parts = open(alloc, disk)?;
         served = serve_all(rt, alloc, parts, sockets, gate);
     }

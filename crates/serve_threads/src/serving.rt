@@ -8,6 +8,8 @@ use crate::doors::Doors;
 use crate::hall::Hall;
 use crate::rejoining::{Joined, keep_joined};
 use disk_trait::Disk;
+use event_journal::{Event, Journal, Reason};
+use fixed_numbers::refusals::FAILED;
 use hub_parts::{Flusher, Parts};
 use pass_books::Desks;
 use shared_desk::{End, Ending};
@@ -16,7 +18,7 @@ use std::alloc::{AllocError, Global};
 use std::marker::Brand;
 use std::net::{Net, TcpListener, TcpStream};
 use std::rt::Clock;
-use std::sync::Wait;
+use std::sync::{Arc, Wait};
 use std::thread;
 use std::thread::Threads;
 use std::time::Duration;
@@ -37,6 +39,8 @@ pub struct Sockets {
     /// Whether the daemon ends once the device failed. Otherwise it serves on, refuses edits (9)
     /// and shows what it has, until a session asks for a stop.
     pub ends_on_failure: bool,
+    /// Where its events are told, if anybody is to be told.
+    pub journal: Option<Arc<Journal>>,
 }
 
 /// How the daemon ended.
@@ -111,8 +115,10 @@ fn serve_named<
         peers,
         joined,
         ends_on_failure,
+        journal,
     } = sockets;
-    let Ok(hall) = Hall::new(alloc, own, named, joined.is_some(), ends_on_failure) else {
+    let joins = joined.is_some();
+    let Ok(hall) = Hall::new(alloc, own, named, joins, ends_on_failure, journal) else {
         return without_memory(flusher);
     };
     let Ok(doors) = Doors::new(sessions, peers) else {
@@ -120,8 +126,18 @@ fn serve_named<
     };
     let port = joined.as_ref().map(|joined| joined.port);
     let (has_begun, flusher) = run(rt, alloc, &hall, flusher, &doors, joined, gate);
-    let Hall { shared, ending, .. } = hall;
-    let renewal = next_turn(rt, &shared, &ending, doors, port, ends_on_failure);
+    let Hall {
+        shared,
+        ending,
+        ends_on_failure,
+        journal,
+        ..
+    } = hall;
+    let renewal = if is_renewed(rt, &shared, &ending) {
+        Some(next_turn(doors, port, ends_on_failure, journal))
+    } else {
+        None
+    };
     let locked = shared.end().into_locked();
     Served {
         has_failed: flusher.has_failed() || locked.settled() < locked.list().len(),
@@ -131,27 +147,28 @@ fn serve_named<
     }
 }
 
-/// The sockets for the next turn, whose peer is joined anew, if the file is to be opened anew. One
-/// that was put back isn't: it takes no edit in this process any more.
-fn next_turn<R: Wait, J: Desks>(
-    rt: &R,
-    shared: &Shared<J>,
-    ending: &Ending,
+/// Whether the file is to be opened anew. One that was put back isn't: it takes no edit in this
+/// process any more.
+fn is_renewed<R: Wait, J: Desks>(rt: &R, shared: &Shared<J>, ending: &Ending) -> bool {
+    ending.asked(rt) == Some(End::Renewal) && !shared.are_links_over(rt)
+}
+
+/// The sockets for the next turn, whose peer is joined anew.
+fn next_turn(
     doors: Doors,
     port: Option<u16>,
     ends_on_failure: bool,
-) -> Option<Sockets> {
-    if ending.asked(rt) != Some(End::Renewal) || shared.are_links_over(rt) {
-        return None;
-    }
+    journal: Option<Arc<Journal>>,
+) -> Sockets {
     let (sessions, peers) = doors.into_listeners();
     let joined = port.map(Joined::anew);
-    Some(Sockets {
+    Sockets {
         sessions,
         peers,
         joined,
         ends_on_failure,
-    })
+        journal,
+    }
 }
 
 /// Starts the threads, waits until one asks to end, and ends them all. Answers whether all could be
@@ -218,7 +235,19 @@ fn flush_to_the_end<J: Desks, D: Disk, R: Wait + Clock, G: Gate>(
 {
     flush(rt, &hall.shared, flusher, gate);
     flusher.kept();
-    if hall.ends_on_failure && flusher.has_failed() {
+    if flusher.has_failed() {
+        tell_failure(rt, hall);
+    }
+}
+
+/// Tells that a commit failed, and asks the daemon to end where it is to end for that.
+fn tell_failure<J: Desks, R: Wait>(rt: &R, hall: &Hall<J>) {
+    let reason = Reason {
+        code: FAILED,
+        word: "failed",
+    };
+    hall.tell(rt, &Event::CommitFailed { reason });
+    if hall.ends_on_failure {
         hall.ending.ask(rt, End::Failure);
     }
 }

@@ -5,7 +5,9 @@ use crate::entry::Entry;
 use crate::hall::Hall;
 use crate::last_words::send_last_words;
 use crate::until_closed::UntilClosed;
+use event_journal::{Event, Reason};
 use first_bytes::{FirstLine, FirstLook};
+use fixed_numbers::refusals::{BUSY, MEMORY, STREAM};
 use pass_books::{Desks, Pass};
 use session_threads::{Session, SessionFault};
 use shared_desk::SharedDesk;
@@ -44,7 +46,13 @@ pub(crate) fn serve_session<R: Wait, J: Desks, G: Gate>(
                     reader: stream,
                 };
                 let reader = first.as_slice().chain(rest);
-                Some(serve(rt, alloc, hall, gate, reader, stream, pass))
+                hall.tell(
+                    rt,
+                    &Event::SessionUp {
+                        session: entry.number,
+                    },
+                );
+                Some(serve(rt, alloc, hall, gate, entry, reader, stream, pass))
             }
             None => {
                 refuse(stream);
@@ -52,7 +60,29 @@ pub(crate) fn serve_session<R: Wait, J: Desks, G: Gate>(
             }
         }
     };
+    if pass.is_none() {
+        hall.tell(
+            rt,
+            &Event::SessionRefused {
+                reason: reason(BUSY, "busy"),
+            },
+        );
+    }
     hall.sessions.leave(rt, entry, pass);
+}
+
+/// What ended a session.
+fn reason(code: u8, word: &'static str) -> Reason<'static> {
+    Reason { code, word }
+}
+
+/// Why a session ended that was served so.
+fn reason_of(served: &Result<(), SessionFault>) -> Reason<'static> {
+    match served {
+        Ok(()) => reason(0, "closed"),
+        Err(SessionFault::Memory) => reason(MEMORY, "memory"),
+        Err(SessionFault::Stream(_)) => reason(STREAM, "stream"),
+    }
 }
 
 /// Reads the first line of a session, for which it has a second, and answers whether it may have
@@ -78,6 +108,7 @@ fn serve<R: Wait, J: Desks, G: Gate, S: Read + Drop>(
     alloc: Global,
     hall: &Hall<J>,
     gate: &G,
+    entry: Entry,
     reader: S,
     stream: &TcpStream,
     pass: Pass<J>,
@@ -86,6 +117,9 @@ fn serve<R: Wait, J: Desks, G: Gate, S: Read + Drop>(
     let _ = stream.set_nodelay(true);
     let mut desk = SharedDesk::new(rt, &hall.shared, &hall.read_turn, &hall.ending, gate, pass);
     let served = Session::new(FirstLook::new(reader), stream).serve(alloc, &mut desk);
+    let session = entry.number;
+    let reason = reason_of(&served);
+    hall.tell(rt, &Event::SessionDown { session, reason });
     if let Err(SessionFault::Memory) = served {
         refuse(stream);
     } else if hall.ending.is_asked(rt) {

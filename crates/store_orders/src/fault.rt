@@ -89,6 +89,14 @@ impl Fault {
             Fault::Stream => STREAM,
         }
     }
+
+    /// Whether it is about the file that an order names.
+    pub fn is_of_file(self) -> bool {
+        !matches!(
+            self,
+            Fault::Memory | Fault::Field | Fault::Socket | Fault::Stream
+        )
+    }
 }
 
 impl From<InitError> for Fault {

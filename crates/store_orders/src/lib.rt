@@ -4,14 +4,18 @@
 #![tactic(auto)]
 
 mod ended;
+mod explaining;
 mod fault;
 mod listing;
 mod performing;
 mod printing;
+mod sentence;
 mod showing;
 
-pub use ended::status;
+pub use ended::{Ended, status};
+pub use explaining::{Place, explain};
 pub use fault::Fault;
-pub use performing::{Performed, perform};
+pub use performing::perform;
 pub use printing::print;
+pub use sentence::Sentence;
 pub use showing::{Shown, dump, export_from, list, show, show_all, show_in};

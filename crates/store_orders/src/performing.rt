@@ -1,6 +1,6 @@
 //! What an order over one disk does, over any disk, reader and writers.
 
-use crate::ended::{Ended, status};
+use crate::ended::Ended;
 use crate::fault::Fault;
 use crate::printing::{lines, print};
 use command_syntax::StoreOrder;
@@ -16,31 +16,18 @@ use std::io::{Read, Write};
 /// The number of the session that is served alone: its edits are the steps of this one.
 const SESSION: u64 = 1;
 
-/// A disk and an exit status.
-#[derive(Drop)]
-pub struct Performed<D: Disk> {
-    pub disk: D,
-    pub status: u8,
-}
-
-/// Does what an order asks for, and gives the disk and the exit status: 0, or 1 with a line in
-/// `faults`.
-pub fn perform<D: Disk, R: Read + Drop, W: Write, F: Write>(
+/// Does what an order asks for, and gives the disk, with what ended it if that is a refusal.
+pub fn perform<D: Disk, R: Read + Drop, W: Write>(
     alloc: Global,
     order: &StoreOrder<'_>,
     disk: D,
     input: R,
     output: &mut W,
-    faults: &mut F,
-) -> Performed<D> {
-    let Ended { disk, end } = match *order {
+) -> Ended<D> {
+    match *order {
         StoreOrder::InMemory => in_memory(alloc, disk, input, output),
         StoreOrder::Init { replica, .. } => init(alloc, disk, replica, output),
         StoreOrder::Edit { .. } => edit(alloc, disk, input, output),
-    };
-    Performed {
-        disk,
-        status: status(alloc, end, faults),
     }
 }
 

@@ -3,20 +3,19 @@
 from __future__ import annotations
 
 _LINE = "the line is no request of docs/PROTOCOL.md; mend what made it"
-_BYTES = "the file isn't what this program wrote: keep a copy, and go on from a peer with a new replica"
-_DEVICE = "look at the disk (is it full?), and open the file again: what was answered is there"
+_BYTES = "the file isn't what this program wrote; keep a copy, and go on from a peer with a new replica"
 
-# What to do about a refusal, by its number; docs/OPERATING.md says more.
+# Why, and what to do, by the number of a refusal: what the program itself says on a terminal. docs/OPERATING.md says more.
 ADVICE = {
-    1: "the system gave no memory; send it again",
+    1: "the system gave no memory; try it again, and if that lasts, give the process more",
     2: _LINE,
     3: _LINE,
-    4: _LINE,
+    4: "a value breaks its rule, as that of a UUID, of a document's number or of a form, or an older program doesn't know a field; mend what wrote it",
     5: "there is no such place in the text; read it anew",
     6: "the document has moved on; read it anew, and make the edit for what is there",
     7: "at most 256 characters in one request; else the file has reached a limit, and can only be read",
     8: "too much waits, or all places for sessions are taken; try again a little later",
-    9: "the device failed, and the edit may be there or not; end the program, look at the disk, open again",
+    9: "the device failed, and an edit that wasn't answered may be there or not; end the program, look at the disk, open again",
     10: "a million steps since opening; connect again if the daemon opens its file anew, else end the program and start it again",
     11: _LINE,
     12: "the program was told to stop; start it again",
@@ -26,11 +25,10 @@ ADVICE = {
     46: _BYTES,
     47: _BYTES,
     48: "something is in the file already; open it, or choose another name",
-    50: _DEVICE,
-    51: _DEVICE,
-    52: _DEVICE,
-    54: "the file isn't there (make it with init), may not be read and written, or another program has it open: "
-    "where that is a daemon, connect to its port",
+    50: "the disk couldn't be read; mend it, and open the file again: what was answered is there",
+    51: "the disk couldn't be written; look whether it is full or files may not grow, and open the file again: what was answered is there",
+    52: "the disk couldn't be synced; look whether it is full or broken, and open the file again: what was answered is there",
+    54: "the file isn't there (make it with init), may not be read and written, or another program has it open: where that is a daemon, connect to its port",
     70: "a port is taken (choose another), or nobody listens where --link points (start that daemon first)",
     71: "standard input or output failed; look at the other end of the pipe",
 }

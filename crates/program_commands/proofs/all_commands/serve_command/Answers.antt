@@ -24,7 +24,8 @@ returns c =
     let two = c.in_ok-arg-2.ensures.shape sessions_local ∙ ap₂ with_rule one sessions in
     let three = c.in_ok-arg-3.ensures.shape peers_local ∙ ap₂ with_rule two peers in
     let four = c.in_ok-arg-4.ensures.shape c.port-link.ensures.local ∙ ap₂ with_rule three c.port-link.ensures.rule in
+    let five = c.in_ok-arg-5.ensures.shape c.flag-failure.ensures.local ∙ ap₂ with_rule four c.flag-failure.ensures.rule in
     record {
-      app = c.in_ok-command.ensures.shape c.flag-failure.ensures.local ∙ ap₂ with_rule four c.flag-failure.ensures.rule;
+      app = c.in_ok-command.ensures.shape c.flag-log.ensures.local ∙ ap₂ with_rule five c.flag-log.ensures.rule;
       local = search rules;
     }

@@ -1,0 +1,44 @@
+"""The sentences that explain a refusal: the program's, and the same ones in both clients and in docs/OPERATING.md."""
+
+import os
+import re
+
+ROOT = os.path.dirname(os.path.dirname(os.path.abspath(__file__)))
+SENTENCE = re.compile(r'    /// (\d+(?:, \d+)*)(: [^\n]*)?\n    #\[error\("([^"]*)"\)\]\n    (\w+),\n')
+ENTRY = re.compile(r'^ +(\d+): (?:"([^"]*)"|(\w+)),$', re.MULTILINE)
+NAMED = re.compile(r'^(?:const )?(\w+) = "([^"]*)";?$', re.MULTILINE)
+
+
+def text(*path):
+    with open(os.path.join(ROOT, *path), encoding="utf-8") as file:
+        return file.read()
+
+
+def sentences():
+    """What the program says, by the name of the sentence: its numbers, whether it is for one cause of them, and its words."""
+    found = SENTENCE.findall(text("crates", "store_orders", "src", "sentence.rt"))
+    return {name: ([int(number) for number in numbers.split(", ")], bool(cause), words) for numbers, cause, words, name in found}
+
+
+def of_numbers():
+    """The sentence of each number that ends the program, where no cause is told apart."""
+    return {number: words for numbers, is_cause, words in sentences().values() if not is_cause for number in numbers}
+
+
+def advice(*path):
+    """The sentences of a client."""
+    source = text(*path)
+    named = dict(NAMED.findall(source))
+    return {int(number): words or named[name] for number, words, name in ENTRY.findall(source)}
+
+
+def check(checks, _program, _until):
+    said = of_numbers()
+    python = advice("clients", "python", "src", "peritext", "refusals.py")
+    script = advice("clients", "js", "src", "refusals.js")
+    checks.same("the sentences of both clients", script, python)
+    checks.same("the sentences of the Python client", {number: python.get(number) for number in said}, said)
+    shown = re.findall(r"^\| ([\d, ]+) \| (.*) \|$", text("docs", "OPERATING.md").partition("## What a terminal shows")[2].partition("\n## ")[0], re.MULTILINE)
+    wanted = [(", ".join(map(str, numbers)), words) for numbers, _, words in sentences().values()]
+    checks.same("the sentences of OPERATING.md", shown, wanted)
+    checks.same("each sentence is another one", len({words for _, _, words in sentences().values()}), len(wanted))
