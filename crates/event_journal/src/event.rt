@@ -1,3 +1,4 @@
+//! What a daemon tells of itself, each as a line.
 use crate::quoted::Quoted;
 use crate::reason::Reason;
 use op_ids::ReplicaId;

@@ -1,3 +1,4 @@
+//! The lines on their way to the thread that writes them.
 use crate::event::Event;
 use crate::line_writer::LineWriter;
 use std::alloc::Global;

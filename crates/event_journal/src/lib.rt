@@ -1,4 +1,7 @@
 //! What a daemon tells whoever keeps it: its events, a line each, which nobody waits for.
+//!
+//! It knows no hub: whoever tells of an event hands values over, and one thread writes, so a reader
+//! of the lines that stops reading holds nobody up.
 #![tactic(auto)]
 
 mod event;

@@ -1,3 +1,4 @@
+//! Values of fields.
 use std::fmt::{self, Display, Formatter};
 
 /// A text as the value of a field: as it is where it has visible ASCII characters alone, without

@@ -1,3 +1,4 @@
+//! Why something ended.
 use crate::quoted::Quoted;
 use std::fmt::{self, Display, Formatter};
 

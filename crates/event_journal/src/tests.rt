@@ -1,3 +1,4 @@
+//! Lines to the letter, and writers that take nothing.
 use crate::{Event, Journal, LinkPlace, Reason, Telling};
 use op_ids::ReplicaId;
 use std::test::Fail;

@@ -1,3 +1,4 @@
+//! What a link tells the daemon's journal.
 use crate::over::Over;
 use event_journal::{Event, Journal, LinkPlace, Reason};
 use op_ids::ReplicaId;

@@ -1,3 +1,4 @@
+//! What ended a link.
 use causal_sync::LinkError;
 use fixed_numbers::refusals::{MEMORY, STOPPING};
 use shared_hub::SharedRefusal;

@@ -56,7 +56,10 @@ impl<'a, R: Wait, J: Desks, G: Gate> SharedDesk<'a, R, J, G> {
         ensures { result ≡ self.entry }
     {
         let SharedDesk {
-            pass, shared, rt, ..
+            pass,
+            shared,
+            rt,
+            ..
         } = self;
         shared.forget_session(rt);
         pass

@@ -42,7 +42,6 @@ impl<J: Desks> Shared<J> {
     /// What is known of the peers that are linked and have said what they have: how many operations
     /// each has said that it has, and how many of the list aren't among them. An error is out of
     /// memory (1). At most 256 steps a peer.
-    #[tactic(auto, using(crate::proofs::PeerLemmas::counted_at))]
     pub fn peers<R: Wait>(
         &self,
         rt: &R,
