@@ -7,7 +7,7 @@ ghost use Rattle.session_threads.specs.HubCalls.{IsQuiet, is_edit_refusal};
 ghost use Rattle.session_threads.specs.HubServing.{AnswersEdit, AnswersTicket};
 
 use crate::committing::commit;
-use crate::edit_refusal::edit_refusal;
+use crate::refusing::edit_refusal;
 use disk_trait::Disk;
 use locked_replica::{Hub, HubRefusal};
 use op_model::Edit;

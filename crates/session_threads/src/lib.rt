@@ -8,7 +8,6 @@ mod answer_text;
 mod begun;
 mod committing;
 mod desk;
-mod edit_refusal;
 mod exchange;
 mod fault;
 mod held_line;
@@ -17,14 +16,15 @@ mod hub_edit;
 mod hub_serving;
 mod laws;
 mod pieces;
+mod refusing;
 mod room;
 mod session;
 
 pub use desk::Desk;
-pub use edit_refusal::edit_refusal;
 pub use fault::SessionFault;
 pub use hub_desk::HubDesk;
 pub use laws::{
     a_session_is_a_run, calls_are_a_run, edits_fail_behind_a_failure, settled_edits_are_answered,
 };
+pub use refusing::edit_refusal;
 pub use session::Session;

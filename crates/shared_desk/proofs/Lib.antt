@@ -1,2 +1,3 @@
 mod EditLemmas
+mod PeersLemmas
 mod RefusalLemmas

@@ -1,7 +1,7 @@
 //! Two links that speak in turn, over peers that hold lists. A test gets plain values and compares
 //! them: each way out past an end of a link is what the proof of a test costs.
 use crate::test_ends::{End, turns};
-use link_speaker::{Line, SpeakError};
+use link_speaker::{Line, Peer, SpeakError};
 use op_ids::{Clock, ReplicaId};
 use std::alloc::Global;
 use std::io;
