@@ -2,7 +2,7 @@
 
 use crate::held::hold_closed_streams;
 use crate::looking::Purpose;
-use crate::refusing::{Refused, ended, of_file};
+use crate::refusing::{ended, of_file};
 use crate::serving::serve;
 use command_syntax::{BadPort, Order, StoreOrder};
 use command_words::{OrderFault, order};
@@ -120,7 +120,18 @@ fn refuse<R: Files<File = File> + AllocGlobal, F: Write + IsTerminal>(
     fault: Fault,
     faults: &mut F,
 ) -> u8 {
-    ended(rt, of_file(Err(fault), "", Purpose::Reading), faults)
+    tell(rt, Err(fault), "", Purpose::Reading, faults)
+}
+
+/// Tells how a run over the file of this path ended.
+fn tell<R: Files<File = File> + AllocGlobal, F: Write + IsTerminal>(
+    rt: &R,
+    end: Result<(), Fault>,
+    path: &str,
+    purpose: Purpose,
+    faults: &mut F,
+) -> u8 {
+    ended(rt, of_file(end, path, purpose), faults)
 }
 
 /// Does what an order asks for. No file or socket gets the descriptor of a standard stream.
@@ -136,16 +147,20 @@ fn run_order<
     W: Write,
     F: Write + IsTerminal + Copy + Send + Drop,
 >(rt: &R, order: &Order<'_>, output: &mut W, faults: &mut F) -> u8 {
-    let end = match hold_closed_streams(rt) {
+    match hold_closed_streams(rt) {
         Ok(_held) => run_held(rt, order, output, faults),
-        Err(_) => of_file(Err(Fault::OpenFailed), NOTHING, Purpose::Reading),
-    };
-    ended(rt, end, faults)
+        Err(_) => tell(
+            rt,
+            Err(Fault::OpenFailed),
+            NOTHING,
+            Purpose::Reading,
+            faults,
+        ),
+    }
 }
 
 /// Does what an order asks for, where no file or socket that is opened can be taken for a stream.
 fn run_held<
-    'a,
     R: Files<File = File>
         + Input
         + Clock
@@ -156,39 +171,60 @@ fn run_held<
         + AllocGlobal,
     W: Write,
     F: Write + IsTerminal + Copy + Send + Drop,
->(rt: &R, order: &Order<'a>, output: &mut W, faults: &F) -> Result<(), Refused<'a>> {
-    match *order {
-        Order::Store(order) => run_on_disk(rt, order, output),
-        Order::Dump(order) => of_file(dump(rt, order, output), order.file, Purpose::Reading),
-        Order::List(order) => of_file(list(rt, order, output), order.file, Purpose::Reading),
-        Order::Export(order) => {
-            let end = export_from(rt, order, output);
-            of_file(end, order.file, Purpose::Reading)
+>(rt: &R, order: &Order<'_>, output: &mut W, faults: &mut F) -> u8 {
+    match order {
+        Order::Store(order) => run_on_disk(rt, order, output, faults),
+        Order::Dump(order) => {
+            let end = dump(rt, *order, output);
+            tell(rt, end, order.file, Purpose::Reading, faults)
         }
-        Order::Serve(order) => serve(rt, order, faults),
+        Order::List(order) => {
+            let end = list(rt, *order, output);
+            tell(rt, end, order.file, Purpose::Reading, faults)
+        }
+        Order::Export(order) => {
+            let end = export_from(rt, *order, output);
+            tell(rt, end, order.file, Purpose::Reading, faults)
+        }
+        Order::Serve(order) => {
+            let end = serve(rt, *order, &*faults);
+            ended(rt, end, faults)
+        }
     }
 }
 
 /// Does what an order over one disk asks for, over the disk that it names.
-fn run_on_disk<'a, R: Files<File = File> + Input + AllocGlobal, W: Write>(
+fn run_on_disk<R: Files<File = File> + Input + AllocGlobal, W: Write, F: Write + IsTerminal>(
     rt: &R,
-    order: StoreOrder<'a>,
+    order: &StoreOrder<'_>,
     output: &mut W,
-) -> Result<(), Refused<'a>> {
-    match order {
+    faults: &mut F,
+) -> u8 {
+    match *order {
         StoreOrder::InMemory => {
-            let end = match MemDisk::new(rt.alloc(), ROOM, CALLS) {
-                Ok(disk) => run_on(rt, order, disk, output).end,
-                Err(_) => Err(Fault::Memory),
-            };
-            of_file(end, "the store in memory", Purpose::Writing)
+            let end = run_in_memory(rt, order, output);
+            tell(rt, end, "the store in memory", Purpose::Writing, faults)
         }
         StoreOrder::Init { file, .. } => {
-            of_file(run_init(rt, order, file, output), file, Purpose::Making)
+            let end = run_init(rt, order, file, output);
+            tell(rt, end, file, Purpose::Making, faults)
         }
         StoreOrder::Edit { file } => {
-            of_file(run_on_file(rt, order, file, output), file, Purpose::Writing)
+            let end = run_on_file(rt, order, file, output);
+            tell(rt, end, file, Purpose::Writing, faults)
         }
+    }
+}
+
+/// Does what an order asks for over a store in memory.
+fn run_in_memory<R: Input + AllocGlobal, W: Write>(
+    rt: &R,
+    order: &StoreOrder<'_>,
+    output: &mut W,
+) -> Result<(), Fault> {
+    match MemDisk::new(rt.alloc(), ROOM, CALLS) {
+        Ok(disk) => run_on(rt, order, disk, output).end,
+        Err(_) => Err(Fault::Memory),
     }
 }
 
@@ -196,7 +232,7 @@ fn run_on_disk<'a, R: Files<File = File> + Input + AllocGlobal, W: Write>(
 /// where this fails.
 fn run_init<R: Files<File = File> + Input + AllocGlobal, W: Write>(
     rt: &R,
-    order: StoreOrder<'_>,
+    order: &StoreOrder<'_>,
     path: &str,
     output: &mut W,
 ) -> Result<(), Fault> {
@@ -215,7 +251,7 @@ fn run_init<R: Files<File = File> + Input + AllocGlobal, W: Write>(
 /// Does what an order asks for over a file, where it can be opened.
 fn run_on_file<R: Files<File = File> + Input + AllocGlobal, W: Write>(
     rt: &R,
-    order: StoreOrder<'_>,
+    order: &StoreOrder<'_>,
     path: &str,
     output: &mut W,
 ) -> Result<(), Fault> {
@@ -228,9 +264,9 @@ fn run_on_file<R: Files<File = File> + Input + AllocGlobal, W: Write>(
 /// Does what an order asks for over a disk.
 fn run_on<R: Input + AllocGlobal, D: Disk, W: Write>(
     rt: &R,
-    order: StoreOrder<'_>,
+    order: &StoreOrder<'_>,
     disk: D,
     output: &mut W,
 ) -> Ended<D> {
-    perform(rt.alloc(), &order, disk, rt.reader(), output)
+    perform(rt.alloc(), order, disk, rt.reader(), output)
 }
