@@ -49,14 +49,14 @@ def check_files(checks, program):
     write("no store", b"")
     write("other bytes", MADE[:8] + b"x" + MADE[9:])
     new_file(program, "there")
-    os.mkdir("folder")
+    os.mkdir("a_folder")
     for words, place, name in [
         (("edit", "none"), "none", "NotThere"),
         (("dump", "none", "1"), "none", "NotThere"),
         (("edit", "there/below"), "there/below", "NotThere"),
         (("init", "no/file", "--replica", REPLICA), "no/file", "NoFolder"),
-        (("list", "folder"), "folder", "Folder"),
-        (("init", "folder", "--replica", REPLICA), "folder", "Folder"),
+        (("list", "a_folder"), "a_folder", "Folder"),
+        (("init", "a_folder", "--replica", REPLICA), "a_folder", "Folder"),
         (("edit", "/dev/null"), "/dev/null", "NotPlain"),
     ]:
         same(checks, program, words, 54, place, name)
