@@ -1,6 +1,9 @@
 //! Lines to the letter, and writers that take nothing.
 use crate::{Event, Journal, LinkPlace, Reason, Telling};
 use op_ids::ReplicaId;
+use std::alloc::Global;
+use std::rt::Clock;
+use std::sync::Wait;
 use std::test::Fail;
 
 const PLACE: LinkPlace = LinkPlace {
@@ -14,75 +17,83 @@ const FAILED: Reason<'static> = Reason {
     word: "failed",
 };
 
+/// Whether a journal that is told of this event writes this line.
+fn is_told<R: Wait + Clock>(rt: &R, alloc: Global, event: &Event<'_>, line: &str) -> bool {
+    let journal = Journal::new(alloc, Telling::All);
+    journal.tell(rt, event);
+    journal.end(rt);
+    let mut written = Vec::new(alloc);
+    journal.write_all(rt, &mut written);
+    written.as_slice() == line.as_bytes()
+}
+
+/// The replica whose number is 1.
+fn first_replica() -> Result<ReplicaId, Fail> {
+    let name = [0, 0, 0, 0, 0, 0, 0x40, 0, 0x80, 0, 0, 0, 0, 0, 0, 1];
+    Ok(ReplicaId::read(name).ok_or("nil")?)
+}
+
 #[test]
-fn an_event_is_a_line(rt: HostRuntime) -> Result<(), Fail> {
-    let alloc = rt.alloc();
-    let replica = ReplicaId::read([0, 0, 0, 0, 0, 0, 0x40, 0, 0x80, 0, 0, 0, 0, 0, 0, 1]).ok_or(
-        "nil",
-    )?;
-    let (reason, place) = (FAILED, PLACE);
-    let closed = Reason {
-        code: 27,
-        word: "link closed",
-    };
+fn a_daemon_is_a_line(rt: HostRuntime) -> Result<(), Fail> {
     let listening = Event::Listening {
         file: "my \"notes\"\n",
-        replica,
+        replica: first_replica()?,
         sessions: 7_001,
         peers: 7_101,
         operations: 12,
         documents: 2,
     };
-    for (event, line) in [
-        (
-            listening,
-            "event=listening file=\"my \\u{22}notes\\u{22}\\u{a}\" replica=00000000-0000-4000-8000-000000000001 sessions=7001 peers=7101 operations=12 documents=2\n",
-        ),
-        (
-            Event::SessionUp { session: 7 },
-            "event=session_up session=7\n",
-        ),
-        (
-            Event::SessionDown { session: 7, reason },
-            "event=session_down session=7 code=9 reason=failed\n",
-        ),
-        (
-            Event::SessionRefused { reason },
-            "event=session_refused code=9 reason=failed\n",
-        ),
-        (
-            Event::LinkUp { place, replica },
-            "event=link_up link=3 way=joined port=7101 replica=00000000-0000-4000-8000-000000000001\n",
-        ),
-        (
-            Event::LinkDown {
-                place,
-                reason: closed,
-            },
-            "event=link_down link=3 way=joined port=7101 code=27 reason=\"link closed\"\n",
-        ),
-        (
-            Event::LinkRefused { port: 9, reason },
-            "event=link_refused port=9 code=9 reason=failed\n",
-        ),
-        (
-            Event::Copy { place, replica },
-            "event=copy link=3 way=joined port=7101 replica=00000000-0000-4000-8000-000000000001 note=\"this file is a copy; both ends stop telling\"\n",
-        ),
-        (
-            Event::CommitFailed { reason },
-            "event=commit_failed code=9 reason=failed\n",
-        ),
-        (Event::OpenedAnew, "event=opened_anew\n"),
-        (Event::End { reason }, "event=end code=9 reason=failed\n"),
-    ] {
-        let journal = Journal::new(alloc, Telling::All);
-        journal.tell(&rt, &event);
-        journal.end(&rt);
-        let mut written = Vec::new(alloc);
-        journal.write_all(&rt, &mut written);
-        assert!(rt; written.as_slice() == line.as_bytes(), "{written:?}");
-    }
+    let line =
+        "event=listening file=\"my \\u{22}notes\\u{22}\\u{a}\" replica=00000000-0000-4000-8000-000000000001 sessions=7001 peers=7101 operations=12 documents=2\n";
+    assert!(rt; is_told(&rt, rt.alloc(), &listening, line));
+    let failed = Event::CommitFailed { reason: FAILED };
+    let line = "event=commit_failed code=9 reason=failed\n";
+    assert!(rt; is_told(&rt, rt.alloc(), &failed, line));
+    let line = "event=opened_anew\n";
+    assert!(rt; is_told(&rt, rt.alloc(), &Event::OpenedAnew, line));
+    let end = Event::End { reason: FAILED };
+    let line = "event=end code=9 reason=failed\n";
+    assert!(rt; is_told(&rt, rt.alloc(), &end, line));
+    Ok(())
+}
+
+#[test]
+fn a_session_is_a_line(rt: HostRuntime) -> Result<(), Fail> {
+    let reason = FAILED;
+    let up = Event::SessionUp { session: 7 };
+    let line = "event=session_up session=7\n";
+    assert!(rt; is_told(&rt, rt.alloc(), &up, line));
+    let down = Event::SessionDown { session: 7, reason };
+    let line = "event=session_down session=7 code=9 reason=failed\n";
+    assert!(rt; is_told(&rt, rt.alloc(), &down, line));
+    let refused = Event::SessionRefused { reason };
+    let line = "event=session_refused code=9 reason=failed\n";
+    assert!(rt; is_told(&rt, rt.alloc(), &refused, line));
+    Ok(())
+}
+
+#[test]
+fn a_link_is_a_line(rt: HostRuntime) -> Result<(), Fail> {
+    let replica = first_replica()?;
+    let place = PLACE;
+    let reason = Reason {
+        code: 27,
+        word: "link closed",
+    };
+    let up = Event::LinkUp { place, replica };
+    let line =
+        "event=link_up link=3 way=joined port=7101 replica=00000000-0000-4000-8000-000000000001\n";
+    assert!(rt; is_told(&rt, rt.alloc(), &up, line));
+    let down = Event::LinkDown { place, reason };
+    let line = "event=link_down link=3 way=joined port=7101 code=27 reason=\"link closed\"\n";
+    assert!(rt; is_told(&rt, rt.alloc(), &down, line));
+    let refused = Event::LinkRefused { port: 9, reason };
+    let line = "event=link_refused port=9 code=27 reason=\"link closed\"\n";
+    assert!(rt; is_told(&rt, rt.alloc(), &refused, line));
+    let copy = Event::Copy { place, replica };
+    let line =
+        "event=copy link=3 way=joined port=7101 replica=00000000-0000-4000-8000-000000000001 note=\"this file is a copy; both ends stop telling\"\n";
+    assert!(rt; is_told(&rt, rt.alloc(), &copy, line));
     Ok(())
 }
 
@@ -91,16 +102,14 @@ fn lines_without_room_are_counted(rt: HostRuntime) -> Result<(), Fail> {
     let alloc = rt.alloc();
     let journal = Journal::new(alloc, Telling::All);
     for session in 0..300 {
-        journal.tell(&rt, &Event::SessionUp { session });
+        let reason = FAILED;
+        journal.tell(&rt, &Event::SessionDown { session, reason });
     }
     journal.end(&rt);
     let mut written = Vec::new(alloc);
     journal.write_all(&rt, &mut written);
-    assert!(rt;
-        written
-            .as_slice()
-            .ends_with("session=255\nevent=dropped count=44\n".as_bytes())
-    );
+    let end = "session=255 code=9 reason=failed\nevent=dropped count=44\n";
+    assert!(rt; written.as_slice().ends_with(end.as_bytes()));
     Ok(())
 }
 
