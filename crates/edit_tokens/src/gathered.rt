@@ -1,3 +1,4 @@
+//! The tokens of a list that is gone through.
 ghost use Rattle.std.specs.Prelude.{◌≡◌, ◌==◌, ℕ, List, [], ◌∷◌, ◌++◌, Some, IfOk, OnOk, OnErr};
 ghost use Rattle.op_model.specs.declared.op.Op.{Op};
 ghost use Rattle.edit_tokens.specs.Places.{place_at, AreTokens, FindsAlike, Puts};

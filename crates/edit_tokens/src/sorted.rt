@@ -1,3 +1,4 @@
+//! Tokens in rising order.
 ghost use Rattle.std.specs.Prelude.{◌≡◌, [], Some, None, IfOk, IfSome};
 ghost use Rattle.edit_tokens.specs.Places.{place_of, FindsAlike, Puts, IsAt};
 
