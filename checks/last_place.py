@@ -15,7 +15,7 @@ PLACES = 32
 SILENT, SLACK = 1, 4
 REFUSED = {
     "an edit": insert(0, "x"), "a text": TEXT, "an unknown request": line(op="fly"), "no request": b"x\n", "an empty line": b"\n",
-    "a long line": b" " * 1_000 + STATUS, "a status behind an edit": insert(0, "x") + STATUS, "HTTP": b"GET / HTTP/1.1\r\n\r\n",
+    "a long line": b" " * 5_000 + STATUS, "a status behind an edit": insert(0, "x") + STATUS, "HTTP": b"GET / HTTP/1.1\r\n\r\n",
 }
 TAKEN = {"a status": STATUS, "a status with spaces": b' {  "op" : "status" }\n'}
 

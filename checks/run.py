@@ -37,6 +37,7 @@ import session_memory
 import streams
 import terminal
 import tokens
+import watching
 import web_pages
 import words
 import worst
@@ -45,7 +46,7 @@ from program import Checks
 LIMIT = 600
 GROUPS = (
     words, sentences, terminal, examples, exports, long_texts, streams, locks, lost_files, full_disk, ending, crafted, formats, long_runs, damage, each_byte, kills, tokens, memory, serving, served_limits, journal, web_pages,
-    last_place, peers, parting, put_back, backups, parted_files, idle_links, rude, noise, worst, session_memory, renewal,
+    last_place, peers, watching, parting, put_back, backups, parted_files, idle_links, rude, noise, worst, session_memory, renewal,
 )
 
 

@@ -5,6 +5,8 @@ import re
 
 ROOT = os.path.dirname(os.path.dirname(os.path.abspath(__file__)))
 SENTENCE = re.compile(r'    /// (\d+(?:, \d+)*)(: [^\n]*)?\n    #\[error\("([^"]*)"\)\]\n    (\w+),\n')
+# A literal that goes on in the next line.
+CUT = re.compile(r"\\\n +")
 ENTRY = re.compile(r'^ +(\d+): (?:"([^"]*)"|(\w+)),$', re.MULTILINE)
 NAMED = re.compile(r'^(?:const )?(\w+) = "([^"]*)";?$', re.MULTILINE)
 
@@ -17,7 +19,7 @@ def text(*path):
 def sentences():
     """What the program says, by the name of the sentence: its numbers, whether it is for one cause of them, and its words."""
     found = SENTENCE.findall(text("crates", "store_orders", "src", "sentence.rt"))
-    return {name: ([int(number) for number in numbers.split(", ")], bool(cause), words) for numbers, cause, words, name in found}
+    return {name: ([int(number) for number in numbers.split(", ")], bool(cause), CUT.sub("", words)) for numbers, cause, words, name in found}
 
 
 def of_numbers():

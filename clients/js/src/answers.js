@@ -109,5 +109,6 @@ const FIELDS = new Map(
     spans: { rev: isNumber, spans: areSpans },
     status: { applied: isNumber, settled: isNumber, state: isText },
     peers: { peers: arePeers, sessions: isNumber },
+    watch: EDITED,
   }),
 );

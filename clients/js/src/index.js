@@ -7,3 +7,4 @@ export { toIndex, toPlace } from "./places.js";
 export { Reading } from "./reading.js";
 export { Ended, NoDaemon, Refused, Stale } from "./refusals.js";
 export { Session } from "./session.js";
+export { Watch } from "./watch.js";

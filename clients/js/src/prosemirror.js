@@ -89,6 +89,11 @@ class Binding {
     return this.#view === undefined ? 0 : this.#known().pending.length;
   }
 
+  /** How many operations the document had when it was last read, or before it is shown -1. */
+  get rev() {
+    return this.#view === undefined ? -1 : this.#known().rev;
+  }
+
   /**
    * Goes on over another session, where the first one has ended: what was typed meanwhile is sent there. An edit that
    * wasn't answered is asked for first, by its token, and isn't made twice.

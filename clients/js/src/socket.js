@@ -5,6 +5,7 @@ import { createConnection } from "node:net";
 import { Lines } from "./lines.js";
 import { Ended, NoDaemon } from "./refusals.js";
 import { Session } from "./session.js";
+import { Watch } from "./watch.js";
 
 /** A daemon listens on this machine alone. */
 const HOST = "127.0.0.1";
@@ -75,6 +76,18 @@ export async function connect(port, { patience = PATIENCE, timeout, retry } = {}
     begun.abandon();
     throw error;
   }
+}
+
+/**
+ * Tells of the changes of a document of the daemon whose `--sessions` port this is, over a connection of its own, which
+ * takes a place more.
+ * @param {number} port
+ * @param {number} document
+ * @param {{retry?: number | null}} options `retry`: milliseconds for which a daemon that went is looked for, 10,000 unless
+ *   it is given, or null not to look
+ */
+export function watch(port, document, options = {}) {
+  return new Watch(() => new Connection(port), document, options);
 }
 
 /**

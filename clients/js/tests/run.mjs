@@ -26,6 +26,7 @@ run("limits");
 run("again");
 run("file", noProgram);
 run("daemon", noProgram);
+run("watch", noProgram);
 run("slow", noProgram);
 run("paragraphs", noEditor);
 run("binding", noEditor);

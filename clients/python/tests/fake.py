@@ -12,6 +12,8 @@ class FakeDaemon:
 
     def __init__(self, talk):
         self._talk = talk
+        # What a session is greeted with.
+        self.greeting = lambda: STATUS
         self._server = socket.create_server(("127.0.0.1", 0))
         self._connections = []
         self.port = self._server.getsockname()[1]
@@ -30,7 +32,7 @@ class FakeDaemon:
         with connection, connection.makefile("rb") as lines:
             try:
                 lines.readline()
-                connection.sendall(STATUS)
+                connection.sendall(self.greeting())
                 self._talk(connection, lines)
                 connection.shutdown(socket.SHUT_WR)
                 while lines.read(65_536):

@@ -86,5 +86,5 @@ def retried(call):
         try:
             return call()
         except peritext.Refused:
-            threading.Event().wait(0.05)
+            time.sleep(0.05)
     return call()

@@ -4,7 +4,7 @@ import * as model from "prosemirror-model";
 import * as state from "prosemirror-state";
 import * as transform from "prosemirror-transform";
 import { EditorView } from "prosemirror-view";
-import { Ended, Session } from "peritext";
+import { Ended, Refused, Session, Watch } from "peritext";
 import { bind } from "peritext/prosemirror";
 
 import { Chips } from "./chips.js";
@@ -18,7 +18,10 @@ import { Wire } from "./wire.js";
 /** The document that both sides edit. */
 const DOCUMENT = 1;
 
-/** Milliseconds between two looks at what others did, and between two tries to reach the daemon. */
+/**
+ * Milliseconds between two looks at what others did, where the daemon doesn't tell of it, and between two tries to reach
+ * the daemon.
+ */
 const LOOK = 200;
 const AGAIN = 400;
 
@@ -67,23 +70,57 @@ export class Peer {
   /** Connects to the daemon again and again: what is typed meanwhile waits in the editor, and is sent behind it. */
   async #run() {
     for (;;) {
-      const wire = new Wire(`session/${this.#name}`);
+      const wire = this.#newWire();
       try {
         const session = new Session(wire);
         // The last place is for those who first ask for the status.
         await session.settled();
         await this.#begin(session.document(DOCUMENT));
-        while (!wire.isOver) {
-          await this.#binding.pull();
-          this.#notice.clear("fault");
-          await pause(LOOK);
-        }
+        await this.#follow(wire);
       } catch (error) {
         this.#fail(error);
       }
       wire.close();
       await pause(AGAIN);
     }
+  }
+
+  #newWire() {
+    return new Wire(`session/${this.#name}`);
+  }
+
+  /** Shows what others do, until the session ends. */
+  async #follow(wire) {
+    await this.#pull();
+    await this.#followTold(wire);
+    // An earlier daemon doesn't tell, nor one without a place for that.
+    while (!wire.isOver) {
+      await this.#pull();
+      await pause(LOOK);
+    }
+  }
+
+  /** Shows what others do as soon as the daemon tells of it, for as long as it does. */
+  async #followTold(wire) {
+    const watch = new Watch(() => this.#newWire(), DOCUMENT, { retry: null });
+    wire.onOver = () => watch.close();
+    if (wire.isOver) watch.close();
+    try {
+      for await (const rev of watch) {
+        // What this page did itself it reads by itself.
+        await this.#binding.settled();
+        if (rev > this.#binding.rev) await this.#pull();
+      }
+    } catch (error) {
+      if (!(error instanceof Ended || error instanceof Refused)) throw error;
+    } finally {
+      watch.close();
+    }
+  }
+
+  async #pull() {
+    await this.#binding.pull();
+    this.#notice.clear("fault");
   }
 
   /** Opens the editor, or goes on with the one that is there. */

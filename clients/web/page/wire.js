@@ -6,6 +6,7 @@ export class Wire {
   onLine = () => {};
   onPart = () => {};
   onEnd = () => {};
+  onOver = () => {};
   isOver = false;
   #web;
   #decoder = new TextDecoder();
@@ -44,5 +45,6 @@ export class Wire {
   #over() {
     this.isOver = true;
     this.onEnd();
+    this.onOver();
   }
 }

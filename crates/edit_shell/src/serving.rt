@@ -1,4 +1,5 @@
 //! The daemon over a file and sockets, and the thread that writes its events.
+ghost use Rattle.std.specs.Prelude.{◌≡◌, [], IfOk};
 
 use crate::error_stream::ErrorStream;
 use crate::looking::Purpose;
@@ -11,12 +12,12 @@ use file_listing::documents;
 use hub_parts::{Parts, open};
 use serve_threads::{Served, Sockets, serve_on};
 use shared_hub::NoGate;
-use std::alloc::{AllocError, Global};
+use std::alloc::Global;
 use std::fs::File;
 use std::io::{IsTerminal, Write};
 use std::net::{Net, TcpListener, TcpStream};
 use std::rt::{Clock, Files};
-use std::sync::{Arc, Wait};
+use std::sync::Wait;
 use std::thread;
 use std::thread::Threads;
 use store_orders::Fault;
@@ -38,10 +39,7 @@ pub fn serve<
     let Some(telling) = telling(order, faults) else {
         return serve_file(rt, order, None);
     };
-    match journals(rt.alloc(), telling) {
-        Ok(journals) => serve_and_tell(rt, order, journals, *faults),
-        Err(AllocError) => of_file(Err(Fault::Memory), order.file, Purpose::Writing),
-    }
+    serve_and_tell(rt, order, &Journal::new(rt.alloc(), telling), *faults)
 }
 
 /// What is told of a daemon, if anything is.
@@ -55,13 +53,6 @@ fn telling<F: IsTerminal>(order: ServeOrder<'_>, faults: &F) -> Option<Telling> 
     }
 }
 
-/// A journal, for whoever tells and for whoever writes. An error is out of memory (1).
-fn journals(alloc: Global, telling: Telling) -> Result<(Arc<Journal>, Arc<Journal>), AllocError> {
-    let journal = Arc::new(alloc, Journal::new(alloc, telling))?;
-    let same = journal.clone()?;
-    Ok((journal, same))
-}
-
 /// Serves a file, while a thread writes what the journal is told.
 fn serve_and_tell<
     'a,
@@ -73,18 +64,12 @@ fn serve_and_tell<
         + Net<Listener = TcpListener, Stream = TcpStream>
         + AllocGlobal,
     F: Write + Send + Drop,
->(
-    rt: &R,
-    order: ServeOrder<'a>,
-    (journal, same): (Arc<Journal>, Arc<Journal>),
-    errors: F,
-) -> Result<(), Refused<'a>> {
-    let events = &*same;
+>(rt: &R, order: ServeOrder<'a>, journal: &Journal, errors: F) -> Result<(), Refused<'a>> {
     thread::scope(thread::scope_env(), rt, move |scope| {
         // Where there is no thread, nothing is told.
-        let _ = scope.spawn(move || events.write_all(rt, &mut ErrorStream { errors }));
+        let _ = scope.spawn(move || journal.write_all(rt, &mut ErrorStream { errors }));
         let end = serve_file(rt, order, Some(journal));
-        events.end(rt);
+        journal.end(rt);
         end
     })
 }
@@ -103,40 +88,58 @@ fn serve_file<
         + Sync
         + Net<Listener = TcpListener, Stream = TcpStream>
         + AllocGlobal,
->(rt: &R, order: ServeOrder<'a>, journal: Option<Arc<Journal>>) -> Result<(), Refused<'a>> {
-    let refused = |fault| of_file(Err(fault), order.file, Purpose::Writing);
-    let Ok(disk) = FileDisk::open(rt, order.file) else {
-        return refused(Fault::OpenFailed);
+>(rt: &R, order: ServeOrder<'a>, journal: Option<&Journal>) -> Result<(), Refused<'a>> {
+    let end = match open_file(rt, order.file) {
+        Ok(parts) => {
+            let sockets = open_sockets(rt, order)?;
+            serve_opened(rt, order, parts, sockets, journal)
+        }
+        Err(fault) => Err(fault),
     };
-    let parts = match open(rt.alloc(), disk) {
-        Ok(parts) => parts,
-        Err(fault) => return refused(Fault::from(fault.cause)),
+    of_file(end, order.file, Purpose::Writing)
+}
+
+/// Opens a file for a daemon.
+fn open_file<R: Files<File = File> + AllocGlobal>(
+    rt: &R,
+    file: &str,
+) -> Result<Parts<FileDisk>, Fault>
+    ensures { IfOk result (λ parts. parts.locked.replica.steps ≡ []) }
+{
+    let Ok(disk) = FileDisk::open(rt, file) else {
+        return Err(Fault::OpenFailed);
     };
-    let sockets = open_sockets(rt, order)?;
-    let Ok((journal, same)) = twice(journal) else {
-        return refused(Fault::Memory);
-    };
-    tell_listening(rt, rt.alloc(), order, &parts, &same);
+    match open(rt.alloc(), disk) {
+        Ok(parts) => Ok(parts),
+        Err(fault) => Err(Fault::from(fault.cause)),
+    }
+}
+
+/// Serves a file that is open over its sockets, and tells of its beginning and end.
+fn serve_opened<
+    R: Clock
+        + Wait
+        + Threads
+        + Sync
+        + Net<Listener = TcpListener, Stream = TcpStream>
+        + AllocGlobal,
+>(
+    rt: &R,
+    order: ServeOrder<'_>,
+    parts: Parts<FileDisk>,
+    sockets: Sockets<'_>,
+    journal: Option<&Journal>,
+) -> Result<(), Fault>
+    requires { parts.locked.replica.steps ≡ [] }
+{
     let sockets = Sockets { journal, ..sockets };
+    tell_listening(rt, rt.alloc(), order, &parts, journal);
     let end = match serve_on(rt, rt.alloc(), parts, sockets, &NoGate) {
         Ok(served) => end_of(&served),
         Err(fault) => Err(Fault::from(fault.cause)),
     };
-    tell_end(rt, rt.alloc(), &same, end);
-    of_file(end, order.file, Purpose::Writing)
-}
-
-/// A journal, if there is one, for the daemon and for whoever tells of its beginning and end.
-fn twice(
-    journal: Option<Arc<Journal>>,
-) -> Result<(Option<Arc<Journal>>, Option<Arc<Journal>>), AllocError> {
-    match journal {
-        Some(journal) => {
-            let same = journal.clone()?;
-            Ok((Some(journal), Some(same)))
-        }
-        None => Ok((None, None)),
-    }
+    tell_end(rt, rt.alloc(), journal, end);
+    end
 }
 
 /// What ended a daemon, if it is a refusal.
@@ -151,12 +154,7 @@ fn end_of<D: Disk>(served: &Served<D>) -> Result<(), Fault> {
 }
 
 /// Tells how a daemon ended, if anybody is told.
-fn tell_end<R: Wait>(
-    rt: &R,
-    alloc: Global,
-    journal: &Option<Arc<Journal>>,
-    end: Result<(), Fault>,
-) {
+fn tell_end<R: Wait>(rt: &R, alloc: Global, journal: Option<&Journal>, end: Result<(), Fault>) {
     let Some(journal) = journal else {
         return;
     };
@@ -182,7 +180,7 @@ fn tell_listening<R: Wait, D: Disk>(
     alloc: Global,
     order: ServeOrder<'_>,
     parts: &Parts<D>,
-    journal: &Option<Arc<Journal>>,
+    journal: Option<&Journal>,
 ) {
     let Some(journal) = journal else {
         return;

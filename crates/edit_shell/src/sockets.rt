@@ -12,10 +12,10 @@ const HOST: &str = "127.0.0.1";
 
 /// Opens the sockets that an order names, in its order, and joins its peer, which isn't the daemon
 /// itself. `Socket` (70) where one of them can't be had.
-pub fn open_sockets<R: Net<Listener = TcpListener, Stream = TcpStream>>(
+pub fn open_sockets<'a, R: Net<Listener = TcpListener, Stream = TcpStream>>(
     rt: &R,
     order: ServeOrder<'_>,
-) -> Result<Sockets, Refused<'static>> {
+) -> Result<Sockets<'a>, Refused<'static>> {
     if let Some(port) = order.link
         && (port == order.peers || port == order.sessions)
     {

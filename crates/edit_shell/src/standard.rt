@@ -26,8 +26,8 @@ const CALLS: usize = 1_024;
 const NOTHING: &str = "/dev/null";
 
 /// Runs the program, and gives its exit status: 0; 1 where a refusal ended it, which is written as
-/// `peritext: NUMBER WORD`, and explained on a terminal; 2 with the text of `clap`, or that of a bad
-/// port, where the words aren't those of an order.
+/// `peritext: NUMBER WORD`, and explained on a terminal; 2 with the text of `clap`, or that of a
+/// bad port, where the words aren't those of an order.
 pub fn run<
     R: Env
         + Files<File = File>

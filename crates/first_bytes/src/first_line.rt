@@ -1,23 +1,27 @@
-//! The first line of a session that was given the last place.
+//! The first line of a session, where it is looked at before the session is served.
 
 use crate::waits::has_to_wait;
-use session_lines::{Command, serve_line};
+use session_lines::{Command, serve_line, watch_line};
 use std::alloc::Global;
 use std::io;
 use std::io::Read;
 use std::marker::Model;
 
-/// More bytes than a request for the status or a stop has: a longer line is neither.
-const ROOM: usize = 256;
+/// As many bytes as a session reads at once: so what came in one piece is still served in one, also
+/// if the daemon is about to end. A longer line is no request for the status, a stop or a watch.
+const ROOM: usize = 4_096;
 
 /// How many times at most is read until the line is there. A read of a socket with a time limit of
 /// 10 milliseconds ends after that, so nobody keeps the last place for a second without asking.
 const TURNS: usize = 100;
 
-/// What was read of a session before it is served: nothing, or its first line and perhaps more.
+/// What was read of a session before it is served: nothing, or its first line and perhaps more. As
+/// a reader it hands that on.
 #[derive(Drop)]
 pub struct FirstLine {
     bytes: [u8; ROOM],
+    /// How many of them were handed on.
+    given: usize,
     count: usize,
 }
 
@@ -30,7 +34,7 @@ impl Model for FirstLine {
 
     ghost view = { λ first. first.count };
 
-    ghost invariant = { λ first. first.count ≤ ROOM };
+    ghost invariant = { λ first. (first.given ≤ first.count) × (first.count ≤ ROOM) };
 }
 
 impl FirstLine {
@@ -38,6 +42,7 @@ impl FirstLine {
     pub fn new() -> FirstLine {
         FirstLine {
             bytes: [0; ROOM],
+            given: 0,
             count: 0,
         }
     }
@@ -46,7 +51,7 @@ impl FirstLine {
     /// the reader ends.
     pub fn read_from<S: Read>(&mut self, reader: &mut S) {
         for _ in 0..TURNS {
-            if self.count == ROOM || self.line().is_some() {
+            if self.is_enough() {
                 return;
             }
             match self.read_once(reader) {
@@ -58,6 +63,24 @@ impl FirstLine {
         }
     }
 
+    /// Reads until a line is there, for as long as the reader waits; not to its end where it is too
+    /// long or the reader ends. After an error what came before it is there, and the next call goes
+    /// on behind that.
+    pub fn wait_for<S: Read>(&mut self, reader: &mut S) -> io::Result<()> {
+        // A read that isn't the last one gives a byte at least.
+        for _ in 0..ROOM {
+            if self.is_enough() || self.read_once(reader)? == 0 {
+                return Ok(());
+            }
+        }
+        Ok(())
+    }
+
+    /// Whether a line is there, or no room for more of it.
+    fn is_enough(&self) -> bool {
+        self.count == ROOM || self.line().is_some()
+    }
+
     /// Reads once, behind what is there.
     fn read_once<S: Read>(&mut self, reader: &mut S) -> io::Result<usize> {
         let count = reader.read(&mut self.bytes[self.count..])?;
@@ -65,9 +88,9 @@ impl FirstLine {
         Ok(count)
     }
 
-    /// What was read.
+    /// What was read, and not handed on.
     pub fn as_slice(&self) -> &[u8] {
-        &self.bytes[..self.count]
+        &self.bytes[self.given..self.count]
     }
 
     /// The first line, where it is there, without its line feed.
@@ -83,5 +106,28 @@ impl FirstLine {
             Some(line) => matches!(serve_line(alloc, line), Ok(Command::Status | Command::Stop)),
             None => false,
         }
+    }
+
+    /// The document of whose changes it asks to be told, if it does.
+    pub fn watched(&self, alloc: Global) -> Option<u32> {
+        watch_line(alloc, self.line()?).ok()
+    }
+
+    /// Whether more was read than the line.
+    pub fn is_followed(&self) -> bool {
+        match self.line() {
+            Some(line) => self.as_slice().len() > line.len() + 1,
+            None => false,
+        }
+    }
+}
+
+impl Read for FirstLine {
+    fn read(&mut self, buf: &mut [u8]) -> io::Result<usize> {
+        let count = buf.len().min(self.count - self.given);
+        let end = self.given + count;
+        buf[..count].copy_from_slice(&self.bytes[self.given..end]);
+        self.given = end;
+        Ok(count)
     }
 }

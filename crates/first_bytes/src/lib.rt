@@ -6,10 +6,12 @@
 
 mod first_line;
 mod first_look;
+mod first_watch;
 mod front;
 mod waits;
 
 pub use first_line::FirstLine;
 pub use first_look::FirstLook;
+pub use first_watch::{FirstWatch, Watch};
 pub use front::Front;
 pub use waits::has_to_wait;

@@ -8,6 +8,7 @@ pub mod MeetSteps
 pub mod BeginLemmas
 pub mod Fronts
 pub mod Settling
+pub mod SettledRevs
 pub mod OpenedParts
 pub mod TicketEnds
 pub mod WaitLemmas

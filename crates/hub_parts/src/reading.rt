@@ -1,5 +1,5 @@
 //! What the locked part tells of itself.
-ghost use Rattle.std.specs.Prelude.{◌≡◌, IfOk};
+ghost use Rattle.std.specs.Prelude.{◌≡◌, IfOk, take};
 ghost use Rattle.op_model.specs.Causality.{clock_of};
 ghost use Rattle.op_model.specs.Machine.{known_ticket};
 ghost use Rattle.op_model.specs.Spans.{spans as spans_of};
@@ -85,6 +85,23 @@ impl Locked {
         ensures { result ≡ rev_of self.now.replica.list doc }
     {
         self.replica.rev(doc)
+    }
+
+    /// How many settled operations a document has: those that a commit has brought to the device,
+    /// so that they outlive a power cut. Takes no memory. Costs what `Replica::rev` does, and a
+    /// step for each operation that isn't settled.
+    pub fn settled_rev(&self, doc: u32) -> usize
+        ensures { result
+            ≡ rev_of (take self.now.replica.settled self.now.replica.list) doc }
+    {
+        let list = self.list();
+        let mut count = self.rev(doc);
+        for i in self.settled()..list.len() {
+            if list.head(i).doc == doc {
+                count -= 1;
+            }
+        }
+        count
     }
 
     /// The text of a document, unsettled operations included. An error is out of memory (1). Costs

@@ -4,6 +4,8 @@
 #[cfg(test)]
 mod first_line_tests;
 #[cfg(test)]
+mod first_watch_tests;
+#[cfg(test)]
 mod request_tests;
 #[cfg(test)]
 mod saying_tests;
@@ -11,3 +13,5 @@ mod saying_tests;
 mod stream_tests;
 #[cfg(test)]
 mod token_tests;
+#[cfg(test)]
+mod watch_tests;

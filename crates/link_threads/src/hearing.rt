@@ -7,6 +7,7 @@ use crate::patience::Patience;
 use causal_sync::{LinkError, Ops};
 use fixed_numbers::refusals::{BUSY, FAILED, MEMORY, STEPS, STOPPING};
 use op_ids::ReplicaId;
+use op_model::Op;
 use pass_books::{Desks, Pass};
 use replica_core::Merged;
 use rtrb::Producer;
@@ -212,21 +213,9 @@ impl<'a, R: Wait + Clock, J: Desks, G: Gate> Hearing<'a, R, J, G> {
                 return Merging::CantTake;
             };
             for op in ops {
-                match self.shared.merge(self.rt, self.pass, op) {
-                    Ok(Merged::Applied) => {
-                        self.has_taken = true;
-                        self.patience.end();
-                    }
-                    Ok(Merged::Known) => {}
-                    Ok(Merged::Early) => is_early = true,
-                    Err(refusal) => {
-                        self.is_out_of_steps = refusal.number() == STEPS;
-                        let merging = behind(refusal);
-                        if merging != Merging::CantTake {
-                            self.over = Over::Refused(refusal);
-                        }
-                        return merging;
-                    }
+                match self.merge_one(op) {
+                    Ok(came_early) => is_early |= came_early,
+                    Err(merging) => return merging,
                 }
             }
         }
@@ -234,6 +223,28 @@ impl<'a, R: Wait + Clock, J: Desks, G: Gate> Hearing<'a, R, J, G> {
             self.ask_again();
         }
         Merging::GoesOn
+    }
+
+    /// Merges an operation, and answers whether it came early; an error is what becomes of the link
+    /// on which it can't be taken.
+    fn merge_one(&mut self, op: Op) -> Result<bool, Merging> {
+        match self.shared.merge(self.rt, self.pass, op) {
+            Ok(Merged::Applied) => {
+                self.has_taken = true;
+                self.patience.end();
+                Ok(false)
+            }
+            Ok(Merged::Known) => Ok(false),
+            Ok(Merged::Early) => Ok(true),
+            Err(refusal) => {
+                self.is_out_of_steps = refusal.number() == STEPS;
+                let merging = behind(refusal);
+                if merging != Merging::CantTake {
+                    self.over = Over::Refused(refusal);
+                }
+                Err(merging)
+            }
+        }
     }
 
     /// Has the thread that tells ask for operations again, by a HAVE.

@@ -4,8 +4,7 @@ use crate::hearing::Hearing;
 use crate::link_end::LinkEnd;
 use crate::link_log::LinkLog;
 use crate::over::Over;
-use crate::telling::{PAUSE, Telling};
-use link_speaker::Speaker;
+use crate::telling::Telling;
 use op_ids::ReplicaId;
 use pass_books::{Desks, Pass};
 use rtrb::{Consumer, Producer, RingBuffer};
@@ -97,15 +96,7 @@ fn hear_and_tell<'a, R: Wait + Clock + Threads + Sync, J: Desks + Send + Sync, G
 ) -> Parted {
     let link = pass.number();
     let mut hearing = Hearing::new(rt, shared, end, gate, pass, producer, log);
-    let telling = Telling {
-        rt,
-        shared,
-        end,
-        link,
-        notes: consumer,
-        speaker: Speaker::new(),
-        pause: PAUSE,
-    };
+    let telling = Telling::new(rt, shared, end, link, consumer);
     thread::scope(thread::scope_env(), rt, |scope| {
         let mut telling = telling;
         let told = scope.spawn(move || {

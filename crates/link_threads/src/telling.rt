@@ -16,7 +16,7 @@ use std::time::Duration;
 
 /// The pause before a HAVE that asks for operations again, in milliseconds: the first one. It
 /// doubles up to the longest.
-pub(crate) const PAUSE: u64 = 10;
+const PAUSE: u64 = 10;
 
 const LONGEST_PAUSE: u64 = 1_000;
 
@@ -28,19 +28,39 @@ const PAUSE_AGAIN: u64 = 4;
 /// What the thread of a link that tells works with.
 #[derive(Drop)]
 pub(crate) struct Telling<'a, R: Wait + Clock, J: Desks> {
-    pub rt: &'a R,
-    pub shared: &'a Shared<J>,
-    pub end: &'a LinkEnd,
+    rt: &'a R,
+    shared: &'a Shared<J>,
+    end: &'a LinkEnd,
     /// The number of the link's pass.
-    pub link: usize,
+    link: usize,
     /// The notes of the thread that hears: a HAVE is due.
-    pub notes: Consumer<u8>,
-    pub speaker: Speaker,
+    notes: Consumer<u8>,
+    speaker: Speaker,
     /// The next pause, in milliseconds.
-    pub pause: u64,
+    pause: u64,
 }
 
 impl<'a, R: Wait + Clock, J: Desks> Telling<'a, R, J> {
+    /// The thread of the link whose pass has this number, with the notes of the one that hears.
+    /// Nothing was said so far.
+    pub fn new(
+        rt: &'a R,
+        shared: &'a Shared<J>,
+        end: &'a LinkEnd,
+        link: usize,
+        notes: Consumer<u8>,
+    ) -> Telling<'a, R, J> {
+        Telling {
+            rt,
+            shared,
+            end,
+            link,
+            notes,
+            speaker: Speaker::new(),
+            pause: PAUSE,
+        }
+    }
+
     /// Says what is due, each time that there is something, until nothing more is heard or the
     /// daemon ends; and then BYE, unless the stream has failed.
     pub fn run<S: Write>(&mut self, alloc: Global, stream: &mut S) {

@@ -1,6 +1,5 @@
 //! The calls of a hub that commit its list.
-ghost use Rattle.std.specs.Prelude.{◌≡◌, false, IfOk, OnOk};
-ghost use Rattle.group_commit.specs.Held.{gone_on};
+ghost use Rattle.std.specs.Prelude.{◌≡◌, IfOk};
 ghost use Rattle.op_model.specs.Machine.{begin as begin_event, device_step as device_event};
 ghost use Rattle.op_model.specs.Machine.{settle as settle_event};
 ghost use Rattle.locked_replica.specs.Calls.{IsCall};
@@ -59,9 +58,6 @@ impl<D: Disk> Hub<D> {
     pub fn device_step(&mut self) -> Result<Phase, HubRefusal>
         ensures call { IsCall D.DiskFacts device_event (stepped result) self.old self.new }
         ensures made { IfOk result (λ phase. phase ≡ self.old.store.phase) }
-        // The store goes on to the next phase.
-        ensures went_on { self.old.store.failed ≡ false → OnOk result (self.new.store
-            ≡ gone_on self.old.store.phase self.old.store self.new.store.disk) }
     {
         self.locked.kept();
         self.flusher.kept();

@@ -1,5 +1,5 @@
 //! The calls of a hub that its replica answers.
-ghost use Rattle.std.specs.Prelude.{◌≡◌, IfErr};
+ghost use Rattle.std.specs.Prelude.{IfErr};
 ghost use Rattle.op_model.specs.Machine.{edit as edit_event, merge as merge_event};
 ghost use Rattle.op_model.specs.Machine.{ack as ack_event, tell as tell_event, have as have_event};
 ghost use Rattle.op_model.specs.Machine.{acknowledged};

@@ -1,9 +1,11 @@
 //! The commands that the program knows.
 ghost use Rattle.std.specs.Prelude.{◌≡◌, IfOk, false};
+ghost use Rattle.clap.specs.Simple.{new_app};
 ghost use Rattle.clap.specs.Words.{app_of, rule_of};
 ghost use Rattle.clap.specs.declared.builder.command.Command.TheViews.{out-Command};
 ghost use Rattle.program_commands.specs.Program.{init_app, edit_app, dump_app, serve_app, port_option, program};
 ghost use Rattle.program_commands.specs.Program.{flag_option, list_app, export_app, form_option};
+ghost use Rattle.program_commands.specs.Program.{needed as needed_rule};
 
 use clap::{Arg, ArgAction, Command};
 use std::alloc::{AllocError, Global};
@@ -90,23 +92,26 @@ Examples:
 pub fn commands<'a>(alloc: Global) -> Result<Command<'a>, AllocError>
     ensures { IfOk result (λ command. app_of command ≡ program) }
 {
-    let init = init_command(alloc)?;
-    let edit = edit_command(alloc)?;
-    let dump = dump_command(alloc)?;
-    let list = list_command(alloc)?;
-    let export = export_command(alloc)?;
-    let serve = serve_command(alloc)?;
-    let all = Command::new(alloc, "peritext")
+    let bare = Command::new(alloc, "peritext")
         .version(VERSION)
         .about("Crash-safe rich text for one peer")
-        .after_help(EXAMPLES)
-        .subcommand(init)?
-        .subcommand(edit)?
-        .subcommand(dump)?
-        .subcommand(list)?
-        .subcommand(export)?
-        .subcommand(serve)?;
+        .after_help(EXAMPLES);
+    let all = bare
+        .subcommand(init_command(alloc)?)?
+        .subcommand(edit_command(alloc)?)?
+        .subcommand(dump_command(alloc)?)?
+        .subcommand(list_command(alloc)?)?
+        .subcommand(export_command(alloc)?)?
+        .subcommand(serve_command(alloc)?)?;
     Ok(all)
+}
+
+/// A command without arguments.
+fn described<'a>(alloc: Global, name: &'a str, about: &'a str, examples: &'a str) -> Command<'a>
+    ensures app { app_of result ≡ new_app name.entry.now }
+    ensures local { (out-Command result).has_globals ≡ false }
+{
+    Command::new(alloc, name).about(about).after_help(examples)
 }
 
 /// `init FILE --replica UUID`.
@@ -114,18 +119,14 @@ fn init_command<'a>(alloc: Global) -> Result<Command<'a>, AllocError>
     ensures app { IfOk result (λ command. app_of command ≡ init_app) }
     ensures local { IfOk result (λ command. (out-Command command).has_globals ≡ false) }
 {
-    let file = Arg::new(alloc, "FILE")
-        .help("The store, which is made where it isn't there")
-        .required(true);
-    let replica = Arg::new(alloc, "UUID")
-        .long("replica")
-        .help("The name of the replica")
-        .required(true);
-    let command = Command::new(alloc, "init")
-        .about("Makes an empty store")
-        .after_help(INIT_EXAMPLES)
-        .arg(file)?
-        .arg(replica)?;
+    let bare = described(alloc, "init", "Makes an empty store", INIT_EXAMPLES);
+    let command = bare
+        .arg(needed(
+            alloc,
+            "FILE",
+            "The store, which is made where it isn't there",
+        ))?
+        .arg(needed(alloc, "UUID", "The name of the replica").long("replica"))?;
     Ok(command)
 }
 
@@ -134,11 +135,13 @@ fn edit_command<'a>(alloc: Global) -> Result<Command<'a>, AllocError>
     ensures app { IfOk result (λ command. app_of command ≡ edit_app) }
     ensures local { IfOk result (λ command. (out-Command command).has_globals ≡ false) }
 {
-    let file = Arg::new(alloc, "FILE").help("The store").required(true);
-    let command = Command::new(alloc, "edit")
-        .about("Serves one session on standard input and output")
-        .after_help(EDIT_EXAMPLES)
-        .arg(file)?;
+    let bare = described(
+        alloc,
+        "edit",
+        "Serves one session on standard input and output",
+        EDIT_EXAMPLES,
+    );
+    let command = bare.arg(needed(alloc, "FILE", "The store"))?;
     Ok(command)
 }
 
@@ -147,15 +150,15 @@ fn dump_command<'a>(alloc: Global) -> Result<Command<'a>, AllocError>
     ensures app { IfOk result (λ command. app_of command ≡ dump_app) }
     ensures local { IfOk result (λ command. (out-Command command).has_globals ≡ false) }
 {
-    let file = Arg::new(alloc, "FILE").help("The store").required(true);
-    let doc = Arg::new(alloc, "DOC")
-        .help("The number of the document")
-        .required(true);
-    let command = Command::new(alloc, "dump")
-        .about("Prints the text and the spans of a document")
-        .after_help(DUMP_EXAMPLES)
-        .arg(file)?
-        .arg(doc)?;
+    let bare = described(
+        alloc,
+        "dump",
+        "Prints the text and the spans of a document",
+        DUMP_EXAMPLES,
+    );
+    let command = bare
+        .arg(needed(alloc, "FILE", "The store"))?
+        .arg(needed(alloc, "DOC", "The number of the document"))?;
     Ok(command)
 }
 
@@ -164,11 +167,13 @@ fn list_command<'a>(alloc: Global) -> Result<Command<'a>, AllocError>
     ensures app { IfOk result (λ command. app_of command ≡ list_app) }
     ensures local { IfOk result (λ command. (out-Command command).has_globals ≡ false) }
 {
-    let file = Arg::new(alloc, "FILE").help("The store").required(true);
-    let command = Command::new(alloc, "list")
-        .about("Tells of each document, and of the room in the store")
-        .after_help(LIST_EXAMPLES)
-        .arg(file)?;
+    let bare = described(
+        alloc,
+        "list",
+        "Tells of each document, and of the room in the store",
+        LIST_EXAMPLES,
+    );
+    let command = bare.arg(needed(alloc, "FILE", "The store"))?;
     Ok(command)
 }
 
@@ -177,17 +182,50 @@ fn export_command<'a>(alloc: Global) -> Result<Command<'a>, AllocError>
     ensures app { IfOk result (λ command. app_of command ≡ export_app) }
     ensures local { IfOk result (λ command. (out-Command command).has_globals ≡ false) }
 {
-    let file = Arg::new(alloc, "FILE").help("The store").required(true);
-    let doc = Arg::new(alloc, "DOC")
-        .help("The number of the document")
-        .required(true);
-    let command = Command::new(alloc, "export")
-        .about("Prints a document as text, Markdown or HTML")
-        .after_help(EXPORT_EXAMPLES)
-        .arg(file)?
-        .arg(doc)?
+    let bare = described(
+        alloc,
+        "export",
+        "Prints a document as text, Markdown or HTML",
+        EXPORT_EXAMPLES,
+    );
+    let command = bare
+        .arg(needed(alloc, "FILE", "The store"))?
+        .arg(needed(alloc, "DOC", "The number of the document"))?
         .arg(form(alloc))?;
     Ok(command)
+}
+
+/// `serve FILE --sessions PORT --peers PORT [--link PORT] [--end-on-failure] [--log]`.
+fn serve_command<'a>(alloc: Global) -> Result<Command<'a>, AllocError>
+    ensures app { IfOk result (λ command. app_of command ≡ serve_app) }
+    ensures local { IfOk result (λ command. (out-Command command).has_globals ≡ false) }
+{
+    let bare = described(
+        alloc,
+        "serve",
+        "Serves sessions and peers over sockets",
+        SERVE_EXAMPLES,
+    );
+    let command = bare
+        .arg(needed(alloc, "FILE", "The store"))?
+        .arg(port(alloc, "sessions", "Where sessions come in").required(true))?
+        .arg(port(alloc, "peers", "Where peers come in").required(true))?
+        .arg(port(alloc, "link", "Where the peer listens that is joined"))?
+        .arg(flag(alloc, "end-on-failure", "Ends once the device failed (9)"))?
+        .arg(flag(
+            alloc,
+            "log",
+            "Writes a line for each event to standard error",
+        ))?;
+    Ok(command)
+}
+
+/// An argument that has to be given.
+fn needed<'a>(alloc: Global, name: &'a str, help: &'a str) -> Arg<'a>
+    ensures rule { rule_of result ≡ needed_rule name.entry.now }
+    ensures local { result.global ≡ false }
+{
+    Arg::new(alloc, name).help(help).required(true)
 }
 
 /// The option with the value FORM.
@@ -199,33 +237,6 @@ fn form<'a>(alloc: Global) -> Arg<'a>
         .long("to")
         .value_name("FORM")
         .help("text, markdown or html [default: text]")
-}
-
-/// `serve FILE --sessions PORT --peers PORT [--link PORT] [--end-on-failure] [--log]`.
-fn serve_command<'a>(alloc: Global) -> Result<Command<'a>, AllocError>
-    ensures app { IfOk result (λ command. app_of command ≡ serve_app) }
-    ensures local { IfOk result (λ command. (out-Command command).has_globals ≡ false) }
-{
-    let file = Arg::new(alloc, "FILE").help("The store").required(true);
-    let sessions = port(alloc, "sessions", "Where sessions come in").required(true);
-    let peers = port(alloc, "peers", "Where peers come in").required(true);
-    let link = port(alloc, "link", "Where the peer listens that is joined");
-    let failure = flag(alloc, "end-on-failure", "Ends once the device failed (9)");
-    let log = flag(
-        alloc,
-        "log",
-        "Writes a line for each event to standard error",
-    );
-    let command = Command::new(alloc, "serve")
-        .about("Serves sessions and peers over sockets")
-        .after_help(SERVE_EXAMPLES)
-        .arg(file)?
-        .arg(sessions)?
-        .arg(peers)?
-        .arg(link)?
-        .arg(failure)?
-        .arg(log)?;
-    Ok(command)
 }
 
 /// An option with the value PORT.

@@ -46,10 +46,11 @@ pub fn count_settled<D: Disk + Drop>(alloc: Global, disk: D) -> Option<usize> {
 
 /// Serves the file of a disk to the daemon's end.
 pub fn serve_disk<
+    'a,
     D: Disk + Drop,
     R: Wait + Clock + Threads + Net<Listener = TcpListener, Stream = TcpStream> + Sync,
     G: Gate + Sync,
->(rt: &R, alloc: Global, disk: D, sockets: Sockets, gate: &G) -> Option<Served<D>> {
+>(rt: &R, alloc: Global, disk: D, sockets: Sockets<'a>, gate: &G) -> Option<Served<'a, D>> {
     let parts = parts(alloc, disk)?;
     serve_on(rt, alloc, parts, sockets, gate).ok()
 }
@@ -66,7 +67,7 @@ fn listen<R: Net<Listener = TcpListener, Stream = TcpStream>>(
 /// Where a daemon listens that joined nobody: its sockets, the sessions' port and the peers' port.
 pub fn sockets<R: Net<Listener = TcpListener, Stream = TcpStream>>(
     rt: &R,
-) -> Option<(Sockets, u16, u16)> {
+) -> Option<(Sockets<'static>, u16, u16)> {
     let (sessions, at_sessions) = listen(rt)?;
     let (peers, at_peers) = listen(rt)?;
     let sockets = Sockets {

@@ -143,7 +143,7 @@ pub(crate) fn link<R: Wait + Clock + Threads + Sync, J: Desks + Send + Sync, G: 
         return false;
     };
     let log = LinkLog {
-        journal: hall.journal.as_deref(),
+        journal: hall.manner.journal,
         place,
     };
     let parted = serve_link(

@@ -2,13 +2,15 @@
 
 use crate::accepting::Kind;
 use crate::lobby::Lobby;
-use event_journal::{Event, Journal};
+use crate::sockets::Manner;
+use event_journal::Event;
+use hub_parts::Locked;
 use op_ids::ReplicaId;
 use pass_books::Desks;
-use shared_desk::Ending;
+use shared_desk::{End, Ending};
 use shared_hub::{Named, Shared};
 use std::alloc::{AllocError, Global};
-use std::sync::{Arc, Mutex, Wait};
+use std::sync::{Mutex, Wait};
 
 /// How many sessions are served at once; the other passes are for links.
 const SESSIONS: usize = 32;
@@ -19,7 +21,7 @@ const OTHERS: usize = 7;
 /// What the daemon's threads share: the hub, the connections of sessions and of links, whose turn
 /// it is to read, and whether it was asked to end.
 #[derive(Drop)]
-pub(crate) struct Hall<J: Desks> {
+pub(crate) struct Hall<'a, J: Desks> {
     pub own: ReplicaId,
     pub shared: Shared<J>,
     pub sessions: Lobby<J>,
@@ -30,27 +32,26 @@ pub(crate) struct Hall<J: Desks> {
     /// Whoever has it may read a text or spans: so an edit waits for few of those who read.
     pub read_turn: Mutex<()>,
     pub ending: Ending,
-    /// Whether the threads are to end once the device failed.
-    pub ends_on_failure: bool,
-    /// Where they tell what happens, if anybody is to be told.
-    pub journal: Option<Arc<Journal>>,
+    pub manner: Manner<'a>,
 }
 
-impl<J: Desks> Hall<J> {
+impl<'a, J: Desks> Hall<'a, J> {
     /// Nobody is connected yet. A place is kept for the link that the daemon joins, where it joins
     /// one. An error is out of memory (1).
     pub fn new(
         alloc: Global,
         own: ReplicaId,
         named: Named<J>,
-        joins: bool,
-        ends_on_failure: bool,
-        journal: Option<Arc<Journal>>,
-    ) -> Result<Hall<J>, AllocError> {
+        manner: Manner<'a>,
+    ) -> Result<Hall<'a, J>, AllocError> {
         let Named { shared, passes } = named;
         let mut sessions = passes;
         let mut links = sessions.split_off(sessions.len().min(SESSIONS))?;
-        let others = if joins { OTHERS } else { links.len() };
+        let others = if manner.port.is_some() {
+            OTHERS
+        } else {
+            links.len()
+        };
         let own_link = links.split_off(links.len().min(others))?;
         Ok(Hall {
             own,
@@ -60,16 +61,27 @@ impl<J: Desks> Hall<J> {
             own_link: Lobby::new(alloc, own_link)?,
             read_turn: Mutex::new(()),
             ending: Ending::new(),
-            ends_on_failure,
-            journal,
+            manner,
         })
     }
 
     /// Tells of an event, if anybody is to be told.
     pub fn tell<R: Wait>(&self, rt: &R, event: &Event<'_>) {
-        if let Some(journal) = &self.journal {
+        if let Some(journal) = self.manner.journal {
             journal.tell(rt, event);
         }
+    }
+
+    /// Whether the file is to be opened anew. One that was put back isn't: it takes no edit in this
+    /// process any more.
+    pub fn is_renewed<R: Wait>(&self, rt: &R) -> bool {
+        self.ending.asked(rt) == Some(End::Renewal) && !self.shared.are_links_over(rt)
+    }
+
+    /// The locked part of the hub, once no thread shares it.
+    pub fn into_locked(self) -> Locked {
+        let Hall { shared, .. } = self;
+        shared.end().into_locked()
     }
 
     /// Those of one kind that came in.

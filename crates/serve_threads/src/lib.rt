@@ -18,8 +18,11 @@ mod rejoining;
 mod renewing;
 mod serving;
 mod session_thread;
+mod sockets;
 mod until_closed;
+mod watch_thread;
 
 pub use rejoining::Joined;
 pub use renewing::serve_on;
-pub use serving::{Served, Sockets, serve_all};
+pub use serving::{Served, serve_all};
+pub use sockets::Sockets;

@@ -3,7 +3,8 @@ ghost use Rattle.std.specs.Prelude.{◌≡◌, [], IfOk, IfErr};
 ghost use Rattle.recovery.specs.Faults.{failures_of};
 ghost use Rattle.serve_threads.specs.Turns.{Turns, IsNotOpened};
 
-use crate::serving::{Served, Sockets, serve_all};
+use crate::serving::{Served, serve_all};
+use crate::sockets::Sockets;
 use disk_trait::Disk;
 use event_journal::Event;
 use hub_parts::{Parts, open};
@@ -20,6 +21,7 @@ use std::thread::Threads;
 /// has waited. It ends with the turn in which a session asked for a stop, the device failed, or
 /// there was no memory to begin with. An error is that of an opening, with the disk.
 pub fn serve_on<
+    'a,
     D: Disk + Drop,
     R: Wait + Clock + Threads + Net<Listener = TcpListener, Stream = TcpStream> + Sync,
     G: Gate + Sync,
@@ -27,9 +29,9 @@ pub fn serve_on<
     rt: &R,
     alloc: Global,
     parts: Parts<D>,
-    sockets: Sockets,
+    sockets: Sockets<'a>,
     gate: &G,
-) -> Result<Served<D>, OpenFault<D>>
+) -> Result<Served<'a, D>, OpenFault<D>>
     requires { parts.locked.replica.steps ≡ [] }
     // Each turn hands the disk back as `serve_all` does, and the next one opens that.
     ensures ok { IfOk result (λ served. Turns D.DiskFacts parts.flusher served.disk) }
@@ -42,7 +44,7 @@ pub fn serve_on<
             Ok(next) => next,
             Err(ended) => return Ok(ended),
         };
-        if let Some(journal) = &sockets.journal {
+        if let Some(journal) = sockets.journal {
             journal.tell(rt, &Event::OpenedAnew);
         }
         let parts = open(alloc, disk)?;
@@ -52,9 +54,9 @@ pub fn serve_on<
 }
 
 /// What the next turn is served over, the disk and the sockets; or how the last one ended.
-fn renewed<D: Disk>(served: Served<D>) -> Result<(D, Sockets), Served<D>>
-    ensures next { IfOk result (λ turn. turn.0 ≡ served.disk) }
-    ensures ended { IfErr result (λ ended. ended.disk ≡ served.disk) }
+fn renewed<'a, D: Disk>(served: Served<'a, D>) -> Result<(D, Sockets<'a>), Served<'a, D>>
+    ensures next { IfOk result (λ turn. turn.0 ≡ served.entry.disk) }
+    ensures ended { IfErr result (λ ended. ended.disk ≡ served.entry.disk) }
 {
     let Served {
         disk,

@@ -7,18 +7,19 @@ use crate::accepting::{Kind, accept};
 use crate::doors::Doors;
 use crate::hall::Hall;
 use crate::rejoining::{Joined, keep_joined};
+use crate::sockets::Sockets;
 use disk_trait::Disk;
-use event_journal::{Event, Journal, Reason};
+use event_journal::{Event, Reason};
 use fixed_numbers::refusals::FAILED;
-use hub_parts::{Flusher, Parts};
+use hub_parts::{Flusher, Locked, Parts};
 use pass_books::Desks;
-use shared_desk::{End, Ending};
-use shared_hub::{Gate, Opened, Shared, flush};
+use shared_desk::End;
+use shared_hub::{Gate, Opened, flush};
 use std::alloc::{AllocError, Global};
 use std::marker::Brand;
 use std::net::{Net, TcpListener, TcpStream};
 use std::rt::Clock;
-use std::sync::{Arc, Wait};
+use std::sync::Wait;
 use std::thread;
 use std::thread::Threads;
 use std::time::Duration;
@@ -30,22 +31,9 @@ const SESSION_WORDS: u64 = 3_000;
 /// How long links have for theirs.
 const LINK_WORDS: u64 = 1_000;
 
-/// Where the daemon listens, the peer that it joined, and when it ends by itself.
-#[derive(Drop)]
-pub struct Sockets {
-    pub sessions: TcpListener,
-    pub peers: TcpListener,
-    pub joined: Option<Joined>,
-    /// Whether the daemon ends once the device failed. Otherwise it serves on, refuses edits (9)
-    /// and shows what it has, until a session asks for a stop.
-    pub ends_on_failure: bool,
-    /// Where its events are told, if anybody is to be told.
-    pub journal: Option<Arc<Journal>>,
-}
-
 /// How the daemon ended.
 #[derive(Drop)]
-pub struct Served<D: Disk> {
+pub struct Served<'a, D: Disk> {
     pub disk: D,
     /// Whether the device failed, or a commit couldn't begin: then the file may lack what was
     /// applied and not answered.
@@ -54,7 +42,7 @@ pub struct Served<D: Disk> {
     pub has_begun: bool,
     /// Where no steps were left (10) and nobody asked for a stop: the sockets, which go on
     /// listening. The file is to be opened anew and served over them.
-    pub renewal: Option<Sockets>,
+    pub renewal: Option<Sockets<'a>>,
 }
 
 /// Serves sessions and links over a hub that was just opened, until a session asked for a stop, or
@@ -67,10 +55,11 @@ pub struct Served<D: Disk> {
 /// whose first bytes are a request line of HTTP is closed before any line of it is served. At the
 /// end sessions have three seconds for their last words, and links have one.
 pub fn serve_all<
+    'a,
     D: Disk + Drop,
     R: Wait + Clock + Threads + Net<Listener = TcpListener, Stream = TcpStream> + Sync,
     G: Gate + Sync,
->(rt: &R, alloc: Global, parts: Parts<D>, sockets: Sockets, gate: &G) -> Served<D>
+>(rt: &R, alloc: Global, parts: Parts<D>, sockets: Sockets<'a>, gate: &G) -> Served<'a, D>
     requires { parts.locked.replica.steps ≡ [] }
     // What a crash leaves of the disk begins with what it left before.
     ensures { ComesBack D.DiskFacts parts.flusher result.disk }
@@ -82,7 +71,7 @@ pub fn serve_all<
 }
 
 /// How the daemon ends that didn't begin.
-fn without_memory<D: Disk>(flusher: Flusher<D>) -> Served<D>
+fn without_memory<'a, D: Disk>(flusher: Flusher<D>) -> Served<'a, D>
     ensures { ComesBack D.DiskFacts flusher result.disk }
 {
     flusher.kept();
@@ -96,49 +85,34 @@ fn without_memory<D: Disk>(flusher: Flusher<D>) -> Served<D>
 
 /// Serves with the books that have these names.
 fn serve_named<
+    'a,
     J: Desks + Send + Sync,
     D: Disk + Drop,
     R: Wait + Clock + Threads + Net<Listener = TcpListener, Stream = TcpStream> + Sync,
     G: Gate + Sync,
->(rt: &R, alloc: Global, opened: Opened, parts: Parts<D>, sockets: Sockets, gate: &G) -> Served<D>
+>(
+    rt: &R,
+    alloc: Global,
+    opened: Opened,
+    parts: Parts<D>,
+    sockets: Sockets<'a>,
+    gate: &G,
+) -> Served<'a, D>
     requires names { opened ≡ J.names }
     requires fresh { parts.locked.replica.steps ≡ [] }
     ensures { ComesBack D.DiskFacts parts.flusher result.disk }
 {
     let Parts { locked, flusher } = parts;
-    let own = locked.replica();
-    let Ok(named) = opened.share::<J>(alloc, locked) else {
+    let Some((hall, doors, joined)) = begin::<J>(alloc, opened, locked, sockets) else {
         return without_memory(flusher);
     };
-    let Sockets {
-        sessions,
-        peers,
-        joined,
-        ends_on_failure,
-        journal,
-    } = sockets;
-    let joins = joined.is_some();
-    let Ok(hall) = Hall::new(alloc, own, named, joins, ends_on_failure, journal) else {
-        return without_memory(flusher);
-    };
-    let Ok(doors) = Doors::new(sessions, peers) else {
-        return without_memory(flusher);
-    };
-    let port = joined.as_ref().map(|joined| joined.port);
     let (has_begun, flusher) = run(rt, alloc, &hall, flusher, &doors, joined, gate);
-    let Hall {
-        shared,
-        ending,
-        ends_on_failure,
-        journal,
-        ..
-    } = hall;
-    let renewal = if is_renewed(rt, &shared, &ending) {
-        Some(next_turn(doors, port, ends_on_failure, journal))
+    let renewal = if hall.is_renewed(rt) {
+        Some(Sockets::anew(doors, hall.manner))
     } else {
         None
     };
-    let locked = shared.end().into_locked();
+    let locked = hall.into_locked();
     Served {
         has_failed: flusher.has_failed() || locked.settled() < locked.list().len(),
         has_begun,
@@ -147,28 +121,28 @@ fn serve_named<
     }
 }
 
-/// Whether the file is to be opened anew. One that was put back isn't: it takes no edit in this
-/// process any more.
-fn is_renewed<R: Wait, J: Desks>(rt: &R, shared: &Shared<J>, ending: &Ending) -> bool {
-    ending.asked(rt) == Some(End::Renewal) && !shared.are_links_over(rt)
-}
-
-/// The sockets for the next turn, whose peer is joined anew.
-fn next_turn(
-    doors: Doors,
-    port: Option<u16>,
-    ends_on_failure: bool,
-    journal: Option<Arc<Journal>>,
-) -> Sockets {
-    let (sessions, peers) = doors.into_listeners();
-    let joined = port.map(Joined::anew);
-    Sockets {
+/// What a turn begins with: what its threads share, its doors, and the peer that it joined. `None`
+/// is out of memory (1), or that the system has no more descriptors.
+fn begin<'a, J: Desks>(
+    alloc: Global,
+    opened: Opened,
+    locked: Locked,
+    sockets: Sockets<'a>,
+) -> Option<(Hall<'a, J>, Doors, Option<Joined>)>
+    requires names { opened ≡ J.names }
+    requires fresh { locked.replica.steps ≡ [] }
+{
+    let own = locked.replica();
+    let named = opened.share::<J>(alloc, locked).ok()?;
+    let hall = Hall::new(alloc, own, named, sockets.manner()).ok()?;
+    let Sockets {
         sessions,
         peers,
         joined,
-        ends_on_failure,
-        journal,
-    }
+        ..
+    } = sockets;
+    let doors = Doors::new(sessions, peers).ok()?;
+    Some((hall, doors, joined))
 }
 
 /// Starts the threads, waits until one asks to end, and ends them all. Answers whether all could be
@@ -247,7 +221,7 @@ fn tell_failure<J: Desks, R: Wait>(rt: &R, hall: &Hall<J>) {
         word: "failed",
     };
     hall.tell(rt, &Event::CommitFailed { reason });
-    if hall.ends_on_failure {
+    if hall.manner.ends_on_failure {
         hall.ending.ask(rt, End::Failure);
     }
 }

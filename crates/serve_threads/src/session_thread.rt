@@ -5,8 +5,9 @@ use crate::entry::Entry;
 use crate::hall::Hall;
 use crate::last_words::send_last_words;
 use crate::until_closed::UntilClosed;
+use crate::watch_thread::watch;
 use event_journal::{Event, Reason};
-use first_bytes::{FirstLine, FirstLook};
+use first_bytes::{FirstLine, FirstLook, FirstWatch};
 use fixed_numbers::refusals::{BUSY, MEMORY, STREAM};
 use pass_books::{Desks, Pass};
 use session_threads::{Session, SessionFault};
@@ -15,6 +16,7 @@ use shared_hub::Gate;
 use std::alloc::Global;
 use std::io::Read;
 use std::net::TcpStream;
+use std::rt::Clock;
 use std::sync::Wait;
 use std::time::Duration;
 
@@ -24,7 +26,7 @@ const TURN: u64 = 10;
 /// Serves a session whose connection is in the lobby, to its end, and gives its place back. One for
 /// which there is no memory is answered 8, and so is one that has the last place and asks first for
 /// anything but the status or a stop.
-pub(crate) fn serve_session<R: Wait, J: Desks, G: Gate>(
+pub(crate) fn serve_session<R: Wait + Clock, J: Desks, G: Gate>(
     rt: &R,
     alloc: Global,
     hall: &Hall<J>,
@@ -34,40 +36,28 @@ pub(crate) fn serve_session<R: Wait, J: Desks, G: Gate>(
 ) {
     let mut first = FirstLine::new();
     let pass = if entry.has_last && !may_have_last(alloc, stream, &mut first) {
-        refuse(stream);
         None
     } else {
-        match hall.sessions.take_pass(rt) {
-            Some(pass) => {
-                let rest = UntilClosed {
-                    rt,
-                    lobby: &hall.sessions,
-                    entry,
-                    reader: stream,
-                };
-                let reader = first.as_slice().chain(rest);
-                hall.tell(
-                    rt,
-                    &Event::SessionUp {
-                        session: entry.number,
-                    },
-                );
-                Some(serve(rt, alloc, hall, gate, entry, reader, stream, pass))
-            }
-            None => {
-                refuse(stream);
-                None
-            }
+        hall.sessions.take_pass(rt)
+    };
+    let pass = match pass {
+        Some(pass) => {
+            let rest = UntilClosed {
+                rt,
+                lobby: &hall.sessions,
+                entry,
+                reader: stream,
+            };
+            let reader = first.chain(rest);
+            Some(serve(rt, alloc, hall, gate, entry, reader, stream, pass))
+        }
+        None => {
+            refuse(stream);
+            let reason = reason(BUSY, "busy");
+            hall.tell(rt, &Event::SessionRefused { reason });
+            None
         }
     };
-    if pass.is_none() {
-        hall.tell(
-            rt,
-            &Event::SessionRefused {
-                reason: reason(BUSY, "busy"),
-            },
-        );
-    }
     hall.sessions.leave(rt, entry, pass);
 }
 
@@ -103,7 +93,7 @@ fn refuse(stream: &TcpStream) {
 }
 
 /// Serves a session with this pass, and gives that back.
-fn serve<R: Wait, J: Desks, G: Gate, S: Read + Drop>(
+fn serve<R: Wait + Clock, J: Desks, G: Gate, S: Read + Drop>(
     rt: &R,
     alloc: Global,
     hall: &Hall<J>,
@@ -113,11 +103,12 @@ fn serve<R: Wait, J: Desks, G: Gate, S: Read + Drop>(
     stream: &TcpStream,
     pass: Pass<J>,
 ) -> Pass<J> {
+    let session = entry.number;
+    hall.tell(rt, &Event::SessionUp { session });
     // Each answer goes out at once: its sender waits for nothing behind it.
     let _ = stream.set_nodelay(true);
     let mut desk = SharedDesk::new(rt, &hall.shared, &hall.read_turn, &hall.ending, gate, pass);
-    let served = Session::new(FirstLook::new(reader), stream).serve(alloc, &mut desk);
-    let session = entry.number;
+    let served = serve_requests(rt, alloc, hall, reader, stream, &mut desk);
     let reason = reason_of(&served);
     hall.tell(rt, &Event::SessionDown { session, reason });
     if let Err(SessionFault::Memory) = served {
@@ -126,4 +117,22 @@ fn serve<R: Wait, J: Desks, G: Gate, S: Read + Drop>(
         send_last_words(stream);
     }
     desk.into_pass()
+}
+
+/// Serves the requests of a session; or tells it of changes, if its first line asks for that.
+fn serve_requests<R: Wait + Clock, J: Desks, G: Gate, S: Read + Drop>(
+    rt: &R,
+    alloc: Global,
+    hall: &Hall<J>,
+    reader: S,
+    stream: &TcpStream,
+    desk: &mut SharedDesk<'_, R, J, G>,
+) -> Result<(), SessionFault> {
+    let reader = FirstWatch::new(alloc, FirstLook::new(reader));
+    let mut session = Session::new(reader, stream);
+    session.serve(alloc, desk)?;
+    match session.reader.watch() {
+        Some(request) => watch(rt, alloc, hall, stream, request),
+        None => Ok(()),
+    }
 }

@@ -1,6 +1,6 @@
 -- What a line of a session asks for.
-use Rattle.std.specs.Prelude.{ℕ, List, [], ◌∷◌, Option, Some, None, option_and_then, Result, Ok, Err, codes, if◌then◌else◌}
-use Rattle.std.specs.Str.{is_utf8}
+use Rattle.std.specs.Prelude.{ℕ, List, [], ◌∷◌, Option, Some, None, option_and_then, Result, Ok, Err, codes, if◌then◌else◌, ⊤}
+use Rattle.std.specs.Str.{is_utf8, bytes_eq}
 use Rattle.serde_json.specs.Data.{Data}
 use Rattle.serde_json.specs.Read.{read}
 use Rattle.op_model.specs.declared.edit.Change.{Change}
@@ -136,3 +136,22 @@ or_syntax (Some d) = Ok d
 -- what a line asks for, or why it isn't served: syntax, request and field are found in this order
 abbrev pub answer_to : List ℕ → Result Command Refusal
 answer_to line = or_syntax (reading line) >>= λ d. request_of d
+
+-- the name of a request to be told of changes, which alone is made so
+abbrev pub watch_named : List ℕ → Option ⊤
+watch_named name = if bytes_eq name (codes "watch") then Some tt else None
+
+-- a request of another name isn't one to be told of changes
+abbrev pub watch_name : Data → Result ⊤ Refusal
+watch_name d = or_request (option_and_then watch_named (text_at (codes "op") d))
+
+-- the document of whose changes a JSON value asks to be told
+abbrev pub watch_of : Data → Result ℕ Refusal
+watch_of d =
+    watch_name d >>= λ _.
+    only doc_fields d >>= λ _.
+    whole (codes "doc") 1 d
+
+-- the document of whose changes a line asks to be told, or why it is no such request
+abbrev pub watched_by : List ℕ → Result ℕ Refusal
+watched_by line = or_syntax (reading line) >>= λ d. watch_of d

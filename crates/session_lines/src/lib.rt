@@ -18,6 +18,7 @@ mod short_line;
 mod span_list;
 mod spans;
 mod verb;
+mod watch;
 
 pub use answer::{Answer, State};
 pub use answer_line::say;
@@ -26,3 +27,4 @@ pub use line::serve_line;
 pub use peer_list::PeerList;
 pub use refusal::Refusal;
 pub use span_list::SpanList;
+pub use watch::watch_line;

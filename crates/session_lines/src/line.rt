@@ -23,7 +23,7 @@ pub fn serve_line(alloc: Global, line: &[u8]) -> Result<Command, Refusal>
 }
 
 /// The JSON value that a line is.
-fn read(alloc: Global, line: &[u8]) -> Result<Value, Refusal>
+pub fn read(alloc: Global, line: &[u8]) -> Result<Value, Refusal>
     ensures ok { IfOk result (λ value. or_syntax (reading line.now) ≡ Ok (view value)) }
     ensures err { IfErr result (λ refusal. refusal ≢ Memory
         → or_syntax (reading line.now) ≡ Err refusal) }

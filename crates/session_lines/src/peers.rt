@@ -1,5 +1,5 @@
 //! The peers that are linked, as JSON.
-ghost use Rattle.std.specs.Prelude.{◌≡◌, false, decimal};
+ghost use Rattle.std.specs.Prelude.{false, decimal};
 ghost use Rattle.session_lines.specs.Putting.{Puts};
 ghost use Rattle.session_lines.specs.Saying.{said_peer, said_peers, said_replica};
 

@@ -2,13 +2,16 @@
 use Rattle.std.proofs.Common.{◌≡◌, ℕ, ◌+◌, ◌-◌, ◌<◌, Bool, true, false, nat_lt, length, refl, ap, arith, Some, None}
 use Rattle.std.specs.Prelude.{if◌then◌else◌}
 use Rattle.std.proofs.lemmas.Bool.{ltb-true}
+use Rattle.disk_trait.specs.declared.facts.DiskFacts.{Ghosts}
 use Rattle.group_commit.specs.Begin.{is_idle}
 use Rattle.group_commit.specs.Held.{StoreHeld, gone_on}
 use Rattle.group_commit.specs.declared.phase.Phase.{Phase}
 use Rattle.group_commit.specs.declared.phase.Phase.TheVariants.{Idle, Pages, Close, Sync1, Body, Sync2, Gate, Sync3}
-use Rattle.op_model.specs.Machine.{is_under_way}
+use Rattle.op_model.specs.Machine.{is_under_way, device_step}
 use Rattle.op_model.specs.Held.{ReplicaHeld}
-use Rattle.locked_replica.specs.Hub.{commit_in, commit_of}
+use Rattle.locked_replica.specs.Calls.{IsCall}
+use Rattle.locked_replica.specs.Hub.{Parts, commit_in, commit_of, state_of}
+use Rattle.locked_replica.specs.Steps.{stepped_in}
 use Rattle.session_threads.proofs.CallsLeft.{calls_from, calls_left}
 
 -- at rest no commit is under way
@@ -24,7 +27,7 @@ by_rest false settled live next is = refl
 by_rest true settled live next is = absurd (at_rest settled live next is)
 
 -- the store of a hub with a commit under way isn't idle
-pub is_working : {D : Type 0} (replica : ReplicaHeld) (store : StoreHeld D) → is_under_way (commit_of replica store) ≡ true → is_idle store.phase ≡ false
+is_working : {D : Type 0} (replica : ReplicaHeld) (store : StoreHeld D) → is_under_way (commit_of replica store) ≡ true → is_idle store.phase ≡ false
 is_working replica store is = by_rest (is_idle store.phase) _ _ _ is
 
 -- behind a page fewer calls are left
@@ -45,6 +48,19 @@ by_phase Sync2 s disk is busy = omega arith
 by_phase Gate s disk is busy = omega arith
 by_phase Sync3 s disk is busy = omega arith
 
--- after a device call that succeeds fewer are left
-pub fewer_left : {D : Type 0} (s new : StoreHeld D) → is_idle s.phase ≡ false → new ≡ gone_on s.phase s new.disk → calls_left new < calls_left s
-fewer_left s new busy gone = rw (ap calls_left gone) (by_phase s.phase s new.disk refl busy)
+module _ {D : Type 0} (facts : Ghosts D) (hub new : Parts D) (under_way : is_under_way (state_of hub).commit ≡ true) where
+  -- a device step that is answered with a phase made the call of the store's phase
+  went_on : (p : Phase) → IsCall facts device_step (stepped_in p) hub new → new.store ≡ gone_on hub.store.phase hub.store new.store.disk
+  went_on Idle made = let rests = made.step.1 in absurd (cc)
+  went_on (Pages k) made = made.store.next
+  went_on Close made = made.store.next
+  went_on Sync1 made = made.store.next
+  went_on Body made = made.store.next
+  went_on Sync2 made = made.store.next
+  went_on Gate made = made.store.next
+  went_on Sync3 made = made.store.next
+
+  -- so fewer calls are left
+  pub fewer_left : (p : Phase) → IsCall facts device_step (stepped_in p) hub new → calls_left new.store < calls_left hub.store
+  fewer_left p made =
+      rw (ap calls_left (went_on p made)) (by_phase hub.store.phase hub.store new.store.disk refl (is_working hub.replica hub.store under_way))

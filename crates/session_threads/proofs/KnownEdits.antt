@@ -12,6 +12,7 @@ use Rattle.locked_replica.specs.Run.{Calls}
 use Rattle.session_lines.specs.Saying.{number_of}
 use Rattle.session_lines.specs.declared.answer.Answer.{Answer}
 use Rattle.session_lines.specs.declared.answer.Answer.TheVariants.{Edited, Text, Spans, Status, Peers, Stopped, Done, Refused}
+use Rattle.session_threads.specs.ActsOnce.{ChangesNothing}
 use Rattle.session_threads.specs.HeldDesk.{HeldDesk}
 use Rattle.session_threads.specs.HubServing.{comes_too_late, Acknowledge, at_once, after_commit, AnswersEdit, ServesEdit}
 
@@ -45,20 +46,23 @@ module _ {D : Type 0} (facts : Ghosts D) where
       omega (arith, settled, ap (λ (k : Ticket). k.end) it.same, ap (λ s. s.held.settled) it.stays)
 
   acknowledged_at_once : (mid new : Parts D) (given : Ticket) (acks : List (Event × Reply)) → given.end ≤ mid.replica.settled → Acknowledge given acks
-      → Calls facts mid acks new → new.store ≡ mid.store
+      → Calls facts mid acks new → (new.store ≡ mid.store) × (new.replica.list ≡ mid.replica.list)
   acknowledged_at_once mid new given acks settled (at_once is) calls =
       let (end, one, same) : Calls facts mid ((ack given, acknowledged true) ∷ []) new = subst (λ k. Calls facts mid k new) is calls in
-      ap (λ h. h.store) same ∙ one.store
+      (ap (λ h. h.store) same ∙ one.store, ap (λ h. h.replica.list) same ∙ ap (λ (s : State). s.held.list) one.step.1)
   acknowledged_at_once mid new given acks settled (after_commit commit only is) calls =
       let (behind, one, more) = subst (λ k. Calls facts mid k new) is calls in absurd (never_open mid behind given settled one)
 
   answered_known : (session : ℕ) (old new : Parts D) (e : Edit) (t : Ticket) (answer : Answer) → known_ticket old.replica e ≡ Some t
-      → t.end ≤ old.replica.settled → AnswersEdit facts session old e answer new → (answer ≡ Edited t.rev) × (new.store ≡ old.store)
+      → t.end ≤ old.replica.settled → AnswersEdit facts session old e answer new
+      → (answer ≡ Edited t.rev) × (new.store ≡ old.store) × (new.replica.list ≡ old.replica.list)
   answered_known session old new e t (Edited rev) found settled it =
       let (mid, one, acks) = it.calls in
-      let known = known_stays (state_of old) (state_of mid) session e it.given t found one.step in (
+      let known = known_stays (state_of old) (state_of mid) session e it.given t found one.step in
+      let (store, list) = acknowledged_at_once mid new it.given it.acks (still_settled old mid it.given t known settled) it.how acks in (
         ap Edited (sym it.same ∙ ap (λ (k : Ticket). k.rev) known.same),
-        acknowledged_at_once mid new it.given it.acks (still_settled old mid it.given t known settled) it.how acks ∙ one.store,
+        store ∙ one.store,
+        list ∙ ap (λ (s : State). s.held.list) known.stays,
       )
   answered_known session old new e t (Refused refusal) found settled (inl (mid, one, same)) =
       absurd (never_refused (state_of old) (state_of mid) session e (number_of refusal) t found one.step)
@@ -79,8 +83,9 @@ module _ {D : Type 0} (facts : Ghosts D) where
   in_time false found t is = refl
 
   pub settled_answered : (old new : HeldDesk D) (e : Edit) (t : Ticket) (answer : Answer) → known_ticket old.hub.replica e ≡ Some t
-      → t.end ≤ old.hub.replica.settled → ServesEdit facts old e answer new → (answer ≡ Edited t.rev) × (new.hub.store ≡ old.hub.store)
+      → t.end ≤ old.hub.replica.settled → ServesEdit facts old e answer new → (answer ≡ Edited t.rev) × ChangesNothing old new
   settled_answered old new e t answer found settled it =
       let late : comes_too_late old e ≡ false = in_time old.stopping (known_ticket old.hub.replica e) t found in
       let served = rw (late, ServesEdit) at it in
-      answered_known old.session old.hub new.hub e t answer found settled served.0
+      let (said, store, list) = answered_known old.session old.hub new.hub e t answer found settled served.0 in
+      (said, (store, list))

@@ -7,6 +7,7 @@ pub mod ExchangeLemmas
 pub mod FeedLemmas
 pub mod FewerLemmas
 pub mod GoLemmas
+pub mod HeldTokens
 pub mod KnownEdits
 pub mod LineLemmas
 pub mod OutcomeLemmas
@@ -14,3 +15,4 @@ pub mod RanLemmas
 pub mod ServeLemmas
 pub mod SettleLemmas
 pub mod SessionRuns
+pub mod TokenEdits

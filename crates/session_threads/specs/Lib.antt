@@ -1,3 +1,4 @@
+pub mod ActsOnce
 pub mod Exchanges
 pub mod Faults
 pub mod Held

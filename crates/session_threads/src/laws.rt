@@ -8,6 +8,8 @@ ghost use Rattle.locked_replica.specs.Hub.{Parts};
 ghost use Rattle.locked_replica.specs.Run.{Calls, Ran};
 ghost use Rattle.session_lines.specs.declared.answer.Answer.{Answer as LineAnswer};
 ghost use Rattle.session_lines.specs.declared.answer.Answer.TheVariants.{Edited};
+ghost use Rattle.session_threads.specs.ActsOnce.{HoldsOnceAnswered, HoldsForever, AnswersAgain};
+ghost use Rattle.session_threads.specs.ActsOnce.{ActsOnce};
 ghost use Rattle.session_threads.specs.Exchanges.{Exchanges};
 ghost use Rattle.session_threads.specs.HeldDesk.{HeldDesk};
 ghost use Rattle.session_threads.specs.HubCalls.{IsQuiet};
@@ -50,11 +52,26 @@ pub fn edits_fail_behind_a_failure()
 {}
 
 /// An edit that was made before, under its token, and is settled is answered with the rev that it
-/// had then, though the device failed and though the desk was asked to stop; and nothing is written.
-/// Costs nothing.
+/// had then, though the device failed and though the desk was asked to stop; and nothing is
+/// written. Costs nothing.
 pub fn settled_edits_are_answered<D: Disk>(desk: &HubDesk<D>)
     ensures { (e : Edit) (t : Ticket) (answer : LineAnswer) (new : HeldDesk D)
         → known_ticket desk.now.hub.replica e ≡ Some t → t.end ≤ desk.now.hub.replica.settled
         → ServesEdit D.DiskFacts desk.now e answer new
         → (answer ≡ Edited t.rev) × (new.hub.store ≡ desk.now.hub.store) }
 {}
+
+/// An edit with a token acts once. Let a desk answer lines, and then `rev n` to an edit with a
+/// token that isn't an insert of no text. Let any sessions over its hub follow, whole or cut off,
+/// and any crashes at any moment of them, after each of which the file is opened again. Then an
+/// edit with this token is answered `rev n` whenever it is sent, on any desk, also after a stop or
+/// a failure; nothing is written, and the list has no operation more. Costs nothing.
+pub fn edits_act_once<D: Disk>(desk: &HubDesk<D>)
+    ensures once { ActsOnce D.DiskFacts desk.now }
+    // The same in three steps: what holds from the first answer on, and what follows from it.
+    ensures answered { HoldsOnceAnswered D.DiskFacts desk.now }
+    ensures kept { HoldsForever D.DiskFacts }
+    ensures again { AnswersAgain D.DiskFacts }
+{
+    desk.hub.survivors();
+}

@@ -3,3 +3,4 @@ pub mod GoingLemmas
 mod MeetLemmas
 mod OpeningLemmas
 mod PeerLemmas
+mod WatchLemmas

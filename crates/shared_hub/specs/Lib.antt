@@ -4,3 +4,4 @@ pub mod Guarded
 pub mod Peers
 pub mod Refusal
 pub mod Shared
+pub mod Watching

@@ -2,7 +2,7 @@
 ghost use Rattle.std.specs.Prelude.{◌≡◌, All, IfOk, length};
 ghost use Rattle.op_model.specs.Spans.{spans as spans_of};
 ghost use Rattle.op_model.specs.Text.{text as text_of, rev as rev_of};
-ghost use Rattle.shared_hub.specs.Peers.{IsCounted};
+ghost use Rattle.shared_hub.specs.Peers.{IsCounted, rows_of};
 
 use crate::connected::{Connected, Peer};
 use crate::guarded::Guarded;
@@ -56,16 +56,20 @@ impl<J: Desks> Guarded<J> {
         })
     }
 
-    /// What is known of the peers that are connected. An error is out of memory (1).
+    /// What is known of the peers that are connected: a row for each, in the order of their links.
+    /// An error is out of memory (1).
     pub(crate) fn peers(
         &self,
         alloc: Global,
         connected: &Connected,
     ) -> Result<Vec<PeerCounts>, AllocError>
-        ensures { IfOk result (λ peers. All (IsCounted self.now.locked.replica.list) peers.items) }
+        ensures rows { IfOk result (λ peers.
+            peers.items ≡ rows_of self.now.locked.replica.list connected.now.peers) }
+        ensures counted { IfOk result
+            (λ peers. All (IsCounted self.now.locked.replica.list) peers.items) }
     {
         let mut peers = Vec::new(alloc);
-        for peer in &connected.peers {
+        for peer in connected.peers.as_slice() {
             if let Some(Peer { replica, its }) = peer {
                 let counts = PeerCounts::of(*replica, its, self.locked.clock());
                 peers.push(counts)?;

@@ -29,6 +29,8 @@ pub struct Shared<J: Desks> {
     pub(crate) work: Condvar,
     /// The threads that tell.
     pub(crate) news: Rooms,
+    /// Those who watch a document.
+    pub(crate) watchers: Condvar,
     /// Who is connected, under a lock of its own. Whoever takes both takes the hub's first.
     pub(crate) connected: Mutex<Connected>,
 }
@@ -41,6 +43,7 @@ impl<J: Desks> Shared<J> {
             odd: Condvar::new(),
             work: Condvar::new(),
             news: Rooms::new(),
+            watchers: Condvar::new(),
             connected: Mutex::new(Connected::new()),
         }
     }
@@ -107,10 +110,11 @@ impl<J: Desks> Shared<J> {
         }
     }
 
-    /// Wakes all who wait for a settlement.
+    /// Wakes all who wait for a settlement, and those who watch a document.
     pub(crate) fn wake_waiting(&self) {
         self.even.notify_all();
         self.odd.notify_all();
+        self.watchers.notify_all();
     }
 
     /// Wakes the flusher, where that is due.

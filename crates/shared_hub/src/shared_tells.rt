@@ -51,8 +51,8 @@ impl<J: Desks> Shared<J> {
     }
 
     /// The flusher meets what stands under the lock, once, where the device calls of its commit are
-    /// all made: that is settled. Wakes those who wait for it, and the threads that tell. An error
-    /// tells that the device has failed (44).
+    /// all made: that is settled. Wakes those who wait for it, those who watch a document, and the
+    /// threads that tell. An error tells that the device has failed (44).
     pub(crate) fn settle<R: Wait, D: Disk>(
         &self,
         rt: &R,
@@ -67,6 +67,7 @@ impl<J: Desks> Shared<J> {
         drop(guard);
         if result.is_ok() {
             self.room(settled).notify_all();
+            self.watchers.notify_all();
         } else {
             self.wake_waiting();
         }

@@ -11,31 +11,39 @@ pub enum Sentence {
     #[error("the system gave no memory; try it again, and if that lasts, give the process more")]
     Memory,
     /// 4
-    #[error("a value breaks its rule, as that of a UUID, of a document's number or of a form, or an older program doesn't know a field; mend what wrote it")]
+    #[error("a value breaks its rule, as that of a UUID, of a document's number or of a form, or \
+        an older program doesn't know a field; mend what wrote it")]
     Field,
     /// 9
-    #[error("the device failed, and an edit that wasn't answered may be there or not; end the program, look at the disk, open again")]
+    #[error("the device failed, and an edit that wasn't answered may be there or not; end the \
+        program, look at the disk, open again")]
     Failed,
     /// 42
-    #[error("the file isn't a store, or its making was cut off; make one under another name with init")]
+    #[error("the file isn't a store, or its making was cut off; make one under another name with \
+        init")]
     NoRoot,
     /// 43, 45, 46, 47
-    #[error("the file isn't what this program wrote; keep a copy, and go on from a peer with a new replica")]
+    #[error("the file isn't what this program wrote; keep a copy, and go on from a peer with a new \
+        replica")]
     BadBytes,
     /// 48
     #[error("something is in the file already; open it, or choose another name")]
     NotEmpty,
     /// 50
-    #[error("the disk couldn't be read; mend it, and open the file again: what was answered is there")]
+    #[error("the disk couldn't be read; mend it, and open the file again: what was answered is \
+        there")]
     ReadFailed,
     /// 51
-    #[error("the disk couldn't be written; look whether it is full or files may not grow, and open the file again: what was answered is there")]
+    #[error("the disk couldn't be written; look whether it is full or files may not grow, and open \
+        the file again: what was answered is there")]
     WriteFailed,
     /// 52
-    #[error("the disk couldn't be synced; look whether it is full or broken, and open the file again: what was answered is there")]
+    #[error("the disk couldn't be synced; look whether it is full or broken, and open the file \
+        again: what was answered is there")]
     SyncFailed,
     /// 54
-    #[error("the file isn't there (make it with init), may not be read and written, or another program has it open: where that is a daemon, connect to its port")]
+    #[error("the file isn't there (make it with init), may not be read and written, or another \
+        program has it open: where that is a daemon, connect to its port")]
     OpenFailed,
     /// 54: nothing has the file's name.
     #[error("there is no such file; make it with init, or look how its name is written")]
@@ -50,16 +58,20 @@ pub enum Sentence {
     #[error("that is no plain file; name one that is")]
     NotPlain,
     /// 54: this user may not open the file.
-    #[error("this user has no right to it; look at its owner and its rights, and at those of its folder")]
+    #[error("this user has no right to it; look at its owner and its rights, and at those of its \
+        folder")]
     NoRight,
     /// 54: the file isn't there, its folder is, and it can't be made.
-    #[error("it can't be made in its folder; look who may write there, and whether the disk is full")]
+    #[error("it can't be made in its folder; look who may write there, and whether the disk is \
+        full")]
     NotMade,
     /// 54: another program has the lock of the file.
-    #[error("another program has it open; it may be a daemon: connect to its port, or end that program first")]
+    #[error("another program has it open; it may be a daemon: connect to its port, or end that \
+        program first")]
     Held,
     /// 70
-    #[error("a port is taken (choose another), or nobody listens where --link points (start that daemon first)")]
+    #[error("a port is taken (choose another), or nobody listens where --link points (start that \
+        daemon first)")]
     Socket,
     /// 70: another program listens there.
     #[error("another program listens there; choose another port")]

@@ -4,8 +4,14 @@
 #[cfg(test)]
 mod book_tests;
 #[cfg(test)]
+mod connected_tests;
+#[cfg(test)]
 mod link_tests;
 #[cfg(test)]
 mod shared_tests;
 #[cfg(test)]
 mod test_ends;
+#[cfg(test)]
+mod test_hubs;
+#[cfg(test)]
+mod watch_tests;

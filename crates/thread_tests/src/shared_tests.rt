@@ -1,11 +1,9 @@
 //! A hub that threads share.
-ghost use Rattle.std.specs.Prelude.{◌≡◌, [], IfSome};
+ghost use Rattle.std.specs.Prelude.{◌≡◌};
 
+use crate::test_hubs::{insert, parts};
 use disk_trait::MemDisk;
-use group_commit::Store;
-use hub_parts::{Flusher, Parts, open};
-use op_ids::ReplicaId;
-use op_model::{Change, Edit, EditText};
+use hub_parts::{Flusher, Parts};
 use pass_books::{Desks, Pass};
 use shared_hub::{Named, NoGate, Opened, Shared, flush};
 use std::alloc::Global;
@@ -18,34 +16,6 @@ use std::thread::{self, Threads};
 // How many edits each of the four threads makes.
 const EDITS: u64 = 50;
 
-// The insert of one character at the beginning of document 1.
-fn insert(alloc: Global) -> Option<Edit> {
-    let mut text = Vec::new(alloc);
-    text.push('a').ok()?;
-    Some(Edit {
-        doc: 1,
-        rev: None,
-        token: None,
-        change: Change::Insert {
-            at: 0,
-            text: EditText::new(text)?,
-        },
-    })
-}
-
-// The parts of a new replica's hub.
-fn parts(alloc: Global) -> Option<Parts<MemDisk>>
-    ensures { IfSome result (λ it. it.locked.replica.steps ≡ []) }
-{
-    let own = ReplicaId::read([0, 0, 0, 0, 0, 0, 0x40, 0, 0x80, 0, 0, 0, 0, 0, 0, 1])?;
-    let disk = MemDisk::new(alloc, 1_048_576, 65_536).ok()?;
-    let store = Store::init(alloc, disk, own).ok()?;
-    let Ok(parts) = open(alloc, store.into_disk()) else {
-        return None;
-    };
-    Some(parts)
-}
-
 // Makes the edits, each of which is acknowledged before the next one. Gives how many entries the
 // pass has then.
 fn make_edits<R: Wait, J: Desks>(
@@ -55,7 +25,7 @@ fn make_edits<R: Wait, J: Desks>(
     pass: &mut Pass<J>,
 ) -> Option<u64> {
     for _ in 0..EDITS {
-        let edit = insert(alloc)?;
+        let edit = insert(alloc, 1)?;
         let ticket = shared.edit(rt, pass, &edit).ok()?;
         if !shared.acknowledge(rt, pass, ticket) {
             return None;
@@ -145,7 +115,7 @@ fn waits_behind_the_end<J: Desks, R: Wait>(
     passes: Vec<Pass<J>>,
 ) -> Option<(bool, bool)> {
     let mut pass = passes.into_iter().next()?;
-    let edit = insert(alloc)?;
+    let edit = insert(alloc, 1)?;
     let ticket = shared.edit(rt, &mut pass, &edit).ok()?;
     let is_acknowledged = shared.acknowledge(rt, &mut pass, ticket);
     Some((is_acknowledged, shared.stop(rt)))

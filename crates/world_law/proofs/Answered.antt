@@ -145,7 +145,7 @@ step_keeps s (tell c) a next within k = tell_keeps s next c a k
 step_keeps s have a next within k = have_keeps s next a k
 
 -- a front that has all that is settled
-in_front : (h : ReplicaHeld) (n token : ℕ) (t : Ticket) (found : Option (List Op × Op)) → last_of (carries h.replica token) h.list ≡ found
+pub in_front : (h : ReplicaHeld) (n token : ℕ) (t : Ticket) (found : Option (List Op × Op)) → last_of (carries h.replica token) h.list ≡ found
     → option_map ticket_behind found ≡ Some t → t.end ≤ h.settled → h.settled ≤ n
     → (option_map ticket_behind (last_of (carries h.replica token) (take n h.list)) ≡ Some t) × (t.end ≤ length (take n h.list))
 in_front h n token t None e k l m = let never : ⊥ = cc in absurd never

@@ -100,12 +100,12 @@ step_stays s (ack t) a next k = ack_stays s next t a k
 step_stays s (tell c) a next k = tell_stays s next c a k
 step_stays s have a next k = have_stays s next a k
 
-run_stays : (s next : State) (events : List (Event × Answer)) → Run s events next → Stays s next
+pub run_stays : (s next : State) (events : List (Event × Answer)) → Run s events next → Stays s next
 run_stays s next [] is token t h = rw is h
 run_stays s next (e ∷ es) (mid, first, rest) token t h = run_stays mid next es rest token t (step_stays s e.0 e.1 mid first token t h)
 
 -- an edit that was answered, under a token
-answers_behind : (s m : State) (session : ℕ) (e : Edit) (token : ℕ) (t : Ticket) → WasAnswered s session e token t m
+pub answers_behind : (s m : State) (session : ℕ) (e : Edit) (token : ℕ) (t : Ticket) → WasAnswered s session e token t m
     → Answers m token (record t { known = true })
 answers_behind s m session e token t was =
     let given = answered_from_then_on s was.behind session e token t was.named was.some was.given in

@@ -20,6 +20,7 @@ from .marks import EM, STRONG, Comment, Link, Mark, Span
 from .peers import Connected, Peer
 from .refusals import Ended, NoDaemon, Refused, Stale
 from .session import Session
+from .watching import Watch
 
 __all__ = [
     "Comment",
@@ -37,6 +38,7 @@ __all__ = [
     "Session",
     "Span",
     "Stale",
+    "Watch",
     "connect",
     "init",
     "open",

@@ -93,4 +93,5 @@ _FIELDS: dict[str, dict[str, Callable[[Any], bool]]] = {
     "spans": {"rev": _is_number, "spans": _are_spans},
     "status": {"applied": _is_number, "settled": _is_number, "state": _is_text},
     "peers": {"peers": _are_peers, "sessions": _is_number},
+    "watch": _EDITED,
 }

@@ -12,23 +12,20 @@ from typing import Any
 from .again import is_edit, is_known, repeated, with_token
 from .answers import NoAnswer, answer_of
 from .lines import line_of
+from .ports import HOST, PATIENCE, PAUSE
 from .refusals import NoDaemon, Refused
 from .session import Owed, Session
 from .silence import TIMEOUT
+from .watching import Watch
 
-# A daemon listens on this machine alone.
-HOST = "127.0.0.1"
-# Seconds in which somebody who listens has to have answered.
-PATIENCE = 10.0
 # A first answer is short: what is longer comes from somebody else.
 LONGEST = 65_536
 
 
 # The refusal of a daemon that is about to open its file anew.
 STEPS = 10
-# Seconds for which a daemon whose connection ended is looked for again, and between two looks.
+# Seconds for which a daemon whose connection ended is looked for again.
 RETRY = 10.0
-PAUSE = 0.05
 
 
 class SocketSession(Session):
@@ -51,6 +48,18 @@ class SocketSession(Session):
         # Since when nothing was answered, though it was looked for.
         self._since: float | None = None
         super().__init__(connection.makefile("wb"), connection.makefile("rb"), timeout)
+
+    def watch(self, document: int) -> Watch:
+        """Tells of the changes of a document, over a connection of its own, and takes a place more. `NoDaemon` if there is no daemon any more; `Refused`
+        with the number 8 if there is no place for it, and with 3 by an earlier daemon, which tells of none.
+
+        >>> with connect(port) as session, session.watch(9) as revs:
+        ...     before = next(revs)
+        ...     after = session.document(9).insert(0, "told")
+        ...     next(revs) == after == before + 4
+        True
+        """
+        return Watch(self._port, document, self._retry)
 
     def close(self) -> None:
         """Ends this session, once all that was sent is answered. The daemon goes on."""

@@ -1,6 +1,6 @@
 use Rattle.std.proofs.Common.{◌≡◌, true, false, ap, ◌∙◌}
 use Rattle.op_model.specs.Machine.{is_under_way}
-use Rattle.session_threads.proofs.FewerLemmas.{is_working, fewer_left}
+use Rattle.session_threads.proofs.FewerLemmas.{fewer_left}
 use Rattle.session_threads.proofs.GoLemmas.{gone_through, gone_on, gone_wrong}
 use Rattle.session_threads.proofs.committing.go_through.Goals as goal
 
@@ -21,6 +21,5 @@ returns-in-Err g c =
 
 pub loop-phase-smaller : goal.loop-phase-smaller
 loop-phase-smaller g c =
-    fewer_left c.loop-phase.hub.store c.device_step.new.self.store
-    (is_working c.loop-phase.hub.replica c.loop-phase.hub.store (ap (λ s. is_under_way s.commit) c.loop-phase.invariant.1 ∙ c.requires.under_way))
-    (c.in-Ok.ensures.went_on (ap (λ s. s.failed) c.loop-phase.invariant.1 ∙ c.requires.works))
+    fewer_left g.D.DiskFacts c.loop-phase.hub c.device_step.new.self (ap (λ s. is_under_way s.commit) c.loop-phase.invariant.1 ∙ c.requires.under_way)
+    c.in-Ok.phase c.in-Ok.ensures.call

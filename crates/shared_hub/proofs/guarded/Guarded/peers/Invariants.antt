@@ -1,7 +1,7 @@
-use Rattle.std.proofs.Common.{All}
-use Rattle.shared_hub.specs.Peers.{IsCounted}
+use Rattle.std.proofs.Common.{◌≡◌, take}
+use Rattle.shared_hub.specs.Peers.{rows_of}
 use Rattle.shared_hub.proofs.guarded.Guarded.peers.Given as goal
 
--- each peer that is listed so far is counted beside the list
+-- the rows of the links so far
 abbrev pub invariant-loop-peer : goal.invariant-loop-peer
-invariant-loop-peer g l = All (IsCounted l.self.locked.replica.list) l.peers.items
+invariant-loop-peer g l = l.peers.items ≡ rows_of l.self.locked.replica.list (take l.peer-index l.peer-items)

@@ -9,4 +9,4 @@ returns-clause-moment g c =
     let kept = c.deref_mut.ensures.writes_back in
     let same = c.audit.ensures.same.0 in
     let is : c.deref.result.now ≡ c.deref_mut.result.now = cc in
-    counted_at _ _ _ c.audit.ensures.kept c.audit.ensures.mine (rw is at c.peers.ensures)
+    counted_at _ _ _ c.audit.ensures.kept c.audit.ensures.mine (rw is at c.peers.ensures.counted)

@@ -1,0 +1,41 @@
+//! What hubs that threads share are made of, and the edits of their tests.
+ghost use Rattle.std.specs.Prelude.{◌≡◌, [], IfSome};
+
+use disk_trait::MemDisk;
+use group_commit::Store;
+use hub_parts::{Parts, open};
+use op_ids::ReplicaId;
+use op_model::{Change, Edit, EditText};
+use std::alloc::Global;
+
+/// The replica whose name ends in this byte.
+pub fn replica(last: u8) -> Option<ReplicaId> {
+    ReplicaId::read([0, 0, 0, 0, 0, 0, 0x40, 0, 0x80, 0, 0, 0, 0, 0, 0, last])
+}
+
+/// The insert of one character at the beginning of a document.
+pub fn insert(alloc: Global, doc: u32) -> Option<Edit> {
+    let mut text = Vec::new(alloc);
+    text.push('a').ok()?;
+    Some(Edit {
+        doc,
+        rev: None,
+        token: None,
+        change: Change::Insert {
+            at: 0,
+            text: EditText::new(text)?,
+        },
+    })
+}
+
+/// The parts of a new replica's hub, whose name ends in 1.
+pub fn parts(alloc: Global) -> Option<Parts<MemDisk>>
+    ensures { IfSome result (λ it. it.locked.replica.steps ≡ []) }
+{
+    let disk = MemDisk::new(alloc, 1_048_576, 65_536).ok()?;
+    let store = Store::init(alloc, disk, replica(1)?).ok()?;
+    let Ok(parts) = open(alloc, store.into_disk()) else {
+        return None;
+    };
+    Some(parts)
+}

@@ -1,0 +1,123 @@
+//! How a document of a hub that threads share is watched.
+ghost use Rattle.std.specs.Prelude.{◌≡◌};
+
+use crate::test_hubs::{insert, parts};
+use disk_trait::MemDisk;
+use hub_parts::{Flusher, Parts};
+use pass_books::{Desks, Pass};
+use shared_hub::{Named, NoGate, Opened, Shared, Watched, flush};
+use std::alloc::Global;
+use std::marker::Brand;
+use std::rt::Clock;
+use std::sync::{Mutex, Wait};
+use std::test::Fail;
+use std::thread::{self, Threads};
+use std::time::Duration;
+
+// More seconds than any commit takes.
+const LONG: u64 = 60;
+
+// Edits a document, and waits for the settlement if that is asked for.
+fn edit<J: Desks, R: Wait>(
+    rt: &R,
+    alloc: Global,
+    shared: &Shared<J>,
+    pass: &mut Pass<J>,
+    doc: u32,
+    waits: bool,
+) -> Option<()> {
+    let edit = insert(alloc, doc)?;
+    let ticket = shared.edit(rt, pass, &edit).ok()?;
+    if waits && !shared.acknowledge(rt, pass, ticket) {
+        return None;
+    }
+    Some(())
+}
+
+// What document 1 has come to for one who waits until its first edit is settled, and then, with
+// that seen, at once: as it is, and beside a settled edit of document 2.
+fn watched<J: Desks, R: Wait + Clock>(
+    rt: &R,
+    alloc: Global,
+    shared: &Shared<J>,
+    pass: &mut Pass<J>,
+) -> Option<[Watched; 3]> {
+    let first = shared.watch(rt, 1, Some(0), Duration::from_secs(LONG));
+    let same = shared.watch(rt, 1, Some(1), Duration::ZERO);
+    edit(rt, alloc, shared, pass, 2, true)?;
+    Some([first, same, shared.watch(rt, 1, Some(1), Duration::ZERO)])
+}
+
+// Watches while this thread flushes.
+fn watch_beside<J: Desks + Send + Sync, R: Wait + Clock + Threads + Sync>(
+    rt: &R,
+    alloc: Global,
+    shared: &Shared<J>,
+    pass: Pass<J>,
+    found: &Mutex<Option<[Watched; 3]>>,
+    flusher: &mut Flusher<MemDisk>,
+) {
+    thread::scope(thread::scope_env(), rt, |scope| {
+        let watching = scope.spawn(move || {
+            let mut pass = pass;
+            *found.lock(rt) = watched(rt, alloc, shared, &mut pass);
+            shared.close(rt);
+        });
+        if watching.is_ok() {
+            flush(rt, shared, flusher, &NoGate);
+        }
+    });
+}
+
+// What document 1 has come to beside an edit that isn't settled, for one who hasn't seen it and for
+// one who has.
+fn unsettled<J: Desks, R: Wait + Clock>(
+    rt: &R,
+    alloc: Global,
+    shared: &Shared<J>,
+    pass: &mut Pass<J>,
+) -> Option<[Watched; 2]> {
+    edit(rt, alloc, shared, pass, 1, false)?;
+    Some([
+        shared.watch(rt, 1, None, Duration::from_secs(LONG)),
+        shared.watch(rt, 1, Some(0), Duration::ZERO),
+    ])
+}
+
+// What it has come to after the flusher's end, for one who has seen all, and for one who hasn't.
+fn after_the_end<J: Desks, R: Wait + Clock>(rt: &R, shared: &Shared<J>) -> [Watched; 2] {
+    [
+        shared.watch(rt, 1, Some(1), Duration::from_secs(LONG)),
+        shared.watch(rt, 1, Some(0), Duration::from_secs(LONG)),
+    ]
+}
+
+// All of this in turn.
+fn all_watched<J: Desks + Send + Sync, R: Wait + Clock + Threads + Sync>(
+    rt: &R,
+    alloc: Global,
+    opened: Opened,
+) -> Option<([Watched; 2], [Watched; 3], [Watched; 2])>
+    requires { opened ≡ J.names }
+{
+    let Parts {
+        locked,
+        mut flusher,
+    } = parts(alloc)?;
+    let Named { shared, passes } = opened.share::<J>(alloc, locked).ok()?;
+    let mut pass = passes.into_iter().next()?;
+    let before = unsettled(rt, alloc, &shared, &mut pass)?;
+    let found = Mutex::new(None);
+    watch_beside(rt, alloc, &shared, pass, &found, &mut flusher);
+    Some((before, found.into_inner()?, after_the_end(rt, &shared)))
+}
+
+#[test]
+fn what_is_settled_is_watched(rt: HostRuntime) -> Result<(), Fail> {
+    let opened = Opened::new(rt.alloc())?;
+    let (before, beside, after) = all_watched::<Brand, _>(&rt, rt.alloc(), opened).ok_or("watch")?;
+    assert!(rt; before == [Watched::Rev(0), Watched::Nothing]);
+    assert!(rt; beside == [Watched::Rev(1), Watched::Nothing, Watched::Nothing]);
+    assert!(rt; after == [Watched::Failed, Watched::Rev(1)]);
+    Ok(())
+}
