@@ -42,7 +42,7 @@ pub(crate) fn put_page<D: Disk>(
 }
 
 /// Settles all that was written. It is refused only where the device failed (52).
-pub(crate) fn settle<D: Disk>(disk: &mut D) -> Result<(), StoreError>
+pub(crate) fn sync<D: Disk>(disk: &mut D) -> Result<(), StoreError>
     ensures settled { D.tells disk.old → OnOk result (Settles D.DiskFacts disk.old disk.new) }
     ensures unsettled { D.tells disk.old → OnErr result (Keeps D.DiskFacts disk.old disk.new) }
     ensures call { D.tells disk.old

@@ -68,7 +68,7 @@ fn put<D: Disk>(disk: &mut D, at: u64, bytes: &[u8]) -> Result<(), InitError>
 }
 
 // Settles all that was written. It is refused only where the device failed (52).
-fn settle<D: Disk>(disk: &mut D) -> Result<(), InitError>
+fn sync<D: Disk>(disk: &mut D) -> Result<(), InitError>
     ensures settled { D.tells disk.old → OnOk result (Settles D.DiskFacts disk.old disk.new) }
     ensures unsettled { D.tells disk.old → OnErr result (Keeps D.DiskFacts disk.old disk.new) }
     ensures call { D.tells disk.old
@@ -108,9 +108,9 @@ fn open_first<D: Disk>(disk: &mut D) -> Result<(), InitError>
         → IfErr result (λ e. OpensPartly D.DiskFacts e disk.old disk.new) }
     ensures tells { D.tells disk.new ↔ D.tells disk.old }
 {
-    settle(disk)?;
+    sync(disk)?;
     put(disk, 0, &OPEN)?;
-    settle(disk)
+    sync(disk)
 }
 
 // The file of a new store with this body. An error is out of memory (1) or the device's.

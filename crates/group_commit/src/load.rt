@@ -3,7 +3,7 @@ ghost use Rattle.std.specs.Prelude.{IfOk, IfErr};
 ghost use Rattle.group_commit.specs.Loading.{IsFirstFault, failures_of, is_of_sync};
 ghost use Rattle.group_commit.specs.Opening.{IsLoaded, IsLookedAt, HandsBack};
 
-use crate::load_image::settle_and_read;
+use crate::load_image::sync_and_read;
 use crate::open_fault::OpenFault;
 use crate::phase::Phase;
 use crate::store::Store;
@@ -50,7 +50,7 @@ impl<D: Disk> Store<D> {
         ensures looks_refused { IfErr result (λ fault. HandsBack D.DiskFacts
             (failures_of fault.cause) (is_of_sync fault.cause) disk fault.disk) }
     {
-        match settle_and_read(alloc, &mut disk) {
+        match sync_and_read(alloc, &mut disk) {
             Ok(image) => {
                 let replica = image.current.replica();
                 let store = Store {

@@ -16,7 +16,7 @@ ghost use Rattle.group_commit.specs.Opening.{IsLookedAt, IsImageOf, HandsBack};
 use crate::load_ops::ops_of;
 use crate::load_stream::{Stream, read_stream};
 use crate::open_fault::OpenError;
-use crate::opening_sync::settle_file;
+use crate::opening_sync::sync_file;
 use crate::root::Root;
 use crate::stream_tail::StreamTail;
 use change_codec::Format;
@@ -135,7 +135,7 @@ pub(crate) fn read_image<D: Disk>(alloc: Global, disk: &mut D) -> Result<Image, 
 
 /// Settles the disk, and reads what its file stands for. It refuses as
 /// [`Store::load`](crate::Store::load) does.
-pub(crate) fn settle_and_read<D: Disk>(alloc: Global, disk: &mut D) -> Result<Image, OpenError>
+pub(crate) fn sync_and_read<D: Disk>(alloc: Global, disk: &mut D) -> Result<Image, OpenError>
     ensures read { IfOk result (λ it. IsImageOf D.DiskFacts disk.old it) }
     ensures settled { D.tells disk.old → IfOk result
         (λ it. (c : List ℕ) → D.survives disk.new c → c ≡ D.content disk.old) }
@@ -144,6 +144,6 @@ pub(crate) fn settle_and_read<D: Disk>(alloc: Global, disk: &mut D) -> Result<Im
     ensures refused { IfErr result
         (λ e. HandsBack D.DiskFacts (failures_of e) (is_of_sync e) disk.old disk.new) }
 {
-    settle_file(disk)?;
+    sync_file(disk)?;
     read_image(alloc, disk)
 }

@@ -8,7 +8,7 @@ use crate::open_fault::OpenError;
 use disk_trait::Disk;
 
 /// Settles all that was written. It is refused only where the device failed (52).
-pub(crate) fn settle_file<D: Disk>(disk: &mut D) -> Result<(), OpenError>
+pub(crate) fn sync_file<D: Disk>(disk: &mut D) -> Result<(), OpenError>
     ensures settled { D.tells disk.old
         → OnOk result ((c : List ℕ) → D.survives disk.new c → c ≡ D.content disk.new) }
     ensures looks { IsLookedAt D.DiskFacts (failed_in result) 1 disk.old disk.new }

@@ -6,7 +6,7 @@ ghost use Rattle.group_commit.specs.Step.{MakesCall, IsStoreStep};
 ghost use Rattle.group_commit.specs.declared.phase.Phase.TheVariants.{Pages, Close, Sync1};
 ghost use Rattle.group_commit.specs.declared.phase.Phase.TheVariants.{Body, Sync2, Gate, Sync3};
 
-use crate::device_calls::{put_page, settle};
+use crate::device_calls::{put_page, sync};
 use crate::error::StoreError;
 use crate::phase::Phase;
 use crate::store::Store;
@@ -46,7 +46,7 @@ fn bytes_at(pages: &[u8], k: usize) -> &[u8]
 
 impl<D: Disk> Store<D> {
     // The write of the k-th new page.
-    fn put(&mut self, k: usize) -> Result<Phase, StoreError>
+    fn page(&mut self, k: usize) -> Result<Phase, StoreError>
         requires phase { self.old.phase ≡ Pages k }
         requires works { self.old.failed ≡ false }
         ensures call { MakesCall D.DiskFacts (Pages k) result self.old self.new }
@@ -80,12 +80,12 @@ impl<D: Disk> Store<D> {
     }
 
     // The sync of the new pages and the closed gate.
-    fn settle_pages(&mut self) -> Result<Phase, StoreError>
+    fn sync1(&mut self) -> Result<Phase, StoreError>
         requires phase { self.old.phase ≡ Sync1 }
         requires works { self.old.failed ≡ false }
         ensures call { MakesCall D.DiskFacts Sync1 result self.old self.new }
     {
-        if let Err(error) = settle(&mut self.disk) {
+        if let Err(error) = sync(&mut self.disk) {
             self.failed = true;
             return Err(error);
         }
@@ -94,7 +94,7 @@ impl<D: Disk> Store<D> {
     }
 
     // The write of the new root's body into the stale slot.
-    fn fill(&mut self) -> Result<Phase, StoreError>
+    fn body(&mut self) -> Result<Phase, StoreError>
         requires phase { self.old.phase ≡ Body }
         requires works { self.old.failed ≡ false }
         ensures call { MakesCall D.DiskFacts Body result self.old self.new }
@@ -108,12 +108,12 @@ impl<D: Disk> Store<D> {
     }
 
     // The sync of that body.
-    fn settle_body(&mut self) -> Result<Phase, StoreError>
+    fn sync2(&mut self) -> Result<Phase, StoreError>
         requires phase { self.old.phase ≡ Sync2 }
         requires works { self.old.failed ≡ false }
         ensures call { MakesCall D.DiskFacts Sync2 result self.old self.new }
     {
-        if let Err(error) = settle(&mut self.disk) {
+        if let Err(error) = sync(&mut self.disk) {
             self.failed = true;
             return Err(error);
         }
@@ -122,7 +122,7 @@ impl<D: Disk> Store<D> {
     }
 
     // The write of 1 into that slot's gate. From here on a crash may leave either root.
-    fn raise(&mut self) -> Result<Phase, StoreError>
+    fn gate(&mut self) -> Result<Phase, StoreError>
         requires phase { self.old.phase ≡ Gate }
         requires works { self.old.failed ≡ false }
         ensures call { MakesCall D.DiskFacts Gate result self.old self.new }
@@ -136,12 +136,12 @@ impl<D: Disk> Store<D> {
     }
 
     // The sync of the gate. The slots change places.
-    fn settle_gate(&mut self) -> Result<Phase, StoreError>
+    fn sync3(&mut self) -> Result<Phase, StoreError>
         requires phase { self.old.phase ≡ Sync3 }
         requires works { self.old.failed ≡ false }
         ensures call { MakesCall D.DiskFacts Sync3 result self.old self.new }
     {
-        if let Err(error) = settle(&mut self.disk) {
+        if let Err(error) = sync(&mut self.disk) {
             self.failed = true;
             return Err(error);
         }
@@ -171,13 +171,13 @@ impl<D: Disk> Store<D> {
         }
         match self.phase {
             Phase::Idle => Ok(Phase::Idle),
-            Phase::Pages(k) => self.put(k),
+            Phase::Pages(k) => self.page(k),
             Phase::Close => self.close(),
-            Phase::Sync1 => self.settle_pages(),
-            Phase::Body => self.fill(),
-            Phase::Sync2 => self.settle_body(),
-            Phase::Gate => self.raise(),
-            Phase::Sync3 => self.settle_gate(),
+            Phase::Sync1 => self.sync1(),
+            Phase::Body => self.body(),
+            Phase::Sync2 => self.sync2(),
+            Phase::Gate => self.gate(),
+            Phase::Sync3 => self.sync3(),
         }
     }
 }

@@ -1,5 +1,5 @@
 use Rattle.std.proofs.Common.{rules, ap, ◌∙◌, true, sym, refl}
-use Rattle.group_commit.proofs.store.Store.raise.Goals as goal
+use Rattle.group_commit.proofs.store.Store.gate.Goals as goal
 use Rattle.group_commit.specs.declared.phase.Phase.TheVariants.{Gate, Sync3}
 use Rattle.group_commit.proofs.PagingLemmas.{paging_failed, paging_on}
 use Rattle.group_commit.proofs.Sound.{sound_gate}

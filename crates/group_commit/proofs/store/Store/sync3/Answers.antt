@@ -1,5 +1,5 @@
 use Rattle.std.proofs.Common.{rules, refl, ◌≡◌, ap, ◌∙◌, sym}
-use Rattle.group_commit.proofs.store.Store.settle_gate.Goals as goal
+use Rattle.group_commit.proofs.store.Store.sync3.Goals as goal
 use Rattle.group_commit.specs.declared.phase.Phase.TheVariants.{Idle, Sync3}
 use Rattle.group_commit.specs.Paging.{taken_in}
 use Rattle.group_commit.proofs.MovingLemmas.{stays_put}
@@ -13,7 +13,7 @@ not_idle is = absurd cc
 
 pub invariant_of-self : goal.invariant_of-self
 invariant_of-self g c = (
-  sound_sync_failed g.D.DiskFacts _ c.self.inside.roots.slot _ _ c.settle.new.disk c.self.invariant.0 (c.in-Err.ensures).tells.0 (c.in-Err.ensures).unsettled,
+  sound_sync_failed g.D.DiskFacts _ c.self.inside.roots.slot _ _ c.sync.new.disk c.self.invariant.0 (c.in-Err.ensures).tells.0 (c.in-Err.ensures).unsettled,
   c.self.invariant.1,
   paging_failed _ Sync3 _ _ _ _ _ _ _ _ _ c.self.invariant.2 (ap (λ h. h.phase) c.self.view_is ∙ c.requires.phase) (λ is. absurd cc) refl refl,
 )
@@ -29,7 +29,7 @@ adopt-requires g c =
 
 pub invariant_of-self-2 : goal.invariant_of-self-2
 invariant_of-self-2 g c = (
-  rw (c.swap.ensures.x_after, c.swap.ensures.y_after, c.swap-2.ensures.x_after, c.swap-2.ensures.y_after, c.change_places.ensures.slot, c.change_places.ensures.stale_open) (sound_sync3 g.D.DiskFacts _ c.self.inside.roots.slot _ _ c.settle.new.disk c.self.invariant.0
+  rw (c.swap.ensures.x_after, c.swap.ensures.y_after, c.swap-2.ensures.x_after, c.swap-2.ensures.y_after, c.change_places.ensures.slot, c.change_places.ensures.stale_open) (sound_sync3 g.D.DiskFacts _ c.self.inside.roots.slot _ _ c.sync.new.disk c.self.invariant.0
       (ap (λ h. h.phase) c.self.view_is ∙ c.requires.phase)
       (c.in_default.ensures).tells.0 (c.in_default.ensures).settled
       (λ told. g.met.D.Disk.lawful c.self.inside.disk told) (ap (λ h. h.failed) c.self.view_is ∙ c.requires.works)),

@@ -1,26 +1,26 @@
 use Rattle.std.proofs.Common.{rules, refl, ap, ◌∙◌, sym}
-use Rattle.group_commit.proofs.store.Store.settle_pages.Goals as goal
-use Rattle.group_commit.specs.declared.phase.Phase.TheVariants.{Sync1, Body}
+use Rattle.group_commit.proofs.store.Store.sync2.Goals as goal
+use Rattle.group_commit.specs.declared.phase.Phase.TheVariants.{Sync2, Gate}
 use Rattle.group_commit.proofs.PagingLemmas.{paging_failed, paging_on}
-use Rattle.group_commit.proofs.Sound.{sound_sync1, sound_sync_failed}
+use Rattle.group_commit.proofs.Sound.{sound_sync2, sound_sync_failed}
 use Rattle.group_commit.proofs.DeviceCall.{device_call}
 use Rattle.group_commit.specs.Step.{sync}
 
 pub invariant_of-self : goal.invariant_of-self
 invariant_of-self g c = (
-  sound_sync_failed g.D.DiskFacts _ c.self.inside.roots.slot _ _ c.settle.new.disk c.self.invariant.0 (c.in-Err.ensures).tells.0 (c.in-Err.ensures).unsettled,
+  sound_sync_failed g.D.DiskFacts _ c.self.inside.roots.slot _ _ c.sync.new.disk c.self.invariant.0 (c.in-Err.ensures).tells.0 (c.in-Err.ensures).unsettled,
   c.self.invariant.1,
-  paging_failed _ Sync1 _ _ _ _ _ _ _ _ _ c.self.invariant.2 (ap (λ h. h.phase) c.self.view_is ∙ c.requires.phase) (λ is. absurd cc) refl refl,
+  paging_failed _ Sync2 _ _ _ _ _ _ _ _ _ c.self.invariant.2 (ap (λ h. h.phase) c.self.view_is ∙ c.requires.phase) (λ is. absurd cc) refl refl,
 )
 
 pub invariant_of-self-2 : goal.invariant_of-self-2
 invariant_of-self-2 g c = (
-  sound_sync1 g.D.DiskFacts _ c.self.inside.roots.slot _ _ c.settle.new.disk c.self.invariant.0
+  sound_sync2 g.D.DiskFacts _ c.self.inside.roots.slot _ _ c.sync.new.disk c.self.invariant.0
       (ap (λ h. h.phase) c.self.view_is ∙ c.requires.phase)
       (c.in_default.ensures).tells.0 (c.in_default.ensures).settled
       (λ told. g.met.D.Disk.lawful c.self.inside.disk told) (ap (λ h. h.failed) c.self.view_is ∙ c.requires.works),
   c.self.invariant.1,
-  paging_on _ Sync1 Body _ _ _ _ _ _ _ c.self.invariant.2 (ap (λ h. h.phase) c.self.view_is ∙ c.requires.phase) (λ is. absurd cc) refl (λ k is. absurd cc),
+  paging_on _ Sync2 Gate _ _ _ _ _ _ _ c.self.invariant.2 (ap (λ h. h.phase) c.self.view_is ∙ c.requires.phase) (λ is. absurd cc) refl (λ k is. absurd cc),
 )
 
 pub returns-in-Err : goal.returns-in-Err

@@ -1,5 +1,5 @@
 use Rattle.std.proofs.Common.{ap, sym, ◌≡◌, ◌≢◌, ◌<◌, ◌≤◌, ◌*◌, ◌+◌, ℕ, length, get_or, refl, arith, ◌∙◌}
-use Rattle.group_commit.proofs.store.Store.put.Goals as goal
+use Rattle.group_commit.proofs.store.Store.page.Goals as goal
 use Rattle.group_commit.proofs.Inside.{inside_page}
 use Rattle.group_commit.proofs.PagingLemmas.{paging_failed, paging_put, next_free, next_room}
 use Rattle.group_commit.proofs.Sound.{sound_page, sound_page_failed}

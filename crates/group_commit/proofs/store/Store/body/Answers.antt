@@ -4,7 +4,7 @@ use Rattle.disk_trait.specs.Calls.{Tears}
 use Rattle.disk_trait.specs.declared.facts.DiskFacts.{Ghosts}
 use Rattle.group_commit.specs.declared.phase.Phase.{Phase}
 use Rattle.group_commit.specs.declared.phase.Phase.TheVariants.{Idle, Body, Sync2}
-use Rattle.group_commit.proofs.store.Store.fill.Goals as goal
+use Rattle.group_commit.proofs.store.Store.body.Goals as goal
 use Rattle.group_commit.proofs.PagingLemmas.{paging_failed, paging_on}
 use Rattle.group_commit.proofs.Sound.{sound_body}
 use Rattle.group_commit.proofs.Doing.{slots_whole}
