@@ -11,7 +11,7 @@ use event_journal::{Event, Journal, Reason, Telling};
 use file_listing::documents;
 use hub_parts::{Parts, open};
 use serve_threads::{Served, Sockets, serve_on};
-use shared_hub::NoGate;
+use shared_hub::NoCheckpoint;
 use std::alloc::Global;
 use std::fs::File;
 use std::io::{IsTerminal, Write};
@@ -134,7 +134,7 @@ fn serve_opened<
 {
     let sockets = Sockets { journal, ..sockets };
     tell_listening(rt, rt.alloc(), order, &parts, journal);
-    let end = match serve_on(rt, rt.alloc(), parts, sockets, &NoGate) {
+    let end = match serve_on(rt, rt.alloc(), parts, sockets, &NoCheckpoint) {
         Ok(served) => end_of(&served),
         Err(fault) => Err(Fault::from(fault.cause)),
     };

@@ -1,7 +1,7 @@
 //! The first line of a session, where it is looked at before the session is served.
 
 use crate::waits::has_to_wait;
-use session_lines::{Command, serve_line, watch_line};
+use session_lines::{Command, read_command, watch_line};
 use std::alloc::Global;
 use std::io;
 use std::io::Read;
@@ -103,7 +103,10 @@ impl FirstLine {
     /// Whether it asks for the status or a stop.
     pub fn asks_for_status_or_stop(&self, alloc: Global) -> bool {
         match self.line() {
-            Some(line) => matches!(serve_line(alloc, line), Ok(Command::Status | Command::Stop)),
+            Some(line) => matches!(
+                read_command(alloc, line),
+                Ok(Command::Status | Command::Stop)
+            ),
             None => false,
         }
     }

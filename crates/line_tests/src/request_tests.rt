@@ -3,7 +3,7 @@ use crate::saying_tests::{said, text_of};
 use op_model::{
     Change, CommentId, CommentIds, Edit, EditText, Mark, MarkKey, Marks, Span, Text, Url,
 };
-use session_lines::{Answer, Command, Refusal, SpanList, State, serve_line};
+use session_lines::{Answer, Command, Refusal, SpanList, State, read_command};
 use std::alloc::Global;
 use std::num::NonZeroU32;
 use std::process::Abort;
@@ -11,7 +11,7 @@ use std::test::Fail;
 
 /// A line is refused so.
 pub fn refused(rt: &impl Abort, alloc: Global, line: &[u8], refusal: Refusal) {
-    match serve_line(alloc, line) {
+    match read_command(alloc, line) {
         Ok(_) => assert!(rt; false, "served: {line:?}"),
         Err(found) => assert!(rt; found == refusal, "{found}: {line:?}"),
     }
@@ -97,7 +97,7 @@ fn fields_keep_their_rules(rt: HostRuntime) {
 }
 
 fn served(rt: &impl Abort, alloc: Global, line: &str, command: Command) {
-    match serve_line(alloc, line.as_bytes()) {
+    match read_command(alloc, line.as_bytes()) {
         Ok(found) => assert!(rt; found == command, "{found:?}: {line}"),
         Err(refusal) => assert!(rt; false, "{refusal}: {line}"),
     }

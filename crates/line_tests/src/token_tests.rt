@@ -1,13 +1,13 @@
 //! The token of an edit's line.
 use crate::request_tests::refused;
 use op_ids::Token;
-use session_lines::{Command, Refusal, serve_line};
+use session_lines::{Command, Refusal, read_command};
 use std::alloc::Global;
 use std::test::Fail;
 
 /// The token that a line's edit came to have.
 fn token_of(alloc: Global, line: &str) -> Option<Token> {
-    match serve_line(alloc, line.as_bytes()) {
+    match read_command(alloc, line.as_bytes()) {
         Ok(Command::Edit(edit)) => edit.token,
         _ => None,
     }

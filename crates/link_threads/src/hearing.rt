@@ -2,16 +2,17 @@
 
 use crate::link_end::{LinkEnd, Said};
 use crate::link_log::LinkLog;
+use crate::link_thread::Links;
 use crate::over::Over;
 use crate::patience::Patience;
 use causal_sync::{LinkError, Ops};
 use fixed_numbers::refusals::{BUSY, FAILED, MEMORY, STEPS, STOPPING};
 use op_ids::ReplicaId;
 use op_model::Op;
-use pass_books::{Desks, Pass};
+use pass_books::{BookNames, Pass};
 use replica_core::Merged;
 use rtrb::Producer;
-use shared_hub::{Gate, Point, Shared, SharedRefusal};
+use shared_hub::{Checkpoint, Point, Shared, SharedRefusal};
 use std::alloc::Global;
 use std::io::{ErrorKind, Read};
 use std::rt::Clock;
@@ -46,11 +47,11 @@ enum Merging {
 
 /// What the thread of a link that hears works with.
 #[derive(Drop)]
-pub(crate) struct Hearing<'a, R: Wait + Clock, J: Desks, G: Gate> {
+pub(crate) struct Hearing<'a, R: Wait + Clock, J: BookNames, C: Checkpoint> {
     pub rt: &'a R,
     pub shared: &'a Shared<J>,
     pub end: &'a LinkEnd,
-    pub gate: &'a G,
+    pub checkpoint: &'a C,
     pub pass: &'a mut Pass<J>,
     /// Where a note goes for a record that makes a HAVE due.
     pub notes: Producer<u8>,
@@ -71,22 +72,20 @@ pub(crate) struct Hearing<'a, R: Wait + Clock, J: Desks, G: Gate> {
     pub log: LinkLog<'a>,
 }
 
-impl<'a, R: Wait + Clock, J: Desks, G: Gate> Hearing<'a, R, J, G> {
+impl<'a, R: Wait + Clock, J: BookNames, C: Checkpoint> Hearing<'a, R, J, C> {
     /// One that has heard nothing so far.
     pub fn new(
-        rt: &'a R,
-        shared: &'a Shared<J>,
+        links: &Links<'a, R, J, C>,
         end: &'a LinkEnd,
-        gate: &'a G,
         pass: &'a mut Pass<J>,
         notes: Producer<u8>,
         log: LinkLog<'a>,
-    ) -> Hearing<'a, R, J, G> {
+    ) -> Hearing<'a, R, J, C> {
         Hearing {
-            rt,
-            shared,
+            rt: links.rt,
+            shared: links.shared,
             end,
-            gate,
+            checkpoint: links.checkpoint,
             pass,
             notes,
             is_due: false,
@@ -143,7 +142,7 @@ impl<'a, R: Wait + Clock, J: Desks, G: Gate> Hearing<'a, R, J, G> {
             let Some(said) = self.end.next(self.rt) else {
                 return true;
             };
-            self.gate.pass(Point::FrameRead);
+            self.checkpoint.pass(Point::FrameRead);
             let goes_on = match said {
                 Said::Hello(replica) => {
                     self.log.greeted(self.rt, replica);

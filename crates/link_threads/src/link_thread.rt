@@ -6,9 +6,9 @@ use crate::link_log::LinkLog;
 use crate::over::Over;
 use crate::telling::Telling;
 use op_ids::ReplicaId;
-use pass_books::{Desks, Pass};
-use rtrb::{Consumer, Producer, RingBuffer};
-use shared_hub::{Gate, Shared};
+use pass_books::{BookNames, Pass};
+use rtrb::RingBuffer;
+use shared_hub::{Checkpoint, Shared};
 use std::alloc::Global;
 use std::net::{Shutdown, TcpStream};
 use std::rt::Clock;
@@ -38,23 +38,30 @@ impl Parted {
     };
 }
 
+/// What the links of a daemon share.
+#[derive(Drop)]
+pub struct Links<'a, R: Wait + Clock, J: BookNames, C: Checkpoint> {
+    pub rt: &'a R,
+    pub alloc: Global,
+    /// This end's replica.
+    pub own: ReplicaId,
+    pub shared: &'a Shared<J>,
+    pub checkpoint: &'a C,
+}
+
 /// Serves a link of this replica to its end: this thread hears, and another one tells. Tells what
 /// became of it, and the log of the greeting and the end. It isn't begun once the hub's links are
 /// over.
-pub fn serve_link<R: Wait + Clock + Threads + Sync, J: Desks + Send + Sync, G: Gate + Sync>(
-    rt: &R,
-    alloc: Global,
-    own: ReplicaId,
-    shared: &Shared<J>,
-    pass: &mut Pass<J>,
-    stream: &TcpStream,
-    gate: &G,
-    log: LinkLog<'_>,
-) -> Parted {
-    if shared.are_links_over(rt) {
+pub fn serve_link<
+    R: Wait + Clock + Threads + Sync,
+    J: BookNames + Send + Sync,
+    C: Checkpoint + Sync,
+>(links: &Links<'_, R, J, C>, pass: &mut Pass<J>, stream: &TcpStream, log: LinkLog<'_>) -> Parted {
+    let (rt, alloc) = (links.rt, links.alloc);
+    if links.shared.are_links_over(rt) {
         return Parted::AT_ONCE;
     }
-    let Ok(end) = LinkEnd::start(alloc, own) else {
+    let Ok(end) = LinkEnd::start(alloc, links.own) else {
         log.ended(rt, alloc, Over::NoMemory);
         return Parted::AT_ONCE;
     };
@@ -62,41 +69,27 @@ pub fn serve_link<R: Wait + Clock + Threads + Sync, J: Desks + Send + Sync, G: G
         log.ended(rt, alloc, Over::NoMemory);
         return Parted::AT_ONCE;
     };
-    let parted = hear_and_tell(
-        rt,
-        alloc,
-        own,
-        shared,
-        &end,
-        pass,
-        (producer, consumer),
-        stream,
-        gate,
-        log,
-    );
+    let link = pass.number();
+    let mut hearing = Hearing::new(links, &end, pass, producer, log);
+    let telling = Telling::new(rt, links.shared, &end, link, consumer);
+    hear_and_tell(links, &mut hearing, telling, stream);
+    links.shared.forget_peer(rt, link);
+    log.ended(rt, alloc, hearing.over);
     Parted {
-        was_of_use: parted.was_of_use || end.was_taken(rt),
-        is_out_of_steps: parted.is_out_of_steps,
+        was_of_use: hearing.has_taken || end.was_taken(rt),
+        is_out_of_steps: hearing.is_out_of_steps,
     }
 }
 
-/// This thread hears, and another one tells, until the link ends. Tells what became of it, as far
-/// as this end took operations of the other.
-fn hear_and_tell<'a, R: Wait + Clock + Threads + Sync, J: Desks + Send + Sync, G: Gate + Sync>(
-    rt: &'a R,
-    alloc: Global,
-    own: ReplicaId,
-    shared: &'a Shared<J>,
-    end: &'a LinkEnd,
-    pass: &'a mut Pass<J>,
-    (producer, consumer): (Producer<u8>, Consumer<u8>),
+/// This thread hears, and another one tells, until the link ends.
+fn hear_and_tell<'a, R: Wait + Clock + Threads + Sync, J: BookNames + Send + Sync, C: Checkpoint>(
+    links: &Links<'a, R, J, C>,
+    hearing: &mut Hearing<'a, R, J, C>,
+    telling: Telling<'a, R, J>,
     stream: &'a TcpStream,
-    gate: &'a G,
-    log: LinkLog<'a>,
-) -> Parted {
-    let link = pass.number();
-    let mut hearing = Hearing::new(rt, shared, end, gate, pass, producer, log);
-    let telling = Telling::new(rt, shared, end, link, consumer);
+) {
+    let (rt, alloc) = (links.rt, links.alloc);
+    let (link, end) = (hearing.pass.number(), hearing.end);
     thread::scope(thread::scope_env(), rt, |scope| {
         let mut telling = telling;
         let told = scope.spawn(move || {
@@ -107,15 +100,9 @@ fn hear_and_tell<'a, R: Wait + Clock + Threads + Sync, J: Desks + Send + Sync, G
         });
         if told.is_ok() {
             let mut reader = stream;
-            hearing.run(alloc, own, &mut reader);
+            hearing.run(alloc, links.own, &mut reader);
         }
         end.end_unless_due(rt);
-        shared.call(rt, link);
+        links.shared.call(rt, link);
     });
-    shared.forget_peer(rt, link);
-    log.ended(rt, alloc, hearing.over);
-    Parted {
-        was_of_use: hearing.has_taken,
-        is_out_of_steps: hearing.is_out_of_steps,
-    }
 }

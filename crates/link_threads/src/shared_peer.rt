@@ -3,19 +3,19 @@
 use link_speaker::Peer;
 use op_ids::Clock;
 use op_model::Op;
-use pass_books::Desks;
+use pass_books::BookNames;
 use shared_hub::Shared;
 use std::alloc::AllocError;
 use std::sync::Wait;
 
 /// A shared hub, as a peer that tells. Each call holds its lock once.
 #[derive(Drop)]
-pub(crate) struct SharedPeer<'a, R: Wait, J: Desks> {
+pub(crate) struct SharedPeer<'a, R: Wait, J: BookNames> {
     pub rt: &'a R,
     pub shared: &'a Shared<J>,
 }
 
-impl<'a, R: Wait, J: Desks> Peer for SharedPeer<'a, R, J> {
+impl<'a, R: Wait, J: BookNames> Peer for SharedPeer<'a, R, J> {
     ghost use Rattle.link_threads.specs.Telling.{Has, Tells};
 
     ghost has = { λ old clock new. Has clock };

@@ -4,7 +4,7 @@ use crate::link_end::LinkEnd;
 use crate::locked_line::LockedLine;
 use crate::shared_peer::SharedPeer;
 use link_speaker::{Line, SpeakError, Speaker, write_out};
-use pass_books::Desks;
+use pass_books::BookNames;
 use rtrb::Consumer;
 use shared_hub::{News, Shared};
 use std::alloc::Global;
@@ -27,7 +27,7 @@ const PAUSE_AGAIN: u64 = 4;
 
 /// What the thread of a link that tells works with.
 #[derive(Drop)]
-pub(crate) struct Telling<'a, R: Wait + Clock, J: Desks> {
+pub(crate) struct Telling<'a, R: Wait + Clock, J: BookNames> {
     rt: &'a R,
     shared: &'a Shared<J>,
     end: &'a LinkEnd,
@@ -40,7 +40,7 @@ pub(crate) struct Telling<'a, R: Wait + Clock, J: Desks> {
     pause: u64,
 }
 
-impl<'a, R: Wait + Clock, J: Desks> Telling<'a, R, J> {
+impl<'a, R: Wait + Clock, J: BookNames> Telling<'a, R, J> {
     /// The thread of the link whose pass has this number, with the notes of the one that hears.
     /// Nothing was said so far.
     pub fn new(

@@ -3,19 +3,19 @@ ghost use Rattle.std.specs.Prelude.{◌≡◌, ◌<◌, ◌∷◌, Some, length,
 ghost use Rattle.pass_books.specs.Accounts.{names_of, entries_of};
 
 use crate::book::Book;
-use crate::desks::Desks;
+use crate::book_names::BookNames;
 use crate::pass::Pass;
 use std::marker::{Model, PhantomData};
 
 /// The books of all passes, as they stand under a lock. Contracts see the entries of each, by
 /// number, newest first.
 #[derive(Drop)]
-pub struct Books<J: Desks> {
+pub struct Books<J: BookNames> {
     books: Vec<Book>,
     of: PhantomData<J>,
 }
 
-impl<J: Desks> Model for Books<J> {
+impl<J: BookNames> Model for Books<J> {
     ghost use Rattle.std.specs.Prelude.{◌≡◌, List, ℕ};
     ghost use Rattle.pass_books.specs.Accounts.{names_of, entries_of};
 
@@ -26,7 +26,7 @@ impl<J: Desks> Model for Books<J> {
     ghost invariant = { λ b. names_of b.books.items ≡ J.names };
 }
 
-impl<J: Desks> Books<J> {
+impl<J: BookNames> Books<J> {
     /// These books, by number. Takes no memory.
     pub fn of(books: Vec<Book>) -> Books<J>
         requires { names_of books.items ≡ J.names }

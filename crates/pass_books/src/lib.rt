@@ -6,13 +6,13 @@
 #![tactic(auto)]
 
 mod book;
+mod book_names;
 mod books;
-mod desks;
 mod pass;
 mod share;
 
 pub use book::{Book, open};
+pub use book_names::BookNames;
 pub use books::Books;
-pub use desks::Desks;
 pub use pass::Pass;
 pub use share::Share;

@@ -2,20 +2,20 @@
 ghost use Rattle.std.specs.Prelude.{◌≡◌, Some, length, slice_get};
 ghost use Rattle.pass_books.specs.Accounts.{newest_of};
 
-use crate::desks::Desks;
+use crate::book_names::BookNames;
 use crate::share::Share;
 use std::marker::{Model, PhantomData};
 
 /// The right to make entries under one number, held by one thread at a time, with the share of that
 /// number's book. Contracts see the number and the entries, newest first.
 #[derive(Drop)]
-pub struct Pass<J: Desks> {
+pub struct Pass<J: BookNames> {
     number: usize,
     pub(crate) share: Share,
     of: PhantomData<J>,
 }
 
-impl<J: Desks> Model for Pass<J> {
+impl<J: BookNames> Model for Pass<J> {
     ghost use Rattle.std.specs.Prelude.{◌≡◌, Some, slice_get};
     ghost use Rattle.pass_books.specs.Accounts.{PassHeld};
 
@@ -26,7 +26,7 @@ impl<J: Desks> Model for Pass<J> {
     ghost invariant = { λ p. slice_get J.names p.number ≡ Some p.share.name };
 }
 
-impl<J: Desks> Pass<J> {
+impl<J: BookNames> Pass<J> {
     /// The pass with the share of this number's book. Takes no memory.
     pub fn of(number: usize, share: Share) -> Pass<J>
         requires { slice_get J.names number ≡ Some share.name }

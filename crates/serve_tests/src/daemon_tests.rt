@@ -1,10 +1,10 @@
 //! Daemons that are met over sockets: what only threads can show.
-use crate::asking_gate::AskingGate;
+use crate::asking_checkpoint::AskingCheckpoint;
 use crate::test_daemons::{TURNS, Talk, new_disk, serve_disk, sockets};
 use crate::waiting_disk::{Meeting, WaitingDisk};
 use disk_trait::MemDisk;
 use serve_threads::{Joined, Served};
-use shared_hub::NoGate;
+use shared_hub::NoCheckpoint;
 use std::alloc::Global;
 use std::net::{Net, TcpListener, TcpStream};
 use std::rt::Clock;
@@ -103,9 +103,9 @@ fn edit_in_a_commit<
 >(rt: &R, alloc: Global) -> Option<(usize, bool)> {
     let disk = new_disk(alloc, 1)?;
     let (sockets, port, _) = sockets(rt)?;
-    let gate = AskingGate::new(rt, alloc, port, STATUS, BOTH_APPLIED);
+    let checkpoint = AskingCheckpoint::new(rt, alloc, port, STATUS, BOTH_APPLIED);
     let right = Mutex::new(0);
-    let (held, counted) = (&gate, &right);
+    let (held, counted) = (&checkpoint, &right);
     thread::scope(thread::scope_env(), rt, |scope| {
         let _ = scope.spawn(move || add_right(rt, alloc, port, &[(INSERT_A, REV_1)], counted));
         let _ = scope.spawn(move || {
@@ -114,7 +114,7 @@ fn edit_in_a_commit<
         });
         let _served = serve_disk(rt, alloc, disk, sockets, held);
     });
-    Some((right.into_inner(), gate.is_told()))
+    Some((right.into_inner(), checkpoint.is_told()))
 }
 
 #[test]
@@ -146,7 +146,7 @@ fn ask_in_a_device_call<
                 met.serve(rt);
             }
         });
-        let _served = serve_disk(rt, alloc, disk, sockets, &NoGate);
+        let _served = serve_disk(rt, alloc, disk, sockets, &NoCheckpoint);
     });
     Some((right.into_inner(), meeting.has_met(rt)))
 }
@@ -181,7 +181,7 @@ fn edited<R: Wait + Clock + Threads + Net<Listener = TcpListener, Stream = TcpSt
                 counted,
             )
         });
-        serve_disk(rt, alloc, disk, sockets, &NoGate)
+        serve_disk(rt, alloc, disk, sockets, &NoCheckpoint)
     });
     match served {
         Some(Served { disk, .. }) if right.into_inner() == 2 => Some(disk),
@@ -237,10 +237,10 @@ fn link_two<R: Wait + Clock + Threads + Net<Listener = TcpListener, Stream = Tcp
         }
         let _ = scope.spawn(move || {
             if let Some(first) = edited(rt, alloc, 1, INSERT_A) {
-                let _served = serve_disk(rt, alloc, first, first_sockets, &NoGate);
+                let _served = serve_disk(rt, alloc, first, first_sockets, &NoCheckpoint);
             }
         });
-        let _served = serve_disk(rt, alloc, second, second_sockets, &NoGate);
+        let _served = serve_disk(rt, alloc, second, second_sockets, &NoCheckpoint);
     });
     Some(right.into_inner())
 }

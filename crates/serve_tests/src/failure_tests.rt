@@ -3,7 +3,7 @@ use crate::daemon_tests::{FAILED, INSERT_A, INSERT_B, STATUS, STOP, TEXT, add_ri
 use crate::test_daemons::{count_settled, new_disk, serve_disk, sockets};
 use disk_trait::FaultDisk;
 use serve_threads::Served;
-use shared_hub::NoGate;
+use shared_hub::NoCheckpoint;
 use std::alloc::Global;
 use std::net::{Net, TcpListener, TcpStream};
 use std::rt::Clock;
@@ -42,7 +42,7 @@ fn edit_over_a_failing_disk<
     let counted = &right;
     let served = thread::scope(thread::scope_env(), rt, |scope| {
         let _ = scope.spawn(move || add_right(rt, alloc, port, exchanges, counted));
-        serve_disk(rt, alloc, disk, sockets, &NoGate)
+        serve_disk(rt, alloc, disk, sockets, &NoCheckpoint)
     });
     let Served {
         disk,

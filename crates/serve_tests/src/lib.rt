@@ -2,7 +2,7 @@
 #![tactic(auto)]
 
 #[cfg(test)]
-mod asking_gate;
+mod asking_checkpoint;
 #[cfg(test)]
 mod daemon_tests;
 #[cfg(test)]

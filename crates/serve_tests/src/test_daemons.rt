@@ -6,7 +6,7 @@ use group_commit::Store;
 use hub_parts::{Parts, open};
 use op_ids::ReplicaId;
 use serve_threads::{Served, Sockets, serve_on};
-use shared_hub::Gate;
+use shared_hub::Checkpoint;
 use std::alloc::Global;
 use std::io::{Read, Write};
 use std::net::{Net, TcpListener, TcpStream};
@@ -49,10 +49,10 @@ pub fn serve_disk<
     'a,
     D: Disk + Drop,
     R: Wait + Clock + Threads + Net<Listener = TcpListener, Stream = TcpStream> + Sync,
-    G: Gate + Sync,
->(rt: &R, alloc: Global, disk: D, sockets: Sockets<'a>, gate: &G) -> Option<Served<'a, D>> {
+    C: Checkpoint + Sync,
+>(rt: &R, alloc: Global, disk: D, sockets: Sockets<'a>, checkpoint: &C) -> Option<Served<'a, D>> {
     let parts = parts(alloc, disk)?;
-    serve_on(rt, alloc, parts, sockets, gate).ok()
+    serve_on(rt, alloc, parts, sockets, checkpoint).ok()
 }
 
 /// A listener on a port that nobody else has, and that port.

@@ -8,11 +8,10 @@ use crate::lobby::Lobby;
 use crate::session_thread::serve_session;
 use event_journal::{Event, LinkPlace, Reason};
 use fixed_numbers::refusals::BUSY;
-use link_threads::{LinkLog, serve_link};
-use pass_books::Desks;
+use link_threads::{LinkLog, Links, serve_link};
+use pass_books::BookNames;
 use shared_desk::End;
-use shared_hub::Gate;
-use std::alloc::Global;
+use shared_hub::Checkpoint;
 use std::net::TcpStream;
 use std::rt::Clock;
 use std::sync::Wait;
@@ -37,14 +36,12 @@ pub(crate) enum Kind {
 /// Lets connections of one kind in, each of which gets a thread, until the daemon is asked to end;
 /// then waits for their ends. One that finds no place or no thread is closed, a session with the
 /// answer 8.
-pub(crate) fn accept<R: Wait + Clock + Threads + Sync, J: Desks + Send + Sync, G: Gate + Sync>(
-    rt: &R,
-    alloc: Global,
-    hall: &Hall<J>,
-    gate: &G,
-    kind: Kind,
-    doors: &Doors,
-) {
+pub(crate) fn accept<
+    R: Wait + Clock + Threads + Sync,
+    J: BookNames + Send + Sync,
+    C: Checkpoint + Sync,
+>(hall: &Hall<R, J, C>, kind: Kind, doors: &Doors) {
+    let rt = hall.rt;
     let lobby = hall.lobby(kind);
     let door = doors.door(kind);
     thread::scope(thread::scope_env(), rt, |scope| {
@@ -60,13 +57,13 @@ pub(crate) fn accept<R: Wait + Clock + Threads + Sync, J: Desks + Send + Sync, G
                 if kind == Kind::Session {
                     say_busy(&stream);
                 }
-                tell_refused(rt, hall, kind, &stream);
+                tell_refused(hall, kind, &stream);
                 continue;
             };
-            let served = scope.spawn(move || serve(rt, alloc, hall, gate, kind, entry, &stream));
+            let served = scope.spawn(move || serve(hall, kind, entry, &stream));
             if served.is_err() {
                 lobby.turn_away(rt, entry, kind);
-                hall.tell(rt, &refused_at(kind, 0));
+                hall.tell(&refused_at(kind, 0));
             }
         }
         door.note_left(rt);
@@ -74,9 +71,13 @@ pub(crate) fn accept<R: Wait + Clock + Threads + Sync, J: Desks + Send + Sync, G
 }
 
 /// Tells that a connection was turned away, unless the daemon ends.
-fn tell_refused<R: Wait, J: Desks>(rt: &R, hall: &Hall<J>, kind: Kind, stream: &TcpStream) {
-    if !hall.ending.is_asked(rt) {
-        hall.tell(rt, &refused_at(kind, port_of(stream)));
+fn tell_refused<R: Wait, J: BookNames, C: Checkpoint>(
+    hall: &Hall<R, J, C>,
+    kind: Kind,
+    stream: &TcpStream,
+) {
+    if !hall.ending.is_asked(hall.rt) {
+        hall.tell(&refused_at(kind, port_of(stream)));
     }
 }
 
@@ -101,24 +102,21 @@ pub(crate) fn port_of(stream: &TcpStream) -> u16 {
 }
 
 /// Serves a connection that is in the lobby of its kind, to its end, and gives its place back.
-fn serve<R: Wait + Clock + Threads + Sync, J: Desks + Send + Sync, G: Gate + Sync>(
-    rt: &R,
-    alloc: Global,
-    hall: &Hall<J>,
-    gate: &G,
+fn serve<R: Wait + Clock + Threads + Sync, J: BookNames + Send + Sync, C: Checkpoint + Sync>(
+    hall: &Hall<R, J, C>,
     kind: Kind,
     entry: Entry,
     stream: &TcpStream,
 ) {
     match kind {
-        Kind::Session => serve_session(rt, alloc, hall, gate, entry, stream),
+        Kind::Session => serve_session(hall, entry, stream),
         Kind::Link => {
             let place = LinkPlace {
                 link: entry.number,
                 is_joined: false,
                 port: port_of(stream),
             };
-            let _is_of_use = link(rt, alloc, hall, gate, &hall.links, entry, place, stream);
+            let _is_of_use = link(hall, &hall.links, entry, place, stream);
         }
     }
 }
@@ -126,11 +124,12 @@ fn serve<R: Wait + Clock + Threads + Sync, J: Desks + Send + Sync, G: Gate + Syn
 /// Serves a link whose connection is in this lobby, to its end, and gives its place back. Answers
 /// whether the other end said more than HELLO and BYE. One whose operation finds no steps left (10)
 /// asks the daemon to open its file anew.
-pub(crate) fn link<R: Wait + Clock + Threads + Sync, J: Desks + Send + Sync, G: Gate + Sync>(
-    rt: &R,
-    alloc: Global,
-    hall: &Hall<J>,
-    gate: &G,
+pub(crate) fn link<
+    R: Wait + Clock + Threads + Sync,
+    J: BookNames + Send + Sync,
+    C: Checkpoint + Sync,
+>(
+    hall: &Hall<R, J, C>,
     lobby: &Lobby<J>,
     entry: Entry,
     place: LinkPlace,
@@ -138,27 +137,25 @@ pub(crate) fn link<R: Wait + Clock + Threads + Sync, J: Desks + Send + Sync, G: 
 ) -> bool {
     let _ = stream.set_nodelay(true);
     let _ = stream.set_write_timeout(Some(Duration::from_secs(PATIENCE)));
-    let Some(mut pass) = lobby.take_pass(rt) else {
-        lobby.leave(rt, entry, None);
+    let Some(mut pass) = lobby.take_pass(hall.rt) else {
+        lobby.leave(hall.rt, entry, None);
         return false;
     };
     let log = LinkLog {
         journal: hall.manner.journal,
         place,
     };
-    let parted = serve_link(
-        rt,
-        alloc,
-        hall.own,
-        &hall.shared,
-        &mut pass,
-        stream,
-        gate,
-        log,
-    );
+    let links = Links {
+        rt: hall.rt,
+        alloc: hall.alloc,
+        own: hall.own,
+        shared: &hall.shared,
+        checkpoint: hall.checkpoint,
+    };
+    let parted = serve_link(&links, &mut pass, stream, log);
     if parted.is_out_of_steps {
-        hall.ending.ask(rt, End::Renewal);
+        hall.ending.ask(hall.rt, End::Renewal);
     }
-    lobby.leave(rt, entry, Some(pass));
+    lobby.leave(hall.rt, entry, Some(pass));
     parted.was_of_use
 }

@@ -6,9 +6,9 @@ use crate::sockets::Manner;
 use event_journal::Event;
 use hub_parts::Locked;
 use op_ids::ReplicaId;
-use pass_books::Desks;
+use pass_books::BookNames;
 use shared_desk::{End, Ending};
-use shared_hub::{Named, Shared};
+use shared_hub::{Checkpoint, Named, Shared};
 use std::alloc::{AllocError, Global};
 use std::sync::{Mutex, Wait};
 
@@ -18,10 +18,21 @@ const SESSIONS: usize = 32;
 /// How many links of peers that came in are served beside the one that the daemon joins.
 const OTHERS: usize = 7;
 
+/// What a daemon is given beside its file and its sockets.
+#[derive(Clone, Copy)]
+pub(crate) struct Base<'a, R, C> {
+    pub rt: &'a R,
+    pub alloc: Global,
+    pub checkpoint: &'a C,
+}
+
 /// What the daemon's threads share: the hub, the connections of sessions and of links, whose turn
 /// it is to read, and whether it was asked to end.
 #[derive(Drop)]
-pub(crate) struct Hall<'a, J: Desks> {
+pub(crate) struct Hall<'a, R: Wait, J: BookNames, C: Checkpoint> {
+    pub rt: &'a R,
+    pub alloc: Global,
+    pub checkpoint: &'a C,
     pub own: ReplicaId,
     pub shared: Shared<J>,
     pub sessions: Lobby<J>,
@@ -35,15 +46,20 @@ pub(crate) struct Hall<'a, J: Desks> {
     pub manner: Manner<'a>,
 }
 
-impl<'a, J: Desks> Hall<'a, J> {
+impl<'a, R: Wait, J: BookNames, C: Checkpoint> Hall<'a, R, J, C> {
     /// Nobody is connected yet. A place is kept for the link that the daemon joins, where it joins
     /// one. An error is out of memory (1).
     pub fn new(
-        alloc: Global,
+        base: Base<'a, R, C>,
         own: ReplicaId,
         named: Named<J>,
         manner: Manner<'a>,
-    ) -> Result<Hall<'a, J>, AllocError> {
+    ) -> Result<Hall<'a, R, J, C>, AllocError> {
+        let Base {
+            rt,
+            alloc,
+            checkpoint,
+        } = base;
         let Named { shared, passes } = named;
         let mut sessions = passes;
         let mut links = sessions.split_off(sessions.len().min(SESSIONS))?;
@@ -54,6 +70,9 @@ impl<'a, J: Desks> Hall<'a, J> {
         };
         let own_link = links.split_off(links.len().min(others))?;
         Ok(Hall {
+            rt,
+            alloc,
+            checkpoint,
             own,
             shared,
             sessions: Lobby::new(alloc, sessions)?,
@@ -66,16 +85,16 @@ impl<'a, J: Desks> Hall<'a, J> {
     }
 
     /// Tells of an event, if anybody is to be told.
-    pub fn tell<R: Wait>(&self, rt: &R, event: &Event<'_>) {
+    pub fn tell(&self, event: &Event<'_>) {
         if let Some(journal) = self.manner.journal {
-            journal.tell(rt, event);
+            journal.tell(self.rt, event);
         }
     }
 
     /// Whether the file is to be opened anew. One that was put back isn't: it takes no edit in this
     /// process any more.
-    pub fn is_renewed<R: Wait>(&self, rt: &R) -> bool {
-        self.ending.asked(rt) == Some(End::Renewal) && !self.shared.are_links_over(rt)
+    pub fn is_renewed(&self) -> bool {
+        self.ending.asked(self.rt) == Some(End::Renewal) && !self.shared.are_links_over(self.rt)
     }
 
     /// The locked part of the hub, once no thread shares it.

@@ -3,7 +3,7 @@
 use crate::accepting::Kind;
 use crate::busy::say_busy;
 use crate::entry::Entry;
-use pass_books::{Desks, Pass};
+use pass_books::{BookNames, Pass};
 use std::alloc::{AllocError, Global};
 use std::net::{Shutdown, TcpStream};
 use std::rt::Clock;
@@ -12,13 +12,13 @@ use std::time::Duration;
 
 /// The passes for connections of one kind, and the sockets of those that are connected.
 #[derive(Drop)]
-pub(crate) struct Lobby<J: Desks> {
+pub(crate) struct Lobby<J: BookNames> {
     inside: Mutex<Inside<J>>,
     left: Condvar,
 }
 
 #[derive(Drop)]
-struct Inside<J: Desks> {
+struct Inside<J: BookNames> {
     /// The passes that nobody has.
     passes: Vec<Pass<J>>,
     /// How many more connections may enter.
@@ -38,7 +38,7 @@ struct Connected {
     is_reading: bool,
 }
 
-impl<J: Desks> Lobby<J> {
+impl<J: BookNames> Lobby<J> {
     /// Nobody is connected. An error is out of memory (1).
     pub fn new(alloc: Global, passes: Vec<Pass<J>>) -> Result<Lobby<J>, AllocError> {
         let places = passes.len();
@@ -119,7 +119,7 @@ impl<J: Desks> Lobby<J> {
     }
 }
 
-impl<J: Desks> Inside<J> {
+impl<J: BookNames> Inside<J> {
     fn enter(&mut self, socket: TcpStream) -> Option<Entry> {
         if self.is_closed || self.places == 0 {
             return None;

@@ -4,9 +4,8 @@ use crate::accepting::link;
 use crate::hall::Hall;
 use crate::pauses::{Outcome, Pauses};
 use event_journal::LinkPlace;
-use pass_books::Desks;
-use shared_hub::Gate;
-use std::alloc::Global;
+use pass_books::BookNames;
+use shared_hub::Checkpoint;
 use std::io;
 use std::net::{Ipv4Addr, Net, SocketAddr, TcpListener, TcpStream};
 use std::rt::Clock;
@@ -50,9 +49,10 @@ impl Joined {
 /// as `Pauses` says, until the daemon is asked to end or its links are over.
 pub(crate) fn keep_joined<
     R: Wait + Clock + Threads + Net<Listener = TcpListener, Stream = TcpStream> + Sync,
-    J: Desks + Send + Sync,
-    G: Gate + Sync,
->(rt: &R, alloc: Global, hall: &Hall<J>, gate: &G, joined: Joined) {
+    J: BookNames + Send + Sync,
+    C: Checkpoint + Sync,
+>(hall: &Hall<R, J, C>, joined: Joined) {
+    let rt = hall.rt;
     let Joined { stream, port } = joined;
     let mut pauses = Pauses::new();
     let mut stream = match stream {
@@ -61,7 +61,7 @@ pub(crate) fn keep_joined<
     };
     for _ in rt.forever() {
         let outcome = match stream {
-            Some(stream) => serve_joined(rt, alloc, hall, gate, port, &stream),
+            Some(stream) => serve_joined(hall, port, &stream),
             None => Outcome::NotThere,
         };
         let pause = Duration::from_millis(pauses.behind(outcome));
@@ -83,25 +83,22 @@ fn connect<R: Net<Listener = TcpListener, Stream = TcpStream>>(
 
 /// Serves the link over a stream to its end, if there is a place for it, and tells what became of
 /// it.
-fn serve_joined<R: Wait + Clock + Threads + Sync, J: Desks + Send + Sync, G: Gate + Sync>(
-    rt: &R,
-    alloc: Global,
-    hall: &Hall<J>,
-    gate: &G,
+fn serve_joined<R: Wait + Clock + Threads + Sync, J: BookNames + Send + Sync, C: Checkpoint + Sync>(
+    hall: &Hall<R, J, C>,
     port: u16,
     stream: &TcpStream,
 ) -> Outcome {
-    let Some(entry) = hall.own_link.enter(rt, stream) else {
+    let Some(entry) = hall.own_link.enter(hall.rt, stream) else {
         return Outcome::OfNoUse;
     };
-    let start = Instant::now(rt);
+    let start = Instant::now(hall.rt);
     let place = LinkPlace {
         link: entry.number,
         is_joined: true,
         port,
     };
     let lobby = &hall.own_link;
-    if link(rt, alloc, hall, gate, lobby, entry, place, stream) || has_lasted(rt, start) {
+    if link(hall, lobby, entry, place, stream) || has_lasted(hall.rt, start) {
         Outcome::OfUse
     } else {
         Outcome::OfNoUse

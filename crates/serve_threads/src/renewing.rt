@@ -9,7 +9,7 @@ use disk_trait::Disk;
 use event_journal::Event;
 use hub_parts::{Parts, open};
 use recovery::OpenFault;
-use shared_hub::Gate;
+use shared_hub::Checkpoint;
 use std::alloc::Global;
 use std::net::{Net, TcpListener, TcpStream};
 use std::rt::Clock;
@@ -24,13 +24,13 @@ pub fn serve_on<
     'a,
     D: Disk + Drop,
     R: Wait + Clock + Threads + Net<Listener = TcpListener, Stream = TcpStream> + Sync,
-    G: Gate + Sync,
+    C: Checkpoint + Sync,
 >(
     rt: &R,
     alloc: Global,
     parts: Parts<D>,
     sockets: Sockets<'a>,
-    gate: &G,
+    checkpoint: &C,
 ) -> Result<Served<'a, D>, OpenFault<D>>
     requires { parts.locked.replica.steps ≡ [] }
     // Each turn hands the disk back as `serve_all` does, and the next one opens that.
@@ -38,7 +38,7 @@ pub fn serve_on<
     ensures err { IfErr result (λ fault.
         IsNotOpened D.DiskFacts parts.flusher (failures_of fault.cause) fault.disk) }
 {
-    let mut served = serve_all(rt, alloc, parts, sockets, gate);
+    let mut served = serve_all(rt, alloc, parts, sockets, checkpoint);
     for _ in rt.forever() {
         let (disk, sockets) = match renewed(served) {
             Ok(next) => next,
@@ -48,7 +48,7 @@ pub fn serve_on<
             journal.tell(rt, &Event::OpenedAnew);
         }
         let parts = open(alloc, disk)?;
-        served = serve_all(rt, alloc, parts, sockets, gate);
+        served = serve_all(rt, alloc, parts, sockets, checkpoint);
     }
     unreachable!()
 }

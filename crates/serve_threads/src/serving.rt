@@ -5,16 +5,16 @@ ghost use Rattle.shared_hub.specs.Going.{Goes, ComesBack};
 
 use crate::accepting::{Kind, accept};
 use crate::doors::Doors;
-use crate::hall::Hall;
+use crate::hall::{Base, Hall};
 use crate::rejoining::{Joined, keep_joined};
 use crate::sockets::Sockets;
 use disk_trait::Disk;
 use event_journal::{Event, Reason};
 use fixed_numbers::refusals::FAILED;
 use hub_parts::{Flusher, Locked, Parts};
-use pass_books::Desks;
+use pass_books::BookNames;
 use shared_desk::End;
-use shared_hub::{Gate, Opened, flush};
+use shared_hub::{Checkpoint, Opened, flush};
 use std::alloc::{AllocError, Global};
 use std::marker::Brand;
 use std::net::{Net, TcpListener, TcpStream};
@@ -58,14 +58,21 @@ pub fn serve_all<
     'a,
     D: Disk + Drop,
     R: Wait + Clock + Threads + Net<Listener = TcpListener, Stream = TcpStream> + Sync,
-    G: Gate + Sync,
->(rt: &R, alloc: Global, parts: Parts<D>, sockets: Sockets<'a>, gate: &G) -> Served<'a, D>
+    C: Checkpoint + Sync,
+>(rt: &R, alloc: Global, parts: Parts<D>, sockets: Sockets<'a>, checkpoint: &C) -> Served<'a, D>
     requires { parts.locked.replica.steps ≡ [] }
     // What a crash leaves of the disk begins with what it left before.
     ensures { ComesBack D.DiskFacts parts.flusher result.disk }
 {
     match Opened::new(alloc) {
-        Ok(opened) => serve_named::<Brand, D, R, G>(rt, alloc, opened, parts, sockets, gate),
+        Ok(opened) => {
+            let base = Base {
+                rt,
+                alloc,
+                checkpoint,
+            };
+            serve_named::<Brand, D, R, C>(base, opened, parts, sockets)
+        }
         Err(AllocError) => without_memory(parts.flusher),
     }
 }
@@ -86,29 +93,23 @@ fn without_memory<'a, D: Disk>(flusher: Flusher<D>) -> Served<'a, D>
 /// Serves with the books that have these names.
 fn serve_named<
     'a,
-    J: Desks + Send + Sync,
+    J: BookNames + Send + Sync,
     D: Disk + Drop,
     R: Wait + Clock + Threads + Net<Listener = TcpListener, Stream = TcpStream> + Sync,
-    G: Gate + Sync,
->(
-    rt: &R,
-    alloc: Global,
-    opened: Opened,
-    parts: Parts<D>,
-    sockets: Sockets<'a>,
-    gate: &G,
-) -> Served<'a, D>
+    C: Checkpoint + Sync,
+>(base: Base<'_, R, C>, opened: Opened, parts: Parts<D>, sockets: Sockets<'a>) -> Served<'a, D>
     requires names { opened ≡ J.names }
     requires fresh { parts.locked.replica.steps ≡ [] }
     ensures { ComesBack D.DiskFacts parts.flusher result.disk }
 {
     let Parts { locked, flusher } = parts;
-    let Some((hall, doors, joined)) = begin::<J>(alloc, opened, locked, sockets) else {
+    let manner = sockets.manner();
+    let Some((hall, doors, joined)) = begin::<R, J, C>(base, opened, locked, sockets) else {
         return without_memory(flusher);
     };
-    let (has_begun, flusher) = run(rt, alloc, &hall, flusher, &doors, joined, gate);
-    let renewal = if hall.is_renewed(rt) {
-        Some(Sockets::anew(doors, hall.manner))
+    let (has_begun, flusher) = run(&hall, flusher, &doors, joined);
+    let renewal = if hall.is_renewed() {
+        Some(Sockets::anew(doors, manner))
     } else {
         None
     };
@@ -123,18 +124,18 @@ fn serve_named<
 
 /// What a turn begins with: what its threads share, its doors, and the peer that it joined. `None`
 /// is out of memory (1), or that the system has no more descriptors.
-fn begin<'a, J: Desks>(
-    alloc: Global,
+fn begin<'a, R: Wait, J: BookNames, C: Checkpoint>(
+    base: Base<'a, R, C>,
     opened: Opened,
     locked: Locked,
     sockets: Sockets<'a>,
-) -> Option<(Hall<'a, J>, Doors, Option<Joined>)>
+) -> Option<(Hall<'a, R, J, C>, Doors, Option<Joined>)>
     requires names { opened ≡ J.names }
     requires fresh { locked.replica.steps ≡ [] }
 {
     let own = locked.replica();
-    let named = opened.share::<J>(alloc, locked).ok()?;
-    let hall = Hall::new(alloc, own, named, sockets.manner()).ok()?;
+    let named = opened.share::<J>(base.alloc, locked).ok()?;
+    let hall = Hall::new(base, own, named, sockets.manner()).ok()?;
     let Sockets {
         sessions,
         peers,
@@ -148,49 +149,44 @@ fn begin<'a, J: Desks>(
 /// Starts the threads, waits until one asks to end, and ends them all. Answers whether all could be
 /// started, where not, they end at once; and gives the flusher back.
 fn run<
-    J: Desks + Send + Sync,
+    J: BookNames + Send + Sync,
     D: Disk + Drop,
     R: Wait + Clock + Threads + Net<Listener = TcpListener, Stream = TcpStream> + Sync,
-    G: Gate + Sync,
+    C: Checkpoint + Sync,
 >(
-    rt: &R,
-    alloc: Global,
-    hall: &Hall<J>,
+    hall: &Hall<R, J, C>,
     flusher: Flusher<D>,
     doors: &Doors,
     joined: Option<Joined>,
-    gate: &G,
 ) -> (bool, Flusher<D>)
     ensures kept { IsFlusher D.DiskFacts result.1 }
     ensures goes { Goes D.DiskFacts flusher result.1 }
 {
     thread::scope(
         thread::scope_env(),
-        rt,
+        hall.rt,
         move |scope| -> (bool, Flusher<D>)
             ensures kept { IsFlusher D.DiskFacts result.1 }
             ensures goes { Goes D.DiskFacts flusher result.1 }
         {
             let mut flusher = flusher;
             // First the one that ends the others: without it nobody is let in.
-            let ending = scope.spawn(move || end_when_asked(rt, hall, doors));
+            let ending = scope.spawn(move || end_when_asked(hall, doors));
             if ending.is_err() {
-                end_at_once(rt, hall, doors);
+                end_at_once(hall, doors);
             }
-            let sessions = scope.spawn(move || accept(rt, alloc, hall, gate, Kind::Session, doors));
-            let peers = scope.spawn(move || accept(rt, alloc, hall, gate, Kind::Link, doors));
+            let sessions = scope.spawn(move || accept(hall, Kind::Session, doors));
+            let peers = scope.spawn(move || accept(hall, Kind::Link, doors));
             let joining = match joined {
-                Some(joined) => scope
-                    .spawn(move || keep_joined(rt, alloc, hall, gate, joined))
-                    .is_ok(),
+                Some(joined) => scope.spawn(move || keep_joined(hall, joined)).is_ok(),
                 None => true,
             };
             let has_begun = ending.is_ok() && sessions.is_ok() && peers.is_ok() && joining;
             if !has_begun {
-                hall.ending.ask(rt, End::Stop);
+                hall.ending.ask(hall.rt, End::Stop);
             }
             // This thread is the flusher's.
-            flush_to_the_end(rt, hall, &mut flusher, gate);
+            flush_to_the_end(hall, &mut flusher);
             (has_begun, flusher)
         },
     )
@@ -198,62 +194,61 @@ fn run<
 
 /// Commits what the threads make, to their end or until the device fails. Then the daemon is asked
 /// to end, where it is to end for that: those who wait for a settlement were told before.
-fn flush_to_the_end<J: Desks, D: Disk, R: Wait + Clock, G: Gate>(
-    rt: &R,
-    hall: &Hall<J>,
+fn flush_to_the_end<D: Disk, R: Wait + Clock, J: BookNames, C: Checkpoint>(
+    hall: &Hall<R, J, C>,
     flusher: &mut Flusher<D>,
-    gate: &G,
 )
     ensures kept { IsFlusher D.DiskFacts flusher.new }
     ensures goes { Goes D.DiskFacts flusher.old flusher.new }
 {
-    flush(rt, &hall.shared, flusher, gate);
+    flush(hall.rt, &hall.shared, flusher, hall.checkpoint);
     flusher.kept();
     if flusher.has_failed() {
-        tell_failure(rt, hall);
+        tell_failure(hall);
     }
 }
 
 /// Tells that a commit failed, and asks the daemon to end where it is to end for that.
-fn tell_failure<J: Desks, R: Wait>(rt: &R, hall: &Hall<J>) {
+fn tell_failure<R: Wait, J: BookNames, C: Checkpoint>(hall: &Hall<R, J, C>) {
     let reason = Reason {
         code: FAILED,
         word: "failed",
     };
-    hall.tell(rt, &Event::CommitFailed { reason });
+    hall.tell(&Event::CommitFailed { reason });
     if hall.manner.ends_on_failure {
-        hall.ending.ask(rt, End::Failure);
+        hall.ending.ask(hall.rt, End::Failure);
     }
 }
 
 /// Asks the daemon to end, and ends all threads.
-fn end_at_once<J: Desks, R: Wait + Clock + Net<Listener = TcpListener, Stream = TcpStream>>(
-    rt: &R,
-    hall: &Hall<J>,
-    doors: &Doors,
-) {
-    hall.ending.ask(rt, End::Stop);
-    end_all(rt, hall, doors);
+fn end_at_once<
+    R: Wait + Clock + Net<Listener = TcpListener, Stream = TcpStream>,
+    J: BookNames,
+    C: Checkpoint,
+>(hall: &Hall<R, J, C>, doors: &Doors) {
+    hall.ending.ask(hall.rt, End::Stop);
+    end_all(hall, doors);
 }
 
 /// Waits until the daemon is asked to end, and ends all threads.
-fn end_when_asked<J: Desks, R: Wait + Clock + Net<Listener = TcpListener, Stream = TcpStream>>(
-    rt: &R,
-    hall: &Hall<J>,
-    doors: &Doors,
-) {
-    hall.ending.wait(rt);
-    end_all(rt, hall, doors);
+fn end_when_asked<
+    R: Wait + Clock + Net<Listener = TcpListener, Stream = TcpStream>,
+    J: BookNames,
+    C: Checkpoint,
+>(hall: &Hall<R, J, C>, doors: &Doors) {
+    hall.ending.wait(hall.rt);
+    end_all(hall, doors);
 }
 
 /// Ends all threads: nobody is let in any more, and those that are connected have a little time for
 /// their last words. For a renewal the sockets listen to the end, so that whoever comes meanwhile
 /// waits for the next turn.
-fn end_all<J: Desks, R: Wait + Clock + Net<Listener = TcpListener, Stream = TcpStream>>(
-    rt: &R,
-    hall: &Hall<J>,
-    doors: &Doors,
-) {
+fn end_all<
+    R: Wait + Clock + Net<Listener = TcpListener, Stream = TcpStream>,
+    J: BookNames,
+    C: Checkpoint,
+>(hall: &Hall<R, J, C>, doors: &Doors) {
+    let rt = hall.rt;
     hall.sessions.close(rt);
     hall.links.close_at_once(rt);
     hall.own_link.close_at_once(rt);

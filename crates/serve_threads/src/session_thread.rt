@@ -9,10 +9,10 @@ use crate::watch_thread::watch;
 use event_journal::{Event, Reason};
 use first_bytes::{FirstLine, FirstLook, FirstWatch};
 use fixed_numbers::refusals::{BUSY, MEMORY, STREAM};
-use pass_books::{Desks, Pass};
+use pass_books::{BookNames, Pass};
 use session_threads::{Session, SessionFault};
 use shared_desk::SharedDesk;
-use shared_hub::Gate;
+use shared_hub::Checkpoint;
 use std::alloc::Global;
 use std::io::Read;
 use std::net::TcpStream;
@@ -26,39 +26,36 @@ const TURN: u64 = 10;
 /// Serves a session whose connection is in the lobby, to its end, and gives its place back. One for
 /// which there is no memory is answered 8, and so is one that has the last place and asks first for
 /// anything but the status or a stop.
-pub(crate) fn serve_session<R: Wait + Clock, J: Desks, G: Gate>(
-    rt: &R,
-    alloc: Global,
-    hall: &Hall<J>,
-    gate: &G,
+pub(crate) fn serve_session<R: Wait + Clock, J: BookNames, C: Checkpoint>(
+    hall: &Hall<R, J, C>,
     entry: Entry,
     stream: &TcpStream,
 ) {
     let mut first = FirstLine::new();
-    let pass = if entry.has_last && !may_have_last(alloc, stream, &mut first) {
+    let pass = if entry.has_last && !may_have_last(hall.alloc, stream, &mut first) {
         None
     } else {
-        hall.sessions.take_pass(rt)
+        hall.sessions.take_pass(hall.rt)
     };
     let pass = match pass {
         Some(pass) => {
             let rest = UntilClosed {
-                rt,
+                rt: hall.rt,
                 lobby: &hall.sessions,
                 entry,
                 reader: stream,
             };
             let reader = first.chain(rest);
-            Some(serve(rt, alloc, hall, gate, entry, reader, stream, pass))
+            Some(serve(hall, entry, reader, stream, pass))
         }
         None => {
             refuse(stream);
             let reason = reason(BUSY, "busy");
-            hall.tell(rt, &Event::SessionRefused { reason });
+            hall.tell(&Event::SessionRefused { reason });
             None
         }
     };
-    hall.sessions.leave(rt, entry, pass);
+    hall.sessions.leave(hall.rt, entry, pass);
 }
 
 /// What ended a session.
@@ -93,46 +90,48 @@ fn refuse(stream: &TcpStream) {
 }
 
 /// Serves a session with this pass, and gives that back.
-fn serve<R: Wait + Clock, J: Desks, G: Gate, S: Read + Drop>(
-    rt: &R,
-    alloc: Global,
-    hall: &Hall<J>,
-    gate: &G,
+fn serve<R: Wait + Clock, J: BookNames, C: Checkpoint, S: Read + Drop>(
+    hall: &Hall<R, J, C>,
     entry: Entry,
     reader: S,
     stream: &TcpStream,
     pass: Pass<J>,
 ) -> Pass<J> {
     let session = entry.number;
-    hall.tell(rt, &Event::SessionUp { session });
+    hall.tell(&Event::SessionUp { session });
     // Each answer goes out at once: its sender waits for nothing behind it.
     let _ = stream.set_nodelay(true);
-    let mut desk = SharedDesk::new(rt, &hall.shared, &hall.read_turn, &hall.ending, gate, pass);
-    let served = serve_requests(rt, alloc, hall, reader, stream, &mut desk);
+    let mut desk = SharedDesk::new(
+        hall.rt,
+        &hall.shared,
+        &hall.read_turn,
+        &hall.ending,
+        hall.checkpoint,
+        pass,
+    );
+    let served = serve_requests(hall, reader, stream, &mut desk);
     let reason = reason_of(&served);
-    hall.tell(rt, &Event::SessionDown { session, reason });
+    hall.tell(&Event::SessionDown { session, reason });
     if let Err(SessionFault::Memory) = served {
         refuse(stream);
-    } else if hall.ending.is_asked(rt) {
+    } else if hall.ending.is_asked(hall.rt) {
         send_last_words(stream);
     }
     desk.into_pass()
 }
 
 /// Serves the requests of a session; or tells it of changes, if its first line asks for that.
-fn serve_requests<R: Wait + Clock, J: Desks, G: Gate, S: Read + Drop>(
-    rt: &R,
-    alloc: Global,
-    hall: &Hall<J>,
+fn serve_requests<R: Wait + Clock, J: BookNames, C: Checkpoint, S: Read + Drop>(
+    hall: &Hall<R, J, C>,
     reader: S,
     stream: &TcpStream,
-    desk: &mut SharedDesk<'_, R, J, G>,
+    desk: &mut SharedDesk<'_, R, J, C>,
 ) -> Result<(), SessionFault> {
-    let reader = FirstWatch::new(alloc, FirstLook::new(reader));
+    let reader = FirstWatch::new(hall.alloc, FirstLook::new(reader));
     let mut session = Session::new(reader, stream);
-    session.serve(alloc, desk)?;
+    session.serve(hall.alloc, desk)?;
     match session.reader.watch() {
-        Some(request) => watch(rt, alloc, hall, stream, request),
+        Some(request) => watch(hall, stream, request),
         None => Ok(()),
     }
 }

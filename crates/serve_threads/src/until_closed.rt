@@ -2,21 +2,21 @@
 
 use crate::entry::Entry;
 use crate::lobby::Lobby;
-use pass_books::Desks;
+use pass_books::BookNames;
 use std::io;
 use std::io::Read;
 use std::sync::Wait;
 
 /// A reader of a connection that ends once its lobby is closed.
 #[derive(Drop)]
-pub(crate) struct UntilClosed<'a, R: Wait, J: Desks, S: Read> {
+pub(crate) struct UntilClosed<'a, R: Wait, J: BookNames, S: Read> {
     pub rt: &'a R,
     pub lobby: &'a Lobby<J>,
     pub entry: Entry,
     pub reader: S,
 }
 
-impl<'a, R: Wait, J: Desks, S: Read> Read for UntilClosed<'a, R, J, S> {
+impl<'a, R: Wait, J: BookNames, S: Read> Read for UntilClosed<'a, R, J, S> {
     fn read(&mut self, buf: &mut [u8]) -> io::Result<usize> {
         if !self.lobby.begin_reading(self.rt, self.entry) {
             return Ok(0);

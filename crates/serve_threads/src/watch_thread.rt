@@ -3,11 +3,10 @@
 use crate::hall::Hall;
 use crate::last_words::send_last_words;
 use first_bytes::{Watch, has_to_wait};
-use pass_books::Desks;
+use pass_books::BookNames;
 use session_threads::SessionFault;
 use shared_desk::Ending;
-use shared_hub::{Shared, Watched};
-use std::alloc::Global;
+use shared_hub::{Checkpoint, Shared, Watched};
 use std::net::TcpStream;
 use std::rt::Clock;
 use std::sync::Wait;
@@ -21,16 +20,14 @@ const PATIENCE: u64 = 200;
 /// Tells a session of a document's changes, until its connection ends or something more comes over
 /// it, the daemon ends or nothing more is settled; before that it is told the newest number. What
 /// it was told comes to it, though it said more than was read.
-pub(crate) fn watch<R: Wait + Clock, J: Desks>(
-    rt: &R,
-    alloc: Global,
-    hall: &Hall<J>,
+pub(crate) fn watch<R: Wait + Clock, J: BookNames, C: Checkpoint>(
+    hall: &Hall<R, J, C>,
     stream: &TcpStream,
     watch: Watch,
 ) -> Result<(), SessionFault> {
-    let mut room = LineRoom::new(alloc)?;
+    let mut room = LineRoom::new(hall.alloc)?;
     let mut changes = Changes {
-        rt,
+        rt: hall.rt,
         shared: &hall.shared,
         ending: &hall.ending,
         stream,
@@ -39,10 +36,10 @@ pub(crate) fn watch<R: Wait + Clock, J: Desks>(
         is_over: false,
     };
     let mut writer = stream;
-    match serve_watch(alloc, &mut room, &mut writer, &mut changes) {
+    match serve_watch(hall.alloc, &mut room, &mut writer, &mut changes) {
         Ok(()) => {
             // At the daemon's end each session has its last words.
-            if !hall.ending.is_asked(rt) {
+            if !hall.ending.is_asked(hall.rt) {
                 send_last_words(stream);
             }
             Ok(())
@@ -53,7 +50,7 @@ pub(crate) fn watch<R: Wait + Clock, J: Desks>(
 
 /// The numbers of a document's settled operations, for one session.
 #[derive(Drop)]
-struct Changes<'a, R: Wait + Clock, J: Desks> {
+struct Changes<'a, R: Wait + Clock, J: BookNames> {
     rt: &'a R,
     shared: &'a Shared<J>,
     ending: &'a Ending,
@@ -65,7 +62,7 @@ struct Changes<'a, R: Wait + Clock, J: Desks> {
     is_over: bool,
 }
 
-impl<'a, R: Wait + Clock, J: Desks> Source for Changes<'a, R, J> {
+impl<'a, R: Wait + Clock, J: BookNames> Source for Changes<'a, R, J> {
     ghost use Rattle.std.specs.Prelude.{⊤};
 
     ghost gives = { λ _ _ _. ⊤ };
@@ -87,7 +84,7 @@ impl<'a, R: Wait + Clock, J: Desks> Source for Changes<'a, R, J> {
     }
 }
 
-impl<'a, R: Wait + Clock, J: Desks> Changes<'a, R, J> {
+impl<'a, R: Wait + Clock, J: BookNames> Changes<'a, R, J> {
     /// Whether the daemon was asked to end, or the session's input isn't still as it was.
     fn has_to_end(&self) -> bool {
         self.ending.is_asked(self.rt) || !is_silent(self.stream)

@@ -23,7 +23,7 @@ mod watch;
 pub use answer::{Answer, State};
 pub use answer_line::say;
 pub use command::Command;
-pub use line::serve_line;
+pub use line::read_command;
 pub use peer_list::PeerList;
 pub use refusal::Refusal;
 pub use span_list::SpanList;

@@ -14,7 +14,7 @@ use std::alloc::Global;
 /// UTF-8, `Request` (3) where it is no object with one of the nine requests as its `op`, `Field`
 /// (4) where a field is missing, unknown or breaks its rule; the first of these is given. `Memory`
 /// (1) where a growth was refused. The time is that of reading the line.
-pub fn serve_line(alloc: Global, line: &[u8]) -> Result<Command, Refusal>
+pub fn read_command(alloc: Global, line: &[u8]) -> Result<Command, Refusal>
     ensures ok { IfOk result (λ command. answer_to line.now ≡ Ok command) }
     ensures err { IfErr result (λ refusal. refusal ≢ Memory → answer_to line.now ≡ Err refusal) }
 {

@@ -10,7 +10,7 @@ use crate::desk::Desk;
 use crate::held_line::HeldLine;
 use crate::room::Room;
 use byte_streams::put;
-use session_lines::{Answer, Command, Refusal, serve_line};
+use session_lines::{Answer, Command, Refusal, read_command};
 use std::alloc::Global;
 use std::io;
 use std::io::Write;
@@ -20,7 +20,7 @@ fn take(alloc: Global, line: &HeldLine) -> Result<Command, Refusal>
     ensures { IsTaken line.now result }
 {
     match line.as_slice() {
-        Some(line) => serve_line(alloc, line),
+        Some(line) => read_command(alloc, line),
         None => Err(Refusal::Line),
     }
 }

@@ -2,24 +2,24 @@
 ghost use Rattle.std.specs.Prelude.{◌≡◌};
 
 use crate::ending::Ending;
-use pass_books::{Desks, Pass};
-use shared_hub::{Gate, Shared};
+use pass_books::{BookNames, Pass};
+use shared_hub::{Checkpoint, Shared};
 use std::marker::Model;
 use std::sync::{Mutex, Wait};
 
 /// A desk of one session over a shared hub, with the session's pass. A stop asks the daemon to end.
 /// Contracts see the pass: what it has entered are the kept steps of its number.
 #[derive(Drop)]
-pub struct SharedDesk<'a, R: Wait, J: Desks, G: Gate> {
+pub struct SharedDesk<'a, R: Wait, J: BookNames, C: Checkpoint> {
     pub(crate) rt: &'a R,
     pub(crate) shared: &'a Shared<J>,
     pub(crate) read_turn: &'a Mutex<()>,
     pub(crate) ending: &'a Ending,
-    pub(crate) gate: &'a G,
+    pub(crate) checkpoint: &'a C,
     pub(crate) pass: Pass<J>,
 }
 
-impl<'a, R: Wait, J: Desks, G: Gate> Model for SharedDesk<'a, R, J, G> {
+impl<'a, R: Wait, J: BookNames, C: Checkpoint> Model for SharedDesk<'a, R, J, C> {
     ghost use Rattle.pass_books.specs.Accounts.{PassHeld};
 
     ghost Value = { PassHeld };
@@ -27,7 +27,7 @@ impl<'a, R: Wait, J: Desks, G: Gate> Model for SharedDesk<'a, R, J, G> {
     ghost view = { λ d. d.pass };
 }
 
-impl<'a, R: Wait, J: Desks, G: Gate> SharedDesk<'a, R, J, G> {
+impl<'a, R: Wait, J: BookNames, C: Checkpoint> SharedDesk<'a, R, J, C> {
     /// The desk of a session with this pass, which is counted from now on. Those who read take
     /// turns by `read_turn`.
     pub fn new(
@@ -35,9 +35,9 @@ impl<'a, R: Wait, J: Desks, G: Gate> SharedDesk<'a, R, J, G> {
         shared: &'a Shared<J>,
         read_turn: &'a Mutex<()>,
         ending: &'a Ending,
-        gate: &'a G,
+        checkpoint: &'a C,
         pass: Pass<J>,
-    ) -> SharedDesk<'a, R, J, G>
+    ) -> SharedDesk<'a, R, J, C>
         ensures { result ≡ pass }
     {
         shared.note_session(rt);
@@ -46,7 +46,7 @@ impl<'a, R: Wait, J: Desks, G: Gate> SharedDesk<'a, R, J, G> {
             shared,
             read_turn,
             ending,
-            gate,
+            checkpoint,
             pass,
         }
     }

@@ -12,20 +12,20 @@ use crate::desk::SharedDesk;
 use crate::ending::End;
 use hub_parts::LockedRefusal;
 use op_model::Edit;
-use pass_books::Desks;
+use pass_books::BookNames;
 use session_lines::{Answer, Command, PeerList, Refusal, SpanList, State};
 use session_threads::{Desk, edit_refusal};
-use shared_hub::{Gate, Point, SharedRefusal, Shown};
+use shared_hub::{Checkpoint, Point, SharedRefusal, Shown};
 use std::alloc::Global;
 use std::sync::Wait;
 
-impl<'a, R: Wait, J: Desks, G: Gate> Desk for SharedDesk<'a, R, J, G> {
+impl<'a, R: Wait, J: BookNames, C: Checkpoint> Desk for SharedDesk<'a, R, J, C> {
     ghost use Rattle.shared_desk.specs.Serving.{Serves};
 
     ghost serves = { Serves };
 
     fn line_read(&mut self) {
-        self.gate.pass(Point::LineRead);
+        self.checkpoint.pass(Point::LineRead);
     }
 
     fn serve(&mut self, alloc: Global, command: Command) -> Answer {
@@ -40,7 +40,7 @@ impl<'a, R: Wait, J: Desks, G: Gate> Desk for SharedDesk<'a, R, J, G> {
     }
 }
 
-impl<'a, R: Wait, J: Desks, G: Gate> SharedDesk<'a, R, J, G> {
+impl<'a, R: Wait, J: BookNames, C: Checkpoint> SharedDesk<'a, R, J, C> {
     /// Makes an edit, and waits until it is settled: it is answered only if it is acknowledged. One
     /// that was made before, under its token, isn't refused after a stop, and if it is settled, not
     /// after a failure. One that finds no steps left (10) asks the daemon to open its file anew.
@@ -49,7 +49,7 @@ impl<'a, R: Wait, J: Desks, G: Gate> SharedDesk<'a, R, J, G> {
     {
         match self.shared.edit(self.rt, &mut self.pass, edit) {
             Ok(ticket) => {
-                self.gate.pass(Point::BeforeWait);
+                self.checkpoint.pass(Point::BeforeWait);
                 if self.shared.acknowledge(self.rt, &mut self.pass, ticket) {
                     Answer::Edited {
                         rev: ticket.rev as u64,

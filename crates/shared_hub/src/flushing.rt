@@ -2,12 +2,12 @@
 ghost use Rattle.hub_parts.specs.Flusher.{IsFlusher};
 ghost use Rattle.shared_hub.specs.Going.{Goes};
 
-use crate::gate::{Gate, Point};
+use crate::checkpoint::{Checkpoint, Point};
 use crate::shared::Shared;
 use disk_trait::Disk;
 use group_commit::{Phase, StoreError};
 use hub_parts::{Flusher, Met};
-use pass_books::Desks;
+use pass_books::BookNames;
 use std::io;
 use std::rt::Clock;
 use std::sync::Wait;
@@ -17,7 +17,7 @@ use std::time::{Duration, Instant};
 const PATIENCE: u64 = 1;
 
 /// How a try at a commit ended.
-enum Begun {
+enum Start {
     /// A commit is under way.
     UnderWay,
     /// There was nothing to commit, or it was given up.
@@ -32,27 +32,27 @@ enum Begun {
 /// it was settled, so that the next one serves all who are at work; but no longer than the commit
 /// took, nor than a millisecond, and not at all where the turns of as many edits take longer than
 /// the commit. When it has ended, whoever waits for a settlement is told that none comes.
-pub fn flush<R: Wait + Clock, D: Disk, J: Desks, G: Gate>(
+pub fn flush<R: Wait + Clock, D: Disk, J: BookNames, C: Checkpoint>(
     rt: &R,
     shared: &Shared<J>,
     flusher: &mut Flusher<D>,
-    gate: &G,
+    checkpoint: &C,
 )
     ensures kept { IsFlusher D.DiskFacts flusher.new }
     ensures goes { Goes D.DiskFacts flusher.old flusher.new }
 {
-    commit_each(rt, shared, flusher, gate);
+    commit_each(rt, shared, flusher, checkpoint);
     shared.end_flushing(rt);
     flusher.kept();
 }
 
 /// Makes one commit after the other, until the threads were asked to end or the device fails. It
 /// waits for the edits of a commit no longer than the commit before took.
-fn commit_each<R: Wait + Clock, D: Disk, J: Desks, G: Gate>(
+fn commit_each<R: Wait + Clock, D: Disk, J: BookNames, C: Checkpoint>(
     rt: &R,
     shared: &Shared<J>,
     flusher: &mut Flusher<D>,
-    gate: &G,
+    checkpoint: &C,
 )
     ensures { Goes D.DiskFacts flusher.old flusher.new }
 {
@@ -62,7 +62,7 @@ fn commit_each<R: Wait + Clock, D: Disk, J: Desks, G: Gate>(
             return;
         };
         let start = Instant::now(rt);
-        if !commit(rt, shared, flusher, gate, tries) {
+        if !commit(rt, shared, flusher, checkpoint, tries) {
             return;
         }
         patience = patience_since(rt, start);
@@ -83,44 +83,44 @@ fn patience_since<R: Clock>(rt: &R, start: io::Result<Instant>) -> Duration {
 
 /// Begins a commit of all that waits, makes its device calls and settles it. Answers whether the
 /// device still works.
-fn commit<R: Wait, D: Disk, J: Desks, G: Gate>(
+fn commit<R: Wait, D: Disk, J: BookNames, C: Checkpoint>(
     rt: &R,
     shared: &Shared<J>,
     flusher: &mut Flusher<D>,
-    gate: &G,
+    checkpoint: &C,
     tries: u32,
 ) -> bool
     ensures { Goes D.DiskFacts flusher.old flusher.new }
 {
     match begin(rt, shared, flusher, tries) {
-        Begun::UnderWay => {}
-        Begun::Without => return true,
-        Begun::Failed => return false,
+        Start::UnderWay => {}
+        Start::Without => return true,
+        Start::Failed => return false,
     }
-    gate.pass(Point::Begun);
-    go_through(rt, flusher, gate);
+    checkpoint.pass(Point::CommitBegun);
+    go_through(rt, flusher, checkpoint);
     if shared.settle(rt, flusher).is_err() {
         return false;
     }
-    gate.pass(Point::Settled);
+    checkpoint.pass(Point::Settled);
     true
 }
 
 /// Begins a commit. A begin that finds no memory is made again, at most so many times in a row;
 /// after that, and where the store has no room, it is given up.
-fn begin<R: Wait, D: Disk, J: Desks>(
+fn begin<R: Wait, D: Disk, J: BookNames>(
     rt: &R,
     shared: &Shared<J>,
     flusher: &mut Flusher<D>,
     tries: u32,
-) -> Begun
+) -> Start
     ensures { Goes D.DiskFacts flusher.old flusher.new }
 {
     for _ in 0..tries {
         match try_once(rt, shared, flusher) {
-            Ok(Met::Begun(_)) => return Begun::UnderWay,
-            Ok(_) => return Begun::Without,
-            Err(StoreError::Failed) => return Begun::Failed,
+            Ok(Met::Begun(_)) => return Start::UnderWay,
+            Ok(_) => return Start::Without,
+            Err(StoreError::Failed) => return Start::Failed,
             Err(StoreError::Memory) => {}
             Err(_) => return give_up(rt, shared),
         }
@@ -129,13 +129,13 @@ fn begin<R: Wait, D: Disk, J: Desks>(
 }
 
 /// Gives up the commit that was tried.
-fn give_up<R: Wait, J: Desks>(rt: &R, shared: &Shared<J>) -> Begun {
+fn give_up<R: Wait, J: BookNames>(rt: &R, shared: &Shared<J>) -> Start {
     shared.give_up(rt);
-    Begun::Without
+    Start::Without
 }
 
 /// Tries once to begin a commit.
-fn try_once<R: Wait, D: Disk, J: Desks>(
+fn try_once<R: Wait, D: Disk, J: BookNames>(
     rt: &R,
     shared: &Shared<J>,
     flusher: &mut Flusher<D>,
@@ -149,13 +149,13 @@ fn try_once<R: Wait, D: Disk, J: Desks>(
 }
 
 /// Makes the device calls of the commit under way, until it is through or one of them fails.
-fn go_through<R: Wait, D: Disk, G: Gate>(rt: &R, flusher: &mut Flusher<D>, gate: &G)
+fn go_through<R: Wait, D: Disk, C: Checkpoint>(rt: &R, flusher: &mut Flusher<D>, checkpoint: &C)
     ensures { Goes D.DiskFacts flusher.old flusher.new }
 {
     for _ in rt.forever() {
         match device_call(flusher) {
             Ok(phase) => {
-                gate.pass(Point::DeviceCall);
+                checkpoint.pass(Point::DeviceCall);
                 if matches!(phase, Phase::Sync3 | Phase::Idle) {
                     return;
                 }

@@ -5,7 +5,7 @@ ghost use Rattle.shared_hub.specs.Books.{BooksFit, ends_of};
 
 use crate::turns::Turns;
 use hub_parts::Locked;
-use pass_books::{Books, Desks, Pass};
+use pass_books::{BookNames, Books, Pass};
 use std::marker::Model;
 
 /// What stands under the lock of a shared hub: its locked part, the books of the passes, and
@@ -14,14 +14,14 @@ use std::marker::Model;
 /// The type keeps that each book has an entry for each kept step of its number: how long the list
 /// was behind that step. None of its calls waits, and none makes a device call.
 #[derive(Drop)]
-pub struct Guarded<J: Desks> {
+pub struct Guarded<J: BookNames> {
     pub(crate) locked: Locked,
     pub(crate) books: Books<J>,
     pub(crate) is_stopping: bool,
     pub(crate) turns: Turns,
 }
 
-impl<J: Desks> Model for Guarded<J> {
+impl<J: BookNames> Model for Guarded<J> {
     ghost use Rattle.shared_hub.specs.Books.{BooksFit};
     ghost use Rattle.shared_hub.specs.Guarded.{GuardedHeld};
 
@@ -32,7 +32,7 @@ impl<J: Desks> Model for Guarded<J> {
     ghost invariant = { λ g. BooksFit g.locked.replica.steps g.books };
 }
 
-impl<J: Desks> Guarded<J> {
+impl<J: BookNames> Guarded<J> {
     /// A locked part beside books that fit its steps. It takes edits.
     pub(crate) fn new(locked: Locked, books: Books<J>) -> Guarded<J>
         requires { BooksFit locked.replica.steps books }

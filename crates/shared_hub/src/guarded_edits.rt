@@ -12,10 +12,10 @@ ghost use Rattle.shared_hub.specs.declared.refusal.SharedRefusal.TheVariants.{St
 use crate::guarded::Guarded;
 use crate::refusal::SharedRefusal;
 use op_model::{Edit, Op};
-use pass_books::{Desks, Pass};
+use pass_books::{BookNames, Pass};
 use replica_core::{Merged, Ticket};
 
-impl<J: Desks> Guarded<J> {
+impl<J: BookNames> Guarded<J> {
     /// Makes an edit, as a step of the pass's number, and enters it. An edit that was made before,
     /// under its token, has the ticket that it had then, and is no step. Refuses another one with
     /// 12 if it was asked to stop, else as `Locked::edit` does (9, 6, 5, 7, 10, 8, 1). A refused

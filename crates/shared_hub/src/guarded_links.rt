@@ -5,9 +5,9 @@ ghost use Rattle.op_model.specs.Causality.{clock_of};
 ghost use Rattle.shared_hub.specs.Shared.{Moment};
 
 use crate::guarded::Guarded;
-use pass_books::Desks;
+use pass_books::BookNames;
 
-impl<J: Desks> Guarded<J> {
+impl<J: BookNames> Guarded<J> {
     /// Takes no more edits, as after a stop, if a peer counts more operations of this replica than
     /// the list has, and answers whether it does: the file was put back from an older copy, and an
     /// edit would give a name again that the peer has seen. The links are over then, too.

@@ -9,11 +9,11 @@ use crate::guarded::Guarded;
 use crate::shown::Shown;
 use crate::status::Status;
 use op_model::{Span, Text};
-use pass_books::Desks;
+use pass_books::BookNames;
 use peer_counts::PeerCounts;
 use std::alloc::{AllocError, Global};
 
-impl<J: Desks> Guarded<J> {
+impl<J: BookNames> Guarded<J> {
     /// How far it is. Takes no memory. Constant.
     pub fn status(&self) -> Status
         ensures { result ≡ record {

@@ -9,10 +9,10 @@ use crate::guarded::Guarded;
 use crate::refusal::SharedRefusal;
 use op_ids::Clock;
 use op_model::Op;
-use pass_books::Desks;
+use pass_books::BookNames;
 use replica_core::Ticket;
 
-impl<J: Desks> Guarded<J> {
+impl<J: BookNames> Guarded<J> {
     /// Whether the operations of a ticket's edit are settled. Then they are acknowledged; otherwise
     /// nothing changes. Takes no memory. Constant.
     pub fn ack(&mut self, ticket: Ticket) -> bool

@@ -10,7 +10,7 @@ use crate::guarded::Guarded;
 use crate::news::News;
 use crate::rooms::ROOMS;
 use hub_parts::BEGIN_TRIES;
-use pass_books::{Desks, Pass};
+use pass_books::{BookNames, Pass};
 use replica_core::Ticket;
 use std::time::Duration;
 
@@ -18,7 +18,7 @@ use std::time::Duration;
 /// makes of that, and the edit itself.
 const TURN: u64 = 20;
 
-impl<J: Desks> Guarded<J> {
+impl<J: BookNames> Guarded<J> {
     /// Acknowledges a ticket if its operations are settled, also after a failure; else says whether
     /// to wait for that.
     pub(crate) fn try_ack(&mut self, pass: &mut Pass<J>, ticket: Ticket) -> Awaited

@@ -4,9 +4,9 @@ ghost use Rattle.shared_hub.specs.Watching.{HasNoRev, IsWatched};
 
 use crate::guarded::Guarded;
 use crate::watched::Watched;
-use pass_books::Desks;
+use pass_books::BookNames;
 
-impl<J: Desks> Guarded<J> {
+impl<J: BookNames> Guarded<J> {
     /// What a document has come to for one who has seen it with so many settled operations, or
     /// hasn't seen it (`None`). Takes no memory. Costs what `Locked::settled_rev` does.
     pub(crate) fn watched(&self, doc: u32, seen: Option<u64>) -> Watched

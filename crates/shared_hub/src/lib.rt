@@ -6,9 +6,9 @@
 #![tactic(auto)]
 
 mod awaited;
+mod checkpoint;
 mod connected;
 mod flushing;
-mod gate;
 mod guarded;
 mod guarded_edits;
 mod guarded_links;
@@ -33,8 +33,8 @@ mod status;
 mod turns;
 mod watched;
 
+pub use checkpoint::{Checkpoint, NoCheckpoint, Point};
 pub use flushing::flush;
-pub use gate::{Gate, NoGate, Point};
 pub use guarded::Guarded;
 pub use news::News;
 pub use opening::{Named, Opened, PASSES};

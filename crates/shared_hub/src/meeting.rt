@@ -8,9 +8,9 @@ use crate::guarded::Guarded;
 use disk_trait::Disk;
 use group_commit::StoreError;
 use hub_parts::{Flusher, Met};
-use pass_books::Desks;
+use pass_books::BookNames;
 
-impl<J: Desks> Guarded<J> {
+impl<J: BookNames> Guarded<J> {
     /// Meets the flusher, as `Flusher::meet` says: a commit of all that waits begins, or one whose
     /// device calls are all made is settled. Refuses as that does (44, 8, 7, 1).
     pub fn meet<D: Disk>(&mut self, flusher: &mut Flusher<D>) -> Result<Met, StoreError>

@@ -6,7 +6,7 @@ ghost use Rattle.shared_hub.specs.Books.{new_passes};
 use crate::guarded::Guarded;
 use crate::shared::Shared;
 use hub_parts::Locked;
-use pass_books::{Book, Books, Desks, Pass, Share, open};
+use pass_books::{Book, BookNames, Books, Pass, Share, open};
 use std::alloc::{AllocError, Global};
 use std::marker::Model;
 
@@ -37,7 +37,7 @@ impl Model for Opened {
 
 /// A shared hub, and its passes.
 #[derive(Drop)]
-pub struct Named<J: Desks> {
+pub struct Named<J: BookNames> {
     pub shared: Shared<J>,
     /// They are numbered from 1, in this order.
     pub passes: Vec<Pass<J>>,
@@ -59,7 +59,7 @@ impl Opened {
 
     /// Puts the locked part of a hub that has made no step under a lock, with these books. Gives 40
     /// passes, numbered from 1. An error is out of memory (1).
-    pub fn share<J: Desks>(self, alloc: Global, locked: Locked) -> Result<Named<J>, AllocError>
+    pub fn share<J: BookNames>(self, alloc: Global, locked: Locked) -> Result<Named<J>, AllocError>
         requires names { self ≡ J.names }
         requires fresh { locked.replica.steps ≡ [] }
         // The pass with number 0 is left out.
@@ -75,7 +75,7 @@ impl Opened {
 }
 
 /// The passes with these shares, by number. An error is out of memory (1).
-fn numbered<J: Desks>(alloc: Global, shares: Vec<Share>) -> Result<Vec<Pass<J>>, AllocError>
+fn numbered<J: BookNames>(alloc: Global, shares: Vec<Share>) -> Result<Vec<Pass<J>>, AllocError>
     requires names { names_of shares.items ≡ J.names }
     requires fresh { All (λ (s : Account). s.entries ≡ []) shares.items }
     ensures { IfOk result (λ passes. passes.items ≡ new_passes (length J.names)) }

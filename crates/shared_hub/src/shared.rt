@@ -12,7 +12,7 @@ use crate::guarded::Guarded;
 use crate::refusal::SharedRefusal;
 use crate::rooms::Rooms;
 use op_model::{Edit, Op};
-use pass_books::{Desks, Pass};
+use pass_books::{BookNames, Pass};
 use replica_core::{Merged, Ticket};
 use std::sync::{Condvar, Mutex, Wait};
 
@@ -20,7 +20,7 @@ use std::sync::{Condvar, Mutex, Wait};
 /// Each call holds the lock once, or once for each time that it looks whether its wait is over; no
 /// call makes a device call. A call that takes the lock may wait.
 #[derive(Drop)]
-pub struct Shared<J: Desks> {
+pub struct Shared<J: BookNames> {
     pub(crate) guarded: Mutex<Guarded<J>>,
     /// Those who wait for the settlement of a commit with an even number, and with an odd one.
     even: Condvar,
@@ -35,7 +35,7 @@ pub struct Shared<J: Desks> {
     pub(crate) connected: Mutex<Connected>,
 }
 
-impl<J: Desks> Shared<J> {
+impl<J: BookNames> Shared<J> {
     pub(crate) fn new(guarded: Guarded<J>) -> Shared<J> {
         Shared {
             guarded: Mutex::new(guarded),

@@ -5,10 +5,10 @@ ghost use Rattle.op_model.specs.Causality.{clock_of};
 ghost use Rattle.shared_hub.specs.Shared.{Moment};
 
 use crate::shared::Shared;
-use pass_books::Desks;
+use pass_books::BookNames;
 use std::sync::Wait;
 
-impl<J: Desks> Shared<J> {
+impl<J: BookNames> Shared<J> {
     /// Refuses all further edits and merges with 12, if a peer counts more operations of this
     /// replica than the list has, and answers whether it does: the file was put back from an older
     /// copy. All links are over then, too. Takes no memory; a search in the clock.

@@ -6,12 +6,12 @@ ghost use Rattle.shared_hub.specs.Shared.{MomentOf};
 use crate::connected::Peer;
 use crate::shared::Shared;
 use op_ids::{Clock, ReplicaId};
-use pass_books::{Desks, Pass};
+use pass_books::{BookNames, Pass};
 use peer_counts::PeerCounts;
 use std::alloc::{AllocError, Global};
 use std::sync::Wait;
 
-impl<J: Desks> Shared<J> {
+impl<J: BookNames> Shared<J> {
     /// Notes what the peer of the link of this number has said that it has.
     pub fn note_peer<R: Wait>(&self, rt: &R, link: usize, replica: ReplicaId, its: Clock) {
         self.connected.lock(rt).note(link, Peer { replica, its });

@@ -8,11 +8,11 @@ use crate::shared::Shared;
 use crate::shown::Shown;
 use crate::status::Status;
 use op_model::{Span, Text};
-use pass_books::{Desks, Pass};
+use pass_books::{BookNames, Pass};
 use std::alloc::AllocError;
 use std::sync::Wait;
 
-impl<J: Desks> Shared<J> {
+impl<J: BookNames> Shared<J> {
     /// How far the hub is. Takes no memory. Constant.
     pub fn status<R: Wait>(&self, rt: &R, pass: &mut Pass<J>) -> Status
         ensures same { pass.new ≡ pass.old }

@@ -11,10 +11,10 @@ use group_commit::StoreError;
 use hub_parts::{Flusher, Met};
 use op_ids::Clock;
 use op_model::Op;
-use pass_books::Desks;
+use pass_books::BookNames;
 use std::sync::Wait;
 
-impl<J: Desks> Shared<J> {
+impl<J: BookNames> Shared<J> {
     /// The first settled operations, at most 64 in the order of the list, that a clock doesn't
     /// count. They count as told. An error is out of memory (1). Costs what `Locked::tell` does.
     pub fn tell<R: Wait>(&self, rt: &R, clock: &Clock) -> Result<Vec<Op>, SharedRefusal>

@@ -8,7 +8,7 @@ use crate::guarded::Guarded;
 use crate::news::News;
 use crate::shared::Shared;
 use hub_parts::BEGIN_TRIES;
-use pass_books::{Desks, Pass};
+use pass_books::{BookNames, Pass};
 use replica_core::Ticket;
 use std::rt::Clock;
 use std::sync::{MutexGuard, Wait};
@@ -18,7 +18,7 @@ use std::time::Duration;
 /// and a peer that waits for it to be settled tells nothing else.
 const ANEW: u64 = 2_000;
 
-impl<J: Desks> Shared<J> {
+impl<J: BookNames> Shared<J> {
     /// Waits until the operations of a ticket are settled, and acknowledges them; else the device
     /// failed, no commit could begin, or the flusher has ended (9). Those that are settled it
     /// acknowledges whatever has failed. Wakes for the settlement of its commit alone.

@@ -5,12 +5,12 @@ ghost use Rattle.shared_hub.specs.Watching.{HasSeen, IfRev, IsNewer, UnlessRev, 
 
 use crate::shared::Shared;
 use crate::watched::Watched;
-use pass_books::Desks;
+use pass_books::BookNames;
 use std::rt::Clock;
 use std::sync::Wait;
 use std::time::Duration;
 
-impl<J: Desks> Shared<J> {
+impl<J: BookNames> Shared<J> {
     /// Waits until a document has more settled operations than were seen, and gives how many it
     /// has; at once for one who hasn't seen it (`None`). Waits for so long at most, and no longer
     /// once the device failed or the flusher has ended. Takes no memory. It looks at the

@@ -3,7 +3,7 @@ ghost use Rattle.std.specs.Prelude.{◌≡◌};
 
 use crate::test_hubs::{insert, parts, replica};
 use op_ids::Clock;
-use pass_books::{Desks, Pass};
+use pass_books::{BookNames, Pass};
 use shared_hub::{Named, Opened, Shared};
 use std::alloc::Global;
 use std::marker::Brand;
@@ -21,7 +21,7 @@ fn clock(alloc: Global, last: u8, count: u64) -> Option<Clock> {
 }
 
 /// Notes that the peer of a link, whose name ends in this byte, has that.
-fn link<J: Desks, R: Wait>(
+fn link<J: BookNames, R: Wait>(
     rt: &R,
     shared: &Shared<J>,
     link: usize,
@@ -34,7 +34,7 @@ fn link<J: Desks, R: Wait>(
 
 /// How many rows there are, and what the last one says: the replica's last byte, how many
 /// operations that has, and how many it lacks.
-fn rows<J: Desks, R: Wait>(
+fn rows<J: BookNames, R: Wait>(
     rt: &R,
     alloc: Global,
     shared: &Shared<J>,
@@ -47,7 +47,7 @@ fn rows<J: Desks, R: Wait>(
 
 /// The rows beside two operations: with the second link, with the first one too, and once that has
 /// ended.
-fn rows_in_turn<J: Desks, R: Wait>(
+fn rows_in_turn<J: BookNames, R: Wait>(
     rt: &R,
     alloc: Global,
     shared: &Shared<J>,
@@ -65,7 +65,7 @@ fn rows_in_turn<J: Desks, R: Wait>(
 }
 
 /// How many sessions there are while two come and one goes.
-fn sessions<J: Desks, R: Wait>(rt: &R, shared: &Shared<J>) -> [u64; 3] {
+fn sessions<J: BookNames, R: Wait>(rt: &R, shared: &Shared<J>) -> [u64; 3] {
     let none = shared.sessions(rt);
     shared.note_session(rt);
     shared.note_session(rt);
@@ -75,7 +75,7 @@ fn sessions<J: Desks, R: Wait>(rt: &R, shared: &Shared<J>) -> [u64; 3] {
 }
 
 /// The rows and the sessions of a new replica's hub.
-fn connected<J: Desks, R: Wait>(
+fn connected<J: BookNames, R: Wait>(
     rt: &R,
     alloc: Global,
     opened: Opened,

@@ -4,8 +4,8 @@ ghost use Rattle.std.specs.Prelude.{◌≡◌};
 use crate::test_hubs::{insert, parts};
 use disk_trait::MemDisk;
 use hub_parts::{Flusher, Parts};
-use pass_books::{Desks, Pass};
-use shared_hub::{Named, NoGate, Opened, Shared, flush};
+use pass_books::{BookNames, Pass};
+use shared_hub::{Named, NoCheckpoint, Opened, Shared, flush};
 use std::alloc::Global;
 use std::marker::Brand;
 use std::rt::Clock;
@@ -18,7 +18,7 @@ const EDITS: u64 = 50;
 
 // Makes the edits, each of which is acknowledged before the next one. Gives how many entries the
 // pass has then.
-fn make_edits<R: Wait, J: Desks>(
+fn make_edits<R: Wait, J: BookNames>(
     rt: &R,
     alloc: Global,
     shared: &Shared<J>,
@@ -36,7 +36,7 @@ fn make_edits<R: Wait, J: Desks>(
 
 // Four threads edit beside the flusher's. Gives how many entries their passes have in all, and how
 // many operations the list has then, where the two parts fit.
-fn four_edit<J: Desks + Send + Sync, R: Wait + Clock + Threads + Sync>(
+fn four_edit<J: BookNames + Send + Sync, R: Wait + Clock + Threads + Sync>(
     rt: &R,
     alloc: Global,
     opened: Opened,
@@ -60,7 +60,7 @@ fn four_edit<J: Desks + Send + Sync, R: Wait + Clock + Threads + Sync>(
 }
 
 // Four threads edit while this one flushes.
-fn edit_beside<J: Desks + Send + Sync, R: Wait + Clock + Threads + Sync>(
+fn edit_beside<J: BookNames + Send + Sync, R: Wait + Clock + Threads + Sync>(
     rt: &R,
     alloc: Global,
     shared: &Shared<J>,
@@ -74,13 +74,13 @@ fn edit_beside<J: Desks + Send + Sync, R: Wait + Clock + Threads + Sync>(
             shared.close(rt);
         });
         if editing.is_ok() {
-            flush(rt, shared, flusher, &NoGate);
+            flush(rt, shared, flusher, &NoCheckpoint);
         }
     });
 }
 
 // Four threads edit, each with a pass of its own.
-fn all_edit<J: Desks + Send + Sync, R: Wait + Threads + Sync>(
+fn all_edit<J: BookNames + Send + Sync, R: Wait + Threads + Sync>(
     rt: &R,
     alloc: Global,
     shared: &Shared<J>,
@@ -108,7 +108,7 @@ fn four_threads_edit(rt: HostRuntime) -> Result<(), Fail> {
 }
 
 // Whether an edit behind the flusher's end is acknowledged, and whether a stop finds all settled.
-fn waits_behind_the_end<J: Desks, R: Wait>(
+fn waits_behind_the_end<J: BookNames, R: Wait>(
     rt: &R,
     alloc: Global,
     shared: &Shared<J>,
@@ -122,7 +122,7 @@ fn waits_behind_the_end<J: Desks, R: Wait>(
 }
 
 // Ends the flusher, and then edits and stops.
-fn edit_behind_the_end<J: Desks, R: Wait + Clock>(
+fn edit_behind_the_end<J: BookNames, R: Wait + Clock>(
     rt: &R,
     alloc: Global,
     opened: Opened,
@@ -135,7 +135,7 @@ fn edit_behind_the_end<J: Desks, R: Wait + Clock>(
     } = parts(alloc)?;
     let Named { shared, passes } = opened.share::<J>(alloc, locked).ok()?;
     shared.close(rt);
-    flush(rt, &shared, &mut flusher, &NoGate);
+    flush(rt, &shared, &mut flusher, &NoCheckpoint);
     waits_behind_the_end(rt, alloc, &shared, passes)
 }
 

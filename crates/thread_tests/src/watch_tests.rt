@@ -4,8 +4,8 @@ ghost use Rattle.std.specs.Prelude.{◌≡◌};
 use crate::test_hubs::{insert, parts};
 use disk_trait::MemDisk;
 use hub_parts::{Flusher, Parts};
-use pass_books::{Desks, Pass};
-use shared_hub::{Named, NoGate, Opened, Shared, Watched, flush};
+use pass_books::{BookNames, Pass};
+use shared_hub::{Named, NoCheckpoint, Opened, Shared, Watched, flush};
 use std::alloc::Global;
 use std::marker::Brand;
 use std::rt::Clock;
@@ -18,7 +18,7 @@ use std::time::Duration;
 const LONG: u64 = 60;
 
 // Edits a document, and waits for the settlement if that is asked for.
-fn edit<J: Desks, R: Wait>(
+fn edit<J: BookNames, R: Wait>(
     rt: &R,
     alloc: Global,
     shared: &Shared<J>,
@@ -36,7 +36,7 @@ fn edit<J: Desks, R: Wait>(
 
 // What document 1 has come to for one who waits until its first edit is settled, and then, with
 // that seen, at once: as it is, and beside a settled edit of document 2.
-fn watched<J: Desks, R: Wait + Clock>(
+fn watched<J: BookNames, R: Wait + Clock>(
     rt: &R,
     alloc: Global,
     shared: &Shared<J>,
@@ -49,7 +49,7 @@ fn watched<J: Desks, R: Wait + Clock>(
 }
 
 // Watches while this thread flushes.
-fn watch_beside<J: Desks + Send + Sync, R: Wait + Clock + Threads + Sync>(
+fn watch_beside<J: BookNames + Send + Sync, R: Wait + Clock + Threads + Sync>(
     rt: &R,
     alloc: Global,
     shared: &Shared<J>,
@@ -64,14 +64,14 @@ fn watch_beside<J: Desks + Send + Sync, R: Wait + Clock + Threads + Sync>(
             shared.close(rt);
         });
         if watching.is_ok() {
-            flush(rt, shared, flusher, &NoGate);
+            flush(rt, shared, flusher, &NoCheckpoint);
         }
     });
 }
 
 // What document 1 has come to beside an edit that isn't settled, for one who hasn't seen it and for
 // one who has.
-fn unsettled<J: Desks, R: Wait + Clock>(
+fn unsettled<J: BookNames, R: Wait + Clock>(
     rt: &R,
     alloc: Global,
     shared: &Shared<J>,
@@ -85,7 +85,7 @@ fn unsettled<J: Desks, R: Wait + Clock>(
 }
 
 // What it has come to after the flusher's end, for one who has seen all, and for one who hasn't.
-fn after_the_end<J: Desks, R: Wait + Clock>(rt: &R, shared: &Shared<J>) -> [Watched; 2] {
+fn after_the_end<J: BookNames, R: Wait + Clock>(rt: &R, shared: &Shared<J>) -> [Watched; 2] {
     [
         shared.watch(rt, 1, Some(1), Duration::from_secs(LONG)),
         shared.watch(rt, 1, Some(0), Duration::from_secs(LONG)),
@@ -93,7 +93,7 @@ fn after_the_end<J: Desks, R: Wait + Clock>(rt: &R, shared: &Shared<J>) -> [Watc
 }
 
 // All of this in turn.
-fn all_watched<J: Desks + Send + Sync, R: Wait + Clock + Threads + Sync>(
+fn all_watched<J: BookNames + Send + Sync, R: Wait + Clock + Threads + Sync>(
     rt: &R,
     alloc: Global,
     opened: Opened,

@@ -9,7 +9,7 @@ pub of-requires : goal.of-requires
 of-requires g c =
     let behind = c.next.new.self.rest.items in
     let is = sym c.loop-share.invariant.0 ∙ ap names_of c.in-Some.ensures.steps.0 in
-    rw c.len.ensures ((next_of g.J.Desks.names (vec_len c.loop-share.passes) c.in-Some.share.name (names_of behind) is).0)
+    rw c.len.ensures ((next_of g.J.BookNames.names (vec_len c.loop-share.passes) c.in-Some.share.name (names_of behind) is).0)
 
 pub loop-share-preserved : goal.loop-share-preserved
 loop-share-preserved g c =
@@ -18,8 +18,8 @@ loop-share-preserved g c =
     let is = sym c.loop-share.invariant.0 ∙ ap names_of c.in-Some.ensures.steps.0 in
     let left : All (λ (s : Account). s.entries ≡ []) (share ∷ behind) = rw c.in-Some.ensures.steps.0 at c.loop-share.invariant.1 in
     let both = all_behind (λ (s : Account). s.entries ≡ []) share behind left in
-    let next = next_of g.J.Desks.names (vec_len c.loop-share.passes) share.name (names_of behind) is in
-    let within : vec_len c.loop-share.passes < length g.J.Desks.names = slice_get_within _ _ _ next.0 in (
+    let next = next_of g.J.BookNames.names (vec_len c.loop-share.passes) share.name (names_of behind) is in
+    let within : vec_len c.loop-share.passes < length g.J.BookNames.names = slice_get_within _ _ _ next.0 in (
       rw c.in_ok-push.ensures.len (sym next.1),
       both.1,
       rw (c.in_ok-push.ensures.items, c.in_ok-push.ensures.len) (one_more c.loop-share.passes.items c.of.result (vec_len c.loop-share.passes) c.loop-share.invariant.2

@@ -6,7 +6,7 @@ use Rattle.shared_hub.proofs.opening.numbered.Given as goal
 -- the passes so far are the first ones; the shares that are left have the names behind those of the passes, and no entries
 abbrev pub invariant-loop-share : goal.invariant-loop-share
 invariant-loop-share g l =
-    (names_of l.share-iterator.rest.items ≡ drop (vec_len l.passes) g.J.Desks.names)
+    (names_of l.share-iterator.rest.items ≡ drop (vec_len l.passes) g.J.BookNames.names)
     × All (λ (s : Account). s.entries ≡ []) l.share-iterator.rest.items
     × (l.passes.items ≡ new_passes (vec_len l.passes))
-    × (vec_len l.passes ≤ length g.J.Desks.names)
+    × (vec_len l.passes ≤ length g.J.BookNames.names)

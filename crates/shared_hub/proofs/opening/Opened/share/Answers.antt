@@ -16,9 +16,9 @@ counted v = grind arith
 -- the passes are all but the one with number 0
 pub returns : goal.returns
 returns g c =
-    let names : length (names_of c.self.inside.books.items) ≡ length g.J.Desks.names = ap length (c.self.view_is ∙ c.requires.names) in
+    let names : length (names_of c.self.inside.books.items) ≡ length g.J.BookNames.names = ap length (c.self.view_is ∙ c.requires.names) in
     let books : length c.self.inside.books.items ≡ 41 = sym (counted c.self.inside.books) ∙ c.self.invariant.0 in
-    let count : length g.J.Desks.names ≡ 41 = sym names ∙ length-map c.self.inside.books.items (λ (a : Account). a.name) ∙ books in
+    let count : length g.J.BookNames.names ≡ 41 = sym names ∙ length-map c.self.inside.books.items (λ (a : Account). a.name) ∙ books in
     let all : c.in_ok-all.all.items ≡ new_passes 41 = c.in_ok-all.ensures ∙ ap new_passes count in
     let many : vec_len c.in_ok-all.all ≡ 41 = counted c.in_ok-all.all ∙ ap length all ∙ length_new 41 in
     let least : c.min.result ≡ 1 = grind (arith, c.min.ensures, c.len.ensures, many) in

@@ -1,7 +1,7 @@
-//! A gate that holds the flusher up until a session was served.
+//! A checkpoint that holds the flusher up until a session was served.
 
 use crate::test_daemons::Talk;
-use shared_hub::{Gate, Point};
+use shared_hub::{Checkpoint, Point};
 use std::alloc::Global;
 use std::net::{Net, TcpListener, TcpStream};
 use std::rt::Clock;
@@ -18,10 +18,10 @@ pub enum Progress {
     Behind,
 }
 
-/// A gate that holds the flusher up behind its first device call, until a session of the gate's own
+/// A checkpoint that holds the flusher up behind its first device call, until a session of its own
 /// is told what it waits for.
 #[derive(Drop)]
-pub struct AskingGate<'a, R> {
+pub struct AskingCheckpoint<'a, R> {
     rt: &'a R,
     alloc: Global,
     /// The sessions' port.
@@ -34,16 +34,16 @@ pub struct AskingGate<'a, R> {
     is_told: Mutex<bool>,
 }
 
-impl<'a, R: Wait> AskingGate<'a, R> {
-    /// A gate that waits for this answer to a request.
+impl<'a, R: Wait> AskingCheckpoint<'a, R> {
+    /// A checkpoint that waits for this answer to a request.
     pub fn new(
         rt: &'a R,
         alloc: Global,
         port: u16,
         request: &'static str,
         answer: &'static str,
-    ) -> AskingGate<'a, R> {
-        AskingGate {
+    ) -> AskingCheckpoint<'a, R> {
+        AskingCheckpoint {
             rt,
             alloc,
             port,
@@ -63,7 +63,7 @@ impl<'a, R: Wait> AskingGate<'a, R> {
             .wait_while(self.rt, held, |held| *held == Progress::Before);
     }
 
-    /// Whether the answer came that the gate waited for.
+    /// Whether the answer came that it waited for.
     pub fn is_told(&self) -> bool {
         *self.is_told.lock(self.rt)
     }
@@ -79,8 +79,8 @@ impl<'a, R: Wait> AskingGate<'a, R> {
     }
 }
 
-impl<'a, R: Wait + Clock + Net<Listener = TcpListener, Stream = TcpStream>> Gate
-    for AskingGate<'a, R> {
+impl<'a, R: Wait + Clock + Net<Listener = TcpListener, Stream = TcpStream>> Checkpoint
+    for AskingCheckpoint<'a, R> {
     fn pass(&self, point: Point) {
         if point != Point::DeviceCall || *self.held.lock(self.rt) != Progress::Before {
             return;

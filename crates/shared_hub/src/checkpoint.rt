@@ -8,7 +8,7 @@ pub enum Point {
     /// 2: a session is about to wait for a settlement.
     BeforeWait,
     /// 3: the flusher has begun a commit.
-    Begun,
+    CommitBegun,
     /// 4: the flusher has made a device call.
     DeviceCall,
     /// 5: the flusher has settled a commit.
@@ -17,16 +17,16 @@ pub enum Point {
     FrameRead,
 }
 
-/// A gate that each thread passes at each point, with no lock held. It may wait there.
-pub trait Gate {
-    /// Passes the gate at this point.
+/// What each thread passes at each point, with no lock held. It may wait there.
+pub trait Checkpoint {
+    /// Passes this point.
     fn pass(&self, point: Point);
 }
 
-/// A gate that lets all pass at once.
+/// One that lets all pass at once.
 #[derive(Clone, Copy, Debug, Drop)]
-pub struct NoGate;
+pub struct NoCheckpoint;
 
-impl Gate for NoGate {
+impl Checkpoint for NoCheckpoint {
     fn pass(&self, _point: Point) {}
 }
