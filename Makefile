@@ -1,5 +1,5 @@
 # The commands of the repository. `make test` is the gate.
-.PHONY: run test quick peritext install demo test-demo
+.PHONY: run test quick unproved peritext install demo test-demo
 
 PROGRAM = crates/edit_shell/out/edit_shell
 
@@ -30,6 +30,10 @@ quick:
 	@mkdir -p bin; rm -f bin/sources; $(SUM) > bin/asked
 	python3 tools/quick.py
 	@if $(SUM) | cmp -s - bin/asked; then mv bin/quick_program bin/peritext && mv bin/asked bin/sources; fi
+
+# The program without its proofs, as bin/unproved/peritext, in a minute or two: for trying it, and for whoever changes it.
+unproved:
+	python3 tools/unproved.py
 
 # The proved program, as bin/peritext. It is built anew unless the one that is there was built of these very sources: times of files tell nothing
 # of a tree that was copied.

@@ -39,6 +39,7 @@ import terminal
 import tokens
 import watching
 import web_pages
+import web_sockets
 import words
 import worst
 from program import Checks
@@ -46,7 +47,7 @@ from program import Checks
 LIMIT = 600
 GROUPS = (
     words, sentences, terminal, examples, exports, long_texts, streams, locks, lost_files, full_disk, ending, crafted, formats, long_runs, damage, each_byte, kills, tokens, memory, serving, served_limits, journal, web_pages,
-    last_place, peers, watching, parting, put_back, backups, parted_files, idle_links, rude, noise, worst, session_memory, renewal,
+    last_place, peers, watching, web_sockets, parting, put_back, backups, parted_files, idle_links, rude, noise, worst, session_memory, renewal,
 )
 
 

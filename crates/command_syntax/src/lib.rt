@@ -12,6 +12,7 @@ mod order;
 mod serve_order;
 mod store_order;
 mod values;
+mod web_order;
 
 pub use bad_port::BadPort;
 pub use dump_order::DumpOrder;
@@ -21,3 +22,4 @@ pub use order::Order;
 pub use serve_order::ServeOrder;
 pub use store_order::StoreOrder;
 pub use values::{doc, form, optional_port, port, replica};
+pub use web_order::{Origins, WebOrder};

@@ -1,23 +1,25 @@
 -- What a command line asks for.
 use Rattle.std.specs.Prelude.{ℕ, Bool, false, List, map, Option, Some, None}
-use Rattle.std.specs.Prelude.{is_some, option_map, option_and_then, codes, if◌then◌else◌}
+use Rattle.std.specs.Prelude.{[], is_some, option_map, option_and_then, unwrap_or, codes, if◌then◌else◌}
 use Rattle.std.specs.Option.{option_or}
 use Rattle.std.specs.Str.{bytes_eq}
 use Rattle.std.specs.Borrow.{Bor}
-use Rattle.clap.specs.Walk.{Row, first_of}
+use Rattle.clap.specs.Walk.{Row, first_of, all_of}
 use Rattle.clap.specs.Simple.{subcommand_of}
 use Rattle.command_syntax.specs.Values.{replica_of, doc_of, form_of, port_of, optional_port_of}
+use Rattle.command_syntax.specs.Web.{as_origins, origins_of}
 use Rattle.program_commands.specs.Program.{program}
 use Rattle.span_export.specs.declared.exporting.Form.{Form}
 use Rattle.command_syntax.specs.declared.order.Order.{Order}
 use Rattle.command_syntax.specs.declared.order.Order.TheVariants as order
 use Rattle.command_syntax.specs.declared.store_order.StoreOrder.{StoreOrder}
 use Rattle.command_syntax.specs.declared.store_order.StoreOrder.TheVariants as store
+use Rattle.command_syntax.specs.declared.web_order.WebOrder.{WebOrder}
 use Rattle.command_syntax.specs.declared.bad_port.BadPort.{BadPort}
 
 -- a session in memory, a new store of a replica, a session over a store, a document of a store, all its documents, one of them in a
--- form for other programs, or a store served at a port for sessions and one for peers, with the port of a peer to join where one is named, to its end or until
--- the device failed, with its events written or not
+-- form for other programs, or a store served at a port for sessions and one for peers, with the port of a peer to join where one is named, a port for
+-- WebSockets and the origins that may open them where there is one, to its end or until the device failed, with its events written or not
 pub data Asked : Type 0 where
   in_memory : Asked
   init : List ℕ → ℕ → Asked
@@ -25,7 +27,7 @@ pub data Asked : Type 0 where
   dump : List ℕ → ℕ → Asked
   list : List ℕ → Asked
   export : List ℕ → ℕ → Form → Asked
-  serve : List ℕ → ℕ → ℕ → Option ℕ → Bool → Bool → Asked
+  serve : List ℕ → ℕ → ℕ → Option ℕ → Option (ℕ × List (List ℕ)) → Bool → Bool → Asked
 
 -- what an order over one disk asks for
 abbrev pub meant_of_store : StoreOrder → Asked
@@ -33,13 +35,18 @@ meant_of_store store.InMemory = in_memory
 meant_of_store (store.Init file replica) = init file.now replica
 meant_of_store (store.Edit file) = edit file.now
 
+-- what is asked for of web pages: a port, and origins
+abbrev pub meant_of_web : WebOrder → ℕ × List (List ℕ)
+meant_of_web web = (web.port, origins_of web.origins)
+
 -- what an order asks for
 abbrev pub meant : Order → Asked
 meant (order.Store order) = meant_of_store order
 meant (order.Dump order) = dump order.file.now order.doc
 meant (order.List order) = list order.file.now
 meant (order.Export order) = export order.file.now order.doc order.form
-meant (order.Serve order) = serve order.file.now order.sessions order.peers order.link order.ends_on_failure order.logs
+meant (order.Serve order) =
+    serve order.file.now order.sessions order.peers order.link (option_map meant_of_web order.web) order.ends_on_failure order.logs
 
 -- an `init` with the values of its arguments
 abbrev pub init_of : List Row → Option Asked
@@ -81,11 +88,23 @@ is_true (Some text) = bytes_eq text (codes "true")
 abbrev pub is_flag_given : List ℕ → List Row → Bool
 is_flag_given flag rows = is_true (first_of flag rows)
 
+-- where WebSockets come in, and the origins that may open them: none may be named without that port
+abbrev pub web_of : Option (List ℕ) → Option (List (List ℕ)) → Option (Option (ℕ × List (List ℕ)))
+web_of None None = Some None
+web_of None (Some texts) = None
+web_of (Some word) texts =
+    option_and_then (λ port. option_map (λ origins. Some (port, origins)) (as_origins (unwrap_or texts []))) (port_of word)
+
+-- what a `serve` names of web pages
+abbrev pub web_at : List Row → Option (Option (ℕ × List (List ℕ)))
+web_at rows = web_of (first_of (codes "web") rows) (all_of (codes "origin") rows)
+
 -- a `serve` with the values of its arguments
 abbrev pub serve_of : List Row → Option Asked
 serve_of rows =
     option_and_then (λ file. option_and_then (λ sessions. option_and_then (λ peers.
-    option_map (λ link. serve file sessions peers link (is_flag_given (codes "end-on-failure") rows) (is_flag_given (codes "log") rows))
+    option_and_then (λ link. option_map (λ web. serve file sessions peers link web (is_flag_given (codes "end-on-failure") rows) (is_flag_given (codes "log") rows))
+    (web_at rows))
     (optional_port_of (first_of (codes "link") rows)))
     (port_at (codes "peers") rows))
     (port_at (codes "sessions") rows))
@@ -131,7 +150,8 @@ bad_port_at option rows = option_and_then (bad_word option) (first_of option row
 abbrev pub bad_port_of : List Row → Option (List ℕ × List ℕ)
 bad_port_of rows =
     option_or (bad_port_at (codes "sessions") rows)
-    (option_or (bad_port_at (codes "peers") rows) (bad_port_at (codes "link") rows))
+    (option_or (bad_port_at (codes "peers") rows)
+    (option_or (bad_port_at (codes "link") rows) (bad_port_at (codes "web") rows)))
 
 -- the first port of a command that breaks its rule
 abbrev pub bad_port_by : Option (List ℕ × List Row) → Option (List ℕ × List ℕ)

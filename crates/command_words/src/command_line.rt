@@ -1,11 +1,11 @@
 //! The words of a command line.
-ghost use Rattle.std.specs.Prelude.{◌≡◌, ◌≢◌, [], Some, None, IfOk, IfErr, OnOk, option_map};
-ghost use Rattle.clap.specs.Words.{fault_of, first_of, found_of, rows_of};
+ghost use Rattle.std.specs.Prelude.{◌≡◌, ◌≢◌, [], Some, None, IfOk, IfErr, OnOk, map, option_map};
+ghost use Rattle.clap.specs.Words.{all_of, fault_of, first_of, found_of, rows_of};
 ghost use Rattle.clap.specs.Words.{subcommand_of, subcommand_rows_of};
 ghost use Rattle.command_words.specs.declared.order_fault.OrderFault.TheVariants.{Field, Port};
 ghost use Rattle.program_commands.specs.Program.{program};
 ghost use Rattle.command_words.specs.Asked.{texts, meant, asked, asked_of, init_of, edit_of, dump_of, serve_of};
-ghost use Rattle.command_words.specs.Asked.{list_of, export_of};
+ghost use Rattle.command_words.specs.Asked.{list_of, export_of, meant_of_web, web_at};
 ghost use Rattle.command_words.specs.Asked.{told, bad_port_of, bad_port_at, is_flag_given};
 ghost use Rattle.command_words.specs.Faults.{RefusedBy, BreaksRule, TellsOf};
 
@@ -13,8 +13,8 @@ use crate::order_fault::OrderFault;
 use clap::ArgMatches;
 use clap::error::ErrorKind;
 use command_syntax::{
-    BadPort, DumpOrder, ExportOrder, ListOrder, Order, ServeOrder, StoreOrder, doc, form,
-    optional_port, port, replica,
+    BadPort, DumpOrder, ExportOrder, ListOrder, Order, Origins, ServeOrder, StoreOrder, WebOrder,
+    doc, form, optional_port, port, replica,
 };
 use program_commands::commands;
 use std::alloc::Global;
@@ -124,15 +124,31 @@ fn serve<'a>(matches: &ArgMatches<'a>) -> Option<Order<'a>>
     let sessions = port(value(matches, "sessions")?)?;
     let peers = port(value(matches, "peers")?)?;
     let link = optional_port(value(matches, "link"))?;
+    let web = web(matches)?;
     let ends_on_failure = is_given(matches, "end-on-failure");
     Some(Order::Serve(ServeOrder {
         file,
         sessions,
         peers,
         link,
+        web,
         ends_on_failure,
         logs: is_given(matches, "log"),
     }))
+}
+
+/// What a `serve` names of web pages, if it names any.
+fn web<'a>(matches: &ArgMatches<'a>) -> Option<Option<WebOrder<'a>>>
+    ensures { option_map (λ web. option_map meant_of_web web) result
+        ≡ web_at (rows_of (found_of matches.now)) }
+{
+    let named = values(matches, "origin");
+    let Some(word) = value(matches, "web") else {
+        return if named.is_none() { Some(None) } else { None };
+    };
+    let port = port(word)?;
+    let origins = Origins::new(named.unwrap_or(&[]))?;
+    Some(Some(WebOrder { port, origins }))
 }
 
 /// Whether a flag is given.
@@ -162,6 +178,7 @@ fn bad_port<'a>(matches: &ArgMatches<'a>) -> Option<BadPort<'a>>
     bad_port_at(matches, "sessions")
         .or(bad_port_at(matches, "peers"))
         .or(bad_port_at(matches, "link"))
+        .or(bad_port_at(matches, "web"))
 }
 
 /// The port that this option has, where it breaks its rule.
@@ -181,4 +198,12 @@ fn value<'a>(matches: &ArgMatches<'a>, id: &str) -> Option<&'a str>
         ≡ first_of id.now (rows_of (found_of matches.now)) }
 {
     matches.get_str(id)
+}
+
+/// The values of an argument, of all its uses.
+fn values<'m, 'a>(matches: &'m ArgMatches<'a>, id: &str) -> Option<&'m [&'a str]>
+    ensures { option_map (λ texts. map (λ text. text.now) texts.now) result
+        ≡ all_of id.now (rows_of (found_of matches.now)) }
+{
+    matches.get_strs(id)
 }

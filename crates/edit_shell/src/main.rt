@@ -4,6 +4,7 @@
 mod error_stream;
 mod held;
 mod looking;
+mod origins;
 mod refusing;
 mod serving;
 mod sockets;

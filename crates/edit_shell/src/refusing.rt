@@ -20,6 +20,8 @@ pub enum About<'a> {
     File(&'a str, Purpose),
     /// A port, and why it can't be had.
     Port(u16, Sentence),
+    /// A word of the command line.
+    Word(Sentence),
 }
 
 /// The exit status of a run that ended so. A refusal is written as `peritext: NUMBER WORD`; on a
@@ -64,6 +66,7 @@ fn explanation<'a, R: Files<File = File>>(
     let Refused { fault, about } = refused;
     match about {
         About::Port(port, sentence) => (Some(Place::Port(port)), sentence),
+        About::Word(sentence) => (None, sentence),
         About::File(path, purpose) if fault == Fault::OpenFailed => (
             Some(Place::File(path)),
             why_not_opened(rt, path, purpose),

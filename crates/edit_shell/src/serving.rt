@@ -3,6 +3,7 @@ ghost use Rattle.std.specs.Prelude.{◌≡◌, [], IfOk};
 
 use crate::error_stream::ErrorStream;
 use crate::looking::Purpose;
+use crate::origins::origins;
 use crate::refusing::{Refused, of_file};
 use crate::sockets::open_sockets;
 use command_syntax::ServeOrder;
@@ -21,6 +22,7 @@ use std::sync::Wait;
 use std::thread;
 use std::thread::Threads;
 use store_orders::Fault;
+use web_guests::Origin;
 
 /// Serves the sessions and the peers of a file. From when it listens it tells of itself on standard
 /// error: all events with `--log`; on a terminal else where it listens and its end; and else
@@ -36,10 +38,46 @@ pub fn serve<
         + AllocGlobal,
     F: Write + IsTerminal + Copy + Send + Drop,
 >(rt: &R, order: ServeOrder<'a>, faults: &F) -> Result<(), Refused<'a>> {
-    let Some(telling) = telling(order, faults) else {
-        return serve_file(rt, order, None);
+    let origins = origins(rt.alloc(), order)?;
+    serve_pages(rt, order, origins.as_slice(), faults)
+}
+
+/// Serves the sessions and the peers of a file, and web pages of these origins.
+fn serve_pages<
+    'a,
+    R: Files<File = File>
+        + Clock
+        + Wait
+        + Threads
+        + Sync
+        + Net<Listener = TcpListener, Stream = TcpStream>
+        + AllocGlobal,
+    F: Write + IsTerminal + Copy + Send + Drop,
+>(rt: &R, order: ServeOrder<'a>, origins: &[Origin], faults: &F) -> Result<(), Refused<'a>> {
+    let beside = Beside {
+        origins,
+        journal: None,
     };
-    serve_and_tell(rt, order, &Journal::new(rt.alloc(), telling), *faults)
+    match telling(order, faults) {
+        None => serve_file(rt, order, beside),
+        Some(telling) => {
+            let journal = Journal::new(rt.alloc(), telling);
+            let beside = Beside {
+                journal: Some(&journal),
+                ..beside
+            };
+            serve_and_tell(rt, order, &journal, beside, *faults)
+        }
+    }
+}
+
+/// What a daemon is given beside its file and sockets.
+#[derive(Clone, Copy)]
+struct Beside<'a> {
+    /// The web pages that may come in.
+    origins: &'a [Origin],
+    /// Where its events are told, if anybody is to be told.
+    journal: Option<&'a Journal>,
 }
 
 /// What is told of a daemon, if anything is.
@@ -64,11 +102,17 @@ fn serve_and_tell<
         + Net<Listener = TcpListener, Stream = TcpStream>
         + AllocGlobal,
     F: Write + Send + Drop,
->(rt: &R, order: ServeOrder<'a>, journal: &Journal, errors: F) -> Result<(), Refused<'a>> {
+>(
+    rt: &R,
+    order: ServeOrder<'a>,
+    journal: &Journal,
+    beside: Beside<'_>,
+    errors: F,
+) -> Result<(), Refused<'a>> {
     thread::scope(thread::scope_env(), rt, move |scope| {
         // Where there is no thread, nothing is told.
         let _ = scope.spawn(move || journal.write_all(rt, &mut ErrorStream { errors }));
-        let end = serve_file(rt, order, Some(journal));
+        let end = serve_file(rt, order, beside);
         journal.end(rt);
         end
     })
@@ -88,11 +132,11 @@ fn serve_file<
         + Sync
         + Net<Listener = TcpListener, Stream = TcpStream>
         + AllocGlobal,
->(rt: &R, order: ServeOrder<'a>, journal: Option<&Journal>) -> Result<(), Refused<'a>> {
+>(rt: &R, order: ServeOrder<'a>, beside: Beside<'_>) -> Result<(), Refused<'a>> {
     let end = match open_file(rt, order.file) {
         Ok(parts) => {
             let sockets = open_sockets(rt, order)?;
-            serve_opened(rt, order, parts, sockets, journal)
+            serve_opened(rt, order, parts, sockets, beside)
         }
         Err(fault) => Err(fault),
     };
@@ -128,11 +172,16 @@ fn serve_opened<
     order: ServeOrder<'_>,
     parts: Parts<FileDisk>,
     sockets: Sockets<'_>,
-    journal: Option<&Journal>,
+    beside: Beside<'_>,
 ) -> Result<(), Fault>
     requires { parts.locked.replica.steps ≡ [] }
 {
-    let sockets = Sockets { journal, ..sockets };
+    let Beside { origins, journal } = beside;
+    let sockets = Sockets {
+        origins,
+        journal,
+        ..sockets
+    };
     tell_listening(rt, rt.alloc(), order, &parts, journal);
     let end = match serve_on(rt, rt.alloc(), parts, sockets, &NoCheckpoint) {
         Ok(served) => end_of(&served),
@@ -195,6 +244,7 @@ fn tell_listening<R: Wait, D: Disk>(
         replica: parts.locked.replica(),
         sessions: order.sessions,
         peers: order.peers,
+        web: order.web.map(|web| web.port),
         operations: list.len() as u64,
         documents,
     };

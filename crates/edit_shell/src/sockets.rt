@@ -11,19 +11,25 @@ use store_orders::{Fault, Sentence};
 const HOST: &str = "127.0.0.1";
 
 /// Opens the sockets that an order names, in its order, and joins its peer, which isn't the daemon
-/// itself. `Socket` (70) where one of them can't be had.
+/// itself. Nothing is told, and no web page may come in so far. `Socket` (70) where one of them
+/// can't be had.
 pub fn open_sockets<'a, R: Net<Listener = TcpListener, Stream = TcpStream>>(
     rt: &R,
     order: ServeOrder<'_>,
 ) -> Result<Sockets<'a>, Refused<'static>> {
     if let Some(port) = order.link
-        && (port == order.peers || port == order.sessions)
+        && is_own(port, order)
     {
         return Err(refused(port, Sentence::OwnPort));
     }
     Ok(Sockets {
         sessions: listen(rt, order.sessions)?,
         peers: listen(rt, order.peers)?,
+        web: match order.web {
+            Some(web) => Some(listen(rt, web.port)?),
+            None => None,
+        },
+        origins: &[],
         joined: match order.link {
             Some(port) => Some(join(rt, port)?),
             None => None,
@@ -31,6 +37,11 @@ pub fn open_sockets<'a, R: Net<Listener = TcpListener, Stream = TcpStream>>(
         ends_on_failure: order.ends_on_failure,
         journal: None,
     })
+}
+
+/// Whether the daemon itself listens on a port.
+fn is_own(port: u16, order: ServeOrder<'_>) -> bool {
+    port == order.peers || port == order.sessions || order.web.is_some_and(|web| web.port == port)
 }
 
 /// Listens on a port.

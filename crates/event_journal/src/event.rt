@@ -32,6 +32,8 @@ pub enum Event<'a> {
         replica: ReplicaId,
         sessions: u16,
         peers: u16,
+        /// The port of WebSockets, if they come in.
+        web: Option<u16>,
         operations: u64,
         documents: u64,
     },
@@ -123,6 +125,7 @@ fn fmt_listening<W: fmt::Write>(event: &Event<'_>, f: &mut Formatter<W>) -> fmt:
         replica,
         sessions,
         peers,
+        web,
         operations,
         documents,
     } = event
@@ -130,6 +133,9 @@ fn fmt_listening<W: fmt::Write>(event: &Event<'_>, f: &mut Formatter<W>) -> fmt:
         let (file, replica) = (Quoted(file), uuid_of(*replica));
         write!(f, "event=listening file={file} replica={replica} ")?;
         write!(f, "sessions={sessions} peers={peers} ")?;
+        if let Some(web) = web {
+            write!(f, "web={web} ")?;
+        }
         write!(f, "operations={operations} documents={documents}")?;
     }
     Ok(())

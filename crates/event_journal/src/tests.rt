@@ -40,11 +40,12 @@ fn a_daemon_is_a_line(rt: HostRuntime) -> Result<(), Fail> {
         replica: first_replica()?,
         sessions: 7_001,
         peers: 7_101,
+        web: Some(7_201),
         operations: 12,
         documents: 2,
     };
     let line =
-        "event=listening file=\"my \\u{22}notes\\u{22}\\u{a}\" replica=00000000-0000-4000-8000-000000000001 sessions=7001 peers=7101 operations=12 documents=2\n";
+        "event=listening file=\"my \\u{22}notes\\u{22}\\u{a}\" replica=00000000-0000-4000-8000-000000000001 sessions=7001 peers=7101 web=7201 operations=12 documents=2\n";
     assert!(rt; is_told(&rt, rt.alloc(), &listening, line));
     let failed = Event::CommitFailed { reason: FAILED };
     let line = "event=commit_failed code=9 reason=failed\n";

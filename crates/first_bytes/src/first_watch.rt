@@ -55,6 +55,11 @@ impl<S: Read> FirstWatch<S> {
         }
     }
 
+    /// The reader of what comes after the request.
+    pub fn rest(&mut self) -> &mut S {
+        &mut self.reader
+    }
+
     /// What the first line is, once it was read.
     fn look(&mut self) -> io::Result<Look> {
         if self.look == Look::NotYet {

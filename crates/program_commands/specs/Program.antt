@@ -1,7 +1,7 @@
 -- The commands of the program, as `clap` reads them.
 use Rattle.std.specs.Prelude.{List, ℕ, true, Some, codes}
 use Rattle.clap.specs.Walk.{Rule}
-use Rattle.clap.specs.declared.builder.action.ArgAction.TheVariants.{SetTrue}
+use Rattle.clap.specs.declared.builder.action.ArgAction.TheVariants.{Append, SetTrue}
 use Rattle.clap.specs.Simple.{App, Shape, new_app, new_rule, on_top, with_rule, with_subcommand}
 
 -- an argument that has to be given
@@ -47,15 +47,23 @@ needed_port name = record (port_option name) { required = true }
 abbrev pub flag_option : List ℕ → Rule
 flag_option name = record (new_rule name) { long = Some name; action = Some SetTrue }
 
--- `serve FILE --sessions PORT --peers PORT [--link PORT] [--end-on-failure] [--log]`
+-- an option with the value ORIGIN that may be given again
+abbrev pub origin_option : Rule
+origin_option = record (new_rule (codes "origin")) { long = Some (codes "origin"); value_names = 1; action = Some Append }
+
+-- `serve FILE --sessions PORT --peers PORT [--link PORT] [--web PORT] [--origin ORIGIN].. [--end-on-failure] [--log]`
 abbrev pub serve_app : App
 serve_app =
     with_rule
     (with_rule
     (with_rule
+    (with_rule
+    (with_rule
     (with_rule (with_rule (with_rule (new_app (codes "serve")) (needed (codes "FILE"))) (needed_port (codes "sessions")))
     (needed_port (codes "peers")))
     (port_option (codes "link")))
+    (port_option (codes "web")))
+    origin_option)
     (flag_option (codes "end-on-failure")))
     (flag_option (codes "log"))
 

@@ -4,7 +4,7 @@ ghost use Rattle.clap.specs.Simple.{new_app};
 ghost use Rattle.clap.specs.Words.{app_of, rule_of};
 ghost use Rattle.clap.specs.declared.builder.command.Command.TheViews.{out-Command};
 ghost use Rattle.program_commands.specs.Program.{init_app, edit_app, dump_app, serve_app, port_option, program};
-ghost use Rattle.program_commands.specs.Program.{flag_option, list_app, export_app, form_option};
+ghost use Rattle.program_commands.specs.Program.{flag_option, list_app, export_app, form_option, origin_option};
 ghost use Rattle.program_commands.specs.Program.{needed as needed_rule};
 
 use clap::{Arg, ArgAction, Command};
@@ -78,15 +78,17 @@ const SERVE_EXAMPLES: &str = "\
 Sessions and peers come in on 127.0.0.1, at a port each: a number from 1 to 65535, in decimal
 digits. A session writes requests and reads answers, a line each, as with 'edit'; the first 'stop'
 ends the program. Nobody else can have the file open meanwhile (54). A port that is taken, or where
-no peer can be joined, is refused (70). With --end-on-failure the program ends as soon as the
-device failed, so that whoever watches it starts it again; else it serves on what it has. With --log
-each event is a line on standard error, as 'event=session_up session=3'. Lines that nobody reads in
-time are dropped and counted. Without it nothing is written there, but on a terminal where it
-listens, and its end.
+no peer can be joined, is refused (70). With --web each WebSocket at that port is a session, too:
+one of a web page whose origin is named by --origin, up to 8 times, or of a program that isn't a web
+page. With --end-on-failure the program ends as soon as the device failed, so that whoever watches
+it starts it again; else it serves on what it has. With --log each event is a line on standard
+error, as 'event=session_up session=3'. Lines that nobody reads in time are dropped and counted.
+Without it nothing is written there, but on a terminal where it listens, and its end.
 
 Examples:
   peritext serve notes --sessions 7001 --peers 7002
-  peritext serve copy --sessions 7101 --peers 7102 --link 7002";
+  peritext serve copy --sessions 7101 --peers 7102 --link 7002
+  peritext serve notes --sessions 7001 --peers 7002 --web 7003 --origin http://localhost:8080";
 
 /// All commands of the program, with their help. An error is out of memory (1).
 pub fn commands<'a>(alloc: Global) -> Result<Command<'a>, AllocError>
@@ -195,7 +197,8 @@ fn export_command<'a>(alloc: Global) -> Result<Command<'a>, AllocError>
     Ok(command)
 }
 
-/// `serve FILE --sessions PORT --peers PORT [--link PORT] [--end-on-failure] [--log]`.
+/// `serve FILE --sessions PORT --peers PORT [--link PORT] [--web PORT] [--origin ORIGIN]..
+/// [--end-on-failure] [--log]`.
 fn serve_command<'a>(alloc: Global) -> Result<Command<'a>, AllocError>
     ensures app { IfOk result (λ command. app_of command ≡ serve_app) }
     ensures local { IfOk result (λ command. (out-Command command).has_globals ≡ false) }
@@ -211,6 +214,8 @@ fn serve_command<'a>(alloc: Global) -> Result<Command<'a>, AllocError>
         .arg(port(alloc, "sessions", "Where sessions come in").required(true))?
         .arg(port(alloc, "peers", "Where peers come in").required(true))?
         .arg(port(alloc, "link", "Where the peer listens that is joined"))?
+        .arg(port(alloc, "web", "Where WebSockets come in"))?
+        .arg(origin(alloc))?
         .arg(flag(alloc, "end-on-failure", "Ends once the device failed (9)"))?
         .arg(flag(
             alloc,
@@ -248,6 +253,18 @@ fn port<'a>(alloc: Global, name: &'a str, help: &'a str) -> Arg<'a>
         .long(name)
         .value_name("PORT")
         .help(help)
+}
+
+/// The option with the value ORIGIN, which may be given again.
+fn origin<'a>(alloc: Global) -> Arg<'a>
+    ensures rule { rule_of result ≡ origin_option }
+    ensures local { result.global ≡ false }
+{
+    Arg::new(alloc, "origin")
+        .long("origin")
+        .value_name("ORIGIN")
+        .action(ArgAction::Append)
+        .help("A web page that may open WebSockets, as http://localhost:8080")
 }
 
 /// An option without a value.

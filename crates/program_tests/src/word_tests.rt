@@ -89,6 +89,7 @@ fn a_serve_names_a_file_and_ports(rt: HostRuntime) {
             sessions: port,
             peers: 7_002,
             link: None,
+            web: None,
             ends_on_failure: false,
             logs: false,
         });
@@ -114,12 +115,40 @@ fn a_serve_joins_a_peer_where_one_is_named(rt: HostRuntime) {
         sessions: 7_001,
         peers: 7_002,
         link: Some(7_102),
+        web: None,
         ends_on_failure: false,
         logs: false,
     });
     match order(rt.alloc(), words.as_slice()) {
         Ok(found) => assert!(rt; found == asked),
         Err(fault) => assert!(rt; false, "{fault}"),
+    }
+}
+
+#[test]
+fn a_serve_takes_the_web_pages_that_are_named(rt: HostRuntime) {
+    let [name, command, file, sessions, at, peers, port] = serving("7001", "7002");
+    let words = [
+        name,
+        command,
+        "--origin=http://localhost:8080",
+        file,
+        sessions,
+        at,
+        peers,
+        port,
+        "--web",
+        "7003",
+        "--origin",
+        "https://page.example",
+    ];
+    match order(rt.alloc(), words.as_slice()) {
+        Ok(Order::Serve(ServeOrder { web: Some(web), .. })) => {
+            assert!(rt; web.port == 7_003);
+            let due = ["http://localhost:8080", "https://page.example"];
+            assert!(rt; web.origins.as_slice() == due.as_slice());
+        }
+        _ => assert!(rt; false),
     }
 }
 
@@ -138,6 +167,7 @@ fn a_serve_ends_on_failure_where_that_is_asked(rt: HostRuntime) {
         sessions: 7_001,
         peers: 7_002,
         link: None,
+        web: None,
         ends_on_failure: true,
         logs: false,
     });
@@ -162,6 +192,7 @@ fn a_serve_tells_its_events_where_that_is_asked(rt: HostRuntime) {
         sessions: 7_001,
         peers: 7_002,
         link: None,
+        web: None,
         ends_on_failure: false,
         logs: true,
     });

@@ -73,6 +73,8 @@ pub fn sockets<R: Net<Listener = TcpListener, Stream = TcpStream>>(
     let sockets = Sockets {
         sessions,
         peers,
+        web: None,
+        origins: &[],
         joined: None,
         ends_on_failure: false,
         journal: None,

@@ -1,11 +1,13 @@
 //! The threads that let connections in.
 
-use crate::busy::say_busy;
-use crate::doors::Doors;
+use crate::busy::{say_busy, say_busy_to_web};
+use crate::caller::Caller;
+use crate::door::Door;
 use crate::entry::Entry;
 use crate::hall::Hall;
 use crate::lobby::Lobby;
 use crate::session_thread::serve_session;
+use crate::web_thread::serve_web;
 use event_journal::{Event, LinkPlace, Reason};
 use fixed_numbers::refusals::BUSY;
 use link_threads::{LinkLog, Links, serve_link};
@@ -30,20 +32,21 @@ const PATIENCE: u64 = 10;
 #[derive(Clone, Copy, Debug, PartialEq, Eq)]
 pub(crate) enum Kind {
     Session,
+    /// A session that comes by a WebSocket.
+    Web,
     Link,
 }
 
 /// Lets connections of one kind in, each of which gets a thread, until the daemon is asked to end;
 /// then waits for their ends. One that finds no place or no thread is closed, a session with the
-/// answer 8.
+/// answer 8, a WebSocket with the status 503.
 pub(crate) fn accept<
     R: Wait + Clock + Threads + Sync,
     J: BookNames + Send + Sync,
     C: Checkpoint + Sync,
->(hall: &Hall<R, J, C>, kind: Kind, doors: &Doors) {
+>(hall: &Hall<R, J, C>, kind: Kind, door: &Door) {
     let rt = hall.rt;
     let lobby = hall.lobby(kind);
-    let door = doors.door(kind);
     thread::scope(thread::scope_env(), rt, |scope| {
         for stream in door.listener().incoming() {
             if hall.ending.is_asked(rt) {
@@ -54,9 +57,7 @@ pub(crate) fn accept<
                 continue;
             };
             let Some(entry) = lobby.enter(rt, &stream) else {
-                if kind == Kind::Session {
-                    say_busy(&stream);
-                }
+                turn_away(kind, &stream);
                 tell_refused(hall, kind, &stream);
                 continue;
             };
@@ -68,6 +69,15 @@ pub(crate) fn accept<
         }
         door.note_left(rt);
     });
+}
+
+/// Tells a connection that there is no place or no thread for it; a peer is told nothing.
+pub(crate) fn turn_away(kind: Kind, stream: &TcpStream) {
+    match kind {
+        Kind::Session => say_busy(stream),
+        Kind::Web => say_busy_to_web(stream),
+        Kind::Link => {}
+    }
 }
 
 /// Tells that a connection was turned away, unless the daemon ends.
@@ -88,7 +98,7 @@ fn refused_at(kind: Kind, port: u16) -> Event<'static> {
         word: "busy",
     };
     match kind {
-        Kind::Session => Event::SessionRefused { reason },
+        Kind::Session | Kind::Web => Event::SessionRefused { reason },
         Kind::Link => Event::LinkRefused { port, reason },
     }
 }
@@ -109,7 +119,15 @@ fn serve<R: Wait + Clock + Threads + Sync, J: BookNames + Send + Sync, C: Checkp
     stream: &TcpStream,
 ) {
     match kind {
-        Kind::Session => serve_session(hall, entry, stream),
+        Kind::Session => {
+            let caller = Caller {
+                stream,
+                reader: stream,
+                writer: stream,
+            };
+            serve_session(hall, entry, caller);
+        }
+        Kind::Web => serve_web(hall, entry, stream),
         Kind::Link => {
             let place = LinkPlace {
                 link: entry.number,

@@ -14,8 +14,17 @@ pub(crate) fn say_busy(stream: &TcpStream) {
 }
 
 /// The answer 8, with its line feed.
-fn busy_line() -> &'static [u8]
+pub(crate) fn busy_line() -> &'static [u8]
     ensures { result.now ≡ said_refused Busy }
 {
     b"{\"code\":8,\"error\":\"busy\",\"ok\":false}\n"
+}
+
+/// Tells one that asks for a WebSocket that there is no place or no thread for it. Its request isn't
+/// read, so it can't be told by a message.
+pub(crate) fn say_busy_to_web(stream: &TcpStream) {
+    let mut writer = stream;
+    let _ = writer.write_all(
+        b"HTTP/1.1 503 Service Unavailable\r\nContent-Length: 0\r\nConnection: close\r\n\r\n",
+    );
 }

@@ -1,6 +1,5 @@
 //! Where the daemon listens.
 
-use crate::accepting::Kind;
 use crate::door::Door;
 use shared_desk::Ending;
 use std::io;
@@ -8,20 +7,29 @@ use std::net::{Net, TcpListener, TcpStream};
 use std::rt::Clock;
 use std::sync::Wait;
 
-/// Where the daemon listens: for sessions, and for peers.
+/// Where the daemon listens: for sessions, for peers, and perhaps for WebSockets.
 #[derive(Drop)]
 pub(crate) struct Doors {
-    sessions: Door,
-    peers: Door,
+    pub sessions: Door,
+    pub peers: Door,
+    pub web: Option<Door>,
 }
 
 impl Doors {
-    /// The doors with these two listeners. An error where the system has no more descriptors for a
+    /// The doors with these listeners. An error where the system has no more descriptors for a
     /// connection: nobody could ever be let in.
-    pub fn new(sessions: TcpListener, peers: TcpListener) -> io::Result<Doors> {
+    pub fn new(
+        sessions: TcpListener,
+        peers: TcpListener,
+        web: Option<TcpListener>,
+    ) -> io::Result<Doors> {
         let doors = Doors {
             sessions: Door::new(sessions)?,
             peers: Door::new(peers)?,
+            web: match web {
+                Some(web) => Some(Door::new(web)?),
+                None => None,
+            },
         };
         // A connection takes one, and the lobby a copy of it.
         let _spare = (
@@ -31,18 +39,13 @@ impl Doors {
         Ok(doors)
     }
 
-    /// Where connections of one kind come.
-    pub fn door(&self, kind: Kind) -> &Door {
-        match kind {
-            Kind::Session => &self.sessions,
-            Kind::Link => &self.peers,
-        }
-    }
-
     /// Ends the waits of those who accept connections, and refuses all further ones.
     pub fn shut(&self) {
         self.sessions.shut();
         self.peers.shut();
+        if let Some(web) = &self.web {
+            web.shut();
+        }
     }
 
     /// Ends the waits of those who accept connections. For a renewal the sockets go on listening,
@@ -54,11 +57,19 @@ impl Doors {
     ) {
         self.sessions.leave(rt, ending);
         self.peers.leave(rt, ending);
+        if let Some(web) = &self.web {
+            web.leave(rt, ending);
+        }
     }
 
-    /// The two listeners, for sessions and for peers.
-    pub fn into_listeners(self) -> (TcpListener, TcpListener) {
-        let Doors { sessions, peers } = self;
-        (sessions.into_listener(), peers.into_listener())
+    /// The listeners, for sessions, for peers and for WebSockets.
+    pub fn into_listeners(self) -> (TcpListener, TcpListener, Option<TcpListener>) {
+        let Doors {
+            sessions,
+            peers,
+            web,
+        } = self;
+        let web = web.map(|web| web.into_listener());
+        (sessions.into_listener(), peers.into_listener(), web)
     }
 }

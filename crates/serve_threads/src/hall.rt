@@ -106,7 +106,7 @@ impl<'a, R: Wait, J: BookNames, C: Checkpoint> Hall<'a, R, J, C> {
     /// Those of one kind that came in.
     pub fn lobby(&self, kind: Kind) -> &Lobby<J> {
         match kind {
-            Kind::Session => &self.sessions,
+            Kind::Session | Kind::Web => &self.sessions,
             Kind::Link => &self.links,
         }
     }

@@ -7,6 +7,7 @@
 
 mod accepting;
 mod busy;
+mod caller;
 mod door;
 mod doors;
 mod entry;
@@ -21,6 +22,7 @@ mod session_thread;
 mod sockets;
 mod until_closed;
 mod watch_thread;
+mod web_thread;
 
 pub use rejoining::Joined;
 pub use renewing::serve_on;

@@ -1,7 +1,6 @@
 //! Who is connected.
 
-use crate::accepting::Kind;
-use crate::busy::say_busy;
+use crate::accepting::{Kind, turn_away};
 use crate::entry::Entry;
 use pass_books::{BookNames, Pass};
 use std::alloc::{AllocError, Global};
@@ -75,9 +74,7 @@ impl<J: BookNames> Lobby<J> {
     /// Shuts a connection for which there is no thread, a session with the answer 8, and gives its
     /// place back.
     pub fn turn_away<R: Wait>(&self, rt: &R, entry: Entry, kind: Kind) {
-        if kind == Kind::Session {
-            self.inside.lock(rt).refuse(entry);
-        }
+        self.inside.lock(rt).refuse(entry, kind);
         self.leave(rt, entry, None);
     }
 
@@ -139,10 +136,10 @@ impl<J: BookNames> Inside<J> {
         Some(entry)
     }
 
-    fn refuse(&self, entry: Entry) {
+    fn refuse(&self, entry: Entry, kind: Kind) {
         for it in self.connected.iter() {
             if it.entry == entry {
-                say_busy(&it.socket);
+                turn_away(kind, &it.socket);
             }
         }
     }

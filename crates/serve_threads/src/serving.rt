@@ -139,10 +139,11 @@ fn begin<'a, R: Wait, J: BookNames, C: Checkpoint>(
     let Sockets {
         sessions,
         peers,
+        web,
         joined,
         ..
     } = sockets;
-    let doors = Doors::new(sessions, peers).ok()?;
+    let doors = Doors::new(sessions, peers, web).ok()?;
     Some((hall, doors, joined))
 }
 
@@ -175,13 +176,17 @@ fn run<
             if ending.is_err() {
                 end_at_once(hall, doors);
             }
-            let sessions = scope.spawn(move || accept(hall, Kind::Session, doors));
-            let peers = scope.spawn(move || accept(hall, Kind::Link, doors));
+            let sessions = scope.spawn(move || accept(hall, Kind::Session, &doors.sessions));
+            let peers = scope.spawn(move || accept(hall, Kind::Link, &doors.peers));
+            let web = match &doors.web {
+                Some(door) => scope.spawn(move || accept(hall, Kind::Web, door)).is_ok(),
+                None => true,
+            };
             let joining = match joined {
                 Some(joined) => scope.spawn(move || keep_joined(hall, joined)).is_ok(),
                 None => true,
             };
-            let has_begun = ending.is_ok() && sessions.is_ok() && peers.is_ok() && joining;
+            let has_begun = ending.is_ok() && sessions.is_ok() && peers.is_ok() && web && joining;
             if !has_begun {
                 hall.ending.ask(hall.rt, End::Stop);
             }

@@ -1,6 +1,6 @@
 //! A session's thread.
 
-use crate::busy::say_busy;
+use crate::caller::{Answers, Caller};
 use crate::entry::Entry;
 use crate::hall::Hall;
 use crate::last_words::send_last_words;
@@ -14,7 +14,7 @@ use session_threads::{Session, SessionFault};
 use shared_desk::SharedDesk;
 use shared_hub::Checkpoint;
 use std::alloc::Global;
-use std::io::Read;
+use std::io::{Read, Write};
 use std::net::TcpStream;
 use std::rt::Clock;
 use std::sync::Wait;
@@ -26,13 +26,20 @@ const TURN: u64 = 10;
 /// Serves a session whose connection is in the lobby, to its end, and gives its place back. One for
 /// which there is no memory is answered 8, and so is one that has the last place and asks first for
 /// anything but the status or a stop.
-pub(crate) fn serve_session<R: Wait + Clock, J: BookNames, C: Checkpoint>(
-    hall: &Hall<R, J, C>,
-    entry: Entry,
-    stream: &TcpStream,
-) {
+pub(crate) fn serve_session<
+    R: Wait + Clock,
+    J: BookNames,
+    C: Checkpoint,
+    S: Read + Drop,
+    W: Answers + Drop,
+>(hall: &Hall<R, J, C>, entry: Entry, caller: Caller<'_, S, W>) {
+    let Caller {
+        stream,
+        mut reader,
+        mut writer,
+    } = caller;
     let mut first = FirstLine::new();
-    let pass = if entry.has_last && !may_have_last(hall.alloc, stream, &mut first) {
+    let pass = if entry.has_last && !may_have_last(hall.alloc, stream, &mut reader, &mut first) {
         None
     } else {
         hall.sessions.take_pass(hall.rt)
@@ -43,19 +50,29 @@ pub(crate) fn serve_session<R: Wait + Clock, J: BookNames, C: Checkpoint>(
                 rt: hall.rt,
                 lobby: &hall.sessions,
                 entry,
-                reader: stream,
+                reader,
             };
-            let reader = first.chain(rest);
-            Some(serve(hall, entry, reader, stream, pass))
+            let caller = Caller {
+                stream,
+                reader: first.chain(rest),
+                writer,
+            };
+            Some(serve(hall, entry.number, caller, pass))
         }
         None => {
-            refuse(stream);
-            let reason = reason(BUSY, "busy");
-            hall.tell(&Event::SessionRefused { reason });
+            writer.refuse();
+            send_last_words(stream);
+            tell_refused(hall);
             None
         }
     };
     hall.sessions.leave(hall.rt, entry, pass);
+}
+
+/// Tells that a session was turned away.
+fn tell_refused<R: Wait, J: BookNames, C: Checkpoint>(hall: &Hall<R, J, C>) {
+    let reason = reason(BUSY, "busy");
+    hall.tell(&Event::SessionRefused { reason });
 }
 
 /// What ended a session.
@@ -75,32 +92,28 @@ fn reason_of(served: &Result<(), SessionFault>) -> Reason<'static> {
 /// Reads the first line of a session, for which it has a second, and answers whether it may have
 /// the last place: it asks for the status or a stop. Else whoever is to see what the daemon does,
 /// or to end it, would be kept out.
-fn may_have_last(alloc: Global, stream: &TcpStream, first: &mut FirstLine) -> bool {
+fn may_have_last<S: Read>(
+    alloc: Global,
+    stream: &TcpStream,
+    reader: &mut S,
+    first: &mut FirstLine,
+) -> bool {
     let _ = stream.set_read_timeout(Some(Duration::from_millis(TURN)));
-    let mut reader = stream;
-    first.read_from(&mut reader);
+    first.read_from(reader);
     let _ = stream.set_read_timeout(None);
     first.asks_for_status_or_stop(alloc)
 }
 
-/// Answers a session 8 that isn't served, so that the answer arrives.
-fn refuse(stream: &TcpStream) {
-    say_busy(stream);
-    send_last_words(stream);
-}
-
 /// Serves a session with this pass, and gives that back.
-fn serve<R: Wait + Clock, J: BookNames, C: Checkpoint, S: Read + Drop>(
+fn serve<R: Wait + Clock, J: BookNames, C: Checkpoint, S: Read + Drop, W: Answers + Drop>(
     hall: &Hall<R, J, C>,
-    entry: Entry,
-    reader: S,
-    stream: &TcpStream,
+    number: u64,
+    caller: Caller<'_, S, W>,
     pass: Pass<J>,
 ) -> Pass<J> {
-    let session = entry.number;
-    hall.tell(&Event::SessionUp { session });
+    hall.tell(&Event::SessionUp { session: number });
     // Each answer goes out at once: its sender waits for nothing behind it.
-    let _ = stream.set_nodelay(true);
+    let _ = caller.stream.set_nodelay(true);
     let mut desk = SharedDesk::new(
         hall.rt,
         &hall.shared,
@@ -109,29 +122,56 @@ fn serve<R: Wait + Clock, J: BookNames, C: Checkpoint, S: Read + Drop>(
         hall.checkpoint,
         pass,
     );
-    let served = serve_requests(hall, reader, stream, &mut desk);
+    let Caller {
+        stream,
+        reader,
+        writer,
+    } = caller;
+    let reader = FirstWatch::new(hall.alloc, FirstLook::new(reader));
+    let mut session = Session::new(reader, writer);
+    let served = serve_requests(hall, stream, &mut session, &mut desk);
     let reason = reason_of(&served);
-    hall.tell(&Event::SessionDown { session, reason });
-    if let Err(SessionFault::Memory) = served {
-        refuse(stream);
-    } else if hall.ending.is_asked(hall.rt) {
-        send_last_words(stream);
-    }
+    hall.tell(&Event::SessionDown {
+        session: number,
+        reason,
+    });
+    let is_ending = hall.ending.is_asked(hall.rt);
+    take_leave(stream, &mut session, &served, is_ending);
     desk.into_pass()
 }
 
 /// Serves the requests of a session; or tells it of changes, if its first line asks for that.
-fn serve_requests<R: Wait + Clock, J: BookNames, C: Checkpoint, S: Read + Drop>(
+fn serve_requests<R: Wait + Clock, J: BookNames, C: Checkpoint, S: Read, W: Write>(
     hall: &Hall<R, J, C>,
-    reader: S,
     stream: &TcpStream,
+    session: &mut Session<FirstWatch<S>, W>,
     desk: &mut SharedDesk<'_, R, J, C>,
 ) -> Result<(), SessionFault> {
-    let reader = FirstWatch::new(hall.alloc, FirstLook::new(reader));
-    let mut session = Session::new(reader, stream);
     session.serve(hall.alloc, desk)?;
     match session.reader.watch() {
-        Some(request) => watch(hall, stream, request),
+        Some(request) => {
+            let rest = session.reader.rest();
+            watch(hall, stream, request, rest, &mut session.writer)
+        }
         None => Ok(()),
     }
+}
+
+/// Takes leave of a session that was served so: it is answered 8 where there is no memory for it,
+/// and its last words arrive where this end ends it.
+fn take_leave<S: Read, W: Answers>(
+    stream: &TcpStream,
+    session: &mut Session<FirstWatch<S>, W>,
+    served: &Result<(), SessionFault>,
+    is_ending: bool,
+) {
+    let ends = match served {
+        Ok(()) => session.reader.watch().is_some(),
+        Err(SessionFault::Memory) => {
+            session.writer.refuse();
+            true
+        }
+        Err(SessionFault::Stream(_)) => false,
+    };
+    session.writer.part(stream, ends || is_ending);
 }

@@ -4,12 +4,17 @@ use crate::doors::Doors;
 use crate::rejoining::Joined;
 use event_journal::Journal;
 use std::net::TcpListener;
+use web_guests::Origin;
 
 /// Where the daemon listens, the peer that it joined, and when it ends by itself.
 #[derive(Drop)]
 pub struct Sockets<'a> {
     pub sessions: TcpListener,
     pub peers: TcpListener,
+    /// Where WebSockets come in, if they do.
+    pub web: Option<TcpListener>,
+    /// The web pages that may open them.
+    pub origins: &'a [Origin],
     pub joined: Option<Joined>,
     /// Whether the daemon ends once the device failed. Otherwise it serves on, refuses edits (9)
     /// and shows what it has, until a session asks for a stop.
@@ -23,6 +28,8 @@ pub struct Sockets<'a> {
 pub(crate) struct Manner<'a> {
     /// Where the peer listens that it joins, if it joins one.
     pub port: Option<u16>,
+    /// The web pages that may open WebSockets.
+    pub origins: &'a [Origin],
     pub ends_on_failure: bool,
     pub journal: Option<&'a Journal>,
 }
@@ -32,6 +39,7 @@ impl<'a> Sockets<'a> {
     pub(crate) fn manner(&self) -> Manner<'a> {
         Manner {
             port: self.joined.as_ref().map(|joined| joined.port),
+            origins: self.origins,
             ends_on_failure: self.ends_on_failure,
             journal: self.journal,
         }
@@ -39,10 +47,12 @@ impl<'a> Sockets<'a> {
 
     /// The sockets for the next turn, whose peer is joined anew.
     pub(crate) fn anew(doors: Doors, manner: Manner<'a>) -> Sockets<'a> {
-        let (sessions, peers) = doors.into_listeners();
+        let (sessions, peers, web) = doors.into_listeners();
         Sockets {
             sessions,
             peers,
+            web,
+            origins: manner.origins,
             joined: manner.port.map(Joined::anew),
             ends_on_failure: manner.ends_on_failure,
             journal: manner.journal,

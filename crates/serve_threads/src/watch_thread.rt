@@ -1,12 +1,12 @@
 //! A session that is told of changes, over its connection.
 
 use crate::hall::Hall;
-use crate::last_words::send_last_words;
 use first_bytes::{Watch, has_to_wait};
 use pass_books::BookNames;
 use session_threads::SessionFault;
 use shared_desk::Ending;
 use shared_hub::{Checkpoint, Shared, Watched};
+use std::io::{Read, Write};
 use std::net::TcpStream;
 use std::rt::Clock;
 use std::sync::Wait;
@@ -20,10 +20,12 @@ const PATIENCE: u64 = 200;
 /// Tells a session of a document's changes, until its connection ends or something more comes over
 /// it, the daemon ends or nothing more is settled; before that it is told the newest number. What
 /// it was told comes to it, though it said more than was read.
-pub(crate) fn watch<R: Wait + Clock, J: BookNames, C: Checkpoint>(
+pub(crate) fn watch<R: Wait + Clock, J: BookNames, C: Checkpoint, S: Read, W: Write>(
     hall: &Hall<R, J, C>,
     stream: &TcpStream,
     watch: Watch,
+    reader: &mut S,
+    writer: &mut W,
 ) -> Result<(), SessionFault> {
     let mut room = LineRoom::new(hall.alloc)?;
     let mut changes = Changes {
@@ -31,30 +33,25 @@ pub(crate) fn watch<R: Wait + Clock, J: BookNames, C: Checkpoint>(
         shared: &hall.shared,
         ending: &hall.ending,
         stream,
+        reader,
         doc: watch.doc,
         is_last: watch.is_followed,
         is_over: false,
     };
-    let mut writer = stream;
-    match serve_watch(hall.alloc, &mut room, &mut writer, &mut changes) {
-        Ok(()) => {
-            // At the daemon's end each session has its last words.
-            if !hall.ending.is_asked(hall.rt) {
-                send_last_words(stream);
-            }
-            Ok(())
-        }
+    match serve_watch(hall.alloc, &mut room, writer, &mut changes) {
+        Ok(()) => Ok(()),
         Err(error) => Err(SessionFault::Stream(error)),
     }
 }
 
 /// The numbers of a document's settled operations, for one session.
 #[derive(Drop)]
-struct Changes<'a, R: Wait + Clock, J: BookNames> {
+struct Changes<'a, R: Wait + Clock, J: BookNames, S: Read> {
     rt: &'a R,
     shared: &'a Shared<J>,
     ending: &'a Ending,
     stream: &'a TcpStream,
+    reader: &'a mut S,
     doc: u32,
     /// Whether it is looked only once more.
     is_last: bool,
@@ -62,7 +59,7 @@ struct Changes<'a, R: Wait + Clock, J: BookNames> {
     is_over: bool,
 }
 
-impl<'a, R: Wait + Clock, J: BookNames> Source for Changes<'a, R, J> {
+impl<'a, R: Wait + Clock, J: BookNames, S: Read> Source for Changes<'a, R, J, S> {
     ghost use Rattle.std.specs.Prelude.{⊤};
 
     ghost gives = { λ _ _ _. ⊤ };
@@ -84,24 +81,24 @@ impl<'a, R: Wait + Clock, J: BookNames> Source for Changes<'a, R, J> {
     }
 }
 
-impl<'a, R: Wait + Clock, J: BookNames> Changes<'a, R, J> {
+impl<'a, R: Wait + Clock, J: BookNames, S: Read> Changes<'a, R, J, S> {
     /// Whether the daemon was asked to end, or the session's input isn't still as it was.
-    fn has_to_end(&self) -> bool {
-        self.ending.is_asked(self.rt) || !is_silent(self.stream)
+    fn has_to_end(&mut self) -> bool {
+        self.ending.is_asked(self.rt) || !is_silent(self.stream, self.reader)
     }
 }
 
-/// Whether a connection goes on, and nothing came over it. It doesn't wait for anything.
-fn is_silent(stream: &TcpStream) -> bool {
+/// Whether a connection goes on, and no line comes over it. It doesn't wait for anything.
+fn is_silent<S: Read>(stream: &TcpStream, reader: &mut S) -> bool {
     if stream.set_nonblocking(true).is_err() {
         return false;
     }
-    let peeked = stream.peek(&mut [0]);
+    let read = reader.read(&mut [0]);
     // The lines are to be written with all the time that the other end takes.
     if stream.set_nonblocking(false).is_err() {
         return false;
     }
-    match peeked {
+    match read {
         Ok(_) => false,
         Err(error) => has_to_wait(error.kind()),
     }

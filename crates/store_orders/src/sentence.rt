@@ -14,6 +14,10 @@ pub enum Sentence {
     #[error("a value breaks its rule, as that of a UUID, of a document's number or of a form, or \
         an older program doesn't know a field; mend what wrote it")]
     Field,
+    /// 4: `--origin` names no origin.
+    #[error("that is no origin of web pages; write it as browsers do, as http://localhost:8080, \
+        with no path")]
+    Origin,
     /// 9
     #[error("the device failed, and an edit that wasn't answered may be there or not; end the \
         program, look at the disk, open again")]

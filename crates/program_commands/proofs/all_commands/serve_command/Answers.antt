@@ -16,13 +16,17 @@ returns c =
     let two = c.in_ok-arg-2.ensures.shape sessions_local ∙ ap₂ with_rule one sessions in
     let three = c.in_ok-arg-3.ensures.shape peers_local ∙ ap₂ with_rule two peers in
     let four = c.in_ok-arg-4.ensures.shape c.port-3.ensures.local ∙ ap₂ with_rule three c.port-3.ensures.rule in
-    let five = c.in_ok-arg-5.ensures.shape c.flag.ensures.local ∙ ap₂ with_rule four c.flag.ensures.rule in
+    let five = c.in_ok-arg-5.ensures.shape c.port-4.ensures.local ∙ ap₂ with_rule four c.port-4.ensures.rule in
+    let six = c.in_ok-arg-6.ensures.shape c.origin.ensures.local ∙ ap₂ with_rule five c.origin.ensures.rule in
+    let seven = c.in_ok-arg-7.ensures.shape c.flag.ensures.local ∙ ap₂ with_rule six c.flag.ensures.rule in
     let one_local = c.in_ok-arg.ensures.globals ∙ ap₂ ◌||◌ c.described-bare.ensures.local c.needed.ensures.local in
     let two_local = c.in_ok-arg-2.ensures.globals ∙ ap₂ ◌||◌ one_local sessions_local in
     let three_local = c.in_ok-arg-3.ensures.globals ∙ ap₂ ◌||◌ two_local peers_local in
     let four_local = c.in_ok-arg-4.ensures.globals ∙ ap₂ ◌||◌ three_local c.port-3.ensures.local in
-    let five_local = c.in_ok-arg-5.ensures.globals ∙ ap₂ ◌||◌ four_local c.flag.ensures.local in
+    let five_local = c.in_ok-arg-5.ensures.globals ∙ ap₂ ◌||◌ four_local c.port-4.ensures.local in
+    let six_local = c.in_ok-arg-6.ensures.globals ∙ ap₂ ◌||◌ five_local c.origin.ensures.local in
+    let seven_local = c.in_ok-arg-7.ensures.globals ∙ ap₂ ◌||◌ six_local c.flag.ensures.local in
     record {
-      app = c.in_ok-command.ensures.shape c.flag-2.ensures.local ∙ ap₂ with_rule five c.flag-2.ensures.rule;
-      local = c.in_ok-command.ensures.globals ∙ ap₂ ◌||◌ five_local c.flag-2.ensures.local;
+      app = c.in_ok-command.ensures.shape c.flag-2.ensures.local ∙ ap₂ with_rule seven c.flag-2.ensures.rule;
+      local = c.in_ok-command.ensures.globals ∙ ap₂ ◌||◌ seven_local c.flag-2.ensures.local;
     }

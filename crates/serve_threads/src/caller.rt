@@ -1,0 +1,53 @@
+//! Whom a session's thread serves.
+
+use crate::busy::{busy_line, say_busy};
+use crate::last_words::send_last_words;
+use std::io::Write;
+use std::net::TcpStream;
+use tungstenite::CloseCode;
+use web_lines::AnswerMessages;
+
+/// A session's connection: what comes from it, and where the answers go.
+#[derive(Drop)]
+pub(crate) struct Caller<'a, S, W> {
+    pub stream: &'a TcpStream,
+    pub reader: S,
+    pub writer: W,
+}
+
+/// Where a session's answers go, and how it is taken leave of.
+pub(crate) trait Answers: Write {
+    /// Answers 8.
+    fn refuse(&mut self);
+
+    /// Ends a connection that was served, so that what was answered arrives. A session of a daemon
+    /// that goes on has ended by itself.
+    fn part(&mut self, stream: &TcpStream, is_ending: bool);
+}
+
+impl<'a> Answers for &'a TcpStream {
+    fn refuse(&mut self) {
+        say_busy(self);
+    }
+
+    fn part(&mut self, stream: &TcpStream, is_ending: bool) {
+        if is_ending {
+            send_last_words(stream);
+        }
+    }
+}
+
+impl<'a> Answers for AnswerMessages<&'a TcpStream> {
+    fn refuse(&mut self) {
+        let _ = self.write_all(busy_line());
+        let _ = self.flush();
+    }
+
+    /// A message that was refused may be read in part only, so its sender is always heard out.
+    fn part(&mut self, stream: &TcpStream, is_ending: bool) {
+        if is_ending {
+            let _ = self.close(CloseCode::Away, "");
+        }
+        send_last_words(stream);
+    }
+}

@@ -1,0 +1,74 @@
+//! A session's thread that comes by a WebSocket.
+
+use crate::caller::Caller;
+use crate::entry::Entry;
+use crate::hall::Hall;
+use crate::last_words::send_last_words;
+use crate::session_thread::serve_session;
+use event_journal::{Event, Reason};
+use pass_books::BookNames;
+use shared_hub::Checkpoint;
+use std::net::TcpStream;
+use std::rt::Clock;
+use std::sync::Wait;
+use std::time::Duration;
+use web_guests::{Refusal, admit};
+use web_lines::{AnswerMessages, MessageLines};
+
+/// How long one read of the head of its request waits, in milliseconds: it has two seconds in all.
+const TURN: u64 = 20;
+
+/// How long one write of the answer to it waits, in seconds.
+const PATIENCE: u64 = 2;
+
+/// Serves a session whose connection is in the lobby, once it asked for a WebSocket and may come,
+/// to its end, and gives its place back.
+pub(crate) fn serve_web<R: Wait + Clock, J: BookNames, C: Checkpoint>(
+    hall: &Hall<R, J, C>,
+    entry: Entry,
+    stream: &TcpStream,
+) {
+    if let Err(refusal) = let_in(hall, stream) {
+        send_last_words(stream);
+        tell_sent_away(hall, refusal);
+        hall.sessions.leave(hall.rt, entry, None);
+        return;
+    }
+    let caller = Caller {
+        stream,
+        reader: MessageLines::new(hall.alloc, stream),
+        writer: AnswerMessages::new(hall.alloc, stream),
+    };
+    serve_session(hall, entry, caller);
+}
+
+/// Reads what a connection asks for, and answers that.
+fn let_in<R: Wait, J: BookNames, C: Checkpoint>(
+    hall: &Hall<R, J, C>,
+    stream: &TcpStream,
+) -> Result<(), Refusal> {
+    let Ok(place) = stream.local_addr() else {
+        return Err(Refusal::Failed);
+    };
+    let _ = stream.set_read_timeout(Some(Duration::from_millis(TURN)));
+    let _ = stream.set_write_timeout(Some(Duration::from_secs(PATIENCE)));
+    let origins = hall.manner.origins;
+    let admitted = admit(hall.alloc, stream, place.port(), origins, None);
+    let _ = stream.set_read_timeout(None);
+    let _ = stream.set_write_timeout(None);
+    match admitted {
+        Ok(_socket) => Ok(()),
+        Err(refusal) => Err(refusal),
+    }
+}
+
+/// Tells that a connection may not come in, and why.
+fn tell_sent_away<R: Wait, J: BookNames, C: Checkpoint>(hall: &Hall<R, J, C>, refusal: Refusal) {
+    if let Ok(word) = refusal.to_string(hall.alloc) {
+        let reason = Reason {
+            code: 0,
+            word: word.as_str(),
+        };
+        hall.tell(&Event::SessionRefused { reason });
+    }
+}

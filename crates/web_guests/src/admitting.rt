@@ -1,0 +1,99 @@
+//! Letting a guest in, or sending it away.
+ghost use Rattle.std.specs.Prelude.{◌≡◌, length, take, IfOk, OnOk};
+ghost use Rattle.httparse.specs.Spans.{IsRequestWithin, IsRequestOf, span_bytes};
+ghost use Rattle.websocket.specs.Handshake.{requested_key};
+ghost use Rattle.websocket.specs.Headers.{fields_of};
+ghost use Rattle.tungstenite.specs.Heads.{Serves};
+ghost use Rattle.tungstenite.specs.Config.{HasLimitsOf};
+ghost use Rattle.web_guests.specs.Admitting.{Judged, CameIn};
+
+use crate::guest::may_come;
+use crate::head::read_head;
+use crate::origin::Origin;
+use crate::refusal::Refusal;
+use crate::stated::Stated;
+use byte_streams::put;
+use httparse::spans::{EMPTY_HEADER_SPAN, HeaderSpan, RequestSpans};
+use std::alloc::Global;
+use std::io::{Read, Write};
+use tungstenite::{NoMask, Role, WebSocket, WebSocketConfig};
+use websocket::handshake::server::{check_request, write_response};
+
+/// The most fields of a head.
+const MOST_FIELDS: usize = 64;
+
+/// Lets a guest in that asks for a WebSocket and may come, or tells it why not and closes the stream.
+/// Nothing after its head was read then. The stream has to have a time limit for each read and
+/// write: the head takes 100 reads at most.
+pub fn admit<S: Read + Write + Drop>(
+    alloc: Global,
+    mut stream: S,
+    port: u16,
+    named: &[Origin],
+    config: Option<WebSocketConfig>,
+) -> Result<WebSocket<S, NoMask>, Refusal>
+    ensures came { IfOk result (λ socket.
+        CameIn S.remaining S.contents port named.now stream socket.stream) }
+    ensures serves { IfOk result Serves }
+    ensures limits { IfOk result (λ socket. HasLimitsOf socket.conn.config config) }
+{
+    match let_in(alloc, &mut stream, port, named) {
+        Ok(()) => Ok(WebSocket::from_raw_socket(
+            alloc,
+            stream,
+            NoMask,
+            Role::Server,
+            config,
+        )),
+        Err(refusal) => {
+            // It is sent away also where it doesn't listen.
+            let _ = put(&mut stream, refusal.answer());
+            Err(refusal)
+        }
+    }
+}
+
+/// Reads a guest's head, and answers it if the guest may come in.
+fn let_in<S: Read + Write>(
+    alloc: Global,
+    stream: &mut S,
+    port: u16,
+    named: &[Origin],
+) -> Result<(), Refusal>
+    ensures { OnOk result (CameIn S.remaining S.contents port named.now stream.old stream.new) }
+{
+    let mut head = Vec::new(alloc);
+    let mut spans = [EMPTY_HEADER_SPAN; MOST_FIELDS];
+    let found = read_head(stream, &mut head, &mut spans)?;
+    let accept = judge(&head, &found, &spans, port, named)?;
+    let mut answer = Vec::new(alloc);
+    if write_response(&accept, &[], &mut answer).is_err() {
+        return Err(Refusal::OutOfMemory);
+    }
+    match put(stream, &answer) {
+        Ok(()) => Ok(()),
+        Err(_) => Err(Refusal::Failed),
+    }
+}
+
+/// The key that answers a head, if its guest may come in and asks for a WebSocket.
+fn judge(
+    head: &[u8],
+    found: &RequestSpans,
+    spans: &[HeaderSpan],
+    port: u16,
+    named: &[Origin],
+) -> Result<[u8; 28], Refusal>
+    requires { IsRequestWithin head.now spans.now found.now }
+    ensures { Judged port named.now (span_bytes head.now found.now.method) found.now.version
+        (fields_of head.now (take found.now.headers spans.now)) result }
+{
+    let fields = &spans[..found.headers];
+    let host = Stated::of(head, fields, b"Host");
+    let origin = Stated::of(head, fields, b"Origin");
+    may_come(host, origin, port, named)?;
+    match check_request(head, found, spans) {
+        Ok(accept) => Ok(accept),
+        Err(error) => Err(Refusal::of(error)),
+    }
+}

@@ -1,0 +1,4 @@
+pub mod Answering
+pub mod Endings
+pub mod Lines
+pub mod Reading

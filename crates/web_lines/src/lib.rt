@@ -1,0 +1,14 @@
+//! The lines of a session over a WebSocket (RFC 6455): its text messages are what the session
+//! reads, and each line that it writes is one text message.
+#![tactic(auto)]
+
+mod answer_messages;
+mod connection;
+mod ending;
+mod held_lines;
+mod message_lines;
+
+pub use answer_messages::AnswerMessages;
+pub use connection::LONGEST;
+pub use ending::Ending;
+pub use message_lines::MessageLines;
