@@ -214,6 +214,18 @@ def comes(daemon):
     return found[-1]
 
 
+def last_place(daemon):
+    """A WebSocket that has the last place, once it is free: it is there for those who ask for the status."""
+    found = []
+
+    def has_it():
+        found.append(daemon.open())
+        return found[-1].ask(STATUS) != BUSY
+
+    within("the last place", has_it)
+    return found[-1]
+
+
 def check_places(checks, program):
     """WebSockets and sessions of lines share 32 places, the last one is for whoever asks for the status or a stop."""
     daemon = web_daemon(program, "places")
@@ -222,9 +234,10 @@ def check_places(checks, program):
     made = daemon.open()
     checks.same("the last place isn't for reading", (made.ask(READ), made.answer() in (1000, 1001, None)), (BUSY, True))
     made.close()
-    made = comes(daemon)
-    checks.same("but for the status", made.ask(STATUS)["ok"], True)
-    checks.same("one that finds no place", said(daemon.web, head(daemon.web)[0]), 503)
+    made = last_place(daemon)
+    turned = daemon.open()
+    checks.same("one that finds no place is told so", (turned.status, turned.answer(), turned.answer() in (1000, 1001, None)), (101, BUSY, True))
+    turned.close()
     for it in (made, *held[1:]):
         it.close()
     comes(daemon).close()

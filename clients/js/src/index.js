@@ -8,3 +8,4 @@ export { Reading } from "./reading.js";
 export { Ended, NoDaemon, Refused, Stale } from "./refusals.js";
 export { Session } from "./session.js";
 export { Watch } from "./watch.js";
+export { WebConnection, connectWeb, watchWeb } from "./web.js";

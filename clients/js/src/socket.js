@@ -2,16 +2,12 @@
 
 import { createConnection } from "node:net";
 
+import { connectBy } from "./connecting.js";
 import { Lines } from "./lines.js";
-import { Ended, NoDaemon } from "./refusals.js";
-import { Session } from "./session.js";
 import { Watch } from "./watch.js";
 
 /** A daemon listens on this machine alone. */
 const HOST = "127.0.0.1";
-
-/** Milliseconds until somebody who listens has to answer. */
-const PATIENCE = 10_000;
 
 /** The lines of a connection. */
 class Connection {
@@ -62,20 +58,10 @@ class Connection {
  * If the connection ends, the session connects again to the same port, which it takes for the same file, and sends again
  * what wasn't answered. It asks first for an edit that it was answered, and is `Ended` if another file is served there.
  * @param {number} port
- * @param {{patience?: number, timeout?: number | null, retry?: number | null}} options `patience`: milliseconds until
- *   somebody who listens has to have answered first; `timeout`: those without a byte while an answer is due, or null for
- *   no limit; `retry`: those without an answer for which a daemon is looked for, 10,000 unless it is given, or null to
- *   send nothing twice and give edits no token, as where another file may come to the port
+ * @param {import("./connecting.js").Options} options
  */
-export async function connect(port, { patience = PATIENCE, timeout, retry } = {}) {
-  const again = () => connection(port, patience, timeout);
-  const begun = await again();
-  try {
-    return new Session(begun, retry === null ? { timeout } : { timeout, again, retry });
-  } catch (error) {
-    begun.abandon();
-    throw error;
-  }
+export function connect(port, options = {}) {
+  return connectBy(() => new Connection(port), (fault) => noDaemon(port, fault), options);
 }
 
 /**
@@ -91,32 +77,11 @@ export function watch(port, document, options = {}) {
 }
 
 /**
- * A connection for which the daemon has a place.
- * @param {number} port
- * @param {number} patience
- * @param {number | null | undefined} timeout
- */
-async function connection(port, patience, timeout) {
-  const begun = new Connection(port);
-  const timer = setTimeout(() => begun.abandon(), patience);
-  try {
-    // A daemon without a place for this session says so in place of the answer.
-    await new Session(begun, { timeout }).send({ op: "status" });
-  } catch (error) {
-    begun.abandon();
-    throw error instanceof Ended ? noDaemon(port, begun.fault) : error;
-  } finally {
-    clearTimeout(timer);
-  }
-  return begun;
-}
-
-/**
  * @param {number} port
  * @param {string | undefined} fault
  */
 function noDaemon(port, fault) {
   return fault === undefined
-    ? new NoDaemon(`no session is served on port ${port}: name the port behind --sessions, not that behind --peers`)
-    : new NoDaemon(`nobody listens on port ${port} (${fault}): start \`peritext serve FILE --sessions ${port} --peers PORT\``);
+    ? `no session is served on port ${port}: name the port behind --sessions, not that behind --peers`
+    : `nobody listens on port ${port} (${fault}): start \`peritext serve FILE --sessions ${port} --peers PORT\``;
 }

@@ -19,6 +19,7 @@ function run(name, missing) {
 }
 
 const noProgram = program === undefined ? "for PERITEXT names no program" : undefined;
+const noWebSocket = globalThis.WebSocket || existsSync(`${LIBRARIES}/ws`) ? undefined : "for there is no WebSocket before Node 22, and node-ws isn't installed";
 const noEditor = hasEditor ? undefined : "for node-prosemirror-state isn't installed";
 run("client");
 run("cuts");
@@ -27,6 +28,7 @@ run("again");
 run("file", noProgram);
 run("daemon", noProgram);
 run("watch", noProgram);
+run("web", noProgram ?? noWebSocket);
 run("slow", noProgram);
 run("paragraphs", noEditor);
 run("binding", noEditor);

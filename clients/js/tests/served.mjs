@@ -27,10 +27,11 @@ async function isHeard(port) {
   return heard;
 }
 
-/** A daemon over a file, on a port for sessions that may be given. */
-export async function start(file, given) {
+/** A daemon over a file, on a port for sessions that may be given, and one for WebSockets if there is to be one. */
+export async function start(file, given, web) {
   const [port, peers] = [given ?? (await freePort()), await freePort()];
-  const child = spawn(program, ["serve", file, "--sessions", port, "--peers", peers], { stdio: "ignore" });
+  const pages = web === undefined ? [] : ["--web", web];
+  const child = spawn(program, ["serve", file, "--sessions", port, "--peers", peers, ...pages], { stdio: "ignore" });
   const ended = once(child, "exit");
   while (!(await isHeard(port))) await new Promise((done) => setTimeout(done, 20));
   const kill = async () => {
@@ -40,11 +41,11 @@ export async function start(file, given) {
   return { port, peers, pid: child.pid, ended, kill };
 }
 
-/** Runs a test over a daemon that is gone afterwards. */
-export function withDaemon(work) {
+/** Runs a test over a daemon that is gone afterwards, with a port for WebSockets if it is given one. */
+export function withDaemon(work, web) {
   return withFile(async (file) => {
     await init(file, { program });
-    const daemon = await start(file);
+    const daemon = await start(file, undefined, web);
     try {
       await work(daemon, file);
     } finally {

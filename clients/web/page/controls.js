@@ -1,4 +1,4 @@
-/** The state of the daemons and of the link between them, as the bridge tells it, and the switches for them. */
+/** The state of the daemons and of the link between them, as the demo tells it, and the switches for them. */
 
 const LINK = {
   linked: ["linked", "Part them"],
@@ -7,16 +7,21 @@ const LINK = {
   parted: ["parted", "Join them"],
 };
 
-/** Milliseconds until the bridge is looked for again. */
+/** Milliseconds until the demo is looked for again. */
 const AGAIN = 1_000;
 
 export class Controls {
   #web;
   #cards;
+  #onPort;
 
-  /** @param {Map<string, HTMLElement>} cards the card of each peer */
-  constructor(cards) {
+  /**
+   * @param {Map<string, HTMLElement>} cards the card of each peer
+   * @param {(name: string, port: number | undefined) => void} onPort is told where a peer's daemon takes WebSockets
+   */
+  constructor(cards, onPort) {
     this.#cards = cards;
+    this.#onPort = onPort;
     document.querySelector("#link-switch").addEventListener("click", ({ target }) => this.#tell(target.dataset.does));
     for (const [name, card] of cards) {
       card.querySelector(".power").addEventListener("click", ({ target }) => this.#tell(`${target.dataset.does} ${name}`));
@@ -41,7 +46,10 @@ export class Controls {
     const areUp = Object.values(daemons).every(({ state }) => state === "running");
     const words = LINK[link === "joining" && !areUp ? "waiting" : link];
     this.#showLink(link, ...words, link === "parted" ? "join" : "part");
-    for (const [name, { state, fault }] of Object.entries(daemons)) this.#showDaemon(this.#cards.get(name), state, fault);
+    for (const [name, { state, fault, web }] of Object.entries(daemons)) {
+      this.#showDaemon(this.#cards.get(name), state, fault);
+      this.#onPort(name, web);
+    }
   }
 
   #showLost() {

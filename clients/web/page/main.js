@@ -14,6 +14,7 @@ function showSameness() {
 }
 
 const peers = [];
+const byName = new Map();
 const template = document.querySelector("#peer");
 const cards = new Map();
 for (const name of NAMES) {
@@ -23,8 +24,11 @@ for (const name of NAMES) {
   cards.set(name, card);
 }
 
-for (const [name, card] of cards) peers.push(new Peer(name, card, showSameness));
-new Controls(cards);
+for (const [name, card] of cards) {
+  byName.set(name, new Peer(name, card, showSameness));
+  peers.push(byName.get(name));
+}
+new Controls(cards, (name, port) => (byName.get(name).port = port));
 
 // What waits is in this page alone, and would go with it.
 addEventListener("beforeunload", (event) => {

@@ -27,6 +27,8 @@ const AGAIN = 400;
 
 export class Peer {
   #name;
+  /** Where the daemon takes WebSockets, while it runs. */
+  #port;
   #place;
   #onChange;
   #notice;
@@ -57,6 +59,10 @@ export class Peer {
     this.#run();
   }
 
+  set port(port) {
+    this.#port = port;
+  }
+
   /** What the editor shows, or nothing before the first reading. */
   get doc() {
     return this.#view?.state.doc;
@@ -70,23 +76,28 @@ export class Peer {
   /** Connects to the daemon again and again: what is typed meanwhile waits in the editor, and is sent behind it. */
   async #run() {
     for (;;) {
-      const wire = this.#newWire();
-      try {
-        const session = new Session(wire);
-        // The last place is for those who first ask for the status.
-        await session.settled();
-        await this.#begin(session.document(DOCUMENT));
-        await this.#follow(wire);
-      } catch (error) {
-        this.#fail(error);
-      }
-      wire.close();
+      if (this.#port !== undefined) await this.#serve();
       await pause(AGAIN);
     }
   }
 
+  /** Serves the editor over one connection, to its end. */
+  async #serve() {
+    const wire = this.#newWire();
+    try {
+      const session = new Session(wire);
+      // The last place is for those who first ask for the status.
+      await session.settled();
+      await this.#begin(session.document(DOCUMENT));
+      await this.#follow(wire);
+    } catch (error) {
+      this.#fail(error);
+    }
+    wire.close();
+  }
+
   #newWire() {
-    return new Wire(`session/${this.#name}`);
+    return new Wire(this.#port);
   }
 
   /** Shows what others do, until the session ends. */

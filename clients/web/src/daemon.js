@@ -20,6 +20,7 @@ export class Daemon {
   #program;
   #file;
   #link;
+  #origins;
   #onChange;
   #child;
   #starting;
@@ -36,12 +37,14 @@ export class Daemon {
    * @param {string} parts.program
    * @param {string} parts.file
    * @param {number} [parts.link] the port behind which the other daemon is
+   * @param {string[]} parts.origins whose pages may come in
    * @param {() => void} parts.onChange
    */
-  constructor({ program, file, link, onChange }) {
+  constructor({ program, file, link, origins, onChange }) {
     this.#program = program;
     this.#file = file;
     this.#link = link;
+    this.#origins = origins;
     this.#onChange = onChange;
   }
 
@@ -79,9 +82,10 @@ export class Daemon {
   }
 
   async #startOnce() {
-    const [sessions, peers] = await freePorts(2);
+    const [sessions, peers, web] = await freePorts(3);
     const link = this.#link === undefined ? [] : ["--link", this.#link];
-    const words = ["serve", this.#file, "--sessions", sessions, "--peers", peers, ...link];
+    const pages = ["--web", web, ...this.#origins.flatMap((origin) => ["--origin", origin])];
+    const words = ["serve", this.#file, "--sessions", sessions, "--peers", peers, ...link, ...pages];
     // In a group of its own: Ctrl-C is for who started this, and that one asks the daemon to stop.
     const child = spawn(this.#program, words, { stdio: ["ignore", "ignore", "pipe"], detached: true });
     this.#child = child;
@@ -89,7 +93,7 @@ export class Daemon {
     this.#become("starting", undefined);
     const end = this.#endOf(child);
     await Promise.race([isServing(sessions, () => this.#child === child), end.then((error) => Promise.reject(error))]);
-    this.#become("running", { sessions, peers });
+    this.#become("running", { sessions, peers, web });
   }
 
   /** Why a child ended, once it has. */

@@ -4,9 +4,9 @@ import { existsSync, mkdirSync } from "node:fs";
 import { join } from "node:path";
 
 import { init } from "../../js/src/node.js";
-import { Bridge } from "./bridge.js";
 import { Daemon } from "./daemon.js";
 import { Files } from "./files.js";
+import { PageServer } from "./page_server.js";
 import { Relay } from "./relay.js";
 
 /** Whose files there are. The second daemon joins the first one, through the relay. */
@@ -19,11 +19,7 @@ export class Demo {
   #webs = new Set();
   #told = "";
   #relay = new Relay(() => this.#daemons.get(NAMES[0])?.ports?.peers, () => this.#tell());
-  #bridge = new Bridge({
-    files: new Files(),
-    portOf: (name) => this.#daemons.get(name)?.ports?.sessions,
-    control: (web) => this.#control(web),
-  });
+  #server = new PageServer({ files: new Files(), control: (web) => this.#control(web) });
 
   /**
    * @param {string} program
@@ -38,8 +34,9 @@ export class Demo {
   async start() {
     const relay = await this.#relay.listen();
     try {
+      await this.#server.listen();
       for (const [index, name] of NAMES.entries()) await this.#startOver(name, index === 0 ? undefined : relay);
-      return await this.#bridge.listen();
+      return this.#server.address;
     } catch (error) {
       await this.stop();
       throw error;
@@ -48,7 +45,7 @@ export class Demo {
 
   /** Stops both daemons, behind all that they were told. */
   async stop() {
-    this.#bridge.close();
+    this.#server.close();
     await Promise.all([...this.#daemons.values()].map((daemon) => daemon.stop()));
     this.#relay.close();
   }
@@ -69,14 +66,15 @@ export class Demo {
       mkdirSync(this.#folder, { recursive: true });
       await init(file, { program: this.#program });
     }
-    const daemon = new Daemon({ program: this.#program, file, link, onChange: () => this.#tell() });
+    const { origins } = this.#server;
+    const daemon = new Daemon({ program: this.#program, file, link, origins, onChange: () => this.#tell() });
     this.#daemons.set(name, daemon);
     await daemon.start();
   }
 
   /** What the page shows of all this. */
   #state() {
-    const daemons = [...this.#daemons].map(([name, { state, fault }]) => [name, { state, fault }]);
+    const daemons = [...this.#daemons].map(([name, { state, fault, ports }]) => [name, { state, fault, web: ports?.web }]);
     return JSON.stringify({ link: this.#relay.state, daemons: Object.fromEntries(daemons) });
   }
 

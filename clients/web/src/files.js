@@ -47,10 +47,10 @@ export class Files {
     return { content, headers: { "Content-Type": TYPES[extname(file)], "Content-Security-Policy": this.#policy(), "Cache-Control": "no-store" } };
   }
 
-  /** Nothing comes from elsewhere, and no other page frames this one. */
+  /** Nothing comes from elsewhere but from daemons of this machine, and no other page frames this one. */
   #policy() {
     const hash = createHash("sha256").update(this.#map).digest("base64");
-    return `default-src 'self'; img-src 'self' data:; script-src 'self' 'sha256-${hash}'; frame-ancestors 'none'; base-uri 'none'; form-action 'none'`;
+    return `default-src 'self'; connect-src 'self' ws://127.0.0.1:*; img-src 'self' data:; script-src 'self' 'sha256-${hash}'; frame-ancestors 'none'; base-uri 'none'; form-action 'none'`;
   }
 
   #addFolder(path, folder) {

@@ -1,4 +1,4 @@
-// The tests of the bridge and its page: node clients/web/tests/run.mjs
+// The tests of the page and what serves it: node clients/web/tests/run.mjs
 // PERITEXT names the program, PICTURES a folder for pictures of the page. What can't be tested here is said, with what to install.
 
 import { spawnSync } from "node:child_process";
@@ -21,7 +21,7 @@ function run(name, lack) {
 
 const program = process.env.PERITEXT || "bin/peritext";
 const noProgram = existsSync(program) ? undefined : `for there is no program ${program}: make peritext`;
-run("bridge", missing());
+run("page_server", missing());
 run("demo", missing() ?? noProgram);
 run("kills", missing() ?? noProgram);
 for (const name of ["browser", "comments", "tools", "typing", "wire"]) run(name, missing() ?? noProgram ?? missingBrowser());

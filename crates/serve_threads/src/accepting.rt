@@ -46,7 +46,6 @@ pub(crate) fn accept<
     C: Checkpoint + Sync,
 >(hall: &Hall<R, J, C>, kind: Kind, door: &Door) {
     let rt = hall.rt;
-    let lobby = hall.lobby(kind);
     thread::scope(thread::scope_env(), rt, |scope| {
         for stream in door.listener().incoming() {
             if hall.ending.is_asked(rt) {
@@ -56,12 +55,12 @@ pub(crate) fn accept<
                 thread::sleep(rt, Duration::from_millis(PAUSE));
                 continue;
             };
-            let Some(entry) = lobby.enter(rt, &stream) else {
+            let Some((lobby, entry)) = hall.enter(kind, &stream) else {
                 turn_away(kind, &stream);
                 tell_refused(hall, kind, &stream);
                 continue;
             };
-            let served = scope.spawn(move || serve(hall, kind, entry, &stream));
+            let served = scope.spawn(move || serve(hall, lobby, kind, entry, &stream));
             if served.is_err() {
                 lobby.turn_away(rt, entry, kind);
                 hall.tell(&refused_at(kind, 0));
@@ -111,9 +110,10 @@ pub(crate) fn port_of(stream: &TcpStream) -> u16 {
     }
 }
 
-/// Serves a connection that is in the lobby of its kind, to its end, and gives its place back.
+/// Serves a connection that is in this lobby, to its end, and gives its place back.
 fn serve<R: Wait + Clock + Threads + Sync, J: BookNames + Send + Sync, C: Checkpoint + Sync>(
     hall: &Hall<R, J, C>,
+    lobby: &Lobby<J>,
     kind: Kind,
     entry: Entry,
     stream: &TcpStream,
@@ -125,16 +125,16 @@ fn serve<R: Wait + Clock + Threads + Sync, J: BookNames + Send + Sync, C: Checkp
                 reader: stream,
                 writer: stream,
             };
-            serve_session(hall, entry, caller);
+            serve_session(hall, lobby, entry, caller);
         }
-        Kind::Web => serve_web(hall, entry, stream),
+        Kind::Web => serve_web(hall, lobby, entry, stream),
         Kind::Link => {
             let place = LinkPlace {
                 link: entry.number,
                 is_joined: false,
                 port: port_of(stream),
             };
-            let _is_of_use = link(hall, &hall.links, entry, place, stream);
+            let _is_of_use = link(hall, lobby, entry, place, stream);
         }
     }
 }

@@ -1,6 +1,7 @@
 //! What the daemon's threads share.
 
 use crate::accepting::Kind;
+use crate::entry::Entry;
 use crate::lobby::Lobby;
 use crate::sockets::Manner;
 use event_journal::Event;
@@ -10,10 +11,14 @@ use pass_books::BookNames;
 use shared_desk::{End, Ending};
 use shared_hub::{Checkpoint, Named, Shared};
 use std::alloc::{AllocError, Global};
+use std::net::TcpStream;
 use std::sync::{Mutex, Wait};
 
 /// How many sessions are served at once; the other passes are for links.
 const SESSIONS: usize = 32;
+
+/// How many WebSockets are told at once that there is no place for them.
+const REFUSED: usize = 8;
 
 /// How many links of peers that came in are served beside the one that the daemon joins.
 const OTHERS: usize = 7;
@@ -36,6 +41,8 @@ pub(crate) struct Hall<'a, R: Wait, J: BookNames, C: Checkpoint> {
     pub own: ReplicaId,
     pub shared: Shared<J>,
     pub sessions: Lobby<J>,
+    /// WebSockets for which there is no place: they are told so.
+    pub refused: Lobby<J>,
     /// The links of peers that came in.
     pub links: Lobby<J>,
     /// The link that the daemon joins by itself: others can't take its place.
@@ -76,6 +83,7 @@ impl<'a, R: Wait, J: BookNames, C: Checkpoint> Hall<'a, R, J, C> {
             own,
             shared,
             sessions: Lobby::new(alloc, sessions)?,
+            refused: Lobby::without_passes(alloc, REFUSED)?,
             links: Lobby::new(alloc, links)?,
             own_link: Lobby::new(alloc, own_link)?,
             read_turn: Mutex::new(()),
@@ -103,11 +111,20 @@ impl<'a, R: Wait, J: BookNames, C: Checkpoint> Hall<'a, R, J, C> {
         shared.end().into_locked()
     }
 
-    /// Those of one kind that came in.
-    pub fn lobby(&self, kind: Kind) -> &Lobby<J> {
-        match kind {
+    /// Lets a connection in, and gives its lobby and its entry; not where all places are taken. A
+    /// WebSocket can be told that only once its request was read and answered.
+    pub fn enter(&self, kind: Kind, stream: &TcpStream) -> Option<(&Lobby<J>, Entry)> {
+        let lobby = match kind {
             Kind::Session | Kind::Web => &self.sessions,
             Kind::Link => &self.links,
+        };
+        if let Some(entry) = lobby.enter(self.rt, stream) {
+            return Some((lobby, entry));
         }
+        if kind != Kind::Web {
+            return None;
+        }
+        let entry = self.refused.enter(self.rt, stream)?;
+        Some((&self.refused, entry))
     }
 }

@@ -41,6 +41,19 @@ impl<J: BookNames> Lobby<J> {
     /// Nobody is connected. An error is out of memory (1).
     pub fn new(alloc: Global, passes: Vec<Pass<J>>) -> Result<Lobby<J>, AllocError> {
         let places = passes.len();
+        Lobby::with_places(alloc, passes, places)
+    }
+
+    /// Nobody is connected, and nobody will get a pass: so many are told that at once.
+    pub fn without_passes(alloc: Global, places: usize) -> Result<Lobby<J>, AllocError> {
+        Lobby::with_places(alloc, Vec::new(alloc), places)
+    }
+
+    fn with_places(
+        alloc: Global,
+        passes: Vec<Pass<J>>,
+        places: usize,
+    ) -> Result<Lobby<J>, AllocError> {
         let connected = Vec::with_capacity(alloc, places)?;
         Ok(Lobby {
             inside: Mutex::new(Inside {

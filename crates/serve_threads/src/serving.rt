@@ -255,6 +255,7 @@ fn end_all<
 >(hall: &Hall<R, J, C>, doors: &Doors) {
     let rt = hall.rt;
     hall.sessions.close(rt);
+    hall.refused.close(rt);
     hall.links.close_at_once(rt);
     hall.own_link.close_at_once(rt);
     if hall.ending.asked(rt) != Some(End::Renewal) {
@@ -262,6 +263,7 @@ fn end_all<
     }
     hall.sessions
         .clear(rt, Duration::from_millis(SESSION_WORDS));
+    hall.refused.clear(rt, Duration::from_millis(LINK_WORDS));
     hall.shared.close(rt);
     hall.links.clear(rt, Duration::from_millis(LINK_WORDS));
     hall.own_link.clear(rt, Duration::from_millis(LINK_WORDS));

@@ -4,6 +4,7 @@ use crate::caller::{Answers, Caller};
 use crate::entry::Entry;
 use crate::hall::Hall;
 use crate::last_words::send_last_words;
+use crate::lobby::Lobby;
 use crate::until_closed::UntilClosed;
 use crate::watch_thread::watch;
 use event_journal::{Event, Reason};
@@ -23,8 +24,8 @@ use std::time::Duration;
 /// How long a read of a session that has the last place waits for its first line, in milliseconds.
 const TURN: u64 = 10;
 
-/// Serves a session whose connection is in the lobby, to its end, and gives its place back. One for
-/// which there is no memory is answered 8, and so is one that has the last place and asks first for
+/// Serves a session whose connection is in this lobby, to its end, and gives its place back. One for
+/// which there is no memory or no pass is answered 8, and so is one that has the last place and asks first for
 /// anything but the status or a stop.
 pub(crate) fn serve_session<
     R: Wait + Clock,
@@ -32,7 +33,7 @@ pub(crate) fn serve_session<
     C: Checkpoint,
     S: Read + Drop,
     W: Answers + Drop,
->(hall: &Hall<R, J, C>, entry: Entry, caller: Caller<'_, S, W>) {
+>(hall: &Hall<R, J, C>, lobby: &Lobby<J>, entry: Entry, caller: Caller<'_, S, W>) {
     let Caller {
         stream,
         mut reader,
@@ -42,13 +43,13 @@ pub(crate) fn serve_session<
     let pass = if entry.has_last && !may_have_last(hall.alloc, stream, &mut reader, &mut first) {
         None
     } else {
-        hall.sessions.take_pass(hall.rt)
+        lobby.take_pass(hall.rt)
     };
     let pass = match pass {
         Some(pass) => {
             let rest = UntilClosed {
                 rt: hall.rt,
-                lobby: &hall.sessions,
+                lobby,
                 entry,
                 reader,
             };
@@ -66,7 +67,7 @@ pub(crate) fn serve_session<
             None
         }
     };
-    hall.sessions.leave(hall.rt, entry, pass);
+    lobby.leave(hall.rt, entry, pass);
 }
 
 /// Tells that a session was turned away.

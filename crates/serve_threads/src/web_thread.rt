@@ -4,6 +4,7 @@ use crate::caller::Caller;
 use crate::entry::Entry;
 use crate::hall::Hall;
 use crate::last_words::send_last_words;
+use crate::lobby::Lobby;
 use crate::session_thread::serve_session;
 use event_journal::{Event, Reason};
 use pass_books::BookNames;
@@ -21,17 +22,18 @@ const TURN: u64 = 20;
 /// How long one write of the answer to it waits, in seconds.
 const PATIENCE: u64 = 2;
 
-/// Serves a session whose connection is in the lobby, once it asked for a WebSocket and may come,
+/// Serves a session whose connection is in this lobby, once it asked for a WebSocket and may come,
 /// to its end, and gives its place back.
 pub(crate) fn serve_web<R: Wait + Clock, J: BookNames, C: Checkpoint>(
     hall: &Hall<R, J, C>,
+    lobby: &Lobby<J>,
     entry: Entry,
     stream: &TcpStream,
 ) {
     if let Err(refusal) = let_in(hall, stream) {
         send_last_words(stream);
         tell_sent_away(hall, refusal);
-        hall.sessions.leave(hall.rt, entry, None);
+        lobby.leave(hall.rt, entry, None);
         return;
     }
     let caller = Caller {
@@ -39,7 +41,7 @@ pub(crate) fn serve_web<R: Wait + Clock, J: BookNames, C: Checkpoint>(
         reader: MessageLines::new(hall.alloc, stream),
         writer: AnswerMessages::new(hall.alloc, stream),
     };
-    serve_session(hall, entry, caller);
+    serve_session(hall, lobby, entry, caller);
 }
 
 /// Reads what a connection asks for, and answers that.

@@ -1,22 +1,20 @@
-/** A server for one page on this machine: its files, a WebSocket for each session, and one for the controls. */
+/** A server for one page on this machine: its files, and a WebSocket for its controls. */
 
 import { once } from "node:events";
 import { createServer } from "node:http";
 
-import { carry } from "./carry.js";
 import { webSockets } from "./packages.js";
 
 const HOST = "127.0.0.1";
 
-/** A request's line has at most 65,536 bytes; a message has one line or some. */
-const MESSAGE = 1 << 17;
+/** A command is short. */
+const MESSAGE = 1 << 10;
 
-/** How many WebSockets there are at once: as many as two daemons have places for sessions. */
+/** How many pages have controls at once. */
 const PLACES = 64;
 
-export class Bridge {
+export class PageServer {
   #files;
-  #portOf;
   #control;
   #server;
   #sockets;
@@ -24,23 +22,31 @@ export class Bridge {
   /**
    * @param {object} parts
    * @param {import("./files.js").Files} parts.files
-   * @param {(name: string) => number | undefined} parts.portOf the session port of a name
    * @param {(web: import("ws").WebSocket) => void} parts.control takes a WebSocket for the controls
    */
-  constructor({ files, portOf, control }) {
+  constructor({ files, control }) {
     this.#files = files;
-    this.#portOf = portOf;
     this.#control = control;
     this.#sockets = new (webSockets().WebSocketServer)({ noServer: true, maxPayload: MESSAGE });
     this.#server = createServer((request, response) => this.#answer(request, response));
     this.#server.on("upgrade", (request, socket, head) => this.#upgrade(request, socket, head));
   }
 
-  /** Listens on a port that the system chooses, and gives the page's address. */
-  async listen(port = 0) {
-    this.#server.listen(port, HOST);
+  /** Listens on a port that the system chooses. */
+  async listen() {
+    this.#server.listen(0, HOST);
     await once(this.#server, "listening");
-    return `http://${HOST}:${this.#server.address().port}/`;
+  }
+
+  /** The origins of the page, as browsers name them: by each name that it is served under. */
+  get origins() {
+    const { port } = this.#server.address();
+    return [`http://${HOST}:${port}`, `http://localhost:${port}`];
+  }
+
+  /** The page's address. */
+  get address() {
+    return `${this.origins[0]}/`;
   }
 
   close() {
@@ -66,19 +72,10 @@ export class Bridge {
 
   #upgrade(request, socket, head) {
     socket.on("error", () => socket.destroy());
-    const take = this.#takerOf(request.url);
     if (!this.#isHere(request) || request.headers.origin !== `http://${request.headers.host}`) return end(socket, "403 Forbidden");
-    if (take === undefined) return end(socket, "404 Not Found");
+    if (request.url !== "/control") return end(socket, "404 Not Found");
     if (this.#sockets.clients.size >= PLACES) return end(socket, "503 Service Unavailable");
-    this.#sockets.handleUpgrade(request, socket, head, take);
-  }
-
-  /** Who takes the WebSocket of a path. */
-  #takerOf(path) {
-    if (path === "/control") return this.#control;
-    const [, name] = /^\/session\/(\w+)$/.exec(path) ?? [];
-    const port = name && this.#portOf(name);
-    return port ? (web) => carry(web, port) : undefined;
+    this.#sockets.handleUpgrade(request, socket, head, this.#control);
   }
 }
 
