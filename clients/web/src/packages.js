@@ -1,4 +1,4 @@
-/** Debian's packages for Node: those that the bridge loads, and those that the page gets. */
+/** Debian's packages for Node: those that the demo loads, and those that the page gets. */
 
 import { existsSync, readFileSync } from "node:fs";
 import { createRequire } from "node:module";

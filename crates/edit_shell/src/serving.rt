@@ -161,6 +161,7 @@ fn open_file<R: Files<File = File> + AllocGlobal>(
 
 /// Serves a file that is open over its sockets, and tells of its beginning and end.
 fn serve_opened<
+    'a,
     R: Clock
         + Wait
         + Threads
@@ -168,11 +169,11 @@ fn serve_opened<
         + Net<Listener = TcpListener, Stream = TcpStream>
         + AllocGlobal,
 >(
-    rt: &R,
+    rt: &'a R,
     order: ServeOrder<'_>,
     parts: Parts<FileDisk>,
-    sockets: Sockets<'_>,
-    beside: Beside<'_>,
+    sockets: Sockets<'a>,
+    beside: Beside<'a>,
 ) -> Result<(), Fault>
     requires { parts.locked.replica.steps ≡ [] }
 {

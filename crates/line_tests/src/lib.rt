@@ -15,3 +15,7 @@ mod stream_tests;
 mod token_tests;
 #[cfg(test)]
 mod watch_tests;
+#[cfg(test)]
+mod web_guest_tests;
+#[cfg(test)]
+mod web_tests;

@@ -7,7 +7,7 @@ use crate::over::Over;
 use crate::telling::Telling;
 use op_ids::ReplicaId;
 use pass_books::{BookNames, Pass};
-use rtrb::RingBuffer;
+use rtrb::{Consumer, Producer, RingBuffer};
 use shared_hub::{Checkpoint, Shared};
 use std::alloc::Global;
 use std::net::{Shutdown, TcpStream};
@@ -53,6 +53,7 @@ pub struct Links<'a, R: Wait + Clock, J: BookNames, C: Checkpoint> {
 /// became of it, and the log of the greeting and the end. It isn't begun once the hub's links are
 /// over.
 pub fn serve_link<
+    'a,
     R: Wait + Clock + Threads + Sync,
     J: BookNames + Send + Sync,
     C: Checkpoint + Sync,
@@ -69,27 +70,31 @@ pub fn serve_link<
         log.ended(rt, alloc, Over::NoMemory);
         return Parted::AT_ONCE;
     };
-    let link = pass.number();
-    let mut hearing = Hearing::new(links, &end, pass, producer, log);
-    let telling = Telling::new(rt, links.shared, &end, link, consumer);
-    hear_and_tell(links, &mut hearing, telling, stream);
-    links.shared.forget_peer(rt, link);
-    log.ended(rt, alloc, hearing.over);
+    let parted = hear_and_tell(links, &end, pass, (producer, consumer), stream, log);
     Parted {
-        was_of_use: hearing.has_taken || end.was_taken(rt),
-        is_out_of_steps: hearing.is_out_of_steps,
+        was_of_use: parted.was_of_use || end.was_taken(rt),
+        is_out_of_steps: parted.is_out_of_steps,
     }
 }
 
-/// This thread hears, and another one tells, until the link ends.
-fn hear_and_tell<'a, R: Wait + Clock + Threads + Sync, J: BookNames + Send + Sync, C: Checkpoint>(
+/// This thread hears, and another one tells, until the link ends. Tells what became of it, as far
+/// as this end took operations of the other.
+fn hear_and_tell<
+    'a,
+    R: Wait + Clock + Threads + Sync,
+    J: BookNames + Send + Sync,
+    C: Checkpoint + Sync,
+>(
     links: &Links<'a, R, J, C>,
-    hearing: &mut Hearing<'a, R, J, C>,
-    telling: Telling<'a, R, J>,
+    end: &'a LinkEnd,
+    pass: &'a mut Pass<J>,
+    (producer, consumer): (Producer<u8>, Consumer<u8>),
     stream: &'a TcpStream,
-) {
-    let (rt, alloc) = (links.rt, links.alloc);
-    let (link, end) = (hearing.pass.number(), hearing.end);
+    log: LinkLog<'a>,
+) -> Parted {
+    let (rt, alloc, link) = (links.rt, links.alloc, pass.number());
+    let mut hearing = Hearing::new(links, end, pass, producer, log);
+    let telling = Telling::new(rt, links.shared, end, link, consumer);
     thread::scope(thread::scope_env(), rt, |scope| {
         let mut telling = telling;
         let told = scope.spawn(move || {
@@ -105,4 +110,10 @@ fn hear_and_tell<'a, R: Wait + Clock + Threads + Sync, J: BookNames + Send + Syn
         end.end_unless_due(rt);
         links.shared.call(rt, link);
     });
+    links.shared.forget_peer(rt, link);
+    log.ended(rt, alloc, hearing.over);
+    Parted {
+        was_of_use: hearing.has_taken,
+        is_out_of_steps: hearing.is_out_of_steps,
+    }
 }

@@ -50,7 +50,13 @@ pub fn serve_disk<
     D: Disk + Drop,
     R: Wait + Clock + Threads + Net<Listener = TcpListener, Stream = TcpStream> + Sync,
     C: Checkpoint + Sync,
->(rt: &R, alloc: Global, disk: D, sockets: Sockets<'a>, checkpoint: &C) -> Option<Served<'a, D>> {
+>(
+    rt: &'a R,
+    alloc: Global,
+    disk: D,
+    sockets: Sockets<'a>,
+    checkpoint: &'a C,
+) -> Option<Served<'a, D>> {
     let parts = parts(alloc, disk)?;
     serve_on(rt, alloc, parts, sockets, checkpoint).ok()
 }

@@ -26,11 +26,11 @@ pub fn serve_on<
     R: Wait + Clock + Threads + Net<Listener = TcpListener, Stream = TcpStream> + Sync,
     C: Checkpoint + Sync,
 >(
-    rt: &R,
+    rt: &'a R,
     alloc: Global,
     parts: Parts<D>,
     sockets: Sockets<'a>,
-    checkpoint: &C,
+    checkpoint: &'a C,
 ) -> Result<Served<'a, D>, OpenFault<D>>
     requires { parts.locked.replica.steps ≡ [] }
     // Each turn hands the disk back as `serve_all` does, and the next one opens that.

@@ -59,7 +59,13 @@ pub fn serve_all<
     D: Disk + Drop,
     R: Wait + Clock + Threads + Net<Listener = TcpListener, Stream = TcpStream> + Sync,
     C: Checkpoint + Sync,
->(rt: &R, alloc: Global, parts: Parts<D>, sockets: Sockets<'a>, checkpoint: &C) -> Served<'a, D>
+>(
+    rt: &'a R,
+    alloc: Global,
+    parts: Parts<D>,
+    sockets: Sockets<'a>,
+    checkpoint: &'a C,
+) -> Served<'a, D>
     requires { parts.locked.replica.steps ≡ [] }
     // What a crash leaves of the disk begins with what it left before.
     ensures { ComesBack D.DiskFacts parts.flusher result.disk }
@@ -97,7 +103,7 @@ fn serve_named<
     D: Disk + Drop,
     R: Wait + Clock + Threads + Net<Listener = TcpListener, Stream = TcpStream> + Sync,
     C: Checkpoint + Sync,
->(base: Base<'_, R, C>, opened: Opened, parts: Parts<D>, sockets: Sockets<'a>) -> Served<'a, D>
+>(base: Base<'a, R, C>, opened: Opened, parts: Parts<D>, sockets: Sockets<'a>) -> Served<'a, D>
     requires names { opened ≡ J.names }
     requires fresh { parts.locked.replica.steps ≡ [] }
     ensures { ComesBack D.DiskFacts parts.flusher result.disk }

@@ -17,7 +17,7 @@ use web_guests::{Refusal, admit};
 use web_lines::{AnswerMessages, MessageLines};
 
 /// How long one read of the head of its request waits, in milliseconds: it has two seconds in all.
-const TURN: u64 = 20;
+const TURN: u64 = 5;
 
 /// How long one write of the answer to it waits, in seconds.
 const PATIENCE: u64 = 2;

@@ -1,0 +1,3 @@
+pub mod AdmittingLemmas
+pub mod OriginLemmas
+pub mod StatingLemmas

@@ -47,3 +47,12 @@ pub record CameIn {S : Type 0} (remaining contents : S → Option (List ℕ)) (p
   pub asks : Asks port named bytes key
   pub read : Consumes (remaining old) (remaining between) bytes
   pub answered : Appends (contents between) (contents new) (response_bytes (accept_key_of key) [])
+
+-- the stream gave one whole head, of a guest that may not come in for this cause
+pub record MayNotCome {S : Type 0} (remaining : S → Option (List ℕ)) (port : ℕ) (named : List (List ℕ)) (old : S) (cause : Refusal) : Type 0 where
+  pub bytes : List ℕ
+  pub between : S
+  pub head : RequestHead
+  pub reads : ReadsRequest bytes head []
+  pub refused : field_check port named (map name_and_value head.fields) ≡ Err cause
+  pub read : Consumes (remaining old) (remaining between) bytes

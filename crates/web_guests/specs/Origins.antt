@@ -69,9 +69,13 @@ abbrev pub is_place : List ℕ → List ℕ → Bool
 is_place scheme place =
     is_host (take (host_end place) place) && is_port_tail scheme (drop (host_end place) place)
 
--- a scheme, "://", and a host with what may come after it, in at most 255 bytes
-abbrev pub is_origin : List ℕ → Bool
-is_origin text =
+-- a scheme, "://", and a host with what may come after it
+abbrev pub is_from_place : List ℕ → Bool
+is_from_place text =
     let scheme = take (until 58 text) text in
     let rest = drop (until 58 text) text in
-    bytes_eq (take 3 rest) (codes "://") && nat_le (length text) 255 && is_scheme scheme && is_place scheme (drop 3 rest)
+    bytes_eq (take 3 rest) (codes "://") && is_scheme scheme && is_place scheme (drop 3 rest)
+
+-- that in at most 255 bytes
+abbrev pub is_origin : List ℕ → Bool
+is_origin text = nat_le (length text) 255 && is_from_place text

@@ -1,11 +1,13 @@
 //! Letting a guest in, or sending it away.
-ghost use Rattle.std.specs.Prelude.{◌≡◌, length, take, IfOk, OnOk};
-ghost use Rattle.httparse.specs.Spans.{IsRequestWithin, IsRequestOf, span_bytes};
-ghost use Rattle.websocket.specs.Handshake.{requested_key};
+ghost use Rattle.std.specs.Prelude.{◌≡◌, [], true, false, take, IfOk, IfErr, OnOk};
+ghost use Rattle.std.specs.Io.KnownBytes.{Appends};
+ghost use Rattle.httparse.specs.Spans.{IsRequestWithin, span_bytes};
+ghost use Rattle.websocket.specs.Handshake.{requested_key, response_bytes};
 ghost use Rattle.websocket.specs.Headers.{fields_of};
-ghost use Rattle.tungstenite.specs.Heads.{Serves};
+ghost use Rattle.tungstenite.specs.Heads.{Serves, Heard};
 ghost use Rattle.tungstenite.specs.Config.{HasLimitsOf};
-ghost use Rattle.web_guests.specs.Admitting.{Judged, CameIn};
+ghost use Rattle.web_guests.specs.Admitting.{Judged, CameIn, MayNotCome};
+ghost use Rattle.web_guests.specs.Causes.{is_forbidden};
 
 use crate::guest::may_come;
 use crate::head::read_head;
@@ -22,9 +24,9 @@ use websocket::handshake::server::{check_request, write_response};
 /// The most fields of a head.
 const MOST_FIELDS: usize = 64;
 
-/// Lets a guest in that asks for a WebSocket and may come, or tells it why not and closes the stream.
-/// Nothing after its head was read then. The stream has to have a time limit for each read and
-/// write: the head takes 100 reads at most.
+/// Lets a guest in that asks for a WebSocket and may come, or tells it why not and closes the
+/// stream. Nothing after its head was read then. The stream has to have a time limit for each read
+/// and write: the head takes 400 reads at most.
 pub fn admit<S: Read + Write + Drop>(
     alloc: Global,
     mut stream: S,
@@ -36,15 +38,11 @@ pub fn admit<S: Read + Write + Drop>(
         CameIn S.remaining S.contents port named.now stream socket.stream) }
     ensures serves { IfOk result Serves }
     ensures limits { IfOk result (λ socket. HasLimitsOf socket.conn.config config) }
+    ensures sent_away { IfErr result (λ cause. is_forbidden cause ≡ true
+        → MayNotCome S.remaining port named.now stream cause) }
 {
     match let_in(alloc, &mut stream, port, named) {
-        Ok(()) => Ok(WebSocket::from_raw_socket(
-            alloc,
-            stream,
-            NoMask,
-            Role::Server,
-            config,
-        )),
+        Ok(()) => Ok(WebSocket::from_raw_socket(alloc, stream, NoMask, Role::Server, config)),
         Err(refusal) => {
             // It is sent away also where it doesn't listen.
             let _ = put(&mut stream, refusal.answer());
@@ -60,14 +58,27 @@ fn let_in<S: Read + Write>(
     port: u16,
     named: &[Origin],
 ) -> Result<(), Refusal>
-    ensures { OnOk result (CameIn S.remaining S.contents port named.now stream.old stream.new) }
+    ensures came { OnOk result
+        (CameIn S.remaining S.contents port named.now stream.old stream.new) }
+    ensures heard { OnOk result Heard }
+    ensures sent_away { IfErr result (λ cause. is_forbidden cause ≡ true
+        → MayNotCome S.remaining port named.now stream.old cause) }
 {
     let mut head = Vec::new(alloc);
     let mut spans = [EMPTY_HEADER_SPAN; MOST_FIELDS];
     let found = read_head(stream, &mut head, &mut spans)?;
     let accept = judge(&head, &found, &spans, port, named)?;
+    welcome(alloc, &accept, stream)
+}
+
+/// Answers a guest that comes in.
+fn welcome<W: Write>(alloc: Global, accept: &[u8; 28], stream: &mut W) -> Result<(), Refusal>
+    ensures ok { OnOk result (Appends (W.contents stream.old) (W.contents stream.new)
+        (response_bytes accept.now [])) }
+    ensures err { IfErr result (λ cause. is_forbidden cause ≡ false) }
+{
     let mut answer = Vec::new(alloc);
-    if write_response(&accept, &[], &mut answer).is_err() {
+    if write_response(accept, &[], &mut answer).is_err() {
         return Err(Refusal::OutOfMemory);
     }
     match put(stream, &answer) {

@@ -8,8 +8,8 @@ use crate::own_host::is_own_host;
 use crate::refusal::Refusal;
 use crate::stated::Stated;
 
-/// Whether a guest may come in: its host is this machine at this port, and it comes from no web page
-/// or from one of a named origin. It is refused for its host, and else for its origin.
+/// Whether a guest may come in: its host is this machine at this port, and it comes from no web
+/// page or from one of a named origin. It is refused for its host, and else for its origin.
 pub fn may_come(
     host: Stated<'_>,
     origin: Stated<'_>,

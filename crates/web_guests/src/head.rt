@@ -1,7 +1,8 @@
 //! Reading the head of a request.
-ghost use Rattle.std.specs.Prelude.{◌≡◌, ◌++◌, [], length, IfOk, OnOk};
+ghost use Rattle.std.specs.Prelude.{◌≡◌, ◌++◌, [], false, length, IfOk, IfErr, OnOk};
 ghost use Rattle.std.specs.Io.KnownBytes.{Consumes};
 ghost use Rattle.httparse.specs.Spans.{IsRequestWithin, IsRequestOf};
+ghost use Rattle.web_guests.specs.Causes.{is_forbidden};
 ghost use Rattle.web_guests.specs.Reading.{TakesMore};
 
 use crate::refusal::Refusal;
@@ -15,10 +16,10 @@ const LONGEST: usize = 8_192;
 
 /// How many times at most is read until the head is there. The caller's time limit is that of one
 /// read, so a guest that sends its head byte by byte keeps a place for that often at most.
-const TURNS: usize = 100;
+const TURNS: usize = 400;
 
-/// Reads a head from a stream of which nothing was read, and finds its parts. A guest that says more
-/// than its head before it is answered is refused.
+/// Reads a head from a stream of which nothing was read, and finds its parts. A guest that says
+/// more than its head before it is answered is refused.
 pub fn read_head<S: Read>(
     stream: &mut S,
     head: &mut Vec<u8>,
@@ -30,6 +31,7 @@ pub fn read_head<S: Read>(
     ensures within { IfOk result (IsRequestWithin head.new.items spans.new) }
     ensures parsed { IfOk result (IsRequestOf head.new.items spans.new) }
     ensures whole { IfOk result (λ found. found.len ≡ length head.new.items) }
+    ensures err { IfErr result (λ cause. is_forbidden cause ≡ false) }
 {
     for _ in 0..TURNS {
         read_once(stream, head)?;
@@ -46,8 +48,9 @@ pub fn read_head<S: Read>(
 
 /// Reads once, after what is there; nothing where nothing came in time.
 fn read_once<S: Read>(stream: &mut S, head: &mut Vec<u8>) -> Result<(), Refusal>
-    ensures { OnOk result (TakesMore (S.remaining stream.old) (S.remaining stream.new)
+    ensures ok { OnOk result (TakesMore (S.remaining stream.old) (S.remaining stream.new)
         head.old.items head.new.items) }
+    ensures err { IfErr result (λ cause. is_forbidden cause ≡ false) }
 {
     let mut piece = [0; LONGEST];
     match stream.read(&mut piece) {
@@ -60,7 +63,8 @@ fn read_once<S: Read>(stream: &mut S, head: &mut Vec<u8>) -> Result<(), Refusal>
 
 /// Adds what was read, if the head doesn't get too long by it.
 fn add(piece: &[u8], head: &mut Vec<u8>) -> Result<(), Refusal>
-    ensures { OnOk result (head.new.items ≡ head.old.items ++ piece.now) }
+    ensures ok { OnOk result (head.new.items ≡ head.old.items ++ piece.now) }
+    ensures err { IfErr result (λ cause. is_forbidden cause ≡ false) }
 {
     if piece.len() > LONGEST - head.len().min(LONGEST) {
         return Err(Refusal::TooLong);

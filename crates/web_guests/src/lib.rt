@@ -1,7 +1,7 @@
 //! Who may come in by a WebSocket: any web page can have a browser connect to 127.0.0.1.
 //!
-//! The head of a request is read within bounds, its host and its origin are looked at, and only then
-//! is it answered. A page of a site that no one named gets no more than a refusal.
+//! The head of a request is read within bounds, its host and its origin are looked at, and only
+//! then is it answered. A page of a site that no one named gets no more than a refusal.
 #![tactic(auto)]
 
 mod admitting;

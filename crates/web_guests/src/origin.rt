@@ -28,7 +28,7 @@ impl Model for Origin {
 #[derive(Clone, Copy, Debug, Drop, PartialEq, Eq, Error)]
 pub enum BadOrigin {
     /// No browser writes an origin like that, or it has more than 255 bytes.
-    #[error("an origin is a scheme, a host and a port in lower case, such as http://localhost:8080")]
+    #[error("an origin is a scheme, a host and a port, such as http://localhost:8080")]
     NotAnOrigin,
     /// There was no memory to keep it.
     #[error("out of memory")]

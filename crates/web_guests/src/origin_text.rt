@@ -3,7 +3,10 @@ ghost use Rattle.std.specs.Prelude.{◌≡◌, ◌≤◌, ◌==◌, ◌<◌, tru
 ghost use Rattle.std.specs.List.{list_all};
 ghost use Rattle.std.specs.Char.{is_ascii_digit};
 ghost use Rattle.std.specs.Str.Parse.{digits_value};
-ghost use Rattle.web_guests.specs.Origins.{is_origin, is_scheme, is_scheme_byte, is_place, is_host, is_name, is_name_byte, is_address, is_address_byte, host_end, is_port_tail, is_port, is_own_port, until};
+ghost use Rattle.web_guests.specs.Origins.{is_origin, is_from_place, is_scheme, is_scheme_byte};
+ghost use Rattle.web_guests.specs.Origins.{is_place, is_host, is_name, is_name_byte, host_end};
+ghost use Rattle.web_guests.specs.Origins.{is_address, is_address_byte, is_port_tail, is_port};
+ghost use Rattle.web_guests.specs.Origins.{is_own_port, until};
 
 /// The longest origin, in bytes.
 const LONGEST: usize = 255;
@@ -12,9 +15,16 @@ const LONGEST: usize = 255;
 pub fn is_origin(text: &[u8]) -> bool
     ensures { result ≡ is_origin text.now }
 {
+    text.len() <= LONGEST && is_from_place(text)
+}
+
+/// Whether it is a scheme, `://` and a place.
+fn is_from_place(text: &[u8]) -> bool
+    ensures { result ≡ is_from_place text.now }
+{
     let (scheme, rest) = text.split_at(until(b':', text));
     match rest.strip_prefix(b"://") {
-        Some(place) => text.len() <= LONGEST && is_scheme(scheme) && is_place(scheme, place),
+        Some(place) => is_scheme(scheme) && is_place(scheme, place),
         None => false,
     }
 }

@@ -1,8 +1,8 @@
 //! What a head says by one of its fields.
 ghost use Rattle.std.specs.Prelude.{◌≡◌, ◌++◌, ◌∷◌, [], All, length, List, ℕ};
-ghost use Rattle.httparse.specs.Spans.{IsHeaderWithin};
+ghost use Rattle.httparse.specs.Spans.{IsHeaderWithin, header_bytes};
 ghost use Rattle.websocket.specs.Headers.{fields_of};
-ghost use Rattle.web_guests.specs.Stating.{States, values_of};
+ghost use Rattle.web_guests.specs.Stating.{States, said_by, values_of};
 
 use crate::letters::is_same;
 use httparse::spans::HeaderSpan;
@@ -26,16 +26,28 @@ impl<'h> Stated<'h> {
     {
         let mut stated = Stated::Never;
         for span in spans {
-            if is_same(span.name.of(head), name) {
-                stated = stated.then(span.value.of(head));
-            }
+            stated = stated.and(head, *span, name);
         }
         stated
     }
 
+    /// What is said once one field more was looked at.
+    fn and(self, head: &'h [u8], span: HeaderSpan, name: &[u8]) -> Stated<'h>
+        requires { IsHeaderWithin (length head.now) span }
+        ensures { (values : List (List ℕ)) → States self.entry values
+            → States result (values ++ said_by name.now (header_bytes head.now span)) }
+    {
+        if is_same(span.name.of(head), name) {
+            self.then(span.value.of(head))
+        } else {
+            self
+        }
+    }
+
     /// What is said once this value has come too.
     fn then(self, value: &'h [u8]) -> Stated<'h>
-        ensures { (values : List (List ℕ)) → States self.entry values → States result (values ++ value.now ∷ []) }
+        ensures { (values : List (List ℕ)) → States self.entry values
+            → States result (values ++ value.now ∷ []) }
     {
         match self {
             Stated::Never => Stated::Once(value),

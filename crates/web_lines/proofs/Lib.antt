@@ -1,1 +1,4 @@
 mod HandingLemmas
+mod JoiningLemmas
+mod TakingLemmas
+mod TurnLemmas

@@ -4,7 +4,6 @@ use Rattle.websocket.specs.declared.protocol.frame.coding.CloseCode.TheVariants 
 use Rattle.websocket.specs.declared.error.ProtocolError.{ProtocolError}
 use Rattle.websocket.specs.declared.error.ProtocolError.TheVariants as Broken
 use Rattle.tungstenite.specs.declared.error.Error.{Error}
-use Rattle.tungstenite.specs.declared.error.Error.TheVariants as Error
 use Rattle.web_lines.specs.declared.ending.Ending.{Ending}
 use Rattle.web_lines.specs.declared.ending.Ending.TheVariants.{NotYet, Closed, Refused, StreamEnded}
 

@@ -14,7 +14,8 @@ pub enum Ending {
     /// The other end closed it, and was answered.
     Closed,
     /// It was refused with this code: 1003 (Unsupported) a message that is no text, 1007 (Invalid)
-    /// a text that isn't UTF-8, 1009 (Size) one that is too long, 1002 (Protocol) anything else.
+    /// a text that isn't UTF-8, 1009 (Size) a message or a frame of over 65,536 bytes, 1002
+    /// (Protocol) any other break of the protocol.
     Refused(CloseCode),
     /// The stream ended, and nobody had closed the connection.
     StreamEnded,

@@ -6,9 +6,11 @@ mod answer_messages;
 mod connection;
 mod ending;
 mod held_lines;
+mod laws;
 mod message_lines;
 
 pub use answer_messages::AnswerMessages;
 pub use connection::LONGEST;
 pub use ending::Ending;
+pub use laws::{calls_add_up, writes_add_up};
 pub use message_lines::MessageLines;

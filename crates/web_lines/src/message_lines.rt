@@ -1,15 +1,14 @@
 //! What a session reads from a WebSocket.
-ghost use Rattle.std.specs.Prelude.{◌≡◌, ◌≢◌, ◌<◌, [], Some, None, Ok, OnOk, length};
+ghost use Rattle.std.specs.Prelude.{◌≡◌, ◌≢◌, ◌<◌, [], Some, Ok, OnOk, false, length};
 ghost use Rattle.std.specs.Io.{ReadsAtMost};
-ghost use Rattle.std.specs.Io.KnownBytes.{ReadConsumes};
 ghost use Rattle.tungstenite.specs.Socket.{Flushed, IsFresh, content_of};
 ghost use Rattle.web_lines.specs.Endings.{ending_after, ending_by};
 ghost use Rattle.web_lines.specs.Lines.{lines_of};
-ghost use Rattle.web_lines.specs.Reading.{Notes, HandsOn, handed_bytes};
+ghost use Rattle.web_lines.specs.Reading.{Notes, HandsOn, Tells};
 ghost use Rattle.web_lines.specs.declared.ending.Ending.TheVariants.{NotYet};
 ghost use Rattle.websocket.specs.declared.protocol.config.Role.TheVariants.{Server};
 
-use crate::connection::{bare_close, io_error, server};
+use crate::connection::{bare_close, io_error, send_close, server};
 use crate::ending::Ending;
 use crate::held_lines::HeldLines;
 use byte_streams::endless;
@@ -20,8 +19,11 @@ use tungstenite::{Error, Message, NoMask, WebSocket};
 
 /// The lines of the text messages that come over a WebSocket, in order: a line feed is added to a
 /// message that ends with none, so an empty message is an empty line. It answers pings and closes,
-/// and refuses what is no text. Each reply is out before a line that came after it is handed on, so
-/// an answer never comes into the middle of a reply.
+/// and refuses what is no text; the input ends there. Each reply is out before a line that came
+/// after it is handed on, so that no answer comes into the middle of a reply.
+///
+/// A read fails as the stream does, and the next one goes on. It fails with `OutOfMemory` if there
+/// is no memory; if a message was lost for that, each later one fails with `NotConnected`.
 #[derive(Debug, Drop)]
 pub struct MessageLines<S> {
     socket: WebSocket<S, NoMask>,
@@ -30,11 +32,13 @@ pub struct MessageLines<S> {
 }
 
 impl<S: Read + Write + Drop> MessageLines<S> {
-    /// The lines that come over a stream of which nothing was read since its handshake.
+    /// The lines that come over a stream of which nothing was read since its handshake. It takes no
+    /// memory before the first read.
     pub fn new(alloc: Global, stream: S) -> MessageLines<S>
         ensures fresh { IsFresh result.socket stream Server }
         ensures messages { result.socket.conn.config.max_message_size ≡ Some 65_536 }
         ensures frames { result.socket.conn.config.max_frame_size ≡ Some 65_536 }
+        ensures masked { result.socket.conn.config.accept_unmasked_frames ≡ false }
         ensures held { result.held ≡ [] }
         ensures ending { result.ending ≡ NotYet }
     {
@@ -52,24 +56,32 @@ impl<S: Read + Write + Drop> MessageLines<S> {
         self.ending
     }
 
-    /// Sends what is due: replies, and the close of a connection that was refused.
-    fn settle(&mut self) -> Result<(), Error>
+    /// The stream. Lines that were not handed on are lost.
+    pub fn into_inner(self) -> S
+        ensures { result ≡ self.socket.stream }
+    {
+        self.socket.into_inner()
+    }
+
+    /// Sends what is due: replies, and the close of a connection that was refused. If that fails
+    /// the next call goes on.
+    fn settle(&mut self) -> io::Result<()>
         ensures held { self.new.held ≡ self.old.held }
         ensures ending { self.new.ending ≡ self.old.ending }
         ensures flushed { self.old.ending ≡ NotYet →
             Flushed S.contents self.old.socket self.new.socket }
-        ensures empty { OnOk result
-            (self.old.ending ≡ NotYet → self.new.socket.output ≡ []) }
+        ensures tells { OnOk result
+            (Tells S.contents self.old.ending self.old.socket self.new.socket) }
     {
         match self.ending {
-            Ending::NotYet | Ending::Closed => self.socket.flush(),
-            Ending::Refused(code) => self.socket.close(Some(bare_close(code))),
+            Ending::NotYet | Ending::Closed => self.socket.flush().map_err(io_error),
+            Ending::Refused(code) => send_close(&mut self.socket, bare_close(code)),
             Ending::StreamEnded => Ok(()),
         }
     }
 
     /// Reads the next message and holds its lines, or notes how the connection ended.
-    fn next(&mut self) -> Result<(), Error>
+    fn next(&mut self) -> io::Result<()>
         requires { self.old.held ≡ [] }
         ensures { Notes S.remaining self.old self.new }
     {
@@ -85,19 +97,21 @@ impl<S: Read + Write + Drop> MessageLines<S> {
     /// Holds the lines of a message, or notes that it ends the connection.
     fn take(&mut self, message: Message)
         ensures { self.new ≡ record self.old {
-            held = lines_of (content_of message); ending = ending_after (content_of message) } }
+          held = lines_of (content_of message);
+          ending = ending_after (content_of message);
+        } }
     {
         self.ending = Ending::after(&message);
         self.held = HeldLines::of(message);
     }
 
-    /// Notes that an error ends the connection, or gives it back.
-    fn end_by(&mut self, error: Error) -> Result<(), Error>
+    /// Notes that an error ends the connection, or hands it on.
+    fn end_by(&mut self, error: Error) -> io::Result<()>
         ensures { self.new ≡ record self.old { ending = ending_by error } }
     {
         self.ending = Ending::after_error(&error);
         if self.ending == Ending::NotYet {
-            return Err(error);
+            return Err(io_error(error));
         }
         Ok(())
     }
@@ -106,17 +120,15 @@ impl<S: Read + Write + Drop> MessageLines<S> {
 impl<S: Read + Write + Drop> Read for MessageLines<S> {
     fn read(&mut self, buf: &mut [u8]) -> io::Result<usize>
         ensures bound { ReadsAtMost result buf.new }
-        ensures bytes { ReadConsumes None None result buf.new }
-        ensures handed { HandsOn S.contents S.remaining self.old self.new
-            (handed_bytes result buf.new) }
+        ensures handed { HandsOn S.contents S.remaining self.old self.new result buf.new }
         ensures end { result ≡ Ok 0 → 0 < length buf.new → self.new.ending ≢ NotYet }
     {
         for _ in 0..u64::MAX {
-            self.settle().map_err(io_error)?;
+            self.settle()?;
             if !self.held.is_empty() || self.ending != Ending::NotYet || buf.is_empty() {
                 return Ok(self.held.hand_on(buf));
             }
-            self.next().map_err(io_error)?;
+            self.next()?;
         }
         Err(endless())
     }

@@ -1,7 +1,6 @@
 -- Nothing was handed on by the turns so far.
-use Rattle.std.proofs.Common.{[]}
-use Rattle.web_lines.specs.Reading.{HandsOn}
+use Rattle.web_lines.proofs.TurnLemmas.{Stands}
 use Rattle.web_lines.proofs.message_lines.MessageLinesRead.read.Given as goal
 
 abbrev pub invariant-loop : goal.invariant-loop
-invariant-loop g l = HandsOn g.S.Write.contents g.S.Read.remaining l.initial.self l.self []
+invariant-loop g l = Stands g.S.Write.contents g.S.Read.remaining l.initial.self l.self

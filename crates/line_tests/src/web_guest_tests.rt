@@ -1,0 +1,372 @@
+//! Which guests come in by a WebSocket, and what the others are told.
+use std::alloc::Global;
+use std::io;
+use std::io::{ErrorKind, Read, Write};
+use std::test::Fail;
+use web_guests::{BadOrigin, Origin, Refusal, admit};
+
+const PORT: u16 = 8_080;
+
+/// Gives so many bytes at a time, then ends; takes all that is written.
+#[derive(Drop)]
+struct Wire<'a> {
+    rest: &'a [u8],
+    size: usize,
+    told: &'a mut Vec<u8>,
+}
+
+impl<'a> Read for Wire<'a> {
+    fn read(&mut self, buf: &mut [u8]) -> io::Result<usize> {
+        let count = self.rest.len().min(self.size).min(buf.len());
+        buf[..count].copy_from_slice(&self.rest[..count]);
+        self.rest = &self.rest[count..];
+        Ok(count)
+    }
+}
+
+impl<'a> Write for Wire<'a> {
+    fn write(&mut self, buf: &[u8]) -> io::Result<usize> {
+        self.told.extend_from_slice(buf)?;
+        Ok(buf.len())
+    }
+
+    fn flush(&mut self) -> io::Result<()> {
+        Ok(())
+    }
+}
+
+/// Gives nothing in time, and takes nothing.
+#[derive(Drop)]
+struct Silence;
+
+impl Read for Silence {
+    fn read(&mut self, _buf: &mut [u8]) -> io::Result<usize> {
+        Err(io::Error::from(ErrorKind::TimedOut))
+    }
+}
+
+impl Write for Silence {
+    fn write(&mut self, _buf: &[u8]) -> io::Result<usize> {
+        Err(io::Error::from(ErrorKind::BrokenPipe))
+    }
+
+    fn flush(&mut self) -> io::Result<()> {
+        Ok(())
+    }
+}
+
+/// What comes of these bytes, given so many at a time: `None` where their guest is let in.
+fn met(
+    alloc: Global,
+    said: &[u8],
+    size: usize,
+    told: &mut Vec<u8>,
+) -> Result<Option<Refusal>, Fail> {
+    let named = [Origin::new(alloc, "http://localhost:3000")?];
+    let stream = Wire {
+        rest: said,
+        size,
+        told,
+    };
+    Ok(admit(alloc, stream, PORT, &named, None).err())
+}
+
+/// What comes of a head with these fields, beside those that each request for a WebSocket has.
+fn met_with(alloc: Global, fields: &str) -> Result<Option<Refusal>, Fail> {
+    let head = format!(in alloc; "GET /chat HTTP/1.1\r\n{fields}{ASKING}\r\n")?;
+    met(alloc, head.as_bytes(), 8_192, &mut Vec::new(alloc))
+}
+
+const ASKING: &str = "Upgrade: websocket\r\nConnection: Upgrade\r\n\
+    Sec-WebSocket-Key: dGhlIHNhbXBsZSBub25jZQ==\r\nSec-WebSocket-Version: 13\r\n";
+
+/// The request of RFC 6455, section 1.3, at another host and from another origin.
+const EXAMPLE: &str = "GET /chat HTTP/1.1\r\n\
+    Host: localhost:8080\r\n\
+    Upgrade: websocket\r\n\
+    Connection: Upgrade\r\n\
+    Sec-WebSocket-Key: dGhlIHNhbXBsZSBub25jZQ==\r\n\
+    Origin: http://localhost:3000\r\n\
+    Sec-WebSocket-Protocol: chat, superchat\r\n\
+    Sec-WebSocket-Version: 13\r\n\r\n";
+
+#[test]
+fn the_request_of_the_standard_comes_in(rt: HostRuntime) -> Result<(), Fail> {
+    for size in [80, 81, 200, 1_000] {
+        let mut told = Vec::new(rt.alloc());
+        assert_eq!(rt; met(rt.alloc(), EXAMPLE.as_bytes(), size, &mut told)?, None);
+        let answer = str::from_utf8(&told)?;
+        assert!(rt; answer.starts_with("HTTP/1.1 101 Switching Protocols\r\n"));
+        assert!(rt; answer.contains("sec-websocket-accept: s3pPLMBiTxaQ9kYGzzhZRbK+xOo=\r\n"));
+        assert!(rt; answer.ends_with("\r\n\r\n"));
+    }
+    Ok(())
+}
+
+#[test]
+fn a_head_that_is_cut_anywhere_is_told_nothing(rt: HostRuntime) -> Result<(), Fail> {
+    let example = EXAMPLE.as_bytes();
+    for end in 0..example.len() {
+        let mut told = Vec::new(rt.alloc());
+        let cut = met(rt.alloc(), &example[..end], 8_192, &mut told)?;
+        assert_eq!(rt; cut, Some(Refusal::Failed));
+        assert!(rt; told.is_empty());
+    }
+    Ok(())
+}
+
+#[test]
+fn a_host_is_this_machine_at_this_port(rt: HostRuntime) -> Result<(), Fail> {
+    for host in [
+        "127.0.0.1:8080",
+        "localhost:8080",
+        "LOCALHOST:8080",
+        "LocalHost:8080",
+    ] {
+        let fields = format!(in rt.alloc(); "Host: {host}\r\n")?;
+        assert_eq!(rt; met_with(rt.alloc(), fields.as_str())?, None, "{host}");
+    }
+    for host in [
+        "evil.example:8080",
+        "localhost.evil.example:8080",
+        "evil-localhost:8080",
+        "localhost.:8080",
+        "127.0.0.1.nip.io:8080",
+        "127.1:8080",
+        "0.0.0.0:8080",
+        "[::1]:8080",
+        "localhost",
+        "localhost:",
+        "localhost:80",
+        "localhost:808",
+        "localhost:80800",
+        "localhost:08080",
+        "localhost:+8080",
+        "127.0.0.1",
+        "127.0.0.1:8081",
+        "user@localhost:8080",
+        ":8080",
+        "",
+    ] {
+        let fields = format!(in rt.alloc(); "Host: {host}\r\n")?;
+        let refused = met_with(rt.alloc(), fields.as_str())?;
+        assert_eq!(rt; refused, Some(Refusal::ForbiddenHost), "{host}");
+    }
+    Ok(())
+}
+
+#[test]
+fn a_host_is_stated_once(rt: HostRuntime) -> Result<(), Fail> {
+    for fields in [
+        "",
+        "Host: localhost:8080\r\nHost: localhost:8080\r\n",
+        "Host: localhost:8080\r\nhost: evil.example:8080\r\n",
+    ] {
+        let refused = met_with(rt.alloc(), fields)?;
+        assert_eq!(rt; refused, Some(Refusal::ForbiddenHost), "{fields}");
+    }
+    Ok(())
+}
+
+#[test]
+fn a_page_comes_in_only_from_a_named_origin(rt: HostRuntime) -> Result<(), Fail> {
+    let host = "Host: 127.0.0.1:8080\r\n";
+    for fields in [
+        "",
+        "Origin: http://localhost:3000\r\n",
+        "ORIGIN:http://localhost:3000\r\n",
+    ] {
+        let fields = format!(in rt.alloc(); "{host}{fields}")?;
+        assert_eq!(rt; met_with(rt.alloc(), fields.as_str())?, None, "{fields}");
+    }
+    for fields in [
+        "Origin: null\r\n",
+        "Origin: \r\n",
+        "Origin: *\r\n",
+        "Origin: http://localhost\r\n",
+        "Origin: http://localhost:300\r\n",
+        "Origin: http://localhost:30000\r\n",
+        "Origin: http://localhost:3000/\r\n",
+        "Origin: http://localhost:8080\r\n",
+        "Origin: https://localhost:3000\r\n",
+        "Origin: http://127.0.0.1:3000\r\n",
+        "Origin: http://evil.example\r\n",
+        "Origin: http://localhost:3000.evil.example\r\n",
+        "Origin: HTTP://LOCALHOST:3000\r\n",
+        "Origin: http://localhost:3000 http://localhost:3000\r\n",
+        "Origin: http://localhost:3000\r\nOrigin: http://localhost:3000\r\n",
+    ] {
+        let said = format!(in rt.alloc(); "{host}{fields}")?;
+        let refused = met_with(rt.alloc(), said.as_str())?;
+        assert_eq!(rt; refused, Some(Refusal::ForbiddenOrigin), "{fields}");
+    }
+    Ok(())
+}
+
+#[test]
+fn an_origin_is_written_as_browsers_do(rt: HostRuntime) -> Result<(), Fail> {
+    for text in [
+        "http://localhost:3000",
+        "https://example.com",
+        "http://example.com:443",
+        "http://[::1]:3000",
+        "http://127.0.0.1:1",
+        "http://a_b.example:65535",
+        "chrome-extension://abcdefghijklmnop",
+    ] {
+        let origin = Origin::new(rt.alloc(), text)?;
+        assert_eq!(rt; origin.as_str(), text);
+    }
+    for text in [
+        "",
+        "null",
+        "*",
+        "localhost:3000",
+        "http://",
+        "http://:80",
+        "http:/localhost",
+        "http://localhost:3000/",
+        "http://localhost/path",
+        "http://Localhost",
+        "HTTP://localhost",
+        "http://localhost:80",
+        "https://localhost:443",
+        "http://localhost:0",
+        "http://localhost:",
+        "http://localhost:03000",
+        "http://localhost:+3000",
+        "http://localhost:65536",
+        "http://localhost:100000",
+        "http://user@localhost",
+        "http://localhost:3000 ",
+        "http://[::1",
+        "http://[]",
+        "http://::1",
+        "://localhost",
+        "1http://localhost",
+        "http://b\u{fc}cher.example",
+    ] {
+        let refused = Origin::new(rt.alloc(), text).err();
+        assert_eq!(rt; refused, Some(BadOrigin::NotAnOrigin), "{text}");
+    }
+    Ok(())
+}
+
+#[test]
+fn an_origin_has_255_bytes_at_most(rt: HostRuntime) -> Result<(), Fail> {
+    let mut text = String::from_str(rt.alloc(), "http://")?;
+    for _ in 0..248 {
+        text.push_str("a")?;
+    }
+    assert_eq!(rt; text.len(), 255);
+    assert!(rt; Origin::new(rt.alloc(), text.as_str()).is_ok());
+    text.push_str("a")?;
+    let refused = Origin::new(rt.alloc(), text.as_str()).err();
+    assert_eq!(rt; refused, Some(BadOrigin::NotAnOrigin));
+    Ok(())
+}
+
+#[test]
+fn what_is_no_request_for_a_web_socket_is_told_so(rt: HostRuntime) -> Result<(), Fail> {
+    let host = "Host: localhost:8080\r\n";
+    for (start, fields, refusal, status) in [
+        ("GET / HTTP/1.1", "", Refusal::NotWebSocket, "400"),
+        ("POST / HTTP/1.1", ASKING, Refusal::NotWebSocket, "400"),
+        ("GET / HTTP/1.0", ASKING, Refusal::NotWebSocket, "400"),
+        ("GET / HTTP/2", ASKING, Refusal::NotWebSocket, "400"),
+        ("{\"op\":\"status\"}", "", Refusal::NotWebSocket, "400"),
+        (
+            "GET / HTTP/1.1",
+            "Upgrade: websocket\r\nConnection: Upgrade\r\n\
+                Sec-WebSocket-Key: short\r\nSec-WebSocket-Version: 13\r\n",
+            Refusal::NotWebSocket,
+            "400",
+        ),
+        (
+            "GET / HTTP/1.1",
+            "Upgrade: websocket\r\nConnection: Upgrade\r\n\
+                Sec-WebSocket-Key: dGhlIHNhbXBsZSBub25jZQ==\r\nSec-WebSocket-Version: 8\r\n",
+            Refusal::WrongVersion,
+            "426",
+        ),
+    ] {
+        let head = format!(in rt.alloc(); "{start}\r\n{host}{fields}\r\n")?;
+        let mut told = Vec::new(rt.alloc());
+        let refused = met(rt.alloc(), head.as_bytes(), 8_192, &mut told)?;
+        assert_eq!(rt; refused, Some(refusal), "{head}");
+        let answer = str::from_utf8(&told)?;
+        assert_eq!(rt; answer.get(9..12), Some(status), "{answer}");
+        assert!(rt; answer.contains("\r\nConnection: close\r\n"));
+    }
+    Ok(())
+}
+
+#[test]
+fn a_guest_that_is_sent_away_is_told_403(rt: HostRuntime) -> Result<(), Fail> {
+    let head = format!(in rt.alloc(); "GET / HTTP/1.1\r\nHost: evil.example:8080\r\n{ASKING}\r\n")?;
+    let mut told = Vec::new(rt.alloc());
+    let refused = met(rt.alloc(), head.as_bytes(), 8_192, &mut told)?;
+    assert_eq!(rt; refused, Some(Refusal::ForbiddenHost));
+    let answer = str::from_utf8(&told)?;
+    assert!(rt; answer.starts_with("HTTP/1.1 403 Forbidden\r\n"));
+    assert!(rt; answer.ends_with("\r\n\r\nThis page may not come in."));
+    Ok(())
+}
+
+#[test]
+fn a_guest_that_says_more_than_its_head_is_refused(rt: HostRuntime) -> Result<(), Fail> {
+    let said = format!(in rt.alloc(); "{EXAMPLE}x")?;
+    let mut told = Vec::new(rt.alloc());
+    let refused = met(rt.alloc(), said.as_bytes(), 8_192, &mut told)?;
+    assert_eq!(rt; refused, Some(Refusal::NotWebSocket));
+    Ok(())
+}
+
+#[test]
+fn a_head_has_8192_bytes_at_most(rt: HostRuntime) -> Result<(), Fail> {
+    let cases: [(usize, Option<Refusal>); 3] = [
+        (8_192, None),
+        (8_193, Some(Refusal::TooLong)),
+        (100_000, Some(Refusal::TooLong)),
+    ];
+    for (length, outcome) in cases {
+        let mut head = format!(in rt.alloc();
+            "GET / HTTP/1.1\r\nHost: localhost:8080\r\n{ASKING}A: "
+        )?;
+        for _ in head.len()..length.saturating_sub(4) {
+            head.push_str("a")?;
+        }
+        head.push_str("\r\n\r\n")?;
+        let mut told = Vec::new(rt.alloc());
+        assert_eq!(rt;
+            met(rt.alloc(), head.as_bytes(), 1_000, &mut told)?,
+            outcome
+        );
+    }
+    Ok(())
+}
+
+#[test]
+fn a_head_has_64_fields_at_most(rt: HostRuntime) -> Result<(), Fail> {
+    for (more, outcome) in [(59, None), (60, Some(Refusal::TooLong))] {
+        let mut fields = String::from_str(rt.alloc(), "Host: localhost:8080\r\n")?;
+        for _ in 0..more {
+            fields.push_str("A: b\r\n")?;
+        }
+        assert_eq!(rt; met_with(rt.alloc(), fields.as_str())?, outcome);
+    }
+    Ok(())
+}
+
+#[test]
+fn a_head_that_comes_too_slowly_is_refused(rt: HostRuntime) -> Result<(), Fail> {
+    let mut told = Vec::new(rt.alloc());
+    let mut slow = String::from_str(rt.alloc(), "GET / HTTP/1.1\r\nX: ")?;
+    slow.push_str(" ".repeat(rt.alloc(), 500)?.as_str())?;
+    let refused = met(rt.alloc(), slow.as_bytes(), 1, &mut told)?;
+    assert_eq!(rt; refused, Some(Refusal::TooSlow));
+    assert!(rt; told.is_empty());
+    let refused = admit(rt.alloc(), Silence, PORT, &[], None).err();
+    assert_eq!(rt; refused, Some(Refusal::TooSlow));
+    Ok(())
+}

@@ -1,0 +1,312 @@
+//! The lines of a session over a WebSocket.
+use std::alloc::Global;
+use std::io;
+use std::io::{ErrorKind, Read, Write};
+use std::test::Fail;
+use tungstenite::CloseCode;
+use web_lines::{AnswerMessages, Ending, LONGEST, MessageLines};
+
+/// Gives its input, so many bytes at a time, and keeps what is sent. Every second read has to wait,
+/// and one write after so many.
+#[derive(Drop)]
+struct Wire {
+    input: Vec<u8>,
+    given: usize,
+    size: usize,
+    is_late: bool,
+    sent: Vec<u8>,
+    writes_until_wait: Option<usize>,
+}
+
+impl Wire {
+    fn new(alloc: Global, input: &[u8], size: usize) -> Result<Wire, Fail> {
+        Ok(Wire {
+            input: Vec::from_slice(alloc, input)?,
+            given: 0,
+            size,
+            is_late: false,
+            sent: Vec::new(alloc),
+            writes_until_wait: None,
+        })
+    }
+}
+
+impl Read for Wire {
+    fn read(&mut self, buf: &mut [u8]) -> io::Result<usize> {
+        self.is_late = !self.is_late;
+        if self.is_late {
+            return Err(io::Error::from(ErrorKind::WouldBlock));
+        }
+        let rest = self.input.get(self.given..).unwrap_or(&[]);
+        let count = rest.len().min(self.size).min(buf.len());
+        buf[..count].copy_from_slice(&rest[..count]);
+        self.given = self.given.saturating_add(count);
+        Ok(count)
+    }
+}
+
+impl Write for Wire {
+    fn write(&mut self, buf: &[u8]) -> io::Result<usize> {
+        if let Some(left) = self.writes_until_wait {
+            self.writes_until_wait = left.checked_sub(1);
+            if left == 0 {
+                return Err(io::Error::from(ErrorKind::WouldBlock));
+            }
+        }
+        let count = buf.len().min(self.size);
+        self.sent.extend_from_slice(&buf[..count])?;
+        Ok(count)
+    }
+
+    fn flush(&mut self) -> io::Result<()> {
+        Ok(())
+    }
+}
+
+/// What came of some input.
+#[derive(Drop)]
+struct Heard {
+    lines: Vec<u8>,
+    ending: Ending,
+    sent: Vec<u8>,
+}
+
+/// Reads to the end; where the wire has to wait the next read goes on.
+fn hear(alloc: Global, wire: Wire) -> Result<Heard, Fail> {
+    let mut reader = MessageLines::new(alloc, wire);
+    let mut lines = Vec::new(alloc);
+    let mut piece = [0; 50];
+    for _ in 0..400_000 {
+        match reader.read(&mut piece) {
+            Ok(0) => break,
+            Ok(count) => lines.extend_from_slice(piece.get(..count).unwrap_or(&[]))?,
+            Err(error) if error.kind() == ErrorKind::WouldBlock => {}
+            Err(error) => return Err(error.into()),
+        }
+    }
+    let ending = reader.ending();
+    let sent = reader.into_inner().sent;
+    Ok(Heard {
+        lines,
+        ending,
+        sent,
+    })
+}
+
+const SIZES: [usize; 5] = [1, 2, 3, 7, 1_000];
+
+/// Frames of a client, whose mask is zero but for the first; the lines, the end and what is sent.
+const CASES: [(&[u8], &[u8], Ending, &[u8]); 13] = [
+    // "Hello" as RFC 6455 has it, section 5.7.
+    (
+        b"\x81\x85\x37\xfa\x21\x3d\x7f\x9f\x4d\x51\x58",
+        b"Hello\n",
+        Ending::StreamEnded,
+        b"",
+    ),
+    // A message of two lines, one that ends with a line feed, and an empty one.
+    (
+        b"\x81\x83\0\0\0\0a\nb\x81\x82\0\0\0\0c\n\x81\x80\0\0\0\0",
+        b"a\nb\nc\n\n",
+        Ending::StreamEnded,
+        b"",
+    ),
+    // A ping between two fragments.
+    (
+        b"\x01\x82\0\0\0\0He\x89\x81\0\0\0\0?\x80\x81\0\0\0\0y",
+        b"Hey\n",
+        Ending::StreamEnded,
+        b"\x8a\x01?",
+    ),
+    // A pong that nobody asked for.
+    (
+        b"\x8a\x80\0\0\0\0\x81\x81\0\0\0\0a",
+        b"a\n",
+        Ending::StreamEnded,
+        b"",
+    ),
+    // A close, with a code and without one; what comes after it is not read.
+    (
+        b"\x81\x81\0\0\0\0a\x88\x82\0\0\0\0\x03\xe8\x81\x81\0\0\0\0b",
+        b"a\n",
+        Ending::Closed,
+        b"\x88\x02\x03\xe8",
+    ),
+    (b"\x88\x80\0\0\0\0", b"", Ending::Closed, b"\x88\x00"),
+    // A binary message.
+    (
+        b"\x81\x81\0\0\0\0a\x82\x81\0\0\0\0b\x81\x81\0\0\0\0c",
+        b"a\n",
+        Ending::Refused(CloseCode::Unsupported),
+        b"\x88\x02\x03\xeb",
+    ),
+    // A frame of 65,537 bytes: it is refused by its header.
+    (
+        b"\x81\xff\0\0\0\0\0\x01\0\x01\0\0\0\0aaaa",
+        b"",
+        Ending::Refused(CloseCode::Size),
+        b"\x88\x02\x03\xf1",
+    ),
+    // A text that isn't UTF-8.
+    (
+        b"\x81\x81\0\0\0\0\xff",
+        b"",
+        Ending::Refused(CloseCode::Invalid),
+        b"\x88\x02\x03\xef",
+    ),
+    // A frame without a mask, one with a reserved bit, and a fragment of nothing.
+    (
+        b"\x81\x01a",
+        b"",
+        Ending::Refused(CloseCode::Protocol),
+        b"\x88\x02\x03\xea",
+    ),
+    (
+        b"\xc1\x81\0\0\0\0a",
+        b"",
+        Ending::Refused(CloseCode::Protocol),
+        b"\x88\x02\x03\xea",
+    ),
+    (
+        b"\x80\x81\0\0\0\0a",
+        b"",
+        Ending::Refused(CloseCode::Protocol),
+        b"\x88\x02\x03\xea",
+    ),
+    // The stream ends inside of a frame.
+    (b"\x81\x85\0\0\0\0Hel", b"", Ending::StreamEnded, b""),
+];
+
+#[test]
+fn lines_are_those_of_the_messages(rt: HostRuntime) -> Result<(), Fail> {
+    for (input, lines, ending, sent) in CASES {
+        for size in SIZES {
+            let heard = hear(rt.alloc(), Wire::new(rt.alloc(), input, size)?)?;
+            assert!(rt;
+                heard.lines.as_slice() == lines,
+                "{input:?} {size}: {:?}",
+                heard.lines
+            );
+            assert!(rt;
+                heard.ending == ending,
+                "{input:?} {size}: {:?}",
+                heard.ending
+            );
+            assert!(rt;
+                heard.sent.as_slice() == sent,
+                "{input:?} {size}: {:?}",
+                heard.sent
+            );
+        }
+    }
+    Ok(())
+}
+
+/// A frame of `a`s, whose mask is zero.
+fn frame_of(alloc: Global, first: u8, count: u16) -> Result<Vec<u8>, Fail> {
+    let [high, low] = count.to_be_bytes();
+    let mut bytes = Vec::from_slice(alloc, &[first, 0xfe, high, low, 0, 0, 0, 0])?;
+    for _ in 0..count {
+        bytes.push(b'a')?;
+    }
+    Ok(bytes)
+}
+
+#[test]
+fn a_message_of_fragments_may_be_as_long_as_one_of_one_frame(rt: HostRuntime) -> Result<(), Fail> {
+    let alloc = rt.alloc();
+    let last: [(u8, usize, Ending); 2] = [
+        (1, LONGEST + 1, Ending::StreamEnded),
+        (2, 0, Ending::Refused(CloseCode::Size)),
+    ];
+    for (more, count, ending) in last {
+        let mut input = frame_of(alloc, 0x01, u16::MAX)?;
+        input.extend_from_slice(&[0x80, 0x80 | more, 0, 0, 0, 0, b'a', b'a'])?;
+        input.truncate(input.len() - 2 + more as usize);
+        let heard = hear(alloc, Wire::new(alloc, input.as_slice(), 100_000)?)?;
+        assert_eq!(rt; heard.lines.len(), count);
+        assert!(rt; heard.ending == ending, "{:?}", heard.ending);
+    }
+    Ok(())
+}
+
+#[test]
+fn a_reply_is_whole_before_the_next_line_is_handed_on(rt: HostRuntime) -> Result<(), Fail> {
+    let input = b"\x89\x83\0\0\0\0abc\x81\x81\0\0\0\0d";
+    let mut wire = Wire::new(rt.alloc(), input, 2)?;
+    wire.writes_until_wait = Some(1);
+    let mut reader = MessageLines::new(rt.alloc(), wire);
+    let mut waits = 0;
+    let mut piece = [0; 8];
+    for turn in 0..100 {
+        if reader.read(&mut piece).is_ok() {
+            waits = turn;
+            break;
+        }
+    }
+    assert_eq!(rt; piece[0], b'd');
+    assert!(rt; waits > 1, "{waits}");
+    assert!(rt; reader.into_inner().sent.as_slice() == b"\x8a\x03abc".as_slice());
+    Ok(())
+}
+
+#[test]
+fn each_line_is_one_message(rt: HostRuntime) -> Result<(), Fail> {
+    let cases: [(&[&str], &[u8]); 5] = [
+        (&["ab", "", "c", "\n"], b"\x81\x03abc"),
+        (&["x\ny\n"], b"\x81\x01x\x81\x01y"),
+        (&["\n"], b"\x81\x00"),
+        (&["a\nb", "c"], b"\x81\x01a"),
+        (&["\u{e9}\n"], b"\x81\x02\xc3\xa9"),
+    ];
+    for (writes, sent) in cases {
+        for size in SIZES {
+            let mut writer = AnswerMessages::new(rt.alloc(), Wire::new(rt.alloc(), b"", size)?);
+            for text in writes {
+                writer.write_all(text.as_bytes())?;
+            }
+            let wire = writer.into_inner();
+            assert!(rt; wire.sent.as_slice() == sent, "{:?}", wire.sent);
+        }
+    }
+    Ok(())
+}
+
+#[test]
+fn a_line_that_the_stream_takes_late_goes_out_once(rt: HostRuntime) -> Result<(), Fail> {
+    let mut wire = Wire::new(rt.alloc(), b"", 2)?;
+    wire.writes_until_wait = Some(1);
+    let mut writer = AnswerMessages::new(rt.alloc(), wire);
+    writer.write_all(b"abc\n")?;
+    writer.flush()?;
+    writer.write_all(b"d\n")?;
+    writer.flush()?;
+    let wire = writer.into_inner();
+    assert!(rt;
+        wire.sent.as_slice() == b"\x81\x03abc\x81\x01d".as_slice(),
+        "{:?}",
+        wire.sent
+    );
+    Ok(())
+}
+
+#[test]
+fn nothing_is_written_after_a_close(rt: HostRuntime) -> Result<(), Fail> {
+    let mut writer = AnswerMessages::new(rt.alloc(), Wire::new(rt.alloc(), b"", 9)?);
+    writer.write_all(b"a\nrest")?;
+    assert!(rt; writer.unsent() == b"rest".as_slice());
+    writer.close(CloseCode::Away, "bye")?;
+    assert!(rt; writer.write_all(b"\n").is_err());
+    writer.close(CloseCode::Away, "again")?;
+    let wire = writer.into_inner();
+    assert!(rt; wire.sent.as_slice() == b"\x81\x01a\x88\x05\x03\xe9bye".as_slice());
+    Ok(())
+}
+
+#[test]
+fn a_line_is_utf_8(rt: HostRuntime) -> Result<(), Fail> {
+    let mut writer = AnswerMessages::new(rt.alloc(), Wire::new(rt.alloc(), b"", 9)?);
+    assert!(rt; writer.write_all(b"\xff\n").is_err());
+    assert!(rt; writer.into_inner().sent.is_empty());
+    Ok(())
+}
