@@ -2,7 +2,6 @@
 
 use crate::link_end::{LinkEnd, Said};
 use crate::link_log::LinkLog;
-use crate::link_thread::Links;
 use crate::over::Over;
 use crate::patience::Patience;
 use causal_sync::{LinkError, Ops};
@@ -75,17 +74,19 @@ pub(crate) struct Hearing<'a, R: Wait + Clock, J: BookNames, C: Checkpoint> {
 impl<'a, R: Wait + Clock, J: BookNames, C: Checkpoint> Hearing<'a, R, J, C> {
     /// One that has heard nothing so far.
     pub fn new(
-        links: &Links<'a, R, J, C>,
+        rt: &'a R,
+        shared: &'a Shared<J>,
         end: &'a LinkEnd,
+        checkpoint: &'a C,
         pass: &'a mut Pass<J>,
         notes: Producer<u8>,
         log: LinkLog<'a>,
     ) -> Hearing<'a, R, J, C> {
         Hearing {
-            rt: links.rt,
-            shared: links.shared,
+            rt,
+            shared,
             end,
-            checkpoint: links.checkpoint,
+            checkpoint,
             pass,
             notes,
             is_due: false,

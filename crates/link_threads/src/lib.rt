@@ -16,4 +16,4 @@ mod telling;
 mod told;
 
 pub use link_log::LinkLog;
-pub use link_thread::{Links, Parted, serve_link};
+pub use link_thread::{Parted, serve_link};

@@ -38,31 +38,27 @@ impl Parted {
     };
 }
 
-/// What the links of a daemon share.
-#[derive(Drop)]
-pub struct Links<'a, R: Wait + Clock, J: BookNames, C: Checkpoint> {
-    pub rt: &'a R,
-    pub alloc: Global,
-    /// This end's replica.
-    pub own: ReplicaId,
-    pub shared: &'a Shared<J>,
-    pub checkpoint: &'a C,
-}
-
 /// Serves a link of this replica to its end: this thread hears, and another one tells. Tells what
 /// became of it, and the log of the greeting and the end. It isn't begun once the hub's links are
 /// over.
 pub fn serve_link<
-    'a,
     R: Wait + Clock + Threads + Sync,
     J: BookNames + Send + Sync,
     C: Checkpoint + Sync,
->(links: &Links<'_, R, J, C>, pass: &mut Pass<J>, stream: &TcpStream, log: LinkLog<'_>) -> Parted {
-    let (rt, alloc) = (links.rt, links.alloc);
-    if links.shared.are_links_over(rt) {
+>(
+    rt: &R,
+    alloc: Global,
+    own: ReplicaId,
+    shared: &Shared<J>,
+    pass: &mut Pass<J>,
+    stream: &TcpStream,
+    checkpoint: &C,
+    log: LinkLog<'_>,
+) -> Parted {
+    if shared.are_links_over(rt) {
         return Parted::AT_ONCE;
     }
-    let Ok(end) = LinkEnd::start(alloc, links.own) else {
+    let Ok(end) = LinkEnd::start(alloc, own) else {
         log.ended(rt, alloc, Over::NoMemory);
         return Parted::AT_ONCE;
     };
@@ -70,7 +66,18 @@ pub fn serve_link<
         log.ended(rt, alloc, Over::NoMemory);
         return Parted::AT_ONCE;
     };
-    let parted = hear_and_tell(links, &end, pass, (producer, consumer), stream, log);
+    let parted = hear_and_tell(
+        rt,
+        alloc,
+        own,
+        shared,
+        &end,
+        pass,
+        (producer, consumer),
+        stream,
+        checkpoint,
+        log,
+    );
     Parted {
         was_of_use: parted.was_of_use || end.was_taken(rt),
         is_out_of_steps: parted.is_out_of_steps,
@@ -85,16 +92,20 @@ fn hear_and_tell<
     J: BookNames + Send + Sync,
     C: Checkpoint + Sync,
 >(
-    links: &Links<'a, R, J, C>,
+    rt: &'a R,
+    alloc: Global,
+    own: ReplicaId,
+    shared: &'a Shared<J>,
     end: &'a LinkEnd,
     pass: &'a mut Pass<J>,
     (producer, consumer): (Producer<u8>, Consumer<u8>),
     stream: &'a TcpStream,
+    checkpoint: &'a C,
     log: LinkLog<'a>,
 ) -> Parted {
-    let (rt, alloc, link) = (links.rt, links.alloc, pass.number());
-    let mut hearing = Hearing::new(links, end, pass, producer, log);
-    let telling = Telling::new(rt, links.shared, end, link, consumer);
+    let link = pass.number();
+    let mut hearing = Hearing::new(rt, shared, end, checkpoint, pass, producer, log);
+    let telling = Telling::new(rt, shared, end, link, consumer);
     thread::scope(thread::scope_env(), rt, |scope| {
         let mut telling = telling;
         let told = scope.spawn(move || {
@@ -105,12 +116,12 @@ fn hear_and_tell<
         });
         if told.is_ok() {
             let mut reader = stream;
-            hearing.run(alloc, links.own, &mut reader);
+            hearing.run(alloc, own, &mut reader);
         }
         end.end_unless_due(rt);
-        links.shared.call(rt, link);
+        shared.call(rt, link);
     });
-    links.shared.forget_peer(rt, link);
+    shared.forget_peer(rt, link);
     log.ended(rt, alloc, hearing.over);
     Parted {
         was_of_use: hearing.has_taken,

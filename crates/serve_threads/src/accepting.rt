@@ -10,7 +10,7 @@ use crate::session_thread::serve_session;
 use crate::web_thread::serve_web;
 use event_journal::{Event, LinkPlace, Reason};
 use fixed_numbers::refusals::BUSY;
-use link_threads::{LinkLog, Links, serve_link};
+use link_threads::{LinkLog, serve_link};
 use pass_books::BookNames;
 use shared_desk::End;
 use shared_hub::Checkpoint;
@@ -163,14 +163,16 @@ pub(crate) fn link<
         journal: hall.manner.journal,
         place,
     };
-    let links = Links {
-        rt: hall.rt,
-        alloc: hall.alloc,
-        own: hall.own,
-        shared: &hall.shared,
-        checkpoint: hall.checkpoint,
-    };
-    let parted = serve_link(&links, &mut pass, stream, log);
+    let parted = serve_link(
+        hall.rt,
+        hall.alloc,
+        hall.own,
+        &hall.shared,
+        &mut pass,
+        stream,
+        hall.checkpoint,
+        log,
+    );
     if parted.is_out_of_steps {
         hall.ending.ask(hall.rt, End::Renewal);
     }
