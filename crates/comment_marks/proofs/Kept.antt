@@ -1,30 +1,20 @@
 -- What is kept of each comment is what decides it.
 use Rattle.std.proofs.Common.{◌≡◌, ◌<◌, ℕ, Bool, true, false, ◌⊎◌, inl, inr, List, [], ◌∷◌, Option, Some, None, ap, refl, sym, ◌∙◌, arith}
-use Rattle.std.specs.Prelude.{filter_map, filter, is_some, option_and_then, option_map, ◌==◌, cond, if◌then◌else◌}
-use Rattle.std.specs.BTreeMap.{insert_entry, is_at}
+use Rattle.std.specs.Prelude.{filter, is_some, option_and_then, option_map, ◌==◌, cond, if◌then◌else◌}
+use Rattle.std.specs.BTreeMap.{insert_entry}
 use Rattle.std.specs.Map.{keys_of}
 use Rattle.std.specs.Ordering.{nat_cmp}
-use Rattle.std.proofs.lemmas.Bool.{cases_Bool, cases_order, both_ways, eq-eqb, eqb-true, ne_eqb, lt-ltb, le-ltb}
+use Rattle.std.proofs.lemmas.Bool.{cases_Bool, cases_order, eq-eqb, eqb-true, ne_eqb, lt-ltb, le-ltb}
 use Rattle.op_ids.specs.Id.{is_below}
 use Rattle.op_model.specs.declared.mark.MarkKey.{MarkKey}
 use Rattle.op_model.specs.declared.mark.MarkKey.TheVariants as key
 use Rattle.op_model.specs.declared.marking.Marking.{Marking}
 use Rattle.op_model.specs.Marks.{is_key, greater as greater_marking, greatest}
-use Rattle.op_model.specs.Spans.{comment_of, comment_ids, rising, with_number}
+use Rattle.op_model.specs.Spans.{comment_of, comment_ids, with_number}
 use Rattle.comment_marks.specs.declared.decisions.Decision.{Decision}
 use Rattle.comment_marks.specs.Decisions.{says, greater, about, decisions, with_decision, is_added}
 use Rattle.comment_marks.specs.Standing.{decided, deciding, standing}
-
--- a query finds just the number that it asks for
-found_at : (a b : ℕ) → is_at (nat_cmp a) b ≡ (a == b)
-found_at a b =
-    elim (cases_order a b) [
-      | inl same ↦ simp (le-ltb a b (omega arith), eq-eqb a b same) refl
-      | inr o ↦ elim o [
-        | inl below ↦ simp (lt-ltb a b below, ne_eqb a b (omega arith)) refl
-        | inr above ↦ simp (le-ltb a b (omega arith), ne_eqb a b (omega arith)) refl
-      ]
-    ]
+use Rattle.op_model.proofs.QueryLemmas.{found_at}
 
 -- one more entry is one more number
 keys_with : (entries : List (ℕ × Decision)) (k : ℕ) (d : Decision) → keys_of (insert_entry nat_cmp entries k d) ≡ with_number k (keys_of entries)

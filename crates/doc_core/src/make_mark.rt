@@ -2,8 +2,7 @@
 ghost use Rattle.std.specs.Prelude.{◌≡◌, ◌↔◌, true, false, List, [], ◌∷◌, length, IfOk, IsErrOf};
 ghost use Rattle.op_model.specs.declared.edit.Change.TheVariants as change;
 ghost use Rattle.op_model.specs.declared.op.Op.{Op};
-ghost use Rattle.op_model.specs.Made.{end_after as end_after_of, end_before as end_before_of};
-ghost use Rattle.op_model.specs.Made.{start_before as start_before_of, start_of, end_of};
+ghost use Rattle.op_model.specs.Made.{start_of, end_of};
 ghost use Rattle.op_model.specs.Made.{is_inside, numbered as numbered_from, size_of};
 ghost use Rattle.op_model.specs.Text.{visible};
 ghost use Rattle.op_ids.specs.Clock.{is_clock};
@@ -15,8 +14,8 @@ use crate::doc::Doc;
 use crate::made::{Made, Part};
 use crate::make_error::MakeError;
 use crate::numbering::keep_limits;
-use op_ids::{Clock, OpId, ReplicaId, Token};
-use op_model::{Anchor, Body, Change, End, Mark, MarkKey, Start, numbered};
+use op_ids::{Clock, ReplicaId, Token};
+use op_model::{Body, Change, End, Mark, MarkKey, Start, numbered};
 use std::alloc::{AllocError, Global};
 
 impl Doc {
@@ -204,7 +203,7 @@ impl Doc {
         ensures { (ops : List Op) → StandsFor self.now ops
             → result ≡ start_of (visible ops self.now.number) from }
     {
-        start_before(self.sequence.visible(from))
+        Start::before(self.sequence.visible(from))
     }
 
     /// Where a mark of this key ends that is put on the visible characters before an index.
@@ -213,8 +212,8 @@ impl Doc {
             → result ≡ end_of (visible ops self.now.number) key.now to }
     {
         match key {
-            MarkKey::Strong | MarkKey::Em => end_before(self.sequence.visible(to)),
-            MarkKey::Link | MarkKey::Comment(_) => end_after(self.last_before(to)),
+            MarkKey::Strong | MarkKey::Em => End::before(self.sequence.visible(to)),
+            MarkKey::Link | MarkKey::Comment(_) => End::after(self.last_before(to)),
         }
     }
 }
@@ -226,31 +225,4 @@ fn only(alloc: Global, body: Body) -> Result<Vec<Body>, AllocError>
     let mut bodies = Vec::new(alloc);
     bodies.push(body)?;
     Ok(bodies)
-}
-
-fn start_before(id: Option<OpId>) -> Start
-    ensures { result ≡ start_before_of id }
-{
-    match id {
-        None => Start::OfText,
-        Some(id) => Start::From(Anchor::Before(id)),
-    }
-}
-
-fn end_before(id: Option<OpId>) -> End
-    ensures { result ≡ end_before_of id }
-{
-    match id {
-        None => End::OfText,
-        Some(id) => End::To(Anchor::Before(id)),
-    }
-}
-
-fn end_after(id: Option<OpId>) -> End
-    ensures { result ≡ end_after_of id }
-{
-    match id {
-        None => End::OfText,
-        Some(id) => End::To(Anchor::After(id)),
-    }
 }

@@ -1,9 +1,9 @@
 -- The place of a token in lists that are joined, changed at an index, or sorted.
-use Rattle.std.proofs.Common.{◌≡◌, ◌≢◌, ℕ, zero, suc, ◌<◌, ◌≤◌, true, false, inl, inr, List, [], ◌∷◌, ◌++◌, length, get_or, take, filter, nat_lt, Equal}
+use Rattle.std.proofs.Common.{◌≡◌, ◌≢◌, ℕ, zero, suc, ◌<◌, ◌≤◌, true, false, inl, inr, List, [], ◌∷◌, ◌++◌, length, get_or, take, filter, nat_lt, Equal, Bool, Bor}
 use Rattle.std.proofs.Common.{Some, None, ap, refl, sym, ◌∙◌, arith, ◌==◌}
 use Rattle.std.specs.BTreeMap.{is_at}
 use Rattle.std.specs.List.{slice_get}
-use Rattle.std.specs.List.Sorted.{ties, IsPartitionPoint, IsStableByKey}
+use Rattle.std.specs.List.Sorted.{ties, IsPartitionPoint, IsStableByKey, IsPartitionedBy}
 use Rattle.std.specs.Option.{option_or}
 use Rattle.std.specs.Ordering.{is_lt, nat_cmp}
 use Rattle.std.specs.Prelude.{slice_set, not, ◌&&◌}
@@ -13,7 +13,10 @@ use Rattle.std.proofs.lemmas.Option.{cond_some, none-some}
 use Rattle.std.proofs.lemmas.Map.Entries.{lookup-filter-keys}
 use Rattle.edit_tokens.specs.declared.place.Place.{Place}
 use Rattle.edit_tokens.specs.Places.{place_of, AreSorted, FindsAlike, IsFirst, Puts}
-use Rattle.edit_tokens.proofs.PlaceLemmas.{found_at}
+use Rattle.op_model.proofs.QueryLemmas.{found_at}
+use Rattle.std.specs.Fn.{Called, ComputesKey}
+use denote.Param.Members.{Mut}
+use Rattle.std.proofs.lemmas.List.Sorted.{IsPartitionPoint-from_clause, IsPartitionedBy-ltb}
 
 -- of two lists the first counts
 pub place_append : (xs ys : List (ℕ × Place)) (t : ℕ) → place_of (xs ++ ys) t ≡ option_or (place_of xs t) (place_of ys t)
@@ -100,6 +103,14 @@ nowhere [] t differs = refl
 nowhere (e ∷ es) t differs =
     let other : t ≢ e.0 = λ same. differs 0 e (omega arith) (sym same) in
     rw (found_at t e.0, ne_eqb t e.0 other) (nowhere es t (λ k d here. differs (suc k) d (omega arith)))
+
+-- where a search by halves for a token ends
+pub point_found : {F : Type 0} {g : Mut F (Bor (ℕ × Place) × Unit {0}) Bool} {f : F} (es read : List (ℕ × Place)) (t i : ℕ) → read ≡ es → AreSorted es
+    → ((q : ℕ × Place → Bool) → ComputesKey g q f → IsPartitionedBy q read → IsPartitionPoint (λ y. q y ≡ true) (λ y. q y ≡ false) read i)
+    → ((a : Bor (ℕ × Place) × Unit {0}) (r : Bool) (f' : F) → Called g f a r f' → (r ≡ nat_lt a.0.now.0 t) × (f' ≡ f))
+    → IsPartitionPoint (λ (x : ℕ × Place). nat_lt x.0 t ≡ true) (λ (x : ℕ × Place). nat_lt x.0 t ≡ false) es i
+point_found es read t i is sorted clause calls =
+    rw is at (IsPartitionPoint-from_clause (λ (e : ℕ × Place). nat_lt e.0 t) read i clause (rw is (IsPartitionedBy-ltb (λ (e : ℕ × Place). e.0) es t sorted)) calls)
 
 -- the first token that isn't below another one, among such that rise
 pub index_first : (es : List (ℕ × Place)) (t i : ℕ) (e : ℕ × Place) → IsPartitionPoint (λ (x : ℕ × Place). nat_lt x.0 t ≡ true) (λ (x : ℕ × Place). nat_lt x.0 t ≡ false) es i

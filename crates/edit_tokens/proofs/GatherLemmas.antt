@@ -8,7 +8,7 @@ use Rattle.std.proofs.lemmas.List.{reverse-append}
 use Rattle.edit_tokens.specs.declared.place.Place.{Place}
 use Rattle.edit_tokens.specs.Places.{Puts}
 use Rattle.edit_tokens.proofs.FoundLemmas.{puts_front}
-use Rattle.edit_tokens.proofs.PlaceLemmas.{found_from}
+use Rattle.op_model.proofs.QueryLemmas.{found_from}
 
 -- one that is put in front
 put_first : (es : List (ℕ × Place)) (t : ℕ) (p : Place) → Puts (Some t) (Some p) es ((t, p) ∷ es)

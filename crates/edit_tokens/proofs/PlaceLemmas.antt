@@ -1,37 +1,17 @@
 -- What is kept for a token, and what for the others.
 use Rattle.std.proofs.Common.{◌≡◌, ℕ, true, cond, inl, inr, List, [], ◌∷◌, ◌++◌}
-use Rattle.std.proofs.Common.{Option, Some, None, ap, refl, sym, ◌∙◌, arith}
+use Rattle.std.proofs.Common.{Option, Some, None, ap, refl, sym, ◌∙◌}
 use Rattle.std.specs.BTreeMap.{is_at}
 use Rattle.std.specs.Option.{option_map}
 use Rattle.std.specs.Ordering.{nat_cmp}
-use Rattle.std.specs.Prelude.{◌==◌, ◌≢◌, IfSome, IsSome}
-use Rattle.std.proofs.lemmas.Bool.{cases_Bool, cases_order, eq-eqb, ne_eqb, lt-ltb, le-ltb}
+use Rattle.std.specs.Prelude.{◌≢◌, IfSome, IsSome}
+use Rattle.std.proofs.lemmas.Bool.{cases_Bool, eq-eqb, ne_eqb}
 use Rattle.op_model.specs.declared.op.Op.{Op}
 use Rattle.op_model.specs.Tokens.{last_of, is_token, carries}
 use Rattle.model_laws.proofs.LastOf.{last_of-here, last_of-behind}
 use Rattle.edit_tokens.specs.declared.place.Place.{Place}
 use Rattle.edit_tokens.specs.Places.{place_of, place_at, Puts, AreTokens}
-
--- a query finds just its number
-pub found_at : (a b : ℕ) → is_at (nat_cmp a) b ≡ (a == b)
-found_at a b =
-    elim (cases_order a b) [
-      | inl same ↦ simp (le-ltb a b (omega arith), eq-eqb a b same) refl
-      | inr o ↦ elim o [
-        | inl below ↦ simp (lt-ltb a b below, ne_eqb a b (omega arith)) refl
-        | inr above ↦ simp (le-ltb a b (omega arith), ne_eqb a b (omega arith)) refl
-      ]
-    ]
-
--- and from the other side
-pub found_from : (a b : ℕ) → is_at (nat_cmp a) b ≡ (b == a)
-found_from a b = found_at a b ∙ elim (cases_order a b) [
-  | inl same ↦ rw (eq-eqb a b same, eq-eqb b a (sym same)) refl
-  | inr o ↦ elim o [
-    | inl below ↦ rw (ne_eqb a b (omega arith), ne_eqb b a (omega arith)) refl
-    | inr above ↦ rw (ne_eqb a b (omega arith), ne_eqb b a (omega arith)) refl
-  ]
-]
+use Rattle.op_model.proofs.QueryLemmas.{found_at}
 
 -- a map that has one token more, or one less
 pub puts_one : (old new : List (ℕ × Place)) (token : ℕ) (place : Option Place)

@@ -111,34 +111,26 @@ second_live false true true false false is = absurd cc
 second_live false true false v w is = absurd cc
 second_live false false false v w is = absurd cc
 
+-- what the tests of a gate and of two versions say
+same : (k : ℕ) → (k == 1) ≡ true → k ≡ 1
+same k is = grind (arith, nat_tests)
+
+sure : (k : ℕ) → k ≡ 1 → (k == 1) ≡ true
+sure k is = grind (arith, nat_tests)
+
+less : (k m : ℕ) → nat_lt k m ≡ true → k < m
+less k m is = grind (arith, nat_tests)
+
 opened : (file : List ℕ) (slot : ℕ) → slot < 2 → live file ≡ Ok slot → Opened file slot
 unfolding tested
 opened file zero below is =
     let it = first_live (nat_lt (length file) 8192) (gate 0 file == 1) (gate 1 file == 1)
     (nat_lt (version_of (body 1 file)) (version_of (body 0 file))) (nat_lt (version_of (body 0 file)) (version_of (body 1 file))) is in
     record { is_open = same (gate 0 file) it.0; older = λ one. less _ _ (it.1 (sure (gate 1 file) one)) }
-  where
-    same : (k : ℕ) → (k == 1) ≡ true → k ≡ 1
-    same k is = grind (arith, nat_tests)
-
-    sure : (k : ℕ) → k ≡ 1 → (k == 1) ≡ true
-    sure k is = grind (arith, nat_tests)
-
-    less : (k m : ℕ) → nat_lt k m ≡ true → k < m
-    less k m is = grind (arith, nat_tests)
 opened file (suc zero) below is =
     let it = second_live (nat_lt (length file) 8192) (gate 0 file == 1) (gate 1 file == 1)
     (nat_lt (version_of (body 1 file)) (version_of (body 0 file))) (nat_lt (version_of (body 0 file)) (version_of (body 1 file))) is in
     record { is_open = same (gate 1 file) it.0; older = λ one. less _ _ (it.1 (sure (gate 0 file) one)) }
-  where
-    same : (k : ℕ) → (k == 1) ≡ true → k ≡ 1
-    same k is = grind (arith, nat_tests)
-
-    sure : (k : ℕ) → k ≡ 1 → (k == 1) ≡ true
-    sure k is = grind (arith, nat_tests)
-
-    less : (k m : ℕ) → nat_lt k m ≡ true → k < m
-    less k m is = grind (arith, nat_tests)
 opened file (suc (suc k)) below is = absurd (omega (arith, below))
 
 as_before : (g : ℕ) (stale_open : Bool) → stale_open ≡ (g == 1) → (stale_open ≡ true → g ≡ 1) × (stale_open ≡ false → g ≢ 1)

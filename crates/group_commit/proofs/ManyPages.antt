@@ -42,6 +42,13 @@ length-joined (p ∷ ps) whole =
     let rest = length-joined ps (rest_whole p ps whole) in
     omega (arith, length-append p (joined ps), first_whole p ps whole, rest)
 
+-- the first of some bytes and of those behind them
+pub take_behind : (p q : List ℕ) (m k n : ℕ) → length p ≡ m → n ≡ m + k → take n (p ++ q) ≡ p ++ take k q
+take_behind [] q m k n size is = ap (λ j. take j q) (omega (arith, size, is))
+take_behind (x ∷ xs) q zero k n size is = absurd (omega (arith, size))
+take_behind (x ∷ xs) q (suc m) k zero size is = absurd (omega (arith, is))
+take_behind (x ∷ xs) q (suc m) k (suc n) size is = ap (λ r. x ∷ r) (take_behind xs q m k n (omega (arith, size)) (omega (arith, is)))
+
 -- the first pages are the first bytes
 pub joined-take : (ns file : List ℕ) (k : ℕ) → are_whole (pages ns file) ≡ true → k ≤ length ns
     → joined (pages (take k ns) file) ≡ take (4096 * k) (joined (pages ns file))
@@ -51,12 +58,6 @@ joined-take (n ∷ ns) file (suc k) whole within =
     let size = first_whole (page n file) (pages ns file) whole in
     let rest = joined-take ns file k (rest_whole (page n file) (pages ns file) whole) (omega (arith, within)) in
     ap (λ r. page n file ++ r) rest ∙ sym (take_behind (page n file) (joined (pages ns file)) 4096 (4096 * k) (4096 * suc k) size (omega arith))
-  where
-    take_behind : (p q : List ℕ) (m k n : ℕ) → length p ≡ m → n ≡ m + k → take n (p ++ q) ≡ p ++ take k q
-    take_behind [] q m k n size is = ap (λ j. take j q) (omega (arith, size, is))
-    take_behind (x ∷ xs) q zero k n size is = absurd (omega (arith, size))
-    take_behind (x ∷ xs) q (suc m) k zero size is = absurd (omega (arith, is))
-    take_behind (x ∷ xs) q (suc m) k (suc n) size is = ap (λ r. x ∷ r) (take_behind xs q m k n (omega (arith, size)) (omega (arith, is)))
 
 pub whole-take : (ns file : List ℕ) (k : ℕ) → are_whole (pages ns file) ≡ true → are_whole (pages (take k ns) file) ≡ true
 whole-take ns file zero whole = refl

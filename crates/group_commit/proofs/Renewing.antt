@@ -9,7 +9,7 @@ use Rattle.root_slots.proofs.HeadLemmas.{length-numbers}
 use Rattle.group_commit.specs.Image.{entries}
 use Rattle.group_commit.specs.Standing.{ReadAs}
 use Rattle.group_commit.proofs.Inside.{whole-append}
-use Rattle.group_commit.proofs.ManyPages.{joined-append, pages-append, length-pages, length-joined}
+use Rattle.group_commit.proofs.ManyPages.{joined-append, pages-append, length-pages, length-joined, take_behind}
 use Rattle.group_commit.proofs.ManyPages.{joined-take, whole-take, reads_joined, entries_joined}
 use Rattle.group_commit.proofs.ManyPages.{numbers_written, first_whole, rest_whole, both_whole}
 use Rattle.group_commit.proofs.Roots.{HasBoth}
@@ -26,12 +26,6 @@ entries-take (n ∷ ns) file (suc k) within =
     let rest = entries-take ns file k (omega (arith, within)) in
     ap (λ r. numbers 1024 (page n file) ++ r) rest
     ∙ sym (take_behind (numbers 1024 (page n file)) (entries (pages ns file)) 1024 (1024 * k) (1024 * suc k) (length-numbers 1024 (page n file)) (omega arith))
-  where
-    take_behind : (p q : List ℕ) (m k n : ℕ) → length p ≡ m → n ≡ m + k → take n (p ++ q) ≡ p ++ take k q
-    take_behind [] q m k n size is = ap (λ j. take j q) (omega (arith, size, is))
-    take_behind (x ∷ xs) q zero k n size is = absurd (omega (arith, size))
-    take_behind (x ∷ xs) q (suc m) k zero size is = absurd (omega (arith, is))
-    take_behind (x ∷ xs) q (suc m) k (suc n) size is = ap (λ r. x ∷ r) (take_behind xs q m k n (omega (arith, size)) (omega (arith, is)))
 
 -- what is new of a root: its stream with zeros behind it; which data pages and tables stay; the numbers of the new ones, their bytes
 pub record Renews (s tables data_pages : List ℕ) (z : ℕ) (s' : List ℕ) (z' kept kept_tables : ℕ) (new_data new_tables data_bytes table_bytes : List ℕ)

@@ -53,6 +53,15 @@ module _ {D : Type 0} (facts : Ghosts D) where
       → IsSound facts (record held { phase = p }) slot numbers fresh
   with_phase held slot numbers fresh p is sound = rw (sym is) sound
 
+  -- the page that is written next is a new one, and none of the live root's
+  fresh_page : (held : StoreHeld D) (slot : ℕ) (numbers fresh : List ℕ) (k : ℕ) → IsSound facts held slot numbers fresh → held.phase ≡ Pages k
+      → (k < length numbers) × (are_pages numbers ≡ true) × (has (get_or numbers k 0) held.current.pages ≡ false) × (2 ≤ get_or numbers k 0)
+  fresh_page held slot numbers fresh k sound at_page =
+      let plan = (with_phase held slot numbers fresh (Pages k) at_page sound).plan (λ is. absurd cc) in
+      let within : k < length numbers = plan.under_way k refl in
+      let apart : are_pages numbers ≡ true = apart_first numbers held.current.pages plan.free in
+      (within, apart, apart_each numbers held.current.pages k plan.free within, each_behind numbers k apart within)
+
   -- a page is written
   pub sound_page : (held : StoreHeld D) (slot : ℕ) (numbers fresh : List ℕ) (k : ℕ) (new : D) → IsSound facts held slot numbers fresh → held.phase ≡ Pages k
       → (facts.tells held.disk → IsLawful facts held.disk) → (facts.tells new → facts.tells held.disk)
@@ -64,10 +73,7 @@ module _ {D : Type 0} (facts : Ghosts D) where
   sound_page held slot numbers fresh k new sound at_page lawful told tears written inside count works =
       let s = with_phase held slot numbers fresh (Pages k) at_page sound in
       let plan = s.plan (λ is. absurd cc) in
-      let within : k < length numbers = plan.under_way k refl in
-      let apart : are_pages numbers ≡ true = apart_first numbers held.current.pages plan.free in
-      let lacks : has (get_or numbers k 0) held.current.pages ≡ false = apart_each numbers held.current.pages k plan.free within in
-      let above : 2 ≤ get_or numbers k 0 = each_behind numbers k apart within in
+      let (within, apart, lacks, above) = fresh_page held slot numbers fresh k sound at_page in
       record {
         slots = sound.slots;
         room = sound.room;
@@ -130,11 +136,7 @@ module _ {D : Type 0} (facts : Ghosts D) where
       → IsSound facts (record held { disk = new; failed = true }) slot numbers fresh
   sound_page_failed held slot numbers fresh k new sound at_page told tears =
       let s = with_phase held slot numbers fresh (Pages k) at_page sound in
-      let plan = s.plan (λ is. absurd cc) in
-      let within : k < length numbers = plan.under_way k refl in
-      let apart : are_pages numbers ≡ true = apart_first numbers held.current.pages plan.free in
-      let lacks : has (get_or numbers k 0) held.current.pages ≡ false = apart_each numbers held.current.pages k plan.free within in
-      let above : 2 ≤ get_or numbers k 0 = each_behind numbers k apart within in
+      let (within, apart, lacks, above) = fresh_page held slot numbers fresh k sound at_page in
       record {
         slots = sound.slots;
         room = sound.room;

@@ -10,7 +10,7 @@ use Rattle.root_slots.specs.Slots.{gate, body, live}
 use Rattle.group_commit.specs.Image.{in_slot, root_and_stream, stream, tables_in, data_pages_in}
 use Rattle.group_commit.specs.Saved.{Saved}
 use Rattle.group_commit.specs.Commit.{IsRootOf, IsLeft}
-use Rattle.group_commit.specs.Standing.{HasPages, IsOlder, Stands, ReadAs, Reads, Makes}
+use Rattle.group_commit.specs.Standing.{HasPages, IsOlder, StaleSlot, Stands, ReadAs, Reads, Makes}
 use Rattle.group_commit.specs.declared.phase.Phase.{Phase}
 use Rattle.group_commit.specs.declared.phase.Phase.TheVariants.{Idle, Pages, Close, Sync1, Body, Sync2, Gate, Sync3}
 use Rattle.group_commit.proofs.Frame.{stores_same, reading_of}
@@ -54,92 +54,69 @@ stands_page k k' slot stale_open current next d c m below above lacks torn s =
       );
     }
 
+-- another phase asks something else of the stale slot alone
+stands_on : (p q : Phase) (slot : ℕ) (stale_open : Bool) (current next : Saved) (c : List ℕ) → Stands p slot stale_open current next c
+    → StaleSlot q slot stale_open current next c → Stands q slot stale_open current next c
+stands_on p q slot stale_open current next c s stale = record { whole = s.whole; is_open = s.is_open; holds = s.holds; keeps = s.keeps; stale_slot = stale }
+
+-- a write into the stale slot, whole or torn, leaves the rest
+stands_beside : (p q : Phase) (slot : ℕ) (stale_open : Bool) (current next : Saved) (d c : List ℕ) (at n : ℕ) → slot < 2 → Torn at n d c
+    → 4096 * (1 - slot) ≤ at → at + n ≤ 4096 * (1 - slot) + 4096
+    → Stands p slot stale_open current next d → StaleSlot q slot stale_open current next c → Stands q slot stale_open current next c
+stands_beside p q slot stale_open current next d c at n below torn from to s stale =
+    let here = slot_beside d c at n slot torn below from to in
+    record {
+      whole = omega (arith, torn.no_shorter, s.whole);
+      is_open = here.gates ∙ s.is_open;
+      holds = here.bodies ∙ s.holds;
+      keeps = keeps_behind current d c at n torn (omega (arith, to)) s.keeps;
+      stale_slot = stale;
+    }
+
 -- all pages are written: the stale gate is to be closed, or needn't be
 pub stands_to_close : (k slot : ℕ) (current next : Saved) (c : List ℕ) → Stands (Pages k) slot true current next c → Stands Close slot true current next c
-stands_to_close k slot current next c s = record {
-  whole = s.whole;
-  is_open = s.is_open;
-  holds = s.holds;
-  keeps = s.keeps;
-  stale_slot = (s.stale_slot.0, s.stale_slot.1.opened refl);
-}
+stands_to_close k slot current next c s = stands_on (Pages k) Close slot true current next c s (s.stale_slot.0, s.stale_slot.1.opened refl)
 
 pub stands_to_sync : (k slot : ℕ) (stale_open : Bool) (current next : Saved) (c : List ℕ) → Stands (Pages k) slot stale_open current next c
     → Stands Sync1 slot stale_open current next c
-stands_to_sync k slot stale_open current next c s = record {
-  whole = s.whole;
-  is_open = s.is_open;
-  holds = s.holds;
-  keeps = s.keeps;
-  stale_slot = s.stale_slot.0;
-}
+stands_to_sync k slot stale_open current next c s = stands_on (Pages k) Sync1 slot stale_open current next c s s.stale_slot.0
 
 -- the stale gate is closed, or torn
 pub stands_close : (slot : ℕ) (stale_open : Bool) (current next : Saved) (d c : List ℕ) → slot < 2 → Torn (4096 * (1 - slot)) 1 d c
     → Stands Close slot stale_open current next d → Stands Sync1 slot stale_open current next c
 stands_close slot stale_open current next d c below torn s =
-    let here = slot_beside d c (4096 * (1 - slot)) 1 slot torn below (omega arith) (omega arith) in
-    record {
-      whole = omega (arith, torn.no_shorter, s.whole);
-      is_open = here.gates ∙ s.is_open;
-      holds = here.bodies ∙ s.holds;
-      keeps = keeps_behind current d c (4096 * (1 - slot)) 1 torn (omega arith) s.keeps;
-      stale_slot = λ is. rw (body_behind_gate d c (1 - slot) torn) (s.stale_slot.0 s.stale_slot.1);
-    }
+    stands_beside Close Sync1 slot stale_open current next d c (4096 * (1 - slot)) 1 below torn (omega arith) (omega arith) s
+    (λ is. rw (body_behind_gate d c (1 - slot) torn) (s.stale_slot.0 s.stale_slot.1))
 
 -- the pages and the closed gate are settled
 pub stands_sync1 : (slot : ℕ) (stale_open : Bool) (current next : Saved) (numbers fresh : List ℕ) (file : List ℕ) → Makes current numbers fresh next
     → Reads Sync1 slot next numbers fresh file → Stands Sync1 slot stale_open current next file → Stands Body slot stale_open current next file
-stands_sync1 slot stale_open current next numbers fresh file makes reads s = record {
-  whole = s.whole;
-  is_open = s.is_open;
-  holds = s.holds;
-  keeps = s.keeps;
-  stale_slot = (reads.1, makes file s.keeps reads.0);
-}
+stands_sync1 slot stale_open current next numbers fresh file makes reads s =
+    stands_on Sync1 Body slot stale_open current next file s (reads.1, makes file s.keeps reads.0)
 
 -- the body is written, or torn
 pub stands_body : (slot : ℕ) (stale_open : Bool) (current next : Saved) (d c : List ℕ) → slot < 2 → Torn (4096 * (1 - slot) + 8) 4088 d c
     → Stands Body slot stale_open current next d → Stands Sync2 slot stale_open current next c
 stands_body slot stale_open current next d c below torn s =
-    let here = slot_beside d c (4096 * (1 - slot) + 8) 4088 slot torn below (omega arith) (omega arith) in
-    record {
-      whole = omega (arith, torn.no_shorter, s.whole);
-      is_open = here.gates ∙ s.is_open;
-      holds = here.bodies ∙ s.holds;
-      keeps = keeps_behind current d c (4096 * (1 - slot) + 8) 4088 torn (omega arith) s.keeps;
-      stale_slot = (
-        λ is. s.stale_slot.0 (sym (gate_before_body d c (1 - slot) torn) ∙ is),
-        keeps_behind next d c (4096 * (1 - slot) + 8) 4088 torn (omega arith) s.stale_slot.1,
-      );
-    }
+    stands_beside Body Sync2 slot stale_open current next d c (4096 * (1 - slot) + 8) 4088 below torn (omega arith) (omega arith) s (
+      λ is. s.stale_slot.0 (sym (gate_before_body d c (1 - slot) torn) ∙ is),
+      keeps_behind next d c (4096 * (1 - slot) + 8) 4088 torn (omega arith) s.stale_slot.1,
+    )
 
 -- the body is settled
 pub stands_sync2 : (slot : ℕ) (stale_open : Bool) (current next : Saved) (file : List ℕ) → body (1 - slot) file ≡ next.body
     → Stands Sync2 slot stale_open current next file → Stands Gate slot stale_open current next file
-stands_sync2 slot stale_open current next file written s = record {
-  whole = s.whole;
-  is_open = s.is_open;
-  holds = s.holds;
-  keeps = s.keeps;
-  stale_slot = (s.stale_slot.0, s.stale_slot.1, written);
-}
+stands_sync2 slot stale_open current next file written s =
+    stands_on Sync2 Gate slot stale_open current next file s (s.stale_slot.0, s.stale_slot.1, written)
 
 -- the gate is written, or torn
 pub stands_gate : (slot : ℕ) (stale_open : Bool) (current next : Saved) (d c : List ℕ) → slot < 2 → Torn (4096 * (1 - slot)) 1 d c
     → Stands Gate slot stale_open current next d → Stands Sync3 slot stale_open current next c
 stands_gate slot stale_open current next d c below torn s =
-    let here = slot_beside d c (4096 * (1 - slot)) 1 slot torn below (omega arith) (omega arith) in
-    record {
-      whole = omega (arith, torn.no_shorter, s.whole);
-      is_open = here.gates ∙ s.is_open;
-      holds = here.bodies ∙ s.holds;
-      keeps = keeps_behind current d c (4096 * (1 - slot)) 1 torn (omega arith) s.keeps;
-      stale_slot = (
-        keeps_behind next d c (4096 * (1 - slot)) 1 torn (omega arith) s.stale_slot.1,
-        body_behind_gate d c (1 - slot) torn ∙ s.stale_slot.2,
-      );
-    }
+    stands_beside Gate Sync3 slot stale_open current next d c (4096 * (1 - slot)) 1 below torn (omega arith) (omega arith) s (
+      keeps_behind next d c (4096 * (1 - slot)) 1 torn (omega arith) s.stale_slot.1,
+      body_behind_gate d c (1 - slot) torn ∙ s.stale_slot.2,
+    )
 
 -- the gate is settled: the slots change places
 pub stands_sync3 : (slot : ℕ) (stale_open : Bool) (current next other : Saved) (file : List ℕ) → slot < 2 → version_of current.body < version_of next.body

@@ -34,3 +34,4 @@ pub mod Grown
 pub mod GrownEdits
 pub mod LastOf
 pub mod Tickets
+pub mod Passing

@@ -1,1 +1,2 @@
+pub mod QueryLemmas
 pub mod RisingLemmas

@@ -1,6 +1,7 @@
 //! Places beside characters, and where marks begin and end.
 ghost use Rattle.std.specs.Prelude.{◌≡◌, ◌∷◌, []};
 ghost use Rattle.op_model.specs.Causality.{named_by_anchor, named_by_end, named_by_start, optional};
+ghost use Rattle.op_model.specs.Made.{start_before, end_before, end_after};
 
 use op_ids::OpId;
 
@@ -45,6 +46,16 @@ impl Anchor {
 }
 
 impl Start {
+    /// Just before a character, or at the start of the text if there is none.
+    pub fn before(id: Option<OpId>) -> Start
+        ensures { result ≡ start_before id }
+    {
+        match id {
+            None => Start::OfText,
+            Some(id) => Start::From(Anchor::Before(id)),
+        }
+    }
+
     /// The character that it names, if it names one.
     pub fn character(&self) -> Option<OpId>
         ensures { optional result ≡ named_by_start self.now }
@@ -57,6 +68,26 @@ impl Start {
 }
 
 impl End {
+    /// Just before a character, or at the end of the text if there is none.
+    pub fn before(id: Option<OpId>) -> End
+        ensures { result ≡ end_before id }
+    {
+        match id {
+            None => End::OfText,
+            Some(id) => End::To(Anchor::Before(id)),
+        }
+    }
+
+    /// Just after a character, or at the end of the text if there is none.
+    pub fn after(id: Option<OpId>) -> End
+        ensures { result ≡ end_after id }
+    {
+        match id {
+            None => End::OfText,
+            Some(id) => End::To(Anchor::After(id)),
+        }
+    }
+
     /// The character that it names, if it names one.
     pub fn character(&self) -> Option<OpId>
         ensures { optional result ≡ named_by_end self.now }

@@ -1,7 +1,7 @@
 -- The drafts of the documents of a list, and one of them with an operation more.
 use Rattle.std.proofs.Common.{◌≡◌, ℕ, zero, suc, ◌+◌, ◌<◌, ◌^◌, List, [], ◌∷◌, ◌++◌, length, take, get_or, refl, sym, ◌∙◌, ap, arith}
 use Rattle.std.specs.Prelude.{slice_set}
-use Rattle.std.proofs.lemmas.List.{take_more}
+use Rattle.std.proofs.lemmas.List.{take_more, length-map}
 use Rattle.doc_core.specs.declared.doc.Doc.{Doc}
 use Rattle.doc_core.specs.declared.draft.Draft.{Draft}
 use Rattle.doc_core.specs.Drafting.{IsDraftOf}
@@ -47,11 +47,20 @@ numbers_put (x ∷ ds) zero d new is_it same = let first : d ≡ x = is_it in ap
 numbers_put (x ∷ ds) (suc i) d new is_it same = ap (λ rest. draft_number x ∷ rest) (numbers_put ds i d new is_it same)
 
 -- the number at an index is that of the draft there
-pub number_at : (ds : List Draft) (i : ℕ) (d : Draft) (n : ℕ) → i < length ds → d ≡ get_or ds i d → n ≡ get_or (draft_numbers ds) i n
+number_at : (ds : List Draft) (i : ℕ) (d : Draft) (n : ℕ) → i < length ds → d ≡ get_or ds i d → n ≡ get_or (draft_numbers ds) i n
     → n ≡ draft_number d
 number_at [] i d n here is_it is_n = absurd (omega arith)
 number_at (x ∷ ds) zero d n here is_it is_n = let first : d ≡ x = is_it in is_n ∙ sym (ap draft_number first)
 number_at (x ∷ ds) (suc i) d n here is_it is_n = number_at ds i d n (omega arith) is_it is_n
+
+-- the draft of a document whose number was found is there, and is of that number
+pub found_at : (ds : List Draft) (i : ℕ) (d : Draft) (n : ℕ) (ns : List ℕ) → draft_numbers ds ≡ ns → i < length ns → n ≡ get_or ns i n
+    → d ≡ get_or ds i d → (i < length ds) × (n ≡ draft_number d)
+found_at ds i d n ns are below is_n is_it =
+    let as_many = ap length are in
+    let many = length-map ds draft_number in
+    let here : i < length ds = omega arith in
+    (here, number_at ds i d n here is_it (rw are is_n))
 
 over_number : (n : ℕ) (ds : List Draft) (i : ℕ) (d : Draft) → AllOver n (draft_numbers ds) → i < length ds → d ≡ get_or ds i d → n < draft_number d
 over_number n [] i d over here is_it = absurd (omega arith)

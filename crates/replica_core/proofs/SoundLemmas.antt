@@ -1,5 +1,5 @@
 -- What a replica keeps through its steps.
-use Rattle.std.proofs.Common.{◌≡◌, ℕ, ◌+◌, ◌≤◌, ◌<◌, Bool, true, false, not, ◌&&◌, nat_le, nat_lt, List, [], ◌∷◌, ◌++◌, length, take, max, cond}
+use Rattle.std.proofs.Common.{◌≡◌, ℕ, ◌+◌, ◌≤◌, ◌<◌, Bool, true, false, not, ◌&&◌, nat_le, List, [], ◌∷◌, ◌++◌, length, take, max, cond}
 use Rattle.std.proofs.Common.{sum_by, refl, sym, ◌∙◌, ap, Option, Some, None, arith, length-append}
 use Rattle.std.specs.Prelude.{◌==◌, ◌≢◌, if◌then◌else◌}
 use Rattle.std.specs.List.{list_all}
@@ -12,8 +12,7 @@ use Rattle.op_ids.specs.Clock.{advanced, is_ready}
 use Rattle.op_model.specs.declared.op.Op.{Op}
 use Rattle.op_model.specs.declared.op.Body.{Body}
 use Rattle.op_model.specs.declared.edit.Edit.{Edit}
-use Rattle.op_model.specs.Causality.{clock_of, documents, made_by, first_failed, is_counted_up, is_in_range, is_known, is_within_limits}
-use Rattle.op_model.specs.Causality.{names_inserts, MayFollow}
+use Rattle.op_model.specs.Causality.{clock_of, documents, made_by, first_failed, is_in_range, is_known, is_within_limits}
 use Rattle.op_model.specs.Made.{is_at_rev, is_inside, is_small, made, numbered, bodies_of, greatest_counter, edit_refusal, size_of}
 use Rattle.op_model.specs.Records.{stream_length}
 use Rattle.op_model.specs.Machine.{new_edit_alone, merge_alone, applied, ticket}
@@ -42,6 +41,7 @@ use Rattle.replica_core.specs.Held.{CanEdit, IsSound}
 use Rattle.replica_core.specs.Merging.{CanMerge}
 use Rattle.model_laws.proofs.Ready.{documents-push}
 use Rattle.replica_core.proofs.LimitLemmas.{documents-made, length-made}
+use Rattle.model_laws.proofs.Passing.{passed_follows}
 
 -- the causes of an edit, where none holds
 abbrev causes : Bool → Bool → Bool → Option ℕ
@@ -196,25 +196,6 @@ AreFields-edit id opened settled acked told session first count steps old new ad
     rw held
     (AreFields-with_edit h session e counts_before counts old.docs.items new.docs.items old.index new.index places_before places
     fields can some is_clock is.numbers (λ docs come. rw are at (is.stand docs (rw are come))) (λ was. rw (← are, ← is.list) (is.index was)) are_tokens)
-
--- the checks of an operation, where none fails
-abbrev checks : Bool → Bool → Bool → Bool → Option ℕ
-checks counter names document limits =
-    if not counter then Some 21 else if not names then Some 22 else if not document then Some 23 else if not limits then Some 24 else None
-
-first_none : (a b c d : Bool)
-    → checks a b c d ≡ None → (a ≡ true) × (b ≡ true) × (c ≡ true) × (d ≡ true)
-first_none true true true true e = (refl, refl, refl, refl)
-first_none true true true false e = absurd (cc)
-first_none true true false d e = absurd (cc)
-first_none true false c d e = absurd (cc)
-first_none false b c d e = absurd (cc)
-
--- an operation that is ready and of which no check fails may follow
-pub passed_follows : (ops : List Op) (op : Op) → is_ready (clock_of ops) op.id.replica op.deps ≡ true → first_failed ops op ≡ None → MayFollow ops op
-passed_follows ops op ready passed =
-    let all = first_none (is_counted_up ops op) (names_inserts ops op) (nat_lt 0 op.doc) (is_within_limits (ops ++ op ∷ [])) passed in
-    record { ready = ready; counter = all.0; names = all.1; document = all.2; limits = all.3 }
 
 -- what a replica keeps is kept by a merge
 pub IsSound-with_merge : (h : ReplicaHeld) (peer : ℕ) (op : Op) → IsSound h → CanMerge h op → IsSound (with_merge h peer op)

@@ -6,8 +6,7 @@ ghost use Rattle.op_model.specs.Text.{visible as visible_of, rev as rev_of};
 ghost use Rattle.op_model.specs.Causality.{is_within_limits as is_within_limits_of};
 ghost use Rattle.op_model.specs.Made.{is_at_rev as is_at_rev_of, is_inside as is_inside_of};
 ghost use Rattle.op_model.specs.Made.{made as made_of, bodies_of as bodies_in, edit_refusal, origin_of};
-ghost use Rattle.op_model.specs.Made.{start_before as start_before_of, end_before as end_before_of};
-ghost use Rattle.op_model.specs.Made.{end_after as end_after_of, end_of, size_of};
+ghost use Rattle.op_model.specs.Made.{end_of, size_of};
 ghost use Rattle.op_model.specs.Made.{greatest_counter as greatest_in};
 ghost use Rattle.slow_programs.specs.EditError.{number_of};
 ghost use Rattle.model_laws.specs.Asking.{IsAskedRight};
@@ -20,9 +19,7 @@ use crate::placing::{behind, id_at, id_before, last_end};
 use crate::reading::{rev, visible};
 use fixed_numbers::limits::MAX_COUNTER;
 use op_ids::{OpId, ReplicaId};
-use op_model::{
-    Anchor, Body, Change, Character, Edit, End, MarkKey, Op, Start, insert_bodies, numbered,
-};
+use op_model::{Body, Change, Character, Edit, End, MarkKey, Op, Start, insert_bodies, numbered};
 use std::alloc::{AllocError, Global};
 
 /// Whether a change lies within a text of `count` characters.
@@ -53,41 +50,14 @@ fn origin(
     Ok(last_end(ops, doc, id_before(seen, at), rest))
 }
 
-fn start_before(id: Option<OpId>) -> Start
-    ensures { result ≡ start_before_of id }
-{
-    match id {
-        None => Start::OfText,
-        Some(id) => Start::From(Anchor::Before(id)),
-    }
-}
-
-fn end_before(id: Option<OpId>) -> End
-    ensures { result ≡ end_before_of id }
-{
-    match id {
-        None => End::OfText,
-        Some(id) => End::To(Anchor::Before(id)),
-    }
-}
-
-fn end_after(id: Option<OpId>) -> End
-    ensures { result ≡ end_after_of id }
-{
-    match id {
-        None => End::OfText,
-        Some(id) => End::To(Anchor::After(id)),
-    }
-}
-
 /// Strong and em end just before the next visible character, or at the end of the text: they grow
 /// there. A link and a comment end just after their last character: they don't.
 fn end(seen: &[Character], key: &MarkKey, to: usize) -> End
     ensures { result ≡ end_of seen.now key.now to }
 {
     match key {
-        MarkKey::Strong | MarkKey::Em => end_before(id_at(seen, to)),
-        MarkKey::Link | MarkKey::Comment(_) => end_after(id_before(seen, to)),
+        MarkKey::Strong | MarkKey::Em => End::before(id_at(seen, to)),
+        MarkKey::Link | MarkKey::Comment(_) => End::after(id_before(seen, to)),
     }
 }
 
@@ -123,12 +93,12 @@ fn bodies(
         }
         Change::Mark { from, to, mark } => bodies.push(Body::AddMark {
             mark: mark.copy()?,
-            start: start_before(id_at(seen, *from as usize)),
+            start: Start::before(id_at(seen, *from as usize)),
             end: end(seen, &mark.key(), *to as usize),
         })?,
         Change::Unmark { from, to, key } => bodies.push(Body::RemoveMark {
             key: *key,
-            start: start_before(id_at(seen, *from as usize)),
+            start: Start::before(id_at(seen, *from as usize)),
             end: end(seen, key, *to as usize),
         })?,
     }

@@ -18,6 +18,7 @@ use Rattle.span_export.specs.MarkdownText.{separator, is_always_marker, is_marke
 use Rattle.span_export.specs.Markdown.{is_letter, is_apart, end_of, start_of, stars, add_open, add_core, add_body, add_starred, add_text, add_tags}
 use Rattle.span_export.specs.Markdown.{address_byte, open_bracket, close_bracket, add_span, add_spans, blank, is_some_text, finished, markdown_page}
 use Rattle.span_export.specs.Reading.{Spot, plain, inside_tag, address, read_markdown, text_of}
+use Rattle.span_export.proofs.ReadLemmas.{after13, after39, after34, after62, after60, after38, after0}
 
 -- a reader at this spot takes some of what stands first, and is then at the spot again
 abbrev Gives : Spot → List ℕ → List ℕ → Type 0
@@ -105,28 +106,6 @@ byte_in_text before b =
     (λ is rest. let e : b ≡ 32 = (Decides-eqb b 32).0 (both_right (is_line_start before) (b == 32) is) in rw e refl) (λ other.
     by_bool plain (is_marker before b) (92 ∷ b ∷ []) (b ∷ []) (b ∷ []) (λ is. escaped_byte b)
     (λ is. bare_byte b (neither_left (is_always_marker b) _ is)))))))))
-
--- how a byte stands in quotes, if it is none of those before
-abbrev after0 : ℕ → List ℕ
-after0 b = b ∷ []
-
-abbrev after13 : ℕ → List ℕ
-after13 b = cond (b == 0) (codes "&#0;") (after0 b)
-
-abbrev after39 : ℕ → List ℕ
-after39 b = cond (b == 13) (codes "&#13;") (after13 b)
-
-abbrev after34 : ℕ → List ℕ
-after34 b = cond (b == 39) (codes "&#39;") (after39 b)
-
-abbrev after62 : ℕ → List ℕ
-after62 b = cond (b == 34) (codes "&quot;") (after34 b)
-
-abbrev after60 : ℕ → List ℕ
-after60 b = cond (b == 62) (codes "&gt;") (after62 b)
-
-abbrev after38 : ℕ → List ℕ
-after38 b = cond (b == 60) (codes "&lt;") (after60 b)
 
 -- a byte as it stands in quotes of a tag doesn't end it
 byte_in_tag : (b : ℕ) → Gives inside_tag (html_byte b) []

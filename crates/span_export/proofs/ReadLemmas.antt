@@ -24,26 +24,26 @@ by_test place b k one other taken is_one is_other rest =
       | inr is ↦ rw is (is_other (not_from_Decides (b == k) (Decides-eqb b k) is) rest)
     ]
 
--- how a byte stands in text, if it is none of those before
-abbrev after0 : ℕ → List ℕ
+-- how a byte stands in text and in quotes, if it is none of those before
+abbrev pub after0 : ℕ → List ℕ
 after0 b = b ∷ []
 
-abbrev after13 : ℕ → List ℕ
+abbrev pub after13 : ℕ → List ℕ
 after13 b = cond (b == 0) (codes "&#0;") (after0 b)
 
-abbrev after39 : ℕ → List ℕ
+abbrev pub after39 : ℕ → List ℕ
 after39 b = cond (b == 13) (codes "&#13;") (after13 b)
 
-abbrev after34 : ℕ → List ℕ
+abbrev pub after34 : ℕ → List ℕ
 after34 b = cond (b == 39) (codes "&#39;") (after39 b)
 
-abbrev after62 : ℕ → List ℕ
+abbrev pub after62 : ℕ → List ℕ
 after62 b = cond (b == 34) (codes "&quot;") (after34 b)
 
-abbrev after60 : ℕ → List ℕ
+abbrev pub after60 : ℕ → List ℕ
 after60 b = cond (b == 62) (codes "&gt;") (after62 b)
 
-abbrev after38 : ℕ → List ℕ
+abbrev pub after38 : ℕ → List ℕ
 after38 b = cond (b == 60) (codes "&lt;") (after60 b)
 
 -- a byte as it stands in text is read as that byte

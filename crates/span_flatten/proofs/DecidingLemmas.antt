@@ -1,5 +1,5 @@
 -- What a mark operation that begins or ends makes of what decides.
-use Rattle.std.proofs.Common.{◌≡◌, ℕ, ◌==◌, Bool, true, false, ◌&&◌, ◌||◌, not, inl, inr, List, Option, Some, None, cond, refl, sym, ◌∙◌, ap}
+use Rattle.std.proofs.Common.{◌≡◌, ℕ, ◌==◌, Bool, true, false, ◌&&◌, ◌||◌, not, inl, inr, List, Option, Some, None, cond, refl, sym, ◌∙◌, ap, length, ◌≤◌}
 use Rattle.std.specs.Prelude.{filter, is_some, slice_get}
 use Rattle.std.specs.Option.{option_copied}
 use denote.Ref.{Bor}
@@ -7,7 +7,7 @@ use Rattle.op_model.specs.declared.mark.Mark.{Mark}
 use Rattle.std.specs.BTreeMap.{is_at}
 use Rattle.std.specs.BTreeSet.{contains}
 use Rattle.std.specs.Ordering.{nat_cmp}
-use Rattle.std.proofs.lemmas.Bool.{both_ways, cases_Bool, eq-eqb, eqb-true}
+use Rattle.std.proofs.lemmas.Bool.{both_ways, cases_Bool, eq-eqb, eqb-true, false≢true}
 use Rattle.op_model.specs.declared.mark.MarkKey.{MarkKey}
 use Rattle.op_model.specs.declared.mark.MarkKey.TheVariants as key
 use Rattle.op_model.specs.declared.marking.Marking.{Marking}
@@ -24,8 +24,9 @@ use Rattle.span_flatten.specs.declared.ranks.Ranks.{Ranks}
 use Rattle.span_flatten.specs.Deciding.{is_about, is_kept, AreDiscussed}
 use Rattle.span_flatten.specs.Picking.{is_of_key, picked}
 use Rattle.span_flatten.specs.Ranking.{has_rank, rank_cmp, AreRanks}
-use Rattle.span_flatten.proofs.StandingLemmas.{found_at}
 use Rattle.span_flatten.proofs.RankLemmas.{decided_with_other, decided_without_other, ranks_with, ranks_with_other, ranks_without, ranks_without_other}
+use Rattle.op_model.proofs.QueryLemmas.{found_from}
+use Rattle.std.proofs.lemmas.Option.{slice_get_past}
 
 -- a mark that is read is there as often
 pub copied_some : (o : Option (Bor Mark)) → is_some o ≡ is_some (option_copied o)
@@ -64,6 +65,10 @@ Says e ms id stands = (set : List ℕ) → IsUp set → AreRanks ms set (key.Com
 -- the comments that stand are those that stood, except for one
 abbrev pub Settles : Discussed → Discussed → ℕ → Bool → Type 0
 Settles d e id stands = (other : ℕ) → contains nat_cmp e.standing other ≡ cond (id == other) stands (contains nat_cmp d.standing other)
+
+-- past the last mark operation none is about a comment
+pub none_about : (ms : List Marking) (i id : ℕ) → length ms ≤ i → is_of_key (slice_get ms i) (key.Comment id) ≡ true → ⊥
+none_about ms i id past about = false≢true (ap (λ o. is_of_key o (key.Comment id)) (sym (slice_get_past ms i past)) ∙ about)
 
 -- one more about a comment
 pub discussed_with : (d e : Discussed) (ms : List Marking) (set : List ℕ) (m : Marking) (i id : ℕ) (r : Rank) (stands : Bool) → IsUp set
@@ -135,9 +140,9 @@ pub first_kept : (was now : ℕ → Option Ranks) (id : ℕ) (about : Ranks) (r 
 first_kept was now id about r put one none other q =
     elim (cases_Bool (id == other)) [
       | inl here ↦ (let is : id ≡ other = eqb-true id other here in
-          ap (λ o. is_kept o q) (put other) ∙ rw (found_at id other, ← is, eq-eqb id id refl, none) (one q ∙ just (is_at (rank_cmp r) q)))
+          ap (λ o. is_kept o q) (put other) ∙ rw (found_from id other, ← is, eq-eqb id id refl, none) (one q ∙ just (is_at (rank_cmp r) q)))
       | inr elsewhere ↦ (let turned : (other == id) ≡ false = turn elsewhere in
-          ap (λ o. is_kept o q) (put other) ∙ rw (found_at id other, turned, elsewhere) refl)
+          ap (λ o. is_kept o q) (put other) ∙ rw (found_from id other, turned, elsewhere) refl)
     ]
   where
     just : (a : Bool) → cond a true false ≡ (a || false)

@@ -12,7 +12,8 @@ use Rattle.comment_marks.specs.Standing.{standing}
 use Rattle.span_flatten.specs.declared.discussed.Discussed.{Discussed}
 use Rattle.span_flatten.specs.Deciding.{differs, AreDiscussed, IsNoted}
 use Rattle.span_flatten.specs.Picking.{picked}
-use Rattle.span_flatten.proofs.StandingLemmas.{found_at, has_standing, up_standing}
+use Rattle.span_flatten.proofs.StandingLemmas.{has_standing, up_standing}
+use Rattle.op_model.proofs.QueryLemmas.{found_from}
 
 same_list : (a : List ℕ) → is_same_list a a ≡ true
 same_list [] = refl
@@ -48,7 +49,7 @@ one_differs d ids ms set k ks some noted are same =
     not_itself (has k ids) (ap (has k) same ∙ (sym (has_standing d ms set are k) ∙ (noted.noted k ∙ ap (λ b. differs b (has k ids)) here)))
   where
     here : contains nat_cmp d.since k ≡ true
-    here = ap (λ ns. list_any (is_at (nat_cmp k)) ns) some ∙ rw (found_at k k, eq-eqb k k refl) refl
+    here = ap (λ ns. list_any (is_at (nat_cmp k)) ns) some ∙ rw (found_from k k, eq-eqb k k refl) refl
 
 pub noted_same : (d : Discussed) (ids : List ℕ) (ms : List Marking) (set : List ℕ) → length d.since.keys ≡ 0 → IsNoted d ids → AreDiscussed d ms set
     → true ≡ is_same_list ids (standing (picked ms set))

@@ -7,7 +7,7 @@ use Rattle.std.specs.BTreeMap.{is_at}
 use Rattle.std.specs.BTreeSet.{contains, IsOrdered}
 use Rattle.std.specs.Ordering.{nat_cmp}
 use Rattle.std.specs.declared.cmp.Ordering.TheVariants.{Less, Equal, Greater}
-use Rattle.std.proofs.lemmas.Bool.{cases_Bool, cases_order, eq-eqb, ne_eqb, lt-ltb, le-ltb, true≢false}
+use Rattle.std.proofs.lemmas.Bool.{cases_Bool, cases_order, eq-eqb, ne_eqb, le-ltb, true≢false}
 use Rattle.op_model.specs.declared.mark.MarkKey.{MarkKey}
 use Rattle.op_model.specs.declared.mark.MarkKey.TheVariants as key
 use Rattle.op_model.specs.declared.marking.Marking.{Marking}
@@ -20,21 +20,11 @@ use Rattle.comment_marks.specs.Standing.{decided, standing}
 use Rattle.span_flatten.specs.declared.discussed.Discussed.{Discussed}
 use Rattle.span_flatten.specs.Deciding.{AreDiscussed}
 use Rattle.span_flatten.specs.Picking.{picked}
-
--- a query finds just its number
-pub found_at : (a b : ℕ) → is_at (nat_cmp a) b ≡ (b == a)
-found_at a b =
-    elim (cases_order a b) [
-      | inl same ↦ simp (le-ltb a b (omega arith), eq-eqb a b same, eq-eqb b a (sym same)) refl
-      | inr o ↦ elim o [
-        | inl below ↦ simp (lt-ltb a b below, ne_eqb b a (omega arith)) refl
-        | inr above ↦ simp (le-ltb a b (omega arith), ne_eqb a b (omega arith), ne_eqb b a (omega arith)) refl
-      ]
-    ]
+use Rattle.op_model.proofs.QueryLemmas.{found_from}
 
 contains_has : (ns : List ℕ) (n : ℕ) → list_any (is_at (nat_cmp n)) ns ≡ has n ns
 contains_has [] n = refl
-contains_has (m ∷ ns) n = rw (found_at n m, contains_has ns n) refl
+contains_has (m ∷ ns) n = rw (found_from n m, contains_has ns n) refl
 
 less_first : (a b : ℕ) → nat_cmp a b ≡ Less → a < b
 less_first a b h =

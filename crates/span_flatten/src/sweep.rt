@@ -103,7 +103,9 @@ impl Sweep {
         Ok(self.active.take(alloc, edges, true, markings)?)
     }
 
-    /// A character, which a reader sees unless it is a tombstone. The errors of `pass_chunk`.
+    /// A character, which a reader sees unless it is a tombstone, with the marks of the mark
+    /// operations that have begun and not ended: they are looked at only if these changed. The
+    /// errors of `pass_chunk`.
     fn see(&mut self, alloc: Global, cell: &Cell, markings: &[Marking]) -> Result<(), SpansError>
         ensures seen { OnOk result (IsReady self.old markings.now
             → map forward_span self.new.runs.items
@@ -121,33 +123,15 @@ impl Sweep {
         if cell.is_removed {
             return Ok(());
         }
-        self.show(alloc, cell.value, markings)
-    }
-
-    /// A character that a reader sees, with the marks of the mark operations that have begun and
-    /// not ended: they are looked at only if these changed. The errors of `pass_chunk`.
-    fn show(&mut self, alloc: Global, value: char, markings: &[Marking]) -> Result<(), SpansError>
-        ensures shown { OnOk result (IsReady self.old markings.now
-            → map forward_span self.new.runs.items
-            ≡ with_back value (marks_in (picked markings.now (kept self.old.active)))
-            (map forward_span self.old.runs.items)) }
-        ensures ready { OnOk result (IsReady self.old markings.now
-            → IsReady self.new markings.now) }
-        ensures few { OnOk result (listed_and self.new.runs.items self.new.left
-            ≡ listed_and self.old.runs.items self.old.left) }
-        ensures listing { IsErrOf result SpansError.Listing
-            → ListsMore self.old markings.now value }
-        ensures active { HasSameFlags self.old.active self.new.active }
-    {
         if !self.is_changed {
-            return join(value, &mut self.runs);
+            return join(cell.value, &mut self.runs);
         }
-        self.show_changed(alloc, value, markings)
+        self.show_changed(alloc, cell.value, markings)
     }
 
-    /// The same where mark operations changed: the character joins the last run, if that has its
-    /// marks, else it begins one. The comments are listed only then. An error is out of memory
-    /// (1), or that more are listed than may be.
+    /// A character that a reader sees, where mark operations changed: it joins the last run, if
+    /// that has its marks, else it begins one. The comments are listed only then. An error is out
+    /// of memory (1), or that more are listed than may be.
     fn show_changed(
         &mut self,
         alloc: Global,

@@ -115,18 +115,20 @@ pub record Going {S : Type 0} (gives : S → Next → S → Type 0) (old : S) (g
   pub goes_on : GoesOn given
 
 module _ {S : Type 0} (gives : S → Next → S → Type 0) (old between new : S) (given : List Next) (last : Option ℕ) where
+  -- it gives one thing more, behind which this number was told last
+  going_more : (n : Next) (now : Option ℕ) → GoesOn (n ∷ []) → last_told last (n ∷ []) ≡ now → Going gives old given last between → gives between n new
+      → Going gives old (given ++ n ∷ []) now new
+  going_more n now goes is going one =
+      record {
+        run = Gave-snoc gives old between new given n going.run one;
+        last_is = sym (last-snoc None given n ∙ ap (λ l. last_told l (n ∷ [])) (sym going.last_is) ∙ is);
+        goes_on = goes-snoc given n going.goes_on goes;
+      }
+
   -- it gives a number above that
   pub going_above : (rev : ℕ) → is_above rev last ≡ true → Going gives old given last between → gives between (next.Rev rev) new
       → Going gives old (given ++ next.Rev rev ∷ []) (Some rev) new
-  going_above rev above going one =
-      record {
-        run = Gave-snoc gives old between new given (next.Rev rev) going.run one;
-        last_is =
-            let more : last_told None (given ++ next.Rev rev ∷ []) ≡ last_told last (next.Rev rev ∷ []) =
-            last-snoc None given (next.Rev rev) ∙ ap (λ l. last_told l (next.Rev rev ∷ [])) (sym going.last_is) in
-            rw (more, above) refl;
-        goes_on = goes-snoc given (next.Rev rev) going.goes_on tt;
-      }
+  going_above rev above going one = going_more (next.Rev rev) (Some rev) tt (rw above refl) going one
 
   pub told_above : (rev : ℕ) → is_above rev last ≡ true → Going gives old given last between
       → told (given ++ next.Rev rev ∷ []) ≡ told given ++ said_edited rev
@@ -137,15 +139,7 @@ module _ {S : Type 0} (gives : S → Next → S → Type 0) (old between new : S
   -- it gives a number that isn't above that
   pub going_not_above : (rev : ℕ) → is_above rev last ≡ false → Going gives old given last between → gives between (next.Rev rev) new
       → Going gives old (given ++ next.Rev rev ∷ []) last new
-  going_not_above rev above going one =
-      record {
-        run = Gave-snoc gives old between new given (next.Rev rev) going.run one;
-        last_is =
-            let more : last_told None (given ++ next.Rev rev ∷ []) ≡ last_told last (next.Rev rev ∷ []) =
-            last-snoc None given (next.Rev rev) ∙ ap (λ l. last_told l (next.Rev rev ∷ [])) (sym going.last_is) in
-            rw (more, above) refl;
-        goes_on = goes-snoc given (next.Rev rev) going.goes_on tt;
-      }
+  going_not_above rev above going one = going_more (next.Rev rev) last tt (rw above refl) going one
 
   pub told_not_above : (rev : ℕ) → is_above rev last ≡ false → Going gives old given last between
       → told (given ++ next.Rev rev ∷ []) ≡ told given
@@ -155,12 +149,7 @@ module _ {S : Type 0} (gives : S → Next → S → Type 0) (old between new : S
   -- it gives nothing so far
   pub going_quiet : Going gives old given last between → gives between next.Quiet new
       → Going gives old (given ++ next.Quiet ∷ []) last new
-  going_quiet going one =
-      record {
-        run = Gave-snoc gives old between new given next.Quiet going.run one;
-        last_is = going.last_is ∙ sym (last-snoc None given next.Quiet);
-        goes_on = goes-snoc given next.Quiet going.goes_on tt;
-      }
+  going_quiet going one = going_more next.Quiet last tt refl going one
 
   pub told_quiet : Going gives old given last between → told (given ++ next.Quiet ∷ []) ≡ told given
   told_quiet going = told_more given next.Quiet going.goes_on ∙ append-nil (told given)

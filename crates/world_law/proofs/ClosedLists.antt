@@ -1,16 +1,16 @@
 -- Causally closed lists: their fronts, and the one place that each operation has.
-use Rattle.std.proofs.Common.{◌≡◌, ℕ, ◌+◌, ◌≤◌, ◌<◌, eqb, Bool, true, false, not, inl, inr, List}
-use Rattle.std.proofs.Common.{[], ◌∷◌, ◌++◌, length, take, drop, Option, Some, None, arith, ap}
+use Rattle.std.proofs.Common.{◌≡◌, ℕ, ◌+◌, ◌≤◌, ◌<◌, eqb, true, false, inl, inr, List}
+use Rattle.std.proofs.Common.{[], ◌∷◌, ◌++◌, length, take, drop, arith, ap}
 use Rattle.std.proofs.Common.{refl, ◌∙◌, sym, length-append}
-use Rattle.std.specs.Prelude.{◌==◌, nat_lt, if◌then◌else◌}
+use Rattle.std.specs.Prelude.{◌==◌}
 use Rattle.std.proofs.lemmas.Bool.{cases_Bool, cases_order, eq-eqb, eqb-true, and_parts, both_ways}
 use Rattle.std.proofs.lemmas.List.{take-append-drop}
 use Rattle.std.proofs.lemmas.List.Elements.{filter-append}
 use Rattle.op_ids.specs.Id.{is_same}
-use Rattle.op_ids.specs.Clock.{count_of, is_within, is_ready}
+use Rattle.op_ids.specs.Clock.{count_of, is_within}
 use Rattle.op_model.specs.declared.op.Op.{Op}
-use Rattle.op_model.specs.Causality.{clock_of, made_by, first_failed, is_counted_up, names_inserts}
-use Rattle.op_model.specs.Causality.{is_within_limits, HasOp, MayFollow, FollowInTurn}
+use Rattle.op_model.specs.Causality.{clock_of, made_by}
+use Rattle.op_model.specs.Causality.{HasOp, MayFollow, FollowInTurn}
 use Rattle.op_model.specs.Causality.{IsCausallyClosed}
 use Rattle.model_laws.proofs.Growth.{closed_front}
 use Rattle.model_laws.proofs.Ids.{equal_same}
@@ -20,24 +20,6 @@ use Rattle.world_law.specs.Counts.{own_count}
 
 pub closed_take : (ops : List Op) (n : ℕ) → IsCausallyClosed ops → IsCausallyClosed (take n ops)
 closed_take ops n closed = closed_front (take n ops) (drop n ops) (rw (take-append-drop n ops) closed)
-
-abbrev checks : Bool → Bool → Bool → Bool → Option ℕ
-checks counter names document limits =
-    if not counter then Some 21 else if not names then Some 22 else if not document then Some 23 else if not limits then Some 24 else None
-
-first_none : (a b c d : Bool)
-    → checks a b c d ≡ None → (a ≡ true) × (b ≡ true) × (c ≡ true) × (d ≡ true)
-first_none true true true true e = (refl, refl, refl, refl)
-first_none true true true false e = absurd (cc)
-first_none true true false d e = absurd (cc)
-first_none true false c d e = absurd (cc)
-first_none false b c d e = absurd (cc)
-
--- an operation that is ready and of which no check fails may follow
-pub passed_follows : (ops : List Op) (op : Op) → is_ready (clock_of ops) op.id.replica op.deps ≡ true → first_failed ops op ≡ None → MayFollow ops op
-passed_follows ops op ready passed =
-    let all = first_none (is_counted_up ops op) (names_inserts ops op) (nat_lt 0 op.doc) (is_within_limits (ops ++ op ∷ [])) passed in
-    record { ready = ready; counter = all.0; names = all.1; document = all.2; limits = all.3 }
 
 one_distinct : (ops : List Op) (x y : Op) → AreDistinct ops → HasOp ops x → HasOp ops y → x.id ≡ y.id → x ≡ y
 one_distinct [] x y d h k e = absurd h

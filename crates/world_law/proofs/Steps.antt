@@ -30,9 +30,10 @@ use Rattle.model_laws.proofs.Makes.{closed_made}
 use Rattle.model_laws.proofs.Tickets.{edit_cases, was_made, is_new}
 use Rattle.world_law.specs.World.{Message, IsInBag, told_by}
 use Rattle.world_law.specs.Histories.{ComesFrom}
-use Rattle.world_law.proofs.ClosedLists.{closed_take, passed_follows}
+use Rattle.world_law.proofs.ClosedLists.{closed_take}
 use Rattle.world_law.proofs.Members.{HasOp-cases, HasOp-take, HasOp-take_more, HasOp-filter}
 use Rattle.world_law.proofs.Sound.{IsWithin, IsSound, Goes, goes_same}
+use Rattle.model_laws.proofs.Passing.{passed_follows}
 
 -- an edit's operations are its replica's
 numbered_own : (replica doc : ℕ) (token : Option ℕ) (counter : ℕ) (deps : List (ℕ × ℕ)) (bodies : List Body) (op : Op)

@@ -1,12 +1,13 @@
-use Rattle.std.proofs.Common.{inl, inr, refl, ◌≡◌, ◌≤◌, ◌<◌, ◌+◌, ◌-◌, [], length, drop, get_or, sym, ◌∙◌, ap, arith}
+use Rattle.std.proofs.Common.{inl, inr, refl, ◌≤◌, ◌+◌, ◌-◌, [], length, drop, get_or, sym, ◌∙◌, ap, arith}
 use Rattle.char_sequence.specs.Cells.{behind_shown, shown, shown_at}
 use Rattle.char_sequence.specs.Chunks.{cells_of}
 use Rattle.char_sequence.proofs.BehindLemmas.{behind_chunk}
-use Rattle.char_sequence.proofs.GroupSearchLemmas.{near_next, near_none, reads_all, reads_few, several}
+use Rattle.char_sequence.proofs.GroupSearchLemmas.{near_next, near_none, reads_all, reads_few, several, Reads}
 use Rattle.char_sequence.proofs.PlaceLemmas.{few_in_chunk}
 use Rattle.char_sequence.proofs.ShownLemmas.{seen_of}
 use Rattle.char_sequence.proofs.SizeLemmas.{few_chunks, next_chunk, none_read, past_all, past_chunk, size_read}
 use Rattle.char_sequence.proofs.shown.shown.Goals as goal
+use Rattle.char_sequence.proofs.shown.shown.Goals.{After-shown_in}
 
 pub shown_in-requires-clause-cells : goal.shown_in-requires-clause-cells
 shown_in-requires-clause-cells c = (size_read c.args.chunks.now c.loop-size.i c.in-Some.size (sym c.chunk.ensures.size ∙ c.in-Some.is)).1
@@ -24,33 +25,33 @@ returns-then-left-size-clause-found c =
     c.shown_in.ensures.found
 
 -- what was read where the cell is found
-pub returns-then-left-size-clause-ticks : goal.returns-then-left-size-clause-ticks
-returns-then-left-size-clause-ticks c =
-    let held = c.args.chunks.now in
-    let read = size_read held c.loop-size.i c.in-Some.size (sym c.chunk.ensures.size ∙ c.in-Some.is) in
-    let small = few_in_chunk held c.loop-size.i c.are_sized.ensures.chunks.sized in
-    reads_all c.args.ticks.now c.past_groups-start.new.ticks c.loop-size.ticks c.shown_in.new.ticks c.past_groups-start.result.chunk c.loop-size.i
-    c.in-Some.size.cells (length held) (length (cells_of held)) (record {
+reads : (c : After-shown_in) → Reads c.args.ticks.now c.past_groups-start.new.ticks c.loop-size.ticks c.shown_in.new.ticks c.past_groups-start.result.chunk c.loop-size.i c.in-Some.size.cells
+reads c =
+    let read = size_read c.args.chunks.now c.loop-size.i c.in-Some.size (sym c.chunk.ensures.size ∙ c.in-Some.is) in
+    let small = few_in_chunk c.args.chunks.now c.loop-size.i c.are_sized.ensures.chunks.sized in
+    record {
       groups = c.past_groups-start.ensures.ticks;
       low = c.loop-size.invariant.low;
       chunks = c.loop-size.invariant.ticks;
       last = let one = c.chunk.ensures.tick in let more = c.shown_in.ensures.ticks in omega arith;
       small = let cells = read.1 in omega arith;
-    }) read.0 c.past_groups-start.ensures.none (several held c.are_sized.ensures.chunks) (few_chunks held c.are_sized.ensures.chunks)
+    }
+
+pub returns-then-left-size-clause-ticks : goal.returns-then-left-size-clause-ticks
+returns-then-left-size-clause-ticks c =
+    let held = c.args.chunks.now in
+    let read = size_read held c.loop-size.i c.in-Some.size (sym c.chunk.ensures.size ∙ c.in-Some.is) in
+    reads_all c.args.ticks.now c.past_groups-start.new.ticks c.loop-size.ticks c.shown_in.new.ticks c.past_groups-start.result.chunk c.loop-size.i
+    c.in-Some.size.cells (length held) (length (cells_of held)) (reads (goal.at.returns-then-left-size-clause-ticks c).After-shown_in) read.0
+    c.past_groups-start.ensures.none (several held c.are_sized.ensures.chunks) (few_chunks held c.are_sized.ensures.chunks)
 
 pub returns-then-left-size-clause-fewer : goal.returns-then-left-size-clause-fewer
 returns-then-left-size-clause-fewer c =
     let held = c.args.chunks.now in
     let read = size_read held c.loop-size.i c.in-Some.size (sym c.chunk.ensures.size ∙ c.in-Some.is) in
-    let small = few_in_chunk held c.loop-size.i c.are_sized.ensures.chunks.sized in
     reads_few c.args.ticks.now c.past_groups-start.new.ticks c.loop-size.ticks c.shown_in.new.ticks c.past_groups-start.result.chunk c.loop-size.i
-    c.in-Some.size.cells (length held) (length (cells_of held)) (record {
-      groups = c.past_groups-start.ensures.ticks;
-      low = c.loop-size.invariant.low;
-      chunks = c.loop-size.invariant.ticks;
-      last = let one = c.chunk.ensures.tick in let more = c.shown_in.ensures.ticks in omega arith;
-      small = let cells = read.1 in omega arith;
-    }) c.loop-size.invariant.here (λ whole. near_none held c.loop-size.i _ c.loop-size.left (c.loop-size.invariant.near whole)) (inl read.0)
+    c.in-Some.size.cells (length held) (length (cells_of held)) (reads (goal.at.returns-then-left-size-clause-fewer c).After-shown_in)
+    c.loop-size.invariant.here (λ whole. near_none held c.loop-size.i _ c.loop-size.left (c.loop-size.invariant.near whole)) (inl read.0)
     (few_chunks held c.are_sized.ensures.chunks)
 
 pub overflow_add-i : goal.overflow_add-i

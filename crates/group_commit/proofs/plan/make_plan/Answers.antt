@@ -1,7 +1,7 @@
-use Rattle.std.proofs.Common.{rules, refl, ◌≡◌, ◌+◌, ◌*◌, ◌/◌, ◌-◌, ◌≤◌, ◌<◌, ◌^◌, ◌++◌, ℕ, List, ap, sym, ◌∙◌}
+use Rattle.std.proofs.Common.{rules, refl, ◌≡◌, ◌+◌, ◌*◌, ◌/◌, ◌-◌, ◌≤◌, ◌<◌, ◌^◌, ◌++◌, ℕ, List, ap, sym, ◌∙◌, false}
 use Rattle.std.proofs.Common.{arith, get_or, take, drop, length, length-append, length-take, length-drop}
 use Rattle.std.proofs.lemmas.List.{take-append-drop}
-use Rattle.page_file.specs.Pages.{number_bytes}
+use Rattle.page_file.specs.Pages.{is_zero, number_bytes}
 use Rattle.root_slots.specs.Root.{pages_for, tables_of}
 use Rattle.group_commit.specs.Saved.{with_stream}
 use Rattle.group_commit.specs.Plan.{kept_of}
@@ -26,30 +26,31 @@ data_fits kept p a b l m pages_are rest more = omega (arith, pages_are, rest, mo
 entries_fit : (p kept t l : ℕ) → t ≡ pages_for 1024 p → l ≡ p - 1024 * (kept / 1024) → l ≤ 1024 * (t - kept / 1024)
 entries_fit p kept t l tables_are rest = omega (arith, tables_are, rest)
 
+-- how many of the old pages are kept
+grown_by : (stream records : List ℕ) (long kept : ℕ) → long ≡ length stream → kept ≡ kept_of long records → is_zero records ≡ false → length stream + length records ≤ 1073741824
+    → Grows (length stream) (length stream + length records) kept
+grown_by stream records long kept same is some room = grown (length stream) (length stream + length records) records kept (is ∙ ap (λ n. kept_of n records) same) some refl room
+
 pub overflow_sub-new_data : goal.overflow_sub-new_data
 overflow_sub-new_data c =
-    let grows : Grows (length c.args.stream.now) (length c.args.stream.now + length c.args.records.now) c.kept_pages-kept.result =
-    grown (length c.args.stream.now) (length c.args.stream.now + length c.args.records.now) c.args.records.now c.kept_pages-kept.result (c.kept_pages-kept.ensures ∙ ap (λ n. kept_of n c.args.records.now) (c.stream_length-old_long.ensures.long ∙ sym c.requires.had.long)) c.requires.some refl c.requires.room in
+    let grows = grown_by c.args.stream.now c.args.records.now _ _ (c.stream_length-old_long.ensures.long ∙ sym c.requires.had.long) c.kept_pages-kept.ensures c.requires.some c.requires.room in
     omega (arith, grows.grows, (c.data_pages.ensures.value ∙ ap (λ n. pages_for 4096 (n + length c.args.records.now)) (c.stream_length-old_long.ensures.long ∙ sym c.requires.had.long)))
 
 pub overflow_sub-new_tables : goal.overflow_sub-new_tables
 overflow_sub-new_tables c =
-    let grows : Grows (length c.args.stream.now) (length c.args.stream.now + length c.args.records.now) c.kept_pages-kept.result =
-    grown (length c.args.stream.now) (length c.args.stream.now + length c.args.records.now) c.args.records.now c.kept_pages-kept.result (c.kept_pages-kept.ensures ∙ ap (λ n. kept_of n c.args.records.now) (c.stream_length-old_long.ensures.long ∙ sym c.requires.had.long)) c.requires.some refl c.requires.room in
+    let grows = grown_by c.args.stream.now c.args.records.now _ _ (c.stream_length-old_long.ensures.long ∙ sym c.requires.had.long) c.kept_pages-kept.ensures c.requires.some c.requires.room in
     kept_tables c.kept_pages-kept.result c.data_pages.result c.tables_for.result (omega (arith, grows.grows, (c.data_pages.ensures.value ∙ ap (λ n. pages_for 4096 (n + length c.args.records.now)) (c.stream_length-old_long.ensures.long ∙ sym c.requires.had.long)))) (c.tables_for.ensures.value ∙ ap (pages_for 1024) (sym c.data_pages.ensures.value))
 
 pub next_data_pages-requires : goal.next_data_pages-requires
 next_data_pages-requires c =
-    let grows : Grows (length c.args.stream.now) (length c.args.stream.now + length c.args.records.now) c.kept_pages-kept.result =
-    grown (length c.args.stream.now) (length c.args.stream.now + length c.args.records.now) c.args.records.now c.kept_pages-kept.result (c.kept_pages-kept.ensures ∙ ap (λ n. kept_of n c.args.records.now) (c.stream_length-old_long.ensures.long ∙ sym c.requires.had.long)) c.requires.some refl c.requires.room in
+    let grows = grown_by c.args.stream.now c.args.records.now _ _ (c.stream_length-old_long.ensures.long ∙ sym c.requires.had.long) c.kept_pages-kept.ensures c.requires.some c.requires.room in
     let olds : length c.args.olds.now ≡ pages_for 4096 (length c.args.stream.now) =
     c.requires.had.count ∙ ap (pages_for 4096) (sym c.requires.had.long) in
     omega (arith, grows.within, olds)
 
 pub kept_and_new-requires : goal.kept_and_new-requires
 kept_and_new-requires c =
-    let grows : Grows (length c.args.stream.now) (length c.args.stream.now + length c.args.records.now) c.kept_pages-kept.result =
-    grown (length c.args.stream.now) (length c.args.stream.now + length c.args.records.now) c.args.records.now c.kept_pages-kept.result (c.kept_pages-kept.ensures ∙ ap (λ n. kept_of n c.args.records.now) (c.stream_length-old_long.ensures.long ∙ sym c.requires.had.long)) c.requires.some refl c.requires.room in
+    let grows = grown_by c.args.stream.now c.args.records.now _ _ (c.stream_length-old_long.ensures.long ∙ sym c.requires.had.long) c.kept_pages-kept.ensures c.requires.some c.requires.room in
     let olds : length c.args.olds.now ≡ pages_for 4096 (length c.args.stream.now) =
     c.requires.had.count ∙ ap (pages_for 4096) (sym c.requires.had.long) in
     let old_tables : length c.tables.result.now ≡ pages_for 1024 (length c.args.olds.now) =
@@ -58,14 +59,12 @@ kept_and_new-requires c =
 
 pub overflow_mul-kept_bytes : goal.overflow_mul-kept_bytes
 overflow_mul-kept_bytes c =
-    let grows : Grows (length c.args.stream.now) (length c.args.stream.now + length c.args.records.now) c.kept_pages-kept.result =
-    grown (length c.args.stream.now) (length c.args.stream.now + length c.args.records.now) c.args.records.now c.kept_pages-kept.result (c.kept_pages-kept.ensures ∙ ap (λ n. kept_of n c.args.records.now) (c.stream_length-old_long.ensures.long ∙ sym c.requires.had.long)) c.requires.some refl c.requires.room in
+    let grows = grown_by c.args.stream.now c.args.records.now _ _ (c.stream_length-old_long.ensures.long ∙ sym c.requires.had.long) c.kept_pages-kept.ensures c.requires.some c.requires.room in
     record { fits = omega (arith, grows.most) }
 
 pub new_pages-requires : goal.new_pages-requires
 new_pages-requires c =
-    let grows : Grows (length c.args.stream.now) (length c.args.stream.now + length c.args.records.now) c.kept_pages-kept.result =
-    grown (length c.args.stream.now) (length c.args.stream.now + length c.args.records.now) c.args.records.now c.kept_pages-kept.result (c.kept_pages-kept.ensures ∙ ap (λ n. kept_of n c.args.records.now) (c.stream_length-old_long.ensures.long ∙ sym c.requires.had.long)) c.requires.some refl c.requires.room in
+    let grows = grown_by c.args.stream.now c.args.records.now _ _ (c.stream_length-old_long.ensures.long ∙ sym c.requires.had.long) c.kept_pages-kept.ensures c.requires.some c.requires.room in
     let olds : length c.args.olds.now ≡ pages_for 4096 (length c.args.stream.now) =
     c.requires.had.count ∙ ap (pages_for 4096) (sym c.requires.had.long) in
     let more : c.kept_pages-kept.result ≤ c.data_pages.result = omega (arith, grows.grows, (c.data_pages.ensures.value ∙ ap (λ n. pages_for 4096 (n + length c.args.records.now)) (c.stream_length-old_long.ensures.long ∙ sym c.requires.had.long))) in
@@ -94,8 +93,7 @@ returns-clause-long c = c.in_ok-next.ensures.long ∙ ap (λ n. n + length c.arg
 
 pub root_on-requires-clause-pages : goal.root_on-requires-clause-pages
 root_on-requires-clause-pages c =
-    let grows : Grows (length c.args.stream.now) (length c.args.stream.now + length c.args.records.now) c.kept_pages-kept.result =
-    grown (length c.args.stream.now) (length c.args.stream.now + length c.args.records.now) c.args.records.now c.kept_pages-kept.result (c.kept_pages-kept.ensures ∙ ap (λ n. kept_of n c.args.records.now) (c.stream_length-old_long.ensures.long ∙ sym c.requires.had.long)) c.requires.some refl c.requires.room in
+    let grows = grown_by c.args.stream.now c.args.records.now _ _ (c.stream_length-old_long.ensures.long ∙ sym c.requires.had.long) c.kept_pages-kept.ensures c.requires.some c.requires.room in
     let olds : length c.args.olds.now ≡ pages_for 4096 (length c.args.stream.now) =
     c.requires.had.count ∙ ap (pages_for 4096) (sym c.requires.had.long) in
     let old_tables : length c.tables.result.now ≡ pages_for 1024 (length c.args.olds.now) =
@@ -126,8 +124,7 @@ root_on-requires-clause-pages c =
 
 pub returns-clause-plan : goal.returns-clause-plan
 returns-clause-plan c =
-    let grows : Grows (length c.args.stream.now) (length c.args.stream.now + length c.args.records.now) c.kept_pages-kept.result =
-    grown (length c.args.stream.now) (length c.args.stream.now + length c.args.records.now) c.args.records.now c.kept_pages-kept.result (c.kept_pages-kept.ensures ∙ ap (λ n. kept_of n c.args.records.now) (c.stream_length-old_long.ensures.long ∙ sym c.requires.had.long)) c.requires.some refl c.requires.room in
+    let grows = grown_by c.args.stream.now c.args.records.now _ _ (c.stream_length-old_long.ensures.long ∙ sym c.requires.had.long) c.kept_pages-kept.ensures c.requires.some c.requires.room in
     let numbers : c.in_ok-numbers.numbers.items ≡ c.split_at.result.0.now ++ c.split_at.result.1.now =
     sym (ap (λ f. f ++ c.split_at.result.1.now) (c.split_at.ensures.front ∙ ap (take (c.data_pages.result - c.kept_pages-kept.result)) c.deref.ensures.value)
     ∙ ap (λ b. take (c.data_pages.result - c.kept_pages-kept.result) c.in_ok-numbers.numbers.items ++ b) (c.split_at.ensures.back ∙ ap (drop (c.data_pages.result - c.kept_pages-kept.result)) c.deref.ensures.value)
@@ -163,8 +160,7 @@ returns-clause-plan c =
 
 pub returns-clause-renews : goal.returns-clause-renews
 returns-clause-renews c =
-    let grows : Grows (length c.args.stream.now) (length c.args.stream.now + length c.args.records.now) c.kept_pages-kept.result =
-    grown (length c.args.stream.now) (length c.args.stream.now + length c.args.records.now) c.args.records.now c.kept_pages-kept.result (c.kept_pages-kept.ensures ∙ ap (λ n. kept_of n c.args.records.now) (c.stream_length-old_long.ensures.long ∙ sym c.requires.had.long)) c.requires.some refl c.requires.room in
+    let grows = grown_by c.args.stream.now c.args.records.now _ _ (c.stream_length-old_long.ensures.long ∙ sym c.requires.had.long) c.kept_pages-kept.ensures c.requires.some c.requires.room in
     let olds : length c.args.olds.now ≡ pages_for 4096 (length c.args.stream.now) =
     c.requires.had.count ∙ ap (pages_for 4096) (sym c.requires.had.long) in
     let old_tables : length c.tables.result.now ≡ pages_for 1024 (length c.args.olds.now) =

@@ -1,10 +1,8 @@
-use Rattle.std.proofs.Common.{◌≡◌, ◌≢◌, ◌<◌, ◌∙◌, ap, sym, length, nat_lt, true, false, rules, arith}
-use Rattle.std.specs.List.Sorted.{IsPartitionPoint}
+use Rattle.std.proofs.Common.{◌≡◌, ◌≢◌, ◌<◌, ◌∙◌, ap, sym, length, true, false, rules, arith}
 use Rattle.std.proofs.lemmas.Bool.{eqb-true, eqb-false}
-use Rattle.std.proofs.lemmas.List.Sorted.{IsPartitionPoint-from_clause, IsPartitionedBy-ltb}
 use Rattle.op_ids.specs.declared.token.Token.{Token}
 use Rattle.edit_tokens.specs.declared.place.Place.{Place}
-use Rattle.edit_tokens.proofs.FoundLemmas.{at_entry, entry_at, index_first, index_none}
+use Rattle.edit_tokens.proofs.FoundLemmas.{at_entry, entry_at, index_first, index_none, point_found}
 use Rattle.edit_tokens.proofs.sorted.Sorted.index_of.Goals.{else-index-len-via-then-index-len+else-eq, else-index-len-via-else-index-len}
 use Rattle.edit_tokens.proofs.sorted.Sorted.index_of.Goals as goal
 
@@ -12,9 +10,7 @@ pub returns-then-eq : goal.returns-then-eq
 returns-then-eq c =
     let items = c.self.inside.places.items in
     let index = c.partition_point-index.result in
-    let point : IsPartitionPoint (λ (e : Token × Place). nat_lt e.0 c.args.token ≡ true) (λ (e : Token × Place). nat_lt e.0 c.args.token ≡ false) items index =
-    rw c.deref.ensures.value at (IsPartitionPoint-from_clause (λ (e : Token × Place). nat_lt e.0 c.args.token) c.deref.result.now index c.partition_point-index.ensures.partitioned
-    (rw c.deref.ensures.value (IsPartitionedBy-ltb (λ (e : Token × Place). e.0) items c.args.token c.self.invariant)) (λ a r q k. search rules)) in
+    let point = point_found items c.deref.result.now c.args.token index c.deref.ensures.value c.self.invariant c.partition_point-index.ensures.partitioned (λ a r q k. search rules) in
     let long = rw c.deref.ensures.value at c.deref.ensures.len in
     let many : length items ≡ c.len.result = long ∙ sym c.len.ensures in
     let test = c.if-index-len.true in
@@ -26,9 +22,7 @@ pub returns : goal.returns
 returns c =
     let items = c.self.inside.places.items in
     let index = c.partition_point-index.result in
-    let point : IsPartitionPoint (λ (e : Token × Place). nat_lt e.0 c.args.token ≡ true) (λ (e : Token × Place). nat_lt e.0 c.args.token ≡ false) items index =
-    rw c.deref.ensures.value at (IsPartitionPoint-from_clause (λ (e : Token × Place). nat_lt e.0 c.args.token) c.deref.result.now index c.partition_point-index.ensures.partitioned
-    (rw c.deref.ensures.value (IsPartitionedBy-ltb (λ (e : Token × Place). e.0) items c.args.token c.self.invariant)) (λ a r q k. search rules)) in
+    let point = point_found items c.deref.result.now c.args.token index c.deref.ensures.value c.self.invariant c.partition_point-index.ensures.partitioned (λ a r q k. search rules) in
     let long = rw c.deref.ensures.value at c.deref.ensures.len in
     let many : length items ≡ c.len.result = long ∙ sym c.len.ensures in
     rw (← c.self.view_is)

@@ -1,6 +1,6 @@
-use Rattle.std.proofs.Common.{rules, ◌≡◌, ◌<◌, true, false, ap, ◌∙◌, sym, arith}
+use Rattle.std.proofs.Common.{rules, ◌≡◌, ◌<◌, true, ap, ◌∙◌, sym, arith}
 use Rattle.std.proofs.lemmas.Bool.Decides.{nat_tests}
-use Rattle.op_ids.specs.Clock.{is_clock, advanced}
+use Rattle.op_ids.specs.Clock.{is_clock}
 use Rattle.op_ids.proofs.ClockLemmas.{is_clock-advanced}
 use Rattle.op_ids.proofs.FullLemmas.{is_full_advanced}
 use Rattle.op_ids.proofs.clock.Clock.can_advance.Goals as goal
@@ -20,19 +20,9 @@ returns-clause-fits c =
     grind (arith, nat_tests)
 
 pub returns-then-count-eq0-clause-full : goal.returns-then-count-eq0-clause-full
-returns-then-count-eq0-clause-full c =
-    let positive : 0 < c.args.replica = search rules in
-    let valid : is_clock c.args.self.now ≡ true = ap is_clock (sym c.self.view_is) ∙ c.self.invariant in
-    let rule = is_clock-advanced c.args.self.now c.args.replica valid positive in
-    λ no.
-    let none : is_clock (advanced c.args.self.now c.args.replica) ≡ false = grind (arith, nat_tests) in
-    is_full_advanced c.args.self.now c.args.replica valid positive none
+returns-then-count-eq0-clause-full c = λ no.
+    is_full_advanced c.args.self.now c.args.replica (ap is_clock (sym c.self.view_is) ∙ c.self.invariant) (search rules) (sym (returns-then-count-eq0-clause-fits c) ∙ no)
 
 pub returns-clause-full : goal.returns-clause-full
-returns-clause-full c =
-    let positive : 0 < c.args.replica = search rules in
-    let valid : is_clock c.args.self.now ≡ true = ap is_clock (sym c.self.view_is) ∙ c.self.invariant in
-    let rule = is_clock-advanced c.args.self.now c.args.replica valid positive in
-    λ no.
-    let none : is_clock (advanced c.args.self.now c.args.replica) ≡ false = grind (arith, nat_tests) in
-    is_full_advanced c.args.self.now c.args.replica valid positive none
+returns-clause-full c = λ no.
+    is_full_advanced c.args.self.now c.args.replica (ap is_clock (sym c.self.view_is) ∙ c.self.invariant) (search rules) (sym (returns-clause-fits c) ∙ no)

@@ -1,4 +1,4 @@
-use Rattle.std.proofs.Common.{◌≡◌, ◌<◌, ◌++◌, ◌∙◌, length, ap, Err, refl, rules, arith}
+use Rattle.std.proofs.Common.{◌≡◌, ◌<◌, ◌++◌, ◌∙◌, length, ap, Err, refl, rules, arith, ℕ, List}
 use Rattle.doc_core.proofs.FittingLemmas.{made_fit}
 use Rattle.op_model.specs.Causality.{clock_of}
 use Rattle.op_model.specs.Made.{made, size_of}
@@ -9,7 +9,12 @@ use Rattle.op_model.specs.Held.{ReplicaHeld}
 use Rattle.replica_core.proofs.SoundLemmas.{due_counts, new_edit_alone-due, due_fits, due_within, due_asks_right, made_own, held_of-edit, AreFields-edit}
 use Rattle.replica_core.proofs.TokenLemmas.{tokens_edit}
 use Rattle.edit_tokens.proofs.PlaceLemmas.{kept_there}
+use Rattle.op_model.specs.declared.op.Op.{Op}
 use Rattle.replica_core.proofs.replica.Replica.put_edit.Goals as goal
+
+-- what was counted in the document is its revision in the list
+rev_of_list : (result number empty doc : ℕ) (ops list : List Op) → result ≡ rev ops number → number ≡ empty → empty ≡ doc → ops ≡ list → result ≡ rev list doc
+rev_of_list result number empty doc ops list counted same is are = counted ∙ (ap (rev ops) (same ∙ is) ∙ ap (λ (ops : List Op). rev ops doc) are)
 
 pub count_all-requires : goal.count_all-requires
 count_all-requires c =
@@ -51,9 +56,7 @@ invariant_of-self-2 c =
     let counts : c.count_all.new.clock ≡ clock_of (c.self.inside.log.list ++ made c.self.inside.log.list c.self.inside.id c.args.edit.now) =
     c.in_ok-count_all.ensures c.self.inside.log.list (c.in_ok-clock.ensures ∙ c.self.invariant.clock)
     ∙ ap (λ more. clock_of (c.self.inside.log.list ++ more)) (c.as_slice.ensures ∙ items) in
-    let revs : c.count-rev.result ≡ rev c.self.inside.log.list c.args.edit.now.doc =
-    c.count-rev.ensures ∙ (ap (rev c.as_slice-ops.result) (c.at-doc.ensures.number ∙ c.new-empty.ensures.number)
-    ∙ ap (λ ops. rev ops c.args.edit.now.doc) c.as_slice-ops.ensures) in
+    let revs = rev_of_list _ _ _ _ _ _ c.count-rev.ensures c.at-doc.ensures.number c.new-empty.ensures.number c.as_slice-ops.ensures in
     let h : ReplicaHeld = held_of c.self.inside.id c.self.inside.log.list c.self.inside.opened c.self.inside.settled c.self.inside.acked c.self.inside.told c.self.inside.steps in
     let tokens = tokens_edit h c.args.edit.now c.self.inside.tokens c.keep.new.self _ can some (rw (first, c.size-count.ensures.value) refl)
     (rw (revs, c.size-count.ensures.value) refl) c.in_ok-before.ensures.kept c.self.invariant.tokens in
@@ -94,9 +97,7 @@ overflow_cast-place c =
 pub overflow_add-rev : goal.overflow_add-rev
 overflow_add-rev c =
     let can = (rw (← c.self.view_is) at c.requires).can in
-    let revs : c.count-rev.result ≡ rev c.self.inside.log.list c.args.edit.now.doc =
-    c.count-rev.ensures ∙ (ap (rev c.as_slice-ops.result) (c.at-doc.ensures.number ∙ c.new-empty.ensures.number)
-    ∙ ap (λ ops. rev ops c.args.edit.now.doc) c.as_slice-ops.ensures) in
+    let revs = rev_of_list _ _ _ _ _ _ c.count-rev.ensures c.at-doc.ensures.number c.new-empty.ensures.number c.as_slice-ops.ensures in
     let few = due_counts c.self.inside.log.list c.self.inside.id c.args.edit.now can.due in
     let size = c.size-count.ensures.value in
     let within = few.1 in
@@ -105,9 +106,7 @@ overflow_add-rev c =
 pub overflow_cast-place-2 : goal.overflow_cast-place-2
 overflow_cast-place-2 c =
     let can = (rw (← c.self.view_is) at c.requires).can in
-    let revs : c.count-rev.result ≡ rev c.self.inside.log.list c.args.edit.now.doc =
-    c.count-rev.ensures ∙ (ap (rev c.as_slice-ops.result) (c.at-doc.ensures.number ∙ c.new-empty.ensures.number)
-    ∙ ap (λ ops. rev ops c.args.edit.now.doc) c.as_slice-ops.ensures) in
+    let revs = rev_of_list _ _ _ _ _ _ c.count-rev.ensures c.at-doc.ensures.number c.new-empty.ensures.number c.as_slice-ops.ensures in
     let few = due_counts c.self.inside.log.list c.self.inside.id c.args.edit.now can.due in
     let size = c.size-count.ensures.value in
     let within = few.1 in
@@ -117,9 +116,7 @@ pub returns-clause-ticket : goal.returns-clause-ticket
 returns-clause-ticket c =
     let can = (rw (← c.self.view_is) at c.requires).can in
     let first : c.len-first.result ≡ length c.self.inside.log.list = search rules in
-    let revs : c.count-rev.result ≡ rev c.self.inside.log.list c.args.edit.now.doc =
-    c.count-rev.ensures ∙ (ap (rev c.as_slice-ops.result) (c.at-doc.ensures.number ∙ c.new-empty.ensures.number)
-    ∙ ap (λ ops. rev ops c.args.edit.now.doc) c.as_slice-ops.ensures) in
+    let revs = rev_of_list _ _ _ _ _ _ c.count-rev.ensures c.at-doc.ensures.number c.new-empty.ensures.number c.as_slice-ops.ensures in
     let h : ReplicaHeld = held_of c.self.inside.id c.self.inside.log.list c.self.inside.opened c.self.inside.settled c.self.inside.acked c.self.inside.told c.self.inside.steps in
     rw (← c.self.view_is)
     (new_edit_alone-due h c.args.edit.now _ _ can (rw (first, c.size-count.ensures.value) refl) (rw (revs, c.size-count.ensures.value) refl))

@@ -1,10 +1,9 @@
 use Rattle.std.proofs.Common.{Some, ap, sym, ◌∙◌}
-use Rattle.std.proofs.lemmas.Bool.{false≢true}
-use Rattle.std.proofs.lemmas.Option.{slice_get-get_or, slice_get_past}
+use Rattle.std.proofs.lemmas.Option.{slice_get-get_or}
 use Rattle.op_model.specs.declared.mark.MarkKey.TheVariants as key
 use Rattle.model_laws.proofs.Up.{has}
 use Rattle.span_flatten.specs.Picking.{is_of_key}
-use Rattle.span_flatten.proofs.DecidingLemmas.{discussed_with}
+use Rattle.span_flatten.proofs.DecidingLemmas.{discussed_with, none_about}
 use Rattle.span_flatten.proofs.discussed.Discussed.begin.Goals as goal
 
 pub returns-in_ok-settle-clause-discussed : goal.returns-in_ok-settle-clause-discussed
@@ -16,9 +15,7 @@ returns-in_ok-settle-clause-discussed c = λ set up about was.
     c.in_ok-settle.ensures.standing was
 
 pub returns-in_default-clause-discussed : goal.returns-in_default-clause-discussed
-returns-in_default-clause-discussed c = λ set up about was.
-    let none = slice_get_past c.args.markings.now c.args.i c.in_default.ensures.lookup.3 in
-    absurd (false≢true (ap (λ o. is_of_key o (key.Comment c.args.id)) (sym none) ∙ about))
+returns-in_default-clause-discussed c = λ set up about was. absurd (none_about c.args.markings.now c.args.i c.args.id c.in_default.ensures.lookup.3 about)
 
 pub returns-in_ok-settle-clause-noted : goal.returns-in_ok-settle-clause-noted
 returns-in_ok-settle-clause-noted c = λ ids noted. record { up = noted.up; noted = c.in_ok-settle.ensures.noted (λ id. has id ids) noted.noted }
