@@ -1,5 +1,6 @@
 -- The place of a token in lists that are joined, changed at an index, or sorted.
-use Rattle.std.proofs.Common.{◌≡◌, ◌≢◌, ℕ, zero, suc, ◌<◌, ◌≤◌, true, false, inl, inr, List, [], ◌∷◌, ◌++◌, length, get_or, take, filter, nat_lt, Equal, Bool, Bor}
+use Rattle.std.proofs.Common.{◌≡◌, ◌≢◌, ℕ, zero, suc, ◌<◌, ◌≤◌, true, false, inl, inr}
+use Rattle.std.proofs.Common.{List, [], ◌∷◌, ◌++◌, length, get_or, take, filter, nat_lt, Equal, Bool, Bor}
 use Rattle.std.proofs.Common.{Some, None, ap, refl, sym, ◌∙◌, arith, ◌==◌}
 use Rattle.std.specs.BTreeMap.{is_at}
 use Rattle.std.specs.List.{slice_get}

@@ -6,6 +6,10 @@ mod first_line_tests;
 #[cfg(test)]
 mod first_watch_tests;
 #[cfg(test)]
+mod guest_wires;
+#[cfg(test)]
+mod late_wire;
+#[cfg(test)]
 mod request_tests;
 #[cfg(test)]
 mod saying_tests;
@@ -17,5 +21,7 @@ mod token_tests;
 mod watch_tests;
 #[cfg(test)]
 mod web_guest_tests;
+#[cfg(test)]
+mod web_origin_tests;
 #[cfg(test)]
 mod web_tests;

@@ -1,59 +1,10 @@
 //! Which guests come in by a WebSocket, and what the others are told.
+use crate::guest_wires::{Silence, Wire};
 use std::alloc::Global;
-use std::io;
-use std::io::{ErrorKind, Read, Write};
 use std::test::Fail;
-use web_guests::{BadOrigin, Origin, Refusal, admit};
+use web_guests::{Origin, Refusal, admit};
 
 const PORT: u16 = 8_080;
-
-/// Gives so many bytes at a time, then ends; takes all that is written.
-#[derive(Drop)]
-struct Wire<'a> {
-    rest: &'a [u8],
-    size: usize,
-    told: &'a mut Vec<u8>,
-}
-
-impl<'a> Read for Wire<'a> {
-    fn read(&mut self, buf: &mut [u8]) -> io::Result<usize> {
-        let count = self.rest.len().min(self.size).min(buf.len());
-        buf[..count].copy_from_slice(&self.rest[..count]);
-        self.rest = &self.rest[count..];
-        Ok(count)
-    }
-}
-
-impl<'a> Write for Wire<'a> {
-    fn write(&mut self, buf: &[u8]) -> io::Result<usize> {
-        self.told.extend_from_slice(buf)?;
-        Ok(buf.len())
-    }
-
-    fn flush(&mut self) -> io::Result<()> {
-        Ok(())
-    }
-}
-
-/// Gives nothing in time, and takes nothing.
-#[derive(Drop)]
-struct Silence;
-
-impl Read for Silence {
-    fn read(&mut self, _buf: &mut [u8]) -> io::Result<usize> {
-        Err(io::Error::from(ErrorKind::TimedOut))
-    }
-}
-
-impl Write for Silence {
-    fn write(&mut self, _buf: &[u8]) -> io::Result<usize> {
-        Err(io::Error::from(ErrorKind::BrokenPipe))
-    }
-
-    fn flush(&mut self) -> io::Result<()> {
-        Ok(())
-    }
-}
 
 /// What comes of these bytes, given so many at a time: `None` where their guest is let in.
 fn met(
@@ -200,69 +151,6 @@ fn a_page_comes_in_only_from_a_named_origin(rt: HostRuntime) -> Result<(), Fail>
         let refused = met_with(rt.alloc(), said.as_str())?;
         assert_eq!(rt; refused, Some(Refusal::ForbiddenOrigin), "{fields}");
     }
-    Ok(())
-}
-
-#[test]
-fn an_origin_is_written_as_browsers_do(rt: HostRuntime) -> Result<(), Fail> {
-    for text in [
-        "http://localhost:3000",
-        "https://example.com",
-        "http://example.com:443",
-        "http://[::1]:3000",
-        "http://127.0.0.1:1",
-        "http://a_b.example:65535",
-        "chrome-extension://abcdefghijklmnop",
-    ] {
-        let origin = Origin::new(rt.alloc(), text)?;
-        assert_eq!(rt; origin.as_str(), text);
-    }
-    for text in [
-        "",
-        "null",
-        "*",
-        "localhost:3000",
-        "http://",
-        "http://:80",
-        "http:/localhost",
-        "http://localhost:3000/",
-        "http://localhost/path",
-        "http://Localhost",
-        "HTTP://localhost",
-        "http://localhost:80",
-        "https://localhost:443",
-        "http://localhost:0",
-        "http://localhost:",
-        "http://localhost:03000",
-        "http://localhost:+3000",
-        "http://localhost:65536",
-        "http://localhost:100000",
-        "http://user@localhost",
-        "http://localhost:3000 ",
-        "http://[::1",
-        "http://[]",
-        "http://::1",
-        "://localhost",
-        "1http://localhost",
-        "http://b\u{fc}cher.example",
-    ] {
-        let refused = Origin::new(rt.alloc(), text).err();
-        assert_eq!(rt; refused, Some(BadOrigin::NotAnOrigin), "{text}");
-    }
-    Ok(())
-}
-
-#[test]
-fn an_origin_has_255_bytes_at_most(rt: HostRuntime) -> Result<(), Fail> {
-    let mut text = String::from_str(rt.alloc(), "http://")?;
-    for _ in 0..248 {
-        text.push_str("a")?;
-    }
-    assert_eq!(rt; text.len(), 255);
-    assert!(rt; Origin::new(rt.alloc(), text.as_str()).is_ok());
-    text.push_str("a")?;
-    let refused = Origin::new(rt.alloc(), text.as_str()).err();
-    assert_eq!(rt; refused, Some(BadOrigin::NotAnOrigin));
     Ok(())
 }
 

@@ -20,8 +20,8 @@ pub(crate) fn busy_line() -> &'static [u8]
     b"{\"code\":8,\"error\":\"busy\",\"ok\":false}\n"
 }
 
-/// Tells one that asks for a WebSocket that there is no place or no thread for it. Its request isn't
-/// read, so it can't be told by a message.
+/// Tells one that asks for a WebSocket that there is no place or no thread for it. Its request
+/// isn't read, so it can't be told by a message.
 pub(crate) fn say_busy_to_web(stream: &TcpStream) {
     let mut writer = stream;
     let _ = writer.write_all(

@@ -153,8 +153,9 @@ fn begin<'a, R: Wait, J: BookNames, C: Checkpoint>(
     Some((hall, doors, joined))
 }
 
-/// Starts the threads, waits until one asks to end, and ends them all. Answers whether all could be
-/// started, where not, they end at once; and gives the flusher back.
+/// Starts the threads, waits until one asks to end, and ends them all. First comes the one that ends
+/// the others: without it nobody is let in. This thread is the flusher's. Answers whether all could
+/// be started, where not, they end at once; and gives the flusher back.
 fn run<
     J: BookNames + Send + Sync,
     D: Disk + Drop,
@@ -177,7 +178,6 @@ fn run<
             ensures goes { Goes D.DiskFacts flusher result.1 }
         {
             let mut flusher = flusher;
-            // First the one that ends the others: without it nobody is let in.
             let ending = scope.spawn(move || end_when_asked(hall, doors));
             if ending.is_err() {
                 end_at_once(hall, doors);
@@ -196,7 +196,6 @@ fn run<
             if !has_begun {
                 hall.ending.ask(hall.rt, End::Stop);
             }
-            // This thread is the flusher's.
             flush_to_the_end(hall, &mut flusher);
             (has_begun, flusher)
         },

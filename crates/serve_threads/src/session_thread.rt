@@ -24,9 +24,9 @@ use std::time::Duration;
 /// How long a read of a session that has the last place waits for its first line, in milliseconds.
 const TURN: u64 = 10;
 
-/// Serves a session whose connection is in this lobby, to its end, and gives its place back. One for
-/// which there is no memory or no pass is answered 8, and so is one that has the last place and asks first for
-/// anything but the status or a stop.
+/// Serves a session whose connection is in this lobby, to its end, and gives its place back. One
+/// for which there is no memory or no pass is answered 8, and so is one that has the last place and
+/// asks first for anything but the status or a stop.
 pub(crate) fn serve_session<
     R: Wait + Clock,
     J: BookNames,
@@ -61,17 +61,21 @@ pub(crate) fn serve_session<
             Some(serve(hall, entry.number, caller, pass))
         }
         None => {
-            writer.refuse();
-            send_last_words(stream);
-            tell_refused(hall);
+            refuse(hall, stream, &mut writer);
             None
         }
     };
     lobby.leave(hall.rt, entry, pass);
 }
 
-/// Tells that a session was turned away.
-fn tell_refused<R: Wait, J: BookNames, C: Checkpoint>(hall: &Hall<R, J, C>) {
+/// Answers a session 8 that isn't served, so that the answer arrives, and tells of it.
+fn refuse<R: Wait, J: BookNames, C: Checkpoint, W: Answers>(
+    hall: &Hall<R, J, C>,
+    stream: &TcpStream,
+    writer: &mut W,
+) {
+    writer.refuse();
+    send_last_words(stream);
     let reason = reason(BUSY, "busy");
     hall.tell(&Event::SessionRefused { reason });
 }

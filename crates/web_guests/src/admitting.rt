@@ -2,7 +2,7 @@
 ghost use Rattle.std.specs.Prelude.{◌≡◌, [], true, false, take, IfOk, IfErr, OnOk};
 ghost use Rattle.std.specs.Io.KnownBytes.{Appends};
 ghost use Rattle.httparse.specs.Spans.{IsRequestWithin, span_bytes};
-ghost use Rattle.websocket.specs.Handshake.{requested_key, response_bytes};
+ghost use Rattle.websocket.specs.Handshake.{response_bytes};
 ghost use Rattle.websocket.specs.Headers.{fields_of};
 ghost use Rattle.tungstenite.specs.Heads.{Serves, Heard};
 ghost use Rattle.tungstenite.specs.Config.{HasLimitsOf};

@@ -1,5 +1,5 @@
 //! What a head says by one of its fields.
-ghost use Rattle.std.specs.Prelude.{◌≡◌, ◌++◌, ◌∷◌, [], All, length, List, ℕ};
+ghost use Rattle.std.specs.Prelude.{◌++◌, ◌∷◌, [], All, length, List, ℕ};
 ghost use Rattle.httparse.specs.Spans.{IsHeaderWithin, header_bytes};
 ghost use Rattle.websocket.specs.Headers.{fields_of};
 ghost use Rattle.web_guests.specs.Stating.{States, said_by, values_of};

@@ -1,5 +1,6 @@
 -- Bytes that are taken of a line.
-use Rattle.std.proofs.Common.{◌≡◌, ◌≢◌, ◌≤◌, ◌<◌, ◌+◌, ℕ, suc, List, [], ◌∷◌, ◌++◌, Bool, true, false, not, cond, ◌==◌, nat_lt, take, length, Option, Some, None, Result, Ok, Err, refl, sym, ◌∙◌, inl, inr, append_assoc, append-nil, arith}
+use Rattle.std.proofs.Common.{◌≡◌, ◌≢◌, ◌≤◌, ◌<◌, ◌+◌, ℕ, suc, List, [], ◌∷◌, ◌++◌, Bool, true, false, not, cond, ◌==◌}
+use Rattle.std.proofs.Common.{nat_lt, take, length, Option, Some, None, Result, Ok, Err, refl, sym, ◌∙◌, inl, inr, append_assoc, append-nil, arith}
 use Rattle.std.specs.List.{position, position_or_len}
 use Rattle.std.specs.Result.{IfOk, OnOk}
 use Rattle.std.proofs.lemmas.Bool.Decides.{nat_tests}
