@@ -1,4 +1,4 @@
-//! A disk over real files.
+//! The calls of `Disk` over real files.
 use crate::test_disks::{file_of, number_of, ones, script};
 use disk_trait::{Disk, DiskError, FileDisk};
 use std::alloc::Global;

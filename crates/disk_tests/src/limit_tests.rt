@@ -1,4 +1,4 @@
-//! A disk over a real file, where the system limits how large a file may grow.
+//! The calls of `Disk` over a real file, where the system limits how large a file may grow.
 use crate::test_disks::number_of;
 use crate::test_limits::Limited;
 use disk_trait::{Disk, FileDisk};

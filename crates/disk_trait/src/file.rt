@@ -1,4 +1,5 @@
-//! A disk over a file of the operating system, of which nothing is known.
+//! A disk over a file of the operating system, of which nothing is known. It is read and written at
+//! places by `FileExt`, and looked at by `MetadataExt`.
 ghost use Rattle.std.specs.Prelude.{◌≡◌, [], IfErr};
 ghost use Rattle.disk_trait.specs.declared.error.DiskError.TheVariants.{OpenFailed};
 

@@ -1,4 +1,4 @@
-//! Edits under a token, through a desk: each acts once, whatever ends or fails before it is sent
+//! Edits under a token, through a `Desk`: each acts once, whatever ends or fails before it is sent
 //! again.
 use crate::test_hubs::{insert, new_disk};
 use disk_trait::{Disk, FaultDisk, MemDisk};

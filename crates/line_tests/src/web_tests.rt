@@ -1,4 +1,4 @@
-//! The lines of a session over a WebSocket.
+//! The lines of a session over a WebSocket, which it takes by `Read` and gives by `Write`.
 use crate::late_wire::Wire;
 use std::alloc::Global;
 use std::io;

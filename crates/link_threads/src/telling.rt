@@ -1,4 +1,4 @@
-//! The thread of a link that tells.
+//! The thread of a link that tells, over a `Line` under the lock.
 
 use crate::link_end::LinkEnd;
 use crate::locked_line::LockedLine;

@@ -1,4 +1,5 @@
-//! Daemons over disks in memory, and sessions to them over sockets, for tests.
+//! Daemons over disks in memory, and sessions to them over sockets, by `Read` and `Write`, for
+//! tests.
 ghost use Rattle.std.specs.Prelude.{◌≡◌, [], IfSome};
 
 use disk_trait::{Disk, MemDisk};

@@ -153,9 +153,9 @@ fn begin<'a, R: Wait, J: BookNames, C: Checkpoint>(
     Some((hall, doors, joined))
 }
 
-/// Starts the threads, waits until one asks to end, and ends them all. First comes the one that ends
-/// the others: without it nobody is let in. This thread is the flusher's. Answers whether all could
-/// be started, where not, they end at once; and gives the flusher back.
+/// Starts the threads, waits until one asks to end, and ends them all. First comes the one that
+/// ends the others: without it nobody is let in. This thread is the flusher's. Answers whether all
+/// could be started, where not, they end at once; and gives the flusher back.
 fn run<
     J: BookNames + Send + Sync,
     D: Disk + Drop,

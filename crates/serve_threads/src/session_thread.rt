@@ -40,19 +40,15 @@ pub(crate) fn serve_session<
         mut writer,
     } = caller;
     let mut first = FirstLine::new();
-    let pass = if entry.has_last && !may_have_last(hall.alloc, stream, &mut reader, &mut first) {
-        None
-    } else {
+    let is_let_in = !entry.has_last || may_have_last(hall.alloc, stream, &mut reader, &mut first);
+    let found = if is_let_in {
         lobby.take_pass(hall.rt)
+    } else {
+        None
     };
-    let pass = match pass {
+    let pass = match found {
         Some(pass) => {
-            let rest = UntilClosed {
-                rt: hall.rt,
-                lobby,
-                entry,
-                reader,
-            };
+            let rest = UntilClosed::new(hall.rt, lobby, entry, reader);
             let caller = Caller {
                 stream,
                 reader: first.chain(rest),

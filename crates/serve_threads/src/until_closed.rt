@@ -10,10 +10,27 @@ use std::sync::Wait;
 /// A reader of a connection that ends once its lobby is closed.
 #[derive(Drop)]
 pub(crate) struct UntilClosed<'a, R: Wait, J: BookNames, S: Read> {
-    pub rt: &'a R,
-    pub lobby: &'a Lobby<J>,
-    pub entry: Entry,
-    pub reader: S,
+    rt: &'a R,
+    lobby: &'a Lobby<J>,
+    entry: Entry,
+    reader: S,
+}
+
+impl<'a, R: Wait, J: BookNames, S: Read> UntilClosed<'a, R, J, S> {
+    /// A reader of the connection with this entry.
+    pub fn new(
+        rt: &'a R,
+        lobby: &'a Lobby<J>,
+        entry: Entry,
+        reader: S,
+    ) -> UntilClosed<'a, R, J, S> {
+        UntilClosed {
+            rt,
+            lobby,
+            entry,
+            reader,
+        }
+    }
 }
 
 impl<'a, R: Wait, J: BookNames, S: Read> Read for UntilClosed<'a, R, J, S> {

@@ -1,4 +1,4 @@
-//! What an order over one disk does, over any disk, reader and writers.
+//! What an order over one disk does, over any disk, reader and writers: a session has a `Desk`.
 
 use crate::ended::Ended;
 use crate::fault::Fault;

@@ -1,5 +1,5 @@
-//! What is shown of a file, which is let go of before that: a reader that takes its time holds up
-//! no session.
+//! What is shown of a file, by the answers of a `Desk`. The file is let go of before that: a reader
+//! that takes its time holds up no session.
 ghost use Rattle.std.specs.Prelude.{◌≡◌, IfOk};
 ghost use Rattle.op_model.specs.Spans.{spans as spans_of};
 ghost use Rattle.span_export.specs.Exported.{exported};

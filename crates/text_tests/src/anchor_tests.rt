@@ -1,4 +1,4 @@
-//! Where marks begin and end.
+//! Where marks begin and end, as `Sequence` has it by `EndsAfter`.
 use crate::test_names::id;
 use char_sequence::{EndsAfter, Sequence};
 use mark_anchors::{Anchors, Place};

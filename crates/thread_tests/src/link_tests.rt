@@ -1,4 +1,4 @@
-//! Two links that speak in turn, over peers that hold lists. A test gets plain values and compares
+//! Two links that speak in turn, each over a `Peer` that holds a list. A test gets plain values and compares
 //! them: each way out past an end of a link is what the proof of a test costs.
 use crate::test_ends::{End, turns};
 use link_speaker::{Line, Peer, SpeakError};
