@@ -54,30 +54,11 @@ fn serve_pages<
         + AllocGlobal,
     F: Write + IsTerminal + Copy + Send + Drop,
 >(rt: &R, order: ServeOrder<'a>, origins: &[Origin], faults: &F) -> Result<(), Refused<'a>> {
-    let beside = Beside {
-        origins,
-        journal: None,
+    let Some(telling) = telling(order, faults) else {
+        return serve_file(rt, order, origins, None);
     };
-    match telling(order, faults) {
-        None => serve_file(rt, order, beside),
-        Some(telling) => {
-            let journal = Journal::new(rt.alloc(), telling);
-            let beside = Beside {
-                journal: Some(&journal),
-                ..beside
-            };
-            serve_and_tell(rt, order, &journal, beside, *faults)
-        }
-    }
-}
-
-/// What a daemon is given beside its file and sockets.
-#[derive(Clone, Copy)]
-struct Beside<'a> {
-    /// The web pages that may come in.
-    origins: &'a [Origin],
-    /// Where its events are told, if anybody is to be told.
-    journal: Option<&'a Journal>,
+    let journal = Journal::new(rt.alloc(), telling);
+    serve_and_tell(rt, order, origins, &journal, *faults)
 }
 
 /// What is told of a daemon, if anything is.
@@ -105,14 +86,14 @@ fn serve_and_tell<
 >(
     rt: &R,
     order: ServeOrder<'a>,
+    origins: &[Origin],
     journal: &Journal,
-    beside: Beside<'_>,
     errors: F,
 ) -> Result<(), Refused<'a>> {
     thread::scope(thread::scope_env(), rt, move |scope| {
         // Where there is no thread, nothing is told.
         let _ = scope.spawn(move || journal.write_all(rt, &mut ErrorStream { errors }));
-        let end = serve_file(rt, order, beside);
+        let end = serve_file(rt, order, origins, Some(journal));
         journal.end(rt);
         end
     })
@@ -125,6 +106,7 @@ fn serve_and_tell<
 /// file is opened anew.
 fn serve_file<
     'a,
+    'b,
     R: Files<File = File>
         + Clock
         + Wait
@@ -132,11 +114,21 @@ fn serve_file<
         + Sync
         + Net<Listener = TcpListener, Stream = TcpStream>
         + AllocGlobal,
->(rt: &R, order: ServeOrder<'a>, beside: Beside<'_>) -> Result<(), Refused<'a>> {
+>(
+    rt: &R,
+    order: ServeOrder<'a>,
+    origins: &'b [Origin],
+    journal: Option<&'b Journal>,
+) -> Result<(), Refused<'a>> {
     let end = match open_file(rt, order.file) {
         Ok(parts) => {
             let sockets = open_sockets(rt, order)?;
-            serve_opened(rt, order, parts, sockets, beside)
+            let sockets = Sockets {
+                origins,
+                journal,
+                ..sockets
+            };
+            serve_opened(rt, order, parts, sockets)
         }
         Err(fault) => Err(fault),
     };
@@ -173,16 +165,10 @@ fn serve_opened<
     order: ServeOrder<'_>,
     parts: Parts<FileDisk>,
     sockets: Sockets<'a>,
-    beside: Beside<'a>,
 ) -> Result<(), Fault>
     requires { parts.locked.replica.steps ≡ [] }
 {
-    let Beside { origins, journal } = beside;
-    let sockets = Sockets {
-        origins,
-        journal,
-        ..sockets
-    };
+    let journal = sockets.journal;
     tell_listening(rt, rt.alloc(), order, &parts, journal);
     let end = match serve_on(rt, rt.alloc(), parts, sockets, &NoCheckpoint) {
         Ok(served) => end_of(&served),
