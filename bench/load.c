@@ -1,8 +1,10 @@
 /* The load of bench/serve.py: connections to a server of 127.0.0.1, each of which sends a request, waits for its answer and sends the next
    one, for a time. It is in C so that it isn't the limit.
 
-   load edits|texts|pushes|gets PORT CONNECTIONS THREADS MILLISECONDS
+   load edits|texts|webs|pushes|gets PORT CONNECTIONS THREADS MILLISECONDS
    load floor FILE MILLISECONDS
+
+   `webs` are edits over WebSockets, whose frames are masked by zeros.
 
    The floor is the writes and syncs of a commit of one character, without a server.
 
@@ -25,21 +27,26 @@
 
 enum { PAGE = 4096, ROOM = 4096, MOST = 64 };
 
-/* What a client sends, with the number of its connection; how an answer begins, and how many line feeds it has; and what it asks once before,
-   if it does: the last of the daemon's places is given only to a session that asks for the status first. */
+/* What a client sends, with the number of its connection; how an answer begins, and how many line feeds it has; what it asks once before,
+   if it does: the last of the daemon's places is given only to a session that asks for the status first; and whether both go in frames. */
 struct protocol {
     const char *name, *request, *begins;
     int feeds;
     const char *first;
+    int is_framed;
 };
+
+/* The bytes of a frame before a message of less than 126 bytes: from a client and to it. */
+enum { ASKED = 6, TOLD = 2 };
 
 #define STATUS "{\"op\":\"status\"}\n"
 
 static const struct protocol protocols[] = {
-    {"edits", "{\"op\":\"insert\",\"doc\":%d,\"at\":0,\"text\":\"x\"}\n", "{\"ok\":true", 1, STATUS},
-    {"texts", "{\"op\":\"text\",\"doc\":1000}\n", "{\"ok\":true", 1, STATUS},
-    {"pushes", "*3\r\n$5\r\nRPUSH\r\n$7\r\nlist%03d\r\n$1\r\nx\r\n", ":", 1, NULL},
-    {"gets", "*2\r\n$3\r\nGET\r\n$4\r\ntext\r\n", "$", 2, NULL},
+    {"edits", "{\"op\":\"insert\",\"doc\":%d,\"at\":0,\"text\":\"x\"}\n", "{\"ok\":true", 1, STATUS, 0},
+    {"webs", "{\"op\":\"insert\",\"doc\":%d,\"at\":0,\"text\":\"x\"}", "{\"ok\":true", 0, "{\"op\":\"status\"}", 1},
+    {"texts", "{\"op\":\"text\",\"doc\":1000}\n", "{\"ok\":true", 1, STATUS, 0},
+    {"pushes", "*3\r\n$5\r\nRPUSH\r\n$7\r\nlist%03d\r\n$1\r\nx\r\n", ":", 1, NULL, 0},
+    {"gets", "*2\r\n$3\r\nGET\r\n$4\r\ntext\r\n", "$", 2, NULL, 0},
 };
 
 struct times {
@@ -98,13 +105,49 @@ static int connected(int port) {
     return made;
 }
 
-/* Asks what is asked once before, and drops the answer, a line. */
-static void begin(const struct connection *at) {
-    char byte = 0;
-    size_t length = strlen(protocol->first);
-    if (send(at->socket, protocol->first, length, MSG_NOSIGNAL) != (ssize_t)length) end_with("send");
-    while (byte != '\n')
-        if (recv(at->socket, &byte, 1, 0) != 1) end_with("a first answer");
+static void say(int socket, const char *bytes, size_t count) {
+    if (send(socket, bytes, count, MSG_NOSIGNAL) != (ssize_t)count) end_with("send");
+}
+
+static void take(int socket, char *bytes, size_t count) {
+    if (recv(socket, bytes, count, MSG_WAITALL) != (ssize_t)count) end_with("a first answer");
+}
+
+/* Puts a message into a frame, and gives its length; or leaves it as it is. */
+static size_t framed(char *into, const char *message) {
+    size_t length = strlen(message);
+    if (protocol->is_framed) {
+        char head[ASKED] = {(char)0x81, (char)(0x80 | length)};
+        memcpy(into, head, ASKED);
+        into += ASKED;
+    }
+    memcpy(into, message, length);
+    return protocol->is_framed ? length + ASKED : length;
+}
+
+/* The handshake of a WebSocket, with the key that stands in RFC 6455. */
+static void shake_hands(int socket, int port) {
+    char head[256], byte[4] = {0};
+    int length = snprintf(head, sizeof head,
+        "GET / HTTP/1.1\r\nHost: 127.0.0.1:%d\r\nUpgrade: websocket\r\nConnection: Upgrade\r\n"
+        "Sec-WebSocket-Key: dGhlIHNhbXBsZSBub25jZQ==\r\nSec-WebSocket-Version: 13\r\n\r\n", port);
+    say(socket, head, length);
+    while (memcmp(byte, "\r\n\r\n", 4)) {
+        memmove(byte, byte + 1, 3);
+        take(socket, byte + 3, 1);
+    }
+}
+
+/* Asks what is asked once before, and drops the answer, a line or a message. */
+static void begin(const struct connection *at, int port) {
+    char sent[64], answer[128] = {0};
+    if (protocol->is_framed) shake_hands(at->socket, port);
+    say(at->socket, sent, framed(sent, protocol->first));
+    if (protocol->is_framed) {
+        take(at->socket, answer, TOLD);
+        take(at->socket, answer, answer[1]);
+    } else
+        while (answer[0] != '\n') take(at->socket, answer, 1);
 }
 
 static void ask(struct connection *at) {
@@ -115,6 +158,7 @@ static void ask(struct connection *at) {
 
 static int is_whole(const struct connection *at) {
     int feeds = 0;
+    if (protocol->is_framed) return at->had > TOLD && at->had == TOLD + (size_t)at->answer[1];
     for (size_t i = 0; i < at->had; i++) feeds += at->answer[i] == '\n';
     return feeds == protocol->feeds;
 }
@@ -124,7 +168,8 @@ static int hear(struct connection *at) {
     ssize_t more = recv(at->socket, at->answer + at->had, ROOM - at->had, 0);
     if (more <= 0) end_with("an answer");
     at->had += more;
-    if (strncmp(at->answer, protocol->begins, strlen(protocol->begins))) {
+    size_t head = protocol->is_framed ? TOLD : 0, first = strlen(protocol->begins);
+    if (at->had >= head + first && strncmp(at->answer + head, protocol->begins, first)) {
         fprintf(stderr, "refused: %.*s", (int)at->had, at->answer);
         exit(1);
     }
@@ -187,8 +232,10 @@ static void load(int port, int count, int threads, int milliseconds) {
     if (!connections || !workers) end_with("memory");
     for (int i = 0; i < count; i++) {
         connections[i].socket = connected(port);
-        if (protocol->first) begin(&connections[i]);
-        connections[i].length = snprintf(connections[i].request, sizeof connections[i].request, protocol->request, i + 1);
+        if (protocol->first) begin(&connections[i], port);
+        char request[96];
+        snprintf(request, sizeof request, protocol->request, i + 1);
+        connections[i].length = framed(connections[i].request, request);
     }
     uint64_t started = passed();
     until = started + milliseconds * 1000000ull;

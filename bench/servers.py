@@ -64,13 +64,14 @@ class Talk:
 class Daemon:
     """The program as it serves a file."""
 
-    def __init__(self, program, name, replica=REPLICAS[0], around=None):
-        self.program, self.name, self.around = program, name, around or {}
+    def __init__(self, program, name, replica=REPLICAS[0], around=None, web=None):
+        self.program, self.name, self.around, self.web = program, name, around or {}, web
         subprocess.run([program, "init", name, "--replica", replica], check=True, stdout=subprocess.DEVNULL)
         self.sessions, self.peers, self.run = free_port(), free_port(), None
 
     def start(self, link=None):
         words = ["--sessions", str(self.sessions), "--peers", str(self.peers)] + (["--link", str(link)] if link else [])
+        words += ["--web", str(self.web)] if self.web else []
         around = {**os.environ, **self.around}
         self.run = subprocess.Popen([self.program, "serve", self.name, *words], stdin=subprocess.DEVNULL, env=around)
         return self
