@@ -15,6 +15,8 @@ PAGE = "http://localhost:8080"
 OTHER = "https://page.example"
 PLACES = 32
 LONGEST = 65_536
+# How a text frame begins whose length is in eight bytes.
+LONG_FRAME = b"\x81\xff"
 # Edits of 255 characters, whose text makes an answer longer than 65,536 bytes.
 PARTS = 300
 BUSY = {"code": 8, "error": "busy", "ok": False}
@@ -131,6 +133,10 @@ def check_rules(checks, daemon):
         ("a ping in parts", 1002, [frame(PING, b"", fin=False)]),
         ("a ping that is too long", 1002, [frame(PING, b"p" * 126)]),
         ("a close of one byte", 1002, [frame(CLOSE, b"\x03")]),
+        ("a length in more bytes than it needs", 1002, [frame(TEXT, READ, length=8)]),
+        ("a frame of 2^63 - 1 bytes", 1009, [LONG_FRAME + bytes([0x7F, *b"\xff" * 7]) + bytes(4)]),
+        ("a frame of 2^64 - 1 bytes", 1002, [LONG_FRAME + b"\xff" * 8 + bytes(4)]),
+        ("a message that never ends", 1009, [frame(TEXT, b"a", fin=False), *[frame(0, b"a" * 100, fin=False)] * 1_000]),
     )
     for what, code, frames in cases:
         checks.same(what, closed(daemon, *frames), (code, True))
@@ -139,6 +145,25 @@ def check_rules(checks, daemon):
     made.send(frame(TEXT, READ), frame(BINARY, b"then this"))
     checks.same("what came before is answered", made.answer()["ok"], True)
     checks.same("and what breaks a rule then closes", made.answer(), 1003)
+    made.close()
+
+
+def check_rude(checks, daemon):
+    """Who reads no answer holds up nobody, and nothing more is read of him."""
+    made = daemon.open()
+    made.socket.settimeout(1)
+    try:
+        while True:
+            made.send(frame(PING, b"p" * 125) * 200)
+    except TimeoutError:
+        pass
+    beside = daemon.open()
+    checks.same("beside one who reads no answer", beside.ask(STATUS)["ok"], True)
+    beside.close()
+    made.close()
+    made = daemon.open()
+    made.send(frame(TEXT, b"", fin=False), *[frame(0, b"", fin=False)] * 50_000, frame(0, STATUS))
+    checks.same("a message of many empty parts", made.answer()["ok"], True)
     made.close()
 
 
@@ -331,6 +356,7 @@ def check(checks, program, _until):
     check_sessions(checks, daemon)
     check_watch(checks, daemon)
     check_rules(checks, daemon)
+    check_rude(checks, daemon)
     check_guests(checks, daemon)
     check_heads(checks, daemon)
     check_others(checks, daemon)
