@@ -1,11 +1,9 @@
 //! Whom a session's thread serves.
 
-use crate::busy::{busy_line, say_busy};
+use crate::busy::say_busy;
 use crate::last_words::send_last_words;
 use std::io::Write;
 use std::net::TcpStream;
-use tungstenite::CloseCode;
-use web_lines::AnswerMessages;
 
 /// A session's connection: what comes from it, and where the answers go.
 #[derive(Drop)]
@@ -34,20 +32,5 @@ impl<'a> Answers for &'a TcpStream {
         if is_ending {
             send_last_words(stream);
         }
-    }
-}
-
-impl<'a> Answers for AnswerMessages<&'a TcpStream> {
-    fn refuse(&mut self) {
-        let _ = self.write_all(busy_line());
-        let _ = self.flush();
-    }
-
-    /// A message that was refused may be read in part only, so its sender is always heard out.
-    fn part(&mut self, stream: &TcpStream, is_ending: bool) {
-        if is_ending {
-            let _ = self.close(CloseCode::Away, "");
-        }
-        send_last_words(stream);
     }
 }

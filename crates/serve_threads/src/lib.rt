@@ -22,6 +22,7 @@ mod session_thread;
 mod sockets;
 mod until_closed;
 mod watch_thread;
+mod web_ends;
 mod web_thread;
 
 pub use rejoining::Joined;

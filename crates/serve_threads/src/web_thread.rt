@@ -6,15 +6,16 @@ use crate::hall::Hall;
 use crate::last_words::send_last_words;
 use crate::lobby::Lobby;
 use crate::session_thread::serve_session;
+use crate::web_ends::{WebAnswers, WebLines};
 use event_journal::{Event, Reason};
 use pass_books::BookNames;
 use shared_hub::Checkpoint;
+use std::cell::Cell;
 use std::net::TcpStream;
 use std::rt::Clock;
 use std::sync::Wait;
 use std::time::Duration;
 use web_guests::{Refusal, admit};
-use web_lines::{AnswerMessages, MessageLines};
 
 /// How long one read of the head of its request waits, in milliseconds: it has two seconds in all.
 const TURN: u64 = 5;
@@ -31,17 +32,28 @@ pub(crate) fn serve_web<R: Wait + Clock, J: BookNames, C: Checkpoint>(
     stream: &TcpStream,
 ) {
     if let Err(refusal) = let_in(hall, stream) {
-        send_last_words(stream);
+        if is_answered(refusal) {
+            send_last_words(stream);
+        }
         tell_sent_away(hall, refusal);
         lobby.leave(hall.rt, entry, None);
         return;
     }
+    let is_closed = Cell::new(false);
     let caller = Caller {
         stream,
-        reader: MessageLines::new(hall.alloc, stream),
-        writer: AnswerMessages::new(hall.alloc, stream),
+        reader: WebLines::new(hall.alloc, stream, &is_closed),
+        writer: WebAnswers::new(hall.alloc, stream, &is_closed),
     };
     serve_session(hall, lobby, entry, caller);
+}
+
+/// Whether one that is sent away so was told anything.
+fn is_answered(refusal: Refusal) -> bool {
+    !matches!(
+        refusal,
+        Refusal::TooSlow | Refusal::Failed | Refusal::OutOfMemory
+    )
 }
 
 /// Reads what a connection asks for, and answers that.
