@@ -1,9 +1,9 @@
 //! Daemons that are met over sockets: what only threads can show.
 use crate::asking_checkpoint::AskingCheckpoint;
-use crate::test_daemons::{TURNS, Talk, new_disk, serve_disk, sockets};
+use crate::test_daemons::{Ended, TURNS, Talk, new_disk, serve_disk, sockets};
 use crate::waiting_disk::{Meeting, WaitingDisk};
 use disk_trait::MemDisk;
-use serve_threads::{Joined, Served};
+use serve_threads::Joined;
 use shared_hub::NoCheckpoint;
 use std::alloc::Global;
 use std::net::{Net, TcpListener, TcpStream};
@@ -184,7 +184,7 @@ fn edited<R: Wait + Clock + Threads + Net<Listener = TcpListener, Stream = TcpSt
         serve_disk(rt, alloc, disk, sockets, &NoCheckpoint)
     });
     match served {
-        Some(Served { disk, .. }) if right.into_inner() == 2 => Some(disk),
+        Some(Ended { disk, .. }) if right.into_inner() == 2 => Some(disk),
         _ => None,
     }
 }

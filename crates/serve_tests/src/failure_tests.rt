@@ -1,8 +1,7 @@
 //! Daemons whose device fails.
 use crate::daemon_tests::{FAILED, INSERT_A, INSERT_B, STATUS, STOP, TEXT, add_right};
-use crate::test_daemons::{count_settled, new_disk, serve_disk, sockets};
+use crate::test_daemons::{Ended, count_settled, new_disk, serve_disk, sockets};
 use disk_trait::FaultDisk;
-use serve_threads::Served;
 use shared_hub::NoCheckpoint;
 use std::alloc::Global;
 use std::net::{Net, TcpListener, TcpStream};
@@ -44,11 +43,7 @@ fn edit_over_a_failing_disk<
         let _ = scope.spawn(move || add_right(rt, alloc, port, exchanges, counted));
         serve_disk(rt, alloc, disk, sockets, &NoCheckpoint)
     });
-    let Served {
-        disk,
-        has_failed,
-        ..
-    } = served?;
+    let Ended { disk, has_failed } = served?;
     let settled = count_settled(alloc, disk.into_inner())?;
     Some((right.into_inner(), has_failed, settled))
 }

@@ -45,21 +45,32 @@ pub fn count_settled<D: Disk + Drop>(alloc: Global, disk: D) -> Option<usize> {
     Some(parts(alloc, disk)?.locked.list().len())
 }
 
+/// How a daemon ended.
+#[derive(Drop)]
+pub struct Ended<D> {
+    pub disk: D,
+    pub has_failed: bool,
+}
+
 /// Serves the file of a disk to the daemon's end.
 pub fn serve_disk<
     'a,
     D: Disk + Drop,
     R: Wait + Clock + Threads + Net<Listener = TcpListener, Stream = TcpStream> + Sync,
     C: Checkpoint + Sync,
->(
-    rt: &'a R,
-    alloc: Global,
-    disk: D,
-    sockets: Sockets<'a>,
-    checkpoint: &'a C,
-) -> Option<Served<'a, D>> {
+>(rt: &'a R, alloc: Global, disk: D, sockets: Sockets<'a>, checkpoint: &'a C) -> Option<Ended<D>> {
     let parts = parts(alloc, disk)?;
-    serve_on(rt, alloc, parts, sockets, checkpoint).ok()
+    match serve_on(rt, alloc, parts, sockets, checkpoint) {
+        Ok(served) => {
+            let Served {
+                disk,
+                has_failed,
+                ..
+            } = served;
+            Some(Ended { disk, has_failed })
+        }
+        Err(_) => None,
+    }
 }
 
 /// A listener on a port that nobody else has, and that port.
