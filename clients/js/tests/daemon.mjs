@@ -7,24 +7,15 @@ import { readFileSync } from "node:fs";
 import { createServer } from "node:net";
 import { test } from "node:test";
 
-import { Ended, NoDaemon, STRONG, Stale, connect, init, open } from "peritext";
+import { Ended, NoDaemon, connect, init, open } from "peritext";
 
-import { freePort, program, start, withDaemon } from "./served.mjs";
+import { freePort, program, seeEachOther, start, withDaemon } from "./served.mjs";
 import { withFile } from "./support.mjs";
 
 const SESSIONS = 32;
 
 test("two sessions see each other", () =>
-  withDaemon(async ({ port }) => {
-    const [one, other] = [await connect(port), await connect(port)];
-    await one.document(1).insert(0, "The quick 🦊");
-    const reading = await one.document(1).read();
-    await other.document(1).mark(4, 9, STRONG);
-    await assert.rejects(reading.insert(0, "x"), Stale);
-    assert.deepEqual(await one.document(1).spans(), [{ text: "The " }, { strong: true, text: "quick" }, { text: " 🦊" }]);
-    await one.close();
-    await other.close();
-  }));
+  withDaemon(async ({ port }) => seeEachOther(await connect(port), await connect(port))));
 
 test("many under way are answered in order, and before the close", () =>
   withDaemon(async ({ port }) => {

@@ -1,15 +1,27 @@
 // Daemons of the real program, which PERITEXT names.
 
+import assert from "node:assert/strict";
 import { spawn } from "node:child_process";
 import { once } from "node:events";
 import { connect as connectTo, createServer } from "node:net";
 import { resolve } from "node:path";
 
-import { init } from "peritext";
+import { STRONG, Stale, init } from "peritext";
 
 import { withFile } from "./support.mjs";
 
 export const program = resolve(process.env.PERITEXT ?? "bin/peritext");
+
+/** Two sessions of one daemon see what each other did, and a stale edit is refused. Both are closed then. */
+export async function seeEachOther(one, other) {
+  await one.document(1).insert(0, "The quick 🦊");
+  const reading = await one.document(1).read();
+  await other.document(1).mark(4, 9, STRONG);
+  await assert.rejects(reading.insert(0, "x"), Stale);
+  assert.deepEqual(await one.document(1).spans(), [{ text: "The " }, { strong: true, text: "quick" }, { text: " 🦊" }]);
+  await one.close();
+  await other.close();
+}
 
 /** A port on which nobody listens now. */
 export async function freePort() {

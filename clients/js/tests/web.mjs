@@ -4,9 +4,9 @@ import assert from "node:assert/strict";
 import { createRequire } from "node:module";
 import { test } from "node:test";
 
-import { Ended, NoDaemon, STRONG, Stale, connect, connectWeb, watchWeb } from "peritext";
+import { Ended, NoDaemon, connect, connectWeb, watchWeb } from "peritext";
 
-import { freePort, start, withDaemon } from "./served.mjs";
+import { freePort, seeEachOther, start, withDaemon } from "./served.mjs";
 import { LIBRARIES } from "./support.mjs";
 
 // Node has them from version 22 on.
@@ -18,16 +18,7 @@ async function withWeb(work) {
 }
 
 test("a session by WebSocket beside one by lines", () =>
-  withWeb(async ({ port, web }) => {
-    const [one, other] = [await connectWeb(web), await connect(port)];
-    await one.document(1).insert(0, "The quick 🦊");
-    const reading = await one.document(1).read();
-    await other.document(1).mark(4, 9, STRONG);
-    await assert.rejects(reading.insert(0, "x"), Stale);
-    assert.deepEqual(await one.document(1).spans(), [{ text: "The " }, { strong: true, text: "quick" }, { text: " 🦊" }]);
-    await one.close();
-    await other.close();
-  }));
+  withWeb(async ({ port, web }) => seeEachOther(await connectWeb(web), await connect(port))));
 
 test("many under way are answered in order, and before the close", () =>
   withWeb(async ({ web }) => {
