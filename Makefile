@@ -55,7 +55,7 @@ install: peritext
 	install -D -m 755 bin/peritext $(DESTDIR)$(PREFIX)/bin/peritext
 	mkdir -p $(SHARE)/man/man1 $(SHARE)/doc/peritext
 	python3 tools/man_page.py bin/peritext > $(SHARE)/man/man1/peritext.1
-	install -m 644 README.md docs/OPERATING.md docs/PROTOCOL.md docs/FORMATS.md docs/peritext.service $(SHARE)/doc/peritext
+	install -m 644 README.md docs/*.md docs/*.svg docs/peritext.service $(SHARE)/doc/peritext
 
 # What the demo and its test run: bin/peritext, which is built only where it isn't there, or another program that PERITEXT names.
 PERITEXT ?= bin/peritext

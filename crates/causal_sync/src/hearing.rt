@@ -142,7 +142,7 @@ impl Hearing {
     }
 }
 
-// Drops the bytes that frames took, or all once the stream has ended.
+/// Drops the bytes that frames took, or all once the stream has ended.
 fn leave(buffer: &mut BytesMut, used: usize, has_ended: bool)
     requires { used ≤ length buffer.old.items }
     ensures going { has_ended ≡ false → buffer.new.items ≡ drop used buffer.old.items }
@@ -155,7 +155,7 @@ fn leave(buffer: &mut BytesMut, used: usize, has_ended: bool)
     }
 }
 
-// The answer to bytes that were taken.
+/// The answer to bytes that were taken.
 fn answer(fault: Option<LinkError>) -> Result<(), LinkError>
     ensures { result ≡ answer_of fault }
 {

@@ -198,7 +198,7 @@ impl Link {
         self.hearing.held()
     }
 
-    // Whether nothing more may be said.
+    /// Whether nothing more may be said.
     fn is_silent(&self) -> bool
         ensures { result ≡ is_silent self.now }
     {

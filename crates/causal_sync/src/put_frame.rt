@@ -55,7 +55,7 @@ pub(crate) fn spelled_bye(alloc: Global) -> Result<Vec<u8>, AllocError>
     Ok(bytes)
 }
 
-// The length of a frame, with room for its content.
+/// The length of a frame, with room for its content.
 #[tactic(auto, unfolding(change_codec::specs::Spelling::number_bytes))]
 fn begun(alloc: Global, len: usize) -> Result<Vec<u8>, AllocError>
     requires { len < 2 ^ 32 }
@@ -66,7 +66,7 @@ fn begun(alloc: Global, len: usize) -> Result<Vec<u8>, AllocError>
     Ok(bytes)
 }
 
-// The records of some pieces, one after another.
+/// The records of some pieces, one after another.
 fn spelled_records(alloc: Global, pieces: &[Piece]) -> Result<Vec<u8>, AllocError>
     requires { length pieces.now ≤ MAX_TOLD }
     ensures value { IfOk result (λ records. records.items ≡ spelled_pieces pieces.now) }

@@ -21,7 +21,7 @@ pub(crate) fn clock_with(alloc: Global, base: &Clock, ops: &[Op]) -> Result<Cloc
     Ok(clock)
 }
 
-// Joins a clock with an operation.
+/// Joins a clock with an operation.
 fn count(alloc: Global, clock: &mut Clock, op: &Op) -> Result<(), ClockError>
     ensures ok { OnOk result (counted clock.old op.now ≡ Some clock.new) }
     ensures limit { IsErrOf result Limit → counted clock.old op.now ≡ None }

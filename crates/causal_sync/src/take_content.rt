@@ -34,7 +34,7 @@ pub(crate) fn take_content(
     take_later(alloc, content)
 }
 
-// The replica of a first frame.
+/// The replica of a first frame.
 #[tactic(auto, unfolding(crate::specs::Reading::hello_at))]
 fn take_hello(own: ReplicaId, content: &[u8]) -> Result<ReplicaId, LinkError>
     ensures { Reads frame.Hello result (hello_at own content.now) }
@@ -45,7 +45,7 @@ fn take_hello(own: ReplicaId, content: &[u8]) -> Result<ReplicaId, LinkError>
     }
 }
 
-// The replica that a HELLO names, which isn't the own one.
+/// The replica that a HELLO names, which isn't the own one.
 #[tactic(auto, unfolding(crate::specs::Reading::other_at))]
 fn take_other_name(own: ReplicaId, bytes: &[u8]) -> Result<ReplicaId, LinkError>
     ensures { Reads frame.Hello result (other_at own bytes.now) }
@@ -61,7 +61,7 @@ fn take_other_name(own: ReplicaId, bytes: &[u8]) -> Result<ReplicaId, LinkError>
     }
 }
 
-// The bytes behind a HELLO's type and format.
+/// The bytes behind a HELLO's type and format.
 fn take_greeting(content: &[u8]) -> Result<&[u8], LinkError>
     ensures { Reads (λ rest. rest.now) result (greeting_at content.now) }
 {
@@ -77,7 +77,7 @@ fn take_greeting(content: &[u8]) -> Result<&[u8], LinkError>
     Ok(rest)
 }
 
-// A replica, and nothing behind it.
+/// A replica, and nothing behind it.
 fn take_name(bytes: &[u8]) -> Result<ReplicaId, LinkError>
     ensures { Reads (λ replica. replica) result (name_at bytes.now) }
 {
@@ -93,7 +93,7 @@ fn take_name(bytes: &[u8]) -> Result<ReplicaId, LinkError>
     Ok(replica)
 }
 
-// What a frame behind the first says: its type, and its payload.
+/// What a frame behind the first says: its type, and its payload.
 #[tactic(auto, unfolding(crate::specs::Reading::later_at))]
 fn take_later(alloc: Global, content: &[u8]) -> Result<Heard, LinkError>
     ensures { Gives (λ x. x) result (later_at content.now) }
@@ -107,7 +107,7 @@ fn take_later(alloc: Global, content: &[u8]) -> Result<Heard, LinkError>
     }
 }
 
-// A clock, and nothing behind it.
+/// A clock, and nothing behind it.
 #[tactic(auto, unfolding(crate::specs::Reading::have_at))]
 fn take_have(alloc: Global, payload: &[u8]) -> Result<Heard, LinkError>
     ensures { Gives (λ x. x) result (have_at payload.now) }
@@ -119,7 +119,7 @@ fn take_have(alloc: Global, payload: &[u8]) -> Result<Heard, LinkError>
     }
 }
 
-// The number of records, and each of them, with nothing behind them.
+/// The number of records, and each of them, with nothing behind them.
 #[tactic(auto, unfolding(crate::specs::Reading::ops_at))]
 fn take_records(alloc: Global, payload: &[u8]) -> Result<Heard, LinkError>
     ensures { Gives (λ x. x) result (ops_at payload.now) }
@@ -133,7 +133,7 @@ fn take_records(alloc: Global, payload: &[u8]) -> Result<Heard, LinkError>
     }
 }
 
-// The number of records: 1 to `MAX_TOLD`.
+/// The number of records: 1 to `MAX_TOLD`.
 #[tactic(auto, unfolding(crate::specs::Reading::count_at, change_codec::specs::Reading::number_at))]
 fn take_count(payload: &[u8]) -> Result<(u16, &[u8]), LinkError>
     ensures { Reads (λ x. (x.0, x.1.now)) result (count_at payload.now) }
@@ -148,7 +148,7 @@ fn take_count(payload: &[u8]) -> Result<(u16, &[u8]), LinkError>
     Ok((count, records))
 }
 
-// This many records, and nothing behind them. One pass.
+/// This many records, and nothing behind them. One pass.
 fn take_each(alloc: Global, count: u16, records: &[u8]) -> Result<Vec<Piece>, LinkError>
     ensures { Gives (λ pieces. pieces.items) result (records_at count records.now) }
 {
@@ -171,7 +171,7 @@ fn take_each(alloc: Global, count: u16, records: &[u8]) -> Result<Vec<Piece>, Li
     Ok(pieces)
 }
 
-// A whole record, and the bytes behind it.
+/// A whole record, and the bytes behind it.
 #[tactic(auto, unfolding(crate::specs::Reading::record_at))]
 fn take_record(alloc: Global, bytes: &[u8]) -> Result<(Piece, &[u8]), LinkError>
     ensures { Gives (λ x. (x.0, x.1.now)) result (record_at bytes.now) }
@@ -183,7 +183,7 @@ fn take_record(alloc: Global, bytes: &[u8]) -> Result<(Piece, &[u8]), LinkError>
     }
 }
 
-// What a record that the codec refuses makes of the link.
+/// What a record that the codec refuses makes of the link.
 fn link_error(fault: CodecError) -> LinkError
     ensures { (result ≡ Memory) ⊎ ((fault ≢ codec.Memory) × (result ≡ Record fault)) }
 {

@@ -99,8 +99,8 @@ pub(crate) fn take_frame(
     }
 }
 
-// The frame at the front, and how many bytes it takes. Its length is tested before the rest is
-// there.
+/// The frame at the front, and how many bytes it takes. Its length is tested before the rest is
+/// there.
 #[tactic(auto, unfolding(crate::specs::Reading::frame_at, crate::specs::Reading::framed))]
 fn take_framed(
     alloc: Global,

@@ -15,46 +15,46 @@ use Rattle.change_codec.specs.Reading.{origin_at, scalar_at, url_at, mark_at, ke
 use Rattle.change_codec.specs.Reading.{end_at, span_at, kind_named, kind_at, token_at, content_at, body_at, head_at}
 use Rattle.change_codec.specs.Reading.{rest_at, op_at}
 use Rattle.change_codec.specs.Formats.{has_tokens, longest}
-use Rattle.change_codec.specs.Record.{length_at, record_at, taken}
+use Rattle.change_codec.specs.Record.{length_at, framed_at, framed, taken}
 
 -- a value, or a fault of the bytes
 abbrev pub IsClean : {A : Type 0} → Result A CodecError → Type 0
 IsClean (Ok x) = Unit {0}
 IsClean (Err e) = e ≢ fault.Memory
 
-bind : {A B : Type 0} (r : Result A CodecError) (f : A → Result B CodecError) → IsClean r → ((x : A) → IsClean (f x)) → IsClean (r >>= f)
+pub bind : {A B : Type 0} (r : Result A CodecError) (f : A → Result B CodecError) → IsClean r → ((x : A) → IsClean (f x)) → IsClean (r >>= f)
 bind (Ok x) f h k = k x
 bind (Err e) f h k = h
 
-choice : {A : Type 0} (b : Bool) (r s : Result A CodecError) → IsClean r → IsClean s → IsClean (cond b r s)
+pub choice : {A : Type 0} (b : Bool) (r s : Result A CodecError) → IsClean r → IsClean s → IsClean (cond b r s)
 choice true r s h k = h
 choice false r s h k = k
 
-length_fault : fault.Length ≢ fault.Memory
+pub length_fault : fault.Length ≢ fault.Memory
 length_fault = λ e. cc
 
-kind_fault : fault.Kind ≢ fault.Memory
+pub kind_fault : fault.Kind ≢ fault.Memory
 kind_fault = λ e. cc
 
-number_fault : fault.Number ≢ fault.Memory
+pub number_fault : fault.Number ≢ fault.Memory
 number_fault = λ e. cc
 
-scalar_fault : fault.Scalar ≢ fault.Memory
+pub scalar_fault : fault.Scalar ≢ fault.Memory
 scalar_fault = λ e. cc
 
-utf8_fault : fault.Utf8 ≢ fault.Memory
+pub utf8_fault : fault.Utf8 ≢ fault.Memory
 utf8_fault = λ e. cc
 
-order_fault : fault.Order ≢ fault.Memory
+pub order_fault : fault.Order ≢ fault.Memory
 order_fault = λ e. cc
 
-anchor_fault : fault.Anchor ≢ fault.Memory
+pub anchor_fault : fault.Anchor ≢ fault.Memory
 anchor_fault = λ e. cc
 
 range : (low high : ℕ) (n : ℕ × List ℕ) → IsClean (within low high n)
 range low high n = choice (is_in_range low high n.0) (Ok n) (Err fault.Number) tt number_fault
 
-number : (w : Width) (bytes : List ℕ) → IsClean (number_at w bytes)
+pub number : (w : Width) (bytes : List ℕ) → IsClean (number_at w bytes)
 unfolding number_at
 number w bytes = choice (ltb (length bytes) (byte_len w)) (Err fault.Length) (Ok (from_be_bytes w (take (byte_len w) bytes), drop (byte_len w) bytes)) length_fault tt
 
@@ -73,7 +73,7 @@ replica : (bytes : List ℕ) → IsClean (replica_at bytes)
 unfolding replica_at
 replica bytes = bind (number_at w128 bytes) (λ n. cond (eqb n.0 0) (Err fault.Number) (Ok n)) (number w128 bytes) (λ n. choice (eqb n.0 0) (Err fault.Number) (Ok n) number_fault tt)
 
-id : (bytes : List ℕ) → IsClean (id_at bytes)
+pub id : (bytes : List ℕ) → IsClean (id_at bytes)
 unfolding id_at
 id bytes = bind (counter_at bytes) _ (counter bytes) (λ c. bind (replica_at c.1) _ (replica c.1) (λ r. tt))
 
@@ -94,18 +94,18 @@ unfolding byte_at
 byte [] = length_fault
 byte (b ∷ rest) = tt
 
-deps : (bytes : List ℕ) → IsClean (deps_at bytes)
+pub deps : (bytes : List ℕ) → IsClean (deps_at bytes)
 unfolding deps_at count_at
 deps bytes = bind (byte_at bytes >>= within 0 16) _ (bind (byte_at bytes) (within 0 16) (byte bytes) (range 0 16)) (λ count. entries count.0 0 count.1)
 
-origin : (bytes : List ℕ) → IsClean (origin_at bytes)
+pub origin : (bytes : List ℕ) → IsClean (origin_at bytes)
 unfolding origin_at
 origin [] = length_fault
 origin (zero ∷ rest) = tt
 origin (suc zero ∷ rest) = bind (id_at rest) _ (id rest) (λ x. tt)
 origin (suc (suc b) ∷ rest) = kind_fault
 
-value : (bytes : List ℕ) → IsClean (scalar_at bytes)
+pub value : (bytes : List ℕ) → IsClean (scalar_at bytes)
 unfolding scalar_at
 value bytes = bind (number_at w32 bytes) (λ n. cond (scalar n.0) (Ok n) (Err fault.Scalar)) (number w32 bytes) (λ n. choice (scalar n.0) (Ok n) (Err fault.Scalar) tt scalar_fault)
 
@@ -173,7 +173,7 @@ tag format (b ∷ rest) =
     (bind (kind_named (b - 16)) (λ k. Ok ((k, true), rest)) (named (b - 16)) (λ k. tt))
     (bind (kind_named b) (λ k. Ok ((k, false), rest)) (named b) (λ k. tt))
 
-token : (has_token : Bool) (bytes : List ℕ) → IsClean (token_at has_token bytes)
+pub token : (has_token : Bool) (bytes : List ℕ) → IsClean (token_at has_token bytes)
 unfolding token_at
 token false bytes = tt
 token true bytes = bind (replica_at bytes) _ (replica bytes) (λ t. tt)
@@ -202,17 +202,21 @@ operation format bytes =
     bind (head_at format bytes) _ (head format bytes)
     (λ h. bind (deps_at h.1) _ (deps h.1) (λ d. bind (rest_at h.0.has_token h.0.kind d.1) _ (remainder h.0.has_token h.0.kind d.1) (λ x. tt)))
 
-pub taken_clean : (format : Format) (bytes : List ℕ) → IsClean (taken format bytes)
-unfolding taken
-taken_clean format bytes =
+-- what is read from a body without running out of memory is so read from its record
+pub framed_clean : {A : Type 0} (read : List ℕ → Result A CodecError) (format : Format) (bytes : List ℕ) → ((body : List ℕ) → IsClean (read body)) → IsClean (framed read format bytes)
+framed_clean read format bytes clean =
     let len = length_at bytes in
     let rest = drop 4 bytes in
-    choice (ltb (length bytes) 4) (Ok None) (record_at format len rest) tt
-    (choice (is_in_range 33 (longest format) len) (cond (ltb (length rest) len) (Ok None) (op_at format (take len rest) >>= λ op. Ok (Some (op, 4 + len)))) (Err fault.Length)
-    (choice (ltb (length rest) len) (Ok None) (op_at format (take len rest) >>= λ op. Ok (Some (op, 4 + len))) tt (bind (op_at format (take len rest)) (λ op. Ok (Some (op, 4 + len))) (operation format (take len rest)) (λ op. tt)))
+    choice (ltb (length bytes) 4) (Ok None) (framed_at read format len rest) tt
+    (choice (is_in_range 33 (longest format) len) (cond (ltb (length rest) len) (Ok None) (read (take len rest) >>= λ x. Ok (Some (x, 4 + len)))) (Err fault.Length)
+    (choice (ltb (length rest) len) (Ok None) (read (take len rest) >>= λ x. Ok (Some (x, 4 + len))) tt (bind (read (take len rest)) (λ x. Ok (Some (x, 4 + len))) (clean (take len rest)) (λ x. tt)))
     length_fault)
 
-no_memory_of : {A : Type 0} (r : Result A CodecError) → IsClean r → r ≡ Err fault.Memory → ⊥
+taken_clean : (format : Format) (bytes : List ℕ) → IsClean (taken format bytes)
+unfolding taken
+taken_clean format bytes = framed_clean (op_at format) format bytes (operation format)
+
+pub no_memory_of : {A : Type 0} (r : Result A CodecError) → IsClean r → r ≡ Err fault.Memory → ⊥
 no_memory_of (Ok x) h e = cc
 no_memory_of (Err d) h e = let same : d ≡ fault.Memory = cc in h same
 

@@ -18,10 +18,18 @@ in_range low high n x e =
     let test : is_in_range low high x.0 ≡ true = subst (λ (m : ℕ × List ℕ). is_in_range low high m.0 ≡ true) p.1 p.0 in
     (p.1, grind (arith, nat_tests), grind (arith, nat_tests))
 
--- an entry keeps its rules
-entry_keeps : (low : ℕ) (bytes : List ℕ) (x : (ℕ × ℕ) × List ℕ) → entry_at low bytes ≡ Ok x → (low < x.0.0) × (1 ≤ x.0.1) × (x.0.1 ≤ 16777216)
+-- an entry: its two numbers, and the rules that they keep
+pub record Entry (low : ℕ) (bytes : List ℕ) (e : ℕ × ℕ) (after : List ℕ) : Type 0 where
+  pub mid : List ℕ
+  pub replica : replica_at bytes ≡ Ok (e.0, mid)
+  pub count : number_at w64 mid ≡ Ok (e.1, after)
+  pub above : low < e.0
+  pub some : 1 ≤ e.1
+  pub most : e.1 ≤ 16777216
+
+pub entry_parts : (low : ℕ) (bytes : List ℕ) (x : (ℕ × ℕ) × List ℕ) → entry_at low bytes ≡ Ok x → Entry low bytes x.0 x.1
 unfolding entry_at
-entry_keeps low bytes x e =
+entry_parts low bytes x e =
     let a = bind_ok (replica_at bytes) (λ r. cond (ltb low r.0) (Ok r) (Err Order) >>= λ above. number_at w64 above.1 >>= within 1 16777216 >>= λ count. Ok ((above.0, count.0), count.1)) x e in
     let b = bind_ok (cond (ltb low a.0.0) (Ok a.0) (Err Order)) (λ above. number_at w64 above.1 >>= within 1 16777216 >>= λ count. Ok ((above.0, count.0), count.1)) x a.2 in
     let c = bind_ok (number_at w64 b.0.1 >>= within 1 16777216) (λ count. Ok ((b.0.0, count.0), count.1)) x b.2 in
@@ -29,7 +37,15 @@ entry_keeps low bytes x e =
     let range = in_range 1 16777216 n.0 c.0 n.2 in
     let p = passed (ltb low a.0.0) Order a.0 b.0 b.1 in
     let above : low < b.0.0 = subst (λ (m : ℕ × List ℕ). low < m.0) p.1 (ltb-true _ _ p.0) in
-    subst (λ (y : (ℕ × ℕ) × List ℕ). (low < y.0.0) × (1 ≤ y.0.1) × (y.0.1 ≤ 16777216)) (ok_is ((b.0.0, c.0.0), c.0.1) x c.2) (above, range.1, range.2)
+    subst (λ (y : (ℕ × ℕ) × List ℕ). Entry low bytes y.0 y.1) (ok_is ((b.0.0, c.0.0), c.0.1) x c.2)
+    (record {
+      mid = b.0.1;
+      replica = a.1 ∙ ap (λ (r : ℕ × List ℕ). Ok r) p.1;
+      count = n.1 ∙ ap (λ (r : ℕ × List ℕ). Ok r) range.0;
+      above = above;
+      some = range.1;
+      most = range.2;
+    })
 
 -- the entries rise, and there are as many as were asked for
 pub entries_rise : (n low : ℕ) (bytes : List ℕ) (x : List (ℕ × ℕ) × List ℕ) → entries_at n low bytes ≡ Ok x → (is_rising_above low x.0 ≡ true) × (length x.0 ≡ n)
@@ -39,11 +55,11 @@ entries_rise zero low bytes x e =
 entries_rise (suc n) low bytes x e =
     let a = bind_ok (entry_at low bytes) (λ first. entries_at n first.0.0 first.1 >>= λ others. Ok (first.0 ∷ others.0, others.1)) x e in
     let b = bind_ok (entries_at n a.0.0.0 a.0.1) (λ others. Ok (a.0.0 ∷ others.0, others.1)) x a.2 in
-    let first = entry_keeps low bytes a.0 a.1 in
+    let first = entry_parts low bytes a.0 a.1 in
     let others = entries_rise n a.0.0.0 a.0.1 b.0 b.1 in
-    let above = first.0 in
-    let some = first.1 in
-    let most = first.2 in
+    let above = first.above in
+    let some = first.some in
+    let most = first.most in
     let rest = others.0 in
     let rising : is_rising_above low (a.0.0 ∷ b.0.0) ≡ true = grind (arith, nat_tests) in
     subst (λ (y : List (ℕ × ℕ) × List ℕ). (is_rising_above low y.0 ≡ true) × (length y.0 ≡ suc n)) (ok_is (a.0.0 ∷ b.0.0, b.0.1) x b.2) (rising, ap suc others.1)

@@ -1,9 +1,11 @@
+pub mod Answered
 pub mod Clean
 pub mod Clocks
 pub mod ContentLaws
 pub mod Contents
 pub mod DepsLemmas
 pub mod Entries
+pub mod Framing
 pub mod IdLaws
 pub mod Lengths
 pub mod Numbers
@@ -11,4 +13,5 @@ pub mod OpLaws
 pub mod RecordLaws
 pub mod Steps
 pub mod StreamLaws
+pub mod TokenLaws
 pub mod Urls

@@ -20,16 +20,17 @@ use Rattle.change_codec.specs.Spelling.{number_bytes, id_bytes, deps_bytes, orig
 use Rattle.change_codec.specs.Spelling.{mark_bytes, key_bytes, start_bytes, end_bytes, kind_byte}
 use Rattle.change_codec.specs.Spelling.{token_bytes, tagged, content_bytes, body_bytes}
 use Rattle.change_codec.specs.Reading.{◌>>=◌, number_at, id_at, deps_at, origin_at, scalar_at}
-use Rattle.change_codec.specs.Reading.{replica_at, mark_at, key_at, span_at, kind_named, kind_at, token_at, content_at, body_at, named_at}
+use Rattle.change_codec.specs.Reading.{mark_at, key_at, span_at, kind_named, kind_at, token_at, content_at, body_at, named_at}
 use Rattle.change_codec.specs.Reading.{head_at, rest_at, with_head, op_at}
 use Rattle.change_codec.specs.Formats.{has_tokens, IsOf}
 use Rattle.change_codec.specs.Fits.{IsId, IsContent, IsToken, IsOperation}
 use Rattle.change_codec.proofs.Steps.{IsBytes, bind_ok, passed, ok_is, Takes, Takes-then}
 use Rattle.change_codec.proofs.Numbers.{wide32, number_takes, number_again}
-use Rattle.change_codec.proofs.IdLaws.{replica_takes, replica_again, id_takes, id_again, deps_take, deps_again}
+use Rattle.change_codec.proofs.IdLaws.{id_takes, id_again, deps_take, deps_again}
 use Rattle.change_codec.proofs.ContentLaws.{origin_takes, origin_again, scalar_takes, scalar_again}
 use Rattle.change_codec.proofs.ContentLaws.{mark_takes, mark_again, key_takes, key_again}
 use Rattle.change_codec.proofs.ContentLaws.{span_takes, span_again}
+use Rattle.change_codec.proofs.TokenLaws.{token_takes, token_again}
 
 -- the first byte of a record of this kind
 abbrev tag_of : Kind → ℕ
@@ -184,26 +185,6 @@ head_takes format bytes x fits e =
     let e02 = Takes-then bytes (tagged a.0.0.1 (tag_of a.0.0.0) ∷ []) a.0.1 (number_bytes w32 b.0.0 ++ id_bytes c.0.0) c.0.1 t0.taken e12 in
     let made : Head × List ℕ = (record { kind = a.0.0.0; has_token = a.0.0.1; doc = b.0.0; id = c.0.0 }, c.0.1) in
     subst (λ (y : Head × List ℕ). FrontHead format bytes y.0 y.1) (ok_is made x c.2) (record { taken = e02; doc = t1.1; id = t2.1; within = t0.within })
-
--- a token where there is one
-record FrontToken (bytes : List ℕ) (has_token : Bool) (token : Option ℕ) (rest : List ℕ) : Type 0 where
-  taken : Takes bytes (token_bytes token) rest
-  fits : IsToken token
-  has : has_token ≡ is_some token
-
-token_takes : (has_token : Bool) (bytes : List ℕ) (x : Option ℕ × List ℕ) → IsBytes bytes → token_at has_token bytes ≡ Ok x → FrontToken bytes has_token x.0 x.1
-unfolding token_at token_bytes
-token_takes false bytes x fits e =
-    subst (λ (y : Option ℕ × List ℕ). FrontToken bytes false y.0 y.1) (ok_is (None, bytes) x e) (record { taken = record { parts = refl; rest_fits = fits }; fits = tt; has = refl })
-token_takes true bytes x fits e =
-    let a = bind_ok (replica_at bytes) (λ token. Ok (Some token.0, token.1)) x e in
-    let t = replica_takes bytes a.0 fits a.1 in
-    subst (λ (y : Option ℕ × List ℕ). FrontToken bytes true y.0 y.1) (ok_is (Some a.0.0, a.0.1) x a.2) (record { taken = t.0; fits = (t.1, t.2); has = refl })
-
-token_again : (token : Option ℕ) (rest : List ℕ) → IsToken token → token_at (is_some token) (token_bytes token ++ rest) ≡ Ok (token, rest)
-unfolding token_at token_bytes
-token_again None rest fits = refl
-token_again (Some token) rest fits = rw (replica_again token rest fits.0 fits.1) refl
 
 -- what was read behind the deps
 record Remainder (bytes : List ℕ) (has_token : Bool) (k : Kind) (token : Option ℕ) (body : Body) : Type 0 where

@@ -1,5 +1,5 @@
 -- Steps of the reading that did not fail, and what a field took from the front of bytes.
-use Rattle.std.proofs.Common.{◌≡◌, ℕ, ◌+◌, ◌<◌, Bool, true, false, cond, List, ◌++◌, get_or, take}
+use Rattle.std.proofs.Common.{◌≡◌, ◌⊎◌, ℕ, ◌+◌, ◌<◌, Option, Some, None, Bool, true, false, cond, List, ◌++◌, get_or, take}
 use Rattle.std.proofs.Common.{drop, Result, Ok, Err, refl, sym, ap, ◌∙◌, append_assoc, arith, inl}
 use Rattle.std.proofs.Common.{inr}
 use Rattle.std.proofs.lemmas.Bool.{cases_lt}
@@ -35,6 +35,21 @@ guard_ok false d x y e = (refl, cc)
 pub passed : {A : Type 0} (b : Bool) (d : CodecError) (x y : A) → cond b (Ok x) (Err d) ≡ Ok y → (b ≡ true) × (x ≡ y)
 passed true d x y e = (refl, cc)
 passed false d x y e = absurd cc
+
+-- a test that was passed on the way to a value
+pub ranged : {A : Type 0} (b : Bool) (r : Result A CodecError) (d : CodecError) (v : A) → cond b r (Err d) ≡ Ok v → (b ≡ true) × (r ≡ Ok v)
+ranged true r d v e = (refl, e)
+ranged false r d v e = absurd cc
+
+-- a test after which there is something
+pub not_none : {A : Type 0} (b : Bool) (r : Result (Option A) CodecError) (v : A) → cond b (Ok None) r ≡ Ok (Some v) → (b ≡ false) × (r ≡ Ok (Some v))
+not_none true r v e = absurd cc
+not_none false r v e = (refl, e)
+
+-- a test after which there is nothing
+pub cases_none : {A : Type 0} (b : Bool) (r : Result (Option A) CodecError) → cond b (Ok None) r ≡ Ok None → (b ≡ true) ⊎ ((b ≡ false) × (r ≡ Ok None))
+cases_none true r e = inl refl
+cases_none false r e = inr (refl, e)
 
 -- a value that was read
 abbrev pub done : {A : Type 0} → A → Result A CodecError

@@ -82,8 +82,9 @@ pub fn put_content(body: &Body, out: &mut Vec<u8>)
     }
 }
 
+/// Puts an origin: 0 for none, or 1 and its id.
 #[tactic(auto, unfolding(crate::specs::Spelling::origin_bytes))]
-fn put_origin(origin: Option<OpId>, out: &mut Vec<u8>)
+pub fn put_origin(origin: Option<OpId>, out: &mut Vec<u8>)
     requires { HasRoom out.old (origin_bytes origin) }
     ensures { Appends out.old out.new (origin_bytes origin) }
 {
@@ -220,8 +221,9 @@ fn take_remove_mark(bytes: &[u8]) -> Result<(LentBody<'_>, &[u8]), CodecError>
     }
 }
 
+/// Takes an origin from the front. `Kind` (31) for no kind of origin.
 #[tactic(auto, unfolding(crate::specs::Reading::origin_at))]
-fn take_origin(bytes: &[u8]) -> Result<(Option<OpId>, &[u8]), CodecError>
+pub fn take_origin(bytes: &[u8]) -> Result<(Option<OpId>, &[u8]), CodecError>
     ensures { Reads (λ x. (x.0, x.1.now)) result (origin_at bytes.now) }
 {
     match bytes {
@@ -235,8 +237,9 @@ fn take_origin(bytes: &[u8]) -> Result<(Option<OpId>, &[u8]), CodecError>
     }
 }
 
+/// Takes a character from the front. `Scalar` (33) for no Unicode scalar value.
 #[tactic(auto, unfolding(crate::specs::Reading::scalar_at))]
-fn take_scalar(bytes: &[u8]) -> Result<(char, &[u8]), CodecError>
+pub fn take_scalar(bytes: &[u8]) -> Result<(char, &[u8]), CodecError>
     ensures { Reads (λ x. (x.0, x.1.now)) result (scalar_at bytes.now) }
 {
     let (number, rest) = take_u32(bytes)?;

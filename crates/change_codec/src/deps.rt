@@ -13,6 +13,13 @@ use fixed_numbers::limits::{MAX_COUNT, MAX_REPLICAS};
 use op_ids::{Clock, ReplicaId};
 use std::alloc::Global;
 
+/// What is left of some entries: the replica that they rise above, and their bytes.
+#[derive(Clone, Copy, Debug)]
+struct Left<'a> {
+    low: u128,
+    rest: &'a [u8],
+}
+
 /// Puts the number of entries, and each of them: its replica, and then its count.
 #[tactic(auto, unfolding(crate::specs::Spelling::deps_bytes))]
 pub fn put_deps(deps: &Clock, out: &mut Vec<u8>)
@@ -58,18 +65,17 @@ pub fn collect_deps(alloc: Global, bytes: &[u8]) -> Result<Clock, CodecError>
 fn skip_entries(count: u8, bytes: &[u8]) -> Result<&[u8], CodecError>
     ensures { Reads (λ rest. rest.now) result (only_rest (entries_at count 0 bytes.now)) }
 {
-    let mut rest = bytes;
-    let mut low = 0;
+    let mut left = Left {
+        low: 0,
+        rest: bytes,
+    };
     for _ in 0..count {
-        match take_entry(low, rest) {
-            Ok((entry, after)) => {
-                low = entry.0.number();
-                rest = after;
-            }
+        match take_next(&left) {
+            Ok((_, after)) => left = after,
             Err(fault) => return Err(fault),
         }
     }
-    Ok(rest)
+    Ok(left.rest)
 }
 
 fn collect_entries(
@@ -81,14 +87,15 @@ fn collect_entries(
         (only_value (entries_at count 0 bytes.now)) }
 {
     let mut entries = Vec::with_capacity(alloc, count as usize)?;
-    let mut rest = bytes;
-    let mut low = 0;
+    let mut left = Left {
+        low: 0,
+        rest: bytes,
+    };
     for _ in 0..count {
-        match take_entry(low, rest) {
+        match take_next(&left) {
             Ok((entry, after)) => {
-                low = entry.0.number();
-                rest = after;
                 entries.push_reserved(entry);
+                left = after;
             }
             Err(fault) => return Err(fault),
         }
@@ -105,6 +112,21 @@ fn take_count(bytes: &[u8]) -> Result<(u8, &[u8]), CodecError>
         return Err(CodecError::Number);
     }
     Ok((count, rest))
+}
+
+/// Takes the next of some entries, and gives what is left of them.
+fn take_next<'a>(left: &Left<'a>) -> Result<((ReplicaId, u64), Left<'a>), CodecError>
+    ensures read { Reads (λ x. (x.0, x.1.rest.now)) result
+        (entry_at left.now.low left.now.rest.now) }
+    ensures low { IfOk result (λ x. x.1.low ≡ x.0.0) }
+{
+    match take_entry(left.low, left.rest) {
+        Ok((entry, rest)) => {
+            let low = entry.0.number();
+            Ok((entry, Left { low, rest }))
+        }
+        Err(fault) => Err(fault),
+    }
 }
 
 #[tactic(auto, unfolding(crate::specs::Reading::entry_at))]

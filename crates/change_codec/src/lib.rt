@@ -24,7 +24,7 @@ mod token;
 
 pub use clock::{put_clock, take_clock};
 pub use codec_error::CodecError;
-pub use content::Kind;
+pub use content::{Kind, put_origin, take_origin, take_scalar};
 pub use deps::{put_deps, skip_deps};
 pub use fits::every_op_has_a_spelling;
 pub use format::Format;
@@ -32,7 +32,7 @@ pub use head::Head;
 pub use id::{put_id, take_id, take_replica};
 pub use number::{put_byte, put_bytes, put_u16, put_u32, take_u16, take_u32, take_u64};
 pub use peek::{record_head, record_token, skip_op};
-pub use record::{put_op, take_op};
+pub use record::{put_op, take_op, whole_body};
 pub use stream::{put_ops, stream_length, take_ops};
 pub use stream_error::StreamError;
 pub use token::{put_token, take_token};

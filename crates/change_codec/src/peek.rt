@@ -9,10 +9,9 @@ ghost use Rattle.op_model.specs.declared.op.Op.{Op as Operation};
 use crate::content::take_whole_content;
 use crate::deps::skip_deps;
 use crate::head::{Head, take_head};
-use crate::number::take_u32;
+use crate::record::whole_body;
 use crate::token::take_token;
 use crate::{CodecError, Format};
-use fixed_numbers::sizes::MIN_RECORD;
 use op_ids::Token;
 
 /// How many bytes the record takes that the bytes begin with, from 37 to 1,495, and to 1,511 in the
@@ -27,28 +26,21 @@ pub fn skip_op(format: Format, bytes: &[u8]) -> Option<usize>
     skip_record(format, bytes)
 }
 
-#[tactic(auto, unfolding(crate::specs::Record::taken, crate::specs::Reading::number_at))]
+#[tactic(auto, unfolding(crate::specs::Record::taken))]
 fn skip_record(format: Format, bytes: &[u8]) -> Option<usize>
     ensures { result ≡ found_length (taken format bytes.now) }
 {
-    let Ok((len, rest)) = take_u32(bytes) else {
+    let Ok(Some((body, len))) = whole_body(format, bytes) else {
         return None;
     };
-    let len = len as usize;
-    if len < MIN_RECORD || len > format.longest() {
-        return None;
-    }
-    if rest.len() < len {
-        return None;
-    }
-    if is_body(format, &rest[..len]) {
-        Some(4 + len)
+    if is_body(format, body) {
+        Some(len)
     } else {
         None
     }
 }
 
-// Whether bytes are the body of the record of an operation of the format.
+/// Whether bytes are the body of the record of an operation of the format.
 #[tactic(auto, unfolding(crate::specs::Reading::op_at))]
 fn is_body(format: Format, bytes: &[u8]) -> bool
     ensures { result ≡ is_ok (op_at format bytes.now) }
@@ -62,7 +54,7 @@ fn is_body(format: Format, bytes: &[u8]) -> bool
     }
 }
 
-// Whether bytes are what stands behind the deps of a record with this head.
+/// Whether bytes are what stands behind the deps of a record with this head.
 fn is_rest(head: Head, bytes: &[u8]) -> bool
     ensures { result ≡ is_ok (rest_at head.has_token head.kind bytes.now) }
 {

@@ -2,8 +2,8 @@
 ghost use Rattle.std.specs.Prelude.{◌≡◌, ◌≢◌, ◌⊎◌, ◌↔◌, ◌++◌, ℕ, Ok, Err, Some, None, IfSome, IsErrOf, OnOk, OnErr, IfOk, IfErr, IsOk};
 ghost use Rattle.change_codec.specs.declared.codec_error.CodecError.TheVariants.{Memory};
 ghost use Rattle.change_codec.specs.Lent.{Gives, HasUrl, body_of, deps_of};
-ghost use Rattle.change_codec.specs.Reading.{deps_at, op_at, rest_at, with_head};
-ghost use Rattle.change_codec.specs.Record.{taken, first_fault, Answers, IsPartial, BeginsWithOp, BeginsWithOneOf};
+ghost use Rattle.change_codec.specs.Reading.{deps_at, op_at, rest_at, with_head, Reads};
+ghost use Rattle.change_codec.specs.Record.{framed, found_body, taken, first_fault, whole_body, Answers, IsPartial, BeginsWithOp, BeginsWithOneOf};
 ghost use Rattle.change_codec.specs.Formats.{IsOf};
 ghost use Rattle.op_model.specs.declared.op.Op.{Op as Operation};
 ghost use Rattle.change_codec.specs.Spelling.{body_bytes, spelled};
@@ -87,13 +87,30 @@ pub fn take_op(
 }
 
 /// Takes the record at the front.
-#[tactic(auto, unfolding(crate::specs::Record::taken, crate::specs::Reading::number_at))]
+#[tactic(auto, unfolding(crate::specs::Record::taken))]
 fn take_record(
     alloc: Global,
     format: Format,
     bytes: &[u8],
 ) -> Result<Option<(Op, usize)>, CodecError>
     ensures { Answers result (taken format bytes.now) }
+{
+    match whole_body(format, bytes) {
+        Ok(Some((body, len))) => {
+            let op = take_body(alloc, format, body)?;
+            Ok(Some((op, len)))
+        }
+        Ok(None) => Ok(None),
+        Err(fault) => Err(fault),
+    }
+}
+
+/// The body of the record at the front, and how many bytes the record takes. `None` where fewer
+/// than four bytes are there, or fewer than the record has. `Length` (30) for a length that no
+/// record of the format has.
+#[tactic(auto, unfolding(crate::specs::Reading::number_at))]
+pub fn whole_body(format: Format, bytes: &[u8]) -> Result<Option<(&[u8], usize)>, CodecError>
+    ensures { Reads found_body result (framed whole_body format bytes.now) }
 {
     let Ok((len, rest)) = take_u32(bytes) else {
         return Ok(None);
@@ -105,8 +122,7 @@ fn take_record(
     if rest.len() < len {
         return Ok(None);
     }
-    let op = take_body(alloc, format, &rest[..len])?;
-    Ok(Some((op, 4 + len)))
+    Ok(Some((&rest[..len], 4 + len)))
 }
 
 /// Takes the operation that a whole body gives.

@@ -30,7 +30,7 @@ pub fn put_ops(ops: &[Op], out: &mut Vec<u8>) -> Result<(), AllocError>
     }
 }
 
-// Puts records behind what is there.
+/// Puts records behind what is there.
 fn put_each(ops: &[Op], out: &mut Vec<u8>) -> Result<(), AllocError>
     ensures ok { OnOk result (out.new.items ≡ out.old.items ++ spelled_all ops.now) }
     ensures fits { OnOk result (AreOperations ops.now) }
@@ -66,7 +66,7 @@ pub fn take_ops(alloc: Global, format: Format, bytes: &[u8]) -> Result<Vec<Op>, 
     Ok(ops)
 }
 
-// Takes the operation at the front, and gives the bytes behind its record.
+/// Takes the operation at the front, and gives the bytes behind its record.
 fn take_next(alloc: Global, format: Format, bytes: &[u8]) -> Result<(Op, &[u8]), StreamError>
     requires { 0 < length bytes.now }
     ensures spelled_so { IfOk result (λ x. bytes.now ≡ spelled x.0 ++ x.1.now) }
@@ -85,7 +85,7 @@ fn take_next(alloc: Global, format: Format, bytes: &[u8]) -> Result<(Op, &[u8]),
     }
 }
 
-// What a record that can't be taken makes of the stream.
+/// What a record that can't be taken makes of the stream.
 fn stream_error(fault: CodecError) -> StreamError
     ensures { result ≡ Stream → fault ≢ Memory }
 {

@@ -12,7 +12,7 @@ use crate::ends_after::EndsAfter;
 use crate::finding::place;
 use crate::hidden::first_shown;
 use crate::hints::Hints;
-use crate::place::Place;
+use crate::place::{Place, Stretch};
 use crate::reading::next;
 use op_ids::OpId;
 
@@ -44,7 +44,8 @@ pub fn last_ended<M: EndsAfter>(
     if far.saturating_mul(FINDS_PER_CHUNK) <= ended.len() {
         return last_asked(chunks, from, before, marks);
     }
-    last_found(chunks, hints, from, &to, before, ended)
+    let tombstones = Stretch { from: *from, to };
+    last_found(chunks, hints, &tombstones, before, ended)
 }
 
 /// The same: the marks are asked of each tombstone.
@@ -77,20 +78,19 @@ fn last_asked<M: EndsAfter>(
 fn last_found(
     chunks: &Chunks,
     hints: &Hints,
-    from: &Place,
-    to: &Place,
+    tombstones: &Stretch,
     before: Option<OpId>,
     ended: &[OpId],
 ) -> Option<OpId>
-    requires { HidesUpTo chunks.now from.now to.now }
+    requires { HidesUpTo chunks.now tombstones.now.from tombstones.now.to }
     ensures { AreOnce (cells_of chunks.now)
         → result ≡ last_ended_of (λ id. list_any (λ e. is_same e id) ended.now) before
-        (tombstones_from chunks.now from.now) }
+        (tombstones_from chunks.now tombstones.now.from) }
 {
     let mut last = before;
-    let mut at = *from;
+    let mut at = tombstones.from;
     for id in ended {
-        if let Some(behind) = behind_id(chunks, hints, &at, to, id) {
+        if let Some(behind) = behind_id(chunks, hints, &at, &tombstones.to, id) {
             last = Some(*id);
             at = behind;
         }

@@ -1,4 +1,4 @@
-//! A place between cells.
+//! A place between cells, and the cells from one up to another.
 ghost use Rattle.std.specs.Prelude.{◌↔◌, IsTrue};
 ghost use Rattle.char_sequence.specs.Reading.{IsAhead};
 
@@ -7,6 +7,13 @@ ghost use Rattle.char_sequence.specs.Reading.{IsAhead};
 pub struct Place {
     pub chunk: usize,
     pub at: usize,
+}
+
+/// The cells from a place on, up to another one.
+#[derive(Clone, Copy, Debug)]
+pub struct Stretch {
+    pub from: Place,
+    pub to: Place,
 }
 
 impl Place {

@@ -12,8 +12,8 @@ fn try_clock(rt: &HostRuntime, counts: &[(u8, u64)]) -> Result<Option<Clock>, Fa
     Ok(Clock::from_entries(entries))
 }
 
-// In a box, so that a test which returns early drops a box: that a clock is dropped is then proved
-// once, and not at each return.
+/// In a box, so that a test which returns early drops a box: that a clock is dropped is then proved
+/// once, and not at each return.
 fn clock_of(rt: &HostRuntime, counts: &[(u8, u64)]) -> Result<Box<Clock>, Fail> {
     let clock = try_clock(rt, counts)?.ok_or("no clock")?;
     Ok(Box::new(rt.alloc(), clock)?)

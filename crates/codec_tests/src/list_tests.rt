@@ -6,7 +6,7 @@ use op_model::{Anchor, Body, CommentId, End, Mark, MarkKey, Op, Start, Url};
 use std::alloc::Global;
 use std::test::Fail;
 
-fn op(alloc: Global, counter: u64, body: Body) -> Result<Op, Fail> {
+pub(crate) fn op(alloc: Global, counter: u64, body: Body) -> Result<Op, Fail> {
     let (id, deps) = place(alloc, counter)?;
     Ok(Op {
         id,
@@ -17,7 +17,7 @@ fn op(alloc: Global, counter: u64, body: Body) -> Result<Op, Fail> {
     })
 }
 
-fn insert(alloc: Global) -> Result<Op, Fail> {
+pub(crate) fn insert(alloc: Global) -> Result<Op, Fail> {
     let body = Body::Insert {
         origin: None,
         value: 'é',
@@ -25,12 +25,12 @@ fn insert(alloc: Global) -> Result<Op, Fail> {
     op(alloc, 1, body)
 }
 
-fn remove(alloc: Global) -> Result<Op, Fail> {
+pub(crate) fn remove(alloc: Global) -> Result<Op, Fail> {
     let body = Body::Remove { target: id(1)? };
     op(alloc, 2, body)
 }
 
-fn link(alloc: Global) -> Result<Op, Fail> {
+pub(crate) fn link(alloc: Global) -> Result<Op, Fail> {
     let body = Body::AddMark {
         mark: Mark::Link(Url::new(String::from_str(alloc, "é")?).ok_or("url")?),
         start: Start::From(Anchor::Before(id(1)?)),

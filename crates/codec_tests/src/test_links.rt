@@ -19,8 +19,8 @@ pub(crate) const OPERATIONS: &str =
 pub(crate) const RUN: &str =
     "00000030 03 0001 00000029 05 00000001 0000000000000001 A 00 00 0002 00000061 00000062";
 
-// A link of a replica that has just started. In a box, so that a test which returns early drops a
-// box: that a link is dropped is then proved once, and not at each return.
+/// A link of a replica that has just started. In a box, so that a test which returns early drops a
+/// box: that a link is dropped is then proved once, and not at each return.
 pub(crate) fn started(alloc: Global, own: u8) -> Result<Box<Link>, Fail> {
     let link = Link::start(alloc, replica(own)?)?;
     Ok(Box::new(alloc, link)?)

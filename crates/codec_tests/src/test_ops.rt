@@ -23,9 +23,9 @@ pub(crate) const STRONG_TO_THE_END: &str =
 /// The first insert with the token of these tests.
 pub(crate) const WITH_TOKEN: &str = "00000033 11 00000001 0000000000000001 A 00 T 00 00000061";
 
-// The operation with this counter, which counts all before it. In a box, so that a test which
-// returns early drops a box: that an operation is dropped is then proved once, and not at each
-// return.
+/// The operation with this counter, which counts all before it. In a box, so that a test which
+/// returns early drops a box: that an operation is dropped is then proved once, and not at each
+/// return.
 fn op(alloc: Global, counter: u64, body: Body) -> Result<Box<Op>, Fail> {
     let (id, deps) = place(alloc, counter)?;
     let op = Op {

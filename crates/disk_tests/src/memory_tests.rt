@@ -9,7 +9,7 @@ use disk_trait::{Disk, DiskError, DiskFacts, Fate, FaultDisk, MemDisk};
 use std::alloc::Global;
 use std::test::Fail;
 
-// What a layer above can say of any disk, by the trait alone.
+/// What a layer above can say of any disk, by the trait alone.
 fn write_and_sync<D: Disk>(disk: &mut D, pos: u64, bytes: &[u8]) -> Result<(), DiskError>
     ensures settled { D.tells disk.old
         → OnOk result ((c : List ℕ) → D.survives disk.new c
@@ -26,7 +26,7 @@ fn write_and_sync<D: Disk>(disk: &mut D, pos: u64, bytes: &[u8]) -> Result<(), D
     Ok(())
 }
 
-// A layer above that keeps what it knows of its disk: a crash leaves what reads give.
+/// A layer above that keeps what it knows of its disk: a crash leaves what reads give.
 struct Settled<D: Disk> {
     disk: D,
     ghost settled: { D.tells disk → (c : List ℕ) → D.survives disk c → c ≡ D.content disk },
@@ -41,7 +41,7 @@ fn settle<D: Disk>(mut disk: D) -> Result<Settled<D>, D>
     }
 }
 
-// A settled page of ones, with four bytes over its end that no sync has settled.
+/// A settled page of ones, with four bytes over its end that no sync has settled.
 fn unsettled_page(alloc: Global) -> Result<MemDisk, Fail> {
     let mut disk = MemDisk::new(alloc, 3 * PAGE, 16)?;
     disk.write_at(0, &[1; PAGE])?;

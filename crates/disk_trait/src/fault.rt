@@ -8,7 +8,7 @@ ghost use Rattle.disk_trait.specs.Fault.{extended, padded, HalfWrites};
 use crate::log::{Added, Log};
 use crate::{Disk, DiskError, DiskFacts};
 
-// How many bytes are written again at once.
+/// How many bytes are written again at once.
 const PIECE: usize = 4096;
 
 /// A disk of which one call fails, over another. Its time is the number of its own calls. Any other
@@ -55,7 +55,7 @@ impl<D: Disk> FaultDisk<D> {
         disk
     }
 
-    // Counts a call down, and says whether it is the one that fails.
+    /// Counts a call down, and says whether it is the one that fails.
     fn fails_now(&mut self) -> bool
         ensures fails { IsTrue result ↔ (calls_to_fault self.old ≡ 1) }
         ensures counted { self.new.calls_to_fault ≡ self.old.calls_to_fault - 1 }
@@ -198,8 +198,8 @@ impl<D: Disk> Disk for FaultDisk<D> {
     } };
 }
 
-// Writes the first half of the bytes, and then the rest of their range again as it reads, with
-// zeros past the end, so that the whole range is unsettled.
+/// Writes the first half of the bytes, and then the rest of their range again as it reads, with
+/// zeros past the end, so that the whole range is unsettled.
 fn tear<D: Disk>(disk: &mut D, pos: u64, bytes: &[u8]) -> Result<(), DiskError>
     ensures fails { IsErr result }
     ensures half { D.tells disk.old
@@ -217,7 +217,7 @@ fn tear<D: Disk>(disk: &mut D, pos: u64, bytes: &[u8]) -> Result<(), DiskError>
     Err(DiskError::WriteFailed)
 }
 
-// Writes a range again as it reads, with zeros past the end.
+/// Writes a range again as it reads, with zeros past the end.
 fn rewrite<D: Disk>(disk: &mut D, pos: u64, len: usize) -> Result<(), DiskError>
     requires { pos + len < 2 ^ 64 }
     ensures torn { D.tells disk.old → Tears D.DiskFacts pos len disk.old disk.new }
@@ -253,7 +253,7 @@ fn rewrite_piece<D: Disk>(disk: &mut D, pos: u64, len: usize) -> Result<(), Disk
     Ok(())
 }
 
-// Reads with zeros past the end.
+/// Reads with zeros past the end.
 fn read_padded<D: Disk>(disk: &mut D, pos: u64, bytes: &mut [u8]) -> Result<(), DiskError>
     ensures read { D.tells disk.old
         → OnOk result (bytes.new ≡ padded (D.content disk.old) pos (length bytes.old)) }

@@ -122,7 +122,7 @@ impl Medium {
     }
 }
 
-// Makes a file that has the room for it the same as another.
+/// Makes a file that has the room for it the same as another.
 fn copy(file: &mut Vec<u8>, bytes: &[u8])
     requires { length bytes.now ≤ vec_capacity file.old }
     ensures same { file.new.items ≡ bytes.now }
@@ -132,7 +132,7 @@ fn copy(file: &mut Vec<u8>, bytes: &[u8])
     file.extend_from_slice(bytes).unwrap();
 }
 
-// Writes over the unsettled bytes of a file.
+/// Writes over the unsettled bytes of a file.
 fn leave(bytes: &mut Vec<u8>, settled: &[u8], ranges: &[(usize, usize)], fate: Fate)
     requires longer { length settled.now ≤ length bytes.old.items }
     requires within { All (λ range. range.0 + range.1 ≤ length bytes.old.items) ranges.now }
@@ -154,7 +154,7 @@ fn leave(bytes: &mut Vec<u8>, settled: &[u8], ranges: &[(usize, usize)], fate: F
     }
 }
 
-// Writes this byte all over the ranges.
+/// Writes this byte all over the ranges.
 fn fill(bytes: &mut [u8], ranges: &[(usize, usize)], byte: u8)
     requires { All (λ range. range.0 + range.1 ≤ length bytes.old) ranges.now }
     ensures { bytes.new ≡ filled byte ranges.now bytes.old }
@@ -164,7 +164,7 @@ fn fill(bytes: &mut [u8], ranges: &[(usize, usize)], byte: u8)
     }
 }
 
-// Writes into bytes that have the room for it.
+/// Writes into bytes that have the room for it.
 fn overwrite(file: &mut Vec<u8>, at: usize, bytes: &[u8])
     requires within { at ≤ vec_len file.old }
     requires room { at + length bytes.now ≤ vec_capacity file.old }

@@ -63,7 +63,7 @@ impl MemDisk {
         self.medium.crash(fate, grown);
     }
 
-    // Uses up a call, if there is one left.
+    /// Uses up a call, if there is one left.
     fn take_call(&mut self) -> bool
         ensures had { IsTrue result ↔ (0 < self.old.calls_left) }
         ensures calls { self.new.calls_left ≡ self.old.calls_left - 1 }
@@ -75,7 +75,7 @@ impl MemDisk {
         had
     }
 
-    // Notes what a call adds, before the call changes the file.
+    /// Notes what a call adds, before the call changes the file.
     fn note(&mut self, added: &Added)
         ensures calls { self.new.calls_left ≡ self.old.calls_left }
         ensures medium { self.new.medium ≡ self.old.medium }
@@ -86,7 +86,7 @@ impl MemDisk {
         self.log = self.log.and(&self.medium, added);
     }
 
-    // What a read of `len` bytes at `pos` answers, which uses up a call.
+    /// What a read of `len` bytes at `pos` answers, which uses up a call.
     fn answer_to_read(&mut self, pos: u64, len: usize) -> Result<(), DiskError>
         ensures past_end { IsErrOf result PastEnd ↔ (length (content_of self.old) < pos + len) }
         ensures ok { IsOk result ↔ (pos + len ≤ length (content_of self.old))
@@ -107,7 +107,7 @@ impl MemDisk {
         }
     }
 
-    // What a write of `len` bytes at `pos` answers, which uses up a call.
+    /// What a write of `len` bytes at `pos` answers, which uses up a call.
     fn answer_to_write(&mut self, pos: u64, len: usize) -> Result<(), DiskError>
         ensures past_end { IsErrOf result PastEnd ↔ (length (content_of self.old) < pos) }
         ensures ok { IsOk result ↔ (pos ≤ length (content_of self.old)) × (0 < calls_of self.old)

@@ -1,5 +1,6 @@
 -- Why an insert leaves the marks alone that end where it is.
-use Rattle.std.proofs.Common.{subst, ◌≡◌, ℕ, true, Option, List, length, None, refl, sym}
+use Rattle.std.proofs.Common.{subst, ◌≡◌, ℕ, true, List, length, None, refl, sym}
+use Rattle.op_model.specs.declared.author.Author.{Author}
 use Rattle.op_model.specs.declared.edit.Change.{Change}
 use Rattle.op_model.specs.declared.edit.Change.TheVariants.{Insert}
 use Rattle.op_model.specs.declared.edit.Edit.{Edit}
@@ -16,17 +17,17 @@ abbrev pub LiesInside : Document → Change → Type 0
 LiesInside d change = (ops : List Op) → StandsFor d ops → is_inside (length (visible ops d.number)) change ≡ true
 
 -- the defined operations of a change do so
-pub made_leave : (d : Document) (replica : ℕ) (token : Option ℕ) (counter : ℕ) (clock : List (ℕ × ℕ)) (change : Change) (found : List Op)
-    → LiesInside d change → AreMade d replica token counter clock change found → LeaveEndedMarks d counter clock change found
-made_leave d replica token counter clock change found inside made = λ ops at added stands next insert.
-    let edit : Edit = record { doc = d.number; rev = None; token = token; change = change } in
+pub made_leave : (d : Document) (author : Author) (change : Change) (found : List Op)
+    → LiesInside d change → AreMade d author change found → LeaveEndedMarks d author change found
+made_leave d author change found inside made = λ ops at added stands next insert.
+    let edit : Edit = record { doc = d.number; rev = None; token = author.token; change = change } in
     subst (λ xs. EndedMarksStay ops d.number at xs) (sym (made ops edit stands next refl refl refl))
-    (orderly_not_covered ops replica edit at added stands.characters.orderly insert (inside ops stands))
+    (orderly_not_covered ops author.replica edit at added stands.characters.orderly insert (inside ops stands))
 
 -- those of an insert do, which were made behind as many characters
-pub made_leave_at : (d : Document) (replica : ℕ) (token : Option ℕ) (counter at count : ℕ) (clock : List (ℕ × ℕ)) (text : List ℕ) (found : List Op)
-    → LiesInside d (Insert at text) → count ≡ at → AreMade d replica token counter clock (Insert count text) found
-    → LeaveEndedMarks d counter clock (Insert at text) found
-made_leave_at d replica token counter at count clock text found inside same made =
-    made_leave d replica token counter clock (Insert at text) found inside
-    (subst (λ n. AreMade d replica token counter clock (Insert n text) found) same made)
+pub made_leave_at : (d : Document) (author : Author) (at count : ℕ) (text : List ℕ) (found : List Op)
+    → LiesInside d (Insert at text) → count ≡ at → AreMade d author (Insert count text) found
+    → LeaveEndedMarks d author (Insert at text) found
+made_leave_at d author at count text found inside same made =
+    made_leave d author (Insert at text) found inside
+    (subst (λ n. AreMade d author (Insert n text) found) same made)

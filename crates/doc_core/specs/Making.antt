@@ -1,5 +1,6 @@
 -- What the operations of an edit are made from, and what they are.
-use Rattle.std.specs.Prelude.{◌≡◌, ◌<◌, ◌+◌, ℕ, Option, List, length}
+use Rattle.std.specs.Prelude.{◌≡◌, ◌<◌, ◌+◌, ℕ, List, length}
+use Rattle.op_model.specs.declared.author.Author.{Author}
 use Rattle.op_model.specs.declared.edit.Change.{Change}
 use Rattle.op_model.specs.declared.edit.Change.TheVariants.{Insert}
 use Rattle.op_model.specs.declared.edit.Edit.{Edit}
@@ -17,15 +18,16 @@ pub record AreNextNumbers (ops : List Op) (counter : ℕ) (clock : List (ℕ × 
   pub counted : counter ≡ greatest_counter ops + 1
   pub depends : clock ≡ clock_of ops
 
--- these are the defined operations of a change of the document with this token, whichever operations it stands for, where they are a replica's next ones
-abbrev pub AreMade : Document → ℕ → Option ℕ → ℕ → List (ℕ × ℕ) → Change → List Op → Type 0
-AreMade d replica token counter clock change found = (ops : List Op) (edit : Edit) → StandsFor d ops → AreNextNumbers ops counter clock
-    → edit.doc ≡ d.number → edit.token ≡ token → edit.change ≡ change → found ≡ made ops replica edit
+-- these are the defined operations of a change of the document with the author's token, whichever operations it stands for, where they are
+-- the author's next ones
+abbrev pub AreMade : Document → Author → Change → List Op → Type 0
+AreMade d author change found = (ops : List Op) (edit : Edit) → StandsFor d ops → AreNextNumbers ops author.counter author.clock.now
+    → edit.doc ≡ d.number → edit.token ≡ author.token → edit.change ≡ change → found ≡ made ops author.replica edit
 
 -- where the change is an insert, no mark that ends just before its index covers a character that these operations insert, whichever
--- operations the document stands for, where these are a replica's next ones
-abbrev pub LeaveEndedMarks : Document → ℕ → List (ℕ × ℕ) → Change → List Op → Type 0
-LeaveEndedMarks d counter clock change found = (ops : List Op) (at : ℕ) (added : List ℕ) → StandsFor d ops → AreNextNumbers ops counter clock
+-- operations the document stands for, where these are the author's next ones
+abbrev pub LeaveEndedMarks : Document → Author → Change → List Op → Type 0
+LeaveEndedMarks d author change found = (ops : List Op) (at : ℕ) (added : List ℕ) → StandsFor d ops → AreNextNumbers ops author.counter author.clock.now
     → change ≡ Insert at added → EndedMarksStay ops d.number at found
 
 -- what is known of an edit's operations is so: they are a run of inserts, or removes of these characters, or there is one alone

@@ -14,16 +14,15 @@ use crate::doc::Doc;
 use crate::made::{Made, Part};
 use crate::make_error::MakeError;
 use crate::numbering::keep_limits;
-use op_ids::{Clock, ReplicaId, Token};
-use op_model::{Body, Change, End, Mark, MarkKey, Start, numbered};
+use op_model::{Author, Body, Change, End, Mark, MarkKey, Start, numbered};
 use std::alloc::{AllocError, Global};
+use std::ops::Range;
 
 impl Doc {
     /// Makes the operation that puts a mark on the visible characters from an index up to another,
-    /// that one not: a replica's next operation, with this counter and depending on this clock. The
-    /// document stays as it is. It begins just before its first character. Strong and em end just
-    /// before the next visible one, or at the end of the text; a link and a comment end just after
-    /// their last character.
+    /// that one not: the author's next operation, with its token. The document stays as it is. It
+    /// begins just before its first character. Strong and em end just before the next visible one,
+    /// or at the end of the text; a link and a comment end just after their last character.
     ///
     /// Refuses, in this order: `Range` (5) exactly where there is no such character, `Limit` (7)
     /// exactly where the counter or the clock would pass its limit; then `Memory` (1) where a
@@ -31,31 +30,27 @@ impl Doc {
     pub fn make_mark(
         &self,
         alloc: Global,
-        replica: ReplicaId,
-        token: Option<Token>,
-        counter: u64,
-        clock: &Clock,
-        from: u32,
-        to: u32,
+        author: &Author<'_>,
+        range: Range<u32>,
         mark: &Mark,
     ) -> Result<Made, MakeError>
         ensures made { IfOk result
-            (AreMade self.now replica token counter clock.now (change.Mark from to mark.now)) }
+            (AreMade self.now author.now (change.Mark range.start range.end mark.now)) }
         ensures range { (ops : List Op) → StandsFor self.now ops → (IsErrOf result MakeError.Range
             ↔ (is_inside (length (visible ops self.now.number))
-            (change.Mark from to mark.now) ≡ false)) }
+            (change.Mark range.start range.end mark.now) ≡ false)) }
         ensures limit { (ops : List Op) → StandsFor self.now ops → (IsErrOf result MakeError.Limit
             ↔ ((is_inside (length (visible ops self.now.number))
-            (change.Mark from to mark.now) ≡ true)
-            × (keep_limits_of replica counter clock.now 1 ≡ false))) }
+            (change.Mark range.start range.end mark.now) ≡ true)
+            × (keep_limits_of author.now 1 ≡ false))) }
     {
-        if from >= to || !self.shows(to as usize) {
+        if range.start >= range.end || !self.shows(range.end as usize) {
             return Err(MakeError::Range);
         }
-        if !keep_limits(replica, counter, clock, 1) {
+        if !keep_limits(author, 1) {
             return Err(MakeError::Limit);
         }
-        Ok(self.marked(alloc, replica, token, counter, clock, from, to, mark)?)
+        Ok(self.marked(alloc, author, range, mark)?)
     }
 
     /// Makes the operation that takes a mark from the visible characters from an index up to
@@ -63,65 +58,50 @@ impl Doc {
     pub fn make_unmark(
         &self,
         alloc: Global,
-        replica: ReplicaId,
-        token: Option<Token>,
-        counter: u64,
-        clock: &Clock,
-        from: u32,
-        to: u32,
+        author: &Author<'_>,
+        range: Range<u32>,
         key: &MarkKey,
     ) -> Result<Made, MakeError>
         ensures made { IfOk result
-            (AreMade self.now replica token counter clock.now (change.Unmark from to key.now)) }
+            (AreMade self.now author.now (change.Unmark range.start range.end key.now)) }
         ensures range { (ops : List Op) → StandsFor self.now ops → (IsErrOf result MakeError.Range
             ↔ (is_inside (length (visible ops self.now.number))
-            (change.Unmark from to key.now) ≡ false)) }
+            (change.Unmark range.start range.end key.now) ≡ false)) }
         ensures limit { (ops : List Op) → StandsFor self.now ops → (IsErrOf result MakeError.Limit
             ↔ ((is_inside (length (visible ops self.now.number))
-            (change.Unmark from to key.now) ≡ true)
-            × (keep_limits_of replica counter clock.now 1 ≡ false))) }
+            (change.Unmark range.start range.end key.now) ≡ true)
+            × (keep_limits_of author.now 1 ≡ false))) }
     {
-        if from >= to || !self.shows(to as usize) {
+        if range.start >= range.end || !self.shows(range.end as usize) {
             return Err(MakeError::Range);
         }
-        if !keep_limits(replica, counter, clock, 1) {
+        if !keep_limits(author, 1) {
             return Err(MakeError::Limit);
         }
-        Ok(self.unmarked(alloc, replica, token, counter, clock, from, to, key)?)
+        Ok(self.unmarked(alloc, author, range, key)?)
     }
 
-    /// Makes the operations of a change: a replica's next operations, the first with this counter
-    /// and depending on this clock. It is refused as the call for its kind.
+    /// Makes the operations of a change: the author's next operations, each with its token. It is
+    /// refused as the call for its kind.
     pub fn make(
         &self,
         alloc: Global,
-        replica: ReplicaId,
-        token: Option<Token>,
-        counter: u64,
-        clock: &Clock,
+        author: &Author<'_>,
         change: &Change,
     ) -> Result<Made, MakeError>
-        ensures made { IfOk result (AreMade self.now replica token counter clock.now change.now) }
-        ensures not_covered { IfOk result (LeaveEndedMarks self.now counter clock.now change.now) }
+        ensures made { IfOk result (AreMade self.now author.now change.now) }
+        ensures not_covered { IfOk result (LeaveEndedMarks self.now author.now change.now) }
         ensures range { (ops : List Op) → StandsFor self.now ops → (IsErrOf result MakeError.Range
             ↔ (is_inside (length (visible ops self.now.number)) change.now ≡ false)) }
         ensures limit { (ops : List Op) → StandsFor self.now ops → (IsErrOf result MakeError.Limit
             ↔ ((is_inside (length (visible ops self.now.number)) change.now ≡ true)
-            × (keep_limits_of replica counter clock.now (size_of change.now) ≡ false))) }
+            × (keep_limits_of author.now (size_of change.now) ≡ false))) }
     {
         match change {
-            Change::Insert { at, text } => self.make_insert(
-                alloc, replica, token, counter, clock, *at, text,
-            ),
-            Change::Delete { at, count } => self.make_remove(
-                alloc, replica, token, counter, clock, *at, *count,
-            ),
-            Change::Mark { from, to, mark } => self.make_mark(
-                alloc, replica, token, counter, clock, *from, *to, mark,
-            ),
-            Change::Unmark { from, to, key } => self.make_unmark(
-                alloc, replica, token, counter, clock, *from, *to, key,
-            ),
+            Change::Insert { at, text } => self.make_insert(alloc, author, *at, text),
+            Change::Delete { at, count } => self.make_remove(alloc, author, *at, *count),
+            Change::Mark { from, to, mark } => self.make_mark(alloc, author, *from..*to, mark),
+            Change::Unmark { from, to, key } => self.make_unmark(alloc, author, *from..*to, key),
         }
     }
 
@@ -129,69 +109,54 @@ impl Doc {
     fn marked(
         &self,
         alloc: Global,
-        replica: ReplicaId,
-        token: Option<Token>,
-        counter: u64,
-        clock: &Clock,
-        from: u32,
-        to: u32,
+        author: &Author<'_>,
+        range: Range<u32>,
         mark: &Mark,
     ) -> Result<Made, AllocError>
-        requires valid { is_clock clock.now ≡ true }
-        requires limit { keep_limits_of replica counter clock.now 1 ≡ true }
+        requires valid { is_clock author.now.clock.now ≡ true }
+        requires limit { keep_limits_of author.now 1 ≡ true }
         ensures { IfOk result
-            (AreMade self.now replica token counter clock.now (change.Mark from to mark.now)) }
+            (AreMade self.now author.now (change.Mark range.start range.end mark.now)) }
     {
         let body = Body::AddMark {
             mark: mark.copy()?,
-            start: self.start(from as usize),
-            end: self.end(&mark.key(), to as usize),
+            start: self.start(range.start as usize),
+            end: self.end(&mark.key(), range.end as usize),
         };
-        self.one(alloc, replica, token, counter, clock, body)
+        self.one(alloc, author, body)
     }
 
     /// The operation that takes a mark from characters. An error is out of memory (1).
     fn unmarked(
         &self,
         alloc: Global,
-        replica: ReplicaId,
-        token: Option<Token>,
-        counter: u64,
-        clock: &Clock,
-        from: u32,
-        to: u32,
+        author: &Author<'_>,
+        range: Range<u32>,
         key: &MarkKey,
     ) -> Result<Made, AllocError>
-        requires valid { is_clock clock.now ≡ true }
-        requires limit { keep_limits_of replica counter clock.now 1 ≡ true }
+        requires valid { is_clock author.now.clock.now ≡ true }
+        requires limit { keep_limits_of author.now 1 ≡ true }
         ensures { IfOk result
-            (AreMade self.now replica token counter clock.now (change.Unmark from to key.now)) }
+            (AreMade self.now author.now (change.Unmark range.start range.end key.now)) }
     {
         let body = Body::RemoveMark {
             key: *key,
-            start: self.start(from as usize),
-            end: self.end(key, to as usize),
+            start: self.start(range.start as usize),
+            end: self.end(key, range.end as usize),
         };
-        self.one(alloc, replica, token, counter, clock, body)
+        self.one(alloc, author, body)
     }
 
     /// The one operation that does this. An error is out of memory (1).
-    fn one(
-        &self,
-        alloc: Global,
-        replica: ReplicaId,
-        token: Option<Token>,
-        counter: u64,
-        clock: &Clock,
-        body: Body,
-    ) -> Result<Made, AllocError>
-        requires valid { is_clock clock.now ≡ true }
-        requires limit { keep_limits_of replica counter clock.now 1 ≡ true }
+    fn one(&self, alloc: Global, author: &Author<'_>, body: Body) -> Result<Made, AllocError>
+        requires valid { is_clock author.now.clock.now ≡ true }
+        requires limit { keep_limits_of author.now 1 ≡ true }
         ensures { IfOk result (λ made.
-            made ≡ numbered_from replica self.now.number token counter clock.now (body ∷ [])) }
+            made ≡ numbered_from author.now.replica
+            self.now.number author.now.token author.now.counter author.now.clock.now (body ∷ [])) }
     {
         let bodies = only(alloc, body)?;
-        let ops = numbered(alloc, replica, self.doc, token, counter, clock, &bodies)?;
+        let ops = numbered(alloc, author, self.doc, &bodies)?;
         Ok(Made {
             ops,
             part: Part::One,

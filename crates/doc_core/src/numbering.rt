@@ -7,17 +7,17 @@ ghost use Rattle.doc_core.specs.Limits.{keep_limits as keep_limits_of};
 ghost use Rattle.doc_core.specs.Typing.{run_from};
 
 use fixed_numbers::limits::{MAX_COUNTER, MAX_EDIT};
-use op_ids::{Clock, OpId, ReplicaId};
-use op_model::Body;
+use op_ids::{OpId, ReplicaId};
+use op_model::{Author, Body};
 use std::alloc::{AllocError, Global};
 
-/// Whether `count` operations of a replica, the first with this counter and depending on this
-/// clock, keep the limits. Takes no memory.
-pub fn keep_limits(replica: ReplicaId, counter: u64, clock: &Clock, count: usize) -> bool
-    ensures value { result ≡ keep_limits_of replica counter clock.now count }
-    ensures rising { is_clock clock.now ≡ true }
+/// Whether the author's next `count` operations keep the limits. Takes no memory.
+pub fn keep_limits(author: &Author<'_>, count: usize) -> bool
+    ensures value { result ≡ keep_limits_of author.now count }
+    ensures rising { is_clock author.now.clock.now ≡ true }
 {
-    let has_room = clock.can_advance_by(replica, count as u64);
+    let counter = author.counter;
+    let has_room = author.clock.can_advance_by(author.replica, count as u64);
     count <= MAX_EDIT && counter > 0 && counter <= MAX_COUNTER + 1 - count as u64 && has_room
 }
 

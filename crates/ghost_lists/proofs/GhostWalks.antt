@@ -6,8 +6,13 @@ use mir.Val.{Val, vstruct, vcons, vnil}
 use types.Logic.{Logic}
 use types.Kit.{Goal, Step, step, Item, ‵, ◌$◌, move, fjoin, fpack, feq_i}
 use denote.RattleType.{RattleType, Valss}
-use denote.Steps.{nothing}
+use base.Fml.{ftrue}
+use denote.Laws.{Is}
+use denote.Param.{param}
+use denote.Steps.{nothing, owned}
+use denote.Struct.Laws.{makes}
 use denote.Struct.Struct.{Struct, within}
+use Rattle.std.specs.contracts.marker.PhantomData as Mark
 
 -- a struct by its fields alone: what it owns does not read its name
 abbrev pub plainly : List RattleType → RattleType
@@ -28,3 +33,10 @@ module _ {M : Type 1} {𝓤 : Ura M} {𝓛 : Logic 𝓤} {K : Type 0} {Γ : List
   one_made t R x u = step (λ s.
       nothing t $ move t (1 ∷ 0 ∷ []) $ fjoin t $ feq_i t (List Val) (one u ∷ []) (one u ∷ []) refl $ fjoin t $
       fpack t (Valss (R ∷ [])) (within (record { name = []; args = []; types = []; fields = R ∷ [] }) (x, tt) (one u ∷ [])) (u ∷ [], tt) $ s)
+
+module _ {M : Type 1} {𝓤 : Ura M} {𝓛 : Logic 𝓤} {K : Type 0} {Γ : List (Item 𝓤)} {G : Goal 𝓤 𝓛.H} where
+  -- a mark of a type is made, and a struct around it
+  pub marked : K → (A : RattleType) → Step K 𝓛 (‵ ((plainly (Mark.the_row (param 0 A) ∷ [])).own_val (record {}, tt) (one none ∷ [])) ∷ ‵ ftrue ∷ Γ) G Γ G
+  marked t A = step (λ s.
+      nothing t $ owned t (Mark.the_row (param 0 A)) (Is (Mark.the_row (param 0 A))) (makes (Mark.the_type (param 0 A)) tt 𝓛) (record {}) (none ∷ []) (tt, (refl, tt)) $
+      one_made t (Mark.the_row (param 0 A)) (record {}) none $ s)

@@ -1,14 +1,14 @@
 -- What each step of a commit does to the disk.
-use Rattle.std.proofs.Common.{◌≡◌, ◌≢◌, ◌↔◌, ℕ, Bool, ◌<◌, List, sym, inl, inr, Result, IfErr}
+use Rattle.std.proofs.Common.{◌≡◌, ◌≢◌, ◌↔◌, ℕ, Bool, true, ◌<◌, List, refl, sym, ap, ◌∙◌, inl, inr, Result, Ok, Err, IfErr}
 use Rattle.disk_trait.specs.Calls.{IsOneCall, IsLawful}
 use Rattle.disk_trait.specs.declared.facts.DiskFacts.{Ghosts}
 use Rattle.disk_trait.proofs.Moments.{moments_of_call}
 use Rattle.group_commit.specs.Saved.{Saved}
 use Rattle.group_commit.specs.Commit.{IsLeft}
 use Rattle.group_commit.specs.Standing.{Stands}
-use Rattle.group_commit.specs.Held.{StoreHeld}
+use Rattle.group_commit.specs.Held.{StoreHeld, gone_on, left_at}
 use Rattle.group_commit.specs.Standing.{IsPlan, IsSound}
-use Rattle.group_commit.specs.Step.{failures_in, Call, writes_of, syncs_of, error_of, IsDeviceCall, IsLeftAround}
+use Rattle.group_commit.specs.Step.{failures_in, Call, call_in, writes_of, syncs_of, error_of, IsDeviceCall, IsLeftAround, Does, MakesCall}
 use Rattle.group_commit.specs.declared.error.StoreError.{StoreError}
 use Rattle.group_commit.specs.declared.phase.Phase.{Phase}
 use Rattle.group_commit.specs.declared.phase.Phase.TheVariants.{Idle, Pages, Close, Sync1, Body, Sync2, Gate, Sync3}
@@ -50,4 +50,39 @@ module _ {D : Type 0} (facts : Ghosts D) where
             (λ c left. inr (left_of new slot' numbers fresh sound' (told.1 tells) c left));
         left = left_of new slot' numbers fresh sound';
         refused = refused;
+      })
+
+  -- the device call of a phase was made, between two sound stores
+  pub call_made : (phase : Phase) (inside old new : StoreHeld D) (slot slot' : ℕ) (numbers fresh : List ℕ) → inside ≡ old → inside.phase ≡ phase
+      → IsSound facts inside slot numbers fresh → IsSound facts new slot' numbers fresh
+      → (facts.tells new.disk ↔ facts.tells inside.disk)
+      → (facts.tells inside.disk → IsOneCall facts 0 (writes_of (call_in phase)) (syncs_of (call_in phase)) inside.disk new.disk)
+      → (facts.tells inside.disk → IsLawful facts inside.disk) → new ≡ gone_on phase inside new.disk
+      → (facts.tells inside.disk → Does {T = Phase} facts (Ok phase) (call_in phase) inside new.disk)
+      → MakesCall facts phase (Ok phase) old new
+  call_made phase inside old new slot slot' numbers fresh same at sound sound' told call lawful goes does =
+      rw (sym same) (record {
+        made = sym at;
+        went_on = goes ∙ ap (λ p. gone_on p inside new.disk) (sym at);
+        failed = tt;
+        call = device_call Phase (call_in phase) (Ok phase) inside inside new slot slot' numbers fresh refl sound sound' told call lawful tt;
+        does = does;
+      })
+
+  -- the device call of a phase failed, between two sound stores
+  pub call_failed : (phase : Phase) (e : StoreError) (inside old new : StoreHeld D) (slot slot' : ℕ) (numbers fresh : List ℕ) → inside ≡ old
+      → inside.phase ≡ phase → IsSound facts inside slot numbers fresh → IsSound facts new slot' numbers fresh
+      → (facts.tells new.disk ↔ facts.tells inside.disk)
+      → (facts.tells inside.disk → IsOneCall facts 1 (writes_of (call_in phase)) (syncs_of (call_in phase)) inside.disk new.disk)
+      → (facts.tells inside.disk → IsLawful facts inside.disk) → e ≡ error_of (call_in phase)
+      → new ≡ record inside { disk = new.disk; phase = left_at phase; failed = true }
+      → (facts.tells inside.disk → Does {T = Phase} facts (Err e) (call_in phase) inside new.disk)
+      → MakesCall facts phase (Err e) old new
+  call_failed phase e inside old new slot slot' numbers fresh same at sound sound' told call lawful refused fails does =
+      rw (sym same) (record {
+        made = tt;
+        went_on = tt;
+        failed = rw at fails;
+        call = device_call Phase (call_in phase) (Err e) inside inside new slot slot' numbers fresh refl sound sound' told call lawful refused;
+        does = does;
       })

@@ -5,14 +5,14 @@ use Rattle.std.proofs.lemmas.Bool.{le-leb, lt-ltb}
 use Rattle.std.proofs.lemmas.Bool.Decides.{nat_tests}
 use Rattle.op_model.specs.declared.op.Op.{Op}
 use Rattle.op_model.specs.Records.{stream_length}
-use Rattle.op_pieces.specs.Pieces.{Run, joined, ops_of, typed_behind}
+use Rattle.op_pieces.specs.Pieces.{Run, joined, typed_behind}
 use Rattle.change_codec.specs.declared.format.Format.{Format}
 use Rattle.change_codec.specs.declared.format.Format.TheVariants.{First, Second, Third}
 use Rattle.change_codec.proofs.Lengths.{length_spelled}
-use Rattle.piece_codec.specs.Formats.{has_runs, IsPieceOf}
+use Rattle.piece_codec.specs.Formats.{has_runs}
 use Rattle.piece_codec.specs.Spelling.{spelled_with, spelled_piece}
 use Rattle.piece_codec.specs.Stream.{spelled_pieces, ArePiecesOf, SpellsList}
-use Rattle.piece_codec.proofs.StreamLaws.{first_is_second, second_is_third, both_join, one_list}
+use Rattle.piece_codec.proofs.StreamLaws.{first_is_second, second_is_third, both_join}
 use Rattle.root_slots.specs.Root.{format_of, count_of}
 use Rattle.stream_list.specs.Streams.{SpellsShort}
 use Rattle.group_commit.specs.Moving.{moves, CanMove, SpellsAnew}

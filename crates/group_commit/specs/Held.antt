@@ -1,5 +1,6 @@
 -- A store as its callers see it, and what one step of a commit makes of it.
 use Rattle.std.specs.Prelude.{ℕ, ◌+◌, ◌-◌, Bool, true, nat_lt, List, length, if◌then◌else◌}
+use Rattle.root_slots.specs.Live.{SlotPair}
 use Rattle.group_commit.specs.Saved.{Saved}
 use Rattle.group_commit.specs.declared.phase.Phase.{Phase}
 use Rattle.group_commit.specs.declared.phase.Phase.TheVariants.{Idle, Pages, Close, Sync1, Body, Sync2, Gate, Sync3}
@@ -15,6 +16,19 @@ pub record StoreHeld (D : Type 0) : Type 0 where
   pub numbers : List ℕ
   pub stale_open : Bool
   pub failed : Bool
+
+-- a store of this disk, phase and slots, with these roots and new pages
+abbrev pub held_of : {D : Type 0} → D → Phase → SlotPair → Saved → Saved → List ℕ → Bool → StoreHeld D
+held_of disk phase slots current next numbers failed = record {
+  disk = disk;
+  phase = phase;
+  slot = slots.slot;
+  current = current;
+  next = next;
+  numbers = numbers;
+  stale_open = slots.stale_open;
+  failed = failed;
+}
 
 -- the phase behind k written pages
 abbrev pub behind_pages : ℕ → ℕ → Bool → Phase

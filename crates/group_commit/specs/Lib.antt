@@ -15,3 +15,4 @@ pub mod Planning
 pub mod Saved
 pub mod Standing
 pub mod Step
+pub mod Syncing

@@ -13,6 +13,7 @@ ghost use Rattle.group_commit.specs.Saved.{Saved, base_of};
 use crate::error::StoreError;
 use crate::phase::Phase;
 use crate::plan::{Plan, plan_next};
+use crate::planned::{Live, Records};
 use crate::root::Root;
 use crate::store::Store;
 use change_codec::Format;
@@ -20,8 +21,8 @@ use disk_trait::Disk;
 use fixed_numbers::limits::{MAX_OPERATIONS, MAX_STREAM_LENGTH, MAX_VERSION};
 use std::alloc::AllocError;
 
-// Whether there is a further version behind this root, and room for `count` more operations, whose
-// records take `bytes` bytes behind `before` others.
+/// Whether there is a further version behind this root, and room for `count` more operations, whose
+/// records take `bytes` bytes behind `before` others.
 fn has_room(root: &Root, before: u64, count: u64, bytes: u64) -> bool
     ensures { (base : Saved) → base.body ≡ root.now.body → length base.stream ≡ before
         → result ≡ has_room_for base count bytes }
@@ -31,7 +32,7 @@ fn has_room(root: &Root, before: u64, count: u64, bytes: u64) -> bool
         && before.saturating_add(bytes) <= MAX_STREAM_LENGTH
 }
 
-// Some bytes, and others behind them. An error is out of memory (1).
+/// Some bytes, and others behind them. An error is out of memory (1).
 fn joined(front: &Vec<u8>, more: &[u8]) -> Result<Vec<u8>, AllocError>
     ensures { IfOk result (λ all. all.items ≡ front.now.items ++ more.now) }
 {
@@ -51,8 +52,8 @@ impl<D: Disk> Store<D> {
         has_room(&self.current, self.current.stream_length(), count, bytes)
     }
 
-    // How many bytes a commit's records come behind: those of the live root's stream, or none where
-    // they are the `whole` stream.
+    /// How many bytes a commit's records come behind: those of the live root's stream, or none
+    /// where they are the `whole` stream.
     fn bytes_before(&self, whole: bool) -> u64
         ensures { result ≡ length (base_of whole self.now.current).stream }
     {
@@ -63,8 +64,8 @@ impl<D: Disk> Store<D> {
         }
     }
 
-    // The answer that is due of a begin with `count` more operations, whose records take `bytes`
-    // bytes and come behind the live root's stream, or are the `whole` one.
+    /// The answer that is due of a begin with `count` more operations, whose records take `bytes`
+    /// bytes and come behind the live root's stream, or are the `whole` one.
     fn answer_due(&self, whole: bool, count: u64, bytes: u64) -> Result<Option<u64>, StoreError>
         ensures { result ≡ due_on (base_of whole self.now.current) self.now count bytes }
     {
@@ -83,7 +84,7 @@ impl<D: Disk> Store<D> {
         Ok(Some(self.current.count() + count))
     }
 
-    // Whether a commit writes the whole list anew: the format of the live root has no runs.
+    /// Whether a commit writes the whole list anew: the format of the live root has no runs.
     fn moves(&self) -> bool
         ensures { result ≡ moves self.now.current }
     {
@@ -125,7 +126,7 @@ impl<D: Disk> Store<D> {
         }
     }
 
-    // The same over a live root whose list is written anew.
+    /// The same over a live root whose list is written anew.
     fn begin_anew(&mut self, records: &[u8], count: u64) -> Result<Option<u64>, StoreError>
         requires moves { moves self.old.current ≡ true }
         requires written { (ops : List Operation) × AreWritten ops count records.now }
@@ -142,8 +143,8 @@ impl<D: Disk> Store<D> {
         self.begin(true, &all, count)
     }
 
-    // Begins a commit of `count` more operations, whose records come behind the live root's stream,
-    // or are the `whole` one.
+    /// Begins a commit of `count` more operations, whose records come behind the live root's
+    /// stream, or are the `whole` one.
     fn begin(&mut self, whole: bool, records: &[u8], count: u64) -> Result<Option<u64>, StoreError>
         requires { 0 < count → is_zero records.now ≡ false }
         ensures answer { IsAnswer
@@ -157,14 +158,15 @@ impl<D: Disk> Store<D> {
         let Ok(Some(_)) = due else {
             return due;
         };
-        let (plan, next_stream) = plan_next(
-            &self.current,
-            &self.pages,
-            &self.stream,
-            whole,
-            records,
+        let live = Live {
+            root: &self.current,
+            index: &self.pages,
+        };
+        let new = Records {
+            bytes: records,
             count,
-        )?;
+        };
+        let (plan, next_stream) = plan_next(live, &self.stream, whole, new)?;
         let Plan {
             next,
             kept,

@@ -1,9 +1,8 @@
 //! Two device calls of a commit: the write of a page, and a sync.
-ghost use Rattle.std.specs.Prelude.{◌≡◌, ◌*◌, ◌≤◌, ◌↔◌, length, IfErr, OnOk, OnErr};
-ghost use Rattle.disk_trait.specs.Writing.{failures_in};
+ghost use Rattle.std.specs.Prelude.{◌≡◌, ◌*◌, ◌≤◌, length, IfErr};
 ghost use Rattle.page_file.specs.DiskCalls.{IsWrite};
-ghost use Rattle.disk_trait.specs.Calls.{IsOneCall, Settles, Keeps};
 ghost use Rattle.group_commit.specs.Paging.{CanTake, TakesPage};
+ghost use Rattle.group_commit.specs.Syncing.{IsSync};
 ghost use Rattle.group_commit.specs.declared.error.StoreError.TheVariants.{WriteFailed, SyncFailed};
 
 use crate::error::StoreError;
@@ -11,7 +10,7 @@ use disk_trait::Disk;
 use fixed_numbers::sizes::PAGE_SIZE;
 use page_file::Pages;
 
-// The bytes of a page, as an array.
+/// The bytes of a page, as an array.
 fn whole_page(bytes: &[u8]) -> &[u8; PAGE_SIZE]
     requires size { length bytes.now ≡ PAGE_SIZE }
     ensures { result.now ≡ bytes.now }
@@ -43,11 +42,7 @@ pub(crate) fn put_page<D: Disk>(
 
 /// Settles all that was written. It is refused only where the device failed (52).
 pub(crate) fn sync<D: Disk>(disk: &mut D) -> Result<(), StoreError>
-    ensures settled { D.tells disk.old → OnOk result (Settles D.DiskFacts disk.old disk.new) }
-    ensures unsettled { D.tells disk.old → OnErr result (Keeps D.DiskFacts disk.old disk.new) }
-    ensures call { D.tells disk.old
-        → IsOneCall D.DiskFacts (failures_in result) 0 1 disk.old disk.new }
-    ensures tells { D.tells disk.new ↔ D.tells disk.old }
+    ensures syncs { IsSync D.DiskFacts result disk.old disk.new }
     ensures refused { IfErr result (λ e. e ≡ SyncFailed) }
 {
     match disk.sync() {

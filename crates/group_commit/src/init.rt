@@ -2,13 +2,12 @@
 ghost use Rattle.std.specs.Prelude.{◌≡◌, ◌≤◌, ◌++◌, [], ◌∷◌, ◌↔◌, ℕ, List, length};
 ghost use Rattle.std.specs.Prelude.{IfOk, IfErr, OnOk, OnErr};
 ghost use Rattle.fixed_numbers.specs.declared.sizes.TheConstants.{BODY_LENGTH};
-ghost use Rattle.disk_trait.specs.Writing.{failures_in};
 ghost use Rattle.page_file.specs.DiskCalls.{IsWrite};
-ghost use Rattle.disk_trait.specs.Calls.{IsOneCall, Keeps, Settles};
 ghost use Rattle.disk_trait.specs.File.{overwritten};
 ghost use Rattle.root_slots.specs.Body.{root_of};
 ghost use Rattle.group_commit.specs.NewFile.{slot_page, new_file, first_root, Raises, RefusesInit, IsUntouched};
 ghost use Rattle.group_commit.specs.NewFile.{IsMade, AreFirst, IsNew, PutsPartly, OpensPartly};
+ghost use Rattle.group_commit.specs.Syncing.{IsSync};
 ghost use Rattle.group_commit.specs.declared.init_fault.InitError.TheVariants.{WriteFailed};
 ghost use Rattle.group_commit.specs.declared.init_fault.InitError.TheVariants.{SyncFailed};
 
@@ -24,10 +23,10 @@ use page_file::Pages;
 use root_slots::Roots;
 use std::alloc::{AllocError, Global};
 
-// The gate of an open slot.
+/// The gate of an open slot.
 const OPEN: [u8; 1] = [1];
 
-// The page of a slot with a closed gate and this body. An error is out of memory (1).
+/// The page of a slot with a closed gate and this body. An error is out of memory (1).
 fn closed_slot(alloc: Global, body: &[u8]) -> Result<Vec<u8>, AllocError>
     ensures { IfOk result (λ page. page.items ≡ slot_page 0 body.now) }
 {
@@ -37,7 +36,7 @@ fn closed_slot(alloc: Global, body: &[u8]) -> Result<Vec<u8>, AllocError>
     Ok(page)
 }
 
-// Whether the file has no bytes: 48 where it has some, 50 where the device failed.
+/// Whether the file has no bytes: 48 where it has some, 50 where the device failed.
 fn check_empty<D: Disk>(disk: &mut D) -> Result<(), InitError>
     ensures taken { D.tells disk.old → OnOk result (D.content disk.old ≡ []) }
     ensures empty { D.tells disk.old → OnOk result (D.content disk.new ≡ []) }
@@ -54,8 +53,8 @@ fn check_empty<D: Disk>(disk: &mut D) -> Result<(), InitError>
     }
 }
 
-// Writes bytes at an offset in the file or at its end. It is refused only where the device failed
-// (51).
+/// Writes bytes at an offset in the file or at its end. It is refused only where the device failed
+/// (51).
 fn put<D: Disk>(disk: &mut D, at: u64, bytes: &[u8]) -> Result<(), InitError>
     requires inside { D.tells disk.old → at ≤ length (D.content disk.old) }
     ensures writes { IsWrite D.DiskFacts result at bytes.now disk.old disk.new }
@@ -67,13 +66,9 @@ fn put<D: Disk>(disk: &mut D, at: u64, bytes: &[u8]) -> Result<(), InitError>
     }
 }
 
-// Settles all that was written. It is refused only where the device failed (52).
+/// Settles all that was written. It is refused only where the device failed (52).
 fn sync<D: Disk>(disk: &mut D) -> Result<(), InitError>
-    ensures settled { D.tells disk.old → OnOk result (Settles D.DiskFacts disk.old disk.new) }
-    ensures unsettled { D.tells disk.old → OnErr result (Keeps D.DiskFacts disk.old disk.new) }
-    ensures call { D.tells disk.old
-        → IsOneCall D.DiskFacts (failures_in result) 0 1 disk.old disk.new }
-    ensures tells { D.tells disk.new ↔ D.tells disk.old }
+    ensures syncs { IsSync D.DiskFacts result disk.old disk.new }
     ensures refused { IfErr result (λ e. e ≡ SyncFailed) }
 {
     match disk.sync() {
@@ -82,7 +77,7 @@ fn sync<D: Disk>(disk: &mut D) -> Result<(), InitError>
     }
 }
 
-// The two slots of a file without bytes. It is refused only where the device failed (51).
+/// The two slots of a file without bytes. It is refused only where the device failed (51).
 fn put_slots<D: Disk>(disk: &mut D, first: &[u8], second: &[u8]) -> Result<(), InitError>
     requires empty { D.tells disk.old → D.content disk.old ≡ [] }
     requires size { length first.now ≡ PAGE_SIZE }
@@ -97,7 +92,7 @@ fn put_slots<D: Disk>(disk: &mut D, first: &[u8], second: &[u8]) -> Result<(), I
     put(disk, PAGE_SIZE as u64, second)
 }
 
-// Opens the first slot's gate between two syncs: by then the slots are on the disk.
+/// Opens the first slot's gate between two syncs: by then the slots are on the disk.
 fn open_first<D: Disk>(disk: &mut D) -> Result<(), InitError>
     ensures written { D.tells disk.old → OnOk result
         (D.content disk.new ≡ overwritten (D.content disk.old) 0 (1 ∷ [])) }
@@ -113,7 +108,7 @@ fn open_first<D: Disk>(disk: &mut D) -> Result<(), InitError>
     sync(disk)
 }
 
-// The file of a new store with this body. An error is out of memory (1) or the device's.
+/// The file of a new store with this body. An error is out of memory (1) or the device's.
 fn make_file<D: Disk>(alloc: Global, disk: &mut D, body: &[u8]) -> Result<(), InitError>
     requires empty { D.tells disk.old → D.content disk.old ≡ [] }
     requires size { length body.now ≡ BODY_LENGTH }
@@ -131,8 +126,8 @@ fn make_file<D: Disk>(alloc: Global, disk: &mut D, body: &[u8]) -> Result<(), In
     open_first(disk)
 }
 
-// The two roots of a new store: the live one, and one in the place of a commit's. An error is out
-// of memory (1).
+/// The two roots of a new store: the live one, and one in the place of a commit's. An error is out
+/// of memory (1).
 fn empty_roots(alloc: Global, replica: ReplicaId) -> Result<(Root, Root, Pages), AllocError>
     ensures roots { IfOk result (λ roots. AreFirst replica roots.0 roots.1 roots.2) }
 {
@@ -142,7 +137,7 @@ fn empty_roots(alloc: Global, replica: ReplicaId) -> Result<(Root, Root, Pages),
     Ok((current, next, pages))
 }
 
-// Makes the file of a disk without bytes, and gives the roots of its store.
+/// Makes the file of a disk without bytes, and gives the roots of its store.
 fn format<D: Disk>(
     alloc: Global,
     disk: &mut D,
@@ -165,7 +160,7 @@ fn format<D: Disk>(
     }
 }
 
-// Tests the size, and makes the file.
+/// Tests the size, and makes the file.
 fn begin_file<D: Disk>(
     alloc: Global,
     disk: &mut D,

@@ -18,6 +18,7 @@ mod open_fault;
 mod opening_sync;
 mod phase;
 mod plan;
+mod planned;
 mod root;
 mod state;
 mod step;

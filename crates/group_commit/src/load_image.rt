@@ -41,9 +41,9 @@ pub(crate) struct Image {
     pub anew: Vec<u8>,
 }
 
-// The root slots of a file, and its live root. 42 where it has fewer than 8,192 bytes or no open
-// slot; 43 where two are open with equal versions, or the live one holds no root body; 50 where the
-// device failed, 1 when out of memory.
+/// The root slots of a file, and its live root. 42 where it has fewer than 8,192 bytes or no open
+/// slot; 43 where two are open with equal versions, or the live one holds no root body; 50 where
+/// the device failed, 1 when out of memory.
 fn load_roots<D: Disk>(alloc: Global, disk: &mut D) -> Result<LoadedRoots, OpenError>
     ensures size { D.tells disk.old
         → IfOk result (λ it. it.file_size ≡ length (D.content disk.old)) }
@@ -61,8 +61,8 @@ fn load_roots<D: Disk>(alloc: Global, disk: &mut D) -> Result<LoadedRoots, OpenE
     }
 }
 
-// The two roots of a store that was opened: the live one, and one whose place the next commit
-// takes.
+/// The two roots of a store that was opened: the live one, and one whose place the next commit
+/// takes.
 fn root_pair(
     alloc: Global,
     head: RootBody,
@@ -79,7 +79,7 @@ fn root_pair(
     Ok((current, Root::empty(alloc, replica)?))
 }
 
-// The same, with the data pages of an index.
+/// The same, with the data pages of an index.
 fn roots_on(alloc: Global, head: RootBody, pages: &Pages) -> Result<(Root, Root), AllocError>
     requires { IsInMemory head pages.now.data_pages }
     ensures pages { IfOk result (λ it. it.0.pages ≡ head.tables ++ pages.now.data_pages) }
@@ -91,8 +91,8 @@ fn roots_on(alloc: Global, head: RootBody, pages: &Pages) -> Result<(Root, Root)
     root_pair(alloc, head, Written::new().and(data_pages))
 }
 
-// The records of operations in the newest format, where theirs has no runs; else nothing. An error
-// is out of memory (1).
+/// The records of operations in the newest format, where theirs has no runs; else nothing. An error
+/// is out of memory (1).
 fn spelled_anew(alloc: Global, format: Format, ops: &OpList) -> Result<Vec<u8>, AllocError>
     ensures spells { IfOk result (λ anew. has_runs format ≡ false
         → SpellsList newest ops.now anew.items) }

@@ -20,8 +20,8 @@ pub(crate) struct Stream {
     pub bytes: Vec<u8>,
 }
 
-// The pages of a root. 43 where a table page isn't whole in the file, 45 where the table pages
-// break their rules, 50 where a read failed, 1 when out of memory.
+/// The pages of a root. 43 where a table page isn't whole in the file, 45 where the table pages
+/// break their rules, 50 where a read failed, 1 when out of memory.
 fn read_tables<D: Disk>(
     alloc: Global,
     disk: &mut D,
@@ -49,8 +49,8 @@ fn read_tables<D: Disk>(
     }
 }
 
-// The stream of this length that these data pages hold. 45 where one isn't whole in the file, 46
-// where the rest of the last one isn't zero, 50 where a read failed, 1 when out of memory.
+/// The stream of this length that these data pages hold. 45 where one isn't whole in the file, 46
+/// where the rest of the last one isn't zero, 50 where a read failed, 1 when out of memory.
 fn read_data<D: Disk>(
     alloc: Global,
     disk: &mut D,

@@ -11,7 +11,7 @@ ghost use Rattle.group_commit.specs.Saved.{HasDataPages, IsEmptied, with_stream}
 use change_codec::Format;
 use ghost_lists::Written;
 use op_ids::ReplicaId;
-use root_slots::RootBody;
+use root_slots::{RootBody, RootHead};
 use std::alloc::{AllocError, Global};
 use std::marker::Model;
 
@@ -82,7 +82,14 @@ impl Root {
           tables = [];
         }) }
     {
-        match RootBody::new(Format::Third, 1, replica, 0, 0, Vec::new(alloc)) {
+        let head = RootHead {
+            format: Format::Third,
+            version: 1,
+            replica,
+            stream_length: 0,
+            operations: 0,
+        };
+        match RootBody::new(head, Vec::new(alloc)) {
             Some(head) => Root::new(alloc, head, Written::new()),
             None => unreachable!(),
         }
@@ -96,14 +103,14 @@ impl Root {
     {
         let alloc = self.allocator();
         let none = Vec::new(alloc);
-        match RootBody::new(
-            Format::Third,
-            self.version(),
-            self.replica(),
-            0,
-            self.count(),
-            none,
-        ) {
+        let head = RootHead {
+            format: Format::Third,
+            version: self.version(),
+            replica: self.replica(),
+            stream_length: 0,
+            operations: self.count(),
+        };
+        match RootBody::new(head, none) {
             Some(head) => {
                 let empty = Root::new(alloc, head, Written::new())?;
                 Ok(empty)

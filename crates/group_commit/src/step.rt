@@ -14,7 +14,7 @@ use disk_trait::Disk;
 use fixed_numbers::sizes::{PAGE_SIZE, TABLE_ENTRIES};
 use std::mem::swap;
 
-// The phase behind `written` pages of `pages`.
+/// The phase behind `written` pages of `pages`.
 fn behind(written: usize, pages: usize, stale_open: bool) -> Phase
     ensures { result ≡ behind_pages written pages stale_open }
 {
@@ -27,7 +27,7 @@ fn behind(written: usize, pages: usize, stale_open: bool) -> Phase
     }
 }
 
-// The k-th of these numbers.
+/// The k-th of these numbers.
 fn number_at(numbers: &[u32], k: usize) -> u32
     requires within { k < length numbers.now }
     ensures { result ≡ get_or numbers.now k 0 }
@@ -35,7 +35,7 @@ fn number_at(numbers: &[u32], k: usize) -> u32
     numbers[k]
 }
 
-// The bytes of the k-th of these pages.
+/// The bytes of the k-th of these pages.
 fn bytes_at(pages: &[u8], k: usize) -> &[u8]
     requires within { PAGE_SIZE * k + PAGE_SIZE ≤ length pages.now }
     ensures bytes { result.now ≡ part pages.now (PAGE_SIZE * k) PAGE_SIZE }
@@ -45,7 +45,7 @@ fn bytes_at(pages: &[u8], k: usize) -> &[u8]
 }
 
 impl<D: Disk> Store<D> {
-    // The write of the k-th new page.
+    /// The write of the k-th new page.
     fn page(&mut self, k: usize) -> Result<Phase, StoreError>
         requires phase { self.old.phase ≡ Pages k }
         requires works { self.old.failed ≡ false }
@@ -64,8 +64,8 @@ impl<D: Disk> Store<D> {
         Ok(Phase::Pages(k))
     }
 
-    // The write of 0 into the stale gate. It may be torn, so the commit goes on behind it in any
-    // case.
+    /// The write of 0 into the stale gate. It may be torn, so the commit goes on behind it in any
+    /// case.
     fn close(&mut self) -> Result<Phase, StoreError>
         requires phase { self.old.phase ≡ Close }
         requires works { self.old.failed ≡ false }
@@ -79,7 +79,7 @@ impl<D: Disk> Store<D> {
         Ok(Phase::Close)
     }
 
-    // The sync of the new pages and the closed gate.
+    /// The sync of the new pages and the closed gate.
     fn sync1(&mut self) -> Result<Phase, StoreError>
         requires phase { self.old.phase ≡ Sync1 }
         requires works { self.old.failed ≡ false }
@@ -93,7 +93,7 @@ impl<D: Disk> Store<D> {
         Ok(Phase::Sync1)
     }
 
-    // The write of the new root's body into the stale slot.
+    /// The write of the new root's body into the stale slot.
     fn body(&mut self) -> Result<Phase, StoreError>
         requires phase { self.old.phase ≡ Body }
         requires works { self.old.failed ≡ false }
@@ -107,7 +107,7 @@ impl<D: Disk> Store<D> {
         Ok(Phase::Body)
     }
 
-    // The sync of that body.
+    /// The sync of that body.
     fn sync2(&mut self) -> Result<Phase, StoreError>
         requires phase { self.old.phase ≡ Sync2 }
         requires works { self.old.failed ≡ false }
@@ -121,7 +121,7 @@ impl<D: Disk> Store<D> {
         Ok(Phase::Sync2)
     }
 
-    // The write of 1 into that slot's gate. From here on a crash may leave either root.
+    /// The write of 1 into that slot's gate. From here on a crash may leave either root.
     fn gate(&mut self) -> Result<Phase, StoreError>
         requires phase { self.old.phase ≡ Gate }
         requires works { self.old.failed ≡ false }
@@ -135,7 +135,7 @@ impl<D: Disk> Store<D> {
         Ok(Phase::Gate)
     }
 
-    // The sync of the gate. The slots change places.
+    /// The sync of the gate. The slots change places.
     fn sync3(&mut self) -> Result<Phase, StoreError>
         requires phase { self.old.phase ≡ Sync3 }
         requires works { self.old.failed ≡ false }

@@ -1,5 +1,5 @@
 //! A store over a disk.
-ghost use Rattle.group_commit.specs.Held.{StoreHeld};
+ghost use Rattle.group_commit.specs.Held.{StoreHeld, held_of};
 ghost use Rattle.group_commit.specs.Standing.{IsSound, HasStreams};
 ghost use Rattle.group_commit.specs.Paging.{IsPaging};
 ghost use Rattle.group_commit.specs.Saved.{with_stream};
@@ -42,27 +42,12 @@ pub struct Store<D: Disk> {
 impl<D: Disk> Model for Store<D> {
     ghost Value = { StoreHeld D };
 
-    ghost view = { λ s. record {
-      disk = s.disk;
-      phase = s.phase;
-      slot = s.roots.slot;
-      current = with_stream s.current s.stream;
-      next = with_stream s.next s.next_stream;
-      numbers = s.numbers.items;
-      stale_open = s.roots.stale_open;
-      failed = s.failed;
-    } };
+    ghost view = { λ s. held_of s.disk s.phase s.roots (with_stream s.current s.stream)
+        (with_stream s.next s.next_stream) s.numbers.items s.failed };
 
-    ghost invariant = { λ s. IsSound D.DiskFacts (record {
-      disk = s.disk;
-      phase = s.phase;
-      slot = s.roots.slot;
-      current = with_stream s.current s.stream;
-      next = with_stream s.next s.next_stream;
-      numbers = s.numbers.items;
-      stale_open = s.roots.stale_open;
-      failed = s.failed;
-    }) s.roots.slot s.numbers.items s.fresh.items
+    ghost invariant = { λ s. IsSound D.DiskFacts (held_of s.disk s.phase s.roots
+        (with_stream s.current s.stream) (with_stream s.next s.next_stream) s.numbers.items
+        s.failed) s.roots.slot s.numbers.items s.fresh.items
         × HasStreams s.current s.next s.stream s.next_stream s.anew.items
         × IsPaging s.phase s.failed s.numbers.items s.kept s.new_data s.current s.next s.pages };
 }

@@ -57,8 +57,8 @@ impl StreamTail {
     }
 }
 
-// The bytes behind the full pages of these two, one behind the other. An error is out of memory
-// (1).
+/// The bytes behind the full pages of these two, one behind the other. An error is out of memory
+/// (1).
 fn next_tail(alloc: Global, tail: &[u8], more: &[u8]) -> Result<Vec<u8>, AllocError>
     requires { length tail.now < PAGE_SIZE }
     ensures { IfOk result (λ next. next.items ≡ tail_of (tail.now ++ more.now)) }

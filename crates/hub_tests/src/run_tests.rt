@@ -9,18 +9,18 @@ use std::alloc::Global;
 use std::process::Abort;
 use std::test::Fail;
 
-// An insert of one character into document 1, as a call.
+/// An insert of one character into document 1, as a call.
 fn insert_step(alloc: Global, at: u32, value: char) -> Result<HubStep, Fail> {
     let edit = insert(alloc, at, value)?;
     Ok(HubStep::Edit { session: 1, edit })
 }
 
-// Makes the calls, and gives what they answer.
+/// Makes the calls, and gives what they answer.
 fn made(alloc: Global, hub: &mut Hub<MemDisk>, steps: &[HubStep]) -> Result<Vec<HubReply>, Fail> {
     Ok(run(alloc, hub, steps)?)
 }
 
-// An edit, and a commit with `calls` device calls.
+/// An edit, and a commit with `calls` device calls.
 fn commit(alloc: Global, edit: HubStep, calls: usize) -> Result<Vec<HubStep>, Fail> {
     let mut steps = Vec::new(alloc);
     steps.push(edit)?;
@@ -31,12 +31,12 @@ fn commit(alloc: Global, edit: HubStep, calls: usize) -> Result<Vec<HubStep>, Fa
     Ok(steps)
 }
 
-// An insert, and a commit with `calls` device calls.
+/// An insert, and a commit with `calls` device calls.
 fn commit_of(alloc: Global, at: u32, value: char, calls: usize) -> Result<Vec<HubStep>, Fail> {
     commit(alloc, insert_step(alloc, at, value)?, calls)
 }
 
-// The phases of the device calls that were answered.
+/// The phases of the device calls that were answered.
 fn phases(alloc: Global, replies: &[HubReply]) -> Result<Vec<Phase>, Fail> {
     let mut found = Vec::new(alloc);
     for reply in replies {
@@ -47,12 +47,12 @@ fn phases(alloc: Global, replies: &[HubReply]) -> Result<Vec<Phase>, Fail> {
     Ok(found)
 }
 
-// Whether the device calls that were answered are those of these phases.
+/// Whether the device calls that were answered are those of these phases.
 fn has_phases(alloc: Global, replies: &[HubReply], wanted: &[Phase]) -> Result<bool, Fail> {
     Ok(phases(alloc, replies)?.as_slice() == wanted)
 }
 
-// A hub with "a" settled.
+/// A hub with "a" settled.
 fn with_first(alloc: Global) -> Result<Box<Hub<MemDisk>>, Fail> {
     let mut hub = peer(alloc, 1)?;
     let mut steps = commit_of(alloc, 0, 'a', 7)?;
@@ -61,7 +61,7 @@ fn with_first(alloc: Global) -> Result<Box<Hub<MemDisk>>, Fail> {
     Ok(hub)
 }
 
-// The hub that a crash leaves.
+/// The hub that a crash leaves.
 fn crashed(
     alloc: Global,
     hub: Box<Hub<MemDisk>>,
@@ -73,7 +73,7 @@ fn crashed(
     open(alloc, disk)
 }
 
-// An insert, a whole commit and one device step more, its settlement and its acknowledgement.
+/// An insert, a whole commit and one device step more, its settlement and its acknowledgement.
 fn first_commit(alloc: Global) -> Result<Vec<HubStep>, Fail> {
     let mut steps = commit_of(alloc, 0, 'a', 8)?;
     steps.push(HubStep::Settle)?;
@@ -126,7 +126,7 @@ fn a_second_commit_closes_the_other_gate_first(rt: HostRuntime) -> Result<(), Fa
     Ok(())
 }
 
-// A hub behind a crash in the gate write of its second commit, which left a byte 7 there.
+/// A hub behind a crash in the gate write of its second commit, which left a byte 7 there.
 fn with_torn_gate(alloc: Global) -> Result<Box<Hub<MemDisk>>, Fail> {
     let mut hub = with_first(alloc)?;
     made(alloc, &mut hub, &commit_of(alloc, 1, 'b', 7)?)?;
@@ -144,13 +144,13 @@ fn a_torn_gate_is_not_closed(rt: HostRuntime) -> Result<(), Fail> {
     Ok(())
 }
 
-// The edit of this number, as a call.
+/// The edit of this number, as a call.
 fn edit_step(alloc: Global, number: usize) -> Result<HubStep, Fail> {
     let edit = edit_of(alloc, number)?;
     Ok(HubStep::Edit { session: 1, edit })
 }
 
-// A hub with the edits below this number settled.
+/// A hub with the edits below this number settled.
 fn with_settled(alloc: Global, edits: usize) -> Result<Box<Hub<MemDisk>>, Fail> {
     let mut hub = peer(alloc, 1)?;
     for number in 0..edits {
@@ -161,8 +161,8 @@ fn with_settled(alloc: Global, edits: usize) -> Result<Box<Hub<MemDisk>>, Fail> 
     Ok(hub)
 }
 
-// How many operations a crash leaves of the commit of this number that is stopped behind `calls`
-// device calls.
+/// How many operations a crash leaves of the commit of this number that is stopped behind `calls`
+/// device calls.
 fn left_behind(
     alloc: Global,
     number: usize,
@@ -206,7 +206,7 @@ fn a_stop_leaves_the_settled_list_or_the_commits(rt: HostRuntime) -> Result<(), 
     Ok(())
 }
 
-// What a hub with one operation tells a hub with none, as merges, each of them twice.
+/// What a hub with one operation tells a hub with none, as merges, each of them twice.
 fn told_twice(alloc: Global, clock: &Clock) -> Result<Vec<HubStep>, Fail> {
     let mut hub = with_first(alloc)?;
     let mut merges = Vec::new(alloc);

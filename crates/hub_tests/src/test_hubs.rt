@@ -8,13 +8,13 @@ use std::alloc::Global;
 use std::num::NonZeroU32;
 use std::test::Fail;
 
-// The replica whose last byte is this.
+/// The replica whose last byte is this.
 pub(crate) fn replica(last: u8) -> Result<ReplicaId, Fail> {
     let bytes = [0, 0, 0, 0, 0, 0, 0x40, 0, 0x80, 0, 0, 0, 0, 0, 0, last];
     Ok(ReplicaId::read(bytes).ok_or("nil")?)
 }
 
-// A disk with the store of a new replica, for a file of `room` bytes and `calls` calls.
+/// A disk with the store of a new replica, for a file of `room` bytes and `calls` calls.
 pub(crate) fn new_disk(
     alloc: Global,
     last: u8,
@@ -28,8 +28,8 @@ pub(crate) fn new_disk(
     }
 }
 
-// The hub of a disk. It is boxed, so that a test which returns early drops a box: that a hub is
-// dropped is then proved once, and not at each return.
+/// The hub of a disk. It is boxed, so that a test which returns early drops a box: that a hub is
+/// dropped is then proved once, and not at each return.
 pub(crate) fn open<D: Disk + Drop>(alloc: Global, disk: D) -> Result<Box<Hub<D>>, Fail> {
     match Hub::open(alloc, disk) {
         Ok(hub) => Ok(Box::new(alloc, hub)?),
@@ -37,19 +37,19 @@ pub(crate) fn open<D: Disk + Drop>(alloc: Global, disk: D) -> Result<Box<Hub<D>>
     }
 }
 
-// The hub of a new replica, with a disk for a few small commits.
+/// The hub of a new replica, with a disk for a few small commits.
 pub(crate) fn peer(alloc: Global, last: u8) -> Result<Box<Hub<MemDisk>>, Fail> {
     open(alloc, new_disk(alloc, last, 65_536, 1_024)?)
 }
 
-// The insert of one character into document 1.
+/// The insert of one character into document 1.
 pub(crate) fn insert(alloc: Global, at: u32, value: char) -> Result<Edit, Fail> {
     let mut text = Vec::new(alloc);
     text.push(value)?;
     typed(at, text)
 }
 
-// The insert of these characters into document 1.
+/// The insert of these characters into document 1.
 pub(crate) fn typed(at: u32, text: Vec<char>) -> Result<Edit, Fail> {
     let text = EditText::new(text).ok_or("a text")?;
     Ok(Edit {
@@ -60,7 +60,7 @@ pub(crate) fn typed(at: u32, text: Vec<char>) -> Result<Edit, Fail> {
     })
 }
 
-// Three edits that are made one after the other, each of one operation: "a", then "ab", then "b".
+/// Three edits that are made one after the other, each of one operation: "a", then "ab", then "b".
 pub(crate) fn edit_of(alloc: Global, number: usize) -> Result<Edit, Fail> {
     if number < 2 {
         let value = if number == 0 { 'a' } else { 'b' };
@@ -75,7 +75,7 @@ pub(crate) fn edit_of(alloc: Global, number: usize) -> Result<Edit, Fail> {
     })
 }
 
-// Makes the device calls of a commit.
+/// Makes the device calls of a commit.
 fn make_calls(hub: &mut Hub<MemDisk>) -> Result<(), Fail> {
     for _ in 0..1_000 {
         match hub.device_step() {
@@ -87,7 +87,7 @@ fn make_calls(hub: &mut Hub<MemDisk>) -> Result<(), Fail> {
     Err("no end".into())
 }
 
-// Commits all that a hub has, where something isn't settled.
+/// Commits all that a hub has, where something isn't settled.
 pub(crate) fn commit(hub: &mut Hub<MemDisk>) -> Result<(), Fail> {
     match hub.begin() {
         Ok(Some(_)) => make_calls(hub)?,
@@ -100,8 +100,8 @@ pub(crate) fn commit(hub: &mut Hub<MemDisk>) -> Result<(), Fail> {
     Ok(())
 }
 
-// What one hub has settled and another one doesn't count is merged there, 64 operations at most.
-// Gives how many.
+/// What one hub has settled and another one doesn't count is merged there, 64 operations at most.
+/// Gives how many.
 pub(crate) fn merge(from: &mut Hub<MemDisk>, to: &mut Hub<MemDisk>) -> Result<usize, Fail> {
     commit(from)?;
     let ops = match from.tell(to.clock()) {

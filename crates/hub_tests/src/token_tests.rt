@@ -8,7 +8,7 @@ use replica_core::Ticket;
 use std::alloc::Global;
 use std::test::Fail;
 
-// The insert of one character at the beginning of document 1, under the token with this last byte.
+/// The insert of one character at the beginning of document 1, under the token with this last byte.
 fn named(alloc: Global, value: char, last: u8) -> Result<Edit, Fail> {
     let bytes = [0, 0, 0, 0, 0, 0, 0, 0, 0, 0, 0, 0, 0, 0, 0, last];
     let mut edit = insert(alloc, 0, value)?;
@@ -16,7 +16,7 @@ fn named(alloc: Global, value: char, last: u8) -> Result<Edit, Fail> {
     Ok(edit)
 }
 
-// The ticket of an edit that a hub makes, or has made.
+/// The ticket of an edit that a hub makes, or has made.
 fn ticket(hub: &mut Hub<MemDisk>, edit: &Edit) -> Result<Ticket, Fail> {
     match hub.edit(1, edit) {
         Ok(ticket) => Ok(ticket),
@@ -24,7 +24,7 @@ fn ticket(hub: &mut Hub<MemDisk>, edit: &Edit) -> Result<Ticket, Fail> {
     }
 }
 
-// A ticket of an edit that was made before.
+/// A ticket of an edit that was made before.
 fn known(end: usize, rev: usize) -> Ticket {
     Ticket {
         end,

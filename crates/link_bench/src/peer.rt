@@ -109,7 +109,7 @@ impl Peer {
         Some(())
     }
 
-    // Says the first settled operations that the other end lacks.
+    /// Says the first settled operations that the other end lacks.
     fn say_ops(&mut self) -> Option<()> {
         let ops = self.hub.tell(self.link.base()).ok()?;
         if ops.is_empty() {
@@ -135,7 +135,7 @@ impl Peer {
         Some(())
     }
 
-    // Takes the frames that wait, of which a piece of `most` bytes ends at most `most`.
+    /// Takes the frames that wait, of which a piece of `most` bytes ends at most `most`.
     fn hear_frames(&mut self, most: usize) -> Option<()> {
         for _ in 0..most {
             match self.link.next() {
@@ -146,7 +146,7 @@ impl Peer {
         Some(())
     }
 
-    // Merges the operations of a frame, if it has any.
+    /// Merges the operations of a frame, if it has any.
     fn take_in(&mut self, heard: Heard) -> Option<()> {
         match heard {
             Heard::Ops(ops) => self.merge_all(ops),
@@ -155,7 +155,7 @@ impl Peer {
         }
     }
 
-    // Merges the operations of a frame. None of them is early: they come in the order of a list.
+    /// Merges the operations of a frame. None of them is early: they come in the order of a list.
     fn merge_all(&mut self, ops: Ops) -> Option<()> {
         let pieces = ops.into_vec();
         let alloc = *pieces.allocator();

@@ -15,8 +15,9 @@ use std::marker::Model;
 
 /// What the writing thread of a link remembers: the clock of the last HAVE that it said, if it said
 /// one.
-#[derive(Debug, Drop)]
+#[derive(Drop)]
 pub struct Speaker {
+    alloc: Global,
     said: Option<Clock>,
 }
 
@@ -30,10 +31,10 @@ impl Model for Speaker {
 
 impl Speaker {
     /// One that has said no HAVE.
-    pub fn new() -> Speaker
+    pub fn new(alloc: Global) -> Speaker
         ensures { result ≡ None }
     {
-        Speaker { said: None }
+        Speaker { alloc, said: None }
     }
 
     /// Says once what is due, and writes it: a HAVE of the peer's clock, where that is asked for or
@@ -46,7 +47,6 @@ impl Speaker {
     /// the last one that was said. Six calls of peer and line at most, beside the writing.
     pub fn speak<P: Peer, L: Line, W: Write>(
         &mut self,
-        alloc: Global,
         peer: &mut P,
         line: &mut L,
         writer: &mut W,
@@ -60,7 +60,7 @@ impl Speaker {
             (W.contents writer.old) (W.contents writer.new)) }
     {
         self.speak_have(peer, line, is_have_due)?;
-        let has_told = speak_ops(alloc, peer, line)?;
+        let has_told = speak_ops(self.alloc, peer, line)?;
         match write_out(line, writer) {
             Ok(_) => Ok(has_told),
             Err(error) => Err(SpeakError::Stream(error)),

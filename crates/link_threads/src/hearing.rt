@@ -1,6 +1,7 @@
 //! The thread of a link that hears.
 
 use crate::link_end::{LinkEnd, Said};
+use crate::link_host::LinkHost;
 use crate::link_log::LinkLog;
 use crate::over::Over;
 use crate::patience::Patience;
@@ -74,19 +75,16 @@ pub(crate) struct Hearing<'a, R: Wait + Clock, J: BookNames, C: Checkpoint> {
 impl<'a, R: Wait + Clock, J: BookNames, C: Checkpoint> Hearing<'a, R, J, C> {
     /// One that has heard nothing so far.
     pub fn new(
-        rt: &'a R,
-        shared: &'a Shared<J>,
+        host: &'a LinkHost<'a, R, J, C>,
         end: &'a LinkEnd,
-        checkpoint: &'a C,
         pass: &'a mut Pass<J>,
         notes: Producer<u8>,
-        log: LinkLog<'a>,
     ) -> Hearing<'a, R, J, C> {
         Hearing {
-            rt,
-            shared,
+            rt: host.rt,
+            shared: host.shared,
             end,
-            checkpoint,
+            checkpoint: host.checkpoint,
             pass,
             notes,
             is_due: false,
@@ -96,7 +94,7 @@ impl<'a, R: Wait + Clock, J: BookNames, C: Checkpoint> Hearing<'a, R, J, C> {
             patience: Patience::new(),
             is_out_of_steps: false,
             over: Over::Closed,
-            log,
+            log: host.log,
         }
     }
 

@@ -6,6 +6,7 @@
 
 mod hearing;
 mod link_end;
+mod link_host;
 mod link_log;
 mod link_thread;
 mod locked_line;
@@ -15,5 +16,6 @@ mod shared_peer;
 mod telling;
 mod told;
 
+pub use link_host::LinkHost;
 pub use link_log::LinkLog;
 pub use link_thread::{Parted, serve_link};

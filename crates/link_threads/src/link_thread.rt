@@ -2,14 +2,12 @@
 
 use crate::hearing::Hearing;
 use crate::link_end::LinkEnd;
-use crate::link_log::LinkLog;
+use crate::link_host::LinkHost;
 use crate::over::Over;
 use crate::telling::Telling;
-use op_ids::ReplicaId;
 use pass_books::{BookNames, Pass};
 use rtrb::{Consumer, Producer, RingBuffer};
-use shared_hub::{Checkpoint, Shared};
-use std::alloc::Global;
+use shared_hub::Checkpoint;
 use std::net::{Shutdown, TcpStream};
 use std::rt::Clock;
 use std::sync::Wait;
@@ -45,41 +43,21 @@ pub fn serve_link<
     R: Wait + Clock + Threads + Sync,
     J: BookNames + Send + Sync,
     C: Checkpoint + Sync,
->(
-    rt: &R,
-    alloc: Global,
-    own: ReplicaId,
-    shared: &Shared<J>,
-    pass: &mut Pass<J>,
-    stream: &TcpStream,
-    checkpoint: &C,
-    log: LinkLog<'_>,
-) -> Parted {
-    if shared.are_links_over(rt) {
+>(host: &LinkHost<'_, R, J, C>, pass: &mut Pass<J>, stream: &TcpStream) -> Parted {
+    if host.shared.are_links_over(host.rt) {
         return Parted::AT_ONCE;
     }
-    let Ok(end) = LinkEnd::start(alloc, own) else {
-        log.ended(rt, alloc, Over::NoMemory);
+    let Ok(end) = LinkEnd::start(host.alloc, host.own) else {
+        host.log.ended(host.rt, host.alloc, Over::NoMemory);
         return Parted::AT_ONCE;
     };
-    let Ok((producer, consumer)) = RingBuffer::new(alloc, NOTES) else {
-        log.ended(rt, alloc, Over::NoMemory);
+    let Ok(notes) = RingBuffer::new(host.alloc, NOTES) else {
+        host.log.ended(host.rt, host.alloc, Over::NoMemory);
         return Parted::AT_ONCE;
     };
-    let parted = hear_and_tell(
-        rt,
-        alloc,
-        own,
-        shared,
-        &end,
-        pass,
-        (producer, consumer),
-        stream,
-        checkpoint,
-        log,
-    );
+    let parted = hear_and_tell(host, &end, pass, notes, stream);
     Parted {
-        was_of_use: parted.was_of_use || end.was_taken(rt),
+        was_of_use: parted.was_of_use || end.was_taken(host.rt),
         is_out_of_steps: parted.is_out_of_steps,
     }
 }
@@ -92,25 +70,24 @@ fn hear_and_tell<
     J: BookNames + Send + Sync,
     C: Checkpoint + Sync,
 >(
-    rt: &'a R,
-    alloc: Global,
-    own: ReplicaId,
-    shared: &'a Shared<J>,
+    host: &'a LinkHost<'a, R, J, C>,
     end: &'a LinkEnd,
     pass: &'a mut Pass<J>,
     (producer, consumer): (Producer<u8>, Consumer<u8>),
     stream: &'a TcpStream,
-    checkpoint: &'a C,
-    log: LinkLog<'a>,
 ) -> Parted {
+    let rt = host.rt;
+    let alloc = host.alloc;
+    let own = host.own;
+    let shared = host.shared;
     let link = pass.number();
-    let mut hearing = Hearing::new(rt, shared, end, checkpoint, pass, producer, log);
-    let telling = Telling::new(rt, shared, end, link, consumer);
+    let mut hearing = Hearing::new(&*host, end, pass, producer);
+    let telling = Telling::new(&*host, end, link, consumer);
     thread::scope(thread::scope_env(), rt, |scope| {
         let mut telling = telling;
         let told = scope.spawn(move || {
             let mut writer = stream;
-            telling.run(alloc, &mut writer);
+            telling.run(&mut writer);
             end.end(rt);
             let _ = stream.shutdown(Shutdown::Both);
         });
@@ -122,7 +99,7 @@ fn hear_and_tell<
         shared.call(rt, link);
     });
     shared.forget_peer(rt, link);
-    log.ended(rt, alloc, hearing.over);
+    host.log.ended(rt, alloc, hearing.over);
     Parted {
         was_of_use: hearing.has_taken,
         is_out_of_steps: hearing.is_out_of_steps,

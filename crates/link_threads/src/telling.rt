@@ -1,13 +1,13 @@
 //! The thread of a link that tells, over a `Line` under the lock.
 
 use crate::link_end::LinkEnd;
+use crate::link_host::LinkHost;
 use crate::locked_line::LockedLine;
 use crate::shared_peer::SharedPeer;
 use link_speaker::{Line, SpeakError, Speaker, write_out};
 use pass_books::BookNames;
 use rtrb::Consumer;
-use shared_hub::{News, Shared};
-use std::alloc::Global;
+use shared_hub::{Checkpoint, News, Shared};
 use std::io::Write;
 use std::rt::Clock;
 use std::sync::Wait;
@@ -43,27 +43,26 @@ pub(crate) struct Telling<'a, R: Wait + Clock, J: BookNames> {
 impl<'a, R: Wait + Clock, J: BookNames> Telling<'a, R, J> {
     /// The thread of the link whose pass has this number, with the notes of the one that hears.
     /// Nothing was said so far.
-    pub fn new(
-        rt: &'a R,
-        shared: &'a Shared<J>,
+    pub fn new<C: Checkpoint>(
+        host: &'a LinkHost<'a, R, J, C>,
         end: &'a LinkEnd,
         link: usize,
         notes: Consumer<u8>,
     ) -> Telling<'a, R, J> {
         Telling {
-            rt,
-            shared,
+            rt: host.rt,
+            shared: host.shared,
             end,
             link,
             notes,
-            speaker: Speaker::new(),
+            speaker: Speaker::new(host.alloc),
             pause: PAUSE,
         }
     }
 
     /// Says what is due, each time that there is something, until nothing more is heard or the
     /// daemon ends; and then BYE, unless the stream has failed.
-    pub fn run<S: Write>(&mut self, alloc: Global, stream: &mut S) {
+    pub fn run<S: Write>(&mut self, stream: &mut S) {
         let mut peer = SharedPeer {
             rt: self.rt,
             shared: self.shared,
@@ -72,7 +71,7 @@ impl<'a, R: Wait + Clock, J: BookNames> Telling<'a, R, J> {
             rt: self.rt,
             end: self.end,
         };
-        if self.say_all(alloc, &mut peer, &mut line, stream) {
+        if self.say_all(&mut peer, &mut line, stream) {
             let _ = line.say_bye();
             let _ = write_out(&mut line, stream);
         }
@@ -83,7 +82,6 @@ impl<'a, R: Wait + Clock, J: BookNames> Telling<'a, R, J> {
     /// the stream still works.
     fn say_all<S: Write>(
         &mut self,
-        alloc: Global,
         peer: &mut SharedPeer<'_, R, J>,
         line: &mut LockedLine<'_, R>,
         stream: &mut S,
@@ -98,7 +96,7 @@ impl<'a, R: Wait + Clock, J: BookNames> Telling<'a, R, J> {
             // A HAVE that found no memory stays due.
             is_have_due = is_have_due || self.has_notes();
             let is_last = self.end.has_heard_all(self.rt);
-            match self.speaker.speak(alloc, peer, line, stream, is_have_due) {
+            match self.speaker.speak(peer, line, stream, is_have_due) {
                 Ok(true) => is_have_due = false,
                 Ok(false) if is_last => return true,
                 Ok(false) => {

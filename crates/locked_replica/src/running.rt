@@ -35,7 +35,7 @@ pub fn run<D: Disk>(
     Ok(replies)
 }
 
-// Makes one call. An error is out of memory (1) for the copy of an operation, and changes nothing.
+/// Makes one call. An error is out of memory (1) for the copy of an operation, and changes nothing.
 fn make<D: Disk>(hub: &mut Hub<D>, step: &HubStep) -> Result<HubReply, AllocError>
     ensures call { IfOk result (λ reply.
         IsCall D.DiskFacts (event_of step.now) (answer_of reply) hub.old hub.new) }

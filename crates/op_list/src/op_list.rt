@@ -92,6 +92,15 @@ impl OpList {
         Ok(())
     }
 
+    /// Makes room for `more` further operations, whose records take `bytes` bytes. An error is out
+    /// of memory (1). Linear in the records where they move, else constant.
+    pub fn reserve(&mut self, more: usize, bytes: usize) -> Result<(), AllocError>
+        ensures { self.new ≡ self.old }
+    {
+        self.ends.reserve(more)?;
+        self.records.reserve(bytes)
+    }
+
     /// Keeps the first n operations, or all of them where they are fewer. Takes no memory.
     pub fn truncate(&mut self, n: usize)
         ensures { self.new ≡ take n self.old }

@@ -1,5 +1,5 @@
 //! A borrowed list of operations.
-ghost use Rattle.std.specs.Prelude.{◌≡◌, ◌<◌, ◌≤◌, length, map, take, drop, slice_index_or, IfOk};
+ghost use Rattle.std.specs.Prelude.{◌≡◌, ◌<◌, ◌≤◌, length, map, take, drop, slice_index_or, IfOk, IsTrue, ◌↔◌};
 ghost use Rattle.op_list.specs.Heads.{heads};
 ghost use Rattle.op_list.specs.Held.{held, IsHeld};
 ghost use Rattle.op_model.specs.Records.{stream_length};
@@ -117,6 +117,14 @@ impl<'a> OpSlice<'a> {
         ensures fits { AreOperations (drop n self.now) }
     {
         self.records.split_at(self.start(n)).1
+    }
+
+    /// Whether both are the same list. Takes no memory. Linear in the records: those of one list
+    /// are the bytes of no other.
+    pub fn is_same(&self, other: &OpSlice<'_>) -> bool
+        ensures { IsTrue result ↔ (self.now ≡ other.now) }
+    {
+        self.records_from(0) == other.records_from(0)
     }
 
     /// How many bytes the first n records take.

@@ -6,6 +6,7 @@
 
 mod anchor;
 mod asking;
+mod author;
 mod character;
 mod comment_id;
 mod comparing;
@@ -22,6 +23,7 @@ mod ticks;
 mod url;
 
 pub use anchor::{Anchor, End, Start};
+pub use author::Author;
 pub use character::Character;
 pub use comment_id::{CommentId, CommentIds};
 pub use edit::{Change, Edit, EditText};

@@ -18,4 +18,5 @@ pub use cutting::cut;
 pub use laws::{
     an_insert_makes_one_piece, pieces_are_longest, pieces_are_pieces, pieces_make_up_the_operations,
 };
+pub use next::{is_next, value_of};
 pub use piece::Piece;

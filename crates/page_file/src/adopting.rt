@@ -8,7 +8,7 @@ ghost use Rattle.page_file.specs.Pages.{has, are_pages};
 use crate::gaps::{Gap, give_page};
 use crate::pages::Pages;
 
-// Gives back pages that are in none of the ranges.
+/// Gives back pages that are in none of the ranges.
 fn give_pages(gaps: &mut Vec<Gap>, pages: &[u32])
     requires falling { are_falling 4294967296 gaps.old.items ≡ true }
     requires apart { are_pages pages.now ≡ true }
@@ -22,7 +22,7 @@ fn give_pages(gaps: &mut Vec<Gap>, pages: &[u32])
     }
 }
 
-// Leaves the first pages, and puts others behind them.
+/// Leaves the first pages, and puts others behind them.
 fn renew(pages: &mut Vec<u32>, kept: usize, others: &[u32])
     requires within { kept ≤ length pages.old.items }
     requires room { vec_len pages.old + length others.now ≤ vec_capacity pages.old }
@@ -37,7 +37,7 @@ fn renew(pages: &mut Vec<u32>, kept: usize, others: &[u32])
     }
 }
 
-// The pages behind the first `kept`.
+/// The pages behind the first `kept`.
 fn behind(pages: &[u32], kept: usize) -> &[u32]
     requires within { kept ≤ length pages.now }
     ensures { result.now ≡ drop kept pages.now }

@@ -14,7 +14,7 @@ pub struct Gap {
     pub end: u64,
 }
 
-// How many page numbers there are.
+/// How many page numbers there are.
 const NUMBERS: u64 = 4294967296;
 
 /// All pages behind the root slots as one range, with room for `more` ranges besides. One
@@ -33,7 +33,7 @@ pub(crate) fn all_pages(alloc: Global, more: usize) -> Result<Vec<Gap>, AllocErr
     Ok(gaps)
 }
 
-// The place of the range that has a page, if there is one.
+/// The place of the range that has a page, if there is one.
 fn find(gaps: &[Gap], page: u64) -> Option<usize>
     requires falling { are_falling 4294967296 gaps.now ≡ true }
     ensures { MatchOption result (in_gaps page gaps.now ≡ false)
@@ -64,7 +64,7 @@ pub(crate) fn has_page(gaps: &[Gap], page: u64) -> bool
     }
 }
 
-// The place of the first range that doesn't start behind a page: behind all those that do.
+/// The place of the first range that doesn't start behind a page: behind all those that do.
 fn place_of(gaps: &[Gap], page: u64) -> usize
     requires page { page < 4294967296 }
     ensures within { result ≤ length gaps.now }
@@ -80,7 +80,7 @@ fn place_of(gaps: &[Gap], page: u64) -> usize
     0
 }
 
-// Puts the pages from a start up to an end at a place, as one range or none.
+/// Puts the pages from a start up to an end at a place, as one range or none.
 fn put_gap(gaps: &mut Vec<Gap>, at: usize, start: u64, end: u64)
     requires within { at ≤ length gaps.old.items }
     requires room { vec_len gaps.old < vec_capacity gaps.old }
@@ -114,7 +114,7 @@ pub(crate) fn take_page(gaps: &mut Vec<Gap>, page: u64) -> bool
     }
 }
 
-// Leaves of the range at a place the pages before and behind one.
+/// Leaves of the range at a place the pages before and behind one.
 fn split(gaps: &mut Vec<Gap>, at: usize, page: u64)
     requires falling { are_falling 4294967296 gaps.old.items ≡ true }
     requires has { in_gaps page (take 1 (drop at gaps.old.items)) ≡ true }

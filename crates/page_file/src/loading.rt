@@ -22,7 +22,7 @@ use disk_trait::Disk;
 use fixed_numbers::sizes::TABLE_ENTRIES;
 use std::alloc::{AllocError, Global};
 
-// Whether all of these numbers are zero.
+/// Whether all of these numbers are zero.
 fn are_zero(numbers: &[u32]) -> bool
     ensures { result ≡ is_zero numbers.now }
 {
@@ -34,9 +34,9 @@ fn are_zero(numbers: &[u32]) -> bool
     true
 }
 
-// Takes pages out of ranges that have all pages, and answers whether they lie behind the root slots
-// and none of them is there twice. The last ones come first: where the pages rise, each costs a few
-// steps.
+/// Takes pages out of ranges that have all pages, and answers whether they lie behind the root
+/// slots and none of them is there twice. The last ones come first: where the pages rise, each
+/// costs a few steps.
 fn take_pages(gaps: &mut Vec<Gap>, pages: &[u32]) -> bool
     requires all { AreOthers [] gaps.old.items }
     requires room { vec_len gaps.old + length pages.now ≤ vec_capacity gaps.old }
@@ -53,7 +53,7 @@ fn take_pages(gaps: &mut Vec<Gap>, pages: &[u32]) -> bool
     true
 }
 
-// These pages, sorted. An error is out of memory (1).
+/// These pages, sorted. An error is out of memory (1).
 fn sorted_of(alloc: Global, tables: &[u32], named: &[u32]) -> Result<Vec<u32>, AllocError>
     ensures same { IfOk result
         (λ sorted. IsPermutation (tables.now ++ named.now) sorted.items) }
@@ -67,8 +67,8 @@ fn sorted_of(alloc: Global, tables: &[u32], named: &[u32]) -> Result<Vec<u32>, A
     Ok(sorted)
 }
 
-// The live pages of a root with these table pages and data pages. Refused with 45 where one of them
-// is a root slot or stands twice, and with 1 when out of memory.
+/// The live pages of a root with these table pages and data pages. Refused with 45 where one of
+/// them is a root slot or stands twice, and with 1 when out of memory.
 fn index_of(alloc: Global, tables: &[u32], named: &[u32]) -> Result<Pages, PageError>
     requires few { length tables.now + length named.now ≤ MAX_PAGES }
     ensures value { IfOk result (λ it. it ≡ record {
@@ -96,9 +96,9 @@ fn index_of(alloc: Global, tables: &[u32], named: &[u32]) -> Result<Pages, PageE
     })
 }
 
-// The live pages of a root with these table pages, in which the numbers `found` stand, and with
-// `count` data pages. Refused with 45 where a page is a root slot or stands twice, where a number
-// is left behind the data pages, or where there are fewer; and with 1 when out of memory.
+/// The live pages of a root with these table pages, in which the numbers `found` stand, and with
+/// `count` data pages. Refused with 45 where a page is a root slot or stands twice, where a number
+/// is left behind the data pages, or where there are fewer; and with 1 when out of memory.
 fn pages_of(alloc: Global, tables: &[u32], count: u64, found: &[u32]) -> Result<Pages, PageError>
     requires few { length tables.now + length found.now ≤ MAX_PAGES }
     ensures value { IfOk result (λ it. reached_by tables.now count found.now ≡ Ok (live_pages it)) }

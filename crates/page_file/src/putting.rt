@@ -15,8 +15,8 @@ use crate::pages::Pages;
 use disk_trait::{Disk, DiskError};
 use fixed_numbers::sizes::PAGE_SIZE;
 
-// Reads the bytes of a page. Refused with 41 where the file hasn't the whole page, and 50 where the
-// device failed.
+/// Reads the bytes of a page. Refused with 41 where the file hasn't the whole page, and 50 where
+/// the device failed.
 fn read_page<D: Disk>(disk: &mut D, number: u32, bytes: &mut [u8]) -> Result<(), PageError>
     requires size { length bytes.old ≡ PAGE_SIZE }
     ensures read { D.tells disk.old
@@ -34,8 +34,8 @@ fn read_page<D: Disk>(disk: &mut D, number: u32, bytes: &mut [u8]) -> Result<(),
     }
 }
 
-// Writes the bytes of a page. Refused with 41 where it would begin past the end of the file, and 51
-// where the device failed.
+/// Writes the bytes of a page. Refused with 41 where it would begin past the end of the file, and
+/// 51 where the device failed.
 fn write_page<D: Disk>(disk: &mut D, page: u32, bytes: &[u8; PAGE_SIZE]) -> Result<(), PageError>
     ensures puts { IsPagePut D.DiskFacts result page bytes.now disk.old disk.new }
     ensures refused { IfErr result (λ e. (e ≡ NoPage) ⊎ (e ≡ WriteFailed)) }
@@ -48,7 +48,7 @@ fn write_page<D: Disk>(disk: &mut D, page: u32, bytes: &[u8; PAGE_SIZE]) -> Resu
 }
 
 impl Pages {
-    // Takes a free page for the next root.
+    /// Takes a free page for the next root.
     fn take(&mut self, page: u32)
         requires free { is_free page self.old ≡ true }
         requires room { 0 < self.old.room }
@@ -60,7 +60,7 @@ impl Pages {
         self.room -= 1;
     }
 
-    // Whether a page is free.
+    /// Whether a page is free.
     fn is_free(&self, page: u32) -> bool
         ensures { result ≡ is_free page self.now }
     {

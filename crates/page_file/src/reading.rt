@@ -11,8 +11,8 @@ use disk_trait::{Disk, read_inside};
 use fixed_numbers::sizes::PAGE_SIZE;
 use std::alloc::Global;
 
-// Appends the bytes of a page that lies whole in the file. Refused with 1 when out of memory, and
-// with 50 where the device failed.
+/// Appends the bytes of a page that lies whole in the file. Refused with 1 when out of memory, and
+/// with 50 where the device failed.
 fn append_page<D: Disk>(disk: &mut D, number: u32, out: &mut Vec<u8>) -> Result<(), PageError>
     requires inside { D.tells disk.old
         → PAGE_SIZE * number + PAGE_SIZE ≤ length (D.content disk.old) }

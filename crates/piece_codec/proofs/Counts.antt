@@ -1,55 +1,31 @@
 -- What deps count of one replica, read where they lie.
-use Rattle.std.proofs.Common.{◌≡◌, ℕ, zero, suc, ◌-◌, ◌<◌, ◌≤◌, true, false, cond, ltb, eqb, List, [], ◌∷◌, length, get_or, take, drop, Result, Ok, Err, refl}
+use Rattle.std.proofs.Common.{◌≡◌, ℕ, zero, suc, ◌-◌, ◌<◌, ◌≤◌, true, false, eqb, List, [], ◌∷◌, length, get_or, take, drop, Result, Ok, Err, refl}
 use Rattle.std.proofs.Common.{sym, ap, subst, ◌∙◌, arith}
 use Rattle.std.specs.Prelude.{IsOk}
-use Rattle.std.specs.Int.{w64}
 use Rattle.std.proofs.lemmas.List.{length-drop, take_all}
 use Rattle.op_ids.specs.Clock.{count_of, is_clock}
 use Rattle.change_codec.specs.declared.codec_error.CodecError.{CodecError}
-use Rattle.change_codec.specs.declared.codec_error.CodecError.TheVariants.{Order}
 use Rattle.change_codec.specs.Lent.{deps_of, found_deps}
-use Rattle.change_codec.specs.Reading.{◌>>=◌, within, byte_at, number_at, replica_at, entry_at, entries_at, count_at, deps_at}
+use Rattle.change_codec.specs.Reading.{◌>>=◌, within, byte_at, entry_at, entries_at, count_at, deps_at}
 use Rattle.piece_codec.specs.Reading.{pair_at}
-use Rattle.change_codec.proofs.Steps.{bind_ok, passed, ok_is}
-use Rattle.change_codec.proofs.Clocks.{in_range, entries_rise, made_clock}
-
--- an entry, and its parts
-record Entry (bytes : List ℕ) (e : ℕ × ℕ) (after : List ℕ) : Type 0 where
-  mid : List ℕ
-  replica : replica_at bytes ≡ Ok (e.0, mid)
-  count : number_at w64 mid ≡ Ok (e.1, after)
-
-entry_parts : (low : ℕ) (bytes : List ℕ) (x : (ℕ × ℕ) × List ℕ) → entry_at low bytes ≡ Ok x → Entry bytes x.0 x.1
-unfolding entry_at
-entry_parts low bytes x e =
-    let a = bind_ok (replica_at bytes) (λ r. cond (ltb low r.0) (Ok r) (Err Order) >>= λ above. number_at w64 above.1 >>= within 1 16777216 >>= λ count. Ok ((above.0, count.0), count.1)) x e in
-    let b = bind_ok (cond (ltb low a.0.0) (Ok a.0) (Err Order)) (λ above. number_at w64 above.1 >>= within 1 16777216 >>= λ count. Ok ((above.0, count.0), count.1)) x a.2 in
-    let c = bind_ok (number_at w64 b.0.1 >>= within 1 16777216) (λ count. Ok ((b.0.0, count.0), count.1)) x b.2 in
-    let n = bind_ok (number_at w64 b.0.1) (within 1 16777216) c.0 c.1 in
-    let range = in_range 1 16777216 n.0 c.0 n.2 in
-    let p = passed (ltb low a.0.0) Order a.0 b.0 b.1 in
-    subst (λ (y : (ℕ × ℕ) × List ℕ). Entry bytes y.0 y.1) (ok_is ((b.0.0, c.0.0), c.0.1) x c.2)
-    (record {
-      mid = b.0.1;
-      replica = a.1 ∙ ap (λ (r : ℕ × List ℕ). Ok r) p.1;
-      count = n.1 ∙ ap (λ (r : ℕ × List ℕ). Ok r) range.0;
-    })
+use Rattle.change_codec.proofs.Steps.{bind_ok, ok_is}
+use Rattle.change_codec.proofs.Clocks.{Entry, entry_parts, in_range, entries_rise, made_clock}
 
 -- some entries: the first one, and those behind it
-record Entries (n : ℕ) (bytes : List ℕ) (es : List (ℕ × ℕ)) (end : List ℕ) : Type 0 where
+record Entries (n low : ℕ) (bytes : List ℕ) (es : List (ℕ × ℕ)) (end : List ℕ) : Type 0 where
   first : ℕ × ℕ
   others : List (ℕ × ℕ)
   after : List ℕ
-  parts : Entry bytes first after
+  parts : Entry low bytes first after
   behind : entries_at n first.0 after ≡ Ok (others, end)
   are : es ≡ first ∷ others
 
-entries_parts : (n low : ℕ) (bytes : List ℕ) (x : List (ℕ × ℕ) × List ℕ) → entries_at (suc n) low bytes ≡ Ok x → Entries n bytes x.0 x.1
+entries_parts : (n low : ℕ) (bytes : List ℕ) (x : List (ℕ × ℕ) × List ℕ) → entries_at (suc n) low bytes ≡ Ok x → Entries n low bytes x.0 x.1
 unfolding entries_at
 entries_parts n low bytes x e =
     let a = bind_ok (entry_at low bytes) (λ first. entries_at n first.0.0 first.1 >>= λ others. Ok (first.0 ∷ others.0, others.1)) x e in
     let b = bind_ok (entries_at n a.0.0.0 a.0.1) (λ others. Ok (a.0.0 ∷ others.0, others.1)) x a.2 in
-    subst (λ (y : List (ℕ × ℕ) × List ℕ). Entries n bytes y.0 y.1) (ok_is (a.0.0 ∷ b.0.0, b.0.1) x b.2)
+    subst (λ (y : List (ℕ × ℕ) × List ℕ). Entries n low bytes y.0 y.1) (ok_is (a.0.0 ∷ b.0.0, b.0.1) x b.2)
     (record { first = a.0.0; others = b.0.0; after = a.0.1; parts = entry_parts low bytes a.0 a.1; behind = b.1; are = refl })
 
 -- none are left
@@ -59,16 +35,16 @@ none_left zero low r bytes es end none e = ap (λ (y : List (ℕ × ℕ) × List
 none_left (suc n) low r bytes es end none e = absurd (omega arith)
 
 -- what an entry says
-pair_read : (bytes : List ℕ) (e : ℕ × ℕ) (after : List ℕ) → Entry bytes e after → pair_at bytes ≡ Ok (e, after)
+pair_read : (low : ℕ) (bytes : List ℕ) (e : ℕ × ℕ) (after : List ℕ) → Entry low bytes e after → pair_at bytes ≡ Ok (e, after)
 unfolding pair_at
-pair_read bytes e after parts = rw (parts.replica, parts.count) refl
+pair_read low bytes e after parts = rw (parts.replica, parts.count) refl
 
 -- the first of some entries says something
 pub some_pair : (n low : ℕ) (bytes : List ℕ) (es : List (ℕ × ℕ)) (end : List ℕ) (f : CodecError) → 0 < n → pair_at bytes ≡ Err f → entries_at n low bytes ≡ Ok (es, end) → ⊥
 some_pair zero low bytes es end f some fault e = absurd (omega arith)
 some_pair (suc n) low bytes es end f some fault e =
     let p = entries_parts n low bytes (es, end) e in
-    let read = pair_read bytes p.first p.after p.parts in
+    let read = pair_read low bytes p.first p.after p.parts in
     cc
 
 -- the first entry is what was read
@@ -81,7 +57,7 @@ first_read : (n low : ℕ) (bytes : List ℕ) (es : List (ℕ × ℕ)) (end : Li
     → pair_at bytes ≡ Ok (entry, after) → entries_at (suc n) low bytes ≡ Ok (es, end) → First n es end entry after
 first_read n low bytes es end entry after pair e =
     let p = entries_parts n low bytes (es, end) e in
-    let one = ok_is (p.first, p.after) (entry, after) (sym (pair_read bytes p.first p.after p.parts) ∙ pair) in
+    let one = ok_is (p.first, p.after) (entry, after) (sym (pair_read low bytes p.first p.after p.parts) ∙ pair) in
     let first_is : p.first ≡ entry = ap (λ (x : (ℕ × ℕ) × List ℕ). x.0) one in
     let after_is : p.after ≡ after = ap (λ (x : (ℕ × ℕ) × List ℕ). x.1) one in
     record {

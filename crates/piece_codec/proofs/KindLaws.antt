@@ -1,9 +1,8 @@
 -- The kind of a run's record, and how long its body is.
 use Rattle.std.proofs.Common.{◌≡◌, ℕ, ◌<◌, ◌≤◌, Bool, true, false, ◌&&◌, eqb, List, length, Option, Some, None, refl, sym, ap, ◌∙◌, arith, inl, inr}
 use Rattle.std.proofs.lemmas.Bool.{cases_Bool, and_parts, eqb-true}
-use Rattle.std.proofs.lemmas.Bool.Decides.{nat_tests}
 use Rattle.op_ids.specs.Clock.{is_clock}
-use Rattle.op_model.specs.Records.{origin_length, token_length}
+use Rattle.op_model.specs.Records.{origin_length}
 use Rattle.op_model.specs.declared.op.Op.{Op}
 use Rattle.op_model.specs.declared.op.Body.{Body}
 use Rattle.op_model.specs.declared.op.Body.TheVariants.{Insert, Remove, AddMark, RemoveMark}
@@ -13,6 +12,7 @@ use Rattle.change_codec.specs.Formats.{has_tokens, longest}
 use Rattle.change_codec.specs.Spelling.{kind_byte, tagged}
 use Rattle.piece_codec.specs.Formats.{has_runs, run_named}
 use Rattle.piece_codec.specs.Spelling.{origin_of, run_bytes}
+use Rattle.change_codec.proofs.RecordLaws.{clock_length, token_range}
 use Rattle.piece_codec.proofs.Lengths.{length-run}
 
 -- ---- how long a body is
@@ -24,23 +24,13 @@ origin_range (Remove target) = (omega arith, omega arith)
 origin_range (AddMark mark from to) = (omega arith, omega arith)
 origin_range (RemoveMark mark from to) = (omega arith, omega arith)
 
-token_range : (token : Option ℕ) → token_length token ≤ 16
-token_range None = omega arith
-token_range (Some token) = omega arith
-
-clock_length : (es : List (ℕ × ℕ)) → is_clock es ≡ true → length es ≤ 16
-clock_length es clock = grind (arith, nat_tests)
-
-pub longest_some : (f : Format) → (1491 ≤ longest f) × (longest f ≤ 1507)
-longest_some f = (
-  elim (cases_Bool (has_tokens f)) [ inl has ↦ rw has (omega arith) | inr none ↦ rw none (omega arith) ],
-  elim (cases_Bool (has_tokens f)) [ inl has ↦ rw has (omega arith) | inr none ↦ rw none (omega arith) ],
-)
+longest_least : (f : Format) → 1491 ≤ longest f
+longest_least f = elim (cases_Bool (has_tokens f)) [ inl has ↦ rw has (omega arith) | inr none ↦ rw none (omega arith) ]
 
 pub run_range : (f : Format) (op : Op) (vs : List ℕ) → is_clock op.deps ≡ true → length vs < 256 → (33 ≤ length (run_bytes op vs)) × (length (run_bytes op vs) ≤ longest f)
 run_range f op vs clock few =
     let origin = origin_range op.body in
-    (omega (arith, length-run op vs), omega (arith, length-run op vs, origin.1, token_range op.token, clock_length op.deps clock, (longest_some f).0, few))
+    (omega (arith, length-run op vs), omega (arith, length-run op vs, origin.1, token_range op.token, clock_length op.deps clock, longest_least f, few))
 
 -- ---- the kind
 

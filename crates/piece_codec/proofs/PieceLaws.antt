@@ -1,50 +1,30 @@
 -- Whole pieces at the front of bytes.
-use Rattle.std.proofs.Common.{◌≡◌, ℕ, ◌+◌, ◌<◌, ◌≤◌, Bool, true, false, cond, ltb, List, [], ◌∷◌, ◌++◌, get_or}
-use Rattle.std.proofs.Common.{length, take, drop, Option, Some, None, Result, Ok, Err, refl, sym}
-use Rattle.std.proofs.Common.{ap, subst, ◌∙◌, append_assoc, arith, inl, inr}
+use Rattle.std.proofs.Common.{◌≡◌, ℕ, ◌<◌, Bool, true, false, List, [], ◌∷◌, ◌++◌, get_or}
+use Rattle.std.proofs.Common.{length, take, drop, Option, Some, None, Ok, refl, sym}
+use Rattle.std.proofs.Common.{ap, subst, ◌∙◌, arith, inl, inr}
 use Rattle.std.specs.Prelude.{is_some}
-use Rattle.std.specs.Int.{w32, is_in_range, from_be_bytes, to_be_bytes}
-use Rattle.std.proofs.lemmas.Bool.{cases_Bool, ltb-false, le-ltb}
-use Rattle.std.proofs.lemmas.Bool.Decides.{nat_tests}
-use Rattle.std.proofs.lemmas.List.{take_at, drop_at, take-append-drop, length-append, length-take, length-drop, get_or-drop, get_or-take}
-use Rattle.std.proofs.Math.Seq.{take-append-add}
+use Rattle.std.proofs.lemmas.Bool.{cases_Bool}
+use Rattle.std.proofs.lemmas.List.{drop_at, take-append-drop, length-take, get_or-drop, get_or-take}
 use Rattle.op_model.specs.declared.op.Op.{Op}
 use Rattle.op_pieces.specs.Pieces.{Run, single, has_room_behind, is_piece}
-use Rattle.change_codec.specs.declared.codec_error.CodecError.{CodecError}
-use Rattle.change_codec.specs.declared.codec_error.CodecError.TheVariants.{Length}
 use Rattle.change_codec.specs.declared.format.Format.{Format}
 use Rattle.change_codec.specs.declared.format.Format.TheVariants.{Third}
-use Rattle.change_codec.specs.Formats.{longest, IsOf}
+use Rattle.change_codec.specs.Formats.{IsOf}
 use Rattle.change_codec.specs.Fits.{IsOperation}
 use Rattle.change_codec.specs.Spelling.{number_bytes, kind_byte, tagged, body_bytes, spelled}
-use Rattle.change_codec.specs.Reading.{◌>>=◌}
 use Rattle.change_codec.specs.Record.{length_at, taken}
 use Rattle.change_codec.proofs.Steps.{IsBytes, IsBytes-take, IsBytes-drop, bind_ok, done, ok_is}
-use Rattle.change_codec.proofs.Numbers.{wide32}
+use Rattle.change_codec.proofs.Framing.{framed_found, found_whole, found_spelled, framed_again}
 use Rattle.change_codec.proofs.RecordLaws.{taken_begins, spelled_taken}
 use Rattle.piece_codec.specs.Fits.{IsWhole, AreScalars}
 use Rattle.piece_codec.specs.Formats.{has_runs, IsPieceOf, run_named}
 use Rattle.piece_codec.specs.Reading.{run_at}
-use Rattle.piece_codec.specs.Record.{run_record_at, as_piece, taken_as, taken_piece, BeginsWithPiece}
+use Rattle.piece_codec.specs.Record.{run_body_at, as_piece, taken_as, taken_piece, BeginsWithPiece}
 use Rattle.piece_codec.specs.Spelling.{run_fields, run_bytes, spelled_run, spelled_with, spelled_piece}
-use Rattle.piece_codec.proofs.KindLaws.{longest_some, run_range, named_is, named_op, named_run}
+use Rattle.piece_codec.proofs.KindLaws.{run_range, named_is, named_op, named_run}
 use Rattle.piece_codec.proofs.RunLaws.{run_takes, run_again, few_others}
 
 -- ---- what is read is spelled
-
-not_none : {A : Type 0} (b : Bool) (r : Result (Option A) CodecError) (v : A) → cond b (Ok None) r ≡ Ok (Some v) → (b ≡ false) × (r ≡ Ok (Some v))
-not_none true r v e = absurd cc
-not_none false r v e = (refl, e)
-
-ranged : {A : Type 0} (b : Bool) (r : Result A CodecError) (d : CodecError) (v : A) → cond b r (Err d) ≡ Ok v → (b ≡ true) × (r ≡ Ok v)
-ranged true r d v e = (refl, e)
-ranged false r d v e = absurd cc
-
-take_both : (n m : ℕ) (xs : List ℕ) → n ≤ length xs → take (n + m) xs ≡ take n xs ++ take m (drop n xs)
-take_both n m xs le =
-    let split = take-append-drop n xs in
-    let len : length (take n xs) ≡ n = omega (arith, length-take n xs) in
-    ap (take (n + m)) (sym split) ∙ ap (λ (k : ℕ). take (k + m) (take n xs ++ drop n xs)) (sym len) ∙ take-append-add (take n xs) (drop n xs) m
 
 -- the first of some bytes, and those behind it
 first_and_rest : (xs : List ℕ) → 0 < length xs → xs ≡ get_or xs 0 0 ∷ drop 1 xs
@@ -63,51 +43,30 @@ spelled_some op (v ∷ vs) some = refl
 
 run_begins : (f : Format) (has_token : Bool) (bytes : List ℕ) (p : Run) (n : ℕ) → IsBytes bytes → run_named f (get_or bytes 4 0) ≡ Some has_token
     → taken_as (Some has_token) f bytes ≡ Ok (Some (p, n)) → IsPieceOf f p × BeginsWithPiece bytes p n
-unfolding spelled_run run_bytes number_bytes
+unfolding spelled_run run_bytes
 run_begins f has_token bytes p n fits kind e =
     let len = length_at bytes in
     let rest = drop 4 bytes in
     let body = take len rest in
-    let fields = drop 1 body in
-    let a = not_none (ltb (length bytes) 4) (run_record_at has_token f len rest) (p, n) e in
-    let four : 4 ≤ length bytes = ltb-false _ _ a.0 in
-    let b = ranged (is_in_range 33 (longest f) len) (cond (ltb (length rest) len) (Ok None) (run_at has_token fields >>= λ q. Ok (Some (q, 4 + len)))) Length (Some (p, n)) a.1 in
-    let c = not_none (ltb (length rest) len) (run_at has_token fields >>= λ q. Ok (Some (q, 4 + len))) (p, n) b.1 in
-    let long : len ≤ length rest = ltb-false _ _ c.0 in
-    let low : 33 ≤ len = in_low f len b.0 in
-    let d = bind_ok (run_at has_token fields) (λ q. Ok (Some (q, 4 + len))) (Some (p, n)) c.1 in
-    let law = run_takes has_token fields d.0 (IsBytes-drop 1 body (IsBytes-take len rest (IsBytes-drop 4 bytes fits))) d.1 in
+    let found = framed_found (run_body_at has_token) f bytes p n e in
+    let law = run_takes has_token (drop 1 body) p (IsBytes-drop 1 body (IsBytes-take len rest (IsBytes-drop 4 bytes fits))) found.value in
     let named = named_is f (get_or bytes 4 0) has_token kind in
-    let tag = is_some d.0.first.token in
+    let tag = is_some p.first.token in
     let first_is : get_or body 0 0 ≡ tagged tag 5 =
-    get_or-take len rest 0 0 (omega (arith, low)) ∙ get_or-drop 4 bytes 0 0 ∙ named.is ∙ ap (λ t. tagged t 5) law.has in
-    let size_body : length body ≡ len = omega (arith, length-take len rest, long) in
-    let whole_body : body ≡ tagged tag 5 ∷ run_fields d.0.first d.0.others =
-    first_and_rest body (omega (arith, size_body, low)) ∙ (λ i. first_is i ∷ law.parts i) in
-    let one : Run × ℕ = (d.0, 4 + len) in
-    let other : Run × ℕ = (p, n) in
-    let made : one ≡ other = some_is (d.0, 4 + len) (p, n) d.2 in
-    let size : length (tagged tag 5 ∷ run_fields d.0.first d.0.others) ≡ len = ap (λ (w : List ℕ). length w) (sym whole_body) ∙ size_body in
-    let front : to_be_bytes w32 len ≡ take 4 bytes = wide32.back (take 4 bytes) (omega (arith, length-take 4 bytes)) (IsBytes-take 4 bytes fits) in
-    let whole : take (4 + len) bytes ≡ to_be_bytes w32 (length (tagged tag 5 ∷ run_fields d.0.first d.0.others)) ++ (tagged tag 5 ∷ run_fields d.0.first d.0.others) =
-    take_both 4 len bytes four ∙ ap (λ (w : List ℕ). w ++ body) (sym front) ∙ ap (λ (w : List ℕ). to_be_bytes w32 len ++ w) whole_body
-    ∙ ap (λ (k : ℕ). to_be_bytes w32 k ++ (tagged tag 5 ∷ run_fields d.0.first d.0.others)) (sym size) in
-    let begins : BeginsWithPiece bytes d.0 (4 + len) = record {
-      whole = omega (arith, long, length-drop 4 bytes);
-      spelled_so = whole ∙ sym (spelled_some d.0.first d.0.others law.some);
+    get_or-take len rest 0 0 (omega (arith, found.low)) ∙ get_or-drop 4 bytes 0 0 ∙ named.is ∙ ap (λ t. tagged t 5) law.has in
+    let size : length body ≡ len = omega (arith, length-take len rest, found.long) in
+    let whole : body ≡ tagged tag 5 ∷ run_fields p.first p.others =
+    first_and_rest body (omega (arith, size, found.low)) ∙ (λ i. first_is i ∷ law.parts i) in
+    let begins : BeginsWithPiece bytes p n = record {
+      whole = found_whole found;
+      spelled_so = found_spelled found (tagged tag 5 ∷ run_fields p.first p.others) fits whole ∙ sym (spelled_some p.first p.others law.some);
       fits = law.fits;
     } in
-    let of_format : IsPieceOf f d.0 = record {
+    let of_format : IsPieceOf f p = record {
       runs = λ none. absurd (let runs = named.runs in let never : ⊥ = cc in never);
-      tokens = λ none. no_token d.0.first.token (sym (named.tokens none) ∙ law.has);
+      tokens = λ none. no_token p.first.token (sym (named.tokens none) ∙ law.has);
     } in
-    subst (λ (x : Run × ℕ). IsPieceOf f x.0 × BeginsWithPiece bytes x.0 x.1) made (of_format, begins)
-  where
-    some_is : {A : Type 0} (x y : A) → done (Some x) ≡ done (Some y) → x ≡ y
-    some_is x y e = cc
-
-    in_low : (f : Format) (len : ℕ) → is_in_range 33 (longest f) len ≡ true → 33 ≤ len
-    in_low f len test = grind (arith, nat_tests)
+    (of_format, begins)
 
 -- a piece that was found
 abbrev found_one : Run × ℕ → Option (Run × ℕ)
@@ -158,41 +117,15 @@ body_fields : (op : Op) (vs : List ℕ) → drop 1 (run_bytes op vs) ≡ run_fie
 unfolding run_bytes
 body_fields op vs = refl
 
--- four bytes that give the length of the body, and the body
-front_taken : (f : Format) (op : Op) (vs front rest : List ℕ) → length front ≡ 4 → from_be_bytes w32 front ≡ length (run_bytes op vs) → IsOperation op → AreScalars vs → 0 < length vs
-    → has_room_behind op (length vs) ≡ true
-    → taken_as (Some (is_some op.token)) f (front ++ (run_bytes op vs ++ rest)) ≡ Ok (Some (record { first = op; others = vs }, 4 + length (run_bytes op vs)))
-front_taken f op vs front rest four number fits scalars some room =
-    let body = run_bytes op vs in
-    let len = length body in
-    let p : Run = record { first = op; others = vs } in
-    let range = run_range f op vs fits.deps (few_others op (length vs) room) in
-    let low = range.0 in
-    let high = range.1 in
-    let all = front ++ (body ++ rest) in
-    let number_is : length_at all ≡ len = ap (from_be_bytes w32) (take_at front (body ++ rest) 4 four) ∙ number in
-    let behind : drop 4 all ≡ body ++ rest = drop_at front (body ++ rest) 4 four in
-    let there : ltb (length all) 4 ≡ false = le-ltb _ _ (omega (arith, length-append front (body ++ rest))) in
-    let test : is_in_range 33 (longest f) len ≡ true = grind (arith, nat_tests) in
-    let long : ltb (length (body ++ rest)) len ≡ false = le-ltb _ _ (omega (arith, length-append body rest)) in
-    let cut : take len (body ++ rest) ≡ body = take_at body rest len refl in
-    let read : run_record_at (is_some op.token) f len (body ++ rest) ≡ Ok (Some (p, 4 + len)) = rw (test, long, cut, body_fields op vs, run_again op vs fits scalars some room) refl in
-    let opened : taken_as (Some (is_some op.token)) f all ≡ run_record_at (is_some op.token) f (length_at all) (drop 4 all) = rw there refl in
-    opened ∙ ap (λ (n : ℕ). run_record_at (is_some op.token) f n (drop 4 all)) number_is ∙ ap (run_record_at (is_some op.token) f len) behind ∙ read
-
 as_run : (f : Format) (op : Op) (vs rest : List ℕ) → IsOperation op → AreScalars vs → 0 < length vs → has_room_behind op (length vs) ≡ true
     → taken_as (Some (is_some op.token)) f (spelled_run op vs ++ rest) ≡ Ok (Some (record { first = op; others = vs }, length (spelled_run op vs)))
-unfolding spelled_run number_bytes
+unfolding spelled_run
 as_run f op vs rest fits scalars some room =
-    let body = run_bytes op vs in
-    let len = length body in
-    let high = (run_range f op vs fits.deps (few_others op (length vs) room)).1 in
-    let few = (longest_some f).1 in
-    let front : List ℕ = to_be_bytes w32 len in
     let p : Run = record { first = op; others = vs } in
-    let size : 4 + len ≡ length (front ++ body) = omega (arith, length-append front body) in
-    ap (taken_as (Some (is_some op.token)) f) (append_assoc front body rest)
-    ∙ front_taken f op vs front rest refl (wide32.again len (omega (arith, high, few))) fits scalars some room ∙ ap (λ (k : ℕ). done (Some (p, k))) size
+    let has_token = is_some op.token in
+    let range = run_range f op vs fits.deps (few_others op (length vs) room) in
+    let value : run_body_at has_token (run_bytes op vs) ≡ Ok p = ap (run_at has_token) (body_fields op vs) ∙ run_again op vs fits scalars some room in
+    framed_again (run_body_at has_token) f (run_bytes op vs) rest p range.0 range.1 value
 
 spelled_run_taken : (f : Format) (op : Op) (vs rest : List ℕ) → has_runs f ≡ true → IsOf f op → IsOperation op → AreScalars vs → 0 < length vs → has_room_behind op (length vs) ≡ true
     → taken_piece f (spelled_run op vs ++ rest) ≡ Ok (Some (record { first = op; others = vs }, length (spelled_run op vs)))

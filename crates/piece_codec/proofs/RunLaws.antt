@@ -1,6 +1,6 @@
 -- The fields of a run: what is read is spelled so, and what is spelled so is read.
-use Rattle.std.proofs.Common.{◌≡◌, ℕ, zero, suc, ◌^◌, ◌-◌, ◌<◌, Bool, true, false, cond, eqb, List, [], ◌∷◌, ◌++◌}
-use Rattle.std.proofs.Common.{length, Option, Some, None, Result, Ok, Err, refl, sym, ap, subst, ◌∙◌, append_assoc, arith}
+use Rattle.std.proofs.Common.{◌≡◌, ℕ, zero, suc, ◌^◌, ◌-◌, ◌<◌, Bool, true, cond, eqb, List, [], ◌∷◌, ◌++◌}
+use Rattle.std.proofs.Common.{length, Option, Ok, Err, refl, sym, ap, subst, ◌∙◌, append_assoc, arith}
 use Rattle.std.specs.Prelude.{is_some, nat_le, nat_lt}
 use Rattle.std.specs.Int.{w16, w32}
 use Rattle.std.proofs.lemmas.Bool.{and_parts, eqb-true}
@@ -13,15 +13,15 @@ use Rattle.op_model.specs.declared.op.Op.{Op}
 use Rattle.op_model.specs.declared.op.Body.{Body}
 use Rattle.op_model.specs.declared.op.Body.TheVariants.{Insert, Remove, AddMark, RemoveMark}
 use Rattle.op_pieces.specs.Pieces.{Run, has_room_behind, fits_behind, is_piece}
-use Rattle.change_codec.specs.declared.codec_error.CodecError.{CodecError}
 use Rattle.change_codec.specs.declared.codec_error.CodecError.TheVariants.{Length, Number}
 use Rattle.change_codec.specs.Fits.{IsId, IsOrigin, IsToken, IsOperation}
 use Rattle.change_codec.specs.Spelling.{number_bytes, id_bytes, deps_bytes, token_bytes, origin_bytes}
-use Rattle.change_codec.specs.Reading.{◌>>=◌, number_at, id_at, deps_at, replica_at, token_at, origin_at, scalar_at}
-use Rattle.change_codec.proofs.Steps.{IsBytes, bind_ok, passed, ok_is, Takes, Takes-then}
+use Rattle.change_codec.specs.Reading.{◌>>=◌, number_at, id_at, deps_at, token_at, origin_at, scalar_at}
+use Rattle.change_codec.proofs.Steps.{IsBytes, bind_ok, passed, ranged, ok_is, Takes, Takes-then}
 use Rattle.change_codec.proofs.Numbers.{wide16, wide32, number_takes, number_again}
-use Rattle.change_codec.proofs.IdLaws.{replica_takes, replica_again, id_takes, id_again, deps_take, deps_again}
+use Rattle.change_codec.proofs.IdLaws.{id_takes, id_again, deps_take, deps_again}
 use Rattle.change_codec.proofs.ContentLaws.{origin_takes, origin_again, scalar_takes, scalar_again}
+use Rattle.change_codec.proofs.TokenLaws.{token_takes, token_again}
 use Rattle.piece_codec.specs.declared.fields.RunHead.{RunHead}
 use Rattle.piece_codec.specs.declared.fields.RunTail.{RunTail}
 use Rattle.piece_codec.specs.Fits.{AreScalars, IsWhole}
@@ -94,26 +94,6 @@ head_takes bytes x fits e =
       id = t1.1;
     })
 
--- a token where there is one
-record FrontToken (bytes : List ℕ) (has_token : Bool) (token : Option ℕ) (rest : List ℕ) : Type 0 where
-  taken : Takes bytes (token_bytes token) rest
-  fits : IsToken token
-  has : has_token ≡ is_some token
-
-token_takes : (has_token : Bool) (bytes : List ℕ) (x : Option ℕ × List ℕ) → IsBytes bytes → token_at has_token bytes ≡ Ok x → FrontToken bytes has_token x.0 x.1
-unfolding token_at token_bytes
-token_takes false bytes x fits e =
-    subst (λ (y : Option ℕ × List ℕ). FrontToken bytes false y.0 y.1) (ok_is (None, bytes) x e) (record { taken = record { parts = refl; rest_fits = fits }; fits = tt; has = refl })
-token_takes true bytes x fits e =
-    let a = bind_ok (replica_at bytes) (λ token. Ok (Some token.0, token.1)) x e in
-    let t = replica_takes bytes a.0 fits a.1 in
-    subst (λ (y : Option ℕ × List ℕ). FrontToken bytes true y.0 y.1) (ok_is (Some a.0.0, a.0.1) x a.2) (record { taken = t.0; fits = (t.1, t.2); has = refl })
-
-token_again : (token : Option ℕ) (rest : List ℕ) → IsToken token → token_at (is_some token) (token_bytes token ++ rest) ≡ Ok (token, rest)
-unfolding token_at token_bytes
-token_again None rest fits = refl
-token_again (Some token) rest fits = rw (replica_again token rest fits.0 fits.1) refl
-
 -- what was read between the deps and the characters
 record FrontTail (bytes : List ℕ) (has_token : Bool) (tail : RunTail) (rest : List ℕ) : Type 0 where
   parts : bytes ≡ token_bytes tail.token ++ (origin_bytes tail.origin ++ (number_bytes w16 tail.count ++ rest))
@@ -142,10 +122,6 @@ tail_takes has_token bytes x fits e =
     })
 
 -- ---- the whole
-
-ranged : {A : Type 0} (b : Bool) (r : Result A CodecError) (d : CodecError) (v : A) → cond b r (Err d) ≡ Ok v → (b ≡ true) × (r ≡ Ok v)
-ranged true r d v e = (refl, e)
-ranged false r d v e = absurd cc
 
 -- room for the characters makes a piece
 room_fits : (op : Op) (vs : List ℕ) (n : ℕ) → length vs ≡ n → 0 < n → has_room_behind op n ≡ true → fits_behind op vs ≡ true

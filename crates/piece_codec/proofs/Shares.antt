@@ -1,5 +1,5 @@
 -- How many bytes of single records the record of a piece stands for.
-use Rattle.std.proofs.Common.{◌≡◌, ℕ, ◌+◌, ◌-◌, ◌*◌, ◌≤◌, Bool, true, false, inl, inr, List, [], ◌∷◌, length, refl, arith, Option, Some, None}
+use Rattle.std.proofs.Common.{◌≡◌, ℕ, ◌+◌, ◌-◌, ◌*◌, ◌≤◌, Bool, true, false, inl, inr, List, [], ◌∷◌, length, arith, Option, Some, None}
 use Rattle.std.specs.Prelude.{◌==◌, if◌then◌else◌}
 use Rattle.std.proofs.Math.Nat.{mul-le-mul_right, mul-le-mul_left}
 use Rattle.std.proofs.lemmas.Bool.{cases_lt}
@@ -7,9 +7,9 @@ use Rattle.std.proofs.lemmas.Bool.Decides.{nat_tests}
 use Rattle.op_ids.specs.Id.{Id}
 use Rattle.op_ids.specs.Clock.{count_of, advanced, is_clock}
 use Rattle.op_ids.proofs.RoomLemmas.{first_of_more}
-use Rattle.op_model.specs.Records.{head_length, token_length, origin_length, record_length, stream_length}
+use Rattle.op_model.specs.Records.{token_length, origin_length, record_length, stream_length}
 use Rattle.op_model.specs.declared.op.Op.{Op}
-use Rattle.op_pieces.specs.Pieces.{Run, next_typed, typed_behind, ops_of, fits_behind}
+use Rattle.op_pieces.specs.Pieces.{Run, typed_behind, ops_of, fits_behind}
 use Rattle.op_pieces.proofs.LengthLemmas.{advanced_length, typed_length}
 use Rattle.op_pieces.proofs.UnrolledLemmas.{room_parts}
 use Rattle.change_codec.specs.Fits.{IsOperation}

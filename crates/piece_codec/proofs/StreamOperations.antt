@@ -1,58 +1,19 @@
 -- The operations that a stream spells keep their rules.
-use Rattle.std.proofs.Common.{◌≡◌, ℕ, suc, ◌+◌, ◌^◌, ◌<◌, ◌≤◌, true, inl, inr, List, [], ◌∷◌, ◌++◌, length, refl, subst, arith}
-use Rattle.std.specs.Prelude.{◌==◌, nat_lt, nat_le}
+use Rattle.std.proofs.Common.{◌≡◌, ℕ, suc, ◌^◌, ◌<◌, true, inl, inr, List, [], ◌∷◌, ◌++◌, length, subst, arith}
+use Rattle.std.specs.Prelude.{◌==◌, nat_lt}
 use Rattle.std.specs.Char.{IsScalar}
-use Rattle.std.proofs.lemmas.Bool.{and_parts, and_from, cases_Bool}
-use Rattle.std.proofs.lemmas.Bool.Decides.{nat_tests}
-use Rattle.op_ids.specs.Clock.{advanced, advanced_by, is_clock}
+use Rattle.std.proofs.lemmas.Bool.{cases_Bool}
+use Rattle.op_ids.specs.Clock.{advanced}
 use Rattle.op_ids.proofs.RoomLemmas.{first_of_more}
-use Rattle.op_model.specs.Causality.{is_insert}
 use Rattle.op_model.specs.declared.op.Op.{Op}
 use Rattle.op_pieces.specs.Pieces.{Run, next_typed, typed_behind, ops_of, joined, has_room_behind, fits_behind}
+use Rattle.op_pieces.proofs.UnrolledLemmas.{room_parts, others_fit}
 use Rattle.change_codec.specs.declared.format.Format.{Format}
 use Rattle.change_codec.specs.Fits.{HaveSixteen, IsOperation}
 use Rattle.change_codec.specs.Formats.{IsOf, AreOf}
 use Rattle.change_codec.specs.Stream.{AreOperations}
 use Rattle.piece_codec.specs.Fits.{AreScalars}
 use Rattle.piece_codec.specs.Stream.{ArePiecesOf, SpellsList}
-
--- the parts of the room for some characters
-record Room (op : Op) (n : ℕ) : Type 0 where
-  inserts : is_insert op.body ≡ true
-  few : n < 256
-  counter : op.id.counter + n ≤ 281474976710655
-  deps : is_clock (advanced_by op.deps op.id.replica n) ≡ true
-
-room_parts : (op : Op) (n : ℕ) → has_room_behind op n ≡ true → Room op n
-room_parts op n room =
-    let a = and_parts _ _ room in
-    let b = and_parts _ _ a.1 in
-    let c = and_parts _ _ b.1 in
-    let few = b.0 in
-    let counter = c.0 in
-    record { inserts = a.0; few = below n few; counter = within op.id.counter n counter; deps = c.1 }
-  where
-    below : (n : ℕ) → nat_lt n 256 ≡ true → n < 256
-    below n lt = grind (arith, nat_tests)
-
-    within : (a n : ℕ) → nat_le (a + n) 281474976710655 ≡ true → a + n ≤ 281474976710655
-    within a n le = grind (arith, nat_tests)
-
-room_from : (op : Op) (n : ℕ) → Room op n → has_room_behind op n ≡ true
-room_from op n r = and_from _ _ r.inserts (and_from _ _ (below n r.few) (and_from _ _ (within op.id.counter n r.counter) r.deps))
-  where
-    below : (n : ℕ) → n < 256 → nat_lt n 256 ≡ true
-    below n lt = grind (arith, nat_tests)
-
-    within : (a n : ℕ) → a + n ≤ 281474976710655 → nat_le (a + n) 281474976710655 ≡ true
-    within a n le = grind (arith, nat_tests)
-
--- behind the next operation there is room for the others
-next_fits : (op : Op) (v : ℕ) (vs : List ℕ) → fits_behind op (v ∷ vs) ≡ true → fits_behind (next_typed op v) vs ≡ true
-next_fits op v [] fits = refl
-next_fits op v (w ∷ ws) fits =
-    let r = room_parts op (suc (suc (length ws))) fits in
-    room_from (next_typed op v) (suc (length ws)) (record { inserts = refl; few = omega (arith, r.few); counter = omega (arith, r.counter); deps = r.deps })
 
 -- a clock with one operation more has no wider replicas
 sixteen_more : (es : List (ℕ × ℕ)) (replica : ℕ) → HaveSixteen es → replica < 2 ^ 128 → HaveSixteen (advanced es replica)
@@ -88,7 +49,7 @@ typed_operations : (op : Op) (vs : List ℕ) → IsOperation op → AreScalars v
 typed_operations op [] fits scalars room = tt
 typed_operations op (v ∷ vs) fits scalars room =
     let next = next_operation op v (length vs) fits scalars.0 room in
-    (next, typed_operations (next_typed op v) vs next scalars.1 (next_fits op v vs room))
+    (next, typed_operations (next_typed op v) vs next scalars.1 (others_fit op v vs room))
 
 -- each has the token of the first
 typed_of : (f : Format) (op : Op) (vs : List ℕ) → IsOf f op → AreOf f (typed_behind op vs)

@@ -1,13 +1,11 @@
 //! The fields of a run's record, but for its deps and its characters.
 ghost use Rattle.std.specs.Prelude.{◌≡◌};
 ghost use Rattle.op_pieces.specs.Cutting.{value_of};
-ghost use Rattle.change_codec.specs.Reading.{Reads, origin_at};
-ghost use Rattle.change_codec.specs.Spelling.{origin_bytes};
-ghost use Rattle.change_codec.specs.Writing.{Appends, HasRoom};
+ghost use Rattle.change_codec.specs.Reading.{Reads};
 ghost use Rattle.piece_codec.specs.Reading.{run_head_at, run_tail_at};
 ghost use Rattle.piece_codec.specs.Spelling.{origin_of};
 
-use change_codec::{CodecError, put_byte, put_id, take_id, take_token, take_u16, take_u32};
+use change_codec::{CodecError, take_id, take_origin, take_token, take_u16, take_u32};
 use op_ids::{OpId, Token};
 use op_model::Body;
 
@@ -29,6 +27,14 @@ pub struct RunTail {
     pub count: u16,
 }
 
+/// What a run's record says before its characters: its deps are the bytes that were tested.
+#[derive(Clone, Copy, Debug)]
+pub struct RunFront<'a> {
+    pub head: RunHead,
+    pub deps: &'a [u8],
+    pub tail: RunTail,
+}
+
 /// The origin and the character of an insert; none and NUL of another operation.
 pub fn insert_of(body: &Body) -> (Option<OpId>, char)
     ensures { result ≡ (origin_of body.now, value_of body.now) }
@@ -36,21 +42,6 @@ pub fn insert_of(body: &Body) -> (Option<OpId>, char)
     match body {
         Body::Insert { origin, value } => (*origin, *value),
         _ => (None, '\0'),
-    }
-}
-
-/// Puts an origin: 0 for none, or 1 and its id.
-#[tactic(auto, unfolding(change_codec::specs::Spelling::origin_bytes))]
-pub fn put_origin(origin: Option<OpId>, out: &mut Vec<u8>)
-    requires { HasRoom out.old (origin_bytes origin) }
-    ensures { Appends out.old out.new (origin_bytes origin) }
-{
-    match origin {
-        None => put_byte(0, out),
-        Some(id) => {
-            put_byte(1, out);
-            put_id(id, out);
-        }
     }
 }
 
@@ -87,20 +78,5 @@ pub fn take_run_tail(has_token: bool, bytes: &[u8]) -> Result<(RunTail, &[u8]), 
             Err(fault) => Err(fault),
         },
         Err(fault) => Err(fault),
-    }
-}
-
-#[tactic(auto, unfolding(change_codec::specs::Reading::origin_at))]
-fn take_origin(bytes: &[u8]) -> Result<(Option<OpId>, &[u8]), CodecError>
-    ensures { Reads (λ x. (x.0, x.1.now)) result (origin_at bytes.now) }
-{
-    match bytes {
-        [] => Err(CodecError::Length),
-        [0, rest @ ..] => Ok((None, rest)),
-        [1, rest @ ..] => match take_id(rest) {
-            Ok((id, rest)) => Ok((Some(id), rest)),
-            Err(fault) => Err(fault),
-        },
-        [_, ..] => Err(CodecError::Kind),
     }
 }

@@ -2,14 +2,13 @@
 ghost use Rattle.std.specs.Prelude.{◌≡◌, ◌≢◌, ◌⊎◌, ◌↔◌, ℕ, Ok, Err, Some, None, IfSome, IsErrOf, IfOk, slice_index};
 ghost use Rattle.op_pieces.specs.Pieces.{Run};
 ghost use Rattle.change_codec.specs.declared.codec_error.CodecError.TheVariants.{Memory};
-ghost use Rattle.change_codec.specs.Record.{IsPartial};
+ghost use Rattle.change_codec.specs.Record.{Answers, IsPartial};
 ghost use Rattle.piece_codec.specs.Formats.{IsPieceOf, run_named as run_named_in};
-ghost use Rattle.piece_codec.specs.Record.{taken_as, taken_piece, first_fault, Answers, BeginsWithPiece, BeginsWithOneOf};
+ghost use Rattle.piece_codec.specs.Record.{taken_as, taken_piece, first_fault, BeginsWithPiece, BeginsWithOneOf};
 
 use crate::kind::run_named;
 use crate::run::take_run;
-use change_codec::{CodecError, Format, take_op, take_u32};
-use fixed_numbers::sizes::MIN_RECORD;
+use change_codec::{CodecError, Format, take_op, whole_body};
 use op_pieces::Piece;
 use std::alloc::Global;
 
@@ -91,7 +90,6 @@ fn take_single(
 }
 
 /// Takes a run, where its kind is there.
-#[tactic(auto, unfolding(change_codec::specs::Reading::number_at))]
 fn take_run_record(
     alloc: Global,
     has_token: bool,
@@ -100,16 +98,12 @@ fn take_run_record(
 ) -> Result<Option<(Piece, usize)>, CodecError>
     ensures { Answers result (taken_as (Some has_token) format bytes.now) }
 {
-    let Ok((len, rest)) = take_u32(bytes) else {
-        return Ok(None);
-    };
-    let len = len as usize;
-    if len < MIN_RECORD || len > format.longest() {
-        return Err(CodecError::Length);
+    match whole_body(format, bytes) {
+        Ok(Some((body, len))) => {
+            let run = take_run(alloc, has_token, &body[1..])?;
+            Ok(Some((run, len)))
+        }
+        Ok(None) => Ok(None),
+        Err(fault) => Err(fault),
     }
-    if rest.len() < len {
-        return Ok(None);
-    }
-    let run = take_run(alloc, has_token, &rest[1..len])?;
-    Ok(Some((run, 4 + len)))
 }

@@ -6,7 +6,7 @@ ghost use Rattle.change_codec.specs.Lent.{deps_of, Gives};
 ghost use Rattle.change_codec.specs.Reading.{deps_at};
 ghost use Rattle.piece_codec.specs.Reading.{counted_at, first_of, run_at};
 
-use crate::fields::{RunHead, RunTail, take_run_head, take_run_tail};
+use crate::fields::{RunFront, take_run_head, take_run_tail};
 use crate::room::is_count;
 use crate::text::take_text;
 use change_codec::{CodecError, skip_deps, take_clock};
@@ -24,7 +24,7 @@ pub fn take_run(alloc: Global, has_token: bool, bytes: &[u8]) -> Result<Piece, C
         Ok((head, deps)) => {
             let rest = skip_deps(deps)?;
             match take_run_tail(has_token, rest) {
-                Ok((tail, rest)) => take_counted(alloc, head, deps, tail, rest),
+                Ok((tail, rest)) => take_counted(alloc, &RunFront { head, deps, tail }, rest),
                 Err(fault) => Err(fault),
             }
         }
@@ -34,23 +34,17 @@ pub fn take_run(alloc: Global, has_token: bool, bytes: &[u8]) -> Result<Piece, C
 
 /// Takes as many characters as the tail says, if there is room for them. `Number` (32) where there
 /// is none.
-fn take_counted(
-    alloc: Global,
-    head: RunHead,
-    deps: &[u8],
-    tail: RunTail,
-    bytes: &[u8],
-) -> Result<Piece, CodecError>
-    requires { IsOk (deps_at deps.now) }
-    ensures { Gives (λ p. p) result
-        (counted_at (first_of head (deps_of deps.now) tail) tail.count bytes.now) }
+fn take_counted(alloc: Global, front: &RunFront<'_>, bytes: &[u8]) -> Result<Piece, CodecError>
+    requires { IsOk (deps_at front.now.deps.now) }
+    ensures { Gives (λ p. p) result (counted_at (first_of front.now.head
+        (deps_of front.now.deps.now) front.now.tail) front.now.tail.count bytes.now) }
 {
-    let count = tail.count;
-    if !is_count(&head, deps, &tail) {
+    let count = front.tail.count;
+    if !is_count(&front.head, front.deps, &front.tail) {
         return Err(CodecError::Number);
     }
     match take_text(alloc, count - 1, bytes) {
-        Ok((value, others)) => make_run(alloc, head, deps, tail, value, others),
+        Ok((value, others)) => make_run(alloc, front, value, others),
         Err(fault) => Err(fault),
     }
 }
@@ -58,24 +52,23 @@ fn take_counted(
 /// The run with memory of its own. An error is out of memory (1).
 fn make_run(
     alloc: Global,
-    head: RunHead,
-    deps: &[u8],
-    tail: RunTail,
+    front: &RunFront<'_>,
     value: char,
     others: Vec<char>,
 ) -> Result<Piece, CodecError>
-    requires tested { IsOk (deps_at deps.now) }
+    requires tested { IsOk (deps_at front.now.deps.now) }
     requires piece { is_piece (record {
-      first = first_of head (deps_of deps.now) tail value;
+      first = first_of front.now.head (deps_of front.now.deps.now) front.now.tail value;
       others = others.items;
     }) ≡ true }
     ensures ok { IfOk result (λ p. p ≡ record {
-      first = first_of head (deps_of deps.now) tail value;
+      first = first_of front.now.head (deps_of front.now.deps.now) front.now.tail value;
       others = others.items;
     }) }
     ensures err { IfErr result (λ error. error ≡ Memory) }
 {
-    let (deps, _) = take_clock(alloc, deps)?;
+    let (head, tail) = (front.head, front.tail);
+    let (deps, _) = take_clock(alloc, front.deps)?;
     let first = Op {
         id: head.id,
         doc: head.doc,

@@ -3,10 +3,10 @@ ghost use Rattle.std.specs.Prelude.{◌≡◌, ◌++◌, ◌<◌, ◌≤◌, ℕ
 ghost use Rattle.change_codec.specs.Writing.{Appends, HasRoom};
 ghost use Rattle.piece_codec.specs.Spelling.{run_bytes, run_fields, spelled_piece, spelled_run};
 
-use crate::fields::{insert_of, put_origin};
+use crate::fields::insert_of;
 use crate::kind::run_byte;
 use crate::text::put_text;
-use change_codec::{put_byte, put_deps, put_id, put_op, put_token, put_u32};
+use change_codec::{put_byte, put_deps, put_id, put_op, put_origin, put_token, put_u32};
 use op_model::{Op, head_length, place_length, token_length};
 use op_pieces::Piece;
 use std::alloc::AllocError;

@@ -1,22 +1,30 @@
 //! The characters of a run.
 ghost use Rattle.std.specs.Prelude.{◌∷◌, ◌<◌, length};
 ghost use Rattle.change_codec.specs.Lent.{Collects, Gives};
-ghost use Rattle.change_codec.specs.Reading.{Reads, only_rest, only_value, scalar_at};
+ghost use Rattle.change_codec.specs.Reading.{Reads, only_rest, only_value};
 ghost use Rattle.change_codec.specs.Writing.{Appends, HasRoom};
 ghost use Rattle.piece_codec.specs.Reading.{scalars_at, text_at, Tests};
 ghost use Rattle.piece_codec.specs.Spelling.{scalars_bytes, text_bytes};
 
-use change_codec::{CodecError, put_u16, put_u32, take_u32};
+use change_codec::{CodecError, put_u16, put_u32, take_scalar};
 use std::alloc::Global;
 
 /// Puts the number of characters, a first one and others, and each of them.
-#[tactic(auto, unfolding(crate::specs::Spelling::text_bytes, crate::specs::Spelling::scalars_bytes))]
+#[tactic(auto, unfolding(crate::specs::Spelling::text_bytes))]
 pub fn put_text(first: char, others: &[char], out: &mut Vec<u8>)
     requires few { length others.now < 256 }
     requires room { HasRoom out.old (text_bytes (first ∷ others.now)) }
     ensures { Appends out.old out.new (text_bytes (first ∷ others.now)) }
 {
     put_u16(others.len() as u16 + 1, out);
+    put_first(first, others, out);
+}
+
+#[tactic(auto, unfolding(crate::specs::Spelling::scalars_bytes))]
+fn put_first(first: char, others: &[char], out: &mut Vec<u8>)
+    requires { HasRoom out.old (scalars_bytes (first ∷ others.now)) }
+    ensures { Appends out.old out.new (scalars_bytes (first ∷ others.now)) }
+{
     put_u32(first as u32, out);
     put_scalars(others, out);
 }
@@ -89,16 +97,4 @@ fn collect_scalars(alloc: Global, count: u16, bytes: &[u8]) -> Result<Vec<char>,
         }
     }
     Ok(values)
-}
-
-/// Takes a character from the front. `Scalar` (33) for no Unicode scalar value.
-#[tactic(auto, unfolding(change_codec::specs::Reading::scalar_at))]
-fn take_scalar(bytes: &[u8]) -> Result<(char, &[u8]), CodecError>
-    ensures { Reads (λ x. (x.0, x.1.now)) result (scalar_at bytes.now) }
-{
-    let (number, rest) = take_u32(bytes)?;
-    match char::from_u32(number) {
-        Some(value) => Ok((value, rest)),
-        None => Err(CodecError::Scalar),
-    }
 }

@@ -66,7 +66,7 @@ pub fn open<D: Disk>(alloc: Global, disk: D) -> Result<Opened<D>, OpenFault<D>>
     }
 }
 
-// What it means for an opening that a list isn't taken over.
+/// What it means for an opening that a list isn't taken over.
 fn cause_of(refusal: Refusal) -> OpenError
     ensures memory { refusal ≡ Refusal.Memory → result ≡ OpenError.Load LoadMemory }
     ensures other { refusal ≢ Refusal.Memory → result ≡ OpenError.BadOperation }

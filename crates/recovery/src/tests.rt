@@ -6,13 +6,13 @@ use op_ids::ReplicaId;
 use std::alloc::Global;
 use std::test::Fail;
 
-// The replica ending in 01.
+/// The replica ending in 01.
 fn first_replica() -> Result<ReplicaId, Fail> {
     let bytes = [0, 0, 0, 0, 0, 0, 0x40, 0, 0x80, 0, 0, 0, 0, 0, 0, 1];
     Ok(ReplicaId::read(bytes).ok_or("nil")?)
 }
 
-// How many operations a disk opens with, or the number of the refusal.
+/// How many operations a disk opens with, or the number of the refusal.
 fn opened(alloc: Global, disk: MemDisk) -> Result<usize, u8> {
     match open(alloc, disk) {
         Ok(it) => {

@@ -13,12 +13,11 @@ ghost use Rattle.replica_core.specs.Refusal.{number_of};
 ghost use Rattle.model_laws.specs.Asking.{IsAskedRight};
 
 use crate::docs::count;
-use crate::index::Index;
+use crate::knowledge::Knowledge;
 use crate::lengths::{made_length, waiting_length};
 use crate::refusal::Refusal;
 use doc_core::Doc;
 use fixed_numbers::limits::{MAX_COUNTER, MAX_OPERATIONS, MAX_STREAM_LENGTH};
-use op_ids::{Clock, ReplicaId};
 use op_list::OpSlice;
 use op_model::Edit;
 
@@ -27,22 +26,21 @@ use op_model::Edit;
 /// for its document or not. Takes no memory. Linear in the document.
 pub fn edit_length(
     ops: &OpSlice<'_>,
-    clock: &Clock,
-    index: &Index,
+    known: &Knowledge<'_>,
     doc: &Doc,
     has_place: bool,
-    replica: ReplicaId,
     edit: &Edit,
 ) -> Result<u64, Refusal>
-    requires counted { AreCounted ops.now clock.now index.now }
+    requires counted { AreCounted ops.now known.now.clock.now known.now.index.now }
     requires stands { StandsFor doc.now ops.now }
     requires number { doc_number doc.now ≡ edit.now.doc }
     requires place { has_place
         ≡ nat_le (length (with_number edit.now.doc (documents ops.now))) MAX_DOCUMENTS }
-    ensures length { IfOk result (λ bytes. (edit_refusal_of ops.now replica edit.now ≡ None)
-        × (bytes ≡ change_length edit.now.change (made_of ops.now replica edit.now))) }
+    ensures length { IfOk result (λ bytes.
+        (edit_refusal_of ops.now known.now.replica edit.now ≡ None)
+        × (bytes ≡ change_length edit.now.change (made_of ops.now known.now.replica edit.now))) }
     ensures refused { IfErr result (λ e.
-        edit_refusal_of ops.now replica edit.now ≡ Some (number_of e)) }
+        edit_refusal_of ops.now known.now.replica edit.now ≡ Some (number_of e)) }
 {
     if !edit.is_at_rev(count(doc, ops)) {
         return Err(Refusal::Stale);
@@ -53,42 +51,40 @@ pub fn edit_length(
     if !edit.change.is_small() {
         return Err(Refusal::Limit);
     }
-    let bytes = made_length(doc, clock, replica, edit);
-    if !is_within_limits(ops, clock, index, has_place, replica, edit, bytes) {
+    let bytes = made_length(doc, known.clock, known.replica, edit);
+    if !is_within_limits(ops, known, has_place, edit, bytes) {
         return Err(Refusal::Limit);
     }
-    Ok(waiting_length(doc, clock, edit, bytes))
+    Ok(waiting_length(doc, known.clock, edit, bytes))
 }
 
 /// Whether the operations, and then those of an edit that asks right, keep the limits of a store.
 /// There is room for its document or not, and the records that it makes take `bytes` bytes.
 fn is_within_limits(
     ops: &OpSlice<'_>,
-    clock: &Clock,
-    index: &Index,
+    known: &Knowledge<'_>,
     has_place: bool,
-    replica: ReplicaId,
     edit: &Edit,
     bytes: u64,
 ) -> bool
-    requires counted { AreCounted ops.now clock.now index.now }
+    requires counted { AreCounted ops.now known.now.clock.now known.now.index.now }
     requires right { IsAskedRight ops.now edit.now }
     requires place { has_place
         ≡ nat_le (length (with_number edit.now.doc (documents ops.now))) MAX_DOCUMENTS }
-    requires length { bytes ≡ stream_length (made_of ops.now replica edit.now) }
-    ensures { result ≡ is_within_limits_of (ops.now ++ made_of ops.now replica edit.now) }
+    requires length { bytes ≡ stream_length (made_of ops.now known.now.replica edit.now) }
+    ensures { result ≡ is_within_limits_of (ops.now ++ made_of ops.now known.now.replica edit.now) }
 {
     let count = edit.change.size() as u64;
     if edit.doc == 0 {
         return false;
     }
-    if !has_counters(index.greatest, count) {
+    if !has_counters(known.index.greatest, count) {
         return false;
     }
-    if !clock.can_advance(replica) {
+    if !known.clock.can_advance(known.replica) {
         return false;
     }
-    has_room(ops, has_place, index.stream, count as usize, bytes)
+    has_room(ops, has_place, known.index.stream, count as usize, bytes)
 }
 
 /// Whether there are `count` counters above `greatest`.

@@ -2,14 +2,16 @@
 ghost use Rattle.std.specs.Prelude.{◌≡◌, IfOk, IfErr, OnOk, OnErr};
 ghost use Rattle.op_model.specs.Machine.{after_edit, edit_alone, new_edit_alone, IsRefusal, ticket, refused};
 ghost use Rattle.op_model.specs.Held.{with_edit};
-ghost use Rattle.replica_core.specs.Decided.{IsDecided};
+ghost use Rattle.replica_core.specs.Decided.{IsDecided, IsPrepared};
 ghost use Rattle.replica_core.specs.Refusal.{number_of};
 
 use crate::counting::count_all;
 use crate::decided::Decided;
 use crate::deciding::edit_length;
 use crate::docs;
+use crate::knowledge::Knowledge;
 use crate::making::made;
+use crate::prepared::Prepared;
 use crate::refusal::Refusal;
 use crate::replica::Replica;
 use crate::step::Step;
@@ -56,7 +58,12 @@ impl Replica {
         let place = docs::place(&log.docs, edit.doc);
         let doc = docs::at(&log.docs, place, &empty);
         let has_place = docs::has_room(&log.docs, place);
-        let bytes = edit_length(&ops, &self.clock, &log.index, doc, has_place, self.id, edit)?;
+        let known = Knowledge {
+            replica: self.id,
+            clock: &self.clock,
+            index: &log.index,
+        };
+        let bytes = edit_length(&ops, &known, doc, has_place, edit)?;
         if !self.steps.has_places() {
             return Err(Refusal::Steps);
         }
@@ -80,25 +87,14 @@ impl Replica {
         ensures memory { IfErr result (λ e. e ≡ Refusal.Memory) }
         ensures err { OnErr result (self.new ≡ self.old) }
     {
-        let log = &self.log;
-        let alloc = log.list.allocator();
-        let ops = log.list.as_slice();
-        let empty = Doc::new(alloc, edit.doc);
-        let doc = docs::at(&log.docs, decided.place, &empty);
-        let rev = docs::count(doc, &ops);
-        let made = made(alloc, &ops, &self.clock, &log.index, doc, self.id, edit)?;
-        let mut clock = self.clock.copy()?;
-        count_all(&mut clock, made.as_slice())?;
+        let prepared = self.prepared(edit, decided)?;
         let first = self.log.list.len();
         let count = edit.change.size();
-        let end = first + count;
-        let rev = rev + count;
-        let place = Place {
-            end: end as u32,
-            rev: rev as u32,
-        };
-        let before = self.tokens.keep(edit.token, place)?;
-        match self.log.append(&made, self.id, edit.doc, decided.place) {
+        let before = self.tokens.keep(edit.token, prepared.place)?;
+        match self
+            .log
+            .append(&prepared.made, self.id, edit.doc, decided.place)
+        {
             Ok(()) => {}
             Err(SequenceError::Memory) => {
                 // A refused edit may be sent again, and is made then.
@@ -107,7 +103,7 @@ impl Replica {
             }
             Err(SequenceError::UnknownId) => unreachable!(),
         }
-        self.clock = clock;
+        self.clock = prepared.clock;
         self.steps.push(Step::Edit {
             session,
             edit: Seen::of(edit),
@@ -115,9 +111,41 @@ impl Replica {
             count,
         });
         Ok(Ticket {
-            end,
-            rev,
+            end: prepared.place.end as usize,
+            rev: prepared.place.rev as usize,
             known: false,
         })
+    }
+
+    /// Makes the operations of a new edit that nothing refuses, and what the clock and the edit's
+    /// place are with them; the replica stays as it is. An error is out of memory (1).
+    fn prepared(&self, edit: &Edit, decided: Decided) -> Result<Prepared, Refusal>
+        requires { IsDecided self.now edit.now decided }
+        ensures prepared { IfOk result (IsPrepared self.now edit.now) }
+        ensures memory { IfErr result (λ e. e ≡ Refusal.Memory) }
+    {
+        let log = &self.log;
+        let alloc = log.list.allocator();
+        let ops = log.list.as_slice();
+        let empty = Doc::new(alloc, edit.doc);
+        let doc = docs::at(&log.docs, decided.place, &empty);
+        let rev = docs::count(doc, &ops);
+        let known = Knowledge {
+            replica: self.id,
+            clock: &self.clock,
+            index: &log.index,
+        };
+        let made = made(alloc, &ops, &known, doc, edit)?;
+        let mut clock = self.clock.copy()?;
+        count_all(&mut clock, made.as_slice())?;
+        let first = log.list.len();
+        let count = edit.change.size();
+        let end = first + count;
+        let rev = rev + count;
+        let place = Place {
+            end: end as u32,
+            rev: rev as u32,
+        };
+        Ok(Prepared { made, clock, place })
     }
 }

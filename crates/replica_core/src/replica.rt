@@ -17,6 +17,7 @@ ghost use Rattle.span_flatten.specs.Listing.{listed};
 use crate::counting::clock_of_front;
 use crate::docs::{count, find};
 use crate::index::Index;
+use crate::knowledge::Knowledge;
 use crate::log::Log;
 use crate::opening::counted;
 use crate::refusal::Refusal;
@@ -234,8 +235,12 @@ impl Replica {
     {
         let alloc = self.log.list.allocator();
         let list = self.log.list.as_slice();
-        let index = &self.log.index;
-        let (ops, reached) = untold(alloc, clock, &list, &self.clock, index, self.settled)?;
+        let known = Knowledge {
+            replica: self.id,
+            clock: &self.clock,
+            index: &self.log.index,
+        };
+        let (ops, reached) = untold(alloc, clock, &list, &known, self.settled)?;
         self.told = self.told.max(reached);
         Ok(ops)
     }

@@ -7,6 +7,7 @@ ghost use Rattle.replica_core.specs.Indexes.{IsIndexOf};
 ghost use Rattle.replica_core.specs.Telling.{IsNextUntold};
 
 use crate::index::Index;
+use crate::knowledge::Knowledge;
 use crate::maker::count_below;
 use fixed_numbers::limits::MAX_TOLD;
 use op_ids::{Clock, ReplicaId};
@@ -22,11 +23,10 @@ pub fn untold(
     alloc: Global,
     peer: &Clock,
     ops: &OpSlice<'_>,
-    clock: &Clock,
-    index: &Index,
+    known: &Knowledge<'_>,
     settled: usize,
 ) -> Result<(Vec<Op>, usize), AllocError>
-    requires counted { AreCounted ops.now clock.now index.now }
+    requires counted { AreCounted ops.now known.now.clock.now known.now.index.now }
     requires within { settled ≤ length ops.now }
     ensures told { IfOk result (λ told.
         told.0.items ≡ untold_of peer.now (take settled ops.now)) }
@@ -36,7 +36,7 @@ pub fn untold(
     let mut found = Vec::new(alloc);
     let mut from = 0;
     while found.len() < MAX_TOLD {
-        let next = next_untold(peer, ops, clock, index, from);
+        let next = next_untold(peer, ops, known.clock, known.index, from);
         if next >= settled {
             return Ok((found, from));
         }

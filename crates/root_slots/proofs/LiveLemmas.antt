@@ -9,7 +9,7 @@ use Rattle.disk_trait.specs.File.{Torn, overwritten}
 use Rattle.disk_trait.specs.declared.facts.DiskFacts.{Ghosts}
 use Rattle.page_file.proofs.Parts.{part_written}
 use Rattle.root_slots.specs.Root.{version_of}
-use Rattle.root_slots.specs.Slots.{gate, body, picked, live}
+use Rattle.root_slots.specs.Slots.{gate, body, picked}
 use Rattle.root_slots.specs.Survivors.{EachSurvivorIs, IsNewer, Lives, LivesOverOpen, LivesAlone, LivesBeforeNewer, LivesOrOther}
 use Rattle.root_slots.proofs.SlotReads.{live_below}
 use Rattle.root_slots.proofs.SlotWrites.{slot_beside, body_behind_gate, gate_before_body, gate_written}

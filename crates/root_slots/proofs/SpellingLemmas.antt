@@ -14,7 +14,7 @@ use Rattle.change_codec.specs.declared.format.Format.TheVariants.{First, Second,
 use Rattle.page_file.specs.Pages.{are_pages, is_zero, number_bytes}
 use Rattle.page_file.proofs.NumberLemmas.{length-number_bytes, numbers_again}
 use Rattle.root_slots.specs.Body.{Root, IsRoot, Spells, head_bytes, body_bytes, tables_for}
-use Rattle.root_slots.specs.Root.{magic, magic_of, is_magic, format_of, version_of, replica_of, stream_length_of, count_of, table_count, gap_of, tables_of}
+use Rattle.root_slots.specs.Root.{magic_of, is_magic, format_of, version_of, replica_of, stream_length_of, count_of, table_count, gap_of, tables_of}
 
 -- what was put piece by piece
 pub one_chain : (out a b c d e f g : List ℕ) → out ++ a ++ b ++ c ++ d ++ e ++ f ++ g ≡ out ++ (a ++ b ++ c ++ d ++ e ++ f ++ g)

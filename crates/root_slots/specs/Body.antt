@@ -5,6 +5,7 @@ use Rattle.fixed_numbers.specs.declared.limits.TheConstants.{MAX_OPERATIONS, MAX
 use Rattle.fixed_numbers.specs.declared.sizes.TheConstants.{BODY_LENGTH, PAGE_SIZE, TABLE_ENTRIES}
 use Rattle.page_file.specs.Pages.{are_pages, number_bytes}
 use Rattle.change_codec.specs.declared.format.Format.{Format}
+use Rattle.root_slots.specs.declared.root_head.RootHead.{RootHead}
 use Rattle.root_slots.specs.Root.{magic, format_of, version_of, replica_of, stream_length_of, count_of, tables_of, pages_for, is_root}
 
 -- the fields of a root body
@@ -16,6 +17,11 @@ pub record Root : Type 0 where
   pub stream_length : ℕ
   pub operations : ℕ
   pub tables : List ℕ
+
+-- the root with this head and these table pages
+abbrev pub root_with : RootHead → List ℕ → Root
+root_with head tables =
+    record { format = head.format; version = head.version; replica = head.replica; stream_length = head.stream_length; operations = head.operations; tables = tables }
 
 -- what the bytes say, if they are a root body
 abbrev pub root_of : List ℕ → Root

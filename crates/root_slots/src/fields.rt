@@ -12,7 +12,7 @@ use fixed_numbers::limits::{MAX_OPERATIONS, MAX_STREAM_LENGTH};
 use fixed_numbers::sizes::{BODY_LENGTH, PAGE_SIZE, TABLE_ENTRIES};
 use op_ids::ReplicaId;
 
-// `PTXTPG01`, `PTXTPG02` and `PTXTPG03`, read as numbers.
+/// `PTXTPG01`, `PTXTPG02` and `PTXTPG03`, read as numbers.
 const FIRST: u64 = 0x5054_5854_5047_3031;
 
 const SECOND: u64 = 0x5054_5854_5047_3032;

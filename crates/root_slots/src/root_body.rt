@@ -3,9 +3,10 @@ ghost use Rattle.std.specs.Prelude.{◌≡◌, ◌↔◌, true, ◌&&◌, IsSome
 ghost use Rattle.page_file.specs.Pages.{are_pages, is_zero};
 ghost use Rattle.root_slots.specs.Head.{is_head};
 ghost use Rattle.root_slots.specs.Root.{is_root, tables_of};
-ghost use Rattle.root_slots.specs.Body.{Root, IsRoot, Spells, root_in, root_of, body_bytes};
+ghost use Rattle.root_slots.specs.Body.{Root, IsRoot, Spells, root_in, root_of, root_with, body_bytes};
 
 use crate::fields::{format_at, is_head, replica_at, tables_for, u32_at, u64_at};
+use crate::root_head::RootHead;
 use crate::writing::spelled;
 use change_codec::Format;
 use fixed_numbers::limits::{MAX_OPERATIONS, MAX_STREAM_LENGTH};
@@ -20,82 +21,42 @@ use std::marker::Model;
 /// as the stream needs, each at least 2, none of them twice.
 #[derive(Debug, Drop)]
 pub struct RootBody {
-    format: Format,
-    version: u64,
-    replica: ReplicaId,
-    stream_length: u64,
-    operations: u64,
+    head: RootHead,
     tables: Vec<u32>,
 }
 
 impl Model for RootBody {
-    ghost use Rattle.root_slots.specs.Body.{Root, IsRoot};
+    ghost use Rattle.root_slots.specs.Body.{Root, root_with, IsRoot};
 
     ghost Value = { Root };
 
-    ghost view = { λ r. record {
-      format = r.format;
-      version = r.version;
-      replica = r.replica;
-      stream_length = r.stream_length;
-      operations = r.operations;
-      tables = r.tables.items;
-    } };
+    ghost view = { λ r. root_with r.head r.tables.items };
 
-    ghost invariant = { λ r. IsRoot (record {
-      format = r.format;
-      version = r.version;
-      replica = r.replica;
-      stream_length = r.stream_length;
-      operations = r.operations;
-      tables = r.tables.items;
-    }) };
+    ghost invariant = { λ r. IsRoot (root_with r.head r.tables.items) };
 }
 
 impl RootBody {
-    /// The root with these fields, or `None` where they break a rule: a version of 0, a stream of
-    /// more than 2^30 bytes, more than 2^24 operations, not as many table pages as the stream
-    /// needs, one below 2 or one that stands twice. Takes no memory; the steps grow with the square
-    /// of the number of table pages.
-    pub fn new(
-        format: Format,
-        version: u64,
-        replica: ReplicaId,
-        stream_length: u64,
-        operations: u64,
-        tables: Vec<u32>,
-    ) -> Option<RootBody>
-        ensures value { IfSome result (λ root. root ≡ record {
-          format = format;
-          version = version;
-          replica = replica;
-          stream_length = stream_length;
-          operations = operations;
-          tables = tables.items;
-        }) }
-        ensures valid { IsSome result ↔ IsRoot (record {
-          format = format;
-          version = version;
-          replica = replica;
-          stream_length = stream_length;
-          operations = operations;
-          tables = tables.items;
-        }) }
+    /// The root with this head and these table pages, or `None` where they break a rule: a version
+    /// of 0, a stream of more than 2^30 bytes, more than 2^24 operations, not as many table pages
+    /// as the stream needs, one below 2 or one that stands twice. Takes no memory; the steps grow
+    /// with the square of the number of table pages.
+    pub fn new(head: RootHead, tables: Vec<u32>) -> Option<RootBody>
+        ensures value { IfSome result (λ root. root ≡ root_with head tables.items) }
+        ensures valid { IsSome result ↔ IsRoot (root_with head tables.items) }
     {
+        let RootHead {
+            version,
+            stream_length,
+            operations,
+            ..
+        } = head;
         if version == 0 || stream_length > MAX_STREAM_LENGTH || operations > MAX_OPERATIONS as u64 {
             return None;
         }
         if tables.len() as u64 != tables_for(stream_length) || !are_pages(&tables) {
             return None;
         }
-        Some(RootBody {
-            format,
-            version,
-            replica,
-            stream_length,
-            operations,
-            tables,
-        })
+        Some(RootBody { head, tables })
     }
 
     /// The root that these bytes are, or `None` where they are no root body: not 4,088 bytes, a
@@ -124,14 +85,14 @@ impl RootBody {
         if !is_rest(&tables, after) {
             return None;
         }
-        Some(RootBody {
+        let head = RootHead {
             format: format_at(body),
             version: u64_at(body, 8),
             replica: replica_at(body),
             stream_length: u64_at(body, 32),
             operations: u64_at(body, 40),
-            tables,
-        })
+        };
+        Some(RootBody { head, tables })
     }
 
     /// The 4,088 bytes that say this. One allocation; an error is out of memory (1).
@@ -139,22 +100,14 @@ impl RootBody {
         ensures bytes { IfOk result (λ body. body.items ≡ body_bytes self.now) }
         ensures read_back { IfOk result (λ body. Spells body.items self.now) }
     {
-        spelled(
-            alloc,
-            self.format,
-            self.version,
-            self.replica,
-            self.stream_length,
-            self.operations,
-            &self.tables,
-        )
+        spelled(alloc, &self.head, &self.tables)
     }
 
     /// The format of the stream.
     pub fn format(&self) -> Format
         ensures { result ≡ self.now.format }
     {
-        self.format
+        self.head.format
     }
 
     /// How often a root was made in this file, this one included: at least 1.
@@ -162,28 +115,28 @@ impl RootBody {
         ensures value { result ≡ self.now.version }
         ensures valid { IsRoot self.now }
     {
-        self.version
+        self.head.version
     }
 
     /// The replica that the file belongs to.
     pub fn replica(&self) -> ReplicaId
         ensures { result ≡ self.now.replica }
     {
-        self.replica
+        self.head.replica
     }
 
     /// How many bytes the stream of operations has.
     pub fn stream_length(&self) -> u64
         ensures { result ≡ self.now.stream_length }
     {
-        self.stream_length
+        self.head.stream_length
     }
 
     /// How many operations there are.
     pub fn operations(&self) -> u64
         ensures { result ≡ self.now.operations }
     {
-        self.operations
+        self.head.operations
     }
 
     /// The numbers of the table pages, in order.
@@ -194,7 +147,7 @@ impl RootBody {
     }
 }
 
-// Whether these are pages, and what stands behind them is zero.
+/// Whether these are pages, and what stands behind them is zero.
 fn is_rest(tables: &[u32], after: &[u8]) -> bool
     ensures { result ≡ (are_pages tables.now && is_zero after.now) }
 {

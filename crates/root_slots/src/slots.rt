@@ -21,7 +21,7 @@ pub struct Live {
     pub root: RootBody,
 }
 
-// Whether a slot is open, of the bytes of both.
+/// Whether a slot is open, of the bytes of both.
 fn is_open(slots: &[u8], slot: u64) -> bool
     requires slot { slot < 2 }
     requires both { length slots.now ≡ SLOTS_SIZE }
@@ -30,7 +30,7 @@ fn is_open(slots: &[u8], slot: u64) -> bool
     slots[PAGE_SIZE * slot as usize] == 1
 }
 
-// The body of a slot, of the bytes of both.
+/// The body of a slot, of the bytes of both.
 fn body_at(slots: &[u8], slot: u64) -> &[u8]
     requires slot { slot < 2 }
     requires both { length slots.now ≡ SLOTS_SIZE }
@@ -42,7 +42,7 @@ fn body_at(slots: &[u8], slot: u64) -> &[u8]
     body
 }
 
-// The version that a slot's body says, also where it isn't a root body.
+/// The version that a slot's body says, also where it isn't a root body.
 fn version_at(body: &[u8]) -> u64
     requires { length body.now ≡ BODY_LENGTH }
     ensures { result ≡ version_of body.now }
@@ -52,7 +52,7 @@ fn version_at(body: &[u8]) -> u64
     u64::from_be_bytes(*bytes)
 }
 
-// The slot with the greater version, or 43 where they are equal.
+/// The slot with the greater version, or 43 where they are equal.
 fn greater(version0: u64, version1: u64) -> Result<u64, RootsError>
     ensures slot { IfOk result (λ slot. greater version0 version1 ≡ Ok slot) }
     ensures below { IfOk result (λ slot. slot < 2) }
@@ -68,8 +68,8 @@ fn greater(version0: u64, version1: u64) -> Result<u64, RootsError>
     }
 }
 
-// Which slot is live, of the bytes of both: the open one, of two the one with the greater version.
-// 42 where none is open, and 43 where two are with equal versions.
+/// Which slot is live, of the bytes of both: the open one, of two the one with the greater version.
+/// 42 where none is open, and 43 where two are with equal versions.
 fn live_slot(slots: &[u8]) -> Result<u64, RootsError>
     requires { length slots.now ≡ SLOTS_SIZE }
     ensures slot { IfOk result (λ slot. live slots.now ≡ Ok slot) }
@@ -90,7 +90,7 @@ fn live_slot(slots: &[u8]) -> Result<u64, RootsError>
     }
 }
 
-// What a body says, or 43 where it is no root body; 1 when out of memory.
+/// What a body says, or 43 where it is no root body; 1 when out of memory.
 fn root_of(alloc: Global, body: &[u8]) -> Result<RootBody, RootsError>
     ensures says { IfOk result (λ root. Spells body.now root) }
     ensures written { IfOk result (λ root. body.now ≡ body_bytes root) }

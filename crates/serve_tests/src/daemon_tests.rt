@@ -32,7 +32,7 @@ const REV_2: &str = "{\"ok\":true,\"rev\":2}";
 
 const STOPPED: &str = "{\"ok\":true}";
 
-// A stop and an edit behind it, sent at once.
+/// A stop and an edit behind it, sent at once.
 const STOP_AND_INSERT: &str =
     "{\"op\":\"stop\"}\n{\"op\":\"insert\",\"doc\":1,\"at\":0,\"text\":\"a\"}";
 

@@ -10,7 +10,7 @@ use crate::session_thread::serve_session;
 use crate::web_thread::serve_web;
 use event_journal::{Event, LinkPlace, Reason};
 use fixed_numbers::refusals::BUSY;
-use link_threads::{LinkLog, serve_link};
+use link_threads::serve_link;
 use pass_books::BookNames;
 use shared_desk::End;
 use shared_hub::Checkpoint;
@@ -159,20 +159,7 @@ pub(crate) fn link<
         lobby.leave(hall.rt, entry, None);
         return false;
     };
-    let log = LinkLog {
-        journal: hall.manner.journal,
-        place,
-    };
-    let parted = serve_link(
-        hall.rt,
-        hall.alloc,
-        hall.own,
-        &hall.shared,
-        &mut pass,
-        stream,
-        hall.checkpoint,
-        log,
-    );
+    let parted = serve_link(&hall.link_host(place), &mut pass, stream);
     if parted.is_out_of_steps {
         hall.ending.ask(hall.rt, End::Renewal);
     }

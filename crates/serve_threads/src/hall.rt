@@ -4,11 +4,12 @@ use crate::accepting::Kind;
 use crate::entry::Entry;
 use crate::lobby::Lobby;
 use crate::sockets::Manner;
-use event_journal::Event;
+use event_journal::{Event, LinkPlace};
 use hub_parts::Locked;
+use link_threads::{LinkHost, LinkLog};
 use op_ids::ReplicaId;
 use pass_books::BookNames;
-use shared_desk::{End, Ending};
+use shared_desk::{Daemon, End, Ending};
 use shared_hub::{Checkpoint, Named, Shared};
 use std::alloc::{AllocError, Global};
 use std::net::TcpStream;
@@ -90,6 +91,32 @@ impl<'a, R: Wait, J: BookNames, C: Checkpoint> Hall<'a, R, J, C> {
             ending: Ending::new(),
             manner,
         })
+    }
+
+    /// What the desks of sessions share of this.
+    pub fn daemon(&'a self) -> Daemon<'a, R, J, C> {
+        Daemon {
+            rt: self.rt,
+            shared: &self.shared,
+            read_turn: &self.read_turn,
+            ending: &self.ending,
+            checkpoint: self.checkpoint,
+        }
+    }
+
+    /// What a link at this place is served with.
+    pub fn link_host(&'a self, place: LinkPlace) -> LinkHost<'a, R, J, C> {
+        LinkHost {
+            rt: self.rt,
+            alloc: self.alloc,
+            own: self.own,
+            shared: &self.shared,
+            checkpoint: self.checkpoint,
+            log: LinkLog {
+                journal: self.manner.journal,
+                place,
+            },
+        }
     }
 
     /// Tells of an event, if anybody is to be told.

@@ -12,6 +12,7 @@ mod door;
 mod doors;
 mod entry;
 mod hall;
+mod host;
 mod last_words;
 mod lobby;
 mod pauses;
@@ -25,6 +26,7 @@ mod watch_thread;
 mod web_ends;
 mod web_thread;
 
+pub use host::Host;
 pub use rejoining::Joined;
 pub use renewing::serve_on;
 pub use serving::{Served, serve_all};

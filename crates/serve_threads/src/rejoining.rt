@@ -2,6 +2,7 @@
 
 use crate::accepting::link;
 use crate::hall::Hall;
+use crate::host::Host;
 use crate::pauses::{Outcome, Pauses};
 use event_journal::LinkPlace;
 use pass_books::BookNames;
@@ -47,11 +48,10 @@ impl Joined {
 
 /// Serves the link to a peer that was joined. If that ends, the peer is joined again after a pause,
 /// as `Pauses` says, until the daemon is asked to end or its links are over.
-pub(crate) fn keep_joined<
-    R: Wait + Clock + Threads + Net<Listener = TcpListener, Stream = TcpStream> + Sync,
-    J: BookNames + Send + Sync,
-    C: Checkpoint + Sync,
->(hall: &Hall<R, J, C>, joined: Joined) {
+pub(crate) fn keep_joined<R: Host, J: BookNames + Send + Sync, C: Checkpoint + Sync>(
+    hall: &Hall<R, J, C>,
+    joined: Joined,
+) {
     let rt = hall.rt;
     let Joined { stream, port } = joined;
     let mut pauses = Pauses::new();

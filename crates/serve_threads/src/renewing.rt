@@ -3,6 +3,7 @@ ghost use Rattle.std.specs.Prelude.{◌≡◌, [], IfOk, IfErr};
 ghost use Rattle.recovery.specs.Faults.{failures_of};
 ghost use Rattle.serve_threads.specs.Turns.{Turns, IsNotOpened};
 
+use crate::host::Host;
 use crate::serving::{Served, serve_all};
 use crate::sockets::Sockets;
 use disk_trait::Disk;
@@ -11,21 +12,12 @@ use hub_parts::{Parts, open};
 use recovery::OpenFault;
 use shared_hub::Checkpoint;
 use std::alloc::Global;
-use std::net::{Net, TcpListener, TcpStream};
-use std::rt::Clock;
-use std::sync::Wait;
-use std::thread::Threads;
 
 /// Serves as `serve_all` does, turn after turn: each time that no steps are left (10), the file is
 /// opened anew in this process and served over the same sockets, at which whoever came meanwhile
 /// has waited. It ends with the turn in which a session asked for a stop, the device failed, or
 /// there was no memory to begin with. An error is that of an opening, with the disk.
-pub fn serve_on<
-    'a,
-    D: Disk + Drop,
-    R: Wait + Clock + Threads + Net<Listener = TcpListener, Stream = TcpStream> + Sync,
-    C: Checkpoint + Sync,
->(
+pub fn serve_on<'a, D: Disk + Drop, R: Host, C: Checkpoint + Sync>(
     rt: &'a R,
     alloc: Global,
     parts: Parts<D>,

@@ -6,6 +6,7 @@ ghost use Rattle.shared_hub.specs.Going.{Goes, ComesBack};
 use crate::accepting::{Kind, accept};
 use crate::doors::Doors;
 use crate::hall::{Base, Hall};
+use crate::host::Host;
 use crate::rejoining::{Joined, keep_joined};
 use crate::sockets::Sockets;
 use disk_trait::Disk;
@@ -21,7 +22,6 @@ use std::net::{Net, TcpListener, TcpStream};
 use std::rt::Clock;
 use std::sync::Wait;
 use std::thread;
-use std::thread::Threads;
 use std::time::Duration;
 
 /// How long sessions have for their last words, in milliseconds: longer than what they still send
@@ -54,12 +54,7 @@ pub struct Served<'a, D: Disk> {
 /// there is one: a further session is answered 8 and closed, a further link is closed. A session
 /// whose first bytes are a request line of HTTP is closed before any line of it is served. At the
 /// end sessions have three seconds for their last words, and links have one.
-pub fn serve_all<
-    'a,
-    D: Disk + Drop,
-    R: Wait + Clock + Threads + Net<Listener = TcpListener, Stream = TcpStream> + Sync,
-    C: Checkpoint + Sync,
->(
+pub fn serve_all<'a, D: Disk + Drop, R: Host, C: Checkpoint + Sync>(
     rt: &'a R,
     alloc: Global,
     parts: Parts<D>,
@@ -97,13 +92,12 @@ fn without_memory<'a, D: Disk>(flusher: Flusher<D>) -> Served<'a, D>
 }
 
 /// Serves with the books that have these names.
-fn serve_named<
-    'a,
-    J: BookNames + Send + Sync,
-    D: Disk + Drop,
-    R: Wait + Clock + Threads + Net<Listener = TcpListener, Stream = TcpStream> + Sync,
-    C: Checkpoint + Sync,
->(base: Base<'a, R, C>, opened: Opened, parts: Parts<D>, sockets: Sockets<'a>) -> Served<'a, D>
+fn serve_named<'a, J: BookNames + Send + Sync, D: Disk + Drop, R: Host, C: Checkpoint + Sync>(
+    base: Base<'a, R, C>,
+    opened: Opened,
+    parts: Parts<D>,
+    sockets: Sockets<'a>,
+) -> Served<'a, D>
     requires names { opened ≡ J.names }
     requires fresh { parts.locked.replica.steps ≡ [] }
     ensures { ComesBack D.DiskFacts parts.flusher result.disk }
@@ -156,12 +150,7 @@ fn begin<'a, R: Wait, J: BookNames, C: Checkpoint>(
 /// Starts the threads, waits until one asks to end, and ends them all. First comes the one that
 /// ends the others: without it nobody is let in. This thread is the flusher's. Answers whether all
 /// could be started, where not, they end at once; and gives the flusher back.
-fn run<
-    J: BookNames + Send + Sync,
-    D: Disk + Drop,
-    R: Wait + Clock + Threads + Net<Listener = TcpListener, Stream = TcpStream> + Sync,
-    C: Checkpoint + Sync,
->(
+fn run<J: BookNames + Send + Sync, D: Disk + Drop, R: Host, C: Checkpoint + Sync>(
     hall: &Hall<R, J, C>,
     flusher: Flusher<D>,
     doors: &Doors,

@@ -115,14 +115,7 @@ fn serve<R: Wait + Clock, J: BookNames, C: Checkpoint, S: Read + Drop, W: Answer
     hall.tell(&Event::SessionUp { session: number });
     // Each answer goes out at once: its sender waits for nothing behind it.
     let _ = caller.stream.set_nodelay(true);
-    let mut desk = SharedDesk::new(
-        hall.rt,
-        &hall.shared,
-        &hall.read_turn,
-        &hall.ending,
-        hall.checkpoint,
-        pass,
-    );
+    let mut desk = SharedDesk::new(hall.daemon(), pass);
     let Caller {
         stream,
         reader,

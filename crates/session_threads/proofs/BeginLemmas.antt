@@ -4,7 +4,7 @@ use Rattle.disk_trait.specs.declared.facts.DiskFacts.{Ghosts}
 use Rattle.op_model.specs.Machine.{State, Event, Answer, begin, begun, nothing_new, refused}
 use Rattle.locked_replica.specs.Calls.{IsCall}
 use Rattle.locked_replica.specs.Hub.{Parts, state_of}
-use Rattle.session_threads.specs.declared.begun.Begun.TheVariants.{UnderWay, Settled, Refused}
+use Rattle.session_threads.specs.declared.commit_start.CommitStart.TheVariants.{UnderWay, Settled, Refused}
 use Rattle.locked_replica.specs.Run.{Calls}
 use Rattle.session_threads.specs.HubCalls.{IsQuiet, IsOfCommit, AreOfCommit, AreTimes, CommitCalls, CannotSettle, DeskBegins, begins_at, with_begun}
 use Rattle.session_threads.proofs.CallLemmas.{Calls-append, one_call, more_calls}

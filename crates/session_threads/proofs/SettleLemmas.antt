@@ -7,7 +7,7 @@ use Rattle.locked_replica.specs.declared.refusal.HubRefusal.{HubRefusal}
 use Rattle.locked_replica.specs.Calls.{IsCall}
 use Rattle.locked_replica.specs.Hub.{Parts, state_of}
 use Rattle.locked_replica.specs.Steps.{settle_answered, number_of}
-use Rattle.session_threads.specs.declared.begun.Begun.TheVariants.{UnderWay, Settled, Refused}
+use Rattle.session_threads.specs.declared.commit_start.CommitStart.TheVariants.{UnderWay, Settled, Refused}
 use Rattle.session_threads.specs.HubCalls.{IsQuiet, CommitCalls, DeskBegins, GoesThrough, Commits, with_begun}
 use Rattle.op_model.specs.Machine.{with_through}
 use Rattle.session_threads.proofs.CallLemmas.{more_calls, both_calls}

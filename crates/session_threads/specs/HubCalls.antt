@@ -6,8 +6,8 @@ use Rattle.op_model.specs.Machine.{State, Event, Answer, begin, device_step, set
 use Rattle.hub_parts.specs.declared.meeting.TheConstants.{BEGIN_TRIES}
 use Rattle.locked_replica.specs.Hub.{Parts, state_of}
 use Rattle.locked_replica.specs.Run.{Calls}
-use Rattle.session_threads.specs.declared.begun.Begun.{Begun}
-use Rattle.session_threads.specs.declared.begun.Begun.TheVariants.{UnderWay, Settled, Refused}
+use Rattle.session_threads.specs.declared.commit_start.CommitStart.{CommitStart}
+use Rattle.session_threads.specs.declared.commit_start.CommitStart.TheVariants.{UnderWay, Settled, Refused}
 
 -- by whether the device failed and that is told: no commit is under way, or the failure is told
 abbrev pub IsQuietBy : Bool → Bool → Option Commit → Type 0
@@ -69,14 +69,14 @@ module _ {D : Type 0} (facts : Ghosts D) where
     pub only : AreOfCommit begins events
 
   -- how a begin ends: a commit is begun, all was settled, or there is none
-  abbrev pub BegunAs : State → State → List (Event × Answer) → Begun → Type 0
-  BegunAs old new events UnderWay = (old.failed ≡ false) × (new ≡ with_begun old)
-  BegunAs old new events Settled = (new ≡ old) × (length old.held.list ≤ old.held.settled)
-  BegunAs old new events Refused = (new ≡ old) × CannotSettle new events
+  abbrev pub StartedAs : State → State → List (Event × Answer) → CommitStart → Type 0
+  StartedAs old new events UnderWay = (old.failed ≡ false) × (new ≡ with_begun old)
+  StartedAs old new events Settled = (new ≡ old) × (length old.held.list ≤ old.held.settled)
+  StartedAs old new events Refused = (new ≡ old) × CannotSettle new events
 
-  pub record DeskBegins (old : Parts D) (begun : Begun) (new : Parts D) : Type 0 where
+  pub record DeskBegins (old : Parts D) (start : CommitStart) (new : Parts D) : Type 0 where
     pub calls : CommitCalls BEGIN_TRIES old new
-    pub ends : BegunAs (state_of old) (state_of new) calls.events begun
+    pub ends : StartedAs (state_of old) (state_of new) calls.events start
 
   -- how the device calls of a commit end: it is through, or the device failed
   abbrev pub GoneThrough : State → State → Bool → Type 0

@@ -5,7 +5,7 @@ ghost use Rattle.op_model.specs.Machine.{is_under_way};
 ghost use Rattle.locked_replica.specs.Hub.{state_of};
 ghost use Rattle.session_threads.specs.HubCalls.{IsQuiet, DeskBegins, GoesThrough, Commits};
 
-use crate::begun::Begun;
+use crate::commit_start::CommitStart;
 use disk_trait::Disk;
 use fixed_numbers::refusals::MEMORY;
 use group_commit::Phase;
@@ -22,9 +22,9 @@ pub fn commit<D: Disk>(hub: &mut Hub<D>) -> bool
     ensures list { hub.new.replica.list ≡ hub.old.replica.list }
 {
     match begin(hub) {
-        Begun::Settled => true,
-        Begun::Refused => false,
-        Begun::UnderWay => {
+        CommitStart::Settled => true,
+        CommitStart::Refused => false,
+        CommitStart::UnderWay => {
             // Where a device call failed, the settlement tells it, and nothing is settled.
             let is_through = go_through(hub);
             let is_settled = hub.settle().is_ok();
@@ -34,19 +34,19 @@ pub fn commit<D: Disk>(hub: &mut Hub<D>) -> bool
 }
 
 /// Begins a commit, where a begin that finds no memory is made again.
-fn begin<D: Disk>(hub: &mut Hub<D>) -> Begun
+fn begin<D: Disk>(hub: &mut Hub<D>) -> CommitStart
     requires { IsQuiet (state_of hub.old) }
     ensures { DeskBegins D.DiskFacts hub.old result hub.new }
 {
     for _ in 0..BEGIN_TRIES {
         match hub.begin() {
-            Ok(Some(_)) => return Begun::UnderWay,
-            Ok(None) => return Begun::Settled,
+            Ok(Some(_)) => return CommitStart::UnderWay,
+            Ok(None) => return CommitStart::Settled,
             Err(refusal) if refusal.number() == MEMORY => {}
-            Err(_) => return Begun::Refused,
+            Err(_) => return CommitStart::Refused,
         }
     }
-    Begun::Refused
+    CommitStart::Refused
 }
 
 /// Makes the device calls of the commit under way, and answers whether it is through; else the

@@ -5,7 +5,7 @@
 #![tactic(auto)]
 
 mod answer_text;
-mod begun;
+mod commit_start;
 mod committing;
 mod desk;
 mod exchange;

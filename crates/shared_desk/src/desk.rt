@@ -7,15 +7,23 @@ use shared_hub::{Checkpoint, Shared};
 use std::marker::Model;
 use std::sync::{Mutex, Wait};
 
+/// What the desks of one daemon share: the hub, whose turn it is to read, and whether the daemon
+/// was asked to end.
+#[derive(Drop)]
+pub struct Daemon<'a, R: Wait, J: BookNames, C: Checkpoint> {
+    pub rt: &'a R,
+    pub shared: &'a Shared<J>,
+    /// Whoever has it may read a text or spans.
+    pub read_turn: &'a Mutex<()>,
+    pub ending: &'a Ending,
+    pub checkpoint: &'a C,
+}
+
 /// A desk of one session over a shared hub, with the session's pass. A stop asks the daemon to end.
 /// Contracts see the pass: what it has entered are the kept steps of its number.
 #[derive(Drop)]
 pub struct SharedDesk<'a, R: Wait, J: BookNames, C: Checkpoint> {
-    pub(crate) rt: &'a R,
-    pub(crate) shared: &'a Shared<J>,
-    pub(crate) read_turn: &'a Mutex<()>,
-    pub(crate) ending: &'a Ending,
-    pub(crate) checkpoint: &'a C,
+    pub(crate) daemon: Daemon<'a, R, J, C>,
     pub(crate) pass: Pass<J>,
 }
 
@@ -28,40 +36,20 @@ impl<'a, R: Wait, J: BookNames, C: Checkpoint> Model for SharedDesk<'a, R, J, C>
 }
 
 impl<'a, R: Wait, J: BookNames, C: Checkpoint> SharedDesk<'a, R, J, C> {
-    /// The desk of a session with this pass, which is counted from now on. Those who read take
-    /// turns by `read_turn`.
-    pub fn new(
-        rt: &'a R,
-        shared: &'a Shared<J>,
-        read_turn: &'a Mutex<()>,
-        ending: &'a Ending,
-        checkpoint: &'a C,
-        pass: Pass<J>,
-    ) -> SharedDesk<'a, R, J, C>
+    /// The desk of a session of this daemon, with this pass, which is counted from now on.
+    pub fn new(daemon: Daemon<'a, R, J, C>, pass: Pass<J>) -> SharedDesk<'a, R, J, C>
         ensures { result ≡ pass }
     {
-        shared.note_session(rt);
-        SharedDesk {
-            rt,
-            shared,
-            read_turn,
-            ending,
-            checkpoint,
-            pass,
-        }
+        daemon.shared.note_session(daemon.rt);
+        SharedDesk { daemon, pass }
     }
 
     /// The pass, of which the desk lets go; the session is counted no more.
     pub fn into_pass(self) -> Pass<J>
         ensures { result ≡ self.entry }
     {
-        let SharedDesk {
-            pass,
-            shared,
-            rt,
-            ..
-        } = self;
-        shared.forget_session(rt);
+        let SharedDesk { daemon, pass } = self;
+        daemon.shared.forget_session(daemon.rt);
         pass
     }
 }

@@ -7,5 +7,5 @@ mod desk;
 mod ending;
 mod serving;
 
-pub use desk::SharedDesk;
+pub use desk::{Daemon, SharedDesk};
 pub use ending::{End, Ending};

@@ -25,7 +25,7 @@ impl<'a, R: Wait, J: BookNames, C: Checkpoint> Desk for SharedDesk<'a, R, J, C> 
     ghost serves = { Serves };
 
     fn line_read(&mut self) {
-        self.checkpoint.pass(Point::LineRead);
+        self.daemon.checkpoint.pass(Point::LineRead);
     }
 
     fn serve(&mut self, alloc: Global, command: Command) -> Answer {
@@ -47,10 +47,18 @@ impl<'a, R: Wait, J: BookNames, C: Checkpoint> SharedDesk<'a, R, J, C> {
     fn edit(&mut self, edit: &Edit) -> Answer
         ensures { ServesEdit self.old edit.now result self.new }
     {
-        match self.shared.edit(self.rt, &mut self.pass, edit) {
+        match self
+            .daemon
+            .shared
+            .edit(self.daemon.rt, &mut self.pass, edit)
+        {
             Ok(ticket) => {
-                self.checkpoint.pass(Point::BeforeWait);
-                if self.shared.acknowledge(self.rt, &mut self.pass, ticket) {
+                self.daemon.checkpoint.pass(Point::BeforeWait);
+                if self
+                    .daemon
+                    .shared
+                    .acknowledge(self.daemon.rt, &mut self.pass, ticket)
+                {
                     Answer::Edited {
                         rev: ticket.rev as u64,
                     }
@@ -61,7 +69,7 @@ impl<'a, R: Wait, J: BookNames, C: Checkpoint> SharedDesk<'a, R, J, C> {
             Err(refusal) => {
                 let refusal = refusal_of(refusal);
                 if refusal == Refusal::Steps {
-                    self.ending.ask(self.rt, End::Renewal);
+                    self.daemon.ending.ask(self.daemon.rt, End::Renewal);
                 }
                 Answer::Refused(refusal)
             }
@@ -73,8 +81,8 @@ impl<'a, R: Wait, J: BookNames, C: Checkpoint> SharedDesk<'a, R, J, C> {
     fn text(&mut self, doc: u32) -> Answer
         ensures { ServesText self.old doc result self.new }
     {
-        let _turn = self.read_turn.lock(self.rt);
-        match self.shared.text(self.rt, &mut self.pass, doc) {
+        let _turn = self.daemon.read_turn.lock(self.daemon.rt);
+        match self.daemon.shared.text(self.daemon.rt, &mut self.pass, doc) {
             Ok(Shown { rev, content }) => Answer::Text { rev, text: content },
             Err(_) => Answer::Refused(Refusal::Memory),
         }
@@ -84,8 +92,12 @@ impl<'a, R: Wait, J: BookNames, C: Checkpoint> SharedDesk<'a, R, J, C> {
     fn spans(&mut self, doc: u32) -> Answer
         ensures { ServesSpans self.old doc result self.new }
     {
-        let _turn = self.read_turn.lock(self.rt);
-        match self.shared.spans(self.rt, &mut self.pass, doc) {
+        let _turn = self.daemon.read_turn.lock(self.daemon.rt);
+        match self
+            .daemon
+            .shared
+            .spans(self.daemon.rt, &mut self.pass, doc)
+        {
             Ok(Shown { rev, content }) => Answer::Spans {
                 rev,
                 spans: SpanList::from(content),
@@ -98,7 +110,7 @@ impl<'a, R: Wait, J: BookNames, C: Checkpoint> SharedDesk<'a, R, J, C> {
     fn status(&mut self) -> Answer
         ensures { ServesStatus self.old result self.new }
     {
-        let status = self.shared.status(self.rt, &mut self.pass);
+        let status = self.daemon.shared.status(self.daemon.rt, &mut self.pass);
         let state = if status.has_failed {
             State::Failed
         } else if status.is_stopping {
@@ -117,10 +129,14 @@ impl<'a, R: Wait, J: BookNames, C: Checkpoint> SharedDesk<'a, R, J, C> {
     fn peers(&mut self, alloc: Global) -> Answer
         ensures { ServesPeers self.old result self.new }
     {
-        match self.shared.peers(self.rt, alloc, &mut self.pass) {
+        match self
+            .daemon
+            .shared
+            .peers(self.daemon.rt, alloc, &mut self.pass)
+        {
             Ok(peers) => Answer::Peers {
                 peers: PeerList::from(peers),
-                sessions: self.shared.sessions(self.rt),
+                sessions: self.daemon.shared.sessions(self.daemon.rt),
             },
             Err(_) => Answer::Refused(Refusal::Memory),
         }
@@ -130,8 +146,8 @@ impl<'a, R: Wait, J: BookNames, C: Checkpoint> SharedDesk<'a, R, J, C> {
     fn stop(&mut self) -> Answer
         ensures { ServesStop self.old result self.new }
     {
-        let is_settled = self.shared.stop(self.rt);
-        self.ending.ask(self.rt, End::Stop);
+        let is_settled = self.daemon.shared.stop(self.daemon.rt);
+        self.daemon.ending.ask(self.daemon.rt, End::Stop);
         if is_settled {
             Answer::Stopped
         } else {

@@ -1,8 +1,11 @@
 -- What stands under the lock of a shared hub.
-use Rattle.std.specs.Prelude.{◌≡◌, ℕ, Bool, if◌then◌else◌, List, ◌∷◌, Result, Ok, Err}
-use Rattle.op_model.specs.Machine.{Ticket}
+use Rattle.std.specs.Prelude.{◌≡◌, ℕ, Bool, if◌then◌else◌, List, ◌∷◌, length, Result, Ok, Err, IfOk, OnErr}
+use Rattle.op_model.specs.Machine.{Ticket, after_edit as replica_after_edit}
+use Rattle.op_model.specs.declared.edit.Edit.{Edit}
+use Rattle.op_model.specs.declared.op.Op.{Op}
 use Rattle.hub_parts.specs.Locked.{IsLocked, LockedHeld}
 use Rattle.pass_books.specs.Accounts.{PassHeld}
+use Rattle.replica_core.specs.Merging.{after_merge as replica_after_merge}
 use Rattle.replica_core.specs.declared.merged.Merged.{Merged}
 use Rattle.replica_core.specs.declared.merged.Merged.TheVariants as merged_as
 use Rattle.shared_hub.specs.Books.{ends_of}
@@ -38,3 +41,21 @@ after_merge (Err e) end p = p
 -- the pass has an entry more where the operation was applied, and else is as before
 abbrev pub Merges : Result Merged SharedRefusal → PassHeld → PassHeld → Type 0
 Merges result old new = (end : ℕ) × (new ≡ after_merge result end old)
+
+-- An edit that a pass asks for: where it has a ticket, the locked part's replica has made it, and the pass has an entry more if it is new.
+-- Where it is refused, all is as before. Whether edits are still taken stays as it was.
+pub record EntersEdit (result : Result Ticket SharedRefusal) (edit : Edit) (before : GuardedHeld) (old : PassHeld) (after : GuardedHeld)
+    (new : PassHeld) : Type 0 where
+  pub made : IfOk result (λ t. after.locked ≡ record before.locked { replica = replica_after_edit t before.locked.replica old.number edit })
+  pub pass : new ≡ after_edit result old
+  pub same : OnErr result (after ≡ before)
+  pub goes_on : after.stopping ≡ before.stopping
+
+-- A peer's operation that a pass brings: where it is merged, the locked part's replica has it, and the pass has an entry more if it was
+-- applied. Where it is refused, all is as before. Whether operations are still taken stays as it was.
+pub record EntersMerge (result : Result Merged SharedRefusal) (op : Op) (before : GuardedHeld) (old : PassHeld) (after : GuardedHeld)
+    (new : PassHeld) : Type 0 where
+  pub made : IfOk result (λ m. after.locked ≡ record before.locked { replica = replica_after_merge m before.locked.replica old.number op })
+  pub pass : new ≡ after_merge result (length after.locked.replica.list) old
+  pub same : OnErr result (after ≡ before)
+  pub goes_on : after.stopping ≡ before.stopping

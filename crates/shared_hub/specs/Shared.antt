@@ -4,11 +4,13 @@ use Rattle.disk_trait.specs.declared.facts.DiskFacts.{Ghosts}
 use Rattle.group_commit.specs.declared.error.StoreError.{StoreError}
 use Rattle.op_model.specs.Machine.{Event, Answer, Step}
 use Rattle.hub_parts.specs.Locked.{IsLocked, state_of, LockedHeld}
+use Rattle.hub_parts.specs.Fitting.{FitTogether, side_of}
 use Rattle.hub_parts.specs.Flusher.{FlusherHeld}
 use Rattle.hub_parts.specs.Meeting.{Meets}
 use Rattle.hub_parts.specs.declared.met.Met.{Met}
 use Rattle.pass_books.specs.Accounts.{PassHeld}
 use Rattle.shared_hub.specs.Books.{ends_of}
+use Rattle.shared_hub.specs.Going.{Goes}
 
 -- At some moment the locked part was so: its list is causally closed, replaying the kept steps gives list and settled number, and
 -- what is acknowledged and told is settled.
@@ -48,12 +50,15 @@ pub record HappensTo (old new : PassHeld) (event : Event) (answer : Answer) : Ty
   pub after : LockedHeld
   pub makes : MakesFor before after old new event answer
 
--- a meeting of two parts, both of which are sound before and behind it
+-- A meeting of the locked part and the flusher. The locked part is sound before and after it, the flusher has gone on, and where the two
+-- fitted together they still do.
 pub record MeetsSound {D : Type 0} (facts : Ghosts D) (before : LockedHeld) (old : FlusherHeld D) (result : Result Met StoreError)
     (after : LockedHeld) (new : FlusherHeld D) : Type 0 where
   pub sound_before : IsLocked before
   pub sound : IsLocked after
   pub meets : Meets facts before old result after new
+  pub goes : Goes facts old new
+  pub fits : FitTogether before (side_of old) → FitTogether after (side_of new)
 
 -- while the lock was held once, the flusher met the locked part, with this answer
 pub record MeetsOnce {D : Type 0} (facts : Ghosts D) (old : FlusherHeld D) (result : Result Met StoreError) (new : FlusherHeld D) : Type 0 where

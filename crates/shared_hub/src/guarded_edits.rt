@@ -1,10 +1,9 @@
 //! Edits and merges under the lock of a shared hub.
-ghost use Rattle.std.specs.Prelude.{◌≡◌, ◌≢◌, ◌↔◌, true, false, None, Err, length, OnErr, IfOk};
-ghost use Rattle.op_model.specs.Machine.{after_edit as replica_after_edit, edit as edit_event};
-ghost use Rattle.op_model.specs.Machine.{known_ticket, merge as merge_event, EditStep, MergeStep};
+ghost use Rattle.std.specs.Prelude.{◌≡◌, ◌≢◌, ◌↔◌, true, false, None, Err};
+ghost use Rattle.op_model.specs.Machine.{edit as edit_event, merge as merge_event};
+ghost use Rattle.op_model.specs.Machine.{known_ticket, EditStep, MergeStep};
 ghost use Rattle.hub_parts.specs.Locked.{state_of};
-ghost use Rattle.replica_core.specs.Merging.{after_merge as replica_after_merge};
-ghost use Rattle.shared_hub.specs.Guarded.{IsMine, after_edit, after_merge};
+ghost use Rattle.shared_hub.specs.Guarded.{IsMine, EntersEdit, EntersMerge};
 ghost use Rattle.shared_hub.specs.Refusal.{edited, merged};
 ghost use Rattle.shared_hub.specs.Shared.{MakesFor};
 ghost use Rattle.shared_hub.specs.declared.refusal.SharedRefusal.TheVariants.{Stopping};
@@ -26,12 +25,7 @@ impl<J: BookNames> Guarded<J> {
             × (known_ticket self.old.locked.replica edit.now ≡ None)) }
         ensures call { result ≢ Err Stopping → MakesFor self.old.locked self.new.locked
             pass.old pass.new (edit_event pass.old.number edit.now) (edited result) }
-        ensures made { IfOk result (λ t. self.new.locked ≡ record self.old.locked {
-          replica = replica_after_edit t self.old.locked.replica pass.old.number edit.now;
-        }) }
-        ensures pass { pass.new ≡ after_edit result pass.old }
-        ensures same { OnErr result (self.new ≡ self.old) }
-        ensures goes_on { self.new.stopping ≡ self.old.stopping }
+        ensures enters { EntersEdit result edit.now self.old pass.old self.new pass.new }
     {
         self.audit(pass);
         if self.is_stopping && self.locked.known(edit).is_none() {
@@ -47,13 +41,8 @@ impl<J: BookNames> Guarded<J> {
         requires { IsMine self.old.locked pass.old }
         ensures call { EditStep (state_of self.old.locked) pass.old.number edit.now
             (edited result) (state_of self.new.locked) }
-        ensures made { IfOk result (λ t. self.new.locked ≡ record self.old.locked {
-          replica = replica_after_edit t self.old.locked.replica pass.old.number edit.now;
-        }) }
-        ensures pass { pass.new ≡ after_edit result pass.old }
+        ensures enters { EntersEdit result edit.now self.old pass.old self.new pass.new }
         ensures other { result ≢ Err Stopping }
-        ensures same { OnErr result (self.new ≡ self.old) }
-        ensures goes_on { self.new.stopping ≡ self.old.stopping }
     {
         match self.locked.edit(pass.number() as u64, edit) {
             Ok(ticket) => {
@@ -74,13 +63,7 @@ impl<J: BookNames> Guarded<J> {
         ensures stopping { self.old.stopping ≡ true → result ≡ Err Stopping }
         ensures call { self.old.stopping ≡ false → MakesFor self.old.locked self.new.locked
             pass.old pass.new (merge_event pass.old.number op) (merged result) }
-        ensures made { IfOk result (λ m. self.new.locked ≡ record self.old.locked {
-          replica = replica_after_merge m self.old.locked.replica pass.old.number op;
-        }) }
-        ensures pass { pass.new
-            ≡ after_merge result (length self.new.locked.replica.list) pass.old }
-        ensures same { OnErr result (self.new ≡ self.old) }
-        ensures goes_on { self.new.stopping ≡ self.old.stopping }
+        ensures enters { EntersMerge result op self.old pass.old self.new pass.new }
     {
         if self.is_stopping {
             return Err(SharedRefusal::Stopping);
@@ -96,13 +79,7 @@ impl<J: BookNames> Guarded<J> {
         requires { IsMine self.old.locked pass.old }
         ensures call { MergeStep (state_of self.old.locked) pass.old.number op (merged result)
             (state_of self.new.locked) }
-        ensures made { IfOk result (λ m. self.new.locked ≡ record self.old.locked {
-          replica = replica_after_merge m self.old.locked.replica pass.old.number op;
-        }) }
-        ensures pass { pass.new
-            ≡ after_merge result (length self.new.locked.replica.list) pass.old }
-        ensures same { OnErr result (self.new ≡ self.old) }
-        ensures goes_on { self.new.stopping ≡ self.old.stopping }
+        ensures enters { EntersMerge result op self.old pass.old self.new pass.new }
     {
         match self.locked.merge(pass.number() as u64, op) {
             Ok(Merged::Applied) => {

@@ -1,7 +1,5 @@
 //! The meetings of the flusher and what stands under the lock.
 ghost use Rattle.std.specs.Prelude.{◌≡◌};
-ghost use Rattle.hub_parts.specs.Fitting.{FitTogether, side_of};
-ghost use Rattle.shared_hub.specs.Going.{Goes};
 ghost use Rattle.shared_hub.specs.Shared.{MeetsSound};
 
 use crate::guarded::Guarded;
@@ -16,9 +14,6 @@ impl<J: BookNames> Guarded<J> {
     pub fn meet<D: Disk>(&mut self, flusher: &mut Flusher<D>) -> Result<Met, StoreError>
         ensures met { MeetsSound D.DiskFacts self.old.locked flusher.old result
             self.new.locked flusher.new }
-        ensures goes { Goes D.DiskFacts flusher.old flusher.new }
-        ensures fits { FitTogether self.old.locked (side_of flusher.old)
-            → FitTogether self.new.locked (side_of flusher.new) }
         ensures others { self.new ≡ record self.old { locked = self.new.locked } }
     {
         self.locked.kept();
@@ -32,9 +27,6 @@ impl<J: BookNames> Guarded<J> {
     pub(crate) fn begin<D: Disk>(&mut self, flusher: &mut Flusher<D>) -> Result<Met, StoreError>
         ensures met { MeetsSound D.DiskFacts self.old.locked flusher.old result
             self.new.locked flusher.new }
-        ensures goes { Goes D.DiskFacts flusher.old flusher.new }
-        ensures fits { FitTogether self.old.locked (side_of flusher.old)
-            → FitTogether self.new.locked (side_of flusher.new) }
         ensures others { self.new ≡ record self.old { locked = self.new.locked } }
     {
         self.note_try();
@@ -51,9 +43,6 @@ impl<J: BookNames> Guarded<J> {
     pub(crate) fn settle<D: Disk>(&mut self, flusher: &mut Flusher<D>) -> Result<Met, StoreError>
         ensures met { MeetsSound D.DiskFacts self.old.locked flusher.old result
             self.new.locked flusher.new }
-        ensures goes { Goes D.DiskFacts flusher.old flusher.new }
-        ensures fits { FitTogether self.old.locked (side_of flusher.old)
-            → FitTogether self.new.locked (side_of flusher.new) }
         ensures others { self.new ≡ record self.old { locked = self.new.locked } }
     {
         let result = self.meet(flusher);

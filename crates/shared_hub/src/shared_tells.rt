@@ -1,6 +1,5 @@
 //! What a shared hub tells its peers, and how the flusher meets it.
 ghost use Rattle.op_model.specs.Machine.{tell as tell_event, have as have_event};
-ghost use Rattle.shared_hub.specs.Going.{Goes};
 ghost use Rattle.shared_hub.specs.Refusal.{told, had};
 ghost use Rattle.shared_hub.specs.Shared.{Happens, MeetsOnce};
 
@@ -38,8 +37,7 @@ impl<J: BookNames> Shared<J> {
         rt: &R,
         flusher: &mut Flusher<D>,
     ) -> Result<Met, StoreError>
-        ensures met { MeetsOnce D.DiskFacts flusher.old result flusher.new }
-        ensures goes { Goes D.DiskFacts flusher.old flusher.new }
+        ensures { MeetsOnce D.DiskFacts flusher.old result flusher.new }
     {
         let result = self.guarded.lock(rt).begin(flusher);
         // A flusher whose commit was through has settled it.
@@ -58,8 +56,7 @@ impl<J: BookNames> Shared<J> {
         rt: &R,
         flusher: &mut Flusher<D>,
     ) -> Result<Met, StoreError>
-        ensures met { MeetsOnce D.DiskFacts flusher.old result flusher.new }
-        ensures goes { Goes D.DiskFacts flusher.old flusher.new }
+        ensures { MeetsOnce D.DiskFacts flusher.old result flusher.new }
     {
         let mut guard = self.guarded.lock(rt);
         let settled = guard.parity(0);

@@ -19,7 +19,9 @@ use crate::placing::{behind, id_at, id_before, last_end};
 use crate::reading::{rev, visible};
 use fixed_numbers::limits::MAX_COUNTER;
 use op_ids::{OpId, ReplicaId};
-use op_model::{Body, Change, Character, Edit, End, MarkKey, Op, Start, insert_bodies, numbered};
+use op_model::{
+    Author, Body, Change, Character, Edit, End, MarkKey, Op, Start, insert_bodies, numbered,
+};
 use std::alloc::{AllocError, Global};
 
 /// Whether a change lies within a text of `count` characters.
@@ -61,26 +63,26 @@ fn end(seen: &[Character], key: &MarkKey, to: usize) -> End
     }
 }
 
-/// What an edit's operations do, the first with this counter.
+/// What an edit's operations do, which are the author's next ones.
 fn bodies(
     alloc: Global,
+    author: &Author<'_>,
     ops: &[Op],
-    replica: ReplicaId,
     edit: &Edit,
     seen: &[Character],
-    counter: u64,
 ) -> Result<Vec<Body>, AllocError>
     requires seen { seen.now ≡ visible_of ops.now edit.now.doc }
     requires inside { is_inside_of (length seen.now) edit.now.change ≡ true }
-    requires counter { counter ≡ greatest_in ops.now + 1 }
-    requires in_range { counter + size_of edit.now.change ≤ MAX_COUNTER + 1 }
+    requires counter { author.now.counter ≡ greatest_in ops.now + 1 }
+    requires in_range { author.now.counter + size_of edit.now.change ≤ MAX_COUNTER + 1 }
     ensures { IfOk result (λ bodies. bodies.items
-        ≡ bodies_in ops.now replica edit.now.doc edit.now.change) }
+        ≡ bodies_in ops.now author.now.replica edit.now.doc edit.now.change) }
 {
     let mut bodies = Vec::new(alloc);
     match &edit.change {
         Change::Insert { at, text } => {
             let origin = origin(alloc, ops, edit.doc, seen, *at as usize)?;
+            let (replica, counter) = (author.replica, author.counter);
             return insert_bodies(alloc, replica, counter, origin, text.as_slice());
         }
         Change::Delete { at, count } => {
@@ -160,11 +162,17 @@ fn made_within(
     if next + count > MAX_COUNTER + 1 {
         return Err(EditError::Limit);
     }
-    let bodies = bodies(alloc, ops, replica, edit, seen, next)?;
     let before = clock_of(alloc, ops)?;
     let mut clock = before.copy()?;
     clock.advance_by(replica, count)?;
-    let made = numbered(alloc, replica, edit.doc, edit.token, next, &before, &bodies)?;
+    let author = Author {
+        replica,
+        token: edit.token,
+        counter: next,
+        clock: &before,
+    };
+    let bodies = bodies(alloc, &author, ops, edit, seen)?;
+    let made = numbered(alloc, &author, edit.doc, &bodies)?;
     if !is_within_limits(alloc, ops, &made, &clock)? {
         return Err(EditError::Limit);
     }

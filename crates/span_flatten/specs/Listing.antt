@@ -1,8 +1,19 @@
 -- How many comment ids an answer lists.
-use Rattle.std.specs.Prelude.{ℕ, ◌+◌, List, [], ◌∷◌, length}
+use Rattle.std.specs.Prelude.{ℕ, ◌+◌, ◌<◌, List, [], ◌∷◌, length}
+use Rattle.fixed_numbers.specs.declared.limits.TheConstants.{MAX_LISTED}
+use Rattle.op_model.specs.declared.op.Op.{Op}
 use Rattle.op_model.specs.declared.span.Span.{Span}
+use Rattle.op_model.specs.Spans.{spans}
+use Rattle.char_sequence.specs.Chunks.{ChunkCells}
+use Rattle.char_sequence.specs.Content.{Holds}
+use Rattle.mark_anchors.specs.Keeping.{Kept, AreMarksOf}
 
 -- how many comment ids these spans list, one counted in each span that lists it
 abbrev pub listed : List Span → ℕ
 listed [] = 0
 listed (s ∷ ss) = length s.marks.comments + listed ss
+
+-- the spans of whichever document these characters and marks are would list more comment ids than an answer may
+abbrev pub ListTooMany : ChunkCells → Kept → Type 0
+ListTooMany characters marks = (ops : List Op) (doc : ℕ) → Holds characters ops doc → AreMarksOf marks ops doc
+    → MAX_LISTED < listed (spans ops doc)

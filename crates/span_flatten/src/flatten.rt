@@ -8,14 +8,14 @@ ghost use Rattle.char_sequence.specs.Counting.{count_of};
 ghost use Rattle.mark_anchors.specs.Keeping.{AreMarksOf};
 ghost use Rattle.op_model.specs.declared.op.Op.{Op};
 ghost use Rattle.op_model.specs.Spans.{spans as spans_of_ops};
-ghost use Rattle.span_flatten.specs.Listing.{listed};
+ghost use Rattle.span_flatten.specs.Listing.{listed, ListTooMany};
 ghost use Rattle.span_flatten.specs.Reading.{offset};
 ghost use Rattle.span_flatten.specs.Runs.{cell_runs, marks_at, spans_of_runs};
 
 use crate::error::SpansError;
 use crate::formatting::marks_of;
 use crate::run::{Run, put_before, spans_of};
-use crate::sweep::Sweep;
+use crate::sweep::{PlacedChunk, Sweep};
 use char_sequence::{Cell, ChunkSize, Sequence};
 use mark_anchors::{Anchors, Place};
 use op_model::{Span, Ticks};
@@ -28,9 +28,7 @@ pub fn spans(sequence: &Sequence, anchors: &Anchors) -> Result<Vec<Span>, SpansE
     ensures spans { IfOk result (λ found. (ops : List Op) (doc : ℕ) → Holds sequence.now ops doc
         → AreMarksOf anchors.now ops doc → found.items ≡ spans_of_ops ops doc) }
     ensures few { IfOk result (λ found. listed found.items ≤ MAX_LISTED) }
-    ensures listing { IsErrOf result SpansError.Listing → (ops : List Op) (doc : ℕ)
-        → Holds sequence.now ops doc → AreMarksOf anchors.now ops doc
-        → MAX_LISTED < listed (spans_of_ops ops doc) }
+    ensures listing { IsErrOf result SpansError.Listing → ListTooMany sequence.now anchors.now }
 {
     spans_in(sequence, anchors, &mut Ticks::new())
 }
@@ -51,9 +49,7 @@ pub fn spans_in(
     ensures spans { IfOk result (λ found. (ops : List Op) (doc : ℕ) → Holds sequence.now ops doc
         → AreMarksOf anchors.now ops doc → found.items ≡ spans_of_ops ops doc) }
     ensures few { IfOk result (λ found. listed found.items ≤ MAX_LISTED) }
-    ensures listing { IsErrOf result SpansError.Listing → (ops : List Op) (doc : ℕ)
-        → Holds sequence.now ops doc → AreMarksOf anchors.now ops doc
-        → MAX_LISTED < listed (spans_of_ops ops doc) }
+    ensures listing { IsErrOf result SpansError.Listing → ListTooMany sequence.now anchors.now }
     ensures ticks { ticks.new ≤ ticks.old + (2 * count_of sequence.now + 1) }
     ensures rising { ticks.old ≤ ticks.new }
 {
@@ -62,7 +58,8 @@ pub fn spans_in(
     let mut i = 0;
     sequence.are_sized();
     while let Some(size) = sequence.chunk(i, ticks) {
-        sweep.pass_chunk(sequence, anchors, i, size, ticks)?;
+        let placed = PlacedChunk { index: i, size };
+        sweep.pass_chunk(sequence, anchors, placed, ticks)?;
         i += 1;
     }
     sweep.spans(alloc)

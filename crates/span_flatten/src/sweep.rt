@@ -26,6 +26,13 @@ use mark_anchors::{Anchors, Edge};
 use op_model::{Marking, Marks, Span, Text, Ticks};
 use std::alloc::{AllocError, Global};
 
+/// A chunk of a sequence: which one it is, counted from 0, and its size.
+#[derive(Clone, Copy)]
+pub struct PlacedChunk {
+    pub index: usize,
+    pub size: ChunkSize,
+}
+
 /// What a pass over the characters of a document knows so far.
 #[derive(Drop)]
 pub struct Sweep {
@@ -58,23 +65,22 @@ impl Sweep {
         &mut self,
         sequence: &Sequence,
         anchors: &Anchors,
-        i: usize,
-        size: ChunkSize,
+        chunk: PlacedChunk,
         ticks: &mut Ticks,
     ) -> Result<(), SpansError>
-        requires there { size_at sequence.now i ≡ Some size }
+        requires there { size_at sequence.now chunk.index ≡ Some chunk.size }
         requires before { IsSwept self.old (cells_of sequence.now) (in_order anchors.now)
-            (offset sequence.now i) }
+            (offset sequence.now chunk.index) }
         ensures swept { OnOk result (IsSwept self.new (cells_of sequence.now)
-            (in_order anchors.now) (offset sequence.now (i + 1))) }
+            (in_order anchors.now) (offset sequence.now (chunk.index + 1))) }
         ensures listing { IsErrOf result SpansError.Listing
             → MAX_LISTED < listed (cell_spans (cells_of sequence.now) (in_order anchors.now)) }
-        ensures ticks { ticks.new ≤ ticks.old + size.cells }
+        ensures ticks { ticks.new ≤ ticks.old + chunk.size.cells }
         ensures rising { ticks.old ≤ ticks.new }
     {
         let alloc = sequence.allocator();
-        for j in 0..size.cells {
-            match sequence.cell(i, j, ticks) {
+        for j in 0..chunk.size.cells {
+            match sequence.cell(chunk.index, j, ticks) {
                 Some(cell) => self.pass(alloc, &cell, anchors)?,
                 None => unreachable!(),
             }

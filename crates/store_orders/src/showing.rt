@@ -1,25 +1,24 @@
-//! What is shown of a file, by the answers of a `Desk`. The file is let go of before that: a reader
-//! that takes its time holds up no session.
+//! What is shown of a file. Its replica alone is opened, without the part of a hub that commits,
+//! which has a copy of the records. The file is let go of before anything is printed: a reader that
+//! takes its time holds up no session.
 ghost use Rattle.std.specs.Prelude.{◌≡◌, IfOk};
 ghost use Rattle.op_model.specs.Spans.{spans as spans_of};
 ghost use Rattle.span_export.specs.Exported.{exported};
+ghost use Rattle.store_orders.specs.Shown.{said_document};
 
 use crate::fault::Fault;
 use crate::listing::listing;
-use crate::printing::{lines, print};
+use crate::printing::print;
 use command_syntax::{DumpOrder, ExportOrder, ListOrder};
 use disk_trait::{Disk, FileDisk};
-use locked_replica::Hub;
-use session_lines::Command;
-use session_threads::{Desk, HubDesk};
+use recovery::{OpenFault, Opened};
+use replica_core::Replica;
+use session_lines::{Answer, SpanList, say};
 use span_export::{Form, export};
 use std::alloc::Global;
 use std::fs::File;
 use std::io::Write;
 use std::rt::Files;
-
-/// The number of the session that reads.
-const SESSION: u64 = 1;
 
 /// A disk, and the lines that show a document of it, or why there are none.
 #[derive(Drop)]
@@ -30,63 +29,71 @@ pub struct Shown<D: Disk> {
 
 /// Shows the text and the spans of a document, a line each.
 pub fn show<D: Disk>(alloc: Global, disk: D, doc: u32) -> Shown<D> {
-    match Hub::open(alloc, disk) {
-        Ok(hub) => {
-            let mut desk = HubDesk::new(hub, SESSION);
-            let text = desk.serve(alloc, Command::Text { doc });
-            let spans = desk.serve(alloc, Command::Spans { doc });
-            Shown {
-                disk: desk.into_hub().into_disk(),
-                lines: lines(alloc, &[text, spans]),
-            }
-        }
-        Err(fault) => Shown {
-            disk: fault.disk,
-            lines: Err(Fault::from(fault.cause)),
+    match recovery::open(alloc, disk) {
+        Ok(Opened { replica, store }) => Shown {
+            disk: store.into_disk(),
+            lines: document_lines(alloc, &replica, doc),
         },
+        Err(fault) => unopened(fault),
     }
 }
 
 /// Shows a line for each document, and one for the room in the file.
 pub fn show_all<D: Disk>(alloc: Global, disk: D) -> Shown<D> {
-    match Hub::open(alloc, disk) {
-        Ok(hub) => {
-            let lines = listing(alloc, &hub);
-            Shown {
-                disk: hub.into_disk(),
-                lines,
-            }
-        }
-        Err(fault) => Shown {
-            disk: fault.disk,
-            lines: Err(Fault::from(fault.cause)),
+    match recovery::open(alloc, disk) {
+        Ok(Opened { replica, store }) => Shown {
+            disk: store.into_disk(),
+            lines: listing(alloc, &replica),
         },
+        Err(fault) => unopened(fault),
     }
 }
 
 /// Shows a document in a form for other programs.
 pub fn show_in<D: Disk>(alloc: Global, disk: D, doc: u32, form: Form) -> Shown<D> {
-    match Hub::open(alloc, disk) {
-        Ok(hub) => {
-            let lines = document_in(alloc, &hub, doc, form);
-            Shown {
-                disk: hub.into_disk(),
-                lines,
-            }
-        }
-        Err(fault) => Shown {
-            disk: fault.disk,
-            lines: Err(Fault::from(fault.cause)),
+    match recovery::open(alloc, disk) {
+        Ok(Opened { replica, store }) => Shown {
+            disk: store.into_disk(),
+            lines: document_in(alloc, &replica, doc, form),
         },
+        Err(fault) => unopened(fault),
     }
 }
 
-/// A document in a form for other programs. `Memory` (1) where a growth was refused.
-fn document_in<D: Disk>(alloc: Global, hub: &Hub<D>, doc: u32, form: Form) -> Result<Vec<u8>, Fault>
-    ensures { IfOk result (λ bytes.
-        bytes.items ≡ exported form (spans_of hub.now.replica.list doc)) }
+/// Nothing is shown of a file that can't be opened.
+fn unopened<D: Disk>(fault: OpenFault<D>) -> Shown<D> {
+    Shown {
+        disk: fault.disk,
+        lines: Err(Fault::from(fault.cause)),
+    }
+}
+
+/// The text of a document, and the text cut where its marks change, a line each. `Memory` (1) where
+/// a growth was refused.
+fn document_lines(alloc: Global, replica: &Replica, doc: u32) -> Result<Vec<u8>, Fault>
+    ensures { IfOk result (λ lines. lines.items ≡ said_document replica.now.list doc) }
 {
-    let spans = hub.spans(doc)?;
+    let rev = replica.rev(doc) as u64;
+    let text = Answer::Text {
+        rev,
+        text: replica.text(doc)?,
+    };
+    let spans = Answer::Spans {
+        rev,
+        spans: SpanList::from(replica.spans(doc)?),
+    };
+    let mut lines = Vec::new(alloc);
+    say(alloc, &text, &mut lines)?;
+    say(alloc, &spans, &mut lines)?;
+    Ok(lines)
+}
+
+/// A document in a form for other programs. `Memory` (1) where a growth was refused.
+fn document_in(alloc: Global, replica: &Replica, doc: u32, form: Form) -> Result<Vec<u8>, Fault>
+    ensures { IfOk result (λ bytes.
+        bytes.items ≡ exported form (spans_of replica.now.list doc)) }
+{
+    let spans = replica.spans(doc)?;
     let bytes = export(alloc, form, &spans)?;
     Ok(bytes)
 }

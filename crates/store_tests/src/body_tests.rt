@@ -2,7 +2,7 @@
 use crate::test_files::bytes_of;
 use crate::test_store::replica;
 use change_codec::Format;
-use root_slots::RootBody;
+use root_slots::{RootBody, RootHead};
 use std::alloc::Global;
 use std::test::Fail;
 
@@ -51,7 +51,14 @@ fn roots_of_commits_are_read_and_written_back(rt: HostRuntime) -> Result<(), Fai
     assert_eq!(rt; root.write(rt.alloc())?.as_slice(), first.as_slice());
     let mut tables = Vec::new(rt.alloc());
     tables.push(5)?;
-    let next = RootBody::new(Format::First, 3, replica()?, 126, 2, tables).ok_or("no root")?;
+    let head = RootHead {
+        format: Format::First,
+        version: 3,
+        replica: replica()?,
+        stream_length: 126,
+        operations: 2,
+    };
+    let next = RootBody::new(head, tables).ok_or("no root")?;
     let second = body_of(rt.alloc(), SECOND)?;
     assert_eq!(rt; next.write(rt.alloc())?.as_slice(), second.as_slice());
     Ok(())

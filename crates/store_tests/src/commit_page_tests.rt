@@ -7,12 +7,12 @@ use op_model::{Body, Op};
 use std::alloc::Global;
 use std::test::Fail;
 
-// The name of the replica's operation with this counter.
+/// The name of the replica's operation with this counter.
 fn id(counter: u64) -> Result<OpId, Fail> {
     Ok(OpId::try_new(counter, replica()?).ok_or("a counter")?)
 }
 
-// The clock of `count` operations of the replica.
+/// The clock of `count` operations of the replica.
 fn clock(alloc: Global, count: u64) -> Result<Clock, Fail> {
     let mut entries = Vec::new(alloc);
     if count > 0 {
@@ -21,7 +21,7 @@ fn clock(alloc: Global, count: u64) -> Result<Clock, Fail> {
     Ok(Clock::from_entries(entries).ok_or("a clock")?)
 }
 
-// The operation with this counter, behind those before it.
+/// The operation with this counter, behind those before it.
 fn op(alloc: Global, counter: u64, body: Body) -> Result<Op, Fail> {
     let id = id(counter)?;
     let deps = clock(alloc, counter.saturating_sub(1))?;
@@ -34,19 +34,19 @@ fn op(alloc: Global, counter: u64, body: Body) -> Result<Op, Fail> {
     })
 }
 
-// The insert with this counter, behind the one before it.
+/// The insert with this counter, behind the one before it.
 fn insert(alloc: Global, counter: u64) -> Result<Op, Fail> {
     let origin = OpId::try_new(counter.saturating_sub(1), replica()?);
     op(alloc, counter, Body::Insert { origin, value: 'a' })
 }
 
-// A remove of the first character, with this counter.
+/// A remove of the first character, with this counter.
 fn remove(alloc: Global, counter: u64) -> Result<Op, Fail> {
     let target = id(1)?;
     op(alloc, counter, Body::Remove { target })
 }
 
-// The inserts with these counters.
+/// The inserts with these counters.
 fn inserts(alloc: Global, first: u64, last: u64) -> Result<Vec<Op>, Fail> {
     let mut ops = Vec::new(alloc);
     for counter in first..last.saturating_add(1) {
@@ -55,13 +55,13 @@ fn inserts(alloc: Global, first: u64, last: u64) -> Result<Vec<Op>, Fail> {
     Ok(ops)
 }
 
-// Commits these operations, and gives how many writes and syncs that makes.
+/// Commits these operations, and gives how many writes and syncs that makes.
 fn commit(store: &mut Store<MemDisk>, alloc: Global, ops: &[Op]) -> Result<(usize, usize), Fail> {
     begin(store, alloc, ops)?;
     Ok(finish(store)?)
 }
 
-// Commits the inserts with these counters.
+/// Commits the inserts with these counters.
 fn commit_inserts(
     store: &mut Store<MemDisk>,
     alloc: Global,
@@ -72,13 +72,13 @@ fn commit_inserts(
     commit(store, alloc, &ops)
 }
 
-// The size of a store's file.
+/// The size of a store's file.
 fn size_of(alloc: Global, store: Box<Store<MemDisk>>) -> Result<usize, Fail> {
     let file = file_of(alloc, store)?;
     Ok(file.len())
 }
 
-// Appends the numbers at a place of a page, as many as are asked for: each is a byte.
+/// Appends the numbers at a place of a page, as many as are asked for: each is a byte.
 fn put_numbers(
     found: &mut Vec<u8>,
     file: &[u8],
@@ -94,7 +94,7 @@ fn put_numbers(
     Ok(())
 }
 
-// The store behind `commits` commits: 256 inserts, then one more each.
+/// The store behind `commits` commits: 256 inserts, then one more each.
 fn committed(alloc: Global, commits: u64) -> Result<Box<Store<MemDisk>>, Fail> {
     let mut store = store(alloc, 16)?;
     commit_inserts(&mut store, alloc, 1, 256)?;
@@ -115,7 +115,7 @@ fn a_commit_writes_the_pages_that_change(rt: HostRuntime) -> Result<(), Fail> {
     Ok(())
 }
 
-// After some commits: the size of the file, and the numbers in a slot and in a table page.
+/// After some commits: the size of the file, and the numbers in a slot and in a table page.
 fn numbers_after(
     alloc: Global,
     commits: u64,
@@ -148,7 +148,7 @@ fn new_pages_are_the_lowest_free_ones(rt: HostRuntime) -> Result<(), Fail> {
     Ok(())
 }
 
-// 4,093 bytes of records: the next one begins with three zeros.
+/// 4,093 bytes of records: the next one begins with three zeros.
 fn almost_a_page(alloc: Global) -> Result<Vec<Op>, Fail> {
     let mut ops = inserts(alloc, 1, 41)?;
     for counter in 42..49 {
@@ -157,7 +157,7 @@ fn almost_a_page(alloc: Global) -> Result<Vec<Op>, Fail> {
     Ok(ops)
 }
 
-// A store behind a commit of these.
+/// A store behind a commit of these.
 fn filled(alloc: Global) -> Result<Box<Store<MemDisk>>, Fail> {
     let mut store = store(alloc, 16)?;
     let ops = almost_a_page(alloc)?;

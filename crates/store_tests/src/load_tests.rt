@@ -9,12 +9,12 @@ use group_commit::{OpenError, Store};
 use std::alloc::Global;
 use std::test::Fail;
 
-// The file after a commit of one insert.
+/// The file after a commit of one insert.
 fn first_disk(alloc: Global) -> Result<Box<MemDisk>, Fail> {
     disk_of(alloc, &[MADE, ONE, INSERT_A, "00000002"])
 }
 
-// The number with which a file is refused, or 0.
+/// The number with which a file is refused, or 0.
 fn number_of<D: Disk + Drop>(alloc: Global, disk: D) -> u8 {
     match Store::load(alloc, disk) {
         Ok(_) => 0,
@@ -22,7 +22,7 @@ fn number_of<D: Disk + Drop>(alloc: Global, disk: D) -> u8 {
     }
 }
 
-// Whether the file of these pages is.
+/// Whether the file of these pages is.
 fn opens(alloc: Global, pages: &[&str], count: usize, records: &str) -> Result<bool, Fail> {
     let disk = disk_of(alloc, pages)?;
     has_records(alloc, Box::into_inner(disk), count, records)
@@ -106,7 +106,7 @@ fn a_closed_slot_is_passed(rt: HostRuntime) -> Result<(), Fail> {
     Ok(())
 }
 
-// The number with which the file of one insert is refused that has this byte at this offset.
+/// The number with which the file of one insert is refused that has this byte at this offset.
 fn number_with(alloc: Global, at: u64, byte: u8) -> Result<u8, Fail> {
     let mut disk = first_disk(alloc)?;
     write(&mut disk, at, &[byte])?;
@@ -131,7 +131,7 @@ fn a_byte_breaks_a_file(rt: HostRuntime) -> Result<(), Fail> {
     Ok(())
 }
 
-// The number with which the file of these pages is refused.
+/// The number with which the file of these pages is refused.
 fn number_of_pages(alloc: Global, pages: &[&str]) -> Result<u8, Fail> {
     let disk = disk_of(alloc, pages)?;
     Ok(number_of(alloc, Box::into_inner(disk)))
@@ -162,7 +162,7 @@ fn a_page_past_the_end_is_refused(rt: HostRuntime) -> Result<(), Fail> {
     Ok(())
 }
 
-// The number with which the file of one insert is refused where the n-th call of the disk fails.
+/// The number with which the file of one insert is refused where the n-th call of the disk fails.
 fn number_at_fault(alloc: Global, n: u64) -> Result<u8, Fail> {
     let disk = first_disk(alloc)?;
     Ok(number_of(alloc, FaultDisk::new(Box::into_inner(disk), n)))

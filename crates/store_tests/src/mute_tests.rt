@@ -51,7 +51,7 @@ impl Disk for Mute {
     ghost lawful = { λ _ never. absurd never };
 }
 
-// The number with which its file isn't opened, or 0.
+/// The number with which its file isn't opened, or 0.
 fn opening(alloc: Global) -> u8 {
     match Store::load(alloc, Mute { size: 8192 }) {
         Ok(_) => 0,
@@ -59,7 +59,7 @@ fn opening(alloc: Global) -> u8 {
     }
 }
 
-// And that with which none is made on it.
+/// And that with which none is made on it.
 fn making(alloc: Global, replica: ReplicaId) -> u8 {
     match Store::init(alloc, Mute { size: 0 }, replica) {
         Ok(_) => 0,

@@ -4,7 +4,7 @@ use page_file::{PageError, Pages, put_numbers};
 use std::alloc::Global;
 use std::test::Fail;
 
-// A file of `pages` pages, each of one byte over and over: its number.
+/// A file of `pages` pages, each of one byte over and over: its number.
 fn file_of(rt: &HostRuntime, pages: u8) -> Result<MemDisk, Fail> {
     let mut disk = MemDisk::new(rt.alloc(), 65536, 64)?;
     for number in 0..pages {
@@ -13,7 +13,7 @@ fn file_of(rt: &HostRuntime, pages: u8) -> Result<MemDisk, Fail> {
     Ok(disk)
 }
 
-// Such a file, whose page 2 is a table page with these numbers.
+/// Such a file, whose page 2 is a table page with these numbers.
 fn with_table(rt: &HostRuntime, pages: u8, numbers: &[u32]) -> Result<MemDisk, Fail> {
     let mut disk = file_of(rt, pages)?;
     let mut table = Vec::new(rt.alloc());
@@ -23,7 +23,7 @@ fn with_table(rt: &HostRuntime, pages: u8, numbers: &[u32]) -> Result<MemDisk, F
     Ok(disk)
 }
 
-// The live pages of a file whose one table page is page 2.
+/// The live pages of a file whose one table page is page 2.
 fn loaded<D: Disk>(alloc: Global, disk: &mut D, data_pages: u64) -> Result<Pages, PageError> {
     match disk.size() {
         Ok(size) => {
@@ -36,13 +36,13 @@ fn loaded<D: Disk>(alloc: Global, disk: &mut D, data_pages: u64) -> Result<Pages
     }
 }
 
-// Writes the free page of this number, and takes it. It is this byte over and over.
+/// Writes the free page of this number, and takes it. It is this byte over and over.
 fn put<D: Disk>(pages: &mut Pages, disk: &mut D, page: u32, byte: u8) -> Result<(), PageError> {
     pages.reserve(1)?;
     pages.put_free(disk, page, &[byte; 4096])
 }
 
-// So many lowest free pages, where few are used.
+/// So many lowest free pages, where few are used.
 fn lowest(pages: &Pages, count: usize) -> Result<Vec<u32>, PageError> {
     let (tables, data_pages) = pages.live();
     let taken = pages.taken();
@@ -54,7 +54,7 @@ fn lowest(pages: &Pages, count: usize) -> Result<Vec<u32>, PageError> {
     }
 }
 
-// The lowest one.
+/// The lowest one.
 fn lowest_one(pages: &Pages) -> Option<u32> {
     let (tables, data_pages) = pages.live();
     if tables.len() < 99 && data_pages.len() < 99 && pages.taken().len() < 99 {
@@ -64,7 +64,7 @@ fn lowest_one(pages: &Pages) -> Option<u32> {
     }
 }
 
-// The taken pages become the live ones: the first is the data page, the others are table pages.
+/// The taken pages become the live ones: the first is the data page, the others are table pages.
 fn adopt_one(pages: &mut Pages) {
     if pages.taken().len() > 0 {
         pages.adopt(0, 0, 1);

@@ -6,8 +6,8 @@ use op_model::Ticks;
 use std::alloc::Global;
 use std::test::Fail;
 
-// In a box, so that a test which returns early drops a box: that a sequence is dropped is then
-// proved once, and not at each return.
+/// In a box, so that a test which returns early drops a box: that a sequence is dropped is then
+/// proved once, and not at each return.
 fn empty(alloc: Global) -> Result<Box<Sequence>, Fail> {
     Ok(Box::new(alloc, Sequence::new(alloc))?)
 }

@@ -2,7 +2,7 @@
 use crate::test_names::{replica, text_of};
 use doc_core::{Doc, Made};
 use op_ids::{Clock, OpId, ReplicaId};
-use op_model::{Anchor, Body, Change, EditText, End, Mark, Op, Start, Text, Url};
+use op_model::{Anchor, Author, Body, Change, EditText, End, Mark, Op, Start, Text, Url};
 use slow_programs::{is_removed, rev, text, walk};
 use std::alloc::Global;
 use std::num::NonZeroU32;
@@ -20,8 +20,8 @@ pub struct Peer {
 }
 
 impl Peer {
-    // Boxed, so that a test which returns early drops a box: that a peer is dropped is then proved
-    // once, and not at each return.
+    /// Boxed, so that a test which returns early drops a box: that a peer is dropped is then proved
+    /// once, and not at each return.
     pub fn new(alloc: Global, last: u8) -> Result<Box<Peer>, Fail> {
         let peer = Peer {
             alloc,
@@ -34,16 +34,26 @@ impl Peer {
         Ok(Box::new(alloc, peer)?)
     }
 
+    /// This replica, as it makes operations from a counter on.
+    fn author(&self, counter: u64) -> Author<'_> {
+        Author {
+            replica: self.replica,
+            token: None,
+            counter,
+            clock: &self.clock,
+        }
+    }
+
     pub fn make_insert(&self, at: u32, text: &str) -> Result<Made, Fail> {
         let text = EditText::new(text.chars().collect(self.alloc)?).ok_or("no text")?;
-        let next = self.last.wrapping_add(1);
-        Ok(self.doc.make_insert(self.alloc, self.replica, None, next, &self.clock, at, &text)?)
+        let author = self.author(self.last.wrapping_add(1));
+        Ok(self.doc.make_insert(self.alloc, &author, at, &text)?)
     }
 
     pub fn make_remove(&self, at: u32, count: u32) -> Result<Made, Fail> {
         let count = NonZeroU32::new(count).ok_or("zero")?;
-        let next = self.last.wrapping_add(1);
-        Ok(self.doc.make_remove(self.alloc, self.replica, None, next, &self.clock, at, count)?)
+        let author = self.author(self.last.wrapping_add(1));
+        Ok(self.doc.make_remove(self.alloc, &author, at, count)?)
     }
 
     pub fn keep(&mut self, op: Op) -> Result<(), Fail> {
@@ -73,10 +83,8 @@ impl Peer {
 
     /// Makes a change and takes it.
     pub fn change(&mut self, change: &Change) -> Result<(), Fail> {
-        let next = self.last.wrapping_add(1);
-        let made = self
-            .doc
-            .make(self.alloc, self.replica, None, next, &self.clock, change)?;
+        let author = self.author(self.last.wrapping_add(1));
+        let made = self.doc.make(self.alloc, &author, change)?;
         self.keep_edit(&made)
     }
 
@@ -159,37 +167,21 @@ impl Peer {
         let text = self.many(size)?;
         let made = self
             .doc
-            .make_insert(self.alloc, self.replica, None, 1, &self.clock, at, &text)?;
+            .make_insert(self.alloc, &self.author(1), at, &text)?;
         self.keep_edit(&made)
     }
 
     pub fn insert_refusal(&self, at: u32, size: usize) -> Result<u8, Fail> {
         let text = self.many(size)?;
-        let next = self.last.wrapping_add(1);
-        let made = self.doc.make_insert(
-            self.alloc,
-            self.replica,
-            None,
-            next,
-            &self.clock,
-            at,
-            &text,
-        );
+        let author = self.author(self.last.wrapping_add(1));
+        let made = self.doc.make_insert(self.alloc, &author, at, &text);
         Ok(made.err().map_or(0, |error| error.number()))
     }
 
     pub fn remove_refusal(&self, at: u32, count: u32) -> Result<u8, Fail> {
         let count = NonZeroU32::new(count).ok_or("zero")?;
-        let next = self.last.wrapping_add(1);
-        let made = self.doc.make_remove(
-            self.alloc,
-            self.replica,
-            None,
-            next,
-            &self.clock,
-            at,
-            count,
-        );
+        let author = self.author(self.last.wrapping_add(1));
+        let made = self.doc.make_remove(self.alloc, &author, at, count);
         Ok(made.err().map_or(0, |error| error.number()))
     }
 

@@ -13,11 +13,11 @@ use std::sync::{Mutex, Wait};
 use std::test::Fail;
 use std::thread::{self, Threads};
 
-// How many edits each of the four threads makes.
+/// How many edits each of the four threads makes.
 const EDITS: u64 = 50;
 
-// Makes the edits, each of which is acknowledged before the next one. Gives how many entries the
-// pass has then.
+/// Makes the edits, each of which is acknowledged before the next one. Gives how many entries the
+/// pass has then.
 fn make_edits<R: Wait, J: BookNames>(
     rt: &R,
     alloc: Global,
@@ -34,8 +34,17 @@ fn make_edits<R: Wait, J: BookNames>(
     Some(pass.made())
 }
 
-// Four threads edit beside the flusher's. Gives how many entries their passes have in all, and how
-// many operations the list has then, where the two parts fit.
+/// A new hub under these books, and its flusher.
+fn share<J: BookNames>(alloc: Global, opened: Opened) -> Option<(Named<J>, Flusher<MemDisk>)>
+    requires { opened ≡ J.names }
+{
+    let Parts { locked, flusher } = parts(alloc)?;
+    let named = opened.share::<J>(alloc, locked).ok()?;
+    Some((named, flusher))
+}
+
+/// Four threads edit beside the flusher's. Gives how many entries their passes have in all, and how
+/// many operations the list has then, where the two parts fit.
 fn four_edit<J: BookNames + Send + Sync, R: Wait + Clock + Threads + Sync>(
     rt: &R,
     alloc: Global,
@@ -43,11 +52,8 @@ fn four_edit<J: BookNames + Send + Sync, R: Wait + Clock + Threads + Sync>(
 ) -> Option<(u64, usize)>
     requires { opened ≡ J.names }
 {
-    let Parts {
-        locked,
-        mut flusher,
-    } = parts(alloc)?;
-    let Named { shared, passes } = opened.share::<J>(alloc, locked).ok()?;
+    let (named, mut flusher) = share::<J>(alloc, opened)?;
+    let Named { shared, passes } = named;
     let made = Mutex::new(0);
     edit_beside(rt, alloc, &shared, &made, passes, &mut flusher);
     let made = made.into_inner();
@@ -59,7 +65,7 @@ fn four_edit<J: BookNames + Send + Sync, R: Wait + Clock + Threads + Sync>(
     }
 }
 
-// Four threads edit while this one flushes.
+/// Four threads edit while this one flushes.
 fn edit_beside<J: BookNames + Send + Sync, R: Wait + Clock + Threads + Sync>(
     rt: &R,
     alloc: Global,
@@ -79,7 +85,7 @@ fn edit_beside<J: BookNames + Send + Sync, R: Wait + Clock + Threads + Sync>(
     });
 }
 
-// Four threads edit, each with a pass of its own.
+/// Four threads edit, each with a pass of its own.
 fn all_edit<J: BookNames + Send + Sync, R: Wait + Threads + Sync>(
     rt: &R,
     alloc: Global,
@@ -107,7 +113,7 @@ fn four_threads_edit(rt: HostRuntime) -> Result<(), Fail> {
     Ok(())
 }
 
-// Whether an edit behind the flusher's end is acknowledged, and whether a stop finds all settled.
+/// Whether an edit behind the flusher's end is acknowledged, and whether a stop finds all settled.
 fn waits_behind_the_end<J: BookNames, R: Wait>(
     rt: &R,
     alloc: Global,
@@ -121,7 +127,7 @@ fn waits_behind_the_end<J: BookNames, R: Wait>(
     Some((is_acknowledged, shared.stop(rt)))
 }
 
-// Ends the flusher, and then edits and stops.
+/// Ends the flusher, and then edits and stops.
 fn edit_behind_the_end<J: BookNames, R: Wait + Clock>(
     rt: &R,
     alloc: Global,
@@ -129,11 +135,8 @@ fn edit_behind_the_end<J: BookNames, R: Wait + Clock>(
 ) -> Option<(bool, bool)>
     requires { opened ≡ J.names }
 {
-    let Parts {
-        locked,
-        mut flusher,
-    } = parts(alloc)?;
-    let Named { shared, passes } = opened.share::<J>(alloc, locked).ok()?;
+    let (named, mut flusher) = share::<J>(alloc, opened)?;
+    let Named { shared, passes } = named;
     shared.close(rt);
     flush(rt, &shared, &mut flusher, &NoCheckpoint);
     waits_behind_the_end(rt, alloc, &shared, passes)

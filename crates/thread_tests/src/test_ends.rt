@@ -97,7 +97,7 @@ impl End {
         let own = ReplicaId::read(name).ok_or("nil")?;
         Ok(End {
             alloc,
-            speaker: Speaker::new(),
+            speaker: Speaker::new(alloc),
             peer: Listed::new(alloc, own, count)?,
             link: Link::start(alloc, own)?,
         })
@@ -105,7 +105,8 @@ impl End {
 
     /// Says once what is due.
     pub fn speak<W: Write>(&mut self, writer: &mut W, is_asked: bool) -> Result<bool, SpeakError> {
-        self.speaker.speak(self.alloc, &mut self.peer, &mut self.link, writer, is_asked)
+        self.speaker
+            .speak(&mut self.peer, &mut self.link, writer, is_asked)
     }
 
     /// Says once what is due. Gives the bytes, and whether operations were said.

@@ -14,10 +14,10 @@ use std::test::Fail;
 use std::thread::{self, Threads};
 use std::time::Duration;
 
-// More seconds than any commit takes.
+/// More seconds than any commit takes.
 const LONG: u64 = 60;
 
-// Edits a document, and waits for the settlement if that is asked for.
+/// Edits a document, and waits for the settlement if that is asked for.
 fn edit<J: BookNames, R: Wait>(
     rt: &R,
     alloc: Global,
@@ -34,8 +34,8 @@ fn edit<J: BookNames, R: Wait>(
     Some(())
 }
 
-// What document 1 has come to for one who waits until its first edit is settled, and then, with
-// that seen, at once: as it is, and beside a settled edit of document 2.
+/// What document 1 has come to for one who waits until its first edit is settled, and then, with
+/// that seen, at once: as it is, and beside a settled edit of document 2.
 fn watched<J: BookNames, R: Wait + Clock>(
     rt: &R,
     alloc: Global,
@@ -48,7 +48,7 @@ fn watched<J: BookNames, R: Wait + Clock>(
     Some([first, same, shared.watch(rt, 1, Some(1), Duration::ZERO)])
 }
 
-// Watches while this thread flushes.
+/// Watches while this thread flushes.
 fn watch_beside<J: BookNames + Send + Sync, R: Wait + Clock + Threads + Sync>(
     rt: &R,
     alloc: Global,
@@ -69,8 +69,8 @@ fn watch_beside<J: BookNames + Send + Sync, R: Wait + Clock + Threads + Sync>(
     });
 }
 
-// What document 1 has come to beside an edit that isn't settled, for one who hasn't seen it and for
-// one who has.
+/// What document 1 has come to beside an edit that isn't settled, for one who hasn't seen it and for
+/// one who has.
 fn unsettled<J: BookNames, R: Wait + Clock>(
     rt: &R,
     alloc: Global,
@@ -84,7 +84,7 @@ fn unsettled<J: BookNames, R: Wait + Clock>(
     ])
 }
 
-// What it has come to after the flusher's end, for one who has seen all, and for one who hasn't.
+/// What it has come to after the flusher's end, for one who has seen all, and for one who hasn't.
 fn after_the_end<J: BookNames, R: Wait + Clock>(rt: &R, shared: &Shared<J>) -> [Watched; 2] {
     [
         shared.watch(rt, 1, Some(1), Duration::from_secs(LONG)),
@@ -92,7 +92,7 @@ fn after_the_end<J: BookNames, R: Wait + Clock>(rt: &R, shared: &Shared<J>) -> [
     ]
 }
 
-// All of this in turn.
+/// All of this in turn.
 fn all_watched<J: BookNames + Send + Sync, R: Wait + Clock + Threads + Sync>(
     rt: &R,
     alloc: Global,

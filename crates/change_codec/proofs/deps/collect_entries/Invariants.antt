@@ -7,6 +7,6 @@ use Rattle.change_codec.proofs.deps.collect_entries.Given as goal
 abbrev pub invariant-loop : goal.invariant-loop
 invariant-loop l =
     record {
-      all : with_front l.entries.items (entries_at (l.count - l.counter) l.low l.rest) ≡ only_value (entries_at l.count 0 l.bytes);
+      all : with_front l.entries.items (entries_at (l.count - l.counter) l.left.low l.left.rest.now) ≡ only_value (entries_at l.count 0 l.bytes);
       room : vec_len l.entries + (l.count - l.counter) ≤ vec_capacity l.entries;
     }

@@ -4,4 +4,4 @@ use Rattle.change_codec.proofs.deps.skip_entries.Given as goal
 
 -- the entries that are left end where all of them do
 abbrev pub invariant-loop : goal.invariant-loop
-invariant-loop l = only_rest (entries_at (l.count - l.counter) l.low l.rest) ≡ only_rest (entries_at l.count 0 l.bytes)
+invariant-loop l = only_rest (entries_at (l.count - l.counter) l.left.low l.left.rest.now) ≡ only_rest (entries_at l.count 0 l.bytes)

@@ -12,7 +12,7 @@ loop-id-preserved c =
     let left = drop (c.loop-id.id-index + 1) ended in
     elim c.match-behind_id.branch [
       | in-Some w ↦ record {
-        upto = subst (λ p. HidesUpTo held p c.args.to.now) (sym w.at-is) w.in-Some.ensures.0;
+        upto = subst (λ p. HidesUpTo held p c.args.tombstones.now.to) (sym w.at-is) w.in-Some.ensures.0;
         last = λ once.
             ended_here ended (tombstones_from held c.loop-id.at) (tombstones_from held w.in-Some.behind) c.loop-id.id-index c.id-item.result _
             c.loop-id.last c.loop-id-test.true c.id-item.is (w.in-Some.ensures.1 once) (c.loop-id.invariant.last once)
@@ -20,7 +20,7 @@ loop-id-preserved c =
             ∙ ap (λ p. last_ended (λ id. is_among id left) c.match-behind_id.last (tombstones_from held p)) (sym w.at-is));
       }
       | in_default w ↦ record {
-        upto = subst (λ p. HidesUpTo held p c.args.to.now) (sym w.at-is) c.loop-id.invariant.upto;
+        upto = subst (λ p. HidesUpTo held p c.args.tombstones.now.to) (sym w.at-is) c.loop-id.invariant.upto;
         last = λ once.
             ended_skip ended (tombstones_from held c.loop-id.at) c.loop-id.id-index c.id-item.result _
             c.loop-id.last c.loop-id-test.true c.id-item.is (w.in_default.ensures once) (c.loop-id.invariant.last once)

@@ -24,13 +24,13 @@ two_filled m n bytes more a b c d fits fits' is_a is_b is_c is_d =
 
 pub returns : goal.returns
 returns c =
-    let both : 4096 * (c.args.data_count + c.args.table_count) ≡ 4096 * c.args.data_count + 4096 * c.args.table_count = omega arith in
-    two_filled (4096 * c.args.data_count) (4096 * c.args.table_count) (c.args.old_bytes.now ++ c.args.new_bytes.now) (number_bytes c.args.numbers.now)
+    let both : 4096 * (c.args.counts.of_data + c.args.counts.of_tables) ≡ 4096 * c.args.counts.of_data + 4096 * c.args.counts.of_tables = omega arith in
+    two_filled (4096 * c.args.counts.of_data) (4096 * c.args.counts.of_tables) (c.args.old_bytes.now ++ c.args.new_bytes.now) (number_bytes c.args.numbers.now)
     c.extend_from_slice-2.new.self.items c.resize.new.self.items c.put_numbers.new.out.items c.resize-2.new.self.items
     (omega (arith, c.requires.data_room, length-append c.args.old_bytes.now c.args.new_bytes.now)) (omega (arith, length-number_bytes c.args.numbers.now, c.requires.table_room))
     (c.in_ok-extend_from_slice-2.ensures.items ∙ ap (λ x. x ++ c.args.new_bytes.now) (c.in_ok-extend_from_slice.ensures.items ∙ ap (λ x. x ++ c.args.old_bytes.now) c.new-fresh.ensures.items))
-    (c.in_ok-resize.ensures.items ∙ ap (λ n. take (4096 * c.args.data_count) c.extend_from_slice-2.new.self.items ++ replicate (4096 * c.args.data_count - n) 0) (counted c.extend_from_slice-2.new.self))
+    (c.in_ok-resize.ensures.items ∙ ap (λ n. take (4096 * c.args.counts.of_data) c.extend_from_slice-2.new.self.items ++ replicate (4096 * c.args.counts.of_data - n) 0) (counted c.extend_from_slice-2.new.self))
     c.in_ok-put_numbers.ensures.ok
     (c.in_ok-resize-2.ensures.items
-    ∙ ap (λ n. take (4096 * (c.args.data_count + c.args.table_count)) c.put_numbers.new.out.items ++ replicate (4096 * (c.args.data_count + c.args.table_count) - n) 0) (counted c.put_numbers.new.out)
+    ∙ ap (λ n. take (4096 * (c.args.counts.of_data + c.args.counts.of_tables)) c.put_numbers.new.out.items ++ replicate (4096 * (c.args.counts.of_data + c.args.counts.of_tables) - n) 0) (counted c.put_numbers.new.out)
     ∙ ap (λ k. take k c.put_numbers.new.out.items ++ replicate (k - length c.put_numbers.new.out.items) 0) both)

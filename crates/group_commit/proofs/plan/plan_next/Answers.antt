@@ -20,19 +20,19 @@ make_plan-requires-else-whole c = record {
 
 pub returns-in_ok-next_stream-clause-plan : goal.returns-in_ok-next_stream-clause-plan
 returns-in_ok-next_stream-clause-plan c =
-    let current = with_stream c.args.current.now c.args.stream.now in
+    let current = with_stream c.args.live.root.now c.args.stream.now in
     let its = c.live_data_pages-data_pages.ensures c.args.stream.now c.requires.long in
     let had : HasDataPages current (data_of current) = rw (data_is current c.live_data_pages-data_pages.result.now its) its in
     let empty = c.in_ok-base.ensures in
-    let made : Prepares c.args.current.now.pages (with_stream c.in_ok-base.base []) c.args.records.now c.args.more
+    let made : Prepares c.args.live.root.now.pages (with_stream c.in_ok-base.base []) c.args.new.bytes.now c.args.new.count
     (with_stream c.in_ok-plan.plan.next c.in_ok-next_stream.next_stream) c.in_ok-plan.plan.numbers.items c.in_ok-plan.plan.fresh.items =
     rw (c.in_ok-next_stream.ensures, c.new-none.ensures) (rw c.new-none.ensures at c.in_ok-plan.ensures.plan) in
-    rw (c.if-whole.true) (moved_plan c.args.current.now c.in_ok-base.base empty c.args.stream.now _ _ _ _ _
-    (planned current (with_stream c.in_ok-base.base []) _ _ _ _ _ had empty.version (λ file has. has_none c.args.current.now c.in_ok-base.base empty file) made))
+    rw (c.if-whole.true) (moved_plan c.args.live.root.now c.in_ok-base.base empty c.args.stream.now _ _ _ _ _
+    (planned current (with_stream c.in_ok-base.base []) _ _ _ _ _ had empty.version (λ file has. has_none c.args.live.root.now c.in_ok-base.base empty file) made))
 
 pub returns-in_ok-next_stream-2-clause-plan : goal.returns-in_ok-next_stream-2-clause-plan
 returns-in_ok-next_stream-2-clause-plan c =
-    let current = with_stream c.args.current.now c.args.stream.now in
+    let current = with_stream c.args.live.root.now c.args.stream.now in
     let its = c.live_data_pages-data_pages.ensures c.args.stream.now c.requires.long in
     let had : HasDataPages current (data_of current) = rw (data_is current c.live_data_pages-data_pages.result.now its) its in
     rw (c.if-whole.false, c.in_ok-next_stream-2.ensures) (planned current current _ _ _ _ _ had refl (λ file has. has) c.in_ok-plan-2.ensures.plan)

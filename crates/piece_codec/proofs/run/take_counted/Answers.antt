@@ -8,5 +8,5 @@ pub make_run-requires-clause-piece : goal.make_run-requires-clause-piece
 make_run-requires-clause-piece c =
     let told = c.is_count.ensures in
     let passed = c.if-not-is_count.false in
-    let counted : is_count (first_of c.args.head (deps_of c.args.deps.now) c.args.tail 0) c.args.tail.count ≡ true = cc in
-    counted_piece c.args.head (deps_of c.args.deps.now) c.args.tail c.args.bytes.now c.in-Ok.value c.in-Ok.others.items (λ i. omega (arith, c.type_inv.bytes i)) counted c.in-Ok.ensures
+    let counted : is_count (first_of c.args.front.now.head (deps_of c.args.front.now.deps.now) c.args.front.now.tail 0) c.args.front.now.tail.count ≡ true = cc in
+    counted_piece c.args.front.now.head (deps_of c.args.front.now.deps.now) c.args.front.now.tail c.args.bytes.now c.in-Ok.value c.in-Ok.others.items (λ i. omega (arith, c.type_inv.bytes i)) counted c.in-Ok.ensures

@@ -7,4 +7,4 @@ returns g c =
     let f = c.args.flusher.now in
     let begun = c.begin.new.flusher in
     goes_behind g.D.DiskFacts f begun c.settle.new.flusher c.begin.ensures
-    (goes_behind g.D.DiskFacts begun c.go_through.new.flusher c.settle.new.flusher c.go_through.ensures c.settle.ensures.goes)
+    (goes_behind g.D.DiskFacts begun c.go_through.new.flusher c.settle.new.flusher c.go_through.ensures c.settle.ensures.meets.goes)

@@ -5,4 +5,4 @@ use Rattle.shared_hub.proofs.flushing.try_once.Goals as goal
 pub returns : goal.returns
 returns g c =
     goes_behind g.D.DiskFacts c.args.flusher.now c.reserve.new.self c.begin.new.flusher
-    (goes_nowhere g.D.DiskFacts c.args.flusher.now c.reserve.new.self c.reserve.ensures) c.begin.ensures.goes
+    (goes_nowhere g.D.DiskFacts c.args.flusher.now c.reserve.new.self c.reserve.ensures) c.begin.ensures.meets.goes

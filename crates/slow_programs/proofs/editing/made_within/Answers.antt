@@ -14,7 +14,7 @@ returns-then-next-count-clause-limit c =
 
 pub returns-in_err-before-clause-limit : goal.returns-in_err-before-clause-limit
 returns-in_err-before-clause-limit c =
-    let p = err_from_is_err_and c.from_residual-in_err-before.result c.from_residual-in_err-before.ensures.1 in
+    let p = err_from_is_err_and c.from_residual.result c.from_residual.ensures.1 in
     rw (p.1, p.2) (limit_alone c.in_err-before.field-0.0 (λ same.
     is_within_limits-uncounted_before c.args.ops.now c.args.replica c.args.edit.now (c.in_err-before.ensures.limit (ap Err same))))
 

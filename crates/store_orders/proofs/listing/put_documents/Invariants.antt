@@ -4,5 +4,5 @@ use Rattle.store_orders.proofs.listing.put_documents.Given as goal
 
 -- the lines of the documents so far are put
 abbrev pub invariant-loop-number : goal.invariant-loop-number
-invariant-loop-number g l =
-    l.lines.items ≡ l.initial.lines.items ++ flat_map (document_line l.hub.replica.list) (take l.number-index l.numbers)
+invariant-loop-number l =
+    l.lines.items ≡ l.initial.lines.items ++ flat_map (document_line l.replica.list) (take l.number-index l.numbers)

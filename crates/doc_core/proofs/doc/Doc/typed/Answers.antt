@@ -7,17 +7,17 @@ use Rattle.doc_core.proofs.doc.Doc.typed.Goals as goal
 pub numbered-requires-clause-in_range : goal.numbered-requires-clause-in_range
 numbered-requires-clause-in_range c =
     let bodies = c.deref.ensures.value ∙ c.in_ok-bodies.ensures in
-    let many = ap length bodies ∙ length-insert_bodies c.args.replica c.args.counter _ c.as_slice-text.result.now in
+    let many = ap length bodies ∙ length-insert_bodies c.args.author.now.replica c.args.author.now.counter _ c.as_slice-text.result.now in
     let text = ap length c.as_slice-text.ensures.same in
-    let limit = (are_few c.args.replica c.args.counter c.args.clock.now (length c.args.text.now) c.requires.limit).in_range in
+    let limit = (are_few c.args.author.now (length c.args.text.now) c.requires.limit).in_range in
     omega arith
 
 pub numbered-requires-clause-room : goal.numbered-requires-clause-room
 numbered-requires-clause-room c =
     let bodies = c.deref.ensures.value ∙ c.in_ok-bodies.ensures in
-    let many = ap length bodies ∙ length-insert_bodies c.args.replica c.args.counter _ c.as_slice-text.result.now in
+    let many = ap length bodies ∙ length-insert_bodies c.args.author.now.replica c.args.author.now.counter _ c.as_slice-text.result.now in
     let text = ap length c.as_slice-text.ensures.same in
-    rw (many, text) (are_few c.args.replica c.args.counter c.args.clock.now (length c.args.text.now) c.requires.limit).room
+    rw (many, text) (are_few c.args.author.now (length c.args.text.now) c.requires.limit).room
 
 pub invariant_of-result : goal.invariant_of-result
 invariant_of-result c =
@@ -25,8 +25,8 @@ invariant_of-result c =
     let ops = c.in_ok-ops.ensures in
     let some = c.as_slice-text.ensures.some in
     let text = ap length c.as_slice-text.ensures.same in
-    let many = ap length bodies ∙ length-insert_bodies c.args.replica c.args.counter _ c.as_slice-text.result.now in
-    let long = ap length ops ∙ length-numbered c.args.replica c.self.inside.doc c.args.token c.args.counter c.args.clock.now c.deref.result.now in (
-      rw (c.in_ok-run.ensures, ops, bodies) (run_numbered c.args.replica c.self.inside.doc c.args.token c.args.counter c.args.clock.now _ c.as_slice-text.result.now),
+    let many = ap length bodies ∙ length-insert_bodies c.args.author.now.replica c.args.author.now.counter _ c.as_slice-text.result.now in
+    let long = ap length ops ∙ length-numbered c.args.author.now.replica c.self.inside.doc c.args.author.now.token c.args.author.now.counter c.args.author.now.clock.now c.deref.result.now in (
+      rw (c.in_ok-run.ensures, ops, bodies) (run_numbered c.args.author.now.replica c.self.inside.doc c.args.author.now.token c.args.author.now.counter c.args.author.now.clock.now _ c.as_slice-text.result.now),
       omega arith,
     )

@@ -19,19 +19,16 @@ use types.ByLocal.{alloc_all, pass_all, free_all, look_at, get, sets}
 use denote.Exit.{yes}
 use denote.Builtin.{RefOf, SliceRefOf}
 use denote.RattleType.{RattleType, owns}
-use denote.Laws.{Is}
 use denote.Param.{param, layouts}
 use denote.Signature.{plain, types_at}
 use denote.Slice.{slice_val}
-use denote.Steps.{nothing, owned}
-use denote.Struct.Laws.{makes}
+use denote.Steps.{nothing}
 use denote.Triple.Clauses.{Clauses, Ended, closing}
 use denote.Triple.Entry.{alive}
 use denote.Triple.Spec.{Meets, triple_of}
 use denote.Triple.Table.{entered}
 use denote.Triple.Walked.{says, Stays, stay_dropped, walk_of, ends_at, walk_Meets, Goes-dropped}
-use Rattle.std.specs.contracts.marker.PhantomData as Mark
-use Rattle.ghost_lists.proofs.GhostWalks.{none, one, one_made}
+use Rattle.ghost_lists.proofs.GhostWalks.{none, one, marked}
 use Rattle.ghost_lists.specs.contracts.written.Written as Written
 use Rattle.ghost_lists.specs.contracts.written.Written.and as F
 use Rattle.ghost_lists.specs.contracts.written.Written.and.Key.{name as #self}
@@ -83,9 +80,7 @@ module _ (A : RattleType) where
           enter ! C Λ function (p ∷ q ∷ []) Post $ alloc_all ! (λ l. pass_all ! refl ((tt, tt), ((tt, (tt, (record { fits = count }, tt))), tt)) $
           sets ! (agg ! (no_more !)) refl (tt, tt) $
           sets ! (agg ! (and_then ! (get ! refl) (no_more !))) refl (tt, (tt, tt)) $
-          nothing ! $ owned ! (Mark.the_row (param 0 A)) (Is (Mark.the_row (param 0 A))) (makes (Mark.the_type (param 0 A)) tt 𝓛) (record {}) (none ∷ []) (tt, (refl, tt)) $
-          one_made ! (Mark.the_row (param 0 A)) (record {}) none $ fjoin ! $
-          returns ! (look_at ! 0 refl) $ free_all ! refl $
+          marked ! A $ fjoin ! $ returns ! (look_at ! 0 refl) $ free_all ! refl $
           suffices ! _ (ends_at 𝓛 ended stayed held z (one none) made (tt, (tt, tt)) (tt, (tt, tt))) $ says ! refl $
           nothing ! $ nothing ! $ fjoin ! $ nothing ! $ fjoin ! $ move ! (2 ∷ 0 ∷ 1 ∷ []) $ done !)))))
 

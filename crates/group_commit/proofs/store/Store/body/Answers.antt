@@ -8,8 +8,7 @@ use Rattle.group_commit.proofs.store.Store.body.Goals as goal
 use Rattle.group_commit.proofs.PagingLemmas.{paging_failed, paging_on}
 use Rattle.group_commit.proofs.Sound.{sound_body}
 use Rattle.group_commit.proofs.Doing.{slots_whole}
-use Rattle.group_commit.proofs.DeviceCall.{device_call}
-use Rattle.group_commit.specs.Step.{write_body}
+use Rattle.group_commit.proofs.DeviceCall.{call_failed, call_made}
 
 not_idle : (p : Phase) → p ≡ Body → p ≢ Idle
 not_idle p is idle = cc
@@ -50,38 +49,20 @@ invariant_of-self-in_default g c = (
 
 pub returns-in-Err : goal.returns-in-Err
 returns-in-Err g c = record {
-  call = record {
-    made = tt;
-    went_on = tt;
-    failed = search rules;
-    call = device_call g.D.DiskFacts _ write_body _ _ _ _ c.self.inside.roots.slot c.self.inside.roots.slot _ _ c.self.view_is c.self.invariant.0
-        (invariant_of-self g c).0 c.in-Err.ensures.writes.tells (λ told. (c.in-Err.ensures.writes.writes told).call) (λ told. g.met.D.Disk.lawful c.self.inside.disk told) refl;
-    does = rw (sym c.self.view_is) (λ told. record {
-      size = (c.self.invariant.0.plan (not_idle _ (ap (λ h. h.phase) c.self.view_is ∙ c.requires.phase))).size;
-      writes = record {
-        torn = of_bytes c.body.ensures.bytes ((c.in-Err.ensures.writes.writes told).torn);
-        written = tt;
-        call = (c.in-Err.ensures.writes.writes told).call;
-      };
-    });
-  };
+  call = call_failed g.D.DiskFacts Body _ _ _ _ c.self.inside.roots.slot c.self.inside.roots.slot _ _ c.self.view_is (ap (λ h. h.phase) c.self.view_is ∙ c.requires.phase) c.self.invariant.0
+      (invariant_of-self g c).0 c.in-Err.ensures.writes.tells (λ told. (c.in-Err.ensures.writes.writes told).call) (λ told. g.met.D.Disk.lawful c.self.inside.disk told) refl (search rules)
+      (λ told. record {
+        size = (c.self.invariant.0.plan (not_idle _ (ap (λ h. h.phase) c.self.view_is ∙ c.requires.phase))).size;
+        writes = record { torn = of_bytes c.body.ensures.bytes ((c.in-Err.ensures.writes.writes told).torn); written = tt; call = (c.in-Err.ensures.writes.writes told).call };
+      });
 }
 
 pub returns : goal.returns
 returns g c = record {
-  call = record {
-    made = search rules;
-    went_on = search rules;
-    failed = tt;
-    call = device_call g.D.DiskFacts _ write_body _ _ _ _ c.self.inside.roots.slot c.self.inside.roots.slot _ _ c.self.view_is c.self.invariant.0
-        (invariant_of-self-in_default g c).0 c.in_default.ensures.writes.tells (λ told. (c.in_default.ensures.writes.writes told).call) (λ told. g.met.D.Disk.lawful c.self.inside.disk told) tt;
-    does = rw (sym c.self.view_is) (λ told. record {
-      size = (c.self.invariant.0.plan (not_idle _ (ap (λ h. h.phase) c.self.view_is ∙ c.requires.phase))).size;
-      writes = record {
-        torn = of_bytes c.body.ensures.bytes ((c.in_default.ensures.writes.writes told).torn);
-        written = (c.in_default.ensures.writes.writes told).written ∙ ap (overwritten _ _) c.body.ensures.bytes;
-        call = (c.in_default.ensures.writes.writes told).call;
-      };
-    });
-  };
+  call = call_made g.D.DiskFacts Body _ _ _ c.self.inside.roots.slot c.self.inside.roots.slot _ _ c.self.view_is (ap (λ h. h.phase) c.self.view_is ∙ c.requires.phase) c.self.invariant.0
+      (invariant_of-self-in_default g c).0 c.in_default.ensures.writes.tells (λ told. (c.in_default.ensures.writes.writes told).call) (λ told. g.met.D.Disk.lawful c.self.inside.disk told) (search rules)
+      (λ told. record {
+        size = (c.self.invariant.0.plan (not_idle _ (ap (λ h. h.phase) c.self.view_is ∙ c.requires.phase))).size;
+        writes = record { torn = of_bytes c.body.ensures.bytes ((c.in_default.ensures.writes.writes told).torn); written = (c.in_default.ensures.writes.writes told).written ∙ ap (overwritten _ _) c.body.ensures.bytes; call = (c.in_default.ensures.writes.writes told).call };
+      });
 }

@@ -1,11 +1,10 @@
-use Rattle.std.proofs.Common.{rules, ap, ◌∙◌, true, sym, refl}
+use Rattle.std.proofs.Common.{rules, ap, ◌∙◌, true, refl}
 use Rattle.group_commit.proofs.store.Store.close.Goals as goal
 use Rattle.group_commit.specs.declared.phase.Phase.TheVariants.{Close, Sync1}
 use Rattle.group_commit.proofs.PagingLemmas.{paging_failed, paging_on}
 use Rattle.group_commit.proofs.Sound.{sound_close}
 use Rattle.group_commit.proofs.Doing.{reads_one, slots_whole}
-use Rattle.group_commit.proofs.DeviceCall.{device_call}
-use Rattle.group_commit.specs.Step.{close_gate}
+use Rattle.group_commit.proofs.DeviceCall.{call_failed, call_made}
 
 pub close_stale-requires : goal.close_stale-requires
 close_stale-requires g c = record {
@@ -35,30 +34,20 @@ invariant_of-self-in_default g c = (
 
 pub returns-in-Err : goal.returns-in-Err
 returns-in-Err g c = record {
-  call = record {
-    made = tt;
-    went_on = tt;
-    failed = search rules;
-    call = device_call g.D.DiskFacts _ close_gate _ _ _ _ c.self.inside.roots.slot c.self.inside.roots.slot _ _ c.self.view_is c.self.invariant.0
-        (invariant_of-self g c).0 c.in-Err.ensures.writes.tells (λ told. (c.in-Err.ensures.writes.writes told).call) (λ told. g.met.D.Disk.lawful c.self.inside.disk told) refl;
-    does = rw (sym c.self.view_is) (λ told. record {
-      is_one = reads_one g.D.DiskFacts _ _ _ c.self.invariant.0 (ap (λ h. h.phase) c.self.view_is ∙ c.requires.phase) told (g.met.D.Disk.lawful c.self.inside.disk told);
-      writes = record { torn = (c.in-Err.ensures.writes.writes told).torn; written = tt; call = (c.in-Err.ensures.writes.writes told).call };
-    });
-  };
+  call = call_failed g.D.DiskFacts Close _ _ _ _ c.self.inside.roots.slot c.self.inside.roots.slot _ _ c.self.view_is (ap (λ h. h.phase) c.self.view_is ∙ c.requires.phase) c.self.invariant.0
+      (invariant_of-self g c).0 c.in-Err.ensures.writes.tells (λ told. (c.in-Err.ensures.writes.writes told).call) (λ told. g.met.D.Disk.lawful c.self.inside.disk told) refl (search rules)
+      (λ told. record {
+        is_one = reads_one g.D.DiskFacts _ _ _ c.self.invariant.0 (ap (λ h. h.phase) c.self.view_is ∙ c.requires.phase) told (g.met.D.Disk.lawful c.self.inside.disk told);
+        writes = record { torn = (c.in-Err.ensures.writes.writes told).torn; written = tt; call = (c.in-Err.ensures.writes.writes told).call };
+      });
 }
 
 pub returns : goal.returns
 returns g c = record {
-  call = record {
-    made = search rules;
-    went_on = search rules;
-    failed = tt;
-    call = device_call g.D.DiskFacts _ close_gate _ _ _ _ c.self.inside.roots.slot c.self.inside.roots.slot _ _ c.self.view_is c.self.invariant.0
-        (invariant_of-self-in_default g c).0 c.in_default.ensures.writes.tells (λ told. (c.in_default.ensures.writes.writes told).call) (λ told. g.met.D.Disk.lawful c.self.inside.disk told) tt;
-    does = rw (sym c.self.view_is) (λ told. record {
-      is_one = reads_one g.D.DiskFacts _ _ _ c.self.invariant.0 (ap (λ h. h.phase) c.self.view_is ∙ c.requires.phase) told (g.met.D.Disk.lawful c.self.inside.disk told);
-      writes = record { torn = (c.in_default.ensures.writes.writes told).torn; written = (c.in_default.ensures.writes.writes told).written; call = (c.in_default.ensures.writes.writes told).call };
-    });
-  };
+  call = call_made g.D.DiskFacts Close _ _ _ c.self.inside.roots.slot c.self.inside.roots.slot _ _ c.self.view_is (ap (λ h. h.phase) c.self.view_is ∙ c.requires.phase) c.self.invariant.0
+      (invariant_of-self-in_default g c).0 c.in_default.ensures.writes.tells (λ told. (c.in_default.ensures.writes.writes told).call) (λ told. g.met.D.Disk.lawful c.self.inside.disk told) (search rules)
+      (λ told. record {
+        is_one = reads_one g.D.DiskFacts _ _ _ c.self.invariant.0 (ap (λ h. h.phase) c.self.view_is ∙ c.requires.phase) told (g.met.D.Disk.lawful c.self.inside.disk told);
+        writes = record { torn = (c.in_default.ensures.writes.writes told).torn; written = (c.in_default.ensures.writes.writes told).written; call = (c.in_default.ensures.writes.writes told).call };
+      });
 }

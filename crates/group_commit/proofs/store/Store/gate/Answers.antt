@@ -1,11 +1,10 @@
-use Rattle.std.proofs.Common.{rules, ap, ◌∙◌, true, sym, refl}
+use Rattle.std.proofs.Common.{rules, ap, ◌∙◌, true, refl}
 use Rattle.group_commit.proofs.store.Store.gate.Goals as goal
 use Rattle.group_commit.specs.declared.phase.Phase.TheVariants.{Gate, Sync3}
 use Rattle.group_commit.proofs.PagingLemmas.{paging_failed, paging_on}
 use Rattle.group_commit.proofs.Sound.{sound_gate}
 use Rattle.group_commit.proofs.Doing.{slots_whole}
-use Rattle.group_commit.proofs.DeviceCall.{device_call}
-use Rattle.group_commit.specs.Step.{open_gate}
+use Rattle.group_commit.proofs.DeviceCall.{call_failed, call_made}
 
 pub open_gate-requires : goal.open_gate-requires
 open_gate-requires g c = record {
@@ -34,24 +33,14 @@ invariant_of-self-in_default g c = (
 
 pub returns-in-Err : goal.returns-in-Err
 returns-in-Err g c = record {
-  call = record {
-    made = tt;
-    went_on = tt;
-    failed = search rules;
-    call = device_call g.D.DiskFacts _ open_gate _ _ _ _ c.self.inside.roots.slot c.self.inside.roots.slot _ _ c.self.view_is c.self.invariant.0
-        (invariant_of-self g c).0 c.in-Err.ensures.writes.tells (λ told. (c.in-Err.ensures.writes.writes told).call) (λ told. g.met.D.Disk.lawful c.self.inside.disk told) refl;
-    does = rw (sym c.self.view_is) (λ told. record { torn = (c.in-Err.ensures.writes.writes told).torn; written = tt; call = (c.in-Err.ensures.writes.writes told).call });
-  };
+  call = call_failed g.D.DiskFacts Gate _ _ _ _ c.self.inside.roots.slot c.self.inside.roots.slot _ _ c.self.view_is (ap (λ h. h.phase) c.self.view_is ∙ c.requires.phase) c.self.invariant.0
+      (invariant_of-self g c).0 c.in-Err.ensures.writes.tells (λ told. (c.in-Err.ensures.writes.writes told).call) (λ told. g.met.D.Disk.lawful c.self.inside.disk told) refl (search rules)
+      (λ told. record { torn = (c.in-Err.ensures.writes.writes told).torn; written = tt; call = (c.in-Err.ensures.writes.writes told).call });
 }
 
 pub returns : goal.returns
 returns g c = record {
-  call = record {
-    made = search rules;
-    went_on = search rules;
-    failed = tt;
-    call = device_call g.D.DiskFacts _ open_gate _ _ _ _ c.self.inside.roots.slot c.self.inside.roots.slot _ _ c.self.view_is c.self.invariant.0
-        (invariant_of-self-in_default g c).0 c.in_default.ensures.writes.tells (λ told. (c.in_default.ensures.writes.writes told).call) (λ told. g.met.D.Disk.lawful c.self.inside.disk told) tt;
-    does = rw (sym c.self.view_is) (λ told. record { torn = (c.in_default.ensures.writes.writes told).torn; written = (c.in_default.ensures.writes.writes told).written; call = (c.in_default.ensures.writes.writes told).call });
-  };
+  call = call_made g.D.DiskFacts Gate _ _ _ c.self.inside.roots.slot c.self.inside.roots.slot _ _ c.self.view_is (ap (λ h. h.phase) c.self.view_is ∙ c.requires.phase) c.self.invariant.0
+      (invariant_of-self-in_default g c).0 c.in_default.ensures.writes.tells (λ told. (c.in_default.ensures.writes.writes told).call) (λ told. g.met.D.Disk.lawful c.self.inside.disk told) (search rules)
+      (λ told. record { torn = (c.in_default.ensures.writes.writes told).torn; written = (c.in_default.ensures.writes.writes told).written; call = (c.in_default.ensures.writes.writes told).call });
 }

@@ -1,14 +1,13 @@
-use Rattle.std.proofs.Common.{rules, refl, ap, ◌∙◌, sym}
+use Rattle.std.proofs.Common.{rules, refl, ap, ◌∙◌}
 use Rattle.group_commit.proofs.store.Store.sync1.Goals as goal
 use Rattle.group_commit.specs.declared.phase.Phase.TheVariants.{Sync1, Body}
 use Rattle.group_commit.proofs.PagingLemmas.{paging_failed, paging_on}
 use Rattle.group_commit.proofs.Sound.{sound_sync1, sound_sync_failed}
-use Rattle.group_commit.proofs.DeviceCall.{device_call}
-use Rattle.group_commit.specs.Step.{sync}
+use Rattle.group_commit.proofs.DeviceCall.{call_failed, call_made}
 
 pub invariant_of-self : goal.invariant_of-self
 invariant_of-self g c = (
-  sound_sync_failed g.D.DiskFacts _ c.self.inside.roots.slot _ _ c.sync.new.disk c.self.invariant.0 (c.in-Err.ensures).tells.0 (c.in-Err.ensures).unsettled,
+  sound_sync_failed g.D.DiskFacts _ c.self.inside.roots.slot _ _ c.sync.new.disk c.self.invariant.0 c.in-Err.ensures.syncs.tells.0 c.in-Err.ensures.syncs.unsettled,
   c.self.invariant.1,
   paging_failed _ Sync1 _ _ _ _ _ _ _ _ _ c.self.invariant.2 (ap (λ h. h.phase) c.self.view_is ∙ c.requires.phase) (λ is. absurd cc) refl refl,
 )
@@ -17,7 +16,7 @@ pub invariant_of-self-2 : goal.invariant_of-self-2
 invariant_of-self-2 g c = (
   sound_sync1 g.D.DiskFacts _ c.self.inside.roots.slot _ _ c.sync.new.disk c.self.invariant.0
       (ap (λ h. h.phase) c.self.view_is ∙ c.requires.phase)
-      (c.in_default.ensures).tells.0 (c.in_default.ensures).settled
+      c.in_default.ensures.syncs.tells.0 c.in_default.ensures.syncs.settled
       (λ told. g.met.D.Disk.lawful c.self.inside.disk told) (ap (λ h. h.failed) c.self.view_is ∙ c.requires.works),
   c.self.invariant.1,
   paging_on _ Sync1 Body _ _ _ _ _ _ _ c.self.invariant.2 (ap (λ h. h.phase) c.self.view_is ∙ c.requires.phase) (λ is. absurd cc) refl (λ k is. absurd cc),
@@ -25,24 +24,14 @@ invariant_of-self-2 g c = (
 
 pub returns-in-Err : goal.returns-in-Err
 returns-in-Err g c = record {
-  call = record {
-    made = tt;
-    went_on = tt;
-    failed = search rules;
-    call = device_call g.D.DiskFacts _ sync _ _ _ _ c.self.inside.roots.slot c.self.inside.roots.slot _ _ c.self.view_is c.self.invariant.0
-        (invariant_of-self g c).0 (c.in-Err.ensures).tells (c.in-Err.ensures).call (λ told. g.met.D.Disk.lawful c.self.inside.disk told) (c.in-Err.ensures).refused;
-    does = rw (sym c.self.view_is) (λ told. record { settled = tt; unsettled = c.in-Err.ensures.unsettled told });
-  };
+  call = call_failed g.D.DiskFacts Sync1 _ _ _ _ c.self.inside.roots.slot c.self.inside.roots.slot _ _ c.self.view_is (ap (λ h. h.phase) c.self.view_is ∙ c.requires.phase) c.self.invariant.0
+      (invariant_of-self g c).0 c.in-Err.ensures.syncs.tells c.in-Err.ensures.syncs.call (λ told. g.met.D.Disk.lawful c.self.inside.disk told) c.in-Err.ensures.refused (search rules)
+      (λ told. record { settled = tt; unsettled = c.in-Err.ensures.syncs.unsettled told });
 }
 
 pub returns : goal.returns
 returns g c = record {
-  call = record {
-    made = search rules;
-    went_on = search rules;
-    failed = tt;
-    call = device_call g.D.DiskFacts _ sync _ _ _ _ c.self.inside.roots.slot c.self.inside.roots.slot _ _ c.self.view_is c.self.invariant.0
-        (invariant_of-self-2 g c).0 (c.in_default.ensures).tells (c.in_default.ensures).call (λ told. g.met.D.Disk.lawful c.self.inside.disk told) tt;
-    does = rw (sym c.self.view_is) (λ told. record { settled = c.in_default.ensures.settled told; unsettled = tt });
-  };
+  call = call_made g.D.DiskFacts Sync1 _ _ _ c.self.inside.roots.slot c.self.inside.roots.slot _ _ c.self.view_is (ap (λ h. h.phase) c.self.view_is ∙ c.requires.phase) c.self.invariant.0
+      (invariant_of-self-2 g c).0 c.in_default.ensures.syncs.tells c.in_default.ensures.syncs.call (λ told. g.met.D.Disk.lawful c.self.inside.disk told) (search rules)
+      (λ told. record { settled = c.in_default.ensures.syncs.settled told; unsettled = tt });
 }

@@ -7,16 +7,13 @@ use Rattle.root_slots.proofs.roots.Roots.close_stale.Goals as goal
 pub returns-clause-live : goal.returns-clause-live
 returns-clause-live g c = λ told.
     let slot = c.self.inside.slot in
-    let torn = (c.write_inside.ensures.writes told).torn in
-    rw (sym c.self.view_is)
-    (leaves_torn g.D.DiskFacts (4096 * (1 - slot)) 1 c.args.disk.now c.write_inside.new.disk
-    (LivesOverOpen slot) (Lives slot) torn (closed_lives slot))
+    let leaves = leaves_torn g.D.DiskFacts (4096 * (1 - slot)) 1 c.args.disk.now c.write_inside.new.disk (LivesOverOpen slot) (Lives slot) in
+    rw (sym c.self.view_is) (leaves (c.write_inside.ensures.writes told).torn (closed_lives slot))
 
 pub returns-clause-closed : goal.returns-clause-closed
 returns-clause-closed g c = λ told.
     let slot = c.self.inside.slot in
     let done = c.write_inside.ensures.writes told in
-    let torn = (c.write_inside.ensures.writes told).torn in
     let now = (g.met.D.Disk.lawful c.args.disk.now told).reads_survive in
     rw (sym c.self.view_is)
-    (λ before. on_ok_weaker c.write_inside.result (λ is. closed_alone slot _ _ torn.reads is (before _ now)) done.written)
+    (λ before. on_ok_weaker c.write_inside.result (λ is. closed_alone slot _ _ done.torn.reads is (before _ now)) done.written)

@@ -2,7 +2,7 @@
 
 /// How a commit begins.
 #[derive(Clone, Copy, Debug, PartialEq, Eq)]
-pub enum Begun {
+pub enum CommitStart {
     /// Its device calls are to be made.
     UnderWay,
     /// All is settled already.

@@ -1,0 +1,13 @@
+use Rattle.std.proofs.Common.{◌≡◌, [], ap, refl, ◌∙◌, rules}
+use Rattle.std.specs.Prelude.{None}
+use Rattle.run_list.specs.Runs.{HoldsRuns, unrolled}
+use Rattle.run_list.proofs.Found.{none_known}
+use Rattle.run_list.proofs.Holding.{holds_empty}
+use Rattle.run_list.proofs.Unrolling.{are_runs, held_is}
+use Rattle.run_list.proofs.run_list.RunList.new.Goals as goal
+
+pub invariant_of-result : goal.invariant_of-result
+invariant_of-result c = (are_runs _ _ _ _ _ (holds_empty _ _ _ (search rules) (search rules) (search rules)), none_known (unrolled c.new.result.items None c.new-2.result) None refl)
+
+pub returns : goal.returns
+returns c = held_is c.new.result.items c.new-2.result c.new-3.result.items 0 [] (holds_empty _ _ _ (search rules) (search rules) (search rules))

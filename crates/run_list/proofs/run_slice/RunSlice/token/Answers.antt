@@ -1,0 +1,11 @@
+use Rattle.std.proofs.Common.{◌≡◌, ◌<◌, length, map, take, get_or, sym, ap, ◌∙◌, arith}
+use Rattle.std.proofs.lemmas.List.{take-map, get_or-take, length-take}
+use Rattle.run_list.proofs.run_slice.RunSlice.token.Goals as goal
+
+pub returns : goal.returns
+returns c =
+    let shorter = length-take c.self.inside.len c.self.inside.list.now in
+    let lt : c.args.i < c.self.inside.len = omega (arith, ap length c.self.view_is, c.requires) in
+    c.token.ensures
+    ∙ sym (get_or-take c.self.inside.len (map (λ op. op.token) c.self.inside.list.now) c.args.i c.token.result lt)
+    ∙ ap (λ xs. get_or xs c.args.i c.token.result) (take-map (λ op. op.token) c.self.inside.len c.self.inside.list.now ∙ ap (map (λ op. op.token)) c.self.view_is)

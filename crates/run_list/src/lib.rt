@@ -1,0 +1,15 @@
+//! A list of operations, held as runs of typed characters.
+//!
+//! A character that is typed behind another one takes four bytes, and no record of its own: a list
+//! may have sixteen million operations.
+#![tactic(auto)]
+
+mod finding;
+mod marks;
+mod run_list;
+mod run_reading;
+mod run_slice;
+mod typed;
+
+pub use run_list::{ListEnd, RunList};
+pub use run_slice::RunSlice;

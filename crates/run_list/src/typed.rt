@@ -1,0 +1,105 @@
+//! An operation of a run, made from the first one.
+ghost use Rattle.std.specs.Prelude.{◌≡◌, ◌+◌, ◌<◌, ◌≤◌, true, Some, IfOk, IfSome};
+ghost use Rattle.fixed_numbers.specs.declared.limits.TheConstants.{MAX_COUNTER};
+ghost use Rattle.op_model.specs.declared.op.Op.{Op as Operation};
+ghost use Rattle.op_pieces.specs.Cutting.{is_next as is_next_of};
+ghost use Rattle.change_codec.specs.Fits.{IsOperation};
+ghost use Rattle.run_list.specs.Reading.{typed_at as typed_at_of};
+
+use op_ids::{ClockError, OpId};
+use op_list::OpHead;
+use op_model::{Body, Op};
+use op_pieces::value_of;
+use std::alloc::AllocError;
+
+/// The operation that stands so far behind the first one of its run, and types this character. An
+/// error is out of memory (1).
+pub fn typed_at(first: Op, behind: u64, value: char) -> Result<Op, AllocError>
+    requires some { 0 < behind }
+    requires fits { IsOperation (typed_at_of first behind value) }
+    ensures { IfOk result (λ op. op ≡ typed_at_of first behind value) }
+{
+    let Op {
+        id,
+        doc,
+        token,
+        mut deps,
+        ..
+    } = first;
+    let replica = id.replica();
+    match deps.advance_by(replica, behind) {
+        Ok(()) => {}
+        Err(ClockError::Memory) => return Err(AllocError),
+        Err(ClockError::Limit) => unreachable!(),
+    }
+    let counter = id.counter() + behind;
+    Ok(Op {
+        id: OpId::new(counter, replica),
+        doc,
+        token,
+        deps,
+        body: Body::Insert {
+            origin: Some(OpId::new(counter - 1, replica)),
+            value,
+        },
+    })
+}
+
+/// The head of the operation that stands so far behind the first one of its run, whose head this
+/// is.
+pub fn head_at(first: OpHead, behind: u64) -> OpHead
+    requires some { 0 < behind }
+    requires fits { first.id.counter + behind ≤ MAX_COUNTER }
+    ensures { result ≡ record {
+      id = record { counter = first.id.counter + behind; replica = first.id.replica };
+      doc = first.doc;
+      is_insert = true;
+    } }
+{
+    OpHead {
+        id: OpId::new(first.id.counter() + behind, first.id.replica()),
+        doc: first.doc,
+        is_insert: true,
+    }
+}
+
+/// The last operation, behind which this one was put, which goes on with its run. None if there is
+/// no memory for it.
+pub fn followed(last: Option<Op>, op: &Op) -> Option<Op>
+    requires { (l : Operation) → last ≡ Some l → is_next_of l op.now ≡ true }
+    ensures { IfSome result (λ l. l ≡ op.now) }
+{
+    match last {
+        Some(last) => follow(last, op),
+        None => op.copy().ok(),
+    }
+}
+
+/// An operation, made of the one before it with no memory of its own. None if the deps don't find
+/// any.
+fn follow(last: Op, op: &Op) -> Option<Op>
+    requires { is_next_of last op.now ≡ true }
+    ensures { IfSome result (λ l. l ≡ op.now) }
+{
+    let Op {
+        id,
+        doc,
+        token,
+        mut deps,
+        ..
+    } = last;
+    match deps.advance(id.replica()) {
+        Ok(()) => {}
+        Err(_) => return None,
+    }
+    Some(Op {
+        id: op.id,
+        doc,
+        token,
+        deps,
+        body: Body::Insert {
+            origin: Some(id),
+            value: value_of(&op.body),
+        },
+    })
+}
