@@ -1,3 +1,5 @@
 pub mod Id
 pub mod Clock
 pub mod ClockError
+pub mod Words
+pub mod WordLaws

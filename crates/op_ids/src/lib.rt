@@ -11,6 +11,7 @@ mod op_id;
 mod replica_id;
 mod several;
 mod token;
+mod words;
 
 pub use clock::Clock;
 pub use clock_error::ClockError;

@@ -2,6 +2,7 @@
 ghost use Rattle.std.specs.Prelude.{◌≡◌, ℕ, ◌<◌, ◌↔◌, Some, None, IfSome, IsNone};
 ghost use Rattle.std.specs.Int.{w128, from_be_bytes, to_be_bytes};
 
+use crate::words::Words;
 use std::marker::Model;
 use uuid::Uuid;
 
@@ -9,7 +10,7 @@ use uuid::Uuid;
 /// read with the highest first; that is also its order.
 #[derive(Clone, Copy, Debug, PartialEq, Eq, PartialOrd, Ord, Hash)]
 pub struct ReplicaId {
-    number: u128,
+    number: Words,
 }
 
 impl Model for ReplicaId {
@@ -32,14 +33,16 @@ impl ReplicaId {
         if number == 0 {
             return None;
         }
-        Some(ReplicaId { number })
+        Some(ReplicaId {
+            number: Words::new(number),
+        })
     }
 
     /// The sixteen bytes, the highest first.
     pub fn bytes(self) -> [u8; 16]
         ensures { result ≡ to_be_bytes w128 self }
     {
-        self.number.to_be_bytes()
+        self.number().to_be_bytes()
     }
 
     /// The replica that a UUID names, or `None` for the nil UUID.
@@ -54,6 +57,6 @@ impl ReplicaId {
     pub fn number(self) -> u128
         ensures { result ≡ self }
     {
-        self.number
+        self.number.number()
     }
 }

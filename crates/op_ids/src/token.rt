@@ -2,6 +2,7 @@
 ghost use Rattle.std.specs.Prelude.{◌≡◌, ℕ, ◌<◌, ◌↔◌, Some, None, IfSome, IsNone};
 ghost use Rattle.std.specs.Int.{w128, from_be_bytes, to_be_bytes};
 
+use crate::words::Words;
 use std::marker::Model;
 use uuid::Uuid;
 
@@ -10,7 +11,7 @@ use uuid::Uuid;
 /// first.
 #[derive(Clone, Copy, Debug, PartialEq, Eq, PartialOrd, Ord, Hash)]
 pub struct Token {
-    number: u128,
+    number: Words,
 }
 
 impl Model for Token {
@@ -33,14 +34,16 @@ impl Token {
         if number == 0 {
             return None;
         }
-        Some(Token { number })
+        Some(Token {
+            number: Words::new(number),
+        })
     }
 
     /// The sixteen bytes, the highest first.
     pub fn bytes(self) -> [u8; 16]
         ensures { result ≡ to_be_bytes w128 self }
     {
-        self.number.to_be_bytes()
+        self.number().to_be_bytes()
     }
 
     /// The token that a UUID is, or `None` for the nil UUID.
@@ -55,6 +58,6 @@ impl Token {
     pub fn number(self) -> u128
         ensures { result ≡ self }
     {
-        self.number
+        self.number.number()
     }
 }

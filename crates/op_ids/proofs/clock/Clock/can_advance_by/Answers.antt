@@ -1,4 +1,4 @@
-use Rattle.std.proofs.Common.{rules, ◌<◌, sym, arith, ◌≡◌, true, false, nat_lt}
+use Rattle.std.proofs.Common.{rules, ◌<◌, sym, arith, ◌≡◌, false, nat_lt}
 use Rattle.std.proofs.lemmas.Bool.Decides.{nat_tests}
 use Rattle.op_ids.proofs.ClockLemmas.{count_limit}
 use Rattle.op_ids.proofs.RoomLemmas.{is_clock-room, new_replica, no_more, no_room-counts}
