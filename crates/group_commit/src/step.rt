@@ -79,7 +79,8 @@ impl<D: Disk> Store<D> {
         Ok(Phase::Close)
     }
 
-    /// The sync of the new pages and the closed gate.
+    /// The sync of the new pages and the closed gate. Without it a crash could find the new root
+    /// without the pages that it names, or a half of its body behind a gate that is still open.
     fn sync1(&mut self) -> Result<Phase, StoreError>
         requires phase { self.old.phase ≡ Sync1 }
         requires works { self.old.failed ≡ false }
@@ -107,7 +108,8 @@ impl<D: Disk> Store<D> {
         Ok(Phase::Body)
     }
 
-    /// The sync of that body.
+    /// The sync of that body. Without it a crash could find the gate open over a body that isn't
+    /// there or is torn.
     fn sync2(&mut self) -> Result<Phase, StoreError>
         requires phase { self.old.phase ≡ Sync2 }
         requires works { self.old.failed ≡ false }
@@ -135,7 +137,8 @@ impl<D: Disk> Store<D> {
         Ok(Phase::Gate)
     }
 
-    /// The sync of the gate. The slots change places.
+    /// The sync of the gate. The slots change places. Without it an edit would be acknowledged that
+    /// a crash forgets, and the next commit would write over pages to which a crash goes back.
     fn sync3(&mut self) -> Result<Phase, StoreError>
         requires phase { self.old.phase ≡ Sync3 }
         requires works { self.old.failed ≡ false }

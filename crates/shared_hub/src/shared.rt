@@ -1,16 +1,23 @@
 //! A hub that threads share.
-ghost use Rattle.std.specs.Prelude.{◌≡◌, ◌≢◌, None, Err};
+ghost use Rattle.std.specs.Prelude.{◌≡◌, ◌≢◌, None, Err, nat_lt};
 ghost use Rattle.op_model.specs.Machine.{edit as edit_event, known_ticket, merge as merge_event};
+ghost use Rattle.op_model.specs.Machine.{tell as tell_event, have as have_event};
 ghost use Rattle.shared_hub.specs.Guarded.{after_edit, Merges};
-ghost use Rattle.shared_hub.specs.Refusal.{edited, merged};
-ghost use Rattle.shared_hub.specs.Shared.{HappensTo, MomentOf};
+ghost use Rattle.shared_hub.specs.Refusal.{edited, merged, told, had};
+ghost use Rattle.shared_hub.specs.Shared.{HappensTo, MomentOf, Happens, MeetsOnce, Moment};
 ghost use Rattle.shared_hub.specs.declared.refusal.SharedRefusal.TheVariants.{Stopping};
+ghost use Rattle.op_ids.specs.Clock.{count_of};
+ghost use Rattle.op_model.specs.Causality.{clock_of};
 
 use crate::awaited::Parity;
 use crate::connected::Connected;
 use crate::guarded::Guarded;
 use crate::refusal::SharedRefusal;
 use crate::rooms::Rooms;
+use disk_trait::Disk;
+use group_commit::StoreError;
+use hub_parts::{Flusher, Met};
+use op_ids::Clock;
 use op_model::{Edit, Op};
 use pass_books::{BookNames, Pass};
 use replica_core::{Merged, Ticket};
@@ -122,5 +129,93 @@ impl<J: BookNames> Shared<J> {
         if is_due {
             self.work.notify_one();
         }
+    }
+}
+
+// Tellings, and the meetings with the flusher.
+impl<J: BookNames> Shared<J> {
+    /// The first settled operations, at most 64 in the order of the list, that a clock doesn't
+    /// count. They count as told. An error is out of memory (1). Costs what `Locked::tell` does.
+    pub fn tell<R: Wait>(&self, rt: &R, clock: &Clock) -> Result<Vec<Op>, SharedRefusal>
+        ensures { Happens (tell_event clock.now) (told result) }
+    {
+        self.guarded.lock(rt).tell(clock)
+    }
+
+    /// How many operations of each replica are settled. All settled ones count as told. An error is
+    /// out of memory (1). Costs what `Locked::have` does.
+    pub fn have<R: Wait>(&self, rt: &R) -> Result<Clock, SharedRefusal>
+        ensures { Happens have_event (had result) }
+    {
+        self.guarded.lock(rt).have()
+    }
+
+    /// The flusher meets what stands under the lock, once, where no commit is under way: one of all
+    /// that waits is tried. Refuses as `Flusher::meet` does (44, 8, 7, 1).
+    pub(crate) fn begin<R: Wait, D: Disk>(
+        &self,
+        rt: &R,
+        flusher: &mut Flusher<D>,
+    ) -> Result<Met, StoreError>
+        ensures { MeetsOnce D.DiskFacts flusher.old result flusher.new }
+    {
+        let result = self.guarded.lock(rt).begin(flusher);
+        // A flusher whose commit was through has settled it.
+        if matches!(result, Ok(Met::Settled(_))) {
+            self.wake_waiting();
+            self.news.wake_all();
+        }
+        result
+    }
+
+    /// The flusher meets what stands under the lock, once, where the device calls of its commit are
+    /// all made: that is settled. Wakes those who wait for it, those who watch a document, and the
+    /// threads that tell. An error tells that the device has failed (44).
+    pub(crate) fn settle<R: Wait, D: Disk>(
+        &self,
+        rt: &R,
+        flusher: &mut Flusher<D>,
+    ) -> Result<Met, StoreError>
+        ensures { MeetsOnce D.DiskFacts flusher.old result flusher.new }
+    {
+        let mut guard = self.guarded.lock(rt);
+        let settled = guard.parity(0);
+        let result = guard.settle(flusher);
+        drop(guard);
+        if result.is_ok() {
+            self.room(settled).notify_all();
+            self.watchers.notify_all();
+        } else {
+            self.wake_waiting();
+        }
+        self.news.wake_all();
+        result
+    }
+}
+
+// Whether links go on.
+impl<J: BookNames> Shared<J> {
+    /// Refuses all further edits and merges with 12, if a peer counts more operations of this
+    /// replica than the list has, and answers whether it does: the file was put back from an older
+    /// copy. All links are over then, too. Takes no memory; a search in the clock.
+    pub fn stop_if_put_back<R: Wait>(&self, rt: &R, counted: u64) -> bool
+        ensures { Moment (λ l. result
+            ≡ nat_lt (count_of (clock_of l.replica.list) l.replica.replica) counted) }
+    {
+        let mut guard = self.guarded.lock(rt);
+        let was_put_back = guard.stop_if_put_back(counted);
+        let is_due = guard.wakes_flusher();
+        drop(guard);
+        self.wake_flusher(is_due);
+        if was_put_back {
+            self.news.wake_all();
+        }
+        was_put_back
+    }
+
+    /// Whether no link is of use any more before the file is opened again: a meeting has told a
+    /// failure of the device, or the file was put back from an older copy.
+    pub fn are_links_over<R: Wait>(&self, rt: &R) -> bool {
+        self.guarded.lock(rt).are_links_over()
     }
 }
