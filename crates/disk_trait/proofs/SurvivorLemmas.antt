@@ -4,11 +4,11 @@ use Rattle.std.proofs.Common.{length, take, drop, get_or, refl, sym, ap, subst, 
 use Rattle.std.proofs.Common.{arith, length-append, length-take, length-drop}
 use Rattle.std.specs.List.{All}
 use Rattle.std.proofs.lemmas.Bool.{cases_lt}
-use Rattle.std.proofs.lemmas.List.{get_or-take, get_or-drop, get_or_append_left, ext_get_or}
+use Rattle.std.proofs.lemmas.List.{get_or-take, get_or-drop, get_or_append_left, get_or-append_right, ext_get_or}
 use Rattle.std.proofs.Math.Seq.{get_or-append_seam}
-use Rattle.std.proofs.lemmas.List.Elements.{All-push}
-use Rattle.disk_trait.specs.File.{overwritten, Torn}
-use Rattle.disk_trait.specs.Survivors.{Range, IsOutside, MayLeave}
+use Rattle.std.proofs.lemmas.List.Elements.{All-cons, All-push}
+use Rattle.disk_trait.specs.File.{overwritten, part, Torn}
+use Rattle.disk_trait.specs.Survivors.{Range, IsOutside, IsSameOutside, MayLeave}
 use Rattle.disk_trait.proofs.FileLemmas.{length-overwritten, overwritten_in, overwritten_outside, torn_outside, torn_by_place, overwritten_is_torn}
 
 -- a place is outside of a range or in it
@@ -104,6 +104,41 @@ pub settled_leaves : (file c : List ℕ) → c ≡ file → MayLeave (length fil
 settled_leaves file c same =
     let itself : MayLeave (length file) file [] file = record { no_shorter = omega arith; no_longer = omega arith; untouched = λ i there outside. refl } in
     subst (MayLeave (length file) file []) (sym same) itself
+
+-- a range that is copied is one less to leave out
+pub range_copied : (ranges : List Range) (range : Range) (file bytes : List ℕ) → range.0 + range.1 ≤ length bytes → IsSameOutside (range ∷ ranges) file bytes
+    → IsSameOutside ranges (overwritten file range.0 (part bytes range.0 range.1)) bytes
+range_copied ranges (at, n) file bytes inside same =
+    let copied : List ℕ = part bytes at n in
+    let size : length copied ≡ n = omega (arith, length-take n (drop at bytes), length-drop at bytes) in
+    let within : at ≤ length file = omega (arith, same.0) in (
+      omega (arith, length-overwritten file at copied within, same.0),
+      λ i there outside. elim (place i at n) [
+        | inl out ↦ overwritten_outside file at copied i within (narrower i at n (length copied) (omega arith) out)
+            ∙ same.1 i there (All-cons (IsOutside i) (at, n) ranges out outside)
+        | inr copied_there ↦
+            let place : at + (i - at) ≡ i = omega arith in
+            overwritten_in file at copied i within copied_there.0 (omega arith) ∙ get_or-take n (drop at bytes) (i - at) 0 (omega arith)
+            ∙ get_or-drop at bytes (i - at) 0 ∙ ap (λ k. get_or bytes k 0) place
+      ],
+    )
+
+-- with none left out the files are the same
+pub none_left_out : (file bytes : List ℕ) → IsSameOutside [] file bytes → file ≡ bytes
+none_left_out file bytes same = ext_get_or 0 file bytes same.0 (λ i there. same.1 i (omega (arith, same.0)) (λ k d none. absurd (omega arith)))
+
+-- a settled file with what was written past its end is what reads give, outside of what was written since
+pub grown_is_read : (settled bytes : List ℕ) (ranges : List Range) → MayLeave (length bytes) settled ranges bytes → IsSameOutside ranges (settled ++ drop (length settled) bytes) bytes
+grown_is_read settled bytes ranges reads =
+    let size : length (settled ++ drop (length settled) bytes) ≡ length bytes = omega (arith, length-append settled (drop (length settled) bytes), length-drop (length settled) bytes, reads.no_shorter) in (
+      size,
+      λ i there outside. elim (cases_lt i (length settled)) [
+        | inl old ↦ get_or_append_left settled (drop (length settled) bytes) 0 i old ∙ sym (reads.untouched i old outside)
+        | inr new ↦
+            let place : length settled + (i - length settled) ≡ i = omega arith in
+            get_or-append_right settled (drop (length settled) bytes) (length settled) i 0 refl new ∙ get_or-drop (length settled) bytes (i - length settled) 0 ∙ ap (λ k. get_or bytes k 0) place
+      ],
+    )
 
 -- each range is within the file, and so is one more after it grew
 pub ranges_within : (ranges : List Range) (at n old new : ℕ) → All (λ range. range.0 + range.1 ≤ old) ranges → old ≤ new → at + n ≤ new → All (λ range. range.0 + range.1 ≤ new) (ranges ++ (at, n) ∷ [])

@@ -17,3 +17,8 @@ pub record MayLeave (size : ℕ) (settled : List ℕ) (ranges : List Range) (c :
   pub no_longer : length c ≤ size
   pub untouched : (i : ℕ) → i < length settled → All (IsOutside i) ranges
       → slice_index c i ≡ slice_index settled i
+
+-- two files have one size, and the same bytes outside of these ranges
+abbrev pub IsSameOutside : List Range → List ℕ → List ℕ → Type 0
+IsSameOutside ranges a b = (length a ≡ length b)
+    × ((i : ℕ) → i < length b → All (IsOutside i) ranges → slice_index a i ≡ slice_index b i)

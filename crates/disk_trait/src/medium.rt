@@ -1,8 +1,9 @@
 //! The file of a disk in memory: as reads give it, as the last sync settled it, and what was
 //! written since.
-ghost use Rattle.std.specs.Prelude.{◌≡◌, ◌+◌, ◌<◌, ◌≤◌, [], All, IfOk, length, vec_len, vec_capacity};
+ghost use Rattle.std.specs.Prelude.{◌≡◌, ◌+◌, ◌<◌, ◌≤◌, [], All, IfOk, length};
+ghost use Rattle.std.specs.Prelude.{vec_len, vec_capacity};
 ghost use Rattle.disk_trait.specs.File.{overwritten, part};
-ghost use Rattle.disk_trait.specs.Survivors.{MayLeave};
+ghost use Rattle.disk_trait.specs.Survivors.{IsSameOutside, MayLeave};
 ghost use Rattle.disk_trait.specs.Crash.{filled, left, left_whole};
 
 use std::alloc::{AllocError, Global};
@@ -109,7 +110,7 @@ impl Medium {
         self.unsettled.clear();
     }
 
-    /// Settles the file as reads give it.
+    /// Settles the file as reads give it. Costs what was written since the last sync, not the file.
     pub(crate) fn settle(&mut self)
         ensures bytes { self.new.bytes.items ≡ self.old.bytes.items }
         ensures settled { self.new.settled.items ≡ self.old.bytes.items }
@@ -117,7 +118,9 @@ impl Medium {
         ensures room { self.new.room ≡ self.old.room }
         ensures ranges { vec_capacity self.new.unsettled ≡ vec_capacity self.old.unsettled }
     {
-        copy(&mut self.settled, &self.bytes);
+        let size = self.settled.len();
+        self.settled.extend_from_slice(&self.bytes[size..]).unwrap();
+        copy_ranges(&mut self.settled, &self.bytes, &self.unsettled);
         self.unsettled.clear();
     }
 }
@@ -130,6 +133,26 @@ fn copy(file: &mut Vec<u8>, bytes: &[u8])
 {
     file.clear();
     file.extend_from_slice(bytes).unwrap();
+}
+
+/// Makes a file that is another one of its size outside of these ranges the same.
+fn copy_ranges(file: &mut [u8], bytes: &[u8], ranges: &[(usize, usize)])
+    requires within { All (λ range. range.0 + range.1 ≤ length bytes.now) ranges.now }
+    requires elsewhere { IsSameOutside ranges.now file.old bytes.now }
+    ensures same { file.new ≡ bytes.now }
+{
+    for range in ranges {
+        copy_range(file, bytes, range.0, range.1);
+    }
+}
+
+/// Copies a range into the other file's.
+fn copy_range(file: &mut [u8], bytes: &[u8], at: usize, count: usize)
+    requires size { length file.old ≡ length bytes.now }
+    requires within { at + count ≤ length bytes.now }
+    ensures { file.new ≡ overwritten file.old at (part bytes.now at count) }
+{
+    file[at..at + count].copy_from_slice(&bytes[at..at + count]);
 }
 
 /// Writes over the unsettled bytes of a file.
