@@ -20,6 +20,8 @@ mod record_tests;
 #[cfg(test)]
 mod refusal_tests;
 #[cfg(test)]
+mod run_record_tests;
+#[cfg(test)]
 mod run_tests;
 #[cfg(test)]
 mod spelling_tests;

@@ -8,6 +8,8 @@ mod limit_tests;
 #[cfg(test)]
 mod memory_tests;
 #[cfg(test)]
+mod table_tests;
+#[cfg(test)]
 mod test_disks;
 #[cfg(test)]
 mod test_limits;

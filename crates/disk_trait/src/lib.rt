@@ -26,6 +26,4 @@ pub use inside::{read_inside, write_inside};
 pub use laws::torn_writes_follow_the_rule;
 pub use medium::Fate;
 pub use memory::{MOST_WRITTEN, MemDisk};
-
-#[cfg(test)]
-mod limit_tests;
+pub use size_limit::limit_in;

@@ -45,8 +45,9 @@ fn read_table<R: Files<File = File>>(rt: &R, room: &mut [u8]) -> io::Result<usiz
     Ok(count)
 }
 
-/// The limit on the size of files that this table tells, if there is one.
-pub(crate) fn limit_in(table: &str) -> Option<u64> {
+/// The limit on the size of files in bytes that this table of the system's tells
+/// (`/proc/self/limits`), if there is one. A step for each byte of it.
+pub fn limit_in(table: &str) -> Option<u64> {
     for line in table.lines() {
         if let Some(limits) = line.strip_prefix(NAME) {
             return limits.split_whitespace().next()?.parse().ok();

@@ -14,6 +14,3 @@ pub use event::{Event, LinkPlace};
 pub use journal::{Journal, Telling};
 pub use quoted::Quoted;
 pub use reason::Reason;
-
-#[cfg(test)]
-mod tests;

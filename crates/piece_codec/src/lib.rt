@@ -22,6 +22,3 @@ pub use pieces::{pieces_length, put_pieces};
 pub use record::take_piece;
 pub use spelling::{piece_length, put_piece};
 pub use typed::put_typed;
-
-#[cfg(test)]
-mod tests;

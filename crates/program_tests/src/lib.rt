@@ -4,6 +4,8 @@
 #[cfg(test)]
 mod device_tests;
 #[cfg(test)]
+mod export_tests;
+#[cfg(test)]
 mod mark_tests;
 #[cfg(test)]
 mod page_tests;

@@ -7,8 +7,6 @@
 mod laws;
 mod open_fault;
 mod opening;
-#[cfg(test)]
-mod tests;
 mod worlds;
 
 pub use laws::{a_file_has_one_image, a_file_with_an_image_has_no_fault, a_new_store_is_empty};

@@ -8,6 +8,8 @@ mod daemon_tests;
 #[cfg(test)]
 mod failure_tests;
 #[cfg(test)]
+mod journal_tests;
+#[cfg(test)]
 mod test_daemons;
 #[cfg(test)]
 mod waiting_disk;

@@ -17,6 +17,3 @@ mod putting;
 mod web_address;
 
 pub use exporting::{Form, export};
-
-#[cfg(test)]
-mod tests;

@@ -16,6 +16,8 @@ mod mute_tests;
 #[cfg(test)]
 mod number_tests;
 #[cfg(test)]
+mod opening_tests;
+#[cfg(test)]
 mod page_tests;
 #[cfg(test)]
 mod roots_tests;

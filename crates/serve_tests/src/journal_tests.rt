@@ -1,5 +1,5 @@
 //! Lines to the letter, and writers that take nothing.
-use crate::{Event, Journal, LinkPlace, Reason, Telling};
+use event_journal::{Event, Journal, LinkPlace, Reason, Telling};
 use op_ids::ReplicaId;
 use std::alloc::Global;
 use std::rt::Clock;

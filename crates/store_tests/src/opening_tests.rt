@@ -1,8 +1,8 @@
 //! Stores that are opened, whole and broken.
-use crate::open;
 use disk_trait::MemDisk;
 use group_commit::Store;
 use op_ids::ReplicaId;
+use recovery::open;
 use std::alloc::Global;
 use std::test::Fail;
 

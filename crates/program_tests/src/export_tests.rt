@@ -1,6 +1,6 @@
 //! Exports to the byte.
-use super::*;
 use op_model::{CommentId, CommentIds, Marks, Span, Text, Url};
+use span_export::{Form, export};
 use std::alloc::Global;
 use std::process::Abort;
 use std::test::Fail;

@@ -1,5 +1,5 @@
-//! The limit that a table tells, which no public call gives by its value.
-use crate::size_limit::limit_in;
+//! The limit on files that a table tells.
+use disk_trait::limit_in;
 
 #[test]
 fn a_limit_on_files_is_read_from_the_table(rt: HostRuntime) {

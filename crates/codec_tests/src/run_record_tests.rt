@@ -1,9 +1,9 @@
 //! Records of runs to the byte, both ways, and those that are refused.
-use super::*;
 use change_codec::Format;
 use op_ids::{Clock, OpId, ReplicaId, Token};
 use op_model::{Body, Op};
 use op_pieces::{Piece, cut};
+use piece_codec::{put_piece, take_piece};
 use std::alloc::Global;
 use std::process::Abort;
 use std::test::Fail;
