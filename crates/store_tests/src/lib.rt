@@ -22,6 +22,12 @@ mod page_tests;
 #[cfg(test)]
 mod roots_tests;
 #[cfg(test)]
+mod test_bench;
+#[cfg(test)]
 mod test_files;
+#[cfg(test)]
+mod test_ops;
+#[cfg(test)]
+mod test_rows;
 #[cfg(test)]
 mod test_store;

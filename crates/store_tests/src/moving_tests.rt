@@ -1,55 +1,32 @@
 //! Commits that write the whole list of a file of the first format anew.
-
-use crate::test_files::{
-    ALL, BOTH, INSERT_A, INSERT_C, MOVED, ONE_OF_FIRST, RUN_THEN_C, TWO_OF_FIRST, file_with,
-};
-use crate::test_store::{begin, disk_of, file_of, finish, has_records, ops, step};
+use crate::test_bench::plays;
+use crate::test_store::{begin, disk_of, has_records, opened, ops, step};
 use disk_trait::{Fate, MemDisk};
 use group_commit::Store;
-use op_model::Op;
 use std::alloc::Global;
 use std::test::Fail;
 
-/// The pages of a file of the first format with two inserts, "a" and "b".
-const OLD: [&str; 6] = [
-    TWO_OF_FIRST,
-    ONE_OF_FIRST,
-    INSERT_A,
-    "00000002",
-    BOTH,
-    "00000004",
-];
-
-/// The store of a file, with a commit begun of more operations.
-fn begun_on(alloc: Global, disk: MemDisk, more: &[Op]) -> Result<Box<Store<MemDisk>>, Fail> {
-    let Ok(mut loaded) = Store::load(alloc, disk) else {
-        return Err("refused".into());
-    };
-    begin(&mut loaded.store, alloc, more)?;
-    Ok(Box::new(alloc, loaded.store)?)
-}
-
-/// The same of the file of the first format with "a" and "b", and of an insert of "c".
-fn moving(alloc: Global) -> Result<Box<Store<MemDisk>>, Fail> {
-    let disk = disk_of(alloc, &OLD)?;
-    let more = ops(alloc, INSERT_C)?;
-    begun_on(alloc, Box::into_inner(disk), &more)
-}
+/// The file of the first format with two inserts, "a" and "b".
+const OLD: &str = "OLD_TWO | OLD_ONE | INSERT_A | 00000002 | BOTH | 00000004 |";
 
 #[test]
 fn a_whole_list_goes_to_free_pages_as_runs(rt: HostRuntime) -> Result<(), Fail> {
-    let mut store = moving(rt.alloc())?;
-    assert_eq!(rt; finish(&mut store)?, (5, 3));
-    let expected = [
-        TWO_OF_FIRST,
-        MOVED,
-        RUN_THEN_C,
-        "00000002",
-        BOTH,
-        "00000004",
-    ];
-    assert!(rt; file_of(rt.alloc(), store)? == file_with(rt.alloc(), &expected)?);
-    Ok(())
+    plays(
+        &rt,
+        "open OLD_TWO | OLD_ONE | INSERT_A | 00000002 | BOTH | 00000004 |
+        begin INSERT_C : 3
+        finish : 5 writes, 3 syncs
+        stop
+        is OLD_TWO | MOVED | RUN_AB INSERT_C | 00000002 | BOTH | 00000004 | : true",
+    )
+}
+
+/// The store of that file, with a commit begun of an insert of "c".
+fn moving(alloc: Global) -> Result<Box<Store<MemDisk>>, Fail> {
+    let disk = disk_of(alloc, 64, OLD)?;
+    let mut store = opened(alloc, Box::into_inner(disk))?;
+    begin(&mut store, alloc, &ops(alloc, "INSERT_C")?)?;
+    Ok(store)
 }
 
 /// The disk that a crash leaves of that commit after so many device calls.
@@ -73,9 +50,9 @@ fn opens_stopped(
 ) -> Result<bool, Fail> {
     let disk = Box::into_inner(stopped(alloc, calls, fate, grown)?);
     if is_live {
-        has_records(alloc, disk, 3, ALL)
+        has_records(alloc, disk, 3, "ALL")
     } else {
-        has_records(alloc, disk, 2, BOTH)
+        has_records(alloc, disk, 2, "BOTH")
     }
 }
 

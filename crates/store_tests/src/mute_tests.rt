@@ -1,7 +1,7 @@
 //! A disk of which nothing is known, and which answers each read and write with 53.
 ghost use Rattle.std.specs.Prelude.{[]};
 
-use crate::test_store::replica;
+use crate::test_store::{load, replica};
 use disk_trait::{Disk, DiskError, DiskFacts};
 use group_commit::Store;
 use op_ids::ReplicaId;
@@ -53,9 +53,9 @@ impl Disk for Mute {
 
 /// The number with which its file isn't opened, or 0.
 fn opening(alloc: Global) -> u8 {
-    match Store::load(alloc, Mute { size: 8192 }) {
+    match load(alloc, Mute { size: 8192 }) {
         Ok(_) => 0,
-        Err(fault) => fault.cause.number(),
+        Err(number) => number,
     }
 }
 

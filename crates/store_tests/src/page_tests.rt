@@ -1,26 +1,38 @@
 //! Pages and tables that are loaded.
+use crate::test_files::bytes_of;
+use crate::test_rows::{World, nothing, play, three_of};
 use disk_trait::{Disk, FaultDisk, MemDisk};
-use page_file::{PageError, Pages, put_numbers};
+use page_file::{PageError, Pages};
 use std::alloc::Global;
 use std::test::Fail;
 
-/// A file of `pages` pages, each of one byte over and over: its number.
-fn file_of(rt: &HostRuntime, pages: u8) -> Result<MemDisk, Fail> {
-    let mut disk = MemDisk::new(rt.alloc(), 65536, 64)?;
-    for number in 0..pages {
-        disk.write_at(4096 * u64::from(number), &[number; 4096])?;
-    }
-    Ok(disk)
+/// A disk, and what is known of its file's pages.
+#[derive(Drop)]
+struct File {
+    disk: FaultDisk<MemDisk>,
+    pages: Pages,
 }
 
-/// Such a file, whose page 2 is a table page with these numbers.
-fn with_table(rt: &HostRuntime, pages: u8, numbers: &[u32]) -> Result<MemDisk, Fail> {
-    let mut disk = file_of(rt, pages)?;
-    let mut table = Vec::new(rt.alloc());
-    put_numbers(numbers, &mut table)?;
-    table.resize(4096, 0)?;
+/// An empty one, whose n-th call of the device fails; none where that is 0.
+fn empty_file(alloc: Global, n: u64) -> Result<Box<File>, Fail> {
+    let pages = Pages::new(alloc)?;
+    let disk = FaultDisk::new(MemDisk::new(alloc, 65536, 64)?, n);
+    Ok(Box::new(alloc, File { disk, pages })?)
+}
+
+/// Writes so many pages, each of one byte over and over: its number.
+fn fill<D: Disk>(alloc: Global, disk: &mut D, count: u32) -> Result<String, Fail> {
+    for number in 0..(count % 256) as u8 {
+        disk.write_at(4096 * u64::from(number), &[number; 4096])?;
+    }
+    nothing(alloc)
+}
+
+/// Writes page 2, a table page.
+fn put_table<D: Disk>(alloc: Global, disk: &mut D, words: &str) -> Result<String, Fail> {
+    let table = bytes_of(alloc, words)?;
     disk.write_at(8192, &table)?;
-    Ok(disk)
+    nothing(alloc)
 }
 
 /// The live pages of a file whose one table page is page 2.
@@ -36,126 +48,181 @@ fn loaded<D: Disk>(alloc: Global, disk: &mut D, data_pages: u64) -> Result<Pages
     }
 }
 
-/// Writes the free page of this number, and takes it. It is this byte over and over.
-fn put<D: Disk>(pages: &mut Pages, disk: &mut D, page: u32, byte: u8) -> Result<(), PageError> {
-    pages.reserve(1)?;
-    pages.put_free(disk, page, &[byte; 4096])
+/// Has the live pages loaded.
+fn load(alloc: Global, file: &mut File, data_pages: u32) -> Result<(), PageError> {
+    file.pages = loaded(alloc, &mut file.disk, u64::from(data_pages))?;
+    Ok(())
 }
 
-/// So many lowest free pages, where few are used.
-fn lowest(pages: &Pages, count: usize) -> Result<Vec<u32>, PageError> {
+/// Writes the free page of this number, and takes it. It is this byte over and over.
+fn put<D: Disk>(pages: &mut Pages, disk: &mut D, page: u32, byte: u32) -> Result<(), PageError> {
+    pages.reserve(1)?;
+    pages.put_free(disk, page, &[(byte % 256) as u8; 4096])
+}
+
+/// Nothing, or the refusal.
+fn said(alloc: Global, answer: Result<(), PageError>) -> Result<String, Fail> {
+    match answer {
+        Ok(()) => nothing(alloc),
+        Err(error) => Ok(format!(in alloc; "{error}")?),
+    }
+}
+
+/// Whether a page is this byte over and over, or its refusal.
+fn read(alloc: Global, file: &mut File, page: u32, byte: u32) -> Result<String, Fail> {
+    match file.pages.page(&mut file.disk, page) {
+        Ok(bytes) => {
+            let is_same = bytes.as_slice() == [(byte % 256) as u8; 4096].as_slice();
+            Ok(format!(in alloc; "{is_same}")?)
+        }
+        Err(error) => Ok(format!(in alloc; "{error}")?),
+    }
+}
+
+/// The lowest free page, and so many of them, where few are used.
+fn lowest(alloc: Global, pages: &Pages, count: usize) -> Result<String, Fail> {
     let (tables, data_pages) = pages.live();
     let taken = pages.taken();
     if count < 99 && tables.len() < 99 && data_pages.len() < 99 && taken.len() < 99 {
-        let found = pages.lowest_free_pages(count)?;
-        Ok(found)
+        let one = pages.lowest_free();
+        let all = pages.lowest_free_pages(count)?;
+        Ok(format!(in alloc; "{one} {all:?}")?)
     } else {
-        Err(PageError::NoPage)
+        Err("too many")?
     }
 }
 
-/// The lowest one.
-fn lowest_one(pages: &Pages) -> Option<u32> {
+/// The table pages and the data pages that are live, and those that are taken.
+fn lists(alloc: Global, pages: &Pages) -> Result<String, Fail> {
     let (tables, data_pages) = pages.live();
-    if tables.len() < 99 && data_pages.len() < 99 && pages.taken().len() < 99 {
-        Some(pages.lowest_free())
-    } else {
-        None
-    }
+    let taken = pages.taken();
+    Ok(format!(in alloc; "{tables:?} {data_pages:?} {taken:?}")?)
 }
 
 /// The taken pages become the live ones: the first is the data page, the others are table pages.
-fn adopt_one(pages: &mut Pages) {
+fn adopt_one(alloc: Global, pages: &mut Pages) -> Result<String, Fail> {
     if pages.taken().len() > 0 {
         pages.adopt(0, 0, 1);
     }
+    nothing(alloc)
+}
+
+impl World for File {
+    fn answer(&mut self, alloc: Global, command: &str, words: &str) -> Result<String, Fail> {
+        if command == "table" {
+            return put_table(alloc, &mut self.disk, words);
+        }
+        let [first, second, _] = three_of(words)?;
+        match command {
+            "fill" => fill(alloc, &mut self.disk, first),
+            "load" => said(alloc, load(alloc, self, first)),
+            "put" => said(alloc, put(&mut self.pages, &mut self.disk, first, second)),
+            "read" => read(alloc, self, first, second),
+            "lowest" => lowest(alloc, &self.pages, first as usize),
+            "lists" => lists(alloc, &self.pages),
+            "adopt" => adopt_one(alloc, &mut self.pages),
+            _ => Err("no such command".into()),
+        }
+    }
+}
+
+/// Plays rows over an empty file, whose n-th call of the device fails.
+fn plays(rt: &HostRuntime, n: u64, rows: &str) -> Result<(), Fail> {
+    let mut file = empty_file(rt.alloc(), n)?;
+    play(rt.alloc(), &mut *file, rows)
 }
 
 #[test]
 fn a_page_is_read(rt: HostRuntime) -> Result<(), Fail> {
-    let mut disk = file_of(&rt, 4)?;
-    let pages = Pages::new(rt.alloc())?;
-    let page = pages.page(&mut disk, 3)?;
-    assert_eq!(rt; page.as_slice(), [3; 4096].as_slice());
-    assert!(rt; matches!(&pages.page(&mut disk, 1), Err(PageError::PageNumber)));
-    assert!(rt; matches!(&pages.page(&mut disk, 4), Err(PageError::NoPage)));
-    Ok(())
+    plays(
+        &rt,
+        0,
+        "fill 4
+        read 3 3 : true
+        read 1 1 : page number
+        read 4 4 : no page",
+    )
 }
 
 #[test]
 fn only_free_pages_are_written(rt: HostRuntime) -> Result<(), Fail> {
-    let mut disk = with_table(&rt, 5, &[3])?;
-    let mut pages = loaded(rt.alloc(), &mut disk, 1)?;
-    let again = put(&mut pages, &mut disk, 3, 7);
-    assert!(rt; again == Err(PageError::PageNumber));
-    let past = put(&mut pages, &mut disk, 6, 7);
-    assert!(rt; past == Err(PageError::NoPage));
-    put(&mut pages, &mut disk, 4, 7)?;
-    let page = pages.page(&mut disk, 4)?;
-    assert_eq!(rt; page.as_slice(), [7; 4096].as_slice());
-    assert_eq!(rt; pages.taken(), [4].as_slice());
-    Ok(())
+    plays(
+        &rt,
+        0,
+        "fill 5
+        table 00000003 |
+        load 1
+        put 3 7 : page number
+        put 6 7 : no page
+        put 4 7
+        read 4 7 : true
+        lists : [2] [3] [4]",
+    )
 }
 
 #[test]
 fn a_page_whose_write_fails_is_taken(rt: HostRuntime) -> Result<(), Fail> {
-    let disk = file_of(&rt, 3)?;
-    let mut disk = FaultDisk::new(disk, 1);
-    let mut pages = Pages::new(rt.alloc())?;
-    let failed = put(&mut pages, &mut disk, 2, 7);
-    assert!(rt; failed == Err(PageError::WriteFailed));
-    assert!(rt; lowest_one(&pages) == Some(3));
-    Ok(())
+    plays(
+        &rt,
+        4,
+        "fill 3
+        put 2 7 : write failed
+        lowest 0 : 3 []",
+    )
 }
 
 #[test]
 fn the_lowest_free_pages_are_given(rt: HostRuntime) -> Result<(), Fail> {
-    let mut disk = file_of(&rt, 4)?;
-    let mut pages = Pages::new(rt.alloc())?;
-    assert!(rt; lowest_one(&pages) == Some(2));
-    put(&mut pages, &mut disk, 3, 7)?;
-    let found = lowest(&pages, 3)?;
-    assert_eq!(rt; found.as_slice(), [2, 4, 5].as_slice());
-    Ok(())
+    plays(
+        &rt,
+        0,
+        "fill 4
+        lowest 0 : 2 []
+        put 3 7
+        lowest 3 : 2 [2, 4, 5]",
+    )
 }
 
 #[test]
 fn a_new_root_frees_what_it_leaves(rt: HostRuntime) -> Result<(), Fail> {
-    let mut disk = with_table(&rt, 5, &[3])?;
-    let mut pages = loaded(rt.alloc(), &mut disk, 1)?;
-    put(&mut pages, &mut disk, 4, 7)?;
-    put(&mut pages, &mut disk, 5, 7)?;
-    adopt_one(&mut pages);
-    let (tables, data_pages) = pages.live();
-    assert_eq!(rt; tables, [5].as_slice());
-    assert_eq!(rt; data_pages, [4].as_slice());
-    assert!(rt; pages.taken().is_empty());
-    assert!(rt; lowest_one(&pages) == Some(2));
-    Ok(())
+    plays(
+        &rt,
+        0,
+        "fill 5
+        table 00000003 |
+        load 1
+        put 4 7
+        put 5 7
+        adopt
+        lists : [5] [4] []
+        lowest 0 : 2 []",
+    )
 }
 
 #[test]
 fn live_pages_are_loaded(rt: HostRuntime) -> Result<(), Fail> {
-    let mut disk = with_table(&rt, 8, &[7, 3])?;
-    let pages = loaded(rt.alloc(), &mut disk, 2)?;
-    let (tables, data_pages) = pages.live();
-    assert_eq!(rt; tables, [2].as_slice());
-    assert_eq!(rt; data_pages, [7, 3].as_slice());
-    let found = lowest(&pages, 4)?;
-    assert_eq!(rt; found.as_slice(), [4, 5, 6, 8].as_slice());
-    Ok(())
+    plays(
+        &rt,
+        0,
+        "fill 8
+        table 00000007 00000003 |
+        load 2
+        lists : [2] [7, 3] []
+        lowest 4 : 4 [4, 5, 6, 8]",
+    )
 }
 
 #[test]
 fn bad_tables_are_refused(rt: HostRuntime) -> Result<(), Fail> {
-    let mut twice = with_table(&rt, 8, &[3, 3])?;
-    let found = loaded(rt.alloc(), &mut twice, 2);
-    assert!(rt; matches!(&found, Err(PageError::BadTable)));
-    let mut more = with_table(&rt, 8, &[3, 4])?;
-    let found = loaded(rt.alloc(), &mut more, 1);
-    assert!(rt; matches!(&found, Err(PageError::BadTable)));
-    let mut fewer = with_table(&rt, 8, &[3])?;
-    let found = loaded(rt.alloc(), &mut fewer, 1025);
-    assert!(rt; matches!(&found, Err(PageError::BadTable)));
-    Ok(())
+    plays(
+        &rt,
+        0,
+        "fill 8
+        table 00000003 00000003 |
+        load 2 : bad table
+        table 00000003 00000004 |
+        load 1 : bad table
+        table 00000003 |
+        load 1025 : bad table",
+    )
 }

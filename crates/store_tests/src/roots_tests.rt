@@ -1,50 +1,37 @@
 //! Root slots: which one is live, and what is refused.
 ghost use Rattle.std.specs.Prelude.{◌≡◌, ◌≤◌, length};
 
-use crate::body_tests::{FIRST, MADE, SECOND, body_of};
+use crate::body_tests::body_of;
+use crate::test_files::bytes_of;
+use crate::test_rows::{World, cut_number, nothing, play, told};
+use crate::test_store::disk_of;
 use disk_trait::{Disk, MemDisk};
 use root_slots::Roots;
 use std::alloc::Global;
 use std::test::Fail;
 
-/// A disk for `calls` calls with these slots, each a gate and the pieces of a body.
-fn disk_of(alloc: Global, calls: usize, slots: &[(u8, &str)]) -> Result<MemDisk, Fail> {
-    let mut disk = MemDisk::new(alloc, 8192, calls)?;
-    let mut at: u64 = 0;
-    for (gate, pieces) in slots {
-        let mut page = Vec::new(alloc);
-        page.push(*gate)?;
-        page.resize(8, 0)?;
-        page.extend_from_slice(&body_of(alloc, pieces)?)?;
-        disk.write_at(at, &page)?;
-        at = at.saturating_add(4096);
-    }
-    Ok(disk)
-}
-
-/// The number with which the slots of a disk are refused, or 0.
-fn number_of(alloc: Global, mut disk: MemDisk) -> u8 {
-    match Roots::load(alloc, &mut disk) {
-        Ok(_) => 0,
-        Err(error) => error.number(),
+/// What the slots of a disk say: the version of the live root, its slot, whether the other slot is
+/// open, and the size of the file; or the number of the refusal.
+fn live<D: Disk>(alloc: Global, disk: &mut D) -> Result<(u64, u64, bool, u64), u8> {
+    match Roots::load(alloc, disk) {
+        Ok(found) => Ok((
+            found.root.version(),
+            found.roots.slot(),
+            found.roots.is_stale_open(),
+            found.file_size,
+        )),
+        Err(error) => Err(error.number()),
     }
 }
 
-/// Whether a root of this version is live in this slot, and the other slot is open or not.
-fn has_live(
-    alloc: Global,
-    disk: &mut MemDisk,
-    version: u64,
-    slot: u64,
-    stale_open: bool,
-) -> Result<bool, Fail> {
-    let found = Roots::load(alloc, disk).ok().ok_or("refused")?;
-    Ok(
-        found.root.version() == version
-            && found.roots.slot() == slot
-            && found.roots.is_stale_open() == stale_open
-            && found.file_size == 8192,
-    )
+/// The same as text.
+fn load(alloc: Global, disk: &mut MemDisk) -> Result<String, Fail> {
+    match live(alloc, disk) {
+        Ok((version, slot, open, size)) => {
+            Ok(format!(in alloc; "{version} in {slot} {open} {size}")?)
+        }
+        Err(number) => Ok(format!(in alloc; "{number}")?),
+    }
 }
 
 /// Puts a body into the stale slot and opens it. Whether the device did all of it.
@@ -72,6 +59,15 @@ fn commit<D: Disk>(alloc: Global, disk: &mut D, body: &[u8]) -> bool
     }
 }
 
+/// The same of a body that words say.
+fn commit_body(alloc: Global, disk: &mut MemDisk, words: &str) -> Result<bool, Fail> {
+    let body = body_of(alloc, words)?;
+    if body.len() != 4088 {
+        return Err("length".into());
+    }
+    Ok(commit(alloc, disk, &body))
+}
+
 /// Closes the stale slot of a disk's file where it is open. Whether it was, and the device did it.
 fn close<D: Disk>(alloc: Global, disk: &mut D) -> bool {
     match Roots::load(alloc, disk) {
@@ -86,73 +82,116 @@ fn close<D: Disk>(alloc: Global, disk: &mut D) -> bool {
 }
 
 /// Whether these bytes stand in the file at this place.
-fn has_bytes(alloc: Global, disk: &mut MemDisk, at: u64, bytes: &[u8]) -> Result<bool, Fail> {
-    let mut found = Vec::new(alloc);
+fn has<D: Disk>(disk: &mut D, at: u64, bytes: &[u8], found: &mut Vec<u8>) -> Result<bool, Fail> {
     found.resize(bytes.len(), 0)?;
-    disk.read_at(at, &mut found)?;
+    disk.read_at(at, found)?;
     Ok(found.as_slice() == bytes)
+}
+
+/// Whether the bytes that words say stand at the place with which the words begin.
+fn stand(alloc: Global, disk: &mut MemDisk, words: &str) -> Result<bool, Fail> {
+    let (at, words) = cut_number(words)?;
+    let bytes = if at == 0 {
+        bytes_of(alloc, words)?
+    } else {
+        body_of(alloc, words)?
+    };
+    has(disk, at, &bytes, &mut Vec::new(alloc))
+}
+
+/// A disk with two slots.
+#[derive(Drop)]
+struct Slots {
+    disk: Box<MemDisk>,
+}
+
+/// Puts another disk there: for so many calls, three of which it takes to write its file.
+fn renew(alloc: Global, slots: &mut Slots, words: &str) -> Result<String, Fail> {
+    let (calls, file) = cut_number(words)?;
+    slots.disk = disk_of(alloc, usize::try_from(calls)?, file)?;
+    nothing(alloc)
+}
+
+impl World for Slots {
+    fn answer(&mut self, alloc: Global, command: &str, words: &str) -> Result<String, Fail> {
+        match command {
+            "disk" => renew(alloc, self, words),
+            "load" => load(alloc, &mut self.disk),
+            "commit" => told(alloc, commit_body(alloc, &mut self.disk, words)),
+            "close" => told(alloc, Ok(close(alloc, &mut *self.disk))),
+            "bytes" => told(alloc, stand(alloc, &mut self.disk, words)),
+            _ => Err("no such command".into()),
+        }
+    }
+}
+
+/// Plays rows, of which the first puts a disk there.
+fn plays(rt: &HostRuntime, rows: &str) -> Result<(), Fail> {
+    let disk = disk_of(rt.alloc(), 1, "")?;
+    play(rt.alloc(), &mut Slots { disk }, rows)
 }
 
 #[test]
 fn the_live_slot_is_loaded(rt: HostRuntime) -> Result<(), Fail> {
-    let alloc = rt.alloc();
-    let mut made = disk_of(alloc, 64, &[(1, MADE), (0, "")])?;
-    assert!(rt; has_live(alloc, &mut made, 1, 0, false)?);
-    let mut first = disk_of(alloc, 64, &[(1, MADE), (1, FIRST)])?;
-    assert!(rt; has_live(alloc, &mut first, 2, 1, true)?);
-    let mut second = disk_of(alloc, 64, &[(1, SECOND), (1, FIRST)])?;
-    assert!(rt; has_live(alloc, &mut second, 3, 0, true)?);
-    let mut torn = disk_of(alloc, 64, &[(7, SECOND), (1, FIRST)])?;
-    assert!(rt; has_live(alloc, &mut torn, 2, 1, false)?);
-    Ok(())
+    plays(
+        &rt,
+        "disk 64 OPEN MADE_BODY | CLOSED |
+        load : 1 in 0 false 8192
+        disk 64 OPEN MADE_BODY | OPEN FIRST_BODY |
+        load : 2 in 1 true 8192
+        disk 64 OPEN SECOND_BODY | OPEN FIRST_BODY |
+        load : 3 in 0 true 8192
+        disk 64 0700000000000000 SECOND_BODY | OPEN FIRST_BODY |
+        load : 2 in 1 false 8192",
+    )
 }
 
 #[test]
 fn broken_slots_are_refused(rt: HostRuntime) -> Result<(), Fail> {
-    let alloc = rt.alloc();
-    // None is open, the second slot isn't there.
-    assert!(rt; number_of(alloc, disk_of(alloc, 64, &[(0, MADE), (2, FIRST)])?) == 42);
-    assert!(rt; number_of(alloc, disk_of(alloc, 64, &[(1, MADE)])?) == 42);
-    // Two open ones with equal versions, a live one without a root body.
-    assert!(rt; number_of(alloc, disk_of(alloc, 64, &[(1, FIRST), (1, FIRST)])?) == 43);
-    assert!(rt; number_of(alloc, disk_of(alloc, 64, &[(0, FIRST), (1, "")])?) == 43);
-    // The device fails in telling the size, and in the read.
-    assert!(rt; number_of(alloc, disk_of(alloc, 2, &[(1, MADE), (0, "")])?) == 50);
-    assert!(rt; number_of(alloc, disk_of(alloc, 3, &[(1, MADE), (0, "")])?) == 50);
-    Ok(())
+    // None is open, the second slot isn't there; two open ones with equal versions, a live one
+    // without a root body; the device fails in telling the size, and in the read.
+    plays(
+        &rt,
+        "disk 64 CLOSED MADE_BODY | 0200000000000000 FIRST_BODY |
+        load : 42
+        disk 64 OPEN MADE_BODY |
+        load : 42
+        disk 64 OPEN FIRST_BODY | OPEN FIRST_BODY |
+        load : 43
+        disk 64 CLOSED FIRST_BODY | OPEN |
+        load : 43
+        disk 3 OPEN MADE_BODY | CLOSED |
+        load : 50
+        disk 4 OPEN MADE_BODY | CLOSED |
+        load : 50",
+    )
 }
 
 #[test]
 fn a_root_is_put_and_the_other_one_closed(rt: HostRuntime) -> Result<(), Fail> {
-    let alloc = rt.alloc();
-    let mut disk = disk_of(alloc, 64, &[(1, MADE), (0, "")])?;
-    let body = body_of(alloc, FIRST)?;
-    if body.len() != 4088 {
-        return Err(Fail::from("length"));
-    }
-    assert!(rt; !close(alloc, &mut disk));
-    assert!(rt; commit(alloc, &mut disk, &body));
-    assert!(rt; has_bytes(alloc, &mut disk, 4104, &body)?);
-    assert!(rt; has_live(alloc, &mut disk, 2, 1, true)?);
-    assert!(rt; close(alloc, &mut disk));
-    assert!(rt; has_bytes(alloc, &mut disk, 0, &[0, 0])?);
-    assert!(rt; has_live(alloc, &mut disk, 2, 1, false)?);
-    Ok(())
+    plays(
+        &rt,
+        "disk 64 OPEN MADE_BODY | CLOSED |
+        close : false
+        commit FIRST_BODY : true
+        bytes 4104 FIRST_BODY : true
+        load : 2 in 1 true 8192
+        close : true
+        bytes 0 0000 : true
+        load : 2 in 1 false 8192",
+    )
 }
 
 #[test]
 fn a_failed_write_is_told(rt: HostRuntime) -> Result<(), Fail> {
-    let alloc = rt.alloc();
-    let body = body_of(alloc, FIRST)?;
-    if body.len() != 4088 {
-        return Err(Fail::from("length"));
-    }
-    // Four calls make the file and load it; the fifth puts the body, the sixth opens the gate.
-    let mut no_body = disk_of(alloc, 4, &[(1, MADE), (0, "")])?;
-    assert!(rt; !commit(alloc, &mut no_body, &body));
-    let mut no_gate = disk_of(alloc, 5, &[(1, MADE), (0, "")])?;
-    assert!(rt; !commit(alloc, &mut no_gate, &body));
-    let mut whole = disk_of(alloc, 6, &[(1, MADE), (0, "")])?;
-    assert!(rt; commit(alloc, &mut whole, &body));
-    Ok(())
+    // Five calls make the file and load it; the sixth puts the body, the seventh opens the gate.
+    plays(
+        &rt,
+        "disk 5 OPEN MADE_BODY | CLOSED |
+        commit FIRST_BODY : false
+        disk 6 OPEN MADE_BODY | CLOSED |
+        commit FIRST_BODY : false
+        disk 7 OPEN MADE_BODY | CLOSED |
+        commit FIRST_BODY : true",
+    )
 }

@@ -1,8 +1,8 @@
 //! What the tests share of stores: their calls, and their file.
-use crate::test_files::{bytes_of, file_with};
+use crate::test_files::bytes_of;
 use change_codec::{Format, put_ops, take_ops};
 use disk_trait::{Disk, MemDisk};
-use group_commit::{Phase, Store, StoreError};
+use group_commit::{Loaded, Phase, Store, StoreError};
 use op_ids::ReplicaId;
 use op_list::OpList;
 use op_model::Op;
@@ -24,10 +24,24 @@ pub(crate) fn store_on<D: Disk + Drop>(alloc: Global, disk: D) -> Result<Box<Sto
     }
 }
 
-/// A new store on a disk in memory with room for `pages` pages.
-pub(crate) fn store(alloc: Global, pages: usize) -> Result<Box<Store<MemDisk>>, Fail> {
-    let disk = MemDisk::new(alloc, pages.saturating_mul(4096), 4096)?;
-    store_on(alloc, disk)
+/// What is loaded of this disk's file, or the number of the refusal. In a box, so that it is proved
+/// here alone that all of it is dropped.
+pub(crate) fn load<D: Disk + Drop>(alloc: Global, disk: D) -> Result<Box<Loaded<D>>, u8> {
+    match Store::load(alloc, disk) {
+        Ok(loaded) => match Box::new(alloc, loaded) {
+            Ok(loaded) => Ok(loaded),
+            Err(_) => Err(1),
+        },
+        Err(fault) => Err(fault.cause.number()),
+    }
+}
+
+/// The store of this disk's file.
+pub(crate) fn opened<D: Disk + Drop>(alloc: Global, disk: D) -> Result<Box<Store<D>>, Fail> {
+    match load(alloc, disk) {
+        Ok(loaded) => Ok(Box::new(alloc, Box::into_inner(loaded).store)?),
+        Err(number) => Err(number.into()),
+    }
 }
 
 /// The operations of these records.
@@ -65,68 +79,39 @@ pub(crate) fn finish<D: Disk>(store: &mut Store<D>) -> Result<(usize, usize), St
     Ok((writes, syncs))
 }
 
-/// The size of a disk's file.
-fn size_of(disk: &mut MemDisk) -> Result<usize, Fail> {
-    let size = disk.size()?;
-    Ok(usize::try_from(size)?)
-}
-
 /// The bytes of a disk's file.
-fn read(alloc: Global, disk: &mut MemDisk) -> Result<Vec<u8>, Fail> {
-    let mut file = Vec::from_elem(alloc, 0, size_of(disk)?)?;
+pub(crate) fn read<D: Disk>(alloc: Global, disk: &mut D) -> Result<Vec<u8>, Fail> {
+    let size = disk.size()?;
+    let mut file = Vec::from_elem(alloc, 0, usize::try_from(size)?)?;
     disk.read_at(0, &mut file)?;
     Ok(file)
 }
 
-/// The file of a store.
-pub(crate) fn file_of(alloc: Global, store: Box<Store<MemDisk>>) -> Result<Vec<u8>, Fail> {
-    let mut disk = Box::into_inner(store).into_disk();
-    read(alloc, &mut disk)
-}
-
-/// Writes these bytes, at most 4,096.
-pub(crate) fn write(disk: &mut MemDisk, at: u64, bytes: &[u8]) -> Result<(), Fail> {
-    disk.write_at(at, bytes)?;
-    Ok(())
-}
-
-fn sync(disk: &mut MemDisk) -> Result<(), Fail> {
+/// Writes a file, page by page.
+fn fill<D: Disk>(disk: &mut D, file: &[u8]) -> Result<(), Fail> {
+    let mut at: u64 = 0;
+    for page in file.chunks(4096) {
+        disk.write_at(at, page)?;
+        at = at.saturating_add(4096);
+    }
     disk.sync()?;
     Ok(())
 }
 
-/// Writes a file, page by page.
-fn fill(disk: &mut MemDisk, file: &[u8]) -> Result<(), Fail> {
-    let mut at: u64 = 0;
-    for page in file.chunks(4096) {
-        write(disk, at, page)?;
-        at = at.saturating_add(4096);
-    }
-    sync(disk)
-}
-
-/// A disk with a file of these pages, each filled with zeros.
-pub(crate) fn disk_of(alloc: Global, pages: &[&str]) -> Result<Box<MemDisk>, Fail> {
-    let file = file_with(alloc, pages)?;
-    let mut disk = Box::new(alloc, MemDisk::new(alloc, 8 * 4096, 64)?)?;
-    fill(&mut disk, &file)?;
+/// A disk for so many calls, with the file that words say. Its writes and a sync are calls of it.
+pub(crate) fn disk_of(alloc: Global, calls: usize, words: &str) -> Result<Box<MemDisk>, Fail> {
+    let file = bytes_of(alloc, words)?;
+    let mut disk = Box::new(alloc, MemDisk::new(alloc, 8 * 4096, calls)?)?;
+    fill(&mut *disk, &file)?;
     Ok(disk)
 }
 
-/// The replica and the operations of a file.
-fn loaded(alloc: Global, disk: MemDisk) -> Result<(ReplicaId, OpList), Fail> {
-    match Store::load(alloc, disk) {
-        Ok(loaded) => Ok((loaded.replica, loaded.ops)),
-        Err(_) => Err("refused".into()),
-    }
-}
-
-/// The records of operations.
-fn records_of(alloc: Global, ops: &OpList) -> Result<Vec<u8>, Fail> {
-    let mut bytes = Vec::new(alloc);
-    let copy = ops.as_slice().copy_from(alloc, 0)?;
-    put_ops(&copy, &mut bytes)?;
-    Ok(bytes)
+/// Whether these operations are so many, and have these records.
+fn have_records(alloc: Global, ops: &OpList, count: usize, records: &str) -> Result<bool, Fail> {
+    let mut found = Vec::new(alloc);
+    put_ops(&ops.as_slice().copy_from(alloc, 0)?, &mut found)?;
+    let expected = bytes_of(alloc, records)?;
+    Ok(ops.len() == count && found == expected)
 }
 
 /// Whether a file is opened with these records, and of the replica.
@@ -136,8 +121,11 @@ pub(crate) fn has_records(
     count: usize,
     records: &str,
 ) -> Result<bool, Fail> {
-    let (owner, ops) = loaded(alloc, disk)?;
-    let found = records_of(alloc, &ops)?;
-    let expected = bytes_of(alloc, records)?;
-    Ok(ops.len() == count && found == expected && owner.bytes() == replica()?.bytes())
+    let owner = replica()?.bytes();
+    match load(alloc, disk) {
+        Ok(it) => {
+            Ok(it.replica.bytes() == owner && have_records(alloc, &it.ops, count, records)?)
+        }
+        Err(number) => Err(number.into()),
+    }
 }
