@@ -91,16 +91,19 @@ pub struct End {
 }
 
 impl End {
-    /// A replica whose name ends in this byte, and that has made `count` operations.
-    pub fn new(alloc: Global, last: u8, count: u64) -> Result<End, Fail> {
+    /// A replica whose name ends in this byte, and that has made `count` operations. Boxed, so that
+    /// its drop is proved once, and not at each way out of a test.
+    pub fn new(alloc: Global, last: u8, count: u64) -> Result<Box<End>, Fail> {
         let name = [0, 0, 0, 0, 0, 0, 0x40, 0, 0x80, 0, 0, 0, 0, 0, 0, last];
         let own = ReplicaId::read(name).ok_or("nil")?;
-        Ok(End {
+        let peer = Listed::new(alloc, own, count)?;
+        let end = End {
             alloc,
             speaker: Speaker::new(alloc),
-            peer: Listed::new(alloc, own, count)?,
+            peer,
             link: Link::start(alloc, own)?,
-        })
+        };
+        Ok(Box::new(alloc, end)?)
     }
 
     /// Says once what is due.
