@@ -31,11 +31,14 @@ fn answers(rt: &HostRuntime, table: &str) -> Result<[u8; 2], Fail> {
     Ok(answers)
 }
 
+/// The line of the limit on files, and what a disk answers.
+const LINES: [(&str, [u8; 2]); 3] = [(NONE, [0, 0]), (SOME, [0, 51]), ("", [0, 0])];
+
 #[test]
 fn a_limit_on_files_is_read_from_the_table(rt: HostRuntime) -> Result<(), Fail> {
-    for (line, due) in [(NONE, [0, 0]), (SOME, [0, 51]), ("", [0, 0])] {
+    for (line, due) in &LINES {
         let table = format!(in rt.alloc(); "{HEAD}{line}")?;
-        assert_eq!(rt; answers(&rt, &table)?, due, "{line}");
+        assert_eq!(rt; answers(&rt, &table)?, *due, "{line}");
     }
     Ok(())
 }

@@ -2,11 +2,19 @@
 #![tactic(auto)]
 
 #[cfg(test)]
+mod asks;
+#[cfg(test)]
 mod failing_tests;
 #[cfg(test)]
 mod merge_tests;
 #[cfg(test)]
 mod pending_tests;
+#[cfg(test)]
+mod play;
+#[cfg(test)]
+mod play_alone;
+#[cfg(test)]
+mod play_run;
 #[cfg(test)]
 mod run_tests;
 #[cfg(test)]

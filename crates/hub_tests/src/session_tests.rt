@@ -1,7 +1,7 @@
 //! Sessions over bytes in memory, cut in many ways.
 use session_lines::{Answer, Command, Refusal};
 use session_threads::{Desk, Session, SessionFault};
-use std::alloc::{AllocError, Global};
+use std::alloc::Global;
 use std::io;
 use std::io::{ErrorKind, Read, Write};
 use std::process::Abort;
@@ -84,33 +84,21 @@ impl Write for Sink {
     }
 }
 
-/// How a session ended: the number of its fault or 0, what it wrote, and how often its desk was
-/// asked.
-#[derive(Drop)]
-struct End {
-    number: u8,
-    text: Vec<u8>,
-    asked: u64,
-}
+/// How a session has to end: the number of its fault or 0, what it has written, and how often its
+/// desk was asked.
+type Ending = (u8, &'static str, u64);
 
-fn run(alloc: Global, reader: CutInput<'_>, room: usize) -> End {
+/// Whether a session ends so, over a writer that takes `room` bytes.
+fn ends(alloc: Global, reader: CutInput<'_>, room: usize, wanted: &Ending) -> bool {
+    let (number, text, asked) = *wanted;
     let mut desk = Counter { asked: 0 };
     let taken = Vec::new(alloc);
     let mut session = Session::new(reader, Sink { taken, room });
-    let number = match session.serve(alloc, &mut desk) {
+    let found = match session.serve(alloc, &mut desk) {
         Ok(()) => 0,
         Err(fault) => fault.number(),
     };
-    let Session { reader: _, writer } = session;
-    let Sink {
-        taken: text,
-        room: _,
-    } = writer;
-    End {
-        number,
-        text,
-        asked: desk.asked,
-    }
+    found == number && session.writer.taken.as_slice() == text.as_bytes() && desk.asked == asked
 }
 
 fn cut(rest: &[u8], most: usize) -> CutInput<'_> {
@@ -122,94 +110,136 @@ fn cut(rest: &[u8], most: usize) -> CutInput<'_> {
     }
 }
 
-fn served(rt: &impl Abort, alloc: Global, input: &[u8], text: &str, asked: u64) {
+/// So many spaces, the bytes behind them, and how a session over these ends, whatever the pieces
+/// that it reads them in.
+type Case = (usize, &'static [u8], Ending);
+
+/// The size of the first pieces in which a session doesn't end as a case says, or 0.
+fn wrong_size(alloc: Global, case: &Case) -> Option<usize> {
+    let (spaces, last, wanted) = case;
+    let mut input = vec![in alloc; b' '; *spaces].ok()?;
+    input.extend_from_slice(last).ok()?;
     for most in [1, 2, 3, 7, 4_095, 4_096, 100_000] {
-        let end = run(alloc, cut(input, most), usize::MAX);
-        assert_eq!(rt; end.number, 0, "in pieces of {most}");
-        assert!(rt;
-            end.text.as_slice() == text.as_bytes(),
-            "in pieces of {most}: {:?}",
-            end.text
-        );
-        assert_eq!(rt; end.asked, asked, "in pieces of {most}");
+        if !ends(alloc, cut(&input, most), usize::MAX, wanted) {
+            return Some(most);
+        }
+    }
+    Some(0)
+}
+
+/// Serves each of the cases in pieces of many sizes.
+fn serves(rt: &(impl Abort + AllocGlobal), cases: &[Case]) {
+    for (number, case) in cases.iter().enumerate() {
+        assert_eq!(rt; wrong_size(rt.alloc(), case), Some(0), "case {number}");
     }
 }
 
+static IN_TURN: [Case; 2] = [
+    (
+        0,
+        b"{\"op\":\"text\",\"doc\":9}\n\
+          {\"op\":\"stop\"}\n\
+          {\"op\":\"insert\",\"doc\":1,\"at\":0,\"text\":\"a\"}\n\
+          {\"op\":\"status\"}\n",
+        (
+            0,
+            "{\"ok\":true,\"rev\":9}\n\
+              {\"ok\":true}\n\
+              {\"code\":12,\"error\":\"stopping\",\"ok\":false}\n\
+              {\"ok\":true,\"rev\":4}\n",
+            4,
+        ),
+    ),
+    (0, b"", (0, "", 0)),
+];
+
 #[test]
 fn each_line_is_answered_in_turn(rt: HostRuntime) {
-    let input =
-        "{\"op\":\"text\",\"doc\":9}\n{\"op\":\"stop\"}\n{\"op\":\"insert\",\"doc\":1,\"at\":0,\"text\":\"a\"}\n{\"op\":\"status\"}\n";
-    let text =
-        "{\"ok\":true,\"rev\":9}\n{\"ok\":true}\n{\"code\":12,\"error\":\"stopping\",\"ok\":false}\n{\"ok\":true,\"rev\":4}\n";
-    served(&rt, rt.alloc(), input.as_bytes(), text, 4);
-    served(&rt, rt.alloc(), b"", "", 0);
+    serves(&rt, &IN_TURN);
 }
+
+static NO_COMMANDS: [Case; 1] = [(
+    0,
+    b"[\n\n\xff\n{\"op\":\"fly\"}\n7\n{\"op\":\"text\",\"doc\":0}\n{\"op\":\"status\"}\n",
+    (
+        0,
+        "{\"code\":2,\"error\":\"syntax\",\"ok\":false}\n\
+          {\"code\":2,\"error\":\"syntax\",\"ok\":false}\n\
+          {\"code\":2,\"error\":\"syntax\",\"ok\":false}\n\
+          {\"code\":3,\"error\":\"request\",\"ok\":false}\n\
+          {\"code\":3,\"error\":\"request\",\"ok\":false}\n\
+          {\"code\":4,\"error\":\"field\",\"ok\":false}\n\
+          {\"ok\":true,\"rev\":1}\n",
+        1,
+    ),
+)];
 
 #[test]
 fn what_is_no_command_never_reaches_the_desk(rt: HostRuntime) {
-    let input =
-        b"[\n\n\xff\n{\"op\":\"fly\"}\n7\n{\"op\":\"text\",\"doc\":0}\n{\"op\":\"status\"}\n";
-    let text =
-        "{\"code\":2,\"error\":\"syntax\",\"ok\":false}\n{\"code\":2,\"error\":\"syntax\",\"ok\":false}\n{\"code\":2,\"error\":\"syntax\",\"ok\":false}\n{\"code\":3,\"error\":\"request\",\"ok\":false}\n{\"code\":3,\"error\":\"request\",\"ok\":false}\n{\"code\":4,\"error\":\"field\",\"ok\":false}\n{\"ok\":true,\"rev\":1}\n";
-    served(&rt, rt.alloc(), input, text, 1);
+    serves(&rt, &NO_COMMANDS);
 }
+
+static RESTS: [Case; 2] = [
+    (
+        0,
+        b"{\"op\":\"status\"}\n{\"op\":\"status\"}",
+        (0, "{\"ok\":true,\"rev\":1}\n", 1),
+    ),
+    (0, b"{\"op\":\"status\"}", (0, "", 0)),
+];
 
 #[test]
 fn a_rest_without_line_feed_is_no_request(rt: HostRuntime) {
-    let text = "{\"ok\":true,\"rev\":1}\n";
-    served(
-        &rt,
-        rt.alloc(),
-        b"{\"op\":\"status\"}\n{\"op\":\"status\"}",
-        text,
-        1,
-    );
-    served(&rt, rt.alloc(), b"{\"op\":\"status\"}", "", 0);
+    serves(&rt, &RESTS);
 }
 
-fn long_input(alloc: Global, spaces: usize, last: &[u8]) -> Result<Vec<u8>, AllocError> {
-    let mut input = vec![in alloc; b' '; spaces]?;
-    input.extend_from_slice(last)?;
-    Ok(input)
-}
+/// How a session ends that refuses one line as too long, and then answers one.
+const TOO_LONG: Ending = (
+    0,
+    "{\"code\":11,\"error\":\"line\",\"ok\":false}\n{\"ok\":true,\"rev\":1}\n",
+    1,
+);
+
+static LONG_LINES: [Case; 5] = [
+    (65_537, b"\n{\"op\":\"status\"}\n", TOO_LONG),
+    (200_000, b"\n{\"op\":\"status\"}\n", TOO_LONG),
+    (
+        65_536,
+        b"\n{\"op\":\"status\"}\n",
+        (
+            0,
+            "{\"code\":2,\"error\":\"syntax\",\"ok\":false}\n{\"ok\":true,\"rev\":1}\n",
+            1,
+        ),
+    ),
+    (
+        65_521,
+        b"{\"op\":\"status\"}\n",
+        (0, "{\"ok\":true,\"rev\":1}\n", 1),
+    ),
+    (100_000, b"", (0, "", 0)),
+];
 
 #[test]
-fn a_line_that_is_too_long_is_refused_once(rt: HostRuntime) -> Result<(), Fail> {
-    let alloc = rt.alloc();
-    let status = "{\"ok\":true,\"rev\":1}\n";
-    let too_long = format!(in alloc; "{{\"code\":11,\"error\":\"line\",\"ok\":false}}\n{status}")?;
-    let syntax = format!(in alloc; "{{\"code\":2,\"error\":\"syntax\",\"ok\":false}}\n{status}")?;
-    let input = long_input(alloc, 65_537, b"\n{\"op\":\"status\"}\n")?;
-    served(&rt, alloc, &input, too_long.as_str(), 1);
-    let input = long_input(alloc, 200_000, b"\n{\"op\":\"status\"}\n")?;
-    served(&rt, alloc, &input, too_long.as_str(), 1);
-    let input = long_input(alloc, 65_536, b"\n{\"op\":\"status\"}\n")?;
-    served(&rt, alloc, &input, syntax.as_str(), 1);
-    let input = long_input(alloc, 65_521, b"{\"op\":\"status\"}\n")?;
-    served(&rt, alloc, &input, status, 1);
-    let input = long_input(alloc, 100_000, b"")?;
-    served(&rt, alloc, &input, "", 0);
-    Ok(())
+fn a_line_that_is_too_long_is_refused_once(rt: HostRuntime) {
+    serves(&rt, &LONG_LINES);
 }
+
+static READ_FAILS: Ending = (71, "{\"ok\":true,\"rev\":1}\n{\"ok\":true}\n", 2);
 
 #[test]
 fn a_failed_read_ends_the_session_after_its_lines(rt: HostRuntime) {
-    let input = b"{\"op\":\"status\"}\n{\"op\":\"stop\"}\n{\"op\":";
-    let mut reader = cut(input, 5);
+    let mut reader = cut(b"{\"op\":\"status\"}\n{\"op\":\"stop\"}\n{\"op\":", 5);
     reader.is_failing = true;
-    let end = run(rt.alloc(), reader, usize::MAX);
-    assert_eq!(rt; end.number, 71);
-    assert!(rt; end.text.as_slice() == b"{\"ok\":true,\"rev\":1}\n{\"ok\":true}\n".as_slice());
-    assert_eq!(rt; end.asked, 2);
+    assert!(rt; ends(rt.alloc(), reader, usize::MAX, &READ_FAILS));
 }
+
+static WRITE_FAILS: Ending = (71, "{\"ok\":true,\"rev\":1}\n{\"ok\":true", 2);
 
 #[test]
 fn a_failed_write_ends_the_session_at_its_line(rt: HostRuntime) {
     let input = b"{\"op\":\"status\"}\n{\"op\":\"status\"}\n{\"op\":\"status\"}\n";
-    let end = run(rt.alloc(), cut(input, 4_096), 30);
-    assert_eq!(rt; end.number, 71);
-    assert!(rt; end.text.as_slice() == b"{\"ok\":true,\"rev\":1}\n{\"ok\":true".as_slice());
-    assert_eq!(rt; end.asked, 2);
+    assert!(rt; ends(rt.alloc(), cut(input, 4_096), 30, &WRITE_FAILS));
 }
 
 #[test]

@@ -1,58 +1,64 @@
-//! Hubs for the tests, and what the tests do with them.
-use disk_trait::{Disk, MemDisk};
+//! Hubs for the tests, and what the tests do with them. Where something is missing there is no
+//! value, and no text of a failure: what a test holds is dropped at each way out.
+use disk_trait::{Disk, FaultDisk, MemDisk};
 use group_commit::{Phase, Store};
-use locked_replica::Hub;
+use locked_replica::{Hub, HubRefusal};
 use op_ids::ReplicaId;
 use op_model::{Change, Edit, EditText};
 use std::alloc::Global;
 use std::num::NonZeroU32;
-use std::test::Fail;
+
+/// A hub over a disk in memory, of whose device calls one may fail.
+pub(crate) type Failing = Hub<FaultDisk<MemDisk>>;
+
+/// The place of the device call that fails where none does.
+pub(crate) const NEVER: u64 = u64::MAX;
+
+/// What stands for a number where a commit has no end.
+const NO_END: usize = 255;
 
 /// The replica whose last byte is this.
-pub(crate) fn replica(last: u8) -> Result<ReplicaId, Fail> {
-    let bytes = [0, 0, 0, 0, 0, 0, 0x40, 0, 0x80, 0, 0, 0, 0, 0, 0, last];
-    Ok(ReplicaId::read(bytes).ok_or("nil")?)
+pub(crate) fn replica(last: u8) -> Option<ReplicaId> {
+    ReplicaId::read([0, 0, 0, 0, 0, 0, 0x40, 0, 0x80, 0, 0, 0, 0, 0, 0, last])
 }
 
 /// A disk with the store of a new replica, for a file of `room` bytes and `calls` calls.
-pub(crate) fn new_disk(
-    alloc: Global,
-    last: u8,
-    room: usize,
-    calls: usize,
-) -> Result<MemDisk, Fail> {
-    let disk = MemDisk::new(alloc, room, calls)?;
+pub(crate) fn new_disk(alloc: Global, last: u8, room: usize, calls: usize) -> Option<MemDisk> {
+    let disk = MemDisk::new(alloc, room, calls).ok()?;
     match Store::init(alloc, disk, replica(last)?) {
-        Ok(store) => Ok(store.into_disk()),
-        Err(_) => Err("init")?,
+        Ok(store) => Some(store.into_disk()),
+        Err(_) => None,
     }
+}
+
+/// A disk with the store of a new replica, for a few small commits, of whose calls the n-th fails.
+pub(crate) fn failing_disk(alloc: Global, last: u8, n: u64) -> Option<FaultDisk<MemDisk>> {
+    let disk = new_disk(alloc, last, 65_536, 1_024)?;
+    Some(FaultDisk::new(disk, n))
 }
 
 /// The hub of a disk. It is boxed, so that a test which returns early drops a box: that a hub is
 /// dropped is then proved once, and not at each return.
-pub(crate) fn open<D: Disk + Drop>(alloc: Global, disk: D) -> Result<Box<Hub<D>>, Fail> {
+pub(crate) fn open<D: Disk + Drop>(alloc: Global, disk: D) -> Option<Box<Hub<D>>> {
     match Hub::open(alloc, disk) {
-        Ok(hub) => Ok(Box::new(alloc, hub)?),
-        Err(_) => Err("open")?,
+        Ok(hub) => Box::new(alloc, hub).ok(),
+        Err(_) => None,
     }
 }
 
-/// The hub of a new replica, with a disk for a few small commits.
-pub(crate) fn peer(alloc: Global, last: u8) -> Result<Box<Hub<MemDisk>>, Fail> {
-    open(alloc, new_disk(alloc, last, 65_536, 1_024)?)
+/// The hub of its file, opened anew.
+pub(crate) fn reopened(alloc: Global, hub: Box<Failing>) -> Option<Box<Failing>> {
+    match Box::into_inner(hub).reopen(alloc) {
+        Ok(hub) => Box::new(alloc, hub).ok(),
+        Err(_) => None,
+    }
 }
 
-/// The insert of one character into document 1.
-pub(crate) fn insert(alloc: Global, at: u32, value: char) -> Result<Edit, Fail> {
-    let mut text = Vec::new(alloc);
-    text.push(value)?;
-    typed(at, text)
-}
-
-/// The insert of these characters into document 1.
-pub(crate) fn typed(at: u32, text: Vec<char>) -> Result<Edit, Fail> {
-    let text = EditText::new(text).ok_or("a text")?;
-    Ok(Edit {
+/// The insert of a character into document 1, so many times.
+pub(crate) fn insert(alloc: Global, at: u32, value: char, count: usize) -> Option<Edit> {
+    let text = vec![in alloc; value; count].ok()?;
+    let text = EditText::new(text)?;
+    Some(Edit {
         doc: 1,
         rev: None,
         token: None,
@@ -61,58 +67,51 @@ pub(crate) fn typed(at: u32, text: Vec<char>) -> Result<Edit, Fail> {
 }
 
 /// Three edits that are made one after the other, each of one operation: "a", then "ab", then "b".
-pub(crate) fn edit_of(alloc: Global, number: usize) -> Result<Edit, Fail> {
-    if number < 2 {
-        let value = if number == 0 { 'a' } else { 'b' };
-        return insert(alloc, number as u32, value);
+pub(crate) fn edit_of(alloc: Global, number: usize) -> Option<Edit> {
+    match number {
+        0 => insert(alloc, 0, 'a', 1),
+        1 => insert(alloc, 1, 'b', 1),
+        _ => Some(Edit {
+            doc: 1,
+            rev: None,
+            token: None,
+            change: Change::Delete {
+                at: 0,
+                count: NonZeroU32::MIN,
+            },
+        }),
     }
-    let count = NonZeroU32::new(1).ok_or("one")?;
-    Ok(Edit {
-        doc: 1,
-        rev: None,
-        token: None,
-        change: Change::Delete { at: 0, count },
-    })
 }
 
-/// Makes the device calls of a commit.
-fn make_calls(hub: &mut Hub<MemDisk>) -> Result<(), Fail> {
+/// The number of the refusal, or 0.
+pub(crate) fn number_of<T: Drop>(outcome: Result<T, HubRefusal>) -> usize {
+    match outcome {
+        Ok(_) => 0,
+        Err(refusal) => refusal.number() as usize,
+    }
+}
+
+/// Makes the device calls of a commit: the number of the refusal, or 0.
+pub(crate) fn make_calls<D: Disk>(hub: &mut Hub<D>) -> usize {
     for _ in 0..1_000 {
         match hub.device_step() {
-            Ok(Phase::Sync3) => return Ok(()),
+            Ok(Phase::Sync3) => return 0,
             Ok(_) => {}
-            Err(_) => return Err("device".into()),
+            Err(refusal) => return refusal.number() as usize,
         }
     }
-    Err("no end".into())
+    NO_END
 }
 
-/// Commits all that a hub has, where something isn't settled.
-pub(crate) fn commit(hub: &mut Hub<MemDisk>) -> Result<(), Fail> {
+/// Commits all that a hub has, where something isn't settled: the number of the refusal, or 0.
+pub(crate) fn commit<D: Disk>(hub: &mut Hub<D>) -> usize {
     match hub.begin() {
-        Ok(Some(_)) => make_calls(hub)?,
-        Ok(None) => return Ok(()),
-        Err(_) => return Err("begin".into()),
+        Ok(Some(_)) => {}
+        Ok(None) => return 0,
+        Err(refusal) => return refusal.number() as usize,
     }
-    if hub.settle().is_err() {
-        return Err("settle".into());
+    match make_calls(hub) {
+        0 => number_of(hub.settle()),
+        number => number,
     }
-    Ok(())
-}
-
-/// What one hub has settled and another one doesn't count is merged there, 64 operations at most.
-/// Gives how many.
-pub(crate) fn merge(from: &mut Hub<MemDisk>, to: &mut Hub<MemDisk>) -> Result<usize, Fail> {
-    commit(from)?;
-    let ops = match from.tell(to.clock()) {
-        Ok(ops) => ops,
-        Err(_) => return Err("tell".into()),
-    };
-    let count = ops.len();
-    for op in ops {
-        if to.merge(2, op).is_err() {
-            return Err("merge".into());
-        }
-    }
-    Ok(count)
 }

@@ -1,6 +1,6 @@
 //! Edits under a token, through a `Desk`: each acts once, whatever ends or fails before it is sent
 //! again.
-use crate::test_hubs::{insert, new_disk};
+use crate::test_hubs::{NEVER, failing_disk, insert};
 use disk_trait::{Disk, FaultDisk, MemDisk};
 use locked_replica::Hub;
 use op_ids::Token;
@@ -8,41 +8,57 @@ use op_model::Edit;
 use session_lines::{Answer, Command};
 use session_threads::{Desk, HubDesk};
 use std::alloc::Global;
-use std::test::Fail;
+use std::process::Abort;
 
 /// A desk over a new store, of whose device calls the n-th fails: three are made by the opening,
 /// seven by the first commit, eight by each other one.
 type Failing = HubDesk<FaultDisk<MemDisk>>;
 
-/// The insert of one character into document 1, under the token
-/// `00000000-0000-4000-8000-0000000000d1`.
-fn with_token(alloc: Global, at: u32, value: char) -> Result<Edit, Fail> {
-    let mut edit = insert(alloc, at, value)?;
-    edit.token = Token::read([0, 0, 0, 0, 0, 0, 0x40, 0, 0x80, 0, 0, 0, 0, 0, 0, 0xd1]);
-    Ok(edit)
+/// What is asked of a desk.
+#[derive(Clone, Copy)]
+enum Ask {
+    /// The insert of "a" at an index of document 1, under the token
+    /// `00000000-0000-4000-8000-0000000000d1`.
+    Send(u32),
+    /// The insert of "b" behind the first character, without a token.
+    SendWithout,
+    /// Whether document 1 has this text: 1 or 0.
+    Shows(&'static str),
+    /// A stop: 0.
+    Stop,
+    /// An opening of the file anew: 0.
+    Reopen,
 }
 
-/// A desk over the store of a new replica, of whose device calls the n-th fails.
-fn failing(alloc: Global, n: u64) -> Result<Box<Failing>, Fail> {
-    let disk = FaultDisk::new(new_disk(alloc, 1, 65_536, 1_024)?, n);
-    desk_over(alloc, disk)
+/// What is asked, and what is answered: the rev of an edit or another number, or the number of the
+/// refusal.
+type Row = (Ask, Result<u64, u8>);
+
+/// The insert of "a" under the token.
+fn with_token(alloc: Global, at: u32) -> Option<Edit> {
+    let mut edit = insert(alloc, at, 'a', 1)?;
+    edit.token = Token::read([0, 0, 0, 0, 0, 0, 0x40, 0, 0x80, 0, 0, 0, 0, 0, 0, 0xd1]);
+    Some(edit)
 }
 
 /// A desk over the hub of a disk.
-fn desk_over<D: Disk + Drop>(alloc: Global, disk: D) -> Result<Box<HubDesk<D>>, Fail> {
+fn desk_over(alloc: Global, disk: FaultDisk<MemDisk>) -> Option<Box<Failing>> {
     match Hub::open(alloc, disk) {
-        Ok(hub) => Ok(Box::new(alloc, HubDesk::new(hub, 1))?),
-        Err(_) => Err("open")?,
+        Ok(hub) => Box::new(alloc, HubDesk::new(hub, 1)).ok(),
+        Err(_) => None,
     }
 }
 
-/// A desk over the same file, opened anew.
-fn reopened(alloc: Global, desk: Box<Failing>) -> Result<Box<Failing>, Fail> {
-    desk_over(alloc, Box::into_inner(desk).into_hub().into_disk())
+/// The disk of a desk.
+fn disk_of(desk: Box<Failing>) -> FaultDisk<MemDisk> {
+    Box::into_inner(desk).into_hub().into_disk()
 }
 
 /// The rev that an edit is answered with, or the number of its refusal.
-fn answer(alloc: Global, desk: &mut Failing, edit: Edit) -> Result<u64, u8> {
+fn edited(alloc: Global, desk: &mut Failing, edit: Option<Edit>) -> Result<u64, u8> {
+    let Some(edit) = edit else {
+        return Err(0);
+    };
     match desk.serve(alloc, Command::Edit(edit)) {
         Answer::Edited { rev } => Ok(rev),
         Answer::Refused(refusal) => Err(refusal.number()),
@@ -50,87 +66,130 @@ fn answer(alloc: Global, desk: &mut Failing, edit: Edit) -> Result<u64, u8> {
     }
 }
 
-/// What is answered to the insert of "a" under the token.
-fn sent(alloc: Global, desk: &mut Failing) -> Result<Result<u64, u8>, Fail> {
-    Ok(answer(alloc, desk, with_token(alloc, 0, 'a')?))
-}
-
-/// What is answered to the insert of "b" behind it, without a token.
-fn sent_without(alloc: Global, desk: &mut Failing) -> Result<Result<u64, u8>, Fail> {
-    Ok(answer(alloc, desk, insert(alloc, 1, 'b')?))
-}
-
 /// Whether document 1 has this text.
-fn shows(alloc: Global, desk: &mut Failing, wanted: &[char]) -> bool {
+fn shows(alloc: Global, desk: &mut Failing, wanted: &str) -> bool {
     match desk.serve(alloc, Command::Text { doc: 1 }) {
-        Answer::Text { text, .. } => text.as_slice() == wanted,
+        Answer::Text { text, .. } => text.as_slice().iter().copied().eq(wanted.chars()),
         _ => false,
     }
 }
 
-#[test]
-fn an_edit_that_is_sent_again_has_its_first_answer(rt: HostRuntime) -> Result<(), Fail> {
-    let alloc = rt.alloc();
-    let mut desk = failing(alloc, 1_000)?;
-    assert!(rt; sent(alloc, &mut desk)? == Ok(1));
-    assert!(rt; sent(alloc, &mut desk)? == Ok(1));
-    assert!(rt; shows(alloc, &mut desk, &['a']));
-    assert!(rt; sent_without(alloc, &mut desk)? == Ok(2));
-    assert!(rt; sent(alloc, &mut desk)? == Ok(1));
-    let mut again = reopened(alloc, desk)?;
-    assert!(rt; sent(alloc, &mut again)? == Ok(1));
-    assert!(rt; shows(alloc, &mut again, &['a', 'b']));
-    Ok(())
-}
-
-#[test]
-fn a_stop_refuses_no_edit_that_was_made(rt: HostRuntime) -> Result<(), Fail> {
-    let alloc = rt.alloc();
-    let mut desk = failing(alloc, 1_000)?;
-    assert!(rt; sent(alloc, &mut desk)? == Ok(1));
-    assert!(rt; matches!(desk.serve(alloc, Command::Stop), Answer::Stopped));
-    assert!(rt; sent(alloc, &mut desk)? == Ok(1));
-    assert!(rt; sent_without(alloc, &mut desk)? == Err(12));
-    Ok(())
-}
-
-#[test]
-fn a_refused_edit_leaves_no_token(rt: HostRuntime) -> Result<(), Fail> {
-    let alloc = rt.alloc();
-    let mut desk = failing(alloc, 1_000)?;
-    assert!(rt; answer(alloc, &mut desk, with_token(alloc, 9, 'a')?) == Err(5));
-    assert!(rt; sent(alloc, &mut desk)? == Ok(1));
-    assert!(rt; shows(alloc, &mut desk, &['a']));
-    Ok(())
-}
-
-#[test]
-fn a_failure_refuses_no_edit_that_is_settled(rt: HostRuntime) -> Result<(), Fail> {
-    let alloc = rt.alloc();
-    // The last sync of the second commit.
-    let mut desk = failing(alloc, 18)?;
-    assert!(rt; sent(alloc, &mut desk)? == Ok(1));
-    assert!(rt; sent_without(alloc, &mut desk)? == Err(9));
-    assert!(rt; sent(alloc, &mut desk)? == Ok(1));
-    assert!(rt; sent_without(alloc, &mut desk)? == Err(9));
-    Ok(())
-}
-
-#[test]
-fn an_edit_whose_commit_failed_acts_once(rt: HostRuntime) -> Result<(), Fail> {
-    let alloc = rt.alloc();
-    // The first sync of the first commit, after which the file has nothing, and the last one, after
-    // which it has the edit.
-    for (n, left) in [(6, [].as_slice()), (10, ['a'].as_slice())] {
-        let mut desk = failing(alloc, n)?;
-        assert!(rt; sent(alloc, &mut desk)? == Err(9), "call {n}");
-        assert!(rt; sent(alloc, &mut desk)? == Err(9), "call {n}");
-        let mut again = reopened(alloc, desk)?;
-        assert!(rt; shows(alloc, &mut again, left), "call {n}");
-        assert!(rt; sent(alloc, &mut again)? == Ok(1), "call {n}");
-        assert!(rt; shows(alloc, &mut again, &['a']), "call {n}");
+/// What a desk answers.
+fn answer(alloc: Global, desk: &mut Failing, ask: &Ask) -> Result<u64, u8> {
+    match ask {
+        Ask::Send(at) => edited(alloc, desk, with_token(alloc, *at)),
+        Ask::SendWithout => edited(alloc, desk, insert(alloc, 1, 'b', 1)),
+        Ask::Shows(text) => Ok(shows(alloc, desk, text) as u64),
+        Ask::Stop => match desk.serve(alloc, Command::Stop) {
+            Answer::Stopped => Ok(0),
+            _ => Err(0),
+        },
+        Ask::Reopen => Err(0),
     }
-    Ok(())
+}
+
+/// How many rows are answered as they say before one isn't. Gives the disk too.
+fn count_right(alloc: Global, n: u64, rows: &[Row]) -> Option<(usize, FaultDisk<MemDisk>)> {
+    let mut desk = desk_over(alloc, failing_disk(alloc, 1, n)?)?;
+    let mut count = 0usize;
+    for (ask, wanted) in rows {
+        if matches!(ask, Ask::Reopen) {
+            desk = desk_over(alloc, disk_of(desk))?;
+        } else if answer(alloc, &mut desk, ask) != *wanted {
+            break;
+        }
+        count = count.saturating_add(1);
+    }
+    Some((count, disk_of(desk)))
+}
+
+/// Plays the rows on a desk over a new store, of whose device calls the n-th fails. Where one isn't
+/// answered as it says, it fails with the number of the rows before that one.
+fn plays(rt: &(impl Abort + AllocGlobal), n: u64, rows: &[Row]) {
+    let count = match count_right(rt.alloc(), n, rows) {
+        Some((count, _)) => count,
+        None => 0,
+    };
+    assert_eq!(rt; count, rows.len(), "where call {n} fails");
+}
+
+static SENT_AGAIN: [Row; 8] = [
+    (Ask::Send(0), Ok(1)),
+    (Ask::Send(0), Ok(1)),
+    (Ask::Shows("a"), Ok(1)),
+    (Ask::SendWithout, Ok(2)),
+    (Ask::Send(0), Ok(1)),
+    (Ask::Reopen, Ok(0)),
+    (Ask::Send(0), Ok(1)),
+    (Ask::Shows("ab"), Ok(1)),
+];
+
+#[test]
+fn an_edit_that_is_sent_again_has_its_first_answer(rt: HostRuntime) {
+    plays(&rt, NEVER, &SENT_AGAIN);
+}
+
+static STOPPED: [Row; 4] = [
+    (Ask::Send(0), Ok(1)),
+    (Ask::Stop, Ok(0)),
+    (Ask::Send(0), Ok(1)),
+    (Ask::SendWithout, Err(12)),
+];
+
+#[test]
+fn a_stop_refuses_no_edit_that_was_made(rt: HostRuntime) {
+    plays(&rt, NEVER, &STOPPED);
+}
+
+static REFUSED: [Row; 3] = [
+    (Ask::Send(9), Err(5)),
+    (Ask::Send(0), Ok(1)),
+    (Ask::Shows("a"), Ok(1)),
+];
+
+#[test]
+fn a_refused_edit_leaves_no_token(rt: HostRuntime) {
+    plays(&rt, NEVER, &REFUSED);
+}
+
+static FAILED: [Row; 4] = [
+    (Ask::Send(0), Ok(1)),
+    (Ask::SendWithout, Err(9)),
+    (Ask::Send(0), Ok(1)),
+    (Ask::SendWithout, Err(9)),
+];
+
+#[test]
+fn a_failure_refuses_no_edit_that_is_settled(rt: HostRuntime) {
+    // The last sync of the second commit.
+    plays(&rt, 18, &FAILED);
+}
+
+/// An edit whose commit fails, after which the file has nothing.
+static FAILED_BEFORE: [Row; 6] = [
+    (Ask::Send(0), Err(9)),
+    (Ask::Send(0), Err(9)),
+    (Ask::Reopen, Ok(0)),
+    (Ask::Shows(""), Ok(1)),
+    (Ask::Send(0), Ok(1)),
+    (Ask::Shows("a"), Ok(1)),
+];
+
+/// An edit whose commit fails, after which the file has the edit.
+static FAILED_AFTER: [Row; 6] = [
+    (Ask::Send(0), Err(9)),
+    (Ask::Send(0), Err(9)),
+    (Ask::Reopen, Ok(0)),
+    (Ask::Shows("a"), Ok(1)),
+    (Ask::Send(0), Ok(1)),
+    (Ask::Shows("a"), Ok(1)),
+];
+
+#[test]
+fn an_edit_whose_commit_failed_acts_once(rt: HostRuntime) {
+    // The first sync of the first commit, and the last one.
+    plays(&rt, 6, &FAILED_BEFORE);
+    plays(&rt, 10, &FAILED_AFTER);
 }
 
 /// The record of the insert: its length, its kind, the document, the counter, the replica, no
@@ -140,15 +199,18 @@ const RECORD: [u8; 55] = [
     0, 0, 0, 0, 1, 0, 0, 0, 0, 0, 0, 0, 0x40, 0, 0x80, 0, 0, 0, 0, 0, 0, 0xd1, 0, 0, 0, 0, 0x61,
 ];
 
-#[test]
-fn the_token_stands_in_the_file(rt: HostRuntime) -> Result<(), Fail> {
-    let alloc = rt.alloc();
-    let mut desk = failing(alloc, 1_000)?;
-    assert!(rt; sent(alloc, &mut desk)? == Ok(1));
-    let mut disk = Box::new(alloc, Box::into_inner(desk).into_hub().into_disk())?;
-    // The first page of records, behind those of the two roots.
+static SENT: [Row; 1] = [(Ask::Send(0), Ok(1))];
+
+/// Whether the file has the record behind an edit, in the first page of records, which stands
+/// behind those of the two roots.
+fn has_record(alloc: Global) -> Option<bool> {
+    let (count, mut disk) = count_right(alloc, NEVER, &SENT)?;
     let mut bytes = [1; 55];
-    assert!(rt; disk.read_at(8_192, &mut bytes).is_ok());
-    assert!(rt; bytes == RECORD);
-    Ok(())
+    let is_read = disk.read_at(8_192, &mut bytes).is_ok();
+    Some(count == SENT.len() && is_read && bytes == RECORD)
+}
+
+#[test]
+fn the_token_stands_in_the_file(rt: HostRuntime) {
+    assert!(rt; has_record(rt.alloc()) == Some(true));
 }

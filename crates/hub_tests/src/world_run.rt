@@ -1,12 +1,11 @@
 //! The world in one process: three replicas over disks in memory, whose messages are lost, repeated
 //! and late, with crashes between.
-use crate::test_hubs::{new_disk, open};
-use disk_trait::{Fate, MemDisk};
-use locked_replica::Hub;
+use crate::play::renew;
+use crate::test_hubs::{Failing, NEVER, new_disk, open};
+use disk_trait::{Fate, FaultDisk};
 use op_model::{Change, Edit, EditText, Mark, Op, Url};
 use std::alloc::Global;
 use std::num::NonZeroU32;
-use std::test::Fail;
 
 const EVENTS: u32 = 2_000;
 
@@ -27,11 +26,6 @@ impl Draws {
         let product = self.state.wrapping_mul(1_103_515_245);
         self.state = product.wrapping_add(12_345) % 2_147_483_648;
         u32::try_from(self.state / 65_536).unwrap_or(0)
-    }
-
-    /// The next number, as one below this.
-    fn below(&mut self, end: usize) -> usize {
-        place(self.next(), end)
     }
 }
 
@@ -76,88 +70,78 @@ impl Event {
 /// The replicas, and all that was ever told.
 #[derive(Drop)]
 pub(crate) struct World {
-    pub(crate) hubs: Vec<Box<Hub<MemDisk>>>,
+    pub(crate) hubs: Vec<Box<Failing>>,
     pub(crate) bag: Vec<Vec<Op>>,
     pub(crate) crashes: usize,
 }
 
-fn new_hub(alloc: Global, last: u8) -> Result<Box<Hub<MemDisk>>, Fail> {
-    open(alloc, new_disk(alloc, last, ROOM, CALLS)?)
-}
-
-pub(crate) fn new_world(alloc: Global) -> Result<Box<World>, Fail> {
+pub(crate) fn new_world(alloc: Global) -> Option<Box<World>> {
     let mut hubs = Vec::new(alloc);
     for last in 1..4 {
-        hubs.push(new_hub(alloc, last)?)?;
+        let disk = new_disk(alloc, last, ROOM, CALLS)?;
+        hubs.push(open(alloc, FaultDisk::new(disk, NEVER))?).ok()?;
     }
     let world = World {
         hubs,
         bag: Vec::new(alloc),
         crashes: 0,
     };
-    Ok(Box::new(alloc, world)?)
+    Box::new(alloc, world).ok()
 }
 
-/// "ab" or "x", at a place of a text of `long` characters.
-fn insert(alloc: Global, number: u32, long: usize) -> Result<Change, Fail> {
-    let letters: &[char] = if number % 2 == 0 { &['a', 'b'] } else { &['x'] };
-    let mut text = Vec::new(alloc);
-    for letter in letters {
-        text.push(*letter)?;
+/// "ab" or "x".
+fn text(alloc: Global, number: u32) -> Option<EditText> {
+    let letters = if number % 2 == 0 { "ab" } else { "x" };
+    EditText::new(letters.chars().collect(alloc).ok()?)
+}
+
+/// Strong or a link.
+fn mark(alloc: Global, number: u32) -> Option<Mark> {
+    if number % 2 == 0 {
+        return Some(Mark::Strong);
     }
-    Ok(Change::Insert {
-        at: u32::try_from(place(number, long.saturating_add(1))).unwrap_or(0),
-        text: EditText::new(text).ok_or("a text")?,
-    })
+    Some(Mark::Link(Url::new(String::from_str(alloc, "u").ok()?)?))
 }
 
-/// Strong or a link, from the beginning of a text to its end.
-fn mark(alloc: Global, number: u32, long: usize) -> Result<Change, Fail> {
-    let mark = if number % 2 == 0 {
-        Mark::Strong
-    } else {
-        Mark::Link(Url::new(String::from_str(alloc, "u")?).ok_or("a link")?)
-    };
-    Ok(Change::Mark {
-        from: 0,
-        to: u32::try_from(long).unwrap_or(u32::MAX),
-        mark,
-    })
-}
-
-/// What an event asks to be changed in a text of `long` characters: a removal and a mark only where
-/// there are any.
-fn change(alloc: Global, event: Event, number: u32, long: usize) -> Result<Option<Change>, Fail> {
-    Ok(match event {
-        Event::Insert => Some(insert(alloc, number, long)?),
-        Event::Remove if long > 0 => Some(Change::Delete {
-            at: u32::try_from(place(number, long)).unwrap_or(0),
+/// What an event asks to be changed in a text of `long` characters: an insert at some place, a
+/// removal there, or a mark from the beginning to the end.
+fn change(alloc: Global, event: Event, number: u32, long: usize) -> Option<Change> {
+    Some(match event {
+        Event::Insert => Change::Insert {
+            at: u32::try_from(place(number, long.saturating_add(1))).ok()?,
+            text: text(alloc, number)?,
+        },
+        Event::Remove => Change::Delete {
+            at: u32::try_from(place(number, long)).ok()?,
             count: NonZeroU32::MIN,
-        }),
-        Event::Mark if long > 0 => Some(mark(alloc, number, long)?),
-        _ => None,
+        },
+        _ => Change::Mark {
+            from: 0,
+            to: u32::try_from(long).ok()?,
+            mark: mark(alloc, number)?,
+        },
     })
 }
 
-/// An edit; one that is refused is passed over, as any refusal is here.
-fn edit(alloc: Global, hub: &mut Hub<MemDisk>, event: Event, number: u32) -> Result<(), Fail> {
-    let long = hub.text(1)?.as_slice().len();
-    if let Some(change) = change(alloc, event, number, long)? {
-        let _answer = hub.edit(
-            1,
-            &Edit {
-                doc: 1,
-                rev: None,
-                token: None,
-                change,
-            },
-        );
+/// An edit; one that is refused is passed over, as any refusal is here. In an empty text there is
+/// only an insert.
+fn edit(alloc: Global, hub: &mut Failing, event: Event, number: u32) -> Option<()> {
+    let long = hub.text(1).ok()?.as_slice().len();
+    if long == 0 && !matches!(event, Event::Insert) {
+        return Some(());
     }
-    Ok(())
+    let edit = Edit {
+        doc: 1,
+        rev: None,
+        token: None,
+        change: change(alloc, event, number, long)?,
+    };
+    let _answer = hub.edit(1, &edit);
+    Some(())
 }
 
 /// Three device calls, and the settlement where the commit is through.
-fn step(hub: &mut Hub<MemDisk>) {
+fn step(hub: &mut Failing) {
     for _ in 0..3 {
         let _phase = hub.device_step();
     }
@@ -166,96 +150,79 @@ fn step(hub: &mut Hub<MemDisk>) {
 
 /// What one replica has settled and another doesn't count goes into the bag, 64 operations at most.
 /// Gives how many.
-pub(crate) fn tell(world: &mut World, from: usize, to: usize) -> Result<usize, Fail> {
-    let clock = world.hubs.get(to).ok_or("a replica")?.clock().copy()?;
-    let hub = world.hubs.get_mut(from).ok_or("a replica")?;
-    let Ok(ops) = hub.tell(&clock) else {
-        return Err("tell".into());
-    };
+pub(crate) fn tell(world: &mut World, from: usize, to: usize) -> Option<usize> {
+    let clock = world.hubs.get(to)?.clock().copy().ok()?;
+    let ops = world.hubs.get_mut(from)?.tell(&clock).ok()?;
     let count = ops.len();
     if count > 0 {
-        world.bag.push(ops)?;
+        world.bag.push(ops).ok()?;
     }
-    Ok(count)
+    Some(count)
 }
 
 /// A message of the bag comes to a replica, whether it came before or not.
-pub(crate) fn merge(world: &mut World, to: usize, at: usize) -> Result<(), Fail> {
-    let hub = world.hubs.get_mut(to).ok_or("a replica")?;
+pub(crate) fn merge(world: &mut World, to: usize, at: usize) -> Option<()> {
+    let hub = world.hubs.get_mut(to)?;
     if let Some(message) = world.bag.get(at) {
         for op in message {
-            let _answer = hub.merge(2, op.copy()?);
+            let _answer = hub.merge(2, op.copy().ok()?);
         }
     }
-    Ok(())
+    Some(())
 }
 
-/// The power is cut: what no sync has settled is this byte. Then the file is opened.
-fn crashed(alloc: Global, hub: Box<Hub<MemDisk>>, fill: u8) -> Result<Box<Hub<MemDisk>>, Fail> {
-    let mut disk = Box::into_inner(hub).into_disk();
-    disk.crash(Fate::Fill(fill), true);
-    open(alloc, disk)
-}
-
-fn crash(alloc: Global, world: &mut World, which: usize, number: u32) -> Result<(), Fail> {
-    if which >= world.hubs.len() {
-        return Ok(());
-    }
-    let hub = world.hubs.remove(which);
-    let fill = u8::try_from(number % 256).unwrap_or(0);
-    world.hubs.insert(which, crashed(alloc, hub, fill)?)?;
+/// The power is cut at a replica: what no sync has settled is a byte. Then the file is opened.
+fn crash(alloc: Global, world: &mut World, which: usize, number: u32) -> Option<()> {
+    let fill = u8::try_from(number % 256).ok()?;
+    renew(
+        alloc,
+        &mut world.hubs,
+        which,
+        Some((Fate::Fill(fill), true)),
+    )?;
     world.crashes = world.crashes.saturating_add(1);
-    Ok(())
+    Some(())
 }
 
 /// An event that changes one replica alone.
-fn alone(alloc: Global, hub: &mut Hub<MemDisk>, event: Event, number: u32) -> Result<(), Fail> {
+fn alone(alloc: Global, hub: &mut Failing, event: Event, number: u32) -> Option<()> {
     match event {
         Event::Begin => {
             let _begun = hub.begin();
-            Ok(())
+            Some(())
         }
         Event::Step => {
             step(hub);
-            Ok(())
+            Some(())
         }
         _ => edit(alloc, hub, event, number),
     }
 }
 
 /// An event at one replica.
-fn happen(
-    alloc: Global,
-    world: &mut World,
-    which: usize,
-    event: Event,
-    number: u32,
-) -> Result<(), Fail> {
+fn happen(alloc: Global, world: &mut World, which: usize, event: Event, number: u32) -> Option<()> {
     match event {
         Event::Tell => {
             tell(world, which, place(number, 3))?;
-            Ok(())
+            Some(())
         }
         Event::Crash => crash(alloc, world, which, number),
         Event::Merge => {
             let at = place(number, world.bag.len());
             merge(world, which, at)
         }
-        _ => {
-            let hub = world.hubs.get_mut(which).ok_or("a replica")?;
-            alone(alloc, hub, event, number)
-        }
+        _ => alone(alloc, world.hubs.get_mut(which)?, event, number),
     }
 }
 
 /// The events that the draws give: each takes three, for the replica, the event and a number.
-pub(crate) fn run_events(alloc: Global, world: &mut World) -> Result<(), Fail> {
+pub(crate) fn run_events(alloc: Global, world: &mut World) -> Option<()> {
     let mut draws = Draws { state: 1 };
     for _ in 0..EVENTS {
-        let which = draws.below(3);
+        let which = place(draws.next(), 3);
         let kind = draws.next();
         let number = draws.next();
         happen(alloc, world, which, Event::of(kind, number), number)?;
     }
-    Ok(())
+    Some(())
 }

@@ -1,10 +1,15 @@
-//! What a test asks of a peer.
+//! What a test asks of a peer, as rows of a table.
+
+/// A peer by its place, what is asked of it, and the number that it has to answer.
+pub type Row = (usize, Ask, usize);
 
 /// What an edit changes.
 #[derive(Clone, Copy)]
-pub enum Wish<'a> {
+pub enum Wish {
     /// Inserts a text at an index.
-    Insert(u32, &'a str),
+    Insert(u32, &'static str),
+    /// Inserts "x" at an index, so many times.
+    InsertMany(u32, usize),
     /// Removes, from an index on, this number of characters.
     Delete(u32, u32),
     /// Makes characters strong, from an index up to another.
@@ -15,20 +20,20 @@ pub enum Wish<'a> {
 
 /// What is asked of a peer. Other peers are named by their places.
 #[derive(Clone, Copy)]
-pub enum Ask<'a> {
+pub enum Ask {
     /// An edit of document 1: the rev of its ticket, or 0.
-    Edit(Wish<'a>),
+    Edit(Wish),
     /// The same under a token that ends with this byte.
-    EditUnder(u8, Wish<'a>),
+    EditUnder(u8, Wish),
     /// An edit of a document at a rev: the number of its refusal, or 0.
-    Refusal(u32, Option<u32>, Wish<'a>),
+    Refusal(u32, Option<u32>, Wish),
     /// Edits of document 1, each the same and settled twice: how many are made before one is
     /// refused.
-    EditsUntilRefused(Wish<'a>),
-    /// An edit in two calls, of document 1: how many bytes its records take, or 0.
-    Put(Wish<'a>),
-    /// An edit of document 1 that is settled: the settled number, or 0.
-    Settle(Wish<'a>),
+    EditsUntilRefused(Wish),
+    /// An edit in two calls, of document 1: how many bytes its records take.
+    Put(Wish),
+    /// An edit of document 1 that is settled: the settled number.
+    Settle(Wish),
     /// A merge of another peer's operation at an index: 0 applied, 2 known, 3 early, or the number
     /// of the refusal.
     Merge(usize, usize),
@@ -40,12 +45,12 @@ pub enum Ask<'a> {
     /// A merge of an insert of another peer, with a counter and a document, that depends on all
     /// that the peer has: behind the first character of some peer, or at the beginning.
     MergeSecond(usize, u64, u32, Option<usize>),
-    /// Merges of all operations of another peer.
+    /// Merges of all operations of another peer: 0.
     MergeAll(usize),
     /// An opening with another peer's operations from an index on: the number of the refusal, or 0.
     Open(usize, usize),
     /// Whether document 1 has a text: 1 or 0.
-    HasText(&'a str),
+    HasText(&'static str),
     /// How many operations it has.
     Len,
     /// How many operations a document has.
@@ -54,8 +59,8 @@ pub enum Ask<'a> {
     Spans,
     /// How many operations are told to a peer that has nothing.
     Tell,
-    /// How many operations are told to a peer with these counts of replicas 1, 2 and 3, or 255
-    /// where the operations aren't those that a look at each one finds.
+    /// How many operations are told to a peer with these counts of replicas 1, 2 and 3, if they are
+    /// those that a look at each one finds.
     TellBehind([u64; 3]),
     /// Whether the operations before an end are settled: 1 or 0.
     Ack(usize),

@@ -16,4 +16,6 @@ mod test_edits;
 #[cfg(test)]
 mod test_exchange;
 #[cfg(test)]
+mod test_merges;
+#[cfg(test)]
 mod test_peers;

@@ -1,20 +1,18 @@
 //! What is told to a peer.
-use crate::asks::Ask;
-use crate::test_exchange::answers_of_merged;
-use std::test::Fail;
+use crate::asks::{Ask, Row};
+use crate::test_exchange::plays_merged;
+
+static IN_ORDER: [Row; 7] = [
+    (3, Ask::Open(0, 0), 0),
+    (3, Ask::TellBehind([0, 0, 0]), 64),
+    (3, Ask::TellBehind([70, 0, 3]), 64),
+    (3, Ask::TellBehind([100, 80, 90]), 34),
+    (3, Ask::TellBehind([0, 96, 96]), 64),
+    (3, Ask::TellBehind([112, 96, 95]), 1),
+    (3, Ask::TellBehind([112, 96, 96]), 0),
+];
 
 #[test]
-fn what_several_replicas_made_is_told_in_order(rt: HostRuntime) -> Result<(), Fail> {
-    let asks = [
-        (3, Ask::Open(0, 0)),
-        (3, Ask::TellBehind([0, 0, 0])),
-        (3, Ask::TellBehind([70, 0, 3])),
-        (3, Ask::TellBehind([100, 80, 90])),
-        (3, Ask::TellBehind([0, 96, 96])),
-        (3, Ask::TellBehind([112, 96, 95])),
-        (3, Ask::TellBehind([112, 96, 96])),
-    ];
-    let found = answers_of_merged(rt.alloc(), &asks)?;
-    assert_eq!(rt; found.as_slice(), [0, 64, 64, 34, 64, 1, 0].as_slice());
-    Ok(())
+fn what_several_replicas_made_is_told_in_order(rt: HostRuntime) {
+    plays_merged(&rt, &IN_ORDER);
 }

@@ -1,13 +1,9 @@
-//! What the tests ask of one replica. The answers are plain values.
+//! What the tests ask of one replica.
 use op_ids::{Clock, OpId, ReplicaId};
 use op_list::{OpList, OpSlice};
 use op_model::{Op, Text};
 use replica_core::{Merged, Replica, Ticket};
 use std::alloc::{AllocError, Global};
-use std::test::Fail;
-
-/// What stands for an answer where a helper couldn't make what it needs.
-pub const NOTHING: usize = 255;
 
 pub fn bytes_ending(last: u8) -> [u8; 16] {
     let mut bytes = [0; 16];
@@ -15,12 +11,12 @@ pub fn bytes_ending(last: u8) -> [u8; 16] {
     bytes
 }
 
-pub fn replica_id(last: u8) -> Result<ReplicaId, Fail> {
-    Ok(ReplicaId::read(bytes_ending(last)).ok_or("nil")?)
+pub fn replica_id(last: u8) -> Option<ReplicaId> {
+    ReplicaId::read(bytes_ending(last))
 }
 
 pub fn id_of(counter: u64, last: u8) -> Option<OpId> {
-    OpId::try_new(counter, ReplicaId::read(bytes_ending(last))?)
+    OpId::try_new(counter, replica_id(last)?)
 }
 
 /// What a merge answers: 0 applied, 2 known, 3 early, or the number of the refusal.
@@ -60,77 +56,46 @@ pub fn ops_from(alloc: Global, replica: &Replica, from: usize) -> Result<OpList,
     Ok(ops)
 }
 
-/// Whether document 1 has a text; it hasn't where a growth was refused.
-pub fn has_text(alloc: Global, replica: &Replica, expected: &str) -> bool {
-    match text_of(alloc, expected) {
-        Some(expected) => is_text(replica, 1, &expected),
-        None => false,
-    }
-}
-
-fn text_of(alloc: Global, text: &str) -> Option<Text> {
-    let chars: Vec<char> = text.chars().collect(alloc).ok()?;
-    Some(Text::from(chars))
-}
-
-fn is_text(replica: &Replica, doc: u32, expected: &Text) -> bool {
-    match replica.text(doc) {
-        Ok(text) => text == *expected,
-        Err(_) => false,
-    }
+/// Whether document 1 has a text: 1 or 0.
+pub fn has_text(alloc: Global, replica: &Replica, expected: &str) -> Option<usize> {
+    let expected: Vec<char> = expected.chars().collect(alloc).ok()?;
+    Some((replica.text(1).ok()? == Text::from(expected)) as usize)
 }
 
 /// Whether a document has the text that it has at another replica.
-pub fn has_text_of(replica: &Replica, other: &Replica, doc: u32) -> bool {
-    match other.text(doc) {
-        Ok(expected) => is_text(replica, doc, &expected),
-        Err(_) => false,
-    }
+pub fn has_text_of(replica: &Replica, other: &Replica, doc: u32) -> Option<bool> {
+    Some(replica.text(doc).ok()? == other.text(doc).ok()?)
 }
 
 /// How many spans document 1 has.
-pub fn spans_of(replica: &Replica) -> usize {
-    match replica.spans(1) {
-        Ok(spans) => spans.len(),
-        Err(_) => NOTHING,
-    }
+pub fn spans_of(replica: &Replica) -> Option<usize> {
+    Some(replica.spans(1).ok()?.len())
 }
 
 /// How many operations are told to a peer that has nothing.
-pub fn told_to_none(alloc: Global, replica: &mut Replica) -> usize {
-    match replica.tell(&Clock::new(alloc)) {
-        Ok(ops) => ops.len(),
-        Err(_) => 0,
-    }
+pub fn told_to_none(alloc: Global, replica: &mut Replica) -> Option<usize> {
+    Some(replica.tell(&Clock::new(alloc)).ok()?.len())
 }
 
-/// How many operations a replica tells a peer with these counts of replicas 1, 2 and 3, or 255
-/// where the operations aren't those that a look at each one finds.
-pub fn told(alloc: Global, replica: &mut Replica, counts: &[u64; 3]) -> usize {
-    match counting(alloc, counts) {
-        Some(clock) => told_behind(alloc, replica, &clock),
-        None => NOTHING,
+/// How many operations a replica tells a peer with these counts of replicas 1, 2 and 3, if they are
+/// those that a look at each one finds.
+pub fn told(alloc: Global, replica: &mut Replica, counts: &[u64; 3]) -> Option<usize> {
+    let clock = counting(alloc, counts)?;
+    let expected = uncounted(alloc, &replica.list(), &clock).ok()?;
+    let ops = replica.tell(&clock).ok()?;
+    if have_ids(&ops, &expected) {
+        Some(ops.len())
+    } else {
+        None
     }
 }
 
 fn counting(alloc: Global, counts: &[u64; 3]) -> Option<Clock> {
     let mut clock = Clock::new(alloc);
     for (i, count) in counts.iter().enumerate() {
-        let id = ReplicaId::read(bytes_ending(i as u8 + 1))?;
-        clock.advance_by(id, *count).ok()?;
+        clock.advance_by(replica_id(i as u8 + 1)?, *count).ok()?;
     }
     Some(clock)
-}
-
-fn told_behind(alloc: Global, replica: &mut Replica, clock: &Clock) -> usize {
-    let expected = match uncounted(alloc, &replica.list(), clock) {
-        Ok(ids) => ids,
-        Err(_) => return NOTHING,
-    };
-    match replica.tell(clock) {
-        Ok(ops) if have_ids(&ops, &expected) => ops.len(),
-        _ => NOTHING,
-    }
 }
 
 /// The ids of the first operations, at most 64, that a clock doesn't count, by a look at each.

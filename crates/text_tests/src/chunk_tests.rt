@@ -1,15 +1,31 @@
 //! How a sequence keeps its characters in chunks.
+use crate::test_acts::judged;
 use crate::test_names::id;
 use char_sequence::{ChunkSize, Sequence};
 use op_ids::OpId;
 use op_model::Ticks;
 use std::alloc::Global;
+use std::io::Eprint;
 use std::test::Fail;
 
-/// In a box, so that a test which returns early drops a box: that a sequence is dropped is then
-/// proved once, and not at each return.
-fn empty(alloc: Global) -> Result<Box<Sequence>, Fail> {
-    Ok(Box::new(alloc, Sequence::new(alloc))?)
+/// What goes into a sequence, by counters from one to below another one; or what it has.
+#[derive(Clone, Copy)]
+enum Row<'a> {
+    /// The characters are typed, each behind the one before it.
+    Behind(u64, u64),
+    /// The characters are typed, each before all others.
+    Before(u64, u64),
+    /// The characters go in at once, behind another one.
+    Run(Option<u64>, u64, u64),
+    Remove(u64),
+    /// There are so many chunks, each with from 256 to 512 characters.
+    Sized(usize),
+    /// The size of a chunk.
+    Chunk(usize, Option<ChunkSize>),
+    /// The cell at a place of a chunk is there, and is a tombstone.
+    Removed(usize, usize),
+    /// The counters of all characters, in order: rows of them, each with its first and its last.
+    Counters(&'a [(u64, u64)]),
 }
 
 /// Characters with these counters, in order.
@@ -21,7 +37,6 @@ fn run(alloc: Global, from: u64, to: u64) -> Result<Vec<(OpId, char)>, Fail> {
     Ok(run)
 }
 
-/// Types the characters of these counters, each behind the one before it.
 fn type_behind(sequence: &mut Sequence, from: u64, to: u64) -> Result<(), Fail> {
     let mut last = None;
     for counter in from..to {
@@ -32,7 +47,6 @@ fn type_behind(sequence: &mut Sequence, from: u64, to: u64) -> Result<(), Fail> 
     Ok(())
 }
 
-/// Types the characters of these counters, each before all others.
 fn type_before(sequence: &mut Sequence, from: u64, to: u64) -> Result<(), Fail> {
     for counter in from..to {
         sequence.apply_insert(id(counter)?, None, 'a')?;
@@ -40,10 +54,19 @@ fn type_before(sequence: &mut Sequence, from: u64, to: u64) -> Result<(), Fail> 
     Ok(())
 }
 
+fn put(sequence: &mut Sequence, origin: Option<u64>, from: u64, to: u64) -> Result<(), Fail> {
+    let origin = match origin {
+        Some(counter) => Some(id(counter)?),
+        None => None,
+    };
+    let run = run(sequence.allocator(), from, to)?;
+    Ok(sequence.apply_run(origin, &run)?)
+}
+
 /// The counters of all characters, in order.
-fn counters(alloc: Global, sequence: &Sequence) -> Result<Vec<u64>, Fail> {
+fn counters(sequence: &Sequence) -> Result<Vec<u64>, Fail> {
     let ticks = &mut Ticks::new();
-    let mut found = Vec::new(alloc);
+    let mut found = Vec::new(sequence.allocator());
     for i in 0..50 {
         for j in 0..512 {
             if let Some(cell) = sequence.cell(i, j, ticks) {
@@ -54,12 +77,22 @@ fn counters(alloc: Global, sequence: &Sequence) -> Result<Vec<u64>, Fail> {
     Ok(found)
 }
 
-/// Whether these are the counters of all characters, in order.
-fn has_counters(alloc: Global, sequence: &Sequence, expected: &[u64]) -> Result<bool, Fail> {
-    Ok(counters(alloc, sequence)?.as_slice() == expected)
+/// The counters of these rows of them, in order.
+fn listed(alloc: Global, rows: &[(u64, u64)]) -> Result<Vec<u64>, Fail> {
+    let mut counters = Vec::new(alloc);
+    for (first, last) in rows {
+        for step in 0..=first.abs_diff(*last) {
+            let counter = if first < last {
+                first.wrapping_add(step)
+            } else {
+                first.wrapping_sub(step)
+            };
+            counters.push(counter)?;
+        }
+    }
+    Ok(counters)
 }
 
-/// Whether a character is a tombstone, where it is there.
 fn is_removed(sequence: &Sequence, i: usize, j: usize) -> bool {
     match sequence.cell(i, j, &mut Ticks::new()) {
         Some(cell) => cell.is_removed,
@@ -67,7 +100,6 @@ fn is_removed(sequence: &Sequence, i: usize, j: usize) -> bool {
     }
 }
 
-/// Whether each of `count` chunks has from 256 to 512 characters, and there are no more chunks.
 fn are_sized(sequence: &Sequence, count: usize) -> bool {
     let ticks = &mut Ticks::new();
     for i in 0..count {
@@ -82,62 +114,65 @@ fn are_sized(sequence: &Sequence, count: usize) -> bool {
     sequence.chunk(count, ticks).is_none()
 }
 
-/// Puts these counters behind the others, rising.
-fn push_rising(counters: &mut Vec<u64>, from: u64, to: u64) -> Result<(), Fail> {
-    for counter in from..to {
-        counters.push(counter)?;
+/// Whether a row holds: plays it, if it changes the sequence.
+fn holds(sequence: &mut Sequence, row: Row<'_>) -> Result<bool, Fail> {
+    match row {
+        Row::Behind(from, to) => type_behind(sequence, from, to)?,
+        Row::Before(from, to) => type_before(sequence, from, to)?,
+        Row::Run(origin, from, to) => put(sequence, origin, from, to)?,
+        Row::Remove(counter) => sequence.apply_remove(id(counter)?)?,
+        Row::Sized(count) => return Ok(are_sized(sequence, count)),
+        Row::Chunk(i, due) => return Ok(sequence.chunk(i, &mut Ticks::new()) == due),
+        Row::Removed(i, j) => return Ok(is_removed(sequence, i, j)),
+        Row::Counters(due) => {
+            let due = listed(sequence.allocator(), due)?;
+            return Ok(counters(sequence)? == due);
+        }
     }
-    Ok(())
+    Ok(true)
 }
 
-/// The counters of the characters that the test below puts.
-fn expected(alloc: Global) -> Result<Vec<u64>, Fail> {
-    let mut expected = Vec::new(alloc);
-    for fallen in 0..1500 {
-        expected.push(3000 - fallen)?;
+/// Plays these rows on an empty sequence.
+fn plays(rt: &(impl Eprint + AllocGlobal), rows: &[Row<'_>]) -> Result<(), Fail> {
+    let mut sequence = Box::new(rt.alloc(), Sequence::new(rt.alloc()))?;
+    for (number, row) in rows.iter().enumerate() {
+        judged(rt, number, holds(&mut sequence, *row))?;
     }
-    push_rising(&mut expected, 1, 100)?;
-    push_rising(&mut expected, 3001, 3701)?;
-    push_rising(&mut expected, 100, 1501)?;
-    Ok(expected)
+    Ok(())
 }
 
 #[test]
 fn cells_keep_their_order_in_chunks_of_256_to_512(rt: HostRuntime) -> Result<(), Fail> {
-    let alloc = rt.alloc();
-    let (origin, more) = (id(99)?, run(alloc, 3001, 3701)?);
-    let expected = expected(alloc)?;
-    let mut sequence = empty(alloc)?;
-    type_behind(&mut sequence, 1, 1501)?;
-    assert!(rt; are_sized(&sequence, 5));
-    type_before(&mut sequence, 1501, 3001)?;
-    assert!(rt; are_sized(&sequence, 10));
-    // 471 cells in the first chunk, 257 in each of the next five: so the run cuts the sixth one,
-    // and makes two more.
-    sequence.apply_run(Some(origin), &more)?;
-    assert!(rt; are_sized(&sequence, 12));
-    assert!(rt; has_counters(alloc, &sequence, &expected)?);
-    Ok(())
+    plays(
+        &rt,
+        &[
+            Row::Behind(1, 1501),
+            Row::Sized(5),
+            Row::Before(1501, 3001),
+            Row::Sized(10),
+            // 471 cells in the first chunk, 257 in each of the next five: so the run cuts the sixth
+            // one, and makes two more.
+            Row::Run(Some(99), 3001, 3701),
+            Row::Sized(12),
+            Row::Counters(&[(3000, 1501), (1, 99), (3001, 3700), (100, 1500)]),
+        ],
+    )
 }
 
 #[test]
 fn a_chunk_counts_what_a_reader_sees(rt: HostRuntime) -> Result<(), Fail> {
-    let alloc = rt.alloc();
-    let (first, third) = (id(1)?, id(3)?);
-    let more = run(alloc, 2, 5)?;
-    let mut sequence = empty(alloc)?;
-    sequence.apply_insert(first, None, 'a')?;
-    sequence.apply_run(Some(first), &more)?;
-    sequence.apply_remove(third)?;
-    sequence.apply_remove(third)?;
-    sequence.apply_run(None, &[])?;
-    let ticks = &mut Ticks::new();
-    assert_eq!(rt;
-        sequence.chunk(0, ticks),
-        Some(ChunkSize { cells: 4, shown: 3 })
-    );
-    assert_eq!(rt; sequence.chunk(1, ticks), None);
-    assert!(rt; is_removed(&sequence, 0, 2));
-    assert!(rt; has_counters(alloc, &sequence, &[1, 2, 3, 4])?);
-    Ok(())
+    plays(
+        &rt,
+        &[
+            Row::Behind(1, 2),
+            Row::Run(Some(1), 2, 5),
+            Row::Remove(3),
+            Row::Remove(3),
+            Row::Run(None, 0, 0),
+            Row::Chunk(0, Some(ChunkSize { cells: 4, shown: 3 })),
+            Row::Chunk(1, None),
+            Row::Removed(0, 2),
+            Row::Counters(&[(1, 4)]),
+        ],
+    )
 }

@@ -2,8 +2,8 @@
 use crate::test_names::id;
 use char_sequence::Sequence;
 use mark_anchors::{Anchors, Edge};
-use op_ids::Clock;
-use op_model::{Anchor, Body, End, Mark, MarkKey, Marking, Op, Start};
+use op_ids::{Clock, OpId};
+use op_model::{Anchor, Body, End, Mark, MarkKey, Marking, Op, Span, Start};
 use span_flatten::spans;
 use std::alloc::Global;
 use std::test::Fail;
@@ -31,12 +31,18 @@ fn reach(k: u64) -> (u64, u64) {
 }
 
 /// The characters from 1 on.
-fn letters(alloc: Global) -> Result<Sequence, Fail> {
+fn run(alloc: Global) -> Result<Vec<(OpId, char)>, Fail> {
     let mut run = Vec::new(alloc);
     for k in 0..LETTERS {
         run.push((id(k + 1)?, 'a'))?;
     }
-    let mut sequence = Sequence::new(alloc);
+    Ok(run)
+}
+
+/// Their text.
+fn letters(alloc: Global) -> Result<Box<Sequence>, Fail> {
+    let run = run(alloc)?;
+    let mut sequence = Box::new(alloc, Sequence::new(alloc))?;
     sequence.apply_run(None, &run)?;
     Ok(sequence)
 }
@@ -68,22 +74,35 @@ fn mark(alloc: Global, k: u64) -> Result<Op, Fail> {
     })
 }
 
+/// Takes the k-th mark operation.
+fn apply(anchors: &mut Anchors, sequence: &Sequence, k: u64) -> Result<(), Fail> {
+    let op = mark(sequence.allocator(), k)?;
+    Ok(anchors.apply_mark(&op, sequence)?)
+}
+
 /// The anchors after all mark operations, one by one.
-fn applied(alloc: Global, sequence: &Sequence) -> Result<Anchors, Fail> {
-    let mut anchors = Anchors::new(alloc);
+fn applied(sequence: &Sequence) -> Result<Box<Anchors>, Fail> {
+    let alloc = sequence.allocator();
+    let mut anchors = Box::new(alloc, Anchors::new(alloc))?;
     for k in 0..MARKS {
-        anchors.apply_mark(&mark(alloc, k)?, sequence)?;
+        apply(&mut anchors, sequence, k)?;
     }
     Ok(anchors)
 }
 
+/// The k-th mark operation, as anchors are given it.
+fn marking(alloc: Global, k: u64) -> Result<Marking, Fail> {
+    let op = mark(alloc, k)?;
+    Ok(op.marking()?.ok_or("no mark")?)
+}
+
 /// The anchors of all mark operations, which are given.
-fn given(alloc: Global) -> Result<Anchors, Fail> {
-    let mut markings: Vec<Marking> = Vec::new(alloc);
+fn given(alloc: Global) -> Result<Box<Anchors>, Fail> {
+    let mut markings = Vec::new(alloc);
     for k in 0..MARKS {
-        markings.push(mark(alloc, k)?.marking()?.ok_or("no mark")?)?;
+        markings.push(marking(alloc, k)?)?;
     }
-    Ok(Anchors::from_markings(markings)?)
+    Ok(Box::new(alloc, Anchors::from_markings(markings)?)?)
 }
 
 /// At how many ends of mark operations each character stands.
@@ -119,13 +138,34 @@ fn finds_all(alloc: Global, anchors: &Anchors) -> Result<bool, Fail> {
     Ok(true)
 }
 
+/// The spans of the text, if all edges are found.
+fn spans_if_found(
+    alloc: Global,
+    sequence: &Sequence,
+    anchors: &Anchors,
+) -> Result<Vec<Span>, Fail> {
+    if !finds_all(alloc, anchors)? {
+        return Err(Fail::from("not all edges"));
+    }
+    Ok(spans(sequence, anchors)?)
+}
+
+/// The spans after all mark operations, one by one.
+fn spans_of_applied(alloc: Global) -> Result<Vec<Span>, Fail> {
+    let sequence = letters(alloc)?;
+    let anchors = applied(&sequence)?;
+    spans_if_found(alloc, &sequence, &anchors)
+}
+
+/// The spans of all mark operations, which are given.
+fn spans_of_given(alloc: Global) -> Result<Vec<Span>, Fail> {
+    let sequence = letters(alloc)?;
+    let anchors = given(alloc)?;
+    spans_if_found(alloc, &sequence, &anchors)
+}
+
 #[test]
 fn thousands_of_mark_operations_are_found_at_their_characters(rt: HostRuntime) -> Result<(), Fail> {
-    let sequence = letters(rt.alloc())?;
-    let one_by_one = applied(rt.alloc(), &sequence)?;
-    let at_once = given(rt.alloc())?;
-    assert!(rt; finds_all(rt.alloc(), &one_by_one)?);
-    assert!(rt; finds_all(rt.alloc(), &at_once)?);
-    assert!(rt; spans(&sequence, &one_by_one)? == spans(&sequence, &at_once)?);
+    assert!(rt; spans_of_applied(rt.alloc())? == spans_of_given(rt.alloc())?);
     Ok(())
 }

@@ -20,11 +20,15 @@ mod sequence_tests;
 #[cfg(test)]
 mod span_tests;
 #[cfg(test)]
+mod test_acts;
+#[cfg(test)]
 mod test_documents;
 #[cfg(test)]
 mod test_names;
 #[cfg(test)]
 mod test_plain;
+#[cfg(test)]
+mod test_rows;
 #[cfg(test)]
 mod test_sequences;
 #[cfg(test)]

@@ -1,6 +1,6 @@
 //! Random edits of a few replicas, against the plain programs.
+use crate::test_acts::{Act, Look};
 use crate::test_documents::Peer;
-use op_model::{Change, CommentId, Mark, MarkKey, Url};
 use slow_programs::spans;
 use std::alloc::Global;
 use std::test::Fail;
@@ -21,74 +21,51 @@ impl Random {
     }
 }
 
-/// An edit somewhere in the text: mostly an insert of one to three characters.
-fn edit_somewhere(peer: &mut Peer, random: &mut Random) -> Result<(), Fail> {
-    let size = u32::try_from(peer.doc.text()?.as_slice().len()).map_err(|_| "long")?;
+/// An edit somewhere in a text of this size: mostly an insert of one to three characters.
+fn edit_somewhere(size: u32, random: &mut Random) -> Act<'static> {
     if size > 0 && random.below(3) == 0 {
-        let at = random.below(size);
-        return peer.remove(at, 1);
+        return Act::Delete(random.below(size), 1);
     }
     let text = match random.below(3) {
         0 => "p",
         1 => "qr",
         _ => "stu",
     };
-    peer.insert(random.below(size.wrapping_add(1)), text)
+    Act::Insert(random.below(size.wrapping_add(1)), text)
 }
 
-/// A mark or its removal somewhere in the text.
-fn mark_somewhere(peer: &mut Peer, random: &mut Random) -> Result<(), Fail> {
-    let size = u32::try_from(peer.doc.text()?.as_slice().len()).map_err(|_| "long")?;
+/// A mark or its removal somewhere in a text of this size, if it has characters.
+fn mark_somewhere(size: u32, random: &mut Random) -> Option<Act<'static>> {
     if size == 0 {
-        return Ok(());
+        return None;
     }
     let from = random.below(size);
     let to = from
         .wrapping_add(1)
         .wrapping_add(random.below(size.wrapping_sub(from)));
-    let last = if random.below(2) == 0 { 1 } else { 2 };
-    let comment = CommentId::read([last; 16]);
-    let change = match random.below(6) {
-        0 => Change::Mark {
-            from,
-            to,
-            mark: Mark::Strong,
-        },
-        1 => Change::Unmark {
-            from,
-            to,
-            key: MarkKey::Strong,
-        },
-        2 => Change::Mark {
-            from,
-            to,
-            mark: Mark::Comment(comment),
-        },
-        3 => Change::Unmark {
-            from,
-            to,
-            key: MarkKey::Comment(comment),
-        },
-        4 => Change::Unmark {
-            from,
-            to,
-            key: MarkKey::Link,
-        },
-        _ => Change::Mark {
-            from,
-            to,
-            mark: Mark::Link(Url::new(String::from_str(peer.alloc, "u")?).ok_or("no link")?),
-        },
-    };
-    peer.change(&change)
+    let comment = Look::Commented(if random.below(2) == 0 { 1 } else { 2 });
+    Some(match random.below(6) {
+        0 => Act::Mark(from, to, Look::Strong),
+        1 => Act::Unmark(from, to, Look::Strong),
+        2 => Act::Mark(from, to, comment),
+        3 => Act::Unmark(from, to, comment),
+        4 => Act::Unmark(from, to, Look::Linked("u")),
+        _ => Act::Mark(from, to, Look::Linked("u")),
+    })
 }
 
 /// Each third change is a mark or its removal.
 fn change_somewhere(peer: &mut Peer, random: &mut Random) -> Result<(), Fail> {
-    if random.below(3) == 0 {
-        mark_somewhere(peer, random)
+    let is_mark = random.below(3) == 0;
+    let size = u32::try_from(peer.doc.text()?.as_slice().len()).map_err(|_| "long")?;
+    let act = if is_mark {
+        mark_somewhere(size, random)
     } else {
-        edit_somewhere(peer, random)
+        Some(edit_somewhere(size, random))
+    };
+    match act {
+        Some(act) => peer.edit(act),
+        None => Ok(()),
     }
 }
 
@@ -171,6 +148,19 @@ impl Three {
     fn walk(&mut self) -> Result<bool, Fail> {
         Ok(walks(&mut self.a)? && walks(&mut self.b)? && walks(&mut self.c)?)
     }
+
+    /// A history of `steps` steps: how many operations it ends with, or 0 where something differs.
+    fn agreed(&mut self, random: &mut Random, steps: usize) -> Result<usize, Fail> {
+        for _ in 0..steps {
+            self.step(random)?;
+        }
+        self.settle()?;
+        let size = self.a.ops.len();
+        if !self.agree()? || !self.walk()? {
+            return Ok(0);
+        }
+        Ok(size)
+    }
 }
 
 /// Whether the document is what the plain programs make of the list.
@@ -183,26 +173,12 @@ fn show_one(a: &Peer, b: &Peer) -> Result<bool, Fail> {
     Ok(a.doc.text()? == b.doc.text()? && a.doc.spans()? == b.doc.spans()?)
 }
 
-/// One history of `steps` steps: how many operations it ends with, or 0 where something differs.
-fn agreed(alloc: Global, random: &mut Random, steps: usize) -> Result<usize, Fail> {
-    let mut three = Three::new(alloc)?;
-    for _ in 0..steps {
-        three.step(random)?;
-    }
-    three.settle()?;
-    let size = three.a.ops.len();
-    if !three.agree()? || !three.walk()? {
-        return Ok(0);
-    }
-    Ok(size)
-}
-
 #[test]
 fn ten_thousand_operations_agree_with_the_plain_programs(rt: HostRuntime) -> Result<(), Fail> {
     let mut random = Random(1);
     let mut applied = 0usize;
     for _ in 0..60 {
-        let more = agreed(rt.alloc(), &mut random, 500)?;
+        let more = Three::new(rt.alloc())?.agreed(&mut random, 500)?;
         assert!(rt; more > 0);
         applied = applied.saturating_add(more);
     }

@@ -1,5 +1,6 @@
 //! Spans.
-use crate::test_names::{id, text_of};
+use crate::test_acts::{Look, Shown, spans_of};
+use crate::test_names::id;
 use char_sequence::Sequence;
 use mark_anchors::Anchors;
 use op_ids::{Clock, OpId};
@@ -16,16 +17,16 @@ fn letter(k: usize) -> char {
     LETTERS[k % 7]
 }
 
-/// The characters 1, 2 and 3.
-fn three(alloc: Global) -> Result<Sequence, Fail> {
+/// The characters 1, 2 and 3. In a box, so that what returns early drops a box.
+fn three(alloc: Global) -> Result<Box<Sequence>, Fail> {
     let run = [(id(1)?, 'a'), (id(2)?, 'b'), (id(3)?, 'c')];
-    let mut sequence = Sequence::new(alloc);
+    let mut sequence = Box::new(alloc, Sequence::new(alloc))?;
     sequence.apply_run(None, &run)?;
     Ok(sequence)
 }
 
 /// The characters 1, 2 and 3, of which the first is a tombstone.
-fn two_left(alloc: Global) -> Result<Sequence, Fail> {
+fn two_left(alloc: Global) -> Result<Box<Sequence>, Fail> {
     let first = id(1)?;
     let mut sequence = three(alloc)?;
     sequence.apply_remove(first)?;
@@ -47,10 +48,12 @@ fn strong(alloc: Global, from: OpId, end: End) -> Result<Op, Fail> {
     })
 }
 
-/// The anchors after a mark operation.
-fn marked(alloc: Global, sequence: &Sequence, op: &Op) -> Result<Anchors, Fail> {
-    let mut anchors = Anchors::new(alloc);
-    anchors.apply_mark(op, sequence)?;
+/// The anchors after that operation.
+fn marked(sequence: &Sequence, from: OpId, end: End) -> Result<Box<Anchors>, Fail> {
+    let alloc = sequence.allocator();
+    let op = strong(alloc, from, end)?;
+    let mut anchors = Box::new(alloc, Anchors::new(alloc))?;
+    anchors.apply_mark(&op, sequence)?;
     Ok(anchors)
 }
 
@@ -66,9 +69,9 @@ fn found(sequence: &Sequence, anchors: &Anchors) -> Result<Vec<Span>, Fail> {
 
 /// The spans of three characters where strong begins with the second.
 fn marked_from_the_second(alloc: Global) -> Result<Vec<Span>, Fail> {
-    let op = strong(alloc, id(2)?, End::OfText)?;
+    let second = id(2)?;
     let sequence = three(alloc)?;
-    let anchors = marked(alloc, &sequence, &op)?;
+    let anchors = marked(&sequence, second, End::OfText)?;
     found(&sequence, &anchors)
 }
 
@@ -78,22 +81,23 @@ fn behind_a_tombstone(alloc: Global) -> Result<Vec<Span>, Fail> {
     found(&sequence, &Anchors::new(alloc))
 }
 
+/// Whether these spans were found.
+fn are_shown(alloc: Global, found: Vec<Span>, due: &[Shown<'_>]) -> Result<bool, Fail> {
+    Ok(found == spans_of(alloc, due)?)
+}
+
 #[test]
 fn a_text_is_cut_where_its_marks_change(rt: HostRuntime) -> Result<(), Fail> {
-    let (first, rest) = (text_of(rt.alloc(), "a")?, text_of(rt.alloc(), "bc")?);
     let spans = marked_from_the_second(rt.alloc())?;
-    assert_eq!(rt; spans.len(), 2);
-    assert!(rt; spans[0].text == first && !spans[0].marks.strong);
-    assert!(rt; spans[1].text == rest && spans[1].marks.strong);
+    let due = [Shown("a", Look::Plain), Shown("bc", Look::Strong)];
+    assert!(rt; are_shown(rt.alloc(), spans, &due)?);
     Ok(())
 }
 
 #[test]
 fn tombstones_are_in_no_span(rt: HostRuntime) -> Result<(), Fail> {
-    let left = text_of(rt.alloc(), "bc")?;
     let spans = behind_a_tombstone(rt.alloc())?;
-    assert_eq!(rt; spans.len(), 1);
-    assert!(rt; spans[0].text == left);
+    assert!(rt; are_shown(rt.alloc(), spans, &[Shown("bc", Look::Plain)])?);
     Ok(())
 }
 
@@ -113,19 +117,28 @@ fn marked_at_each_save(alloc: Global, end: usize) -> Result<Vec<Marking>, Fail> 
     Ok(markings)
 }
 
+/// The spans of three characters that were marked so 30,000 times.
+fn saved_often(alloc: Global) -> Result<Vec<Span>, Fail> {
+    let markings = marked_at_each_save(alloc, 30_004)?;
+    let sequence = three(alloc)?;
+    found(&sequence, &Anchors::from_markings(markings)?)
+}
+
 #[test]
 fn a_text_marked_at_each_save_has_its_spans(rt: HostRuntime) -> Result<(), Fail> {
-    let sequence = three(rt.alloc())?;
-    let markings = marked_at_each_save(rt.alloc(), 30_004)?;
-    let spans = found(&sequence, &Anchors::from_markings(markings)?)?;
-    assert_eq!(rt; spans.len(), 3);
-    assert!(rt; !spans[0].marks.strong && spans[1].marks.strong && !spans[2].marks.strong);
+    let spans = saved_often(rt.alloc())?;
+    let due = [
+        Shown("a", Look::Plain),
+        Shown("b", Look::Strong),
+        Shown("c", Look::Plain),
+    ];
+    assert!(rt; are_shown(rt.alloc(), spans, &due)?);
     Ok(())
 }
 
 /// A sequence of `count` characters, each of which was typed at the end.
-fn typed_at_the_end(alloc: Global, count: usize) -> Result<Sequence, Fail> {
-    let mut sequence = Sequence::new(alloc);
+fn typed_at_the_end(alloc: Global, count: usize) -> Result<Box<Sequence>, Fail> {
+    let mut sequence = Box::new(alloc, Sequence::new(alloc))?;
     let mut last = None;
     for k in 0..count {
         let id = id(k as u64 + 1)?;
@@ -136,8 +149,8 @@ fn typed_at_the_end(alloc: Global, count: usize) -> Result<Sequence, Fail> {
 }
 
 /// The same text, each character of which was typed at 0.
-fn typed_at_the_start(alloc: Global, count: usize) -> Result<Sequence, Fail> {
-    let mut sequence = Sequence::new(alloc);
+fn typed_at_the_start(alloc: Global, count: usize) -> Result<Box<Sequence>, Fail> {
+    let mut sequence = Box::new(alloc, Sequence::new(alloc))?;
     for k in 0..count {
         sequence.apply_insert(id(k as u64 + 1)?, None, letter(count - 1 - k))?;
     }
@@ -153,31 +166,44 @@ fn thin(sequence: &mut Sequence, count: usize) -> Result<(), Fail> {
     Ok(())
 }
 
-/// The operation that adds strong to the first half of `count` characters that a reader sees.
-fn first_half(alloc: Global, sequence: &Sequence, count: usize) -> Result<Op, Fail> {
+/// The anchors after strong was added to the first half of `count` characters that a reader sees.
+fn first_half(sequence: &Sequence, count: usize) -> Result<Box<Anchors>, Fail> {
     let first = sequence.visible(0).ok_or("no character")?;
     let middle = sequence.visible(count / 2).ok_or("no character")?;
-    strong(alloc, first, End::To(Anchor::Before(middle)))
+    marked(sequence, first, End::To(Anchor::Before(middle)))
+}
+
+/// Whether both programs find two spans where the first half of `count` characters is strong.
+fn has_two_spans(sequence: &Sequence, count: usize) -> Result<bool, Fail> {
+    let anchors = first_half(sequence, count)?;
+    Ok(found(sequence, &anchors)?.len() == 2)
 }
 
 /// The text of `count` characters, every third of which is removed and half of the rest strong; its
 /// two spans are found by both programs.
-fn text_of_half_strong(alloc: Global, typed: Sequence, count: usize) -> Result<Text, Fail> {
-    let mut sequence = typed;
-    thin(&mut sequence, count)?;
-    let op = first_half(alloc, &sequence, count - count / 3)?;
-    let anchors = marked(alloc, &sequence, &op)?;
-    if found(&sequence, &anchors)?.len() != 2 {
+fn half_strong(sequence: &mut Sequence, count: usize) -> Result<Text, Fail> {
+    thin(sequence, count)?;
+    if !has_two_spans(sequence, count - count / 3)? {
         return Err(Fail::from("not two spans"));
     }
     Ok(sequence.text()?)
 }
 
+/// The text of `count` characters that were typed at the end.
+fn ended(alloc: Global, count: usize) -> Result<Text, Fail> {
+    let mut sequence = typed_at_the_end(alloc, count)?;
+    half_strong(&mut sequence, count)
+}
+
+/// The text of `count` characters that were typed at 0.
+fn started(alloc: Global, count: usize) -> Result<Text, Fail> {
+    let mut sequence = typed_at_the_start(alloc, count)?;
+    half_strong(&mut sequence, count)
+}
+
 /// Whether both ways of typing `count` characters give one text.
 fn are_typed_alike(alloc: Global, count: usize) -> Result<bool, Fail> {
-    let at_end = text_of_half_strong(alloc, typed_at_the_end(alloc, count)?, count)?;
-    let at_start = text_of_half_strong(alloc, typed_at_the_start(alloc, count)?, count)?;
-    Ok(at_end == at_start)
+    Ok(ended(alloc, count)? == started(alloc, count)?)
 }
 
 #[test]

@@ -1,11 +1,11 @@
 //! A replica of one document, for tests.
+use crate::test_acts::{Act, change};
 use crate::test_names::{replica, text_of};
-use doc_core::{Doc, Made};
+use doc_core::{Doc, Made, MakeError};
 use op_ids::{Clock, OpId, ReplicaId};
-use op_model::{Anchor, Author, Body, Change, EditText, End, Mark, Op, Start, Text, Url};
+use op_model::{Anchor, Author, Body, Change, Character, End, Mark, Op, Start, Text, Url};
 use slow_programs::{is_removed, rev, text, walk};
 use std::alloc::Global;
-use std::num::NonZeroU32;
 use std::test::Fail;
 
 /// A replica that edits document 1: its document, its list, and its clock.
@@ -34,62 +34,61 @@ impl Peer {
         Ok(Box::new(alloc, peer)?)
     }
 
-    /// This replica, as it makes operations from a counter on.
-    fn author(&self, counter: u64) -> Author<'_> {
-        Author {
+    /// What a change makes, or the refusal of it.
+    fn made(&self, change: &Change) -> Result<Made, MakeError> {
+        let author = Author {
             replica: self.replica,
             token: None,
-            counter,
+            counter: self.last.wrapping_add(1),
             clock: &self.clock,
+        };
+        match change {
+            Change::Insert { at, text } => self.doc.make_insert(self.alloc, &author, *at, text),
+            Change::Delete { at, count } => {
+                self.doc.make_remove(self.alloc, &author, *at, *count)
+            }
+            _ => self.doc.make(self.alloc, &author, change),
         }
     }
 
-    pub fn make_insert(&self, at: u32, text: &str) -> Result<Made, Fail> {
-        let text = EditText::new(text.chars().collect(self.alloc)?).ok_or("no text")?;
-        let author = self.author(self.last.wrapping_add(1));
-        Ok(self.doc.make_insert(self.alloc, &author, at, &text)?)
+    /// What an edit makes.
+    pub fn make(&self, act: Act<'_>) -> Result<Made, Fail> {
+        let change = change(self.alloc, act)?;
+        Ok(self.made(&change)?)
     }
 
-    pub fn make_remove(&self, at: u32, count: u32) -> Result<Made, Fail> {
-        let count = NonZeroU32::new(count).ok_or("zero")?;
-        let author = self.author(self.last.wrapping_add(1));
-        Ok(self.doc.make_remove(self.alloc, &author, at, count)?)
+    /// The number of the refusal of an edit, or 0.
+    pub fn refusal(&self, act: Act<'_>) -> Result<u8, Fail> {
+        let change = change(self.alloc, act)?;
+        match self.made(&change) {
+            Ok(_) => Ok(0),
+            Err(error) => Ok(error.number()),
+        }
     }
 
-    pub fn keep(&mut self, op: Op) -> Result<(), Fail> {
+    fn keep(&mut self, op: Op) -> Result<(), Fail> {
         self.clock.advance(op.id.replica())?;
         self.last = self.last.max(op.id.counter());
         self.ops.push(op)?;
         Ok(())
     }
 
-    pub fn keep_edit(&mut self, edit: &Made) -> Result<(), Fail> {
-        self.doc.apply_edit(edit)?;
-        for op in edit.as_slice() {
+    fn keep_made(&mut self, made: &Made) -> Result<(), Fail> {
+        self.doc.apply_edit(made)?;
+        for op in made.as_slice() {
             self.keep(op.copy()?)?;
         }
         Ok(())
     }
 
-    pub fn insert(&mut self, at: u32, text: &str) -> Result<(), Fail> {
-        let made = self.make_insert(at, text)?;
-        self.keep_edit(&made)
-    }
-
-    pub fn remove(&mut self, at: u32, count: u32) -> Result<(), Fail> {
-        let made = self.make_remove(at, count)?;
-        self.keep_edit(&made)
-    }
-
-    /// Makes a change and takes it.
-    pub fn change(&mut self, change: &Change) -> Result<(), Fail> {
-        let author = self.author(self.last.wrapping_add(1));
-        let made = self.doc.make(self.alloc, &author, change)?;
-        self.keep_edit(&made)
+    /// Makes an edit and takes it.
+    pub fn edit(&mut self, act: Act<'_>) -> Result<(), Fail> {
+        let made = self.make(act)?;
+        self.keep_made(&made)
     }
 
     /// Where the mark operations end that the list has, of each kind the last one.
-    pub fn ends(&self) -> Result<(Option<End>, Option<End>), Fail> {
+    pub fn ends(&self) -> (Option<End>, Option<End>) {
         let mut added = None;
         let mut removed = None;
         for op in &self.ops {
@@ -99,7 +98,7 @@ impl Peer {
                 _ => {}
             }
         }
-        Ok((added, removed))
+        (added, removed)
     }
 
     /// Takes one operation of another peer.
@@ -108,31 +107,37 @@ impl Peer {
         self.keep(op.copy()?)
     }
 
-    /// Takes the operations of another peer from an index on, one by one.
+    /// Takes what another peer has from an index on that isn't its copy of this peer's, one by one.
     pub fn take_from(&mut self, other: &Peer, from: usize) -> Result<(), Fail> {
         for op in other.ops.iter().skip(from) {
-            self.take(op)?;
+            if op.id.replica() != self.replica {
+                self.take(op)?;
+            }
         }
         Ok(())
     }
 
-    /// A mark operation of this replica.
-    pub fn link(&mut self, start: OpId, end: OpId) -> Result<(), Fail> {
-        let url = Url::new(String::from_str(self.alloc, "u")?).ok_or("no link")?;
-        let next = self.last.wrapping_add(1);
+    /// Makes an operation of this replica, and takes it.
+    fn make_own(&mut self, body: Body) -> Result<(), Fail> {
         let op = Op {
-            id: OpId::try_new(next, self.replica).ok_or("counter")?,
+            id: self.id(self.last.wrapping_add(1))?,
             doc: 1,
             token: None,
             deps: self.clock.copy()?,
-            body: Body::AddMark {
-                mark: Mark::Link(url),
-                start: Start::From(Anchor::Before(start)),
-                end: End::To(Anchor::After(end)),
-            },
+            body,
         };
-        self.doc.apply(&op)?;
-        self.keep(op)
+        self.take(&op)
+    }
+
+    /// A mark operation of this replica, from one of its characters to behind another one.
+    pub fn link(&mut self, start: u64, end: u64) -> Result<(), Fail> {
+        let url = Url::new(String::from_str(self.alloc, "u")?).ok_or("no link")?;
+        let body = Body::AddMark {
+            mark: Mark::Link(url),
+            start: Start::From(Anchor::Before(self.id(start)?)),
+            end: End::To(Anchor::After(self.id(end)?)),
+        };
+        self.make_own(body)
     }
 
     pub fn shows(&self, expected: &str) -> Result<bool, Fail> {
@@ -145,49 +150,9 @@ impl Peer {
         Ok(same_text && self.doc.rev() == rev(&self.ops, 1) as u64)
     }
 
-    /// Takes what another peer has from an index on that isn't its copy of this peer's.
-    pub fn take_from_index(&mut self, other: &Peer, from: usize) -> Result<(), Fail> {
-        for op in other.ops.iter().skip(from) {
-            if op.id.replica() != self.replica {
-                self.take(op)?;
-            }
-        }
-        Ok(())
-    }
-
-    pub fn many(&self, size: usize) -> Result<EditText, Fail> {
-        let mut text = Vec::new(self.alloc);
-        for _ in 0..size {
-            text.push('a')?;
-        }
-        Ok(EditText::new(text).ok_or("no text")?)
-    }
-
-    pub fn insert_many(&mut self, at: u32, size: usize) -> Result<(), Fail> {
-        let text = self.many(size)?;
-        let made = self
-            .doc
-            .make_insert(self.alloc, &self.author(1), at, &text)?;
-        self.keep_edit(&made)
-    }
-
-    pub fn insert_refusal(&self, at: u32, size: usize) -> Result<u8, Fail> {
-        let text = self.many(size)?;
-        let author = self.author(self.last.wrapping_add(1));
-        let made = self.doc.make_insert(self.alloc, &author, at, &text);
-        Ok(made.err().map_or(0, |error| error.number()))
-    }
-
-    pub fn remove_refusal(&self, at: u32, count: u32) -> Result<u8, Fail> {
-        let count = NonZeroU32::new(count).ok_or("zero")?;
-        let author = self.author(self.last.wrapping_add(1));
-        let made = self.doc.make_remove(self.alloc, &author, at, count);
-        Ok(made.err().map_or(0, |error| error.number()))
-    }
-
     /// The id and the origin of an insert of one character.
     pub fn made_origin(&self, at: u32) -> Result<Option<(OpId, Option<OpId>)>, Fail> {
-        let made = self.make_insert(at, "x")?;
+        let made = self.make(Act::Insert(at, "x"))?;
         for op in made.as_slice() {
             if let Body::Insert { origin, .. } = &op.body {
                 return Ok(Some((op.id, *origin)));
@@ -197,18 +162,9 @@ impl Peer {
     }
 
     /// Puts a letter behind a character, tombstones too: nothing comes to stand between the two.
-    pub fn put_behind(&mut self, origin: OpId, value: char) -> Result<(), Fail> {
-        let op = Op {
-            id: self.id(self.last.wrapping_add(1))?,
-            doc: 1,
-            token: None,
-            deps: self.clock.copy()?,
-            body: Body::Insert {
-                origin: Some(origin),
-                value,
-            },
-        };
-        self.take(&op)
+    fn put_behind(&mut self, origin: OpId, value: char) -> Result<(), Fail> {
+        let origin = Some(origin);
+        self.make_own(Body::Insert { origin, value })
     }
 
     /// Puts 0, 1, 2 and so on behind the characters of this replica with these counters, so that
@@ -221,18 +177,24 @@ impl Peer {
         Ok(())
     }
 
+    /// Puts a letter of its own behind a character that the plain walk has, and behind the text so
+    /// far what a reader sees then.
+    fn letter(&mut self, seen: &mut Vec<char>, at: &Character, value: char) -> Result<(), Fail> {
+        if !is_removed(&self.ops, 1, at) {
+            seen.push(at.value)?;
+        }
+        seen.push(value)?;
+        self.put_behind(at.id, value)
+    }
+
     /// Puts a letter of its own behind each character that the plain walk has, and gives the text
     /// that a reader sees then: so it tells where each character stands, tombstones too.
     pub fn letter_all(&mut self) -> Result<Text, Fail> {
-        let mut expected = Vec::new(self.alloc);
+        let mut seen = Vec::new(self.alloc);
         for (character, value) in walk(self.alloc, &self.ops, 1)?.iter().zip('一'..='龥') {
-            if !is_removed(&self.ops, 1, character) {
-                expected.push(character.value)?;
-            }
-            expected.push(value)?;
-            self.put_behind(character.id, value)?;
+            self.letter(&mut seen, character, value)?;
         }
-        Ok(Text::from(expected))
+        Ok(Text::from(seen))
     }
 
     pub fn id(&self, counter: u64) -> Result<OpId, Fail> {

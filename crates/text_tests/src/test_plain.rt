@@ -1,133 +1,94 @@
-//! A peer that the plain programs serve, and what its text looks like.
-use crate::test_names::{comment, text_of};
+//! Two peers that the plain programs serve, as rows have them edit document 1.
+use crate::test_acts::{Act, Shown, Who, change, judged, spans_of};
+use crate::test_names::{replica, text_of};
 use op_ids::ReplicaId;
-use op_model::{Change, CommentIds, Edit, EditText, Mark, MarkKey, Marks, Op, Span, Url};
-use slow_programs::{EditError, characters, made, markings, rev, spans, text, visible, walk};
+use op_model::{Change, Edit, Op};
+use slow_programs::{characters, made, markings, rev, spans, text, visible, walk};
 use std::alloc::{AllocError, Global};
-use std::num::NonZeroU32;
+use std::io::Eprint;
+use std::test::Fail;
+
+/// What a peer does, or has.
+#[derive(Clone, Copy)]
+pub(crate) enum Step<'a> {
+    /// It makes an edit.
+    Does(Act<'a>),
+    /// With this number it refuses an edit of this document, asked for at this revision; or 0.
+    Refuses(u8, u32, Option<u32>, Act<'a>),
+    /// It takes the operations of the other peer from an index on, as they come from it.
+    Takes(usize),
+    /// It lets its last operation go.
+    Forgets,
+    /// This holds of it.
+    Has(Fact<'a>),
+}
+
+/// What holds of a peer.
+#[derive(Clone, Copy)]
+pub(crate) enum Fact<'a> {
+    /// How many operations there are of the document.
+    Rev(usize),
+    /// How many operations its list has.
+    Operations(usize),
+    /// The operation at an index has this counter, and depends on so many of this replica.
+    Operation(usize, u64, u64),
+    /// The text that a reader sees.
+    Text(&'a str),
+    /// The spans that a reader sees.
+    Spans(&'a [Shown<'a>]),
+    /// How many characters are seen, stand in the text, and are there at all; and how many marks.
+    Counts([usize; 4]),
+}
+
+/// A peer, and what it does or has.
+pub(crate) type Row<'a> = (Who, Step<'a>);
 
 /// A replica and its list of operations, all in document 1.
 #[derive(Drop)]
-pub(crate) struct PlainPeer {
+struct PlainPeer {
     alloc: Global,
-    pub(crate) replica: ReplicaId,
-    pub(crate) ops: Vec<Op>,
+    replica: ReplicaId,
+    ops: Vec<Op>,
 }
 
 impl PlainPeer {
-    pub(crate) fn new(alloc: Global, replica: ReplicaId) -> PlainPeer {
-        PlainPeer {
+    fn new(alloc: Global, last: u8) -> Result<PlainPeer, Fail> {
+        Ok(PlainPeer {
             alloc,
-            replica,
+            replica: replica(last)?,
             ops: Vec::new(alloc),
-        }
+        })
     }
 
-    // While a test holds a peer it returns nowhere, since each early return would drop it: so these
-    // calls answer plain values, and false when out of memory, too.
-
-    pub(crate) fn change(&mut self, change: Change) -> bool {
-        let edit = asked(1, None, change);
-        match made(self.alloc, &self.ops, self.replica, &edit) {
-            Ok(mut ops) => self.ops.append(&mut ops).is_ok(),
-            Err(_) => false,
-        }
-    }
-
-    pub(crate) fn insert(&mut self, at: u32, text: &str) -> bool {
-        match edit_text(self.alloc, text) {
-            Ok(text) => self.change(Change::Insert { at, text }),
-            Err(_) => false,
-        }
-    }
-
-    pub(crate) fn delete(&mut self, at: u32, count: u32) -> bool {
-        match NonZeroU32::new(count) {
-            Some(count) => self.change(Change::Delete { at, count }),
-            None => false,
-        }
-    }
-
-    pub(crate) fn mark(&mut self, from: u32, to: u32, mark: Mark) -> bool {
-        self.change(Change::Mark { from, to, mark })
-    }
-
-    pub(crate) fn link(&mut self, from: u32, to: u32, url: &str) -> bool {
-        match link(self.alloc, url) {
-            Ok(mark) => self.mark(from, to, mark),
-            Err(_) => false,
-        }
-    }
-
-    pub(crate) fn unmark(&mut self, from: u32, to: u32, key: MarkKey) -> bool {
-        self.change(Change::Unmark { from, to, key })
-    }
-
-    /// The operations of another peer from an index on, as they come from it.
-    pub(crate) fn take_from(&mut self, other: &PlainPeer, from: usize) -> bool {
-        match copies(self.alloc, other.ops.as_slice(), from) {
-            Ok(mut ops) => self.ops.append(&mut ops).is_ok(),
-            Err(_) => false,
-        }
-    }
-
-    /// Lets the last operation go.
-    pub(crate) fn forget_last(&mut self) {
-        self.ops.pop();
-    }
-
-    pub(crate) fn rev(&self) -> usize {
-        rev(&self.ops, 1)
+    fn edit(&mut self, act: Act<'_>) -> Result<bool, Fail> {
+        let edit = asked(1, None, change(self.alloc, act)?);
+        let mut ops = made(self.alloc, &self.ops, self.replica, &edit)?;
+        self.ops.append(&mut ops)?;
+        Ok(true)
     }
 
     /// The number of the refusal of an edit, or 0.
-    pub(crate) fn refusal(&self, edit: Edit) -> u8 {
-        match made(self.alloc, &self.ops, self.replica, &edit) {
+    fn refusal(&self, edit: &Edit) -> u8 {
+        match made(self.alloc, &self.ops, self.replica, edit) {
             Ok(_) => 0,
             Err(error) => error.number(),
         }
     }
 
-    /// The same of an insert, if there is memory for its text.
-    pub(crate) fn insert_refusal(
-        &self,
-        doc: u32,
-        rev: Option<u32>,
-        at: u32,
-        text: &str,
-    ) -> Option<u8> {
-        match edit_text(self.alloc, text) {
-            Ok(text) => Some(self.refusal(asked(doc, rev, Change::Insert { at, text }))),
-            Err(_) => None,
+    fn take_from(&mut self, other: &PlainPeer, from: usize) -> Result<bool, Fail> {
+        for op in other.ops.iter().skip(from) {
+            self.ops.push(op.copy()?)?;
+        }
+        Ok(true)
+    }
+
+    fn has_operation(&self, index: usize, counter: u64, deps: u64) -> bool {
+        match self.ops.get(index) {
+            Some(op) => op.id.counter() == counter && op.deps.get(self.replica) == deps,
+            None => false,
         }
     }
 
-    /// The same of a delete of one character.
-    pub(crate) fn delete_refusal(&self, rev: Option<u32>, at: u32) -> u8 {
-        let count = NonZeroU32::MIN;
-        self.refusal(asked(1, rev, Change::Delete { at, count }))
-    }
-
-    pub(crate) fn has_text(&self, expected: &str) -> bool {
-        match self.is_text(expected) {
-            Ok(is_text) => is_text,
-            Err(_) => false,
-        }
-    }
-
-    fn is_text(&self, expected: &str) -> Result<bool, AllocError> {
-        let expected = text_of(self.alloc, expected)?;
-        Ok(text(self.alloc, &self.ops, 1)? == expected)
-    }
-
-    pub(crate) fn has_spans(&self, expected: &[Shown<'_>]) -> bool {
-        match spans(self.alloc, &self.ops, 1) {
-            Ok(found) => are_shown(self.alloc, &found, expected),
-            Err(_) => false,
-        }
-    }
-
-    /// How many characters are seen, stand in the text, and are there at all; and how many marks.
     fn counts(&self) -> Result<[usize; 4], AllocError> {
         let seen = visible(self.alloc, &self.ops, 1)?.len();
         let standing = walk(self.alloc, &self.ops, 1)?.len();
@@ -136,22 +97,33 @@ impl PlainPeer {
         Ok([seen, standing, all, marks])
     }
 
-    pub(crate) fn has_counts(&self, expected: [usize; 4]) -> bool {
-        match self.counts() {
-            Ok(counts) => counts == expected,
-            Err(_) => false,
+    /// Does a step, or tells whether it holds.
+    fn play(&mut self, step: Step<'_>, other: &PlainPeer) -> Result<bool, Fail> {
+        match step {
+            Step::Does(act) => self.edit(act),
+            Step::Refuses(number, doc, rev, act) => {
+                let edit = asked(doc, rev, change(self.alloc, act)?);
+                Ok(self.refusal(&edit) == number)
+            }
+            Step::Takes(from) => self.take_from(other, from),
+            Step::Forgets => Ok(self.ops.pop().is_some()),
+            Step::Has(fact) => self.has(fact),
+        }
+    }
+
+    fn has(&self, fact: Fact<'_>) -> Result<bool, Fail> {
+        match fact {
+            Fact::Rev(count) => Ok(rev(&self.ops, 1) == count),
+            Fact::Operations(count) => Ok(self.ops.len() == count),
+            Fact::Operation(index, counter, deps) => Ok(self.has_operation(index, counter, deps)),
+            Fact::Text(due) => Ok(text(self.alloc, &self.ops, 1)? == text_of(self.alloc, due)?),
+            Fact::Spans(due) => Ok(spans(self.alloc, &self.ops, 1)? == spans_of(self.alloc, due)?),
+            Fact::Counts(due) => Ok(self.counts()? == due),
         }
     }
 }
 
-fn copies(alloc: Global, ops: &[Op], from: usize) -> Result<Vec<Op>, AllocError> {
-    let mut copies = Vec::new(alloc);
-    for op in ops.iter().skip(from) {
-        copies.push(op.copy()?).map_err(AllocError::from)?;
-    }
-    Ok(copies)
-}
-
+/// An edit without a token.
 pub(crate) fn asked(doc: u32, rev: Option<u32>, change: Change) -> Edit {
     Edit {
         doc,
@@ -161,70 +133,36 @@ pub(crate) fn asked(doc: u32, rev: Option<u32>, change: Change) -> Edit {
     }
 }
 
-pub(crate) fn edit_text(alloc: Global, text: &str) -> Result<EditText, EditError> {
-    EditText::new(text.chars().collect(alloc)?).ok_or(EditError::Limit)
+/// The peers of a test: the replicas 1 and 2.
+#[derive(Drop)]
+struct Pair {
+    a: PlainPeer,
+    b: PlainPeer,
 }
 
-pub(crate) fn link(alloc: Global, text: &str) -> Result<Mark, EditError> {
-    match Url::new(String::from_str(alloc, text)?) {
-        Some(url) => Ok(Mark::Link(url)),
-        None => Err(EditError::Limit),
+impl Pair {
+    /// Boxed, so that what returns early drops a box.
+    fn new(alloc: Global) -> Result<Box<Pair>, Fail> {
+        let pair = Pair {
+            a: PlainPeer::new(alloc, 1)?,
+            b: PlainPeer::new(alloc, 2)?,
+        };
+        Ok(Box::new(alloc, pair)?)
     }
-}
 
-/// The marks of a span: none, or just one.
-#[derive(Clone, Copy)]
-pub(crate) enum Look<'a> {
-    Plain,
-    Strong,
-    Em,
-    Linked(&'a str),
-    Commented(u8),
-}
-
-/// A span's text, and how it looks.
-#[derive(Clone, Copy)]
-pub(crate) struct Shown<'a>(pub(crate) &'a str, pub(crate) Look<'a>);
-
-pub(crate) fn span_marks(alloc: Global, look: Look<'_>) -> Result<Marks, AllocError> {
-    let mut comments = Vec::new(alloc);
-    if let Look::Commented(last) = look {
-        comments.push(comment(last))?;
-    }
-    let link = match look {
-        Look::Linked(url) => Url::new(String::from_str(alloc, url)?),
-        _ => None,
-    };
-    Ok(Marks {
-        strong: matches!(look, Look::Strong),
-        em: matches!(look, Look::Em),
-        link,
-        comments: CommentIds::from(comments),
-    })
-}
-
-fn span(alloc: Global, shown: Shown<'_>) -> Result<Span, AllocError> {
-    let text = text_of(alloc, shown.0)?;
-    let marks = span_marks(alloc, shown.1)?;
-    Ok(Span { text, marks })
-}
-
-fn is_shown(alloc: Global, found: &Span, expected: Shown<'_>) -> bool {
-    match span(alloc, expected) {
-        Ok(span) => *found == span,
-        Err(_) => false,
-    }
-}
-
-/// Whether these are just the expected spans, in order.
-fn are_shown(alloc: Global, found: &[Span], expected: &[Shown<'_>]) -> bool {
-    if found.len() != expected.len() {
-        return false;
-    }
-    for i in 0..found.len() {
-        if !is_shown(alloc, &found[i], expected[i]) {
-            return false;
+    fn play(&mut self, row: Row<'_>) -> Result<bool, Fail> {
+        match row.0 {
+            Who::A => self.a.play(row.1, &self.b),
+            Who::B => self.b.play(row.1, &self.a),
         }
     }
-    true
+}
+
+/// Plays these rows between two fresh peers.
+pub(crate) fn plays(rt: &(impl Eprint + AllocGlobal), rows: &[Row<'_>]) -> Result<(), Fail> {
+    let mut pair = Pair::new(rt.alloc())?;
+    for (number, row) in rows.iter().enumerate() {
+        judged(rt, number, pair.play(*row))?;
+    }
+    Ok(())
 }

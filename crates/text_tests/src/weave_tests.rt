@@ -1,84 +1,87 @@
 //! Weaves, against sequences.
-use crate::test_sequences::{has_run_after, has_text, is_done, refusal, some_names};
+use crate::test_acts::judged;
+use crate::test_sequences::Call::{Insert, Remove};
+use crate::test_sequences::Row::{Does, Refuses};
+use crate::test_sequences::{Call, Row, has_text, id_of, maybe_id, played, refusal};
 use char_sequence::{Sequence, Weave};
-use op_ids::OpId;
-use std::alloc::AllocError;
+use std::io::Eprint;
 use std::test::Fail;
 
-/// An insert: its id, its origin and its character.
-#[derive(Clone, Copy)]
-struct Insert(OpId, Option<OpId>, char);
+/// Inserts, and a remove then, that go to a weave and to a sequence.
+const CALLS: [Row<'static>; 7] = [
+    Does(Insert((1, 1), None, 'x')),
+    Does(Insert((2, 1), Some((1, 1)), 'y')),
+    Does(Insert((2, 2), Some((1, 1)), 'z')),
+    Does(Insert((5, 2), Some((1, 1)), 'v')),
+    Does(Insert((3, 1), Some((2, 1)), 'w')),
+    Does(Insert((4, 1), None, 'u')),
+    Does(Remove((5, 2))),
+];
 
-/// Takes these inserts, and removes a character then.
-fn weave_all(weave: &mut Weave, inserts: &[Insert], removed: OpId) -> bool {
-    for insert in inserts {
-        if !is_done(weave.insert(insert.0, insert.1, insert.2)) {
-            return false;
+/// The number with which a weave refuses a call, or 0.
+fn answer(weave: &mut Weave, call: Call<'_>) -> Result<u8, Fail> {
+    match call {
+        Insert(id, origin, value) => {
+            let (id, origin) = (id_of(id)?, maybe_id(origin)?);
+            Ok(refusal(weave.insert(id, origin, value)))
         }
+        Remove(id) => Ok(refusal(weave.remove(id_of(id)?))),
+        _ => Err(Fail::from("no call of a weave")),
     }
-    is_done(weave.remove(removed))
 }
 
-/// The same in a sequence.
-fn apply_all(sequence: &mut Sequence, inserts: &[Insert], removed: OpId) -> bool {
-    for insert in inserts {
-        if !is_done(sequence.apply_insert(insert.0, insert.1, insert.2)) {
-            return false;
-        }
+/// Whether a row holds: plays it.
+fn holds(weave: &mut Weave, row: Row<'_>) -> Result<bool, Fail> {
+    match row {
+        Does(call) => Ok(answer(weave, call)? == 0),
+        Refuses(number, call) => Ok(answer(weave, call)? == number),
+        _ => Err(Fail::from("no call")),
     }
-    is_done(sequence.apply_remove(removed))
 }
 
-/// Whether two sequences have the same text, and the same tombstones behind its first character.
-fn are_alike(one: &Sequence, other: &Sequence) -> Result<bool, AllocError> {
-    let has_run = has_run_after(one, 1, other.run_after(1)?.as_slice());
-    Ok(has_run && one.text()? == other.text()?)
+/// The weave after these rows.
+fn woven(rt: &(impl Eprint + AllocGlobal), rows: &[Row<'_>]) -> Result<Box<Weave>, Fail> {
+    let mut weave = Box::new(rt.alloc(), Weave::new(rt.alloc())?)?;
+    for (number, row) in rows.iter().enumerate() {
+        judged(rt, number, holds(&mut weave, *row))?;
+    }
+    Ok(weave)
+}
+
+/// Whether two sequences have the same tombstones behind their first characters.
+fn have_one_run(one: &Sequence, other: &Sequence) -> Result<bool, Fail> {
+    Ok(one.run_after(1)?.as_slice() == other.run_after(1)?.as_slice())
+}
+
+fn have_one_text(one: &Sequence, other: &Sequence) -> Result<bool, Fail> {
+    Ok(one.text()? == other.text()?)
 }
 
 /// Whether a weave holds what a sequence shows.
-fn is_woven(weave: &Weave, expected: &Sequence) -> bool {
-    match weave.sequence(expected.allocator()) {
-        Ok(woven) => match are_alike(&woven, expected) {
-            Ok(is_woven) => is_woven,
-            Err(_) => false,
-        },
-        Err(_) => false,
-    }
+fn is_woven(weave: &Weave, due: &Sequence) -> Result<bool, Fail> {
+    let alloc = due.allocator();
+    let found = Box::new(alloc, weave.sequence(alloc)?)?;
+    Ok(have_one_run(&found, due)? && have_one_text(&found, due)?)
 }
 
 #[test]
 fn a_weave_holds_what_a_sequence_does(rt: HostRuntime) -> Result<(), Fail> {
-    let names = some_names()?;
-    let x = OpId::new(1, names.one);
-    let y = OpId::new(2, names.one);
-    let v = OpId::new(5, names.two);
-    let inserts = [
-        Insert(x, None, 'x'),
-        Insert(y, Some(x), 'y'),
-        Insert(OpId::new(2, names.two), Some(x), 'z'),
-        Insert(v, Some(x), 'v'),
-        Insert(OpId::new(3, names.one), Some(y), 'w'),
-        Insert(OpId::new(4, names.one), None, 'u'),
-    ];
-    let mut weave = Weave::new(rt.alloc())?;
-    let mut sequence = Sequence::new(rt.alloc());
-    assert!(rt; weave_all(&mut weave, &inserts, v));
-    assert!(rt; apply_all(&mut sequence, &inserts, v));
-    assert!(rt; has_text(&sequence, "uxzyw"));
-    assert!(rt; is_woven(&weave, &sequence));
+    let weave = woven(&rt, &CALLS)?;
+    let sequence = played(&rt, &CALLS)?;
+    assert!(rt; has_text(&sequence, "uxzyw")?);
+    assert!(rt; is_woven(&weave, &sequence)?);
     Ok(())
 }
 
 #[test]
 fn a_weave_refuses_an_unknown_id(rt: HostRuntime) -> Result<(), Fail> {
-    let names = some_names()?;
-    let a = OpId::new(1, names.one);
-    let b = OpId::new(3, names.one);
-    let c = OpId::new(2, names.one);
-    let unknown = OpId::new(2, names.two);
-    let mut weave = Weave::new(rt.alloc())?;
-    assert!(rt; is_done(weave.insert(a, None, 'a')));
-    assert!(rt; refusal(weave.insert(b, Some(unknown), 'b')) == 60);
-    assert!(rt; refusal(weave.remove(c)) == 60);
+    let _ = woven(
+        &rt,
+        &[
+            Does(Insert((1, 1), None, 'a')),
+            Refuses(60, Insert((3, 1), Some((2, 2)), 'b')),
+            Refuses(60, Remove((2, 1))),
+        ],
+    )?;
     Ok(())
 }
