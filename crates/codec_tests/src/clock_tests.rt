@@ -1,95 +1,194 @@
 //! Clocks: entries, order, limits.
 use crate::test_names::replica;
-use op_ids::{Clock, ClockError};
+use crate::test_rows::{World, counted, nothing, play, told};
+use op_ids::{Clock, ClockError, ReplicaId};
+use std::alloc::Global;
 use std::test::Fail;
 
-/// The clock with these counts of replicas, or `None` where they aren't those of a clock.
-fn try_clock(rt: &HostRuntime, counts: &[(u8, u64)]) -> Result<Option<Clock>, Fail> {
-    let mut entries = Vec::new(rt.alloc());
-    for (last, count) in counts {
-        entries.push((replica(*last)?, *count))?;
+/// A replica and its count: `9=5`.
+fn entry(word: &str) -> Result<(ReplicaId, u64), Fail> {
+    let (last, count) = word.split_once('=').ok_or("a count")?;
+    Ok((replica(last.parse()?)?, count.parse()?))
+}
+
+/// The clock with these counts, or `None` where they aren't those of a clock.
+fn try_clock(alloc: Global, words: &str) -> Result<Option<Clock>, Fail> {
+    let mut entries = Vec::new(alloc);
+    for word in words.split_whitespace() {
+        entries.push(entry(word)?)?;
     }
     Ok(Clock::from_entries(entries))
 }
 
-/// In a box, so that a test which returns early drops a box: that a clock is dropped is then proved
-/// once, and not at each return.
-fn clock_of(rt: &HostRuntime, counts: &[(u8, u64)]) -> Result<Box<Clock>, Fail> {
-    let clock = try_clock(rt, counts)?.ok_or("no clock")?;
-    Ok(Box::new(rt.alloc(), clock)?)
+/// Whether these counts are a clock's.
+fn is_clock(alloc: Global, words: &str) -> Result<bool, Fail> {
+    Ok(try_clock(alloc, words)?.is_some())
+}
+
+fn clock_of(alloc: Global, words: &str) -> Result<Clock, Fail> {
+    Ok(try_clock(alloc, words)?.ok_or("no clock")?)
+}
+
+/// Nothing, or the number of the refusal.
+fn said(alloc: Global, answer: Result<(), ClockError>) -> Result<String, Fail> {
+    match answer {
+        Ok(()) => nothing(alloc),
+        Err(error) => counted(alloc, usize::from(error.number())),
+    }
+}
+
+/// Puts another clock there.
+fn set(alloc: Global, clock: &mut Clock, words: &str) -> Result<String, Fail> {
+    *clock = clock_of(alloc, words)?;
+    nothing(alloc)
+}
+
+/// Whether a copy of a clock is the clock.
+fn is_copied(clock: &Clock) -> Result<bool, Fail> {
+    Ok(clock.copy()? == *clock)
+}
+
+/// Whether a clock is that with these counts.
+fn is_equal(alloc: Global, clock: &Clock, words: &str) -> Result<bool, Fail> {
+    Ok(*clock == clock_of(alloc, words)?)
+}
+
+/// Joins a clock with that of these counts.
+fn join(alloc: Global, clock: &mut Clock, words: &str) -> Result<String, Fail> {
+    let other = clock_of(alloc, words)?;
+    said(alloc, clock.join(&other))
+}
+
+/// Counts one more operation of a replica.
+fn advance(alloc: Global, clock: &mut Clock, words: &str) -> Result<String, Fail> {
+    let replica = replica(words.parse()?)?;
+    said(alloc, clock.advance(replica))
+}
+
+/// How many operations of a replica a copy of a clock counts.
+fn count(alloc: Global, clock: &Clock, words: &str) -> Result<String, Fail> {
+    let replica = replica(words.parse()?)?;
+    let count = clock.copy()?.get(replica);
+    Ok(format!(in alloc; "{count}")?)
+}
+
+/// Whether an operation of the first replica with deps of these counts may come behind a clock.
+fn is_ready(alloc: Global, clock: &Clock, words: &str) -> Result<bool, Fail> {
+    let deps = clock_of(alloc, words)?;
+    Ok(clock.ready(replica(1)?, &deps))
+}
+
+impl World for Clock {
+    fn answer(&mut self, alloc: Global, command: &str, words: &str) -> Result<String, Fail> {
+        match command {
+            "set" => set(alloc, self, words),
+            "copy" => told(alloc, is_copied(self)),
+            "is" => told(alloc, is_equal(alloc, self, words)),
+            "get" => count(alloc, self, words),
+            "advance" => advance(alloc, self, words),
+            "join" => join(alloc, self, words),
+            "ready" => told(alloc, is_ready(alloc, self, words)),
+            "try" => told(alloc, is_clock(alloc, words)),
+            _ => Err("no such command".into()),
+        }
+    }
+}
+
+/// Plays rows over an empty clock.
+fn plays(rt: &HostRuntime, rows: &str) -> Result<(), Fail> {
+    play(rt.alloc(), &mut Clock::new(rt.alloc()), rows)
 }
 
 #[test]
 fn a_copy_has_the_same_counts(rt: HostRuntime) -> Result<(), Fail> {
-    let nine = replica(9)?;
-    let clock = clock_of(&rt, &[(1, 5), (9, 16_777_216)])?;
-    let copy = clock.copy()?;
-    assert!(rt; copy == *clock);
-    assert_eq!(rt; copy.get(nine), 16_777_216);
-    Ok(())
+    plays(
+        &rt,
+        "set 1=5 9=16777216
+        copy : true
+        get 9 : 16777216",
+    )
 }
 
 #[test]
 fn advancing_puts_replicas_in_order(rt: HostRuntime) -> Result<(), Fail> {
-    let mut clock = clock_of(&rt, &[])?;
-    for last in [9, 1, 5, 1] {
-        clock.advance(replica(last)?)?;
-    }
-    assert!(rt; clock == clock_of(&rt, &[(1, 2), (5, 1), (9, 1)])?);
-    Ok(())
+    plays(
+        &rt,
+        "advance 9
+        advance 1
+        advance 5
+        advance 1
+        is 1=2 5=1 9=1 : true",
+    )
 }
 
 #[test]
 fn joining_takes_the_greater_counts(rt: HostRuntime) -> Result<(), Fail> {
-    let other = clock_of(&rt, &[(1, 3), (2, 4), (5, 6)])?;
-    let mut clock = clock_of(&rt, &[(1, 2), (5, 7)])?;
-    clock.join(&other)?;
-    assert!(rt; clock == clock_of(&rt, &[(1, 3), (2, 4), (5, 7)])?);
-    Ok(())
+    plays(
+        &rt,
+        "set 1=2 5=7
+        join 1=3 2=4 5=6
+        is 1=3 2=4 5=7 : true",
+    )
 }
 
 #[test]
 fn a_seventeenth_replica_is_refused(rt: HostRuntime) -> Result<(), Fail> {
-    let other = clock_of(&rt, &[(17, 1)])?;
-    let seventeenth = replica(17)?;
-    let mut clock = clock_of(&rt, &[])?;
-    for last in 1..17u8 {
-        clock.advance(replica(last)?)?;
-    }
-    let before = clock.copy()?;
-    let advanced = clock.advance(seventeenth);
-    assert_eq!(rt; advanced.map_err(ClockError::number), Err(7));
-    assert_eq!(rt; clock.join(&other).map_err(ClockError::number), Err(7));
-    assert!(rt; *clock == before);
-    Ok(())
+    plays(
+        &rt,
+        "advance 1
+        advance 2
+        advance 3
+        advance 4
+        advance 5
+        advance 6
+        advance 7
+        advance 8
+        advance 9
+        advance 10
+        advance 11
+        advance 12
+        advance 13
+        advance 14
+        advance 15
+        advance 16
+        advance 17 : 7
+        join 17=1 : 7
+        is 1=1 2=1 3=1 4=1 5=1 6=1 7=1 8=1 9=1 10=1 11=1 12=1 13=1 14=1 15=1 16=1 : true",
+    )
 }
 
 #[test]
 fn a_count_above_the_last_is_refused(rt: HostRuntime) -> Result<(), Fail> {
-    let one = replica(1)?;
-    let mut clock = clock_of(&rt, &[(1, 16_777_215)])?;
-    clock.advance(one)?;
-    assert_eq!(rt; clock.advance(one).map_err(ClockError::number), Err(7));
-    assert_eq!(rt; clock.get(one), 16_777_216);
-    Ok(())
+    plays(
+        &rt,
+        "set 1=16777215
+        advance 1
+        advance 1 : 7
+        get 1 : 16777216",
+    )
 }
 
 #[test]
 fn an_operation_waits_for_what_it_depends_on(rt: HostRuntime) -> Result<(), Fail> {
-    let one = replica(1)?;
-    let deps = clock_of(&rt, &[(1, 1), (2, 3)])?;
-    assert!(rt; clock_of(&rt, &[(1, 1), (2, 3), (4, 1)])?.ready(one, &deps));
-    assert!(rt; !clock_of(&rt, &[(1, 1), (2, 2)])?.ready(one, &deps));
-    assert!(rt; !clock_of(&rt, &[(1, 2), (2, 3)])?.ready(one, &deps));
-    Ok(())
+    plays(
+        &rt,
+        "set 1=1 2=3 4=1
+        ready 1=1 2=3 : true
+        set 1=1 2=2
+        ready 1=1 2=3 : false
+        set 1=2 2=3
+        ready 1=1 2=3 : false",
+    )
 }
 
 #[test]
 fn entries_that_are_no_clock_are_refused(rt: HostRuntime) -> Result<(), Fail> {
-    assert!(rt; try_clock(&rt, &[(1, 1), (2, 1)])?.is_some());
-    assert!(rt; try_clock(&rt, &[(2, 1), (1, 1)])?.is_none());
-    assert!(rt; try_clock(&rt, &[(1, 1), (1, 1)])?.is_none());
-    assert!(rt; try_clock(&rt, &[(1, 0), (2, 1)])?.is_none());
-    assert!(rt; try_clock(&rt, &[(1, 1), (2, 16_777_217)])?.is_none());
-    Ok(())
+    plays(
+        &rt,
+        "try 1=1 2=1 : true
+        try 2=1 1=1 : false
+        try 1=1 1=1 : false
+        try 1=0 2=1 : false
+        try 1=1 2=16777217 : false",
+    )
 }

@@ -35,3 +35,5 @@ mod test_links;
 mod test_names;
 #[cfg(test)]
 mod test_ops;
+#[cfg(test)]
+mod test_rows;

@@ -1,65 +1,29 @@
 //! Lists of operations that are held as records.
-use crate::test_names::{id, place};
+use crate::record_tests::is_front;
+use crate::test_names::id;
+use crate::test_ops::ops;
+use crate::test_rows::{World, counted, play, told, two_of};
 use change_codec::{Format, put_ops, stream_length};
 use op_list::OpList;
-use op_model::{Anchor, Body, CommentId, End, Mark, MarkKey, Op, Start, Url};
+use op_model::Op;
 use std::alloc::Global;
 use std::test::Fail;
 
-pub(crate) fn op(alloc: Global, counter: u64, body: Body) -> Result<Op, Fail> {
-    let (id, deps) = place(alloc, counter)?;
-    Ok(Op {
-        id,
-        doc: 7,
-        token: None,
-        deps,
-        body,
-    })
-}
-
-pub(crate) fn insert(alloc: Global) -> Result<Op, Fail> {
-    let body = Body::Insert {
-        origin: None,
-        value: 'é',
-    };
-    op(alloc, 1, body)
-}
-
-pub(crate) fn remove(alloc: Global) -> Result<Op, Fail> {
-    let body = Body::Remove { target: id(1)? };
-    op(alloc, 2, body)
-}
-
-pub(crate) fn link(alloc: Global) -> Result<Op, Fail> {
-    let body = Body::AddMark {
-        mark: Mark::Link(Url::new(String::from_str(alloc, "é")?).ok_or("url")?),
-        start: Start::From(Anchor::Before(id(1)?)),
-        end: End::OfText,
-    };
-    op(alloc, 3, body)
-}
-
-fn no_comment(alloc: Global) -> Result<Op, Fail> {
-    let body = Body::RemoveMark {
-        key: MarkKey::Comment(CommentId::read([9; 16])),
-        start: Start::OfText,
-        end: End::To(Anchor::After(id(1)?)),
-    };
-    op(alloc, 4, body)
-}
-
 /// One operation of each kind.
-pub(crate) fn each_kind(alloc: Global) -> Result<Vec<Op>, Fail> {
-    let mut ops = Vec::new(alloc);
-    ops.push(insert(alloc)?)?;
-    ops.push(remove(alloc)?)?;
-    ops.push(link(alloc)?)?;
-    ops.push(no_comment(alloc)?)?;
-    Ok(ops)
+const EACH_KIND: &str = "1 insert 0 é
+    2 remove
+    3 mark link-to-the-end
+    4 unmark comment";
+
+/// Operations, and a list of them.
+#[derive(Drop)]
+struct Listed {
+    ops: Vec<Op>,
+    list: OpList,
 }
 
 /// The operations, held.
-pub(crate) fn list_of(alloc: Global, ops: &[Op]) -> Result<OpList, Fail> {
+fn list_of(alloc: Global, ops: &[Op]) -> Result<OpList, Fail> {
     if stream_length(ops) > 1_000 {
         Err("too long")?;
     }
@@ -68,94 +32,138 @@ pub(crate) fn list_of(alloc: Global, ops: &[Op]) -> Result<OpList, Fail> {
     Ok(list)
 }
 
-/// What is read of the first bytes, or the number of its refusal.
-fn read(alloc: Global, mut records: Vec<u8>, len: usize) -> Result<OpList, u8> {
-    records.truncate(len);
+/// Whether the i-th operation that is held is the i-th one.
+fn is_got(alloc: Global, listed: &Listed, i: usize) -> Result<bool, Fail> {
+    let slice = listed.list.as_slice();
+    if i >= slice.len() {
+        return Err("too many".into());
+    }
+    let expected = listed.ops.get(i).ok_or("too many")?;
+    Ok(slice.get(alloc, i)? == *expected)
+}
+
+/// Whether the i-th operation that is held has the name of the i-th one; its document, and whether
+/// it is an insert.
+fn head(alloc: Global, listed: &Listed, i: usize) -> Result<String, Fail> {
+    let slice = listed.list.as_slice();
+    if i >= slice.len() {
+        return Err("too many".into());
+    }
+    let head = slice.head(i);
+    let (is_named, doc, is_insert) = (head.id == id(i as u64 + 1)?, head.doc, head.is_insert);
+    Ok(format!(in alloc; "{is_named} {doc} {is_insert}")?)
+}
+
+/// Whether a copy of the first `end` held operations from the n-th on is of these operations.
+fn is_copied(listed: &Listed, end: usize, n: usize) -> Result<bool, Fail> {
+    let slice = listed.list.as_slice();
+    if end > slice.len() || n > end {
+        return Err("too many".into());
+    }
+    let copy = slice.front(end).copy_from(listed.list.allocator(), n)?;
+    let expected = listed.ops.get(n..end).ok_or("too many")?;
+    Ok(copy.as_slice() == expected)
+}
+
+/// What is read of these bytes, or the number of its refusal.
+fn read(alloc: Global, records: Vec<u8>) -> Result<OpList, u8> {
     if records.as_slice().len() > 1_000 {
         return Err(0);
     }
     OpList::read(alloc, Format::Third, records).map_err(|fault| fault.number())
 }
 
+/// Whether a copy of a list is of these operations.
+fn have(alloc: Global, list: &OpList, ops: &[Op]) -> Result<bool, Fail> {
+    Ok(list.as_slice().copy_from(alloc, 0)?.as_slice() == ops)
+}
+
+/// Whether the operations' records without so many bytes are read as the operations, or the number
+/// of the refusal.
+fn read_without(alloc: Global, ops: &[Op], less: usize) -> Result<String, Fail> {
+    let mut records = Vec::new(alloc);
+    put_ops(ops, &mut records)?;
+    records.truncate(records.len().saturating_sub(less));
+    match read(alloc, records) {
+        Ok(list) => told(alloc, have(alloc, &list, ops)),
+        Err(number) => counted(alloc, usize::from(number)),
+    }
+}
+
+/// Cuts a list, and tells how long it is then.
+fn truncate(alloc: Global, list: &mut OpList, n: usize) -> Result<String, Fail> {
+    list.truncate(n);
+    counted(alloc, list.len())
+}
+
+impl World for Listed {
+    fn answer(&mut self, alloc: Global, command: &str, words: &str) -> Result<String, Fail> {
+        let (first, second) = two_of(words)?;
+        match command {
+            "len" => counted(alloc, self.list.len()),
+            "get" => told(alloc, is_got(alloc, self, first)),
+            "head" => head(alloc, self, first),
+            "copy" => told(alloc, is_copied(self, first, second)),
+            "cut" => truncate(alloc, &mut self.list, first),
+            "read" => read_without(alloc, &self.ops, first),
+            "front" => told(alloc, is_front(alloc, &self.list, first)),
+            _ => Err("no such command".into()),
+        }
+    }
+}
+
+/// Plays rows over a list of one operation of each kind.
+pub(crate) fn plays(rt: &HostRuntime, rows: &str) -> Result<(), Fail> {
+    let ops = ops(rt.alloc(), 7, EACH_KIND)?;
+    let list = list_of(rt.alloc(), &ops)?;
+    play(rt.alloc(), &mut Listed { ops, list }, rows)
+}
+
 #[test]
 fn operations_of_each_kind_are_read_back(rt: HostRuntime) -> Result<(), Fail> {
-    let alloc = rt.alloc();
-    let ops = each_kind(alloc)?;
-    let list = list_of(alloc, &ops)?;
-    let slice = list.as_slice();
-    assert_eq!(rt; slice.len(), 4);
-    for i in 0..slice.len() {
-        let expected = ops.get(i).ok_or("too many")?;
-        assert_eq!(rt; slice.get(alloc, i)?, *expected);
-    }
-    Ok(())
+    plays(
+        &rt,
+        "len : 4
+        get 0 : true
+        get 1 : true
+        get 2 : true
+        get 3 : true",
+    )
 }
 
 #[test]
 fn heads_are_those_of_the_operations(rt: HostRuntime) -> Result<(), Fail> {
-    let alloc = rt.alloc();
-    let ops = each_kind(alloc)?;
-    let list = list_of(alloc, &ops)?;
-    let slice = list.as_slice();
-    for i in 0..slice.len() {
-        let head = slice.head(i);
-        assert_eq!(rt; head.id, id(i as u64 + 1)?);
-        assert_eq!(rt; head.doc, 7);
-        assert_eq!(rt; head.is_insert, i == 0);
-    }
-    Ok(())
+    plays(
+        &rt,
+        "len : 4
+        head 0 : true 7 true
+        head 1 : true 7 false
+        head 2 : true 7 false
+        head 3 : true 7 false",
+    )
 }
 
 #[test]
 fn the_rest_is_copied(rt: HostRuntime) -> Result<(), Fail> {
-    let alloc = rt.alloc();
-    let list = list_of(alloc, &each_kind(alloc)?)?;
-    let mut expected = Vec::new(alloc);
-    expected.push(remove(alloc)?)?;
-    expected.push(link(alloc)?)?;
-    if list.len() < 4 {
-        return Err("a short list".into());
-    }
-    let rest = list.as_slice().front(3).copy_from(alloc, 1)?;
-    assert_eq!(rt; rest, expected);
-    Ok(())
+    plays(&rt, "copy 3 1 : true")
 }
 
 #[test]
 fn a_list_is_cut(rt: HostRuntime) -> Result<(), Fail> {
-    let alloc = rt.alloc();
-    let mut ops = each_kind(alloc)?;
-    let mut list = list_of(alloc, &ops)?;
-    list.truncate(9);
-    assert_eq!(rt; list.len(), 4);
-    list.truncate(2);
-    ops.truncate(2);
-    assert_eq!(rt; list.as_slice().copy_from(list.allocator(), 0)?, ops);
-    Ok(())
+    plays(
+        &rt,
+        "cut 9 : 4
+        cut 2 : 2
+        copy 2 0 : true",
+    )
 }
 
 #[test]
 fn records_are_read(rt: HostRuntime) -> Result<(), Fail> {
-    let alloc = rt.alloc();
-    let ops = each_kind(alloc)?;
-    let mut records = Vec::new(alloc);
-    put_ops(&ops, &mut records)?;
-    let len = records.len();
-    let list = read(alloc, records, len).map_err(|_| "no list")?;
-    assert_eq!(rt; list.as_slice().copy_from(alloc, 0)?, ops);
-    Ok(())
+    plays(&rt, "read 0 : true")
 }
 
 #[test]
 fn a_cut_record_is_refused(rt: HostRuntime) -> Result<(), Fail> {
-    let alloc = rt.alloc();
-    let ops = each_kind(alloc)?;
-    let mut records = Vec::new(alloc);
-    put_ops(&ops, &mut records)?;
-    let len = records.len();
-    match read(alloc, records, len.saturating_sub(1)) {
-        Ok(_) => Err("a list")?,
-        Err(number) => assert_eq!(rt; number, 46),
-    }
-    Ok(())
+    plays(&rt, "read 1 : 46")
 }

@@ -1,5 +1,6 @@
 //! How a list is cut into pieces.
 use crate::test_names::replica;
+use crate::test_rows::{World, play, told, two_of};
 use op_ids::{Clock, OpId};
 use op_model::{Body, Op};
 use op_pieces::{Piece, cut};
@@ -24,59 +25,88 @@ fn typed(alloc: Global, counter: u64, value: char) -> Result<Op, Fail> {
     })
 }
 
-/// How many characters stand behind the first operation of each piece of so many typed ones, where
-/// the k-th is of another document.
-fn lengths(alloc: Global, count: u64, other: u64) -> Result<Vec<usize>, Fail> {
+/// So many typed characters, where the k-th is of another document: `5 3`.
+fn ops(alloc: Global, words: &str) -> Result<Vec<Op>, Fail> {
+    let (count, other) = two_of(words)?;
     let mut ops = Vec::new(alloc);
-    for counter in 1..=count {
+    for counter in 1..=count as u64 {
         let mut op = typed(alloc, counter, 'a')?;
-        if counter == other {
+        if counter == other as u64 {
             op.doc = 2;
         }
         ops.push(op)?;
     }
+    Ok(ops)
+}
+
+/// How many characters stand behind the first operation of each piece of operations.
+fn lengths(alloc: Global, ops: &[Op]) -> Result<Vec<usize>, Fail> {
     let mut found = Vec::new(alloc);
-    for piece in &cut(alloc, &ops)? {
+    for piece in &cut(alloc, ops)? {
         found.push(piece.others().len())?;
     }
     Ok(found)
 }
 
+/// The same of operations that words say, as text.
+fn lengths_of(alloc: Global, words: &str) -> Result<String, Fail> {
+    let found = lengths(alloc, &ops(alloc, words)?)?;
+    Ok(format!(in alloc; "{found:?}")?)
+}
+
+/// Whether a piece of one operation is that one, and of no others.
+fn is_single(alloc: Global) -> Result<bool, Fail> {
+    let piece = Piece::new(typed(alloc, 1, 'a')?, Vec::new(alloc));
+    Ok(*piece.first() == typed(alloc, 1, 'a')? && piece.others().is_empty())
+}
+
+/// Whether operations are one piece, which stands for them.
+fn are_one_piece(alloc: Global, words: &str) -> Result<bool, Fail> {
+    let ops = ops(alloc, words)?;
+    let pieces = cut(alloc, &ops)?;
+    match pieces.as_slice() {
+        [piece] => Ok(piece.ops(alloc)? == ops),
+        _ => Ok(false),
+    }
+}
+
+/// Pieces need nothing to be held.
+#[derive(Drop)]
+struct Pieces;
+
+impl World for Pieces {
+    fn answer(&mut self, alloc: Global, command: &str, words: &str) -> Result<String, Fail> {
+        match command {
+            "lengths" => lengths_of(alloc, words),
+            "single" => told(alloc, is_single(alloc)),
+            "one" => told(alloc, are_one_piece(alloc, words)),
+            _ => Err("no such command".into()),
+        }
+    }
+}
+
 #[test]
 fn typed_characters_are_pieces_of_256(rt: HostRuntime) -> Result<(), Fail> {
-    let alloc = rt.alloc();
-    assert!(rt; lengths(alloc, 0, 0)?.is_empty());
-    assert!(rt; lengths(alloc, 1, 0)?.as_slice() == [0].as_slice());
-    assert!(rt; lengths(alloc, 257, 0)?.as_slice() == [255, 0].as_slice());
-    Ok(())
+    play(
+        rt.alloc(),
+        &mut Pieces,
+        "lengths 0 0 : []
+        lengths 1 0 : [0]
+        lengths 257 0 : [255, 0]",
+    )
 }
 
 #[test]
 fn another_document_ends_a_piece(rt: HostRuntime) -> Result<(), Fail> {
-    let alloc = rt.alloc();
-    assert!(rt; lengths(alloc, 5, 3)?.as_slice() == [1, 0, 1].as_slice());
-    Ok(())
+    play(rt.alloc(), &mut Pieces, "lengths 5 3 : [1, 0, 1]")
 }
 
 #[test]
 fn a_piece_of_no_others_is_one_operation(rt: HostRuntime) -> Result<(), Fail> {
-    let alloc = rt.alloc();
-    let piece = Piece::new(typed(alloc, 1, 'a')?, Vec::new(alloc));
-    assert!(rt; *piece.first() == typed(alloc, 1, 'a')?);
-    assert!(rt; piece.others().is_empty());
-    Ok(())
+    play(rt.alloc(), &mut Pieces, "single : true")
 }
 
 #[test]
 fn a_piece_stands_for_its_operations(rt: HostRuntime) -> Result<(), Fail> {
-    let alloc = rt.alloc();
-    let mut ops = Vec::new(alloc);
-    for counter in 1..=3 {
-        ops.push(typed(alloc, counter, 'a')?)?;
-    }
-    let mut pieces = cut(alloc, &ops)?;
-    let piece = pieces.pop().ok_or("no piece")?;
-    assert!(rt; pieces.is_empty());
-    assert_eq!(rt; piece.ops(alloc)?, ops);
-    Ok(())
+    play(rt.alloc(), &mut Pieces, "one 3 : true")
 }

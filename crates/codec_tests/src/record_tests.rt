@@ -1,5 +1,5 @@
 //! Lists that are held by their records alone.
-use crate::list_tests::{each_kind, list_of};
+use crate::list_tests::plays;
 use op_list::{OpList, Records};
 use std::alloc::Global;
 use std::test::Fail;
@@ -15,15 +15,26 @@ fn front_of(alloc: Global, list: &OpList, count: usize) -> Result<Records, Fail>
     Ok(records)
 }
 
-#[test]
-fn records_are_those_of_one_list(rt: HostRuntime) -> Result<(), Fail> {
-    let list = list_of(rt.alloc(), &each_kind(rt.alloc())?)?;
-    for count in 0..5 {
-        let front = front_of(rt.alloc(), &list, count)?;
-        assert_eq!(rt; front.len(), count as u64);
-        for n in 0..list.len().saturating_add(1) {
-            assert_eq!(rt; front.equals(&list.as_slice().front(n)), n == count);
+/// Whether the first `count` operations are so many, and equal that front of a list alone.
+pub(crate) fn is_front(alloc: Global, list: &OpList, count: usize) -> Result<bool, Fail> {
+    let front = front_of(alloc, list, count)?;
+    for n in 0..list.len().saturating_add(1) {
+        if front.equals(&list.as_slice().front(n)) != (n == count) {
+            return Ok(false);
         }
     }
-    Ok(())
+    Ok(front.len() == count as u64)
+}
+
+#[test]
+fn records_are_those_of_one_list(rt: HostRuntime) -> Result<(), Fail> {
+    plays(
+        &rt,
+        "len : 4
+        front 0 : true
+        front 1 : true
+        front 2 : true
+        front 3 : true
+        front 4 : true",
+    )
 }

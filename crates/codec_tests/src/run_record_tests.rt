@@ -1,6 +1,9 @@
 //! Records of runs to the byte, both ways, and those that are refused.
+use crate::test_bytes::bytes_of;
+use crate::test_names::replica;
+use crate::test_ops::token;
 use change_codec::Format;
-use op_ids::{Clock, OpId, ReplicaId, Token};
+use op_ids::{Clock, OpId};
 use op_model::{Body, Op};
 use op_pieces::{Piece, cut};
 use piece_codec::{put_piece, take_piece};
@@ -8,74 +11,21 @@ use std::alloc::Global;
 use std::process::Abort;
 use std::test::Fail;
 
-/// The sixteen bytes of the one replica of these tests.
-const NAME: &str = "00000000000040008000000000000001";
-
-/// The sixteen bytes of the token of these tests.
-const TOKEN: &str = "000000000000400080000000000000d1";
-
-/// What the run of a text has before its characters that is typed into a fresh store.
-const FIRST_FIELDS: &str = "05000000010000000000000001000000000000400080000000000000010000";
-
 /// An insert of "ab" into a fresh store.
 const AB: &str = "00000029 05 00000001 0000000000000001 A 00 00 0002 00000061 00000062";
 
 /// The same with a token.
 const WITH_TOKEN: &str = "00000039 15 00000001 0000000000000001 A 00 T 00 0002 00000061 00000062";
 
-/// Puts the bytes that hex digits say behind the others.
-fn push_digits(bytes: &mut Vec<u8>, digits: &str) -> Result<(), Fail> {
-    let mut high = None;
-    for digit in digits.chars() {
-        let value = (digit.to_digit(16).ok_or("a digit")? % 16) as u8;
-        match high {
-            None => high = Some(value),
-            Some(first) => {
-                bytes.push(first % 16 * 16 + value)?;
-                high = None;
-            }
-        }
-    }
-    Ok(())
-}
-
-/// The bytes that pieces of hex say, where `A` stands for the replica, `T` for the token, `N` for
-/// eight zeros and `F` for the first fields of a run.
-fn bytes_of(alloc: Global, pieces: &str) -> Result<Vec<u8>, Fail> {
-    let mut bytes = Vec::new(alloc);
-    for piece in pieces.split_whitespace() {
-        let digits = match piece {
-            "A" => NAME,
-            "T" => TOKEN,
-            "N" => "0000000000000000",
-            "F" => FIRST_FIELDS,
-            _ => piece,
-        };
-        push_digits(&mut bytes, digits)?;
-    }
-    Ok(bytes)
-}
-
-fn replica() -> Result<ReplicaId, Fail> {
-    let name = [0, 0, 0, 0, 0, 0, 0x40, 0, 0x80, 0, 0, 0, 0, 0, 0, 1];
-    Ok(ReplicaId::read(name).ok_or("nil")?)
-}
-
-/// The token of these tests, or none.
-fn token(has_token: bool) -> Option<Token> {
-    let name = [0, 0, 0, 0, 0, 0, 0x40, 0, 0x80, 0, 0, 0, 0, 0, 0, 0xd1];
-    if has_token { Token::read(name) } else { None }
-}
-
 /// The operation of a character that is typed behind so many others, the first of all.
 fn typed(alloc: Global, has_token: bool, others: u64, value: char) -> Result<Op, Fail> {
-    let replica = replica()?;
+    let replica = replica(1)?;
     let mut deps = Clock::new(alloc);
     deps.advance_by(replica, others)?;
     Ok(Op {
         id: OpId::try_new(others.saturating_add(1), replica).ok_or("counter")?,
         doc: 1,
-        token: token(has_token),
+        token: if has_token { token() } else { None },
         deps,
         body: Body::Insert {
             origin: OpId::try_new(others, replica),

@@ -1,33 +1,24 @@
 //! Lists of operations that are held as runs.
 ghost use Rattle.std.specs.Prelude.{◌≡◌, ◌++◌, OnOk};
 
-use crate::list_tests::{insert, link, op, remove};
 use crate::test_names::id;
+use crate::test_ops::{op, ops};
+use crate::test_rows::{World, nothing, play, told, two_of};
 use change_codec::stream_length;
-use op_model::{Body, Op};
+use op_model::Op;
 use run_list::RunList;
 use std::alloc::Global;
 use std::test::Fail;
 
-/// A character behind another one.
-fn typed(alloc: Global, counter: u64, origin: u64, value: char) -> Result<Op, Fail> {
-    let origin = Some(id(origin)?);
-    op(alloc, counter, Body::Insert { origin, value })
-}
-
 /// Two runs of characters, a remove between them, and a mark behind them.
-fn two_runs(alloc: Global) -> Result<Vec<Op>, Fail> {
-    let mut ops = Vec::new(alloc);
-    ops.push(insert(alloc)?)?;
-    ops.push(remove(alloc)?)?;
-    ops.push(link(alloc)?)?;
-    ops.push(typed(alloc, 4, 1, 'a')?)?;
-    ops.push(typed(alloc, 5, 4, 'b')?)?;
-    ops.push(typed(alloc, 6, 5, 'c')?)?;
-    ops.push(typed(alloc, 7, 5, 'd')?)?;
-    ops.push(typed(alloc, 8, 7, 'e')?)?;
-    Ok(ops)
-}
+const TWO_RUNS: &str = "1 insert 0 é
+    2 remove
+    3 mark link-to-the-end
+    4 insert 1 a
+    5 insert 4 b
+    6 insert 5 c
+    7 insert 5 d
+    8 insert 7 e";
 
 /// Puts operations behind a list, if both are short.
 fn put(list: &mut RunList, ops: &[Op]) -> Result<(), Fail>
@@ -55,66 +46,183 @@ fn put_rest(list: &mut RunList, other: &RunList, n: usize) -> Result<(), Fail> {
     Ok(())
 }
 
-#[test]
-fn what_was_typed_is_read_back(rt: HostRuntime) -> Result<(), Fail> {
-    let alloc = rt.alloc();
-    let ops = two_runs(alloc)?;
-    let mut list = RunList::new(alloc);
+/// Operations, and a list of them.
+#[derive(Drop)]
+struct Runs {
+    ops: Vec<Op>,
+    list: RunList,
+}
+
+/// Makes room, and puts operations behind a list, one by one.
+fn put_each(alloc: Global, list: &mut RunList, ops: &[Op]) -> Result<String, Fail> {
     list.reserve(8, 1_000)?;
-    for op in &ops {
-        put(&mut list, std::slice::from_ref(op))?;
+    for op in ops {
+        put(list, std::slice::from_ref(op))?;
     }
-    assert_eq!(rt; list.records_length(), stream_length(&ops));
+    nothing(alloc)
+}
+
+/// Puts operations behind a list at once.
+fn put_all(alloc: Global, list: &mut RunList, ops: &[Op]) -> Result<String, Fail> {
+    put(list, ops)?;
+    nothing(alloc)
+}
+
+/// Whether the i-th operation that is held is the i-th one, and has no token.
+fn is_held(runs: &Runs, i: usize) -> Result<bool, Fail> {
+    let slice = runs.list.as_slice();
+    if i >= slice.len() {
+        return Err("too many".into());
+    }
+    let expected = runs.ops.get(i).ok_or("too many")?;
+    Ok(slice.token(i).is_none() && slice.get(i)? == *expected)
+}
+
+/// Whether the i-th operation that is held has the name of the i-th one; its document, and whether
+/// it is an insert.
+fn head(alloc: Global, list: &RunList, i: usize) -> Result<String, Fail> {
     let slice = list.as_slice();
-    assert_eq!(rt; slice.len(), 8);
-    for i in 0..slice.len() {
-        let expected = ops.get(i).ok_or("too many")?;
-        assert_eq!(rt; slice.get(i)?, *expected);
-        let head = slice.head(i);
-        assert_eq!(rt; head.id, id(i as u64 + 1)?);
-        assert_eq!(rt; head.doc, 7);
-        assert_eq!(rt; head.is_insert, i != 1 && i != 2);
-        assert!(rt; slice.token(i).is_none());
+    if i >= slice.len() {
+        return Err("too many".into());
+    }
+    let head = slice.head(i);
+    let (is_named, doc, is_insert) = (head.id == id(i as u64 + 1)?, head.doc, head.is_insert);
+    Ok(format!(in alloc; "{is_named} {doc} {is_insert}")?)
+}
+
+/// How many operations are held, and whether their records are as long as those of the operations.
+fn length(alloc: Global, runs: &Runs) -> Result<String, Fail> {
+    let count = runs.list.as_slice().len();
+    let is_so = runs.list.records_length() == stream_length(&runs.ops);
+    Ok(format!(in alloc; "{count} {is_so}")?)
+}
+
+/// Puts one more operation behind a list, and cuts it off again.
+fn cut(alloc: Global, list: &mut RunList) -> Result<String, Fail> {
+    let more = op(alloc, 7, "9 insert 8 f")?;
+    let end = list.end();
+    put(list, std::slice::from_ref(&more))?;
+    list.cut(end);
+    nothing(alloc)
+}
+
+/// Whether a copy of the first `end` held operations is of these operations.
+fn is_copied(alloc: Global, runs: &Runs, end: usize) -> Result<bool, Fail> {
+    let slice = runs.list.as_slice();
+    if end > slice.len() {
+        return Err("too many".into());
+    }
+    let copy = slice.front(end).copy_from(alloc, 0)?;
+    Ok(copy.as_slice() == runs.ops.get(..end).ok_or("too many")?)
+}
+
+/// Whether a list equals no front of another but the first `n` operations.
+fn is_front(list: &RunList, other: &RunList, n: usize) -> bool {
+    for k in 0..other.len().saturating_add(1) {
+        if list.equals(&other.as_slice().front(k)) != (k == n) {
+            return false;
+        }
+    }
+    true
+}
+
+/// Puts the first `n` operations of another list behind a list, one by one.
+fn put_front(list: &mut RunList, other: &RunList, n: usize) -> Result<(), Fail> {
+    if n > other.len() {
+        return Err("too many".into());
+    }
+    let front = other.as_slice().front(n);
+    for i in 0..n {
+        put(list, std::slice::from_ref(&front.get(i)?))?;
     }
     Ok(())
+}
+
+/// Whether the first `n` operations put one by one are held as that front alone, and with the rest
+/// behind them as the list.
+fn is_one_way(alloc: Global, list: &RunList, n: usize) -> Result<bool, Fail> {
+    let mut other = RunList::new(alloc);
+    put_front(&mut other, list, n)?;
+    let is_first = is_front(&other, list, n);
+    put_rest(&mut other, list, n)?;
+    Ok(is_first && other.equals(&list.as_slice()))
+}
+
+impl World for Runs {
+    fn answer(&mut self, alloc: Global, command: &str, words: &str) -> Result<String, Fail> {
+        let (n, _) = two_of(words)?;
+        match command {
+            "each" => put_each(alloc, &mut self.list, &self.ops),
+            "all" => put_all(alloc, &mut self.list, &self.ops),
+            "length" => length(alloc, self),
+            "held" => told(alloc, is_held(self, n)),
+            "head" => head(alloc, &self.list, n),
+            "cut" => cut(alloc, &mut self.list),
+            "copy" => told(alloc, is_copied(alloc, self, n)),
+            "one-way" => told(alloc, is_one_way(alloc, &self.list, n)),
+            _ => Err("no such command".into()),
+        }
+    }
+}
+
+/// Plays rows over an empty list and two runs of operations.
+fn plays(rt: &HostRuntime, rows: &str) -> Result<(), Fail> {
+    let ops = ops(rt.alloc(), 7, TWO_RUNS)?;
+    let list = RunList::new(rt.alloc());
+    play(rt.alloc(), &mut Runs { ops, list }, rows)
+}
+
+#[test]
+fn what_was_typed_is_read_back(rt: HostRuntime) -> Result<(), Fail> {
+    plays(
+        &rt,
+        "each
+        length : 8 true
+        held 0 : true
+        head 0 : true 7 true
+        held 1 : true
+        head 1 : true 7 false
+        held 2 : true
+        head 2 : true 7 false
+        held 3 : true
+        head 3 : true 7 true
+        held 4 : true
+        head 4 : true 7 true
+        held 5 : true
+        head 5 : true 7 true
+        held 6 : true
+        head 6 : true 7 true
+        held 7 : true
+        head 7 : true 7 true",
+    )
 }
 
 #[test]
 fn a_list_of_runs_is_cut(rt: HostRuntime) -> Result<(), Fail> {
-    let alloc = rt.alloc();
-    let mut ops = two_runs(alloc)?;
-    let mut list = RunList::new(alloc);
-    put(&mut list, &ops)?;
-    let end = list.end();
-    let more = typed(alloc, 9, 8, 'f')?;
-    put(&mut list, std::slice::from_ref(&more))?;
-    list.cut(end);
-    let front = list.as_slice();
-    assert_eq!(rt; front.copy_from(alloc, 0)?, ops);
-    if front.len() < 5 {
-        return Err("a short list".into());
-    }
-    ops.truncate(5);
-    assert_eq!(rt; front.front(5).copy_from(alloc, 0)?, ops);
-    Ok(())
+    plays(
+        &rt,
+        "all
+        cut
+        length : 8 true
+        copy 8 : true
+        copy 5 : true",
+    )
 }
 
 #[test]
 fn each_list_is_held_in_one_way(rt: HostRuntime) -> Result<(), Fail> {
-    let alloc = rt.alloc();
-    let mut list = RunList::new(alloc);
-    put(&mut list, &two_runs(alloc)?)?;
-    for n in 0..list.len().saturating_add(1) {
-        let mut other = RunList::new(alloc);
-        let front = list.as_slice().front(n);
-        for i in 0..n {
-            put(&mut other, std::slice::from_ref(&front.get(i)?))?;
-        }
-        for k in 0..list.len().saturating_add(1) {
-            assert_eq!(rt; other.equals(&list.as_slice().front(k)), k == n);
-        }
-        put_rest(&mut other, &list, n)?;
-        assert!(rt; other.equals(&list.as_slice()));
-    }
-    Ok(())
+    plays(
+        &rt,
+        "all
+        length : 8 true
+        one-way 0 : true
+        one-way 1 : true
+        one-way 2 : true
+        one-way 3 : true
+        one-way 4 : true
+        one-way 5 : true
+        one-way 6 : true
+        one-way 7 : true
+        one-way 8 : true",
+    )
 }

@@ -1,32 +1,20 @@
 //! Streams of single records, written and read.
-use crate::test_bytes::{bytes_of, push_pieces};
+use crate::test_bytes::bytes_of;
 use crate::test_names::id;
-use crate::test_ops::{FIRST_INSERT, SECOND_INSERT, STRONG_TO_THE_END};
+use crate::test_rows::{World, counted, play, told};
 use change_codec::{Format, Head, Kind, put_ops, record_head, skip_op, stream_length, take_ops};
 use op_model::Op;
 use std::alloc::Global;
 use std::test::Fail;
 
-/// The bytes of the first insert, and others behind them.
-fn behind_the_first(alloc: Global, pieces: &str) -> Result<Vec<u8>, Fail> {
-    let mut bytes = bytes_of(alloc, FIRST_INSERT)?;
-    push_pieces(&mut bytes, pieces)?;
-    Ok(bytes)
-}
-
-/// How many operations a stream has, or none where it isn't one.
-fn count_of(alloc: Global, bytes: &[u8]) -> Option<usize> {
+/// How many operations a stream has, or the number of its refusal.
+fn taken(alloc: Global, bytes: &[u8]) -> Result<String, Fail> {
     match take_ops(alloc, Format::Third, bytes) {
-        Ok(ops) => Some(ops.len()),
-        Err(_) => None,
-    }
-}
-
-/// Whether a stream of these operations has this length, and the first one's record this one.
-fn have_lengths(ops: &[Op], stream: u64, first: u64) -> bool {
-    match ops.first() {
-        Some(op) => stream_length(ops) == stream && op.record_length() == first,
-        None => false,
+        Ok(ops) => {
+            let count = ops.len();
+            Ok(format!(in alloc; "{count} operations")?)
+        }
+        Err(fault) => counted(alloc, usize::from(fault.number())),
     }
 }
 
@@ -36,54 +24,100 @@ fn are_written(alloc: Global, ops: &[Op], bytes: &[u8]) -> bool {
     put_ops(ops, &mut out).is_ok() && out.as_slice() == bytes
 }
 
-#[test]
-fn a_stream_is_written_and_read(rt: HostRuntime) -> Result<(), Fail> {
-    let alloc = rt.alloc();
-    let bytes = behind_the_first(alloc, SECOND_INSERT)?;
-    assert!(rt; count_of(alloc, &bytes) == Some(2));
-    let ops = take_ops(alloc, Format::First, &bytes)?;
-    assert!(rt; have_lengths(&ops, 126, 39));
-    assert!(rt; are_written(alloc, &ops, &bytes));
-    assert!(rt; count_of(alloc, &[]) == Some(0));
-    Ok(())
+/// Whether these operations are written as these bytes, the length that their stream has, and that
+/// of the first one's record.
+fn written(alloc: Global, ops: &[Op], bytes: &[u8]) -> Result<String, Fail> {
+    let stream = stream_length(ops);
+    let first = ops.first().ok_or("no operation")?.record_length();
+    let is_so = are_written(alloc, ops, bytes);
+    Ok(format!(in alloc; "{is_so} {stream} {first}")?)
 }
 
-/// The number of the refusal of a stream, or 0.
-fn stream_refusal(alloc: Global, bytes: &[u8]) -> u8 {
-    match take_ops(alloc, Format::Third, bytes) {
-        Ok(_) => 0,
-        Err(fault) => fault.number(),
-    }
+/// The same of the operations of a stream.
+fn rewritten(alloc: Global, bytes: &[u8]) -> Result<String, Fail> {
+    let ops = take_ops(alloc, Format::First, bytes)?;
+    written(alloc, &ops, bytes)
 }
 
-#[test]
-fn what_is_no_stream_is_refused(rt: HostRuntime) -> Result<(), Fail> {
-    let alloc = rt.alloc();
-    let bytes = behind_the_first(alloc, SECOND_INSERT)?;
+/// Whether no part of a stream up to a byte but the first 39 is a stream.
+fn are_cuts_refused(alloc: Global, bytes: &[u8]) -> bool {
     for end in 1..bytes.len() {
-        let is_whole = end == 39;
-        assert!(rt; (stream_refusal(alloc, &bytes[..end]) == 0) == is_whole);
+        if take_ops(alloc, Format::Third, &bytes[..end]).is_ok() != (end == 39) {
+            return false;
+        }
     }
-    let zeros = behind_the_first(alloc, "00000000")?;
-    assert!(rt; stream_refusal(alloc, &zeros) == 46);
-    Ok(())
-}
-
-#[test]
-fn a_record_is_passed_without_memory(rt: HostRuntime) -> Result<(), Fail> {
-    let bytes = bytes_of(rt.alloc(), STRONG_TO_THE_END)?;
-    assert_eq!(rt; skip_op(Format::First, &bytes), Some(85));
-    let head = head_of(&bytes)?;
-    assert!(rt; head.kind == Kind::AddMark);
-    assert!(rt; !head.has_token);
-    assert_eq!(rt; head.doc, 1);
-    assert_eq!(rt; head.id, id(2)?);
-    assert!(rt; skip_op(Format::First, &bytes[..bytes.len() / 2]).is_none());
-    Ok(())
+    true
 }
 
 /// What the record at the front begins with.
 fn head_of(bytes: &[u8]) -> Result<Head, Fail> {
     skip_op(Format::Third, bytes).ok_or("no record")?;
     Ok(record_head(bytes))
+}
+
+/// The same as text: whether it adds a mark, has a token, and is the second operation.
+fn head(alloc: Global, bytes: &[u8]) -> Result<String, Fail> {
+    let head = head_of(bytes)?;
+    let (is_mark, is_second) = (head.kind == Kind::AddMark, head.id == id(2)?);
+    let (has_token, doc) = (head.has_token, head.doc);
+    Ok(format!(in alloc; "{is_mark} {has_token} {doc} {is_second}")?)
+}
+
+/// The length of the record at the front of bytes, if there is one.
+fn passed(alloc: Global, bytes: &[u8]) -> Result<String, Fail> {
+    match skip_op(Format::First, bytes) {
+        Some(length) => counted(alloc, length),
+        None => Ok(String::from_str(alloc, "none")?),
+    }
+}
+
+/// Streams need nothing to be held.
+#[derive(Drop)]
+struct Streams;
+
+impl World for Streams {
+    fn answer(&mut self, alloc: Global, command: &str, words: &str) -> Result<String, Fail> {
+        let bytes = bytes_of(alloc, words)?;
+        match command {
+            "take" => taken(alloc, &bytes),
+            "written" => rewritten(alloc, &bytes),
+            "cuts" => told(alloc, Ok(are_cuts_refused(alloc, &bytes))),
+            "head" => head(alloc, &bytes),
+            "pass" => passed(alloc, &bytes),
+            "half" => passed(alloc, &bytes[..bytes.len() / 2]),
+            _ => Err("no such command".into()),
+        }
+    }
+}
+
+#[test]
+fn a_stream_is_written_and_read(rt: HostRuntime) -> Result<(), Fail> {
+    play(
+        rt.alloc(),
+        &mut Streams,
+        "take FIRST SECOND : 2 operations
+        written FIRST SECOND : true 126 39
+        take : 0 operations",
+    )
+}
+
+#[test]
+fn what_is_no_stream_is_refused(rt: HostRuntime) -> Result<(), Fail> {
+    play(
+        rt.alloc(),
+        &mut Streams,
+        "cuts FIRST SECOND : true
+        take FIRST 00000000 : 46",
+    )
+}
+
+#[test]
+fn a_record_is_passed_without_memory(rt: HostRuntime) -> Result<(), Fail> {
+    play(
+        rt.alloc(),
+        &mut Streams,
+        "pass STRONG : 85
+        head STRONG : true false 1 true
+        half STRONG : none",
+    )
 }

@@ -1,23 +1,10 @@
-//! Links that have just started, and what they are fed.
-use crate::test_names::replica;
-use causal_sync::{Link, LinkError};
+//! Links that have just started, and what they hear.
+use crate::test_names::{place, replica};
+use crate::test_ops::op;
+use causal_sync::{Heard, Link, LinkError, Ops};
+use op_ids::Clock;
 use std::alloc::Global;
 use std::test::Fail;
-
-pub(crate) const HELLO: &str = "00000013 01 0003 A";
-
-pub(crate) const EMPTY_HAVE: &str = "00000002 02 00";
-
-pub(crate) const HAVE: &str = "0000001a 02 01 A 0000000000000001";
-
-pub(crate) const BYE: &str = "00000001 04";
-
-pub(crate) const OPERATIONS: &str =
-    "0000002a 03 0001 00000023 01 00000001 0000000000000001 A 00 00 00000061";
-
-/// "ab", typed in one edit.
-pub(crate) const RUN: &str =
-    "00000030 03 0001 00000029 05 00000001 0000000000000001 A 00 00 0002 00000061 00000062";
 
 /// A link of a replica that has just started. In a box, so that a test which returns early drops a
 /// box: that a link is dropped is then proved once, and not at each return.
@@ -31,5 +18,60 @@ pub(crate) fn number(answer: Result<(), LinkError>) -> u8 {
     match answer {
         Ok(()) => 0,
         Err(fault) => fault.number(),
+    }
+}
+
+/// The clock of so many operations of the replica, at most one.
+pub(crate) fn clock(alloc: Global, count: u64) -> Result<Clock, Fail> {
+    let (_, clock) = place(alloc, count.saturating_add(1))?;
+    Ok(clock)
+}
+
+/// What operations are: the first insert, or both in one run.
+fn name_of_ops(alloc: Global, ops: &Ops) -> Result<&'static str, Fail> {
+    let [piece] = ops.as_slice() else {
+        return Ok("another");
+    };
+    if *piece.first() != op(alloc, 1, "1 insert 0 a")? {
+        return Ok("another");
+    }
+    Ok(match piece.others() {
+        [] => "operation",
+        ['b'] => "run",
+        _ => "another",
+    })
+}
+
+/// What a clock is: that of no operation, or of the first.
+fn name_of_clock(alloc: Global, found: &Clock) -> Result<&'static str, Fail> {
+    if found.is_empty() {
+        return Ok("empty have");
+    }
+    Ok(if *found == clock(alloc, 1)? {
+        "have"
+    } else {
+        "another"
+    })
+}
+
+/// What was heard, of the frames of a conversation.
+fn name_of(alloc: Global, heard: &Heard) -> Result<&'static str, Fail> {
+    match heard {
+        Heard::Hello(name) => Ok(if *name == replica(1)? {
+            "hello"
+        } else {
+            "another"
+        }),
+        Heard::Have(clock) => name_of_clock(alloc, clock),
+        Heard::Ops(ops) => name_of_ops(alloc, ops),
+        Heard::Bye => Ok("bye"),
+    }
+}
+
+/// What a link hears next, of the frames of a conversation.
+pub(crate) fn next_of(alloc: Global, link: &mut Link) -> Result<&'static str, Fail> {
+    match link.next() {
+        Some(heard) => name_of(alloc, &heard),
+        None => Ok("nothing"),
     }
 }

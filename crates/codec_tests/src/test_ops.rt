@@ -1,108 +1,95 @@
-//! Operations and records of these tests, and whether one is spelled by the other.
-use crate::test_names::place;
-use change_codec::{Format, put_op, take_op};
+//! Operations of these tests, each told by words.
+use crate::test_names::{id, place};
+use crate::test_rows::cut_number;
 use op_ids::{OpId, Token};
-use op_model::{Body, End, Mark, MarkKey, Op, Start, Url};
+use op_model::{Anchor, Body, CommentId, End, Mark, MarkKey, Op, Start, Url};
 use std::alloc::Global;
 use std::test::Fail;
 
-/// An insert of "a" without origin, the first operation of its replica.
-pub(crate) const FIRST_INSERT: &str = "00000023 01 00000001 0000000000000001 A 00 00 00000061";
+fn link(alloc: Global) -> Result<Mark, Fail> {
+    Ok(Mark::Link(Url::new(String::from_str(alloc, "é")?).ok_or("url")?))
+}
 
-/// An insert of "b" after it.
-pub(crate) const SECOND_INSERT: &str =
-    "00000053 01 00000001 0000000000000002 A 01 A 0000000000000001 01 0000000000000001 A 00000062";
+fn comment() -> Mark {
+    Mark::Comment(CommentId::read([0; 16]))
+}
 
-/// Both inserts as one record.
-pub(crate) const AB: &str = "00000029 05 00000001 0000000000000001 A 00 00 0002 00000061 00000062";
+/// An insert of a character behind the one with this counter, or at the start where that is 0.
+fn insert(words: &str) -> Result<Body, Fail> {
+    let (counter, value) = cut_number(words)?;
+    let origin = OpId::try_new(counter, id(1)?.replica());
+    let value = value.chars().next().ok_or("a character")?;
+    Ok(Body::Insert { origin, value })
+}
 
-/// Strong over "a" to the end of the text.
-pub(crate) const STRONG_TO_THE_END: &str =
-    "00000051 03 00000001 0000000000000002 A 01 A 0000000000000001 01 01 0000000000000001 A 03";
+/// A mark over the text, from "a" on or up to it.
+fn mark(alloc: Global, name: &str) -> Result<Body, Fail> {
+    let a = id(1)?;
+    let from_a = Start::From(Anchor::Before(a));
+    let (mark, start, end) = match name {
+        "strong" => (Mark::Strong, from_a, End::OfText),
+        "link" => (link(alloc)?, Start::OfText, End::To(Anchor::After(a))),
+        "link-to-the-end" => (link(alloc)?, from_a, End::OfText),
+        "comment" => (comment(), Start::OfText, End::OfText),
+        _ => Err("no such mark")?,
+    };
+    Ok(Body::AddMark { mark, start, end })
+}
 
-/// The first insert with the token of these tests.
-pub(crate) const WITH_TOKEN: &str = "00000033 11 00000001 0000000000000001 A 00 T 00 00000061";
+/// The same removed.
+fn no_mark(name: &str) -> Result<Body, Fail> {
+    let (key, end) = match name {
+        "strong" => (MarkKey::Strong, End::OfText),
+        "comment" => (
+            MarkKey::Comment(CommentId::read([9; 16])),
+            End::To(Anchor::After(id(1)?)),
+        ),
+        _ => Err("no such mark")?,
+    };
+    Ok(Body::RemoveMark {
+        key,
+        start: Start::OfText,
+        end,
+    })
+}
 
-/// The operation with this counter, which counts all before it. In a box, so that a test which
-/// returns early drops a box: that an operation is dropped is then proved once, and not at each
-/// return.
-fn op(alloc: Global, counter: u64, body: Body) -> Result<Box<Op>, Fail> {
+/// What an operation does: `insert 0 a`, `remove`, `mark strong` or `unmark strong`.
+fn body(alloc: Global, words: &str) -> Result<Body, Fail> {
+    let (kind, others) = words.split_once(' ').unwrap_or((words, ""));
+    match kind {
+        "insert" => insert(others),
+        "remove" => Ok(Body::Remove { target: id(1)? }),
+        "mark" => mark(alloc, others),
+        "unmark" => no_mark(others),
+        _ => Err("no such operation".into()),
+    }
+}
+
+/// The operation with this counter in this document, which counts one before it unless it is the
+/// first: `1 insert 0 a`.
+pub(crate) fn op(alloc: Global, doc: u32, words: &str) -> Result<Op, Fail> {
+    let (counter, does) = cut_number(words)?;
+    let body = body(alloc, does)?;
     let (id, deps) = place(alloc, counter)?;
-    let op = Op {
+    Ok(Op {
         id,
-        doc: 1,
+        doc,
         token: None,
         deps,
         body,
-    };
-    Ok(Box::new(alloc, op)?)
+    })
 }
 
-pub(crate) fn insert(
-    alloc: Global,
-    counter: u64,
-    origin: Option<OpId>,
-    value: char,
-) -> Result<Box<Op>, Fail> {
-    op(alloc, counter, Body::Insert { origin, value })
-}
-
-pub(crate) fn remove(alloc: Global, counter: u64, target: OpId) -> Result<Box<Op>, Fail> {
-    op(alloc, counter, Body::Remove { target })
-}
-
-pub(crate) fn add_mark(
-    alloc: Global,
-    counter: u64,
-    mark: Mark,
-    start: Start,
-    end: End,
-) -> Result<Box<Op>, Fail> {
-    op(alloc, counter, Body::AddMark { mark, start, end })
-}
-
-pub(crate) fn remove_mark(
-    alloc: Global,
-    counter: u64,
-    key: MarkKey,
-    start: Start,
-    end: End,
-) -> Result<Box<Op>, Fail> {
-    op(alloc, counter, Body::RemoveMark { key, start, end })
-}
-
-pub(crate) fn link(alloc: Global, url: &str) -> Result<Mark, Fail> {
-    Ok(Mark::Link(Url::new(String::from_str(alloc, url)?).ok_or("url")?))
-}
-
-/// The first insert with the token.
-pub(crate) fn with_token(alloc: Global) -> Result<Box<Op>, Fail> {
-    let (id, deps) = place(alloc, 1)?;
-    let name = [0, 0, 0, 0, 0, 0, 0x40, 0, 0x80, 0, 0, 0, 0, 0, 0, 0xd1];
-    let op = Op {
-        id,
-        doc: 1,
-        token: Token::read(name),
-        deps,
-        body: Body::Insert {
-            origin: None,
-            value: 'a',
-        },
-    };
-    Ok(Box::new(alloc, op)?)
-}
-
-/// Whether an operation is written as these bytes.
-pub(crate) fn is_written(alloc: Global, op: &Op, bytes: &[u8]) -> bool {
-    let mut out = Vec::new(alloc);
-    put_op(op, &mut out).is_ok() && out.as_slice() == bytes
-}
-
-/// Whether these bytes may go on to a record, and aren't one.
-pub(crate) fn is_unfinished(alloc: Global, bytes: &[u8]) -> bool {
-    match take_op(alloc, Format::Third, bytes) {
-        Ok(None) => true,
-        Ok(Some(_)) => false,
-        Err(_) => false,
+/// The operations that lines tell.
+pub(crate) fn ops(alloc: Global, doc: u32, lines: &str) -> Result<Vec<Op>, Fail> {
+    let mut ops = Vec::new(alloc);
+    for line in lines.lines() {
+        ops.push(op(alloc, doc, line.trim())?)?;
     }
+    Ok(ops)
+}
+
+/// The token of these tests.
+pub(crate) fn token() -> Option<Token> {
+    Token::read([0, 0, 0, 0, 0, 0, 0x40, 0, 0x80, 0, 0, 0, 0, 0, 0, 0xd1])
 }

@@ -1,5 +1,6 @@
 //! Orders over disks in memory whose calls fail.
-use crate::test_runs::{EDIT, made, run, written};
+use crate::test_runs::What::Order;
+use crate::test_runs::{EDIT, made, run, turn};
 use disk_trait::{FaultDisk, MemDisk};
 use std::alloc::Global;
 use std::io;
@@ -10,28 +11,20 @@ use store_orders::{perform, status};
 
 #[test]
 fn a_failed_device_ends_edits_and_not_readings(rt: HostRuntime) -> Result<(), Fail> {
-    let alloc = rt.alloc();
     // The calls of opening an empty store are a sync, a size and a read; the sixth call is the commit's first sync.
     let disk = FaultDisk::new(made(&rt)?, 6);
     let input =
         "{\"op\":\"insert\",\"doc\":1,\"at\":0,\"text\":\"a\"}\n{\"op\":\"insert\",\"doc\":1,\"at\":0,\"text\":\"b\"}\n{\"op\":\"text\",\"doc\":1}\n{\"op\":\"status\"}\n{\"op\":\"stop\"}\n{\"op\":\"insert\",\"doc\":1,\"at\":0,\"text\":\"c\"}\n";
-    let failed = run(alloc, &EDIT, disk, input);
     let text =
         "{\"code\":9,\"error\":\"failed\",\"ok\":false}\n{\"code\":9,\"error\":\"failed\",\"ok\":false}\n{\"ok\":true,\"rev\":1,\"text\":\"a\"}\n{\"applied\":1,\"ok\":true,\"settled\":0,\"state\":\"failed\"}\n{\"code\":9,\"error\":\"failed\",\"ok\":false}\n{\"code\":12,\"error\":\"stopping\",\"ok\":false}\n";
-    let disk = written(&rt, failed, 1, text, "peritext: 9 failed\n");
-    let opened = run(
-        alloc,
-        &EDIT,
-        disk.into_inner(),
-        "{\"op\":\"text\",\"doc\":1}\n",
-    );
-    written(
+    let disk = turn(
         &rt,
-        opened,
-        0,
-        "{\"ok\":true,\"rev\":0,\"text\":\"\"}\n",
-        "",
+        disk,
+        &(Order(EDIT, input), 1, text, "peritext: 9 failed\n"),
     );
+    let reading = Order(EDIT, "{\"op\":\"text\",\"doc\":1}\n");
+    let empty = "{\"ok\":true,\"rev\":0,\"text\":\"\"}\n";
+    turn(&rt, disk.into_inner(), &(reading, 0, empty, ""));
     Ok(())
 }
 
@@ -49,15 +42,22 @@ impl Write for NoOutput {
     }
 }
 
-#[test]
-fn a_failed_store_is_told_before_a_failed_output(rt: HostRuntime) -> Result<(), Fail> {
+/// What is told of an edit over an output that takes nothing, where the n-th device call fails.
+fn told(rt: &(impl Abort + AllocGlobal), n: u64) -> Result<(u8, Vec<u8>), Fail> {
     let alloc = rt.alloc();
     let input = "{\"op\":\"insert\",\"doc\":1,\"at\":0,\"text\":\"a\"}\n".as_bytes();
+    let disk = FaultDisk::new(made(rt)?, n);
+    let ended = perform(alloc, &EDIT, disk, input, &mut NoOutput);
+    let mut faults = Vec::new(alloc);
+    let status = status(alloc, ended.end, &mut faults);
+    Ok((status, faults))
+}
+
+#[test]
+fn a_failed_store_is_told_before_a_failed_output(rt: HostRuntime) -> Result<(), Fail> {
     for (call, due) in [(6, "peritext: 9 failed\n"), (0, "peritext: 71 stream\n")] {
-        let mut faults = Vec::new(alloc);
-        let disk = FaultDisk::new(made(&rt)?, call);
-        let ended = perform(alloc, &EDIT, disk, input, &mut NoOutput);
-        assert_eq!(rt; status(alloc, ended.end, &mut faults), 1);
+        let (status, faults) = told(&rt, call)?;
+        assert_eq!(rt; status, 1);
         assert!(rt; faults.as_slice() == due.as_bytes(), "{faults:?}");
     }
     Ok(())
@@ -104,12 +104,10 @@ fn a_device_call_that_fails_is_told_wherever_it_comes(rt: HostRuntime) -> Result
         assert!(rt; ends_where_fails(&rt, n)?, "call {n}");
     }
     let unfailed = FaultDisk::new(made(&rt)?, 11);
-    let ran = run(
-        rt.alloc(),
-        &EDIT,
-        unfailed,
+    let insert = Order(
+        EDIT,
         "{\"op\":\"insert\",\"doc\":1,\"at\":0,\"text\":\"a\"}\n",
     );
-    written(&rt, ran, 0, "{\"ok\":true,\"rev\":1}\n", "");
+    turn(&rt, unfailed, &(insert, 0, "{\"ok\":true,\"rev\":1}\n", ""));
     Ok(())
 }

@@ -1,5 +1,6 @@
 //! Marks through sessions over disks in memory.
-use crate::test_runs::{EDIT, dumped, run, session, written};
+use crate::test_runs::What::{Dump, Order};
+use crate::test_runs::{EDIT, made, session, turns};
 use std::process::Abort;
 use std::test::Fail;
 
@@ -75,20 +76,35 @@ fn overlapping_marks_are_each_decided(rt: HostRuntime) -> Result<(), Fail> {
 
 #[test]
 fn marks_are_there_after_opening_again(rt: HostRuntime) -> Result<(), Fail> {
-    let disk = session(
+    turns(
         &rt,
-        "{\"op\":\"insert\",\"doc\":1,\"at\":0,\"text\":\"abc\"}\n{\"op\":\"mark\",\"doc\":1,\"from\":0,\"to\":2,\"kind\":\"link\",\"url\":\"u\"}\n{\"op\":\"mark\",\"doc\":1,\"from\":1,\"to\":3,\"kind\":\"comment\",\"id\":\"00000000-0000-4000-8000-0000000000c2\"}\n{\"op\":\"delete\",\"doc\":1,\"at\":1,\"count\":1}\n",
-        "{\"ok\":true,\"rev\":3}\n{\"ok\":true,\"rev\":4}\n{\"ok\":true,\"rev\":5}\n{\"ok\":true,\"rev\":6}\n",
-    )?;
-    let shown = dumped(rt.alloc(), 1, disk);
-    let seen =
-        "{\"ok\":true,\"rev\":6,\"text\":\"ac\"}\n{\"ok\":true,\"rev\":6,\"spans\":[{\"link\":\"u\",\"text\":\"a\"},{\"comments\":[\"00000000-0000-4000-8000-0000000000c2\"],\"text\":\"c\"}]}\n";
-    let disk = written(&rt, shown, 0, seen, "");
-    let input =
-        "{\"op\":\"insert\",\"doc\":1,\"at\":1,\"text\":\"x\"}\n{\"op\":\"unmark\",\"doc\":1,\"from\":1,\"to\":3,\"kind\":\"comment\",\"id\":\"00000000-0000-4000-8000-0000000000c2\"}\n{\"op\":\"spans\",\"doc\":1}\n";
-    let edited = run(rt.alloc(), &EDIT, disk, input);
-    let answers =
-        "{\"ok\":true,\"rev\":7}\n{\"ok\":true,\"rev\":8}\n{\"ok\":true,\"rev\":8,\"spans\":[{\"link\":\"u\",\"text\":\"a\"},{\"text\":\"xc\"}]}\n";
-    written(&rt, edited, 0, answers, "");
+        made(&rt)?,
+        &[
+            (
+                Order(
+                    EDIT,
+                    "{\"op\":\"insert\",\"doc\":1,\"at\":0,\"text\":\"abc\"}\n{\"op\":\"mark\",\"doc\":1,\"from\":0,\"to\":2,\"kind\":\"link\",\"url\":\"u\"}\n{\"op\":\"mark\",\"doc\":1,\"from\":1,\"to\":3,\"kind\":\"comment\",\"id\":\"00000000-0000-4000-8000-0000000000c2\"}\n{\"op\":\"delete\",\"doc\":1,\"at\":1,\"count\":1}\n",
+                ),
+                0,
+                "{\"ok\":true,\"rev\":3}\n{\"ok\":true,\"rev\":4}\n{\"ok\":true,\"rev\":5}\n{\"ok\":true,\"rev\":6}\n",
+                "",
+            ),
+            (
+                Dump(1),
+                0,
+                "{\"ok\":true,\"rev\":6,\"text\":\"ac\"}\n{\"ok\":true,\"rev\":6,\"spans\":[{\"link\":\"u\",\"text\":\"a\"},{\"comments\":[\"00000000-0000-4000-8000-0000000000c2\"],\"text\":\"c\"}]}\n",
+                "",
+            ),
+            (
+                Order(
+                    EDIT,
+                    "{\"op\":\"insert\",\"doc\":1,\"at\":1,\"text\":\"x\"}\n{\"op\":\"unmark\",\"doc\":1,\"from\":1,\"to\":3,\"kind\":\"comment\",\"id\":\"00000000-0000-4000-8000-0000000000c2\"}\n{\"op\":\"spans\",\"doc\":1}\n",
+                ),
+                0,
+                "{\"ok\":true,\"rev\":7}\n{\"ok\":true,\"rev\":8}\n{\"ok\":true,\"rev\":8,\"spans\":[{\"link\":\"u\",\"text\":\"a\"},{\"text\":\"xc\"}]}\n",
+                "",
+            ),
+        ],
+    );
     Ok(())
 }

@@ -1,5 +1,6 @@
 //! The bytes of the files that orders leave.
-use crate::test_runs::{EDIT, made, run, written};
+use crate::test_runs::What::Order;
+use crate::test_runs::{EDIT, made, turn};
 use disk_trait::Disk;
 use std::test::Fail;
 
@@ -46,8 +47,8 @@ fn the_file_has_these_bytes(rt: HostRuntime) -> Result<(), Fail> {
     let mut disk = made(&rt)?;
     assert!(rt; has_pages(&mut disk, &[MADE, b""]));
     let input = "{\"op\":\"insert\",\"doc\":1,\"at\":0,\"text\":\"a\"}\n";
-    let edited = run(rt.alloc(), &EDIT, disk, input);
-    let mut disk = written(&rt, edited, 0, "{\"ok\":true,\"rev\":1}\n", "");
+    let row = (Order(EDIT, input), 0, "{\"ok\":true,\"rev\":1}\n", "");
+    let mut disk = turn(&rt, disk, &row);
     assert!(rt; has_pages(&mut disk, &[MADE, ONE, FIRST, b"\0\0\0\x02"]));
     Ok(())
 }

@@ -1,5 +1,6 @@
 //! Orders over disks in memory.
-use crate::test_runs::{EDIT, dumped, fresh, made, replica, run, session, written};
+use crate::test_runs::What::{Dump, Order};
+use crate::test_runs::{EDIT, fresh, made, replica, session, turn, turns};
 use command_syntax::StoreOrder;
 use disk_trait::Disk;
 use std::test::Fail;
@@ -8,8 +9,9 @@ use store_orders::{Fault, Place, Sentence, explain};
 #[test]
 fn without_a_file_a_new_store_is_edited(rt: HostRuntime) -> Result<(), Fail> {
     let input = "{\"op\":\"insert\",\"doc\":1,\"at\":0,\"text\":\"a\"}\n";
-    let done = run(rt.alloc(), &StoreOrder::InMemory, fresh(rt.alloc())?, input);
-    written(&rt, done, 0, "{\"ok\":true}\n{\"ok\":true,\"rev\":1}\n", "");
+    let order = Order(StoreOrder::InMemory, input);
+    let due = "{\"ok\":true}\n{\"ok\":true,\"rev\":1}\n";
+    turn(&rt, fresh(rt.alloc())?, &(order, 0, due, ""));
     Ok(())
 }
 
@@ -65,95 +67,120 @@ fn after_a_stop_edits_are_refused(rt: HostRuntime) -> Result<(), Fail> {
 
 #[test]
 fn what_was_edited_is_there_after_opening_again(rt: HostRuntime) -> Result<(), Fail> {
-    let alloc = rt.alloc();
-    let disk = session(
+    let mut disk = turns(
         &rt,
-        "{\"op\":\"insert\",\"doc\":1,\"at\":0,\"text\":\"a\"}\n",
-        "{\"ok\":true,\"rev\":1}\n",
-    )?;
-    let shown = dumped(alloc, 1, disk);
-    let text =
-        "{\"ok\":true,\"rev\":1,\"text\":\"a\"}\n{\"ok\":true,\"rev\":1,\"spans\":[{\"text\":\"a\"}]}\n";
-    let disk = written(&rt, shown, 0, text, "");
-    let shown = dumped(alloc, 9, disk);
-    let text = "{\"ok\":true,\"rev\":0,\"text\":\"\"}\n{\"ok\":true,\"rev\":0,\"spans\":[]}\n";
-    let disk = written(&rt, shown, 0, text, "");
-    let input =
-        "{\"op\":\"insert\",\"doc\":1,\"at\":1,\"text\":\"b\"}\n{\"op\":\"text\",\"doc\":1}\n";
-    let edited = run(alloc, &EDIT, disk, input);
-    let text = "{\"ok\":true,\"rev\":2}\n{\"ok\":true,\"rev\":2,\"text\":\"ab\"}\n";
-    let mut disk = written(&rt, edited, 0, text, "");
+        made(&rt)?,
+        &[
+            (
+                Order(
+                    EDIT,
+                    "{\"op\":\"insert\",\"doc\":1,\"at\":0,\"text\":\"a\"}\n",
+                ),
+                0,
+                "{\"ok\":true,\"rev\":1}\n",
+                "",
+            ),
+            (
+                Dump(1),
+                0,
+                "{\"ok\":true,\"rev\":1,\"text\":\"a\"}\n{\"ok\":true,\"rev\":1,\"spans\":[{\"text\":\"a\"}]}\n",
+                "",
+            ),
+            (
+                Dump(9),
+                0,
+                "{\"ok\":true,\"rev\":0,\"text\":\"\"}\n{\"ok\":true,\"rev\":0,\"spans\":[]}\n",
+                "",
+            ),
+            (
+                Order(
+                    EDIT,
+                    "{\"op\":\"insert\",\"doc\":1,\"at\":1,\"text\":\"b\"}\n{\"op\":\"text\",\"doc\":1}\n",
+                ),
+                0,
+                "{\"ok\":true,\"rev\":2}\n{\"ok\":true,\"rev\":2,\"text\":\"ab\"}\n",
+                "",
+            ),
+        ],
+    );
     assert!(rt; disk.size() == Ok(24_576));
     Ok(())
 }
 
 #[test]
 fn a_file_that_is_no_store_is_refused(rt: HostRuntime) -> Result<(), Fail> {
-    let alloc = rt.alloc();
-    let opened = run(alloc, &EDIT, fresh(alloc)?, "{\"op\":\"status\"}\n");
-    written(&rt, opened, 1, "", "peritext: 42 no root\n");
-    let order = StoreOrder::Init {
+    let status = Order(EDIT, "{\"op\":\"status\"}\n");
+    turn(
+        &rt,
+        fresh(rt.alloc())?,
+        &(status, 1, "", "peritext: 42 no root\n"),
+    );
+    let init = StoreOrder::Init {
         file: "",
         replica: replica()?,
     };
-    let again = run(alloc, &order, made(&rt)?, "");
-    let mut disk = written(&rt, again, 1, "", "peritext: 48 not empty\n");
+    let again = (Order(init, ""), 1, "", "peritext: 48 not empty\n");
+    let mut disk = turn(&rt, made(&rt)?, &again);
     assert!(rt; disk.write_at(15, b"4").is_ok());
-    let shown = dumped(alloc, 1, disk);
-    written(&rt, shown, 1, "", "peritext: 43 bad root\n");
+    turn(&rt, disk, &(Dump(1), 1, "", "peritext: 43 bad root\n"));
     Ok(())
 }
 
+/// Faults, with their numbers and words.
+const FAULTS: [(Fault, u8, &str); 15] = [
+    (Fault::Memory, 1, "memory"),
+    (Fault::Field, 4, "field"),
+    (Fault::Failed, 9, "failed"),
+    (Fault::NoRoot, 42, "no root"),
+    (Fault::BadRoot, 43, "bad root"),
+    (Fault::BadTable, 45, "bad table"),
+    (Fault::BadStream, 46, "bad stream"),
+    (Fault::BadOperation, 47, "bad operation"),
+    (Fault::NotEmpty, 48, "not empty"),
+    (Fault::ReadFailed, 50, "read failed"),
+    (Fault::WriteFailed, 51, "write failed"),
+    (Fault::SyncFailed, 52, "sync failed"),
+    (Fault::OpenFailed, 54, "open failed"),
+    (Fault::Socket, 70, "socket"),
+    (Fault::Stream, 71, "stream"),
+];
+
 #[test]
 fn a_fault_has_its_word(rt: HostRuntime) -> Result<(), Fail> {
-    let alloc = rt.alloc();
-    for (fault, number, word) in [
-        (Fault::Memory, 1, "memory"),
-        (Fault::Field, 4, "field"),
-        (Fault::Failed, 9, "failed"),
-        (Fault::NoRoot, 42, "no root"),
-        (Fault::BadRoot, 43, "bad root"),
-        (Fault::BadTable, 45, "bad table"),
-        (Fault::BadStream, 46, "bad stream"),
-        (Fault::BadOperation, 47, "bad operation"),
-        (Fault::NotEmpty, 48, "not empty"),
-        (Fault::ReadFailed, 50, "read failed"),
-        (Fault::WriteFailed, 51, "write failed"),
-        (Fault::SyncFailed, 52, "sync failed"),
-        (Fault::OpenFailed, 54, "open failed"),
-        (Fault::Socket, 70, "socket"),
-        (Fault::Stream, 71, "stream"),
-    ] {
-        assert_eq!(rt; fault.number(), number);
-        assert_eq!(rt; fault.to_string(alloc)?.as_str(), word);
+    for (fault, number, word) in &FAULTS {
+        assert_eq!(rt; fault.number(), *number);
+        assert_eq!(rt; fault.to_string(rt.alloc())?.as_str(), *word);
     }
     Ok(())
 }
 
+/// Places, faults at them, and the lines that explain these.
+const EXPLAINED: [(Option<Place<'static>>, Fault, &str); 3] = [
+    (
+        Some(Place::File("notes")),
+        Fault::NotEmpty,
+        "peritext: notes: something is in the file already; open it, or choose another name\n",
+    ),
+    (
+        Some(Place::Port(80)),
+        Fault::Socket,
+        "peritext: port 80: a port is taken (choose another), or nobody listens where --link points (start that daemon first)\n",
+    ),
+    (
+        None,
+        Fault::Stream,
+        "peritext: standard input or output failed; look at the other end of the pipe\n",
+    ),
+];
+
 #[test]
 fn a_refusal_is_explained(rt: HostRuntime) -> Result<(), Fail> {
     let alloc = rt.alloc();
-    for (place, fault, line) in [
-        (
-            Some(Place::File("notes")),
-            Fault::NotEmpty,
-            "peritext: notes: something is in the file already; open it, or choose another name\n",
-        ),
-        (
-            Some(Place::Port(80)),
-            Fault::Socket,
-            "peritext: port 80: a port is taken (choose another), or nobody listens where --link points (start that daemon first)\n",
-        ),
-        (
-            None,
-            Fault::Stream,
-            "peritext: standard input or output failed; look at the other end of the pipe\n",
-        ),
-    ] {
+    for (place, fault, line) in &EXPLAINED {
         let mut said = Vec::new(alloc);
-        explain(alloc, place, Sentence::from(fault), &mut said);
+        explain(alloc, *place, Sentence::from(*fault), &mut said);
         assert!(rt; said.as_slice() == line.as_bytes(), "{said:?}");
-        assert_eq!(rt; fault.is_of_file(), fault == Fault::NotEmpty);
+        assert_eq!(rt; fault.is_of_file(), *fault == Fault::NotEmpty);
     }
     Ok(())
 }

@@ -29,7 +29,7 @@ pub fn run<D: Disk>(alloc: Global, order: &StoreOrder<'_>, disk: D, input: &str)
 }
 
 /// A dump of a document.
-pub fn dumped<D: Disk>(alloc: Global, doc: u32, disk: D) -> Ran<D> {
+fn dumped<D: Disk>(alloc: Global, doc: u32, disk: D) -> Ran<D> {
     let mut output = Vec::new(alloc);
     let mut faults = Vec::new(alloc);
     let Shown { disk, lines } = show(alloc, disk, doc);
@@ -50,21 +50,52 @@ pub fn replica() -> Result<ReplicaId, Fail> {
     Ok(ReplicaId::read(bytes).ok_or("nil")?)
 }
 
+/// What is done over a disk.
+#[derive(Clone, Copy)]
+pub enum What<'a> {
+    /// An order is carried out, which reads these lines.
+    Order(StoreOrder<'a>, &'a str),
+    /// A document is dumped.
+    Dump(u32),
+}
+
+/// What is done, the status that it ends with, what it writes, and what it tells of a fault.
+pub type Row<'a> = (What<'a>, u8, &'a str, &'a str);
+
 pub const EDIT: StoreOrder<'static> = StoreOrder::Edit { file: "" };
 
-pub fn written<D: Disk>(rt: &impl Abort, run: Ran<D>, status: u8, output: &str, faults: &str) -> D {
+fn written<D: Disk>(rt: &impl Abort, run: Ran<D>, status: u8, output: &str, faults: &str) -> D {
     assert!(rt;
         run.output.as_slice() == output.as_bytes(),
-        "{:?}",
+        "{:?} in place of {output:?}",
         run.output
     );
     assert!(rt;
         run.faults.as_slice() == faults.as_bytes(),
-        "{:?}",
+        "{:?} in place of {faults:?}",
         run.faults
     );
-    assert_eq!(rt; run.status, status);
+    assert_eq!(rt; run.status, status, "after {output:?}");
     run.disk
+}
+
+/// Does what a row says over a disk, which is given back.
+pub fn turn<D: Disk>(rt: &(impl Abort + AllocGlobal), disk: D, row: &Row<'_>) -> D {
+    let (what, status, output, faults) = row;
+    let ran = match what {
+        What::Order(order, input) => run(rt.alloc(), order, disk, input),
+        What::Dump(doc) => dumped(rt.alloc(), *doc, disk),
+    };
+    written(rt, ran, *status, output, faults)
+}
+
+/// Does what these rows say over a disk, each over what the one before it left.
+pub fn turns(rt: &(impl Abort + AllocGlobal), disk: MemDisk, rows: &[Row<'_>]) -> MemDisk {
+    let mut disk = disk;
+    for row in rows {
+        disk = turn(rt, disk, row);
+    }
+    disk
 }
 
 pub fn fresh(alloc: Global) -> Result<MemDisk, AllocError> {

@@ -1,9 +1,60 @@
 //! Words of command lines, and what they ask for.
+use crate::word_tests::Due::{Field, Is, Port, Web};
 use command_syntax::{BadPort, DumpOrder, Order, ServeOrder, StoreOrder};
 use command_words::{OrderFault, order};
 use op_ids::ReplicaId;
 use std::process::Abort;
 use std::test::Fail;
+
+/// What words give.
+#[derive(Clone, Copy)]
+enum Due<'a> {
+    /// They ask for this.
+    Is(Order<'a>),
+    /// They ask for a `serve` with WebSockets at this port, for the pages of these origins.
+    Web(u16, &'a [&'a str]),
+    /// A number, or an id, breaks its rule.
+    Field,
+    /// This port breaks its rule.
+    Port(BadPort<'a>),
+}
+
+/// Whether an order is a `serve` with WebSockets at this port, for the pages of these origins.
+fn has_web(order: &Order<'_>, port: u16, origins: &[&str]) -> bool {
+    match order {
+        Order::Serve(ServeOrder { web: Some(web), .. }) => {
+            web.port == port && web.origins.as_slice() == origins
+        }
+        _ => false,
+    }
+}
+
+/// Whether an order is due.
+fn is_asked(order: &Order<'_>, due: &Due<'_>) -> bool {
+    match due {
+        Is(asked) => order == asked,
+        Web(port, origins) => has_web(order, *port, origins),
+        _ => false,
+    }
+}
+
+/// Whether a refusal is due.
+fn is_refused(fault: &OrderFault<'_>, due: &Due<'_>) -> bool {
+    match (fault, due) {
+        (OrderFault::Field, Field) => true,
+        (OrderFault::Port(port), Port(bad)) => port == bad,
+        _ => false,
+    }
+}
+
+/// Reads words, which have to give this.
+fn gives<'a>(rt: &(impl Abort + AllocGlobal), words: &'a [&'a str], due: &Due<'a>) {
+    let is_due = match order(rt.alloc(), words) {
+        Ok(order) => is_asked(&order, due),
+        Err(fault) => is_refused(&fault, due),
+    };
+    assert!(rt; is_due, "{words:?}");
+}
 
 #[test]
 fn no_words_ask_for_a_session_in_memory(rt: HostRuntime) {
@@ -21,15 +72,11 @@ fn an_init_names_a_file_and_a_replica(rt: HostRuntime) -> Result<(), Fail> {
         "{00000000-0000-4000-8000-0000000000C1}",
     ];
     let bytes = [0, 0, 0, 0, 0, 0, 0x40, 0, 0x80, 0, 0, 0, 0, 0, 0, 0xc1];
-    let replica = ReplicaId::read(bytes).ok_or("nil")?;
-    let asked = Order::Store(StoreOrder::Init {
+    let asked = StoreOrder::Init {
         file: "a store",
-        replica,
-    });
-    match order(rt.alloc(), words.as_slice()) {
-        Ok(found) => assert!(rt; found == asked),
-        Err(fault) => assert!(rt; false, "{fault}"),
-    }
+        replica: ReplicaId::read(bytes).ok_or("nil")?,
+    };
+    gives(&rt, words.as_slice(), &Is(Order::Store(asked)));
     Ok(())
 }
 
@@ -41,29 +88,26 @@ fn an_edit_names_a_file(rt: HostRuntime) {
 
 #[test]
 fn a_dump_names_a_file_and_a_document(rt: HostRuntime) {
-    for (text, number) in [("1", 1), ("4294967295", 4_294_967_295), ("007", 7)] {
+    for (text, doc) in [("1", 1), ("4294967295", 4_294_967_295), ("007", 7)] {
         let words = ["peritext", "dump", "store", text];
-        match order(rt.alloc(), words.as_slice()) {
-            Ok(Order::Dump(DumpOrder { file, doc })) => assert!(rt;
-                file == "store" && doc == number
-            ),
-            _ => assert!(rt; false, "{text}"),
-        }
+        let file = "store";
+        gives(
+            &rt,
+            words.as_slice(),
+            &Is(Order::Dump(DumpOrder { file, doc })),
+        );
     }
 }
 
 #[test]
 fn bad_numbers_and_ids_are_refused(rt: HostRuntime) {
-    let alloc = rt.alloc();
     for text in ["0", "4294967296", "1x", "1.0", "+1", " 1", ""] {
         let words = ["peritext", "dump", "store", text];
-        let found = order(alloc, words.as_slice());
-        assert!(rt; matches!(found, Err(OrderFault::Field)), "{text}");
+        gives(&rt, words.as_slice(), &Field);
     }
     for text in ["00000000-0000-0000-0000-000000000000", "c1", ""] {
         let words = ["peritext", "init", "store", "--replica", text];
-        let found = order(alloc, words.as_slice());
-        assert!(rt; matches!(found, Err(OrderFault::Field)), "{text}");
+        gives(&rt, words.as_slice(), &Field);
     }
 }
 
@@ -80,23 +124,26 @@ fn serving<'a>(sessions: &'a str, peers: &'a str) -> [&'a str; 7] {
     ]
 }
 
+/// A `serve` of a file and two ports, and of nothing more.
+const PLAIN: ServeOrder<'static> = ServeOrder {
+    file: "store",
+    sessions: 7_001,
+    peers: 7_002,
+    link: None,
+    web: None,
+    ends_on_failure: false,
+    logs: false,
+};
+
 #[test]
 fn a_serve_names_a_file_and_ports(rt: HostRuntime) {
     for (text, port) in [("1", 1), ("65535", 65_535), ("007", 7)] {
         let words = serving(text, "7002");
-        let asked = Order::Serve(ServeOrder {
-            file: "store",
+        let asked = ServeOrder {
             sessions: port,
-            peers: 7_002,
-            link: None,
-            web: None,
-            ends_on_failure: false,
-            logs: false,
-        });
-        match order(rt.alloc(), words.as_slice()) {
-            Ok(found) => assert!(rt; found == asked),
-            Err(fault) => assert!(rt; false, "{fault}"),
-        }
+            ..PLAIN
+        };
+        gives(&rt, words.as_slice(), &Is(Order::Serve(asked)));
     }
 }
 
@@ -110,46 +157,31 @@ fn a_serve_joins_a_peer_where_one_is_named(rt: HostRuntime) {
         "--sessions=7001",
         "store",
     ];
-    let asked = Order::Serve(ServeOrder {
-        file: "store",
-        sessions: 7_001,
-        peers: 7_002,
+    let asked = ServeOrder {
         link: Some(7_102),
-        web: None,
-        ends_on_failure: false,
-        logs: false,
-    });
-    match order(rt.alloc(), words.as_slice()) {
-        Ok(found) => assert!(rt; found == asked),
-        Err(fault) => assert!(rt; false, "{fault}"),
-    }
+        ..PLAIN
+    };
+    gives(&rt, words.as_slice(), &Is(Order::Serve(asked)));
 }
 
 #[test]
 fn a_serve_takes_the_web_pages_that_are_named(rt: HostRuntime) {
-    let [name, command, file, sessions, at, peers, port] = serving("7001", "7002");
     let words = [
-        name,
-        command,
+        "peritext",
+        "serve",
         "--origin=http://localhost:8080",
-        file,
-        sessions,
-        at,
-        peers,
-        port,
+        "store",
+        "--sessions",
+        "7001",
+        "--peers",
+        "7002",
         "--web",
         "7003",
         "--origin",
         "https://page.example",
     ];
-    match order(rt.alloc(), words.as_slice()) {
-        Ok(Order::Serve(ServeOrder { web: Some(web), .. })) => {
-            assert!(rt; web.port == 7_003);
-            let due = ["http://localhost:8080", "https://page.example"];
-            assert!(rt; web.origins.as_slice() == due.as_slice());
-        }
-        _ => assert!(rt; false),
-    }
+    let origins = ["http://localhost:8080", "https://page.example"];
+    gives(&rt, words.as_slice(), &Web(7_003, origins.as_slice()));
 }
 
 #[test]
@@ -162,19 +194,11 @@ fn a_serve_ends_on_failure_where_that_is_asked(rt: HostRuntime) {
         "--end-on-failure",
         "--peers=7002",
     ];
-    let asked = Order::Serve(ServeOrder {
-        file: "store",
-        sessions: 7_001,
-        peers: 7_002,
-        link: None,
-        web: None,
+    let asked = ServeOrder {
         ends_on_failure: true,
-        logs: false,
-    });
-    match order(rt.alloc(), words.as_slice()) {
-        Ok(found) => assert!(rt; found == asked),
-        Err(fault) => assert!(rt; false, "{fault}"),
-    }
+        ..PLAIN
+    };
+    gives(&rt, words.as_slice(), &Is(Order::Serve(asked)));
 }
 
 #[test]
@@ -187,48 +211,35 @@ fn a_serve_tells_its_events_where_that_is_asked(rt: HostRuntime) {
         "--sessions=7001",
         "--peers=7002",
     ];
-    let asked = Order::Serve(ServeOrder {
-        file: "store",
-        sessions: 7_001,
-        peers: 7_002,
-        link: None,
-        web: None,
-        ends_on_failure: false,
+    let asked = ServeOrder {
         logs: true,
-    });
-    match order(rt.alloc(), words.as_slice()) {
-        Ok(found) => assert!(rt; found == asked),
-        Err(fault) => assert!(rt; false, "{fault}"),
-    }
+        ..PLAIN
+    };
+    gives(&rt, words.as_slice(), &Is(Order::Serve(asked)));
 }
+
+/// Words that break the rule of a port.
+const NO_PORTS: [&str; 9] = [
+    "0",
+    "65536",
+    "4294967376",
+    "1x",
+    "1.0",
+    "+1",
+    " 1",
+    "1 ",
+    "",
+];
 
 #[test]
 fn the_first_bad_port_is_told(rt: HostRuntime) -> Result<(), Fail> {
-    let alloc = rt.alloc();
-    for text in [
-        "0",
-        "65536",
-        "4294967376",
-        "1x",
-        "1.0",
-        "+1",
-        " 1",
-        "1 ",
-        "",
-    ] {
-        for (words, name) in [
-            (serving(text, "7002"), "sessions"),
-            (serving("7001", text), "peers"),
-            (serving(text, text), "sessions"),
+    for word in NO_PORTS {
+        for (words, option) in [
+            (serving(word, "7002"), "sessions"),
+            (serving("7001", word), "peers"),
+            (serving(word, word), "sessions"),
         ] {
-            let due = BadPort {
-                option: name,
-                word: text,
-            };
-            match order(alloc, words.as_slice()) {
-                Err(OrderFault::Port(port)) => assert!(rt; port == due, "{text}"),
-                _ => assert!(rt; false, "{text}"),
-            }
+            gives(&rt, words.as_slice(), &Port(BadPort { option, word }));
         }
     }
     Ok(())
@@ -263,16 +274,23 @@ fn ends_with<'a>(rt: &(impl Abort + AllocGlobal), words: &'a [&'a str], status: 
     }
 }
 
+/// Words of no order, and the status that the program ends with.
+const OTHERS: [(&[&str], i32); 10] = [
+    (&["peritext", "fly"], 2),
+    (&["peritext", "edit"], 2),
+    (&["peritext", "edit", "store", "more"], 2),
+    (&["peritext", "init", "store"], 2),
+    (&["peritext", "dump", "store", "-1"], 2),
+    (&["peritext", "init", "--version"], 2),
+    (&["peritext", "serve", "store", "--sessions", "1"], 2),
+    (&["peritext", "serve", "--help"], 0),
+    (&["peritext", "--help"], 0),
+    (&["peritext", "--version"], 0),
+];
+
 #[test]
 fn other_words_are_refused(rt: HostRuntime) {
-    ends_with(&rt, &["peritext", "fly"], 2);
-    ends_with(&rt, &["peritext", "edit"], 2);
-    ends_with(&rt, &["peritext", "edit", "store", "more"], 2);
-    ends_with(&rt, &["peritext", "init", "store"], 2);
-    ends_with(&rt, &["peritext", "dump", "store", "-1"], 2);
-    ends_with(&rt, &["peritext", "init", "--version"], 2);
-    ends_with(&rt, &["peritext", "serve", "store", "--sessions", "1"], 2);
-    ends_with(&rt, &["peritext", "serve", "--help"], 0);
-    ends_with(&rt, &["peritext", "--help"], 0);
-    ends_with(&rt, &["peritext", "--version"], 0);
+    for (words, status) in OTHERS {
+        ends_with(&rt, words, status);
+    }
 }

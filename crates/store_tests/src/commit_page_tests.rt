@@ -18,15 +18,16 @@ fn a_commit_writes_the_pages_that_change(rt: HostRuntime) -> Result<(), Fail> {
     )
 }
 
-/// After one commit, after two and after three: the size, the live slot and its table page.
+/// After one commit, after two and after three: the size, the numbers of the pages in the live slot
+/// (0 or 1), and those in its table page (8 or 10).
 const NUMBERS: &str = "
     new 16
     inserts 1 256 : 256
     finish : 9 writes, 3 syncs
     stop
     size : 36864
-    numbers 1 64 2 : [8, 0]
-    numbers 8 0 7 : [2, 3, 4, 5, 6, 7, 0]
+    numbers 4160 2 : [8, 0]
+    numbers 32768 7 : [2, 3, 4, 5, 6, 7, 0]
     new 16
     inserts 1 256 : 256
     finish : 9 writes, 3 syncs
@@ -34,8 +35,8 @@ const NUMBERS: &str = "
     finish : 5 writes, 3 syncs
     stop
     size : 45056
-    numbers 0 64 2 : [10, 0]
-    numbers 10 0 7 : [2, 3, 4, 5, 6, 9, 0]
+    numbers 64 2 : [10, 0]
+    numbers 40960 7 : [2, 3, 4, 5, 6, 9, 0]
     new 16
     inserts 1 256 : 256
     finish : 9 writes, 3 syncs
@@ -45,8 +46,8 @@ const NUMBERS: &str = "
     finish : 5 writes, 3 syncs
     stop
     size : 45056
-    numbers 1 64 2 : [8, 0]
-    numbers 8 0 7 : [2, 3, 4, 5, 6, 7, 0]";
+    numbers 4160 2 : [8, 0]
+    numbers 32768 7 : [2, 3, 4, 5, 6, 7, 0]";
 
 #[test]
 fn new_pages_are_the_lowest_free_ones(rt: HostRuntime) -> Result<(), Fail> {
@@ -63,7 +64,7 @@ fn a_page_into_which_zeros_come_stays(rt: HostRuntime) -> Result<(), Fail> {
         inserts 49 49 : 49
         finish : 5 writes, 3 syncs
         stop
-        numbers 5 0 3 : [2, 4, 0]",
+        numbers 20480 3 : [2, 4, 0]",
     )
 }
 

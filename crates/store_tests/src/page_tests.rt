@@ -1,6 +1,6 @@
 //! Pages and tables that are loaded.
 use crate::test_files::bytes_of;
-use crate::test_rows::{World, nothing, play, three_of};
+use crate::test_rows::{World, nothing, play, two_of};
 use disk_trait::{Disk, FaultDisk, MemDisk};
 use page_file::{PageError, Pages};
 use std::alloc::Global;
@@ -109,20 +109,25 @@ fn adopt_one(alloc: Global, pages: &mut Pages) -> Result<String, Fail> {
 
 impl World for File {
     fn answer(&mut self, alloc: Global, command: &str, words: &str) -> Result<String, Fail> {
-        if command == "table" {
-            return put_table(alloc, &mut self.disk, words);
-        }
-        let [first, second, _] = three_of(words)?;
         match command {
-            "fill" => fill(alloc, &mut self.disk, first),
-            "load" => said(alloc, load(alloc, self, first)),
-            "put" => said(alloc, put(&mut self.pages, &mut self.disk, first, second)),
-            "read" => read(alloc, self, first, second),
-            "lowest" => lowest(alloc, &self.pages, first as usize),
+            "table" => put_table(alloc, &mut self.disk, words),
             "lists" => lists(alloc, &self.pages),
             "adopt" => adopt_one(alloc, &mut self.pages),
-            _ => Err("no such command".into()),
+            _ => ask(alloc, self, command, two_of(words)?),
         }
+    }
+}
+
+/// What is asked with numbers, at most two.
+fn ask(alloc: Global, file: &mut File, command: &str, numbers: (u32, u32)) -> Result<String, Fail> {
+    let (first, second) = numbers;
+    match command {
+        "fill" => fill(alloc, &mut file.disk, first),
+        "load" => said(alloc, load(alloc, file, first)),
+        "put" => said(alloc, put(&mut file.pages, &mut file.disk, first, second)),
+        "read" => read(alloc, file, first, second),
+        "lowest" => lowest(alloc, &file.pages, first as usize),
+        _ => Err("no such command".into()),
     }
 }
 

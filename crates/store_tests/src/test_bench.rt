@@ -1,10 +1,10 @@
 //! A store whose commits rows tell of, and the file that it leaves.
 use crate::test_files::bytes_of;
 use crate::test_ops::{filling, inserts};
-use crate::test_rows::{World, nothing, play, three_of, told};
+use crate::test_rows::{World, nothing, play, told, two_of};
 use crate::test_store::{begin, disk_of, finish, opened, ops, read, step, store_on};
 use disk_trait::{Disk, FaultDisk, MemDisk};
-use group_commit::{Store, StoreError};
+use group_commit::Store;
 use op_model::Op;
 use page_file::take_numbers;
 use std::alloc::Global;
@@ -20,7 +20,7 @@ struct Bench {
 /// Makes a store on a disk with room for so many pages. The n-th call of the disk fails, none where
 /// that is 0.
 fn make(alloc: Global, bench: &mut Bench, words: &str) -> Result<String, Fail> {
-    let [pages, n, _] = three_of(words)?;
+    let (pages, n) = two_of(words)?;
     let disk = MemDisk::new(alloc, pages as usize * 4096, 4096)?;
     let disk = FaultDisk::new(disk, u64::from(n));
     bench.store = Some(store_on(alloc, disk)?);
@@ -91,12 +91,10 @@ fn ask<D: Disk>(
     }
 }
 
-/// The numbers in a file's page, from a place on, as many as are asked for.
+/// The numbers in a file from a byte on, as many as are asked for.
 fn numbers(alloc: Global, file: &[u8], words: &str) -> Result<String, Fail> {
-    let [page, at, count] = three_of(words)?;
-    let bytes = file
-        .get(page as usize * 4096 + at as usize..)
-        .ok_or("no such page")?;
+    let (at, count) = two_of(words)?;
+    let bytes = file.get(at as usize..).ok_or("no such byte")?;
     if bytes.len() / 4 < count as usize {
         return Err("no such number".into());
     }

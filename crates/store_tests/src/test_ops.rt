@@ -1,5 +1,5 @@
 //! Operations of the replica, as many as a commit is to have.
-use crate::test_rows::three_of;
+use crate::test_rows::two_of;
 use crate::test_store::replica;
 use op_ids::{Clock, OpId};
 use op_model::{Body, Op};
@@ -48,7 +48,7 @@ fn put_removes(alloc: Global, first: u32, last: u32, ops: &mut Vec<Op>) -> Resul
 
 /// The inserts from one counter to another.
 pub(crate) fn inserts(alloc: Global, words: &str) -> Result<Vec<Op>, Fail> {
-    let [first, last, _] = three_of(words)?;
+    let (first, last) = two_of(words)?;
     let mut ops = Vec::new(alloc);
     put_inserts(alloc, first, last, &mut ops)?;
     Ok(ops)

@@ -50,17 +50,11 @@ pub(crate) fn cut_number(words: &str) -> Result<(u64, &str), Fail> {
     Ok((number.parse()?, others))
 }
 
-/// The numbers that words say, at most three. Where there are fewer, the others are 0.
-pub(crate) fn three_of(words: &str) -> Result<[u32; 3], Fail> {
-    let mut numbers = [0; 3];
-    let mut others = words;
-    for number in &mut numbers {
-        let (word, rest) = others.split_once(' ').unwrap_or((others, ""));
-        if word.is_empty() {
-            break;
-        }
-        *number = word.parse()?;
-        others = rest;
+/// The two numbers that words say. Where there are fewer, the others are 0.
+pub(crate) fn two_of(words: &str) -> Result<(u32, u32), Fail> {
+    let (first, second) = words.split_once(' ').unwrap_or((words, "0"));
+    if first.is_empty() {
+        return Ok((0, 0));
     }
-    Ok(numbers)
+    Ok((first.parse()?, second.parse()?))
 }

@@ -24,14 +24,10 @@ pub(crate) fn store_on<D: Disk + Drop>(alloc: Global, disk: D) -> Result<Box<Sto
     }
 }
 
-/// What is loaded of this disk's file, or the number of the refusal. In a box, so that it is proved
-/// here alone that all of it is dropped.
-pub(crate) fn load<D: Disk + Drop>(alloc: Global, disk: D) -> Result<Box<Loaded<D>>, u8> {
+/// What is loaded of this disk's file, or the number of the refusal.
+pub(crate) fn load<D: Disk + Drop>(alloc: Global, disk: D) -> Result<Loaded<D>, u8> {
     match Store::load(alloc, disk) {
-        Ok(loaded) => match Box::new(alloc, loaded) {
-            Ok(loaded) => Ok(loaded),
-            Err(_) => Err(1),
-        },
+        Ok(loaded) => Ok(loaded),
         Err(fault) => Err(fault.cause.number()),
     }
 }
@@ -39,7 +35,7 @@ pub(crate) fn load<D: Disk + Drop>(alloc: Global, disk: D) -> Result<Box<Loaded<
 /// The store of this disk's file.
 pub(crate) fn opened<D: Disk + Drop>(alloc: Global, disk: D) -> Result<Box<Store<D>>, Fail> {
     match load(alloc, disk) {
-        Ok(loaded) => Ok(Box::new(alloc, Box::into_inner(loaded).store)?),
+        Ok(loaded) => Ok(Box::new(alloc, loaded.store)?),
         Err(number) => Err(number.into()),
     }
 }
@@ -106,6 +102,15 @@ pub(crate) fn disk_of(alloc: Global, calls: usize, words: &str) -> Result<Box<Me
     Ok(disk)
 }
 
+/// The replica and the operations of a file. They are taken out here, since nothing else is held
+/// then that an early return would have to drop.
+fn loaded(alloc: Global, disk: MemDisk) -> Result<(ReplicaId, OpList), Fail> {
+    match load(alloc, disk) {
+        Ok(loaded) => Ok((loaded.replica, loaded.ops)),
+        Err(number) => Err(number.into()),
+    }
+}
+
 /// Whether these operations are so many, and have these records.
 fn have_records(alloc: Global, ops: &OpList, count: usize, records: &str) -> Result<bool, Fail> {
     let mut found = Vec::new(alloc);
@@ -121,11 +126,7 @@ pub(crate) fn has_records(
     count: usize,
     records: &str,
 ) -> Result<bool, Fail> {
-    let owner = replica()?.bytes();
-    match load(alloc, disk) {
-        Ok(it) => {
-            Ok(it.replica.bytes() == owner && have_records(alloc, &it.ops, count, records)?)
-        }
-        Err(number) => Err(number.into()),
-    }
+    let (owner, ops) = loaded(alloc, disk)?;
+    let is_owner = owner.bytes() == replica()?.bytes();
+    Ok(is_owner && have_records(alloc, &ops, count, records)?)
 }
