@@ -1,8 +1,10 @@
-//! Tests of hubs held alone, over disks in memory, and of sessions.
+//! Tests of replicas, alone and among peers, and of hubs that are held alone and sessions over them.
 #![tactic(auto)]
 
 #[cfg(test)]
 mod asks;
+#[cfg(test)]
+mod edit_tests;
 #[cfg(test)]
 mod failing_tests;
 #[cfg(test)]
@@ -16,11 +18,27 @@ mod play_alone;
 #[cfg(test)]
 mod play_run;
 #[cfg(test)]
+mod replica_asks;
+#[cfg(test)]
+mod replica_merge_tests;
+#[cfg(test)]
 mod run_tests;
 #[cfg(test)]
 mod session_tests;
 #[cfg(test)]
+mod tell_tests;
+#[cfg(test)]
+mod test_asks;
+#[cfg(test)]
+mod test_edits;
+#[cfg(test)]
+mod test_exchange;
+#[cfg(test)]
 mod test_hubs;
+#[cfg(test)]
+mod test_merges;
+#[cfg(test)]
+mod test_peers;
 #[cfg(test)]
 mod token_session_tests;
 #[cfg(test)]

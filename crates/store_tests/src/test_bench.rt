@@ -1,6 +1,6 @@
 //! A store whose commits rows tell of, and the file that it leaves.
 use crate::test_files::bytes_of;
-use crate::test_ops::{filling, inserts};
+use crate::test_inserts::{filling, inserts};
 use crate::test_rows::{World, nothing, play, told, two_of};
 use crate::test_store::{begin, disk_of, finish, opened, ops, read, step, store_on};
 use disk_trait::{Disk, FaultDisk, MemDisk};

@@ -1,9 +1,7 @@
 //! What the tests share of files: the words of which their rows make bytes.
+use crate::test_bytes::push_pieces;
 use std::alloc::Global;
 use std::test::Fail;
-
-/// The sixteen bytes of the one replica of these tests.
-const NAME: &str = "00000000000040008000000000000001";
 
 /// Words that stand for pieces of hex, where `A` stands for the replica.
 static WORDS: [(&str, &str); 24] = [
@@ -144,30 +142,6 @@ fn pieces_of(word: &str) -> &str {
     word
 }
 
-/// Appends the bytes that pairs of digits say.
-fn put_digits(digits: &str, bytes: &mut Vec<u8>) -> Result<(), Fail> {
-    let mut high = None;
-    for digit in digits.chars() {
-        let value = (digit.to_digit(16).ok_or("a digit")? % 16) as u8;
-        match high {
-            None => high = Some(value),
-            Some(first) => {
-                bytes.push(first % 16 * 16 + value)?;
-                high = None;
-            }
-        }
-    }
-    Ok(())
-}
-
-/// Appends the bytes that pieces of hex say, where `A` stands for the replica.
-fn put(pieces: &str, bytes: &mut Vec<u8>) -> Result<(), Fail> {
-    for piece in pieces.split_whitespace() {
-        put_digits(if piece == "A" { NAME } else { piece }, bytes)?;
-    }
-    Ok(())
-}
-
 /// Puts a byte into the place of another.
 fn change(at: usize, byte: u8, bytes: &mut Vec<u8>) -> Result<(), Fail> {
     if at >= bytes.len() {
@@ -188,7 +162,7 @@ fn put_word(word: &str, bytes: &mut Vec<u8>) -> Result<(), Fail> {
         bytes.resize(end, 0)?;
         return Ok(());
     }
-    put(pieces_of(word), bytes)
+    push_pieces(bytes, pieces_of(word))
 }
 
 /// The bytes that words say.

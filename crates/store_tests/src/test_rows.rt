@@ -44,6 +44,16 @@ pub(crate) fn told(alloc: Global, is_so: Result<bool, Fail>) -> Result<String, F
     Ok(format!(in alloc; "{is_so}")?)
 }
 
+/// A number.
+pub(crate) fn counted(alloc: Global, number: usize) -> Result<String, Fail> {
+    Ok(format!(in alloc; "{number}")?)
+}
+
+/// The number of a refusal, or 0.
+pub(crate) fn refused(alloc: Global, number: Result<u8, Fail>) -> Result<String, Fail> {
+    counted(alloc, usize::from(number?))
+}
+
 /// The number with which words begin, and the others.
 pub(crate) fn cut_number(words: &str) -> Result<(u64, &str), Fail> {
     let (number, others) = words.split_once(' ').unwrap_or((words, ""));

@@ -2,7 +2,7 @@ use Rattle.std.proofs.Common.{◌≡◌, ◌-◌, ◌++◌, length, drop, ap, sy
 use Rattle.op_model.specs.Records.{stream_length}
 use Rattle.change_codec.proofs.StreamLaws.{length-spelled_all}
 use Rattle.op_list.specs.Records.{AreRecords}
-use Rattle.codec_tests.proofs.record_tests.front_of.Goals as goal
+use Rattle.store_tests.proofs.record_tests.front_of.Goals as goal
 
 pub drop_last-requires-clause-last : goal.drop_last-requires-clause-last
 drop_last-requires-clause-last c =

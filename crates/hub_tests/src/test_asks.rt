@@ -1,7 +1,7 @@
 //! Plays the rows of a table on some peers, one after another. A test holds no replica, since each
 //! way out past one is what the proof of a test costs. Where something is missing there is no
 //! answer, which is never the one that a row wants.
-use crate::asks::{Ask, Row};
+use crate::replica_asks::{Ask, Row};
 use crate::test_edits::{
     edit, edits_until_refused, put_length, refusal, settled_after, ticket_rev,
 };

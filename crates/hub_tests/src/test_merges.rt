@@ -1,5 +1,5 @@
 //! What the tests ask of a peer that takes another one.
-use crate::asks::Ask;
+use crate::replica_asks::Ask;
 use crate::test_peers::{clock_of, has_text_of, id_of, merge, op_at, ops_from, tells_clock};
 use op_ids::{Clock, OpId};
 use op_model::{Body, Op};

@@ -1,5 +1,5 @@
 //! Merges among a few replicas.
-use crate::asks::{Ask, Row, Wish};
+use crate::replica_asks::{Ask, Row, Wish};
 use crate::test_asks::plays;
 use crate::test_exchange::plays_merged;
 

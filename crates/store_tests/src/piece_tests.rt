@@ -28,6 +28,7 @@ fn typed(alloc: Global, counter: u64, value: char) -> Result<Op, Fail> {
 /// So many typed characters, where the k-th is of another document: `5 3`.
 fn ops(alloc: Global, words: &str) -> Result<Vec<Op>, Fail> {
     let (count, other) = two_of(words)?;
+    let (count, other) = (count as usize, other as usize);
     let mut ops = Vec::new(alloc);
     for counter in 1..=count as u64 {
         let mut op = typed(alloc, counter, 'a')?;

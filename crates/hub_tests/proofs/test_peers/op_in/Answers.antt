@@ -1,5 +1,5 @@
 use Rattle.std.proofs.Common.{arith}
-use Rattle.replica_tests.proofs.test_peers.op_in.Goals as goal
+use Rattle.hub_tests.proofs.test_peers.op_in.Goals as goal
 
 pub get-requires : goal.get-requires
 get-requires c = omega arith

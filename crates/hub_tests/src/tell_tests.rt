@@ -1,5 +1,5 @@
 //! What is told to a peer.
-use crate::asks::{Ask, Row};
+use crate::replica_asks::{Ask, Row};
 use crate::test_exchange::plays_merged;
 
 static IN_ORDER: [Row; 7] = [

@@ -99,6 +99,7 @@ fn truncate(alloc: Global, list: &mut OpList, n: usize) -> Result<String, Fail> 
 impl World for Listed {
     fn answer(&mut self, alloc: Global, command: &str, words: &str) -> Result<String, Fail> {
         let (first, second) = two_of(words)?;
+        let (first, second) = (first as usize, second as usize);
         match command {
             "len" => counted(alloc, self.list.len()),
             "get" => told(alloc, is_got(alloc, self, first)),

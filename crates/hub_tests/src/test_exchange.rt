@@ -1,5 +1,5 @@
 //! Three peers that exchange edits of two documents.
-use crate::asks::{Row, Wish};
+use crate::replica_asks::{Row, Wish};
 use crate::test_asks::{count_right, peers};
 use crate::test_edits::{edit, refusal};
 use crate::test_merges::merge_all;

@@ -151,6 +151,7 @@ fn is_one_way(alloc: Global, list: &RunList, n: usize) -> Result<bool, Fail> {
 impl World for Runs {
     fn answer(&mut self, alloc: Global, command: &str, words: &str) -> Result<String, Fail> {
         let (n, _) = two_of(words)?;
+        let n = n as usize;
         match command {
             "each" => put_each(alloc, &mut self.list, &self.ops),
             "all" => put_all(alloc, &mut self.list, &self.ops),

@@ -1,7 +1,7 @@
 use Rattle.std.proofs.Common.{drop, ap, arith}
 use Rattle.op_model.specs.Records.{stream_length}
 use Rattle.op_list.proofs.Recorded.{last_within}
-use Rattle.codec_tests.proofs.run_tests.put_rest.Goals as goal
+use Rattle.store_tests.proofs.run_tests.put_rest.Goals as goal
 
 pub extend_from-requires-clause-room : goal.extend_from-requires-clause-room
 extend_from-requires-clause-room c =

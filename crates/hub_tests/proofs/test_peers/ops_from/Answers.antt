@@ -1,6 +1,6 @@
 use Rattle.std.proofs.Common.{zero-add}
 use Rattle.replica_core.proofs.FollowLemmas.{rest_fits}
-use Rattle.replica_tests.proofs.test_peers.ops_from.Goals as goal
+use Rattle.hub_tests.proofs.test_peers.ops_from.Goals as goal
 
 pub append-requires : goal.append-requires
 append-requires c =

@@ -1,5 +1,5 @@
 //! What the tests ask of one replica's edits.
-use crate::asks::Wish;
+use crate::replica_asks::Wish;
 use crate::test_peers::bytes_ending;
 use op_ids::Token;
 use op_model::{Change, Edit, EditText, Mark, MarkKey};

@@ -1,5 +1,5 @@
 //! Edits of one replica.
-use crate::asks::{Ask, Row, Wish};
+use crate::replica_asks::{Ask, Row, Wish};
 use crate::test_asks::plays;
 
 static EDITED: [Row; 4] = [

@@ -157,7 +157,7 @@ fn push_digits(bytes: &mut Vec<u8>, digits: &str) -> Result<(), Fail> {
 
 /// Puts the bytes that pieces of hex say behind the others, where `A` stands for the replica, `T`
 /// for the token and `N` for eight zeros.
-fn push_pieces(bytes: &mut Vec<u8>, pieces: &str) -> Result<(), Fail> {
+pub(crate) fn push_pieces(bytes: &mut Vec<u8>, pieces: &str) -> Result<(), Fail> {
     for piece in pieces.split_whitespace() {
         let digits = match piece {
             "A" => NAME,
