@@ -1,4 +1,5 @@
-//! Tests of replicas, alone and among peers, and of hubs that are held alone and sessions over them.
+//! Tests of replicas, alone and among peers, and of hubs that are held alone and the sessions over
+//! them.
 #![tactic(auto)]
 
 #[cfg(test)]

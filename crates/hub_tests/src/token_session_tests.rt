@@ -206,7 +206,7 @@ static SENT: [Row; 1] = [(Ask::Send(0), Ok(1))];
 fn has_record(alloc: Global) -> Option<bool> {
     let (count, mut disk) = count_right(alloc, NEVER, &SENT)?;
     let mut bytes = [1; 55];
-    let is_read = disk.read_at(8_192, &mut bytes).is_ok();
+    let is_read = Disk::read_at(&mut disk, 8_192, &mut bytes).is_ok();
     Some(count == SENT.len() && is_read && bytes == RECORD)
 }
 
