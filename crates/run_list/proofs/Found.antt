@@ -1,5 +1,5 @@
 -- What the run that a search finds says of the operation that was looked for.
-use Rattle.std.proofs.Common.{◌≡◌, ◌≢◌, ℕ, zero, suc, ◌+◌, ◌-◌, ◌<◌, ◌≤◌, ◌^◌, Bool, true, List}
+use Rattle.std.proofs.Common.{◌≡◌, ◌≢◌, ℕ, zero, suc, ◌+◌, ◌-◌, ◌<◌, ◌≤◌, ◌^◌, true, List}
 use Rattle.std.proofs.Common.{[], ◌∷◌, length, map, get_or, Option, Some, None, refl, sym, ap, subst, ◌∙◌, arith}
 use Rattle.std.specs.Prelude.{◌++◌, IfSome}
 use Rattle.std.specs.Char.{IsScalar}
@@ -7,7 +7,6 @@ use Rattle.std.specs.List.Sorted.{IsNonDecreasing}
 use Rattle.std.proofs.lemmas.List.{get_or_default, get_or-map}
 use Rattle.op_ids.specs.Id.{Id}
 use Rattle.op_model.specs.declared.op.Op.{Op}
-use Rattle.op_model.specs.Records.{stream_length}
 use Rattle.change_codec.specs.Fits.{IsOperation}
 use Rattle.change_codec.specs.Stream.{AreOperations}
 use Rattle.op_list.specs.Heads.{head_of, heads}
@@ -17,8 +16,8 @@ use Rattle.op_ids.specs.Clock.{advanced}
 use Rattle.op_model.specs.declared.op.Body.TheVariants.{Insert}
 use Rattle.op_pieces.specs.Cutting.{is_next, value_of}
 use Rattle.op_pieces.proofs.PieceLemmas.{next_is}
-use Rattle.run_list.specs.Runs.{HoldsRuns, starts_behind, last_behind, IsLast}
-use Rattle.run_list.specs.Reading.{below, typed_at, read_at}
+use Rattle.run_list.specs.Runs.{HoldsRuns, last_behind, IsLast}
+use Rattle.run_list.specs.Reading.{below, typed_at}
 use Rattle.run_list.proofs.Holding.{Found, found, some_run}
 use Rattle.run_list.proofs.Parts.{starts_rise, last-more}
 
@@ -112,7 +111,7 @@ token_is ops i op token d lt at is = is ∙ ap (λ (o : Op). o.token) (sym at) �
 
 -- the head and the token of an operation, by those of the first one of its run
 
-some_op : (ops : List Op) (i : ℕ) → i < length ops → Op
+pub some_op : (ops : List Op) (i : ℕ) → i < length ops → Op
 some_op [] i lt = absurd (omega arith)
 some_op (op ∷ ops) i lt = op
 

@@ -1,19 +1,17 @@
 -- What holds the list after each call.
-use Rattle.std.proofs.Common.{◌≡◌, ℕ, zero, suc, ◌+◌, ◌-◌, ◌<◌, ◌≤◌, ◌^◌, true, false, List, [], ◌∷◌}
+use Rattle.std.proofs.Common.{◌≡◌, ℕ, suc, ◌+◌, ◌<◌, ◌≤◌, ◌^◌, true, false, List, [], ◌∷◌}
 use Rattle.std.proofs.Common.{◌++◌, length, get_or, take, Option, Some, None, refl, sym, ap, subst, ◌∙◌, inl, inr, arith}
-use Rattle.std.specs.Prelude.{if◌then◌else◌}
 use Rattle.std.proofs.lemmas.Bool.{cases_Bool}
 use Rattle.op_model.specs.declared.op.Op.{Op}
 use Rattle.op_model.specs.Records.{record_length, stream_length}
 use Rattle.change_codec.specs.Fits.{IsOperation}
-use Rattle.change_codec.specs.Stream.{AreOperations}
 use Rattle.change_codec.proofs.StreamLaws.{are_more}
 use Rattle.op_list.proofs.EndsOf.{stream_length-append}
 use Rattle.op_list.proofs.Holding.{fits_take, front_length}
 use Rattle.op_pieces.specs.Cutting.{value_of}
 use Rattle.run_list.specs.Runs.{goes_on, mark_of, marks_behind, firsts_behind, starts_behind, last_behind, unrolled, HoldsRuns}
-use Rattle.run_list.specs.Reading.{below, typed_at, run_at, read_at}
-use Rattle.run_list.proofs.Parts.{length-marks, length-firsts, length-starts-le, marks-take, below-starts, starts-take, firsts-take}
+use Rattle.run_list.specs.Reading.{below, run_at, read_at}
+use Rattle.run_list.proofs.Parts.{length-marks, length-firsts, marks-take, below-starts, starts-take, firsts-take}
 use Rattle.run_list.proofs.Parts.{marks-more, firsts-same, firsts-more, starts-same, starts-more}
 use Rattle.run_list.proofs.Unrolling.{held_is}
 use Rattle.run_list.proofs.Reading.{reads, run_found, found_below, some_found}

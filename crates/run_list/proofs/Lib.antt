@@ -5,3 +5,4 @@ pub mod Reading
 pub mod Holding
 pub mod Found
 pub mod Appending
+pub mod NextOnes

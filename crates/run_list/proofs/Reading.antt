@@ -1,23 +1,19 @@
 -- Which operation stands where.
-use Rattle.std.proofs.Common.{◌≡◌, ℕ, zero, suc, ◌+◌, ◌-◌, ◌<◌, ◌≤◌, Bool, true, false, nat_lt, List}
+use Rattle.std.proofs.Common.{◌≡◌, ℕ, zero, suc, ◌+◌, ◌-◌, ◌<◌, ◌≤◌, true, false, nat_lt, List}
 use Rattle.std.proofs.Common.{[], ◌∷◌, length, get_or, Option, Some, None, refl, sym, ap, ◌∙◌, inl, inr, arith}
-use Rattle.std.specs.Prelude.{if◌then◌else◌}
 use Rattle.std.proofs.lemmas.Bool.{cases_Bool}
 use Rattle.std.proofs.lemmas.Bool.Decides.{nat_tests}
-use Rattle.op_ids.specs.Id.{Id}
 use Rattle.op_ids.specs.Clock.{advanced, advanced_by}
 use Rattle.op_model.specs.declared.op.Op.{Op}
 use Rattle.op_model.specs.declared.op.Body.TheVariants.{Insert}
-use Rattle.change_codec.specs.Fits.{IsOperation}
-use Rattle.change_codec.specs.Stream.{AreOperations}
 use Rattle.op_pieces.specs.Cutting.{is_next, value_of}
 use Rattle.op_pieces.specs.Pieces.{next_typed}
 use Rattle.op_pieces.proofs.PieceLemmas.{next_is, advanced_by-more}
-use Rattle.run_list.specs.Runs.{goes_on, mark_of, marks_behind, firsts_behind, starts_behind}
+use Rattle.run_list.specs.Runs.{goes_on, marks_behind, firsts_behind, starts_behind}
 use Rattle.run_list.specs.Reading.{below, typed_at, run_at, read_at}
 
 -- one more behind an operation of a run is the next one of that run
-typed_more : (first : Op) (n v w : ℕ) → next_typed (typed_at first n v) w ≡ typed_at first (suc n) w
+pub typed_more : (first : Op) (n v w : ℕ) → next_typed (typed_at first n v) w ≡ typed_at first (suc n) w
 typed_more first zero v w =
     let before : first.id.counter ≡ first.id.counter + 0 = omega arith in
     let next : first.id.counter + 1 ≡ first.id.counter + suc 0 = omega arith in

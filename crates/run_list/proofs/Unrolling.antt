@@ -1,21 +1,19 @@
 -- What marks and firsts stand for.
-use Rattle.std.proofs.Common.{◌≡◌, ℕ, zero, suc, ◌+◌, ◌<◌, Bool, true, false, List, [], ◌∷◌}
-use Rattle.std.proofs.Common.{◌++◌, length, Option, Some, None, refl, sym, ap, subst, ◌∙◌, inl, inr, arith}
-use Rattle.std.specs.Prelude.{◌==◌, if◌then◌else◌}
+use Rattle.std.proofs.Common.{◌≡◌, ℕ, true, false, List, [], ◌∷◌}
+use Rattle.std.proofs.Common.{Option, Some, None, refl, sym, ap, subst, ◌∙◌, inl, inr}
+use Rattle.std.specs.Prelude.{◌==◌}
 use Rattle.std.specs.Char.{IsScalar}
 use Rattle.std.proofs.Math.Utf8.{scalar as scalar_test}
 use Rattle.std.proofs.lemmas.Bool.{cases_Bool, eqb-true}
-use Rattle.std.proofs.lemmas.Bool.Decides.{nat_tests}
 use Rattle.op_model.specs.declared.op.Op.{Op}
 use Rattle.op_model.specs.declared.op.Body.{Body}
 use Rattle.op_model.specs.declared.op.Body.TheVariants.{Insert, Remove, AddMark, RemoveMark}
 use Rattle.change_codec.specs.Fits.{IsContent, IsOperation}
 use Rattle.change_codec.specs.Stream.{AreOperations}
 use Rattle.op_pieces.specs.Cutting.{is_next, value_of}
-use Rattle.op_pieces.specs.Pieces.{next_typed}
 use Rattle.op_pieces.proofs.PieceLemmas.{next_is}
-use Rattle.run_list.specs.Runs.{goes_on, mark_of, marks_behind, firsts_behind, starts_behind, taken_first}
-use Rattle.run_list.specs.Runs.{typed_next, next_of, then_behind, unrolled, HoldsRuns, AreRuns}
+use Rattle.run_list.specs.Runs.{mark_of, marks_behind, firsts_behind}
+use Rattle.run_list.specs.Runs.{next_of, then_behind, unrolled, HoldsRuns, AreRuns}
 
 -- no character's number says that a run begins
 scalar_is_no_beginning : (v : ℕ) → IsScalar v → (v == 1114112) ≡ false
@@ -25,7 +23,7 @@ scalar_is_no_beginning v scalar =
       | inr other ↦ other
     ]
 
-value_is_scalar : (body : Body) → IsContent body → (value_of body == 1114112) ≡ false
+pub value_is_scalar : (body : Body) → IsContent body → (value_of body == 1114112) ≡ false
 value_is_scalar (Insert origin value) fits = scalar_is_no_beginning value fits.1
 value_is_scalar (Remove target) fits = refl
 value_is_scalar (AddMark mark start end) fits = refl

@@ -1,2 +1,4 @@
 pub mod Runs
 pub mod Reading
+pub mod Reader
+pub mod NextOnes

@@ -1,10 +1,11 @@
 -- Used by private functions and proofs alone.
 --
 -- Which run an operation is of, and what it is there.
-use Rattle.std.specs.Prelude.{ℕ, zero, suc, ◌+◌, ◌-◌, nat_lt, List, [], ◌∷◌, Some, if◌then◌else◌}
+use Rattle.std.specs.Prelude.{ℕ, zero, suc, ◌+◌, ◌-◌, nat_lt, List, [], ◌∷◌, length, Some, None, if◌then◌else◌}
 use Rattle.op_ids.specs.Clock.{advanced_by}
 use Rattle.op_model.specs.declared.op.Op.{Op}
 use Rattle.op_model.specs.declared.op.Body.TheVariants.{Insert}
+use Rattle.run_list.specs.Runs.{firsts_behind}
 
 -- how many of these, which rise, are below a number
 abbrev pub below : ℕ → List ℕ → ℕ
@@ -31,3 +32,7 @@ run_at at run (s ∷ ss) (f ∷ fs) = if nat_lt s (suc at) then run_at at (f, s)
 -- the operation at a place, of the run that begins there or before
 abbrev pub read_at : ℕ → Op × ℕ → ℕ → Op
 read_at at run mark = typed_at run.0 (at - run.1) mark
+
+-- how many runs these operations begin
+abbrev pub runs_of : List Op → ℕ
+runs_of ops = length (firsts_behind None ops)

@@ -5,11 +5,15 @@
 #![tactic(auto)]
 
 mod finding;
+mod following;
 mod marks;
+mod pieces;
 mod run_list;
+mod run_reader;
 mod run_reading;
 mod run_slice;
 mod typed;
 
 pub use run_list::{ListEnd, RunList};
+pub use run_reader::RunReader;
 pub use run_slice::RunSlice;

@@ -27,10 +27,13 @@ pub struct RunList {
     /// Where these stand in the list.
     pub(crate) starts: Vec<u32>,
     /// How many bytes the records of all operations take, one by one.
-    bytes: u64,
+    pub(crate) bytes: u64,
     /// The last operation, if there was memory for it, so that it isn't made anew for the next one.
     last: Option<Op>,
 }
+
+/// The most bytes that the records of a list take, one by one.
+const MAX_BYTES: u64 = 4_294_967_295;
 
 /// Where a list ended, so that what is behind can be taken away again.
 #[derive(Clone, Copy, Debug)]
@@ -139,10 +142,10 @@ impl RunList {
     }
 
     /// Puts the operations of another list behind the others, from its n-th on, counted from 0: all
-    /// of them, or none. An error is out of memory (1). What `RunSlice::get` costs for each.
+    /// of them, or none. An error is out of memory (1), and it is one too where the records of all,
+    /// one by one, would take 2^32 bytes. What `RunSlice::get` costs for each.
     pub fn extend_from(&mut self, ops: &RunSlice<'_>, n: usize) -> Result<(), AllocError>
-        requires within { n ≤ length ops.now }
-        requires room { stream_length self.old + stream_length (drop n ops.now) < 2 ^ 32 }
+        requires { n ≤ length ops.now }
         ensures ok { OnOk result (self.new ≡ self.old ++ drop n ops.now) }
         ensures err { OnErr result (self.new ≡ self.old) }
     {
@@ -186,13 +189,15 @@ impl RunList {
 
     /// Puts the operations of another list behind the others, from its n-th on, one by one.
     fn extend_each(&mut self, ops: &RunSlice<'_>, n: usize) -> Result<(), AllocError>
-        requires within { n ≤ length ops.now }
-        requires room { stream_length self.old + stream_length (drop n ops.now) < 2 ^ 32 }
+        requires { n ≤ length ops.now }
         ensures ok { OnOk result (self.new ≡ self.old ++ drop n ops.now) }
         ensures front { take (length self.old) self.new ≡ self.old }
     {
         for i in n..ops.len() {
             let op = ops.get(i)?;
+            if self.bytes + op.record_length() > MAX_BYTES {
+                return Err(AllocError);
+            }
             self.push(&op)?;
         }
         Ok(())

@@ -1,6 +1,7 @@
 //! The operations of a list of runs, one by one.
-ghost use Rattle.std.specs.Prelude.{◌≡◌, ◌<◌, length, IfOk, slice_index_or, map};
+ghost use Rattle.std.specs.Prelude.{◌≡◌, ◌<◌, ◌^◌, length, IfOk, slice_index_or, map};
 ghost use Rattle.op_list.specs.Heads.{heads};
+ghost use Rattle.change_codec.specs.Stream.{AreOperations};
 
 use crate::finding::run_of;
 use crate::run_list::RunList;
@@ -11,6 +12,15 @@ use op_model::Op;
 use std::alloc::AllocError;
 
 impl RunList {
+    /// Tells what the type keeps. Costs nothing.
+    pub(crate) fn kept(&self)
+        ensures fits { AreOperations self.now }
+        ensures few { length self.now < 2 ^ 32 }
+    {
+        // For the proof: with a field read, it knows what the type keeps.
+        let _bytes = self.bytes;
+    }
+
     /// The i-th operation, counted from 0. An error is out of memory (1). A search by halves for
     /// its run, and linear in the record of that.
     pub(crate) fn get(&self, i: usize) -> Result<Op, AllocError>

@@ -1,8 +1,12 @@
 //! A borrowed list of operations.
-ghost use Rattle.std.specs.Prelude.{◌≡◌, ◌<◌, ◌≤◌, length, map, take, drop, slice_index_or, IfOk};
+ghost use Rattle.std.specs.Prelude.{◌≡◌, ◌<◌, ◌≤◌, ◌^◌, suc, length, map, take, drop, slice_index_or, IfOk, IfSome, Some, None};
 ghost use Rattle.op_list.specs.Heads.{heads};
+ghost use Rattle.change_codec.specs.Stream.{AreOperations};
+ghost use Rattle.run_list.specs.Reading.{runs_of};
+ghost use Rattle.run_list.specs.Runs.{last_behind};
 
 use crate::run_list::RunList;
+use crate::run_reader::RunReader;
 use op_ids::Token;
 use op_list::OpHead;
 use op_model::Op;
@@ -51,6 +55,22 @@ impl<'a> RunSlice<'a> {
         self.len
     }
 
+    /// Tells what the type keeps. Costs nothing.
+    pub fn kept(&self)
+        ensures fits { AreOperations self.now }
+        ensures few { length self.now < 2 ^ 32 }
+    {
+        // For the proof: with a field read, it knows what the list keeps.
+        self.list.kept();
+    }
+
+    /// What reads the operations in their order. Constant.
+    pub fn reader(&self) -> RunReader<'a>
+        ensures { result ≡ record { list = self.now; at = 0 } }
+    {
+        RunReader::new(RunSlice::new(self.list, self.len))
+    }
+
     /// The first n operations. Constant.
     pub fn front(&self, n: usize) -> RunSlice<'a>
         requires { n ≤ length self.now }
@@ -84,6 +104,23 @@ impl<'a> RunSlice<'a> {
         ensures { IfOk result (λ op. op ≡ slice_index_or self.now i op) }
     {
         self.list.get(i)
+    }
+
+    /// The i-th operation, counted from 0, and how many runs are begun with it, where `runs` are
+    /// begun before it; the one before it may be known. An error is out of memory (1).
+    pub(crate) fn next(
+        &self,
+        i: usize,
+        runs: usize,
+        before: Option<Op>,
+    ) -> Result<(Op, usize), AllocError>
+        requires within { i < length self.now }
+        requires runs { runs ≡ runs_of (take i self.now) }
+        requires before { IfSome before (λ op. last_behind None (take i self.now) ≡ Some op) }
+        ensures op { IfOk result (λ it. it.0 ≡ slice_index_or self.now i it.0) }
+        ensures runs { IfOk result (λ it. it.1 ≡ runs_of (take (suc i) self.now)) }
+    {
+        self.list.next(i, runs, before)
     }
 
     /// The operations from the n-th on, counted from 0. An error is out of memory (1). What `get`

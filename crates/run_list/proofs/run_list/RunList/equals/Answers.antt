@@ -1,9 +1,7 @@
-use Rattle.std.proofs.Common.{◌≡◌, ◌≤◌, List, length, take, ap, sym, ◌∙◌, arith, rules}
+use Rattle.std.proofs.Common.{length, take, ap, sym, ◌∙◌, arith, rules}
 use Rattle.std.specs.Prelude.{None}
-use Rattle.op_model.specs.declared.op.Op.{Op}
-use Rattle.op_model.specs.Records.{stream_length}
 use Rattle.op_list.proofs.Recorded.{told}
-use Rattle.run_list.specs.Runs.{HoldsRuns, marks_behind, firsts_behind}
+use Rattle.run_list.specs.Runs.{marks_behind, firsts_behind}
 use Rattle.run_list.proofs.Found.{rising}
 use Rattle.run_list.proofs.Holding.{front_held, same_held, few_firsts, marks_long}
 use Rattle.run_list.proofs.Reading.{below_within}

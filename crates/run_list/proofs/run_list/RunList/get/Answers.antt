@@ -1,10 +1,8 @@
-use Rattle.std.proofs.Common.{◌≡◌, ◌≢◌, ℕ, ◌+◌, ◌-◌, ◌<◌, ◌≤◌, length, get_or, ap, sym, ◌∙◌, arith, rules}
+use Rattle.std.proofs.Common.{◌≡◌, ◌≢◌, ◌-◌, length, get_or, ap, sym, ◌∙◌, arith, rules}
 use Rattle.std.specs.Char.{IsScalar}
 use Rattle.op_model.specs.declared.op.Op.{Op}
-use Rattle.change_codec.specs.Fits.{IsOperation}
 use Rattle.run_list.specs.Reading.{typed_at}
 use Rattle.run_list.proofs.Found.{rising, some_begun, few, found_in, start_is, begins_it, stands_behind, fits_behind, scalar_behind}
-use Rattle.run_list.proofs.Holding.{Found}
 use Rattle.run_list.proofs.Unrolling.{shown}
 use Rattle.run_list.proofs.run_list.RunList.get.Goals as goal
 

@@ -1,4 +1,4 @@
-use Rattle.std.proofs.Common.{◌≡◌, ◌+◌, ◌++◌, ◌∷◌, [], arith, rules}
+use Rattle.std.proofs.Common.{◌+◌, ◌++◌, ◌∷◌, [], arith, rules}
 use Rattle.run_list.specs.Runs.{HoldsRuns}
 use Rattle.run_list.proofs.Found.{last_known}
 use Rattle.run_list.proofs.Holding.{holds_next}

@@ -1,10 +1,6 @@
-use Rattle.std.proofs.Common.{◌≡◌, ◌≢◌, ℕ, ◌+◌, ◌-◌, ◌<◌, ◌≤◌, length, get_or, ap, sym, ◌∙◌, arith, rules}
-use Rattle.std.proofs.lemmas.List.{get_or-map}
-use Rattle.op_model.specs.declared.op.Op.{Op}
-use Rattle.op_list.specs.Heads.{head_of, heads}
-use Rattle.run_list.specs.Reading.{typed_at}
+use Rattle.std.proofs.Common.{◌≢◌, length, get_or, ap, ◌∙◌, arith}
+use Rattle.op_list.specs.Heads.{heads}
 use Rattle.run_list.proofs.Found.{rising, some_begun, few, found_in, start_is, head_begins, head_counter, head_stands}
-use Rattle.run_list.proofs.Holding.{Found}
 use Rattle.run_list.proofs.Unrolling.{shown}
 use Rattle.run_list.proofs.run_list.RunList.head.Goals as goal
 

@@ -1,6 +1,6 @@
-use Rattle.std.proofs.Common.{◌≡◌, [], ap, refl, ◌∙◌, rules}
+use Rattle.std.proofs.Common.{[], refl, rules}
 use Rattle.std.specs.Prelude.{None}
-use Rattle.run_list.specs.Runs.{HoldsRuns, unrolled}
+use Rattle.run_list.specs.Runs.{unrolled}
 use Rattle.run_list.proofs.Found.{none_known}
 use Rattle.run_list.proofs.Holding.{holds_empty}
 use Rattle.run_list.proofs.Unrolling.{are_runs, held_is}

@@ -1,8 +1,5 @@
-use Rattle.std.proofs.Common.{◌≡◌, ◌≢◌, ℕ, ◌+◌, ◌-◌, ◌<◌, ◌≤◌, length, map, get_or, ap, sym, ◌∙◌, arith, rules}
-use Rattle.op_model.specs.declared.op.Op.{Op}
-use Rattle.run_list.specs.Reading.{typed_at}
+use Rattle.std.proofs.Common.{length, map, get_or, ap, ◌∙◌, arith}
 use Rattle.run_list.proofs.Found.{rising, some_begun, few, found_in, token_stands}
-use Rattle.run_list.proofs.Holding.{Found}
 use Rattle.run_list.proofs.Unrolling.{shown}
 use Rattle.run_list.proofs.run_list.RunList.token.Goals as goal
 

@@ -1,4 +1,4 @@
-use Rattle.std.proofs.Common.{◌≡◌, ◌≤◌, ◌++◌, drop, length}
+use Rattle.std.proofs.Common.{◌≡◌, ◌++◌, drop}
 use Rattle.run_list.proofs.run_slice.RunSlice.copy_from.Given as goal
 
 -- what was copied, and what is left, are all from the n-th on

@@ -1,0 +1,8 @@
+use Rattle.run_list.proofs.Found.{few}
+use Rattle.run_list.proofs.Unrolling.{shown}
+use Rattle.run_list.proofs.run_list.RunList.kept.Goals as goal
+
+pub returns-clause-few : goal.returns-clause-few
+returns-clause-few c =
+    let holds = shown _ _ _ _ c.args.self.now c.self.invariant.0 c.self.view_is in
+    few _ _ _ _ _ holds

@@ -1,0 +1,59 @@
+//! The operation behind the first ones of a list.
+ghost use Rattle.std.specs.Prelude.{◌≡◌, ◌<◌, true, suc, length, take, slice_index_or, IfOk, IfSome, Some, None};
+ghost use Rattle.op_model.specs.declared.op.Op.{Op as Operation};
+ghost use Rattle.run_list.specs.NextOnes.{GoesOnWith};
+ghost use Rattle.run_list.specs.Reading.{runs_of};
+ghost use Rattle.run_list.specs.Runs.{last_behind};
+
+use crate::run_list::RunList;
+use crate::typed::typed_at;
+use op_model::Op;
+use std::alloc::AllocError;
+
+impl RunList {
+    /// The i-th operation, counted from 0, and how many runs are begun with it, where `runs` are
+    /// begun before it; the one before it may be known, and is made into it where it goes on with
+    /// its run. An error is out of memory (1).
+    pub(crate) fn next(
+        &self,
+        i: usize,
+        runs: usize,
+        before: Option<Op>,
+    ) -> Result<(Op, usize), AllocError>
+        requires within { i < length self.now }
+        requires runs { runs ≡ runs_of (take i self.now) }
+        requires before { IfSome before (λ op. last_behind None (take i self.now) ≡ Some op) }
+        ensures op { IfOk result (λ it. it.0 ≡ slice_index_or self.now i it.0) }
+        ensures runs { IfOk result (λ it. it.1 ≡ runs_of (take (suc i) self.now)) }
+    {
+        match char::from_u32(self.marks[i]) {
+            Some(value) => {
+                let op = self.typed(i, before, value)?;
+                Ok((op, runs))
+            }
+            None => {
+                let op = self.firsts.as_slice().get(self.allocator(), runs)?;
+                Ok((op, runs + 1))
+            }
+        }
+    }
+
+    /// The i-th operation, counted from 0, which goes on with its run and types this character. An
+    /// error is out of memory (1).
+    fn typed(&self, i: usize, before: Option<Op>, value: char) -> Result<Op, AllocError>
+        requires within { i < length self.now }
+        requires on { GoesOnWith self.now i value }
+        requires before { IfSome before (λ op. last_behind None (take i self.now) ≡ Some op) }
+        ensures { IfOk result (λ op. op ≡ slice_index_or self.now i op) }
+    {
+        // For the proof: the operations keep their rules.
+        self.kept();
+        match before {
+            Some(op) => {
+                let op = typed_at(op, 1, value)?;
+                Ok(op)
+            }
+            None => self.get(i),
+        }
+    }
+}
