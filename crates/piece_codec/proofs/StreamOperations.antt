@@ -45,7 +45,7 @@ next_operation op v n fits scalar room =
       body = (fits.id, scalar);
     }
 
-typed_operations : (op : Op) (vs : List ℕ) → IsOperation op → AreScalars vs → fits_behind op vs ≡ true → AreOperations (typed_behind op vs)
+pub typed_operations : (op : Op) (vs : List ℕ) → IsOperation op → AreScalars vs → fits_behind op vs ≡ true → AreOperations (typed_behind op vs)
 typed_operations op [] fits scalars room = tt
 typed_operations op (v ∷ vs) fits scalars room =
     let next = next_operation op v (length vs) fits scalars.0 room in
@@ -56,7 +56,7 @@ typed_of : (f : Format) (op : Op) (vs : List ℕ) → IsOf f op → AreOf f (typ
 typed_of f op [] of_f = tt
 typed_of f op (v ∷ vs) of_f = (of_f, typed_of f (next_typed op v) vs of_f)
 
-both_operations : (a b : List Op) → AreOperations a → AreOperations b → AreOperations (a ++ b)
+pub both_operations : (a b : List Op) → AreOperations a → AreOperations b → AreOperations (a ++ b)
 both_operations [] b fits_a fits_b = fits_b
 both_operations (op ∷ ops) b fits_a fits_b = (fits_a.0, both_operations ops b fits_a.1 fits_b)
 

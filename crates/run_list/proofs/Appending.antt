@@ -1,11 +1,9 @@
 -- Operations that are put behind a list, one by one.
-use Rattle.std.proofs.Common.{◌≡◌, ℕ, zero, suc, ◌+◌, ◌<◌, ◌≤◌, ◌^◌, List, [], ◌∷◌, ◌++◌}
-use Rattle.std.proofs.Common.{length, get_or, take, drop, refl, sym, ap, ◌∙◌, arith, append_assoc, drop-cons, add-one}
-use Rattle.std.proofs.lemmas.List.{take-append-le, length-take, append-nil}
+use Rattle.std.proofs.Common.{◌≡◌, ℕ, zero, suc, ◌+◌, ◌<◌, ◌≤◌, List, [], ◌∷◌, ◌++◌}
+use Rattle.std.proofs.Common.{length, get_or, take, drop, refl, sym, ap, ◌∙◌, arith, append_assoc, drop-cons, add-one, length-append}
+use Rattle.std.proofs.lemmas.List.{take-append-le, length-take, append-nil, take_at}
 use Rattle.std.proofs.Math.Seq.{take-length}
 use Rattle.op_model.specs.declared.op.Op.{Op}
-use Rattle.op_model.specs.Records.{record_length, stream_length}
-use Rattle.op_list.proofs.EndsOf.{stream_length-append}
 
 -- of these operations the first ones were put, and the others are left
 pub record Going (start ops left self : List Op) : Type 0 where
@@ -34,16 +32,6 @@ going_on start ops left rest self more op going next more_is =
           ∙ take-append-le (length start) self (op ∷ []) (start_within start self going.front) ∙ going.front;
     }
 
--- there is room for it
-pub room_left : (start ops left rest self : List Op) (op : Op) → Going start ops left self → left ≡ op ∷ rest
-    → stream_length start + stream_length ops < 2 ^ 32 → stream_length self + record_length op < 2 ^ 32
-room_left start ops left rest self op going next small =
-    let whole = ap stream_length going.all in
-    let first = stream_length-append self left in
-    let second = stream_length-append start ops in
-    let parts = ap stream_length next in
-    omega arith
-
 -- none is left
 pub all_put : (start ops left self : List Op) → Going start ops left self → left ≡ [] → self ≡ start ++ ops
 all_put start ops left self going none = sym (append-nil self) ∙ ap (λ (r : List Op). self ++ r) (sym none) ∙ going.all
@@ -57,3 +45,16 @@ none_left [] zero le = refl
 none_left [] (suc i) le = refl
 none_left (op ∷ ops) zero le = absurd (omega arith)
 none_left (op ∷ ops) (suc i) le = none_left ops i (omega arith)
+
+-- what was there before one more was put is there still
+pub front_of_front : (start more grown self : List Op) → grown ≡ start ++ more → take (length grown) self ≡ grown → take (length start) self ≡ start
+front_of_front start more grown self is front =
+    let within : length start ≤ length (take (length grown) self) = (let l = ap length (front ∙ is) in let m = length-append start more in omega arith) in
+    sym (take_within (length start) (length grown) self within)
+    ∙ ap (take (length start)) (front ∙ is) ∙ take_at start more (length start) refl
+  where
+    take_within : (n m : ℕ) (xs : List Op) → n ≤ length (take m xs) → take n (take m xs) ≡ take n xs
+    take_within zero m xs within = refl
+    take_within (suc n) zero xs within = absurd (omega arith)
+    take_within (suc n) (suc m) [] within = absurd (omega arith)
+    take_within (suc n) (suc m) (x ∷ xs) within = ap (λ (ys : List Op). x ∷ ys) (take_within n m xs (omega arith))

@@ -11,7 +11,6 @@ use Rattle.change_codec.specs.Fits.{IsOperation}
 use Rattle.change_codec.specs.Stream.{AreOperations}
 use Rattle.op_list.specs.Heads.{head_of, heads}
 use Rattle.op_list.specs.declared.head.OpHead.{OpHead}
-use Rattle.op_list.proofs.Holding.{few_ops}
 use Rattle.op_ids.specs.Clock.{advanced}
 use Rattle.op_model.specs.declared.op.Body.TheVariants.{Insert}
 use Rattle.op_pieces.specs.Cutting.{is_next, value_of}
@@ -23,29 +22,25 @@ use Rattle.run_list.proofs.Parts.{starts_rise, last-more}
 
 -- a list is searched by what it holds
 
-pub rising : (marks : List ℕ) (firsts : List Op) (starts : List ℕ) (bytes : ℕ) (ops : List Op) (seen : List ℕ) → HoldsRuns marks firsts starts bytes ops
+pub rising : (marks : List ℕ) (firsts : List Op) (starts : List ℕ) (ops : List Op) (seen : List ℕ) → HoldsRuns marks firsts starts ops
     → seen ≡ starts → IsNonDecreasing seen
-rising marks firsts starts bytes ops seen holds is =
+rising marks firsts starts ops seen holds is =
     subst (λ (ss : List ℕ). IsNonDecreasing ss) (sym (is ∙ holds.starts_so)) (starts_rise None 0 ops)
 
-pub some_begun : (marks : List ℕ) (firsts : List Op) (starts : List ℕ) (bytes : ℕ) (ops : List Op) (seen : List ℕ) (i : ℕ)
-    → HoldsRuns marks firsts starts bytes ops → seen ≡ starts → i < length ops → 0 < below (suc i) seen
-some_begun marks firsts starts bytes ops seen i holds is lt =
-    let some = some_run marks firsts starts bytes ops i holds lt in
+pub some_begun : (marks : List ℕ) (firsts : List Op) (starts : List ℕ) (ops : List Op) (seen : List ℕ) (i : ℕ)
+    → HoldsRuns marks firsts starts ops → seen ≡ starts → i < length ops → 0 < below (suc i) seen
+some_begun marks firsts starts ops seen i holds is lt =
+    let some = some_run marks firsts starts ops i holds lt in
     let same = ap (below (suc i)) is in
     omega arith
 
-pub few : (marks : List ℕ) (firsts : List Op) (starts : List ℕ) (bytes : ℕ) (ops : List Op) → HoldsRuns marks firsts starts bytes ops → length ops < 2 ^ 32
-few marks firsts starts bytes ops holds =
-    let less = few_ops ops in
-    let all = holds.bytes_so in
-    let small = holds.within in
-    omega arith
+pub few : (marks : List ℕ) (firsts : List Op) (starts : List ℕ) (ops : List Op) → HoldsRuns marks firsts starts ops → length ops < 2 ^ 32
+few marks firsts starts ops holds = holds.few
 
-pub found_in : (marks : List ℕ) (firsts : List Op) (starts : List ℕ) (bytes : ℕ) (ops : List Op) (seen : List ℕ) (i run : ℕ)
-    → HoldsRuns marks firsts starts bytes ops → seen ≡ starts → i < length ops → suc run ≡ below (suc i) seen → Found marks firsts starts ops i run
-found_in marks firsts starts bytes ops seen i run holds is lt count =
-    found marks firsts starts bytes ops i run holds lt (sym (count ∙ ap (below (suc i)) is))
+pub found_in : (marks : List ℕ) (firsts : List Op) (starts : List ℕ) (ops : List Op) (seen : List ℕ) (i run : ℕ)
+    → HoldsRuns marks firsts starts ops → seen ≡ starts → i < length ops → suc run ≡ below (suc i) seen → Found marks firsts starts ops i run
+found_in marks firsts starts ops seen i run holds is lt count =
+    found marks firsts starts ops i run holds lt (sym (count ∙ ap (below (suc i)) is))
 
 -- where the run begins
 

@@ -6,3 +6,4 @@ pub mod Holding
 pub mod Found
 pub mod Appending
 pub mod NextOnes
+pub mod Typing

@@ -1,23 +1,23 @@
 -- The operation behind the first ones of a list.
-use Rattle.std.proofs.Common.{◌≡◌, ℕ, zero, suc, ◌<◌, ◌≤◌, ◌^◌, true, false, List, [], ◌∷◌}
-use Rattle.std.proofs.Common.{length, get_or, take, Option, Some, None, refl, sym, ap, subst, ◌∙◌, inl, inr, arith}
+use Rattle.std.proofs.Common.{◌≡◌, ℕ, zero, suc, ◌+◌, ◌<◌, ◌≤◌, ◌^◌, true, false, List, [], ◌∷◌, ◌++◌}
+use Rattle.std.proofs.Common.{length, get_or, take, drop, Option, Some, None, refl, sym, ap, subst, ◌∙◌, inl, inr, arith, SomeIff, MatchOption}
 use Rattle.std.specs.Prelude.{IfSome}
 use Rattle.std.specs.Char.{IsScalar}
 use Rattle.std.proofs.lemmas.Bool.{cases_Bool}
-use Rattle.std.proofs.lemmas.List.{get_or-take, length-take}
+use Rattle.std.proofs.lemmas.List.{get_or_default, get_or-take, length-take}
 use Rattle.op_model.specs.declared.op.Op.{Op}
 use Rattle.op_pieces.specs.Cutting.{is_next, value_of}
 use Rattle.op_pieces.specs.Pieces.{next_typed}
 use Rattle.op_pieces.proofs.PieceLemmas.{next_is}
 use Rattle.change_codec.specs.Fits.{IsOperation}
 use Rattle.change_codec.specs.Stream.{AreOperations}
-use Rattle.run_list.specs.NextOnes.{GoesOnWith}
+use Rattle.run_list.specs.NextOnes.{BeginsRun, GoesOnWith}
 use Rattle.run_list.specs.Reader.{IsRead}
 use Rattle.run_list.specs.Reading.{typed_at, runs_of}
-use Rattle.run_list.specs.Runs.{goes_on, mark_of, marks_behind, firsts_behind, last_behind, HoldsRuns}
-use Rattle.run_list.proofs.Found.{operation_at, some_op, start_is, few}
-use Rattle.run_list.proofs.Holding.{marks_long}
-use Rattle.run_list.proofs.Parts.{last_at, length-firsts, length-starts-le}
+use Rattle.run_list.specs.Runs.{goes_on, mark_of, marks_behind, firsts_behind, last_behind, HoldsRuns, IsTypedBehind}
+use Rattle.run_list.proofs.Appending.{Going, going_on, next_of_list}
+use Rattle.run_list.proofs.Found.{operation_at, some_op}
+use Rattle.run_list.proofs.Parts.{last_at, last-more, length-firsts, length-starts-le}
 use Rattle.run_list.proofs.Reading.{typed_more}
 
 -- its mark
@@ -92,9 +92,9 @@ value_scalar None op fits on = let never : ⊥ = cc in absurd never
 value_scalar (Some l) op fits on = (subst (λ (o : Op). IsOperation o) (next_is l op on) fits).body.1
 
 -- where the mark is no character, a run begins
-pub begins_there : (marks : List ℕ) (ops : List Op) (i : ℕ) (d : Op) → marks ≡ marks_behind None ops → i < length ops → AreOperations ops
-    → (IsScalar (get_or marks i 0) → ⊥) → goes_on (last_behind None (take i ops)) (get_or ops i d) ≡ false
-begins_there marks ops i d are lt fits no_scalar =
+pub begins_there : (marks : List ℕ) (ops : List Op) (i : ℕ) → marks ≡ marks_behind None ops → i < length ops → AreOperations ops
+    → (IsScalar (get_or marks i 0) → ⊥) → BeginsRun ops i
+begins_there marks ops i are lt fits no_scalar d =
     let last = last_behind None (take i ops) in
     let op = get_or ops i d in
     elim (cases_Bool (goes_on last op)) [
@@ -105,32 +105,39 @@ begins_there marks ops i d are lt fits no_scalar =
     ]
 
 -- the operation at a place begins a run, before which there are so many
-pub record BeginsRun (firsts ops : List Op) (i runs : ℕ) : Type 0 where
+pub record BeginsIts (firsts ops : List Op) (i runs : ℕ) : Type 0 where
   pub within : runs < length firsts
   pub few : length firsts < 2 ^ 32
   pub first : (d : Op) → get_or firsts runs d ≡ get_or ops i d
-  pub more : suc runs ≡ runs_of (take (suc i) ops)
 
-pub begins_run : (marks : List ℕ) (firsts : List Op) (starts : List ℕ) (bytes : ℕ) (ops : List Op) (i code runs : ℕ)
-    → HoldsRuns marks firsts starts bytes ops → i < length ops → code ≡ get_or marks i code → (IsScalar code → ⊥) → runs ≡ runs_of (take i ops)
-    → BeginsRun firsts ops i runs
-begins_run marks firsts starts bytes ops i code runs holds lt is no_scalar runs_are =
-    let inside : i < length marks = omega (arith, marks_long marks firsts starts bytes ops holds) in
-    let off = λ (d : Op).
-    begins_there marks ops i d holds.marks_so lt holds.fits (λ scalar. no_scalar (rw (start_is marks i code inside is) scalar)) in
-    let e = get_or ops i (some_op ops i lt) in
+pub begins_run : (marks : List ℕ) (firsts : List Op) (starts : List ℕ) (ops : List Op) (i runs : ℕ) → HoldsRuns marks firsts starts ops → i < length ops
+    → BeginsRun ops i → runs ≡ runs_of (take i ops) → BeginsIts firsts ops i runs
+begins_run marks firsts starts ops i runs holds lt off runs_are =
+    let e = some_op ops i lt in
+    let all : length firsts ≡ length (firsts_behind None ops) = ap length holds.firsts_so in
     record {
-      within = omega (arith, (first_at None ops i e e lt (off e)).0, ap length holds.firsts_so, runs_are);
-      few =
-          omega (arith, ap length holds.firsts_so, length-firsts None 0 ops, length-starts-le None 0 ops, few marks firsts starts bytes ops holds);
+      within = omega (arith, (first_at None ops i e e lt (off e)).0, all, runs_are);
+      few = omega (arith, all, length-firsts None 0 ops, length-starts-le None 0 ops, holds.few);
       first = λ d. ap (λ fs. get_or fs runs d) holds.firsts_so ∙ ap (λ n. get_or (firsts_behind None ops) n d) runs_are ∙ (first_at None ops i d d lt (off d)).1;
-      more = sym (runs_more None ops i e lt (off e) ∙ ap suc (sym runs_are));
     }
+
+pub one_more_run : (ops : List Op) (i runs more : ℕ) → i < length ops → BeginsRun ops i → runs ≡ runs_of (take i ops) → more ≡ suc runs
+    → more ≡ runs_of (take (suc i) ops)
+one_more_run ops i runs more lt off runs_are is =
+    let e = some_op ops i lt in is ∙ ap suc runs_are ∙ sym (runs_more None ops i e lt (off e))
 
 -- with one that goes on, as many runs are begun
 pub goes_on_same : (ops : List Op) (i value runs : ℕ) → GoesOnWith ops i value → i < length ops → runs ≡ runs_of (take i ops)
     → runs ≡ runs_of (take (suc i) ops)
 goes_on_same ops i value runs on lt is = let e = some_op ops i lt in is ∙ sym (runs_same None ops i e lt (on.on e))
+
+-- a mark tells which of both it is
+pub mark_told : (marks : List ℕ) (firsts : List Op) (starts : List ℕ) (ops : List Op) (i code : ℕ) (result : Option ℕ) → HoldsRuns marks firsts starts ops
+    → i < length ops → code ≡ get_or marks i 0 → SomeIff result (IsScalar code) code → MatchOption result (BeginsRun ops i) (GoesOnWith ops i)
+mark_told marks firsts starts ops i code None holds lt is told =
+    begins_there marks ops i holds.marks_so lt holds.fits (λ scalar. told (rw (sym is) at scalar))
+mark_told marks firsts starts ops i code (Some value) holds lt is told =
+    goes_on_with marks ops i value holds.marks_so lt (subst (λ (v : ℕ). IsScalar v) (sym told.1) told.0) (told.1 ∙ is)
 
 -- the last one that was read is the one before
 pub before_known : (list : List Op) (at : ℕ) (op : Option Op) → at ≤ length list → IsRead list at op
@@ -141,3 +148,37 @@ before_known list (suc at) None within is = absurd is
 before_known list (suc at) (Some op) within is =
     let long : length (take (suc at) list) ≡ suc at = (let l = length-take (suc at) list in omega arith) in
     last_at None (take (suc at) list) at op long ∙ ap Some (get_or-take (suc at) list at op (omega arith) ∙ sym is)
+
+-- the next one of a list, put behind another one with the same last operation
+
+-- it goes on there as here
+pub typed_behind_too : (ops self : List Op) (i value : ℕ) (d : Op) → last_behind None self ≡ last_behind None (take i ops) → GoesOnWith ops i value
+    → IsOperation (get_or ops i d) → IsTypedBehind self value (get_or ops i d)
+typed_behind_too ops self i value d same on fits = record {
+  on = ap (λ (l : Option Op). goes_on l (get_or ops i d)) same ∙ on.on d;
+  types = on.types d;
+  fits = fits;
+}
+
+pub begins_too : (ops self : List Op) (i : ℕ) (op : Op) → last_behind None self ≡ last_behind None (take i ops) → BeginsRun ops i → op ≡ get_or ops i op
+    → goes_on (last_behind None self) op ≡ false
+begins_too ops self i op same off is =
+    ap (λ (l : Option Op). goes_on l op) same ∙ ap (goes_on (last_behind None (take i ops))) is ∙ off op
+
+-- and then both have the same last one again
+pub last_too : (ops self more : List Op) (i : ℕ) (op : Op) → i < length ops → op ≡ get_or ops i op → more ≡ self ++ op ∷ []
+    → last_behind None more ≡ last_behind None (take (i + 1) ops)
+last_too ops self more i op lt is grown =
+    let long : length (take (i + 1) ops) ≡ suc i = (let l = length-take (i + 1) ops in omega arith) in
+    ap (last_behind None) grown ∙ last-more None self op ∙ ap Some is
+    ∙ sym (last_at None (take (i + 1) ops) i op long ∙ ap Some (get_or-take (i + 1) ops i op (omega arith)))
+
+-- one more is copied
+pub copied : (start ops self more : List Op) (n i : ℕ) → Going start (drop n ops) (drop i ops) self → i < length ops
+    → ((d : Op) → more ≡ self ++ get_or ops i d ∷ [])
+    → Going start (drop n ops) (drop (i + 1) ops) more × (last_behind None more ≡ last_behind None (take (i + 1) ops))
+copied start ops self more n i going lt grown =
+    let e = some_op ops i lt in
+    let op = get_or ops i e in
+    let is : op ≡ get_or ops i op = get_or_default ops i e op lt in
+    (going_on _ _ _ _ _ _ _ going (next_of_list ops i op is lt) (grown e), last_too ops self more i op lt is (grown e))

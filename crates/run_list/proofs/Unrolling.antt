@@ -50,18 +50,18 @@ unrolled_behind (op ∷ ops) last fits =
     ∙ ap (λ (rest : List Op). op ∷ rest) (unrolled_behind ops (Some op) fits.1)
 
 -- what is held is the list
-pub held_is : (marks : List ℕ) (firsts : List Op) (starts : List ℕ) (bytes : ℕ) (ops : List Op) → HoldsRuns marks firsts starts bytes ops
+pub held_is : (marks : List ℕ) (firsts : List Op) (starts : List ℕ) (ops : List Op) → HoldsRuns marks firsts starts ops
     → unrolled marks None firsts ≡ ops
-held_is marks firsts starts bytes ops holds =
+held_is marks firsts starts ops holds =
     ap (λ (ms : List ℕ). unrolled ms None firsts) holds.marks_so
     ∙ ap (unrolled (marks_behind None ops) None) holds.firsts_so ∙ unrolled_behind ops None holds.fits
 
-pub are_runs : (marks : List ℕ) (firsts : List Op) (starts : List ℕ) (bytes : ℕ) (ops : List Op) → HoldsRuns marks firsts starts bytes ops
-    → AreRuns marks firsts starts bytes
-are_runs marks firsts starts bytes ops holds =
-    subst (λ (read : List Op). HoldsRuns marks firsts starts bytes read) (sym (held_is marks firsts starts bytes ops holds)) holds
+pub are_runs : (marks : List ℕ) (firsts : List Op) (starts : List ℕ) (ops : List Op) → HoldsRuns marks firsts starts ops
+    → AreRuns marks firsts starts
+are_runs marks firsts starts ops holds =
+    subst (λ (read : List Op). HoldsRuns marks firsts starts read) (sym (held_is marks firsts starts ops holds)) holds
 
 -- the list that a value shows is held
-pub shown : (marks : List ℕ) (firsts : List Op) (starts : List ℕ) (bytes : ℕ) (ops : List Op) → AreRuns marks firsts starts bytes
-    → unrolled marks None firsts ≡ ops → HoldsRuns marks firsts starts bytes ops
-shown marks firsts starts bytes ops are is = subst (λ (read : List Op). HoldsRuns marks firsts starts bytes read) is are
+pub shown : (marks : List ℕ) (firsts : List Op) (starts : List ℕ) (ops : List Op) → AreRuns marks firsts starts
+    → unrolled marks None firsts ≡ ops → HoldsRuns marks firsts starts ops
+shown marks firsts starts ops are is = subst (λ (read : List Op). HoldsRuns marks firsts starts read) is are

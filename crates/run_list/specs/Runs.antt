@@ -1,9 +1,9 @@
 -- How a list of operations is held: whole, those that begin a run, and of the others their characters.
-use Rattle.std.specs.Prelude.{◌≡◌, ℕ, suc, ◌<◌, ◌^◌, ◌==◌, Bool, false, List, [], ◌∷◌, Option, Some, None, if◌then◌else◌}
+use Rattle.std.specs.Prelude.{◌≡◌, ℕ, suc, ◌<◌, ◌^◌, ◌==◌, Bool, true, false, List, [], ◌∷◌, length, Option, Some, None, if◌then◌else◌}
 use Rattle.op_model.specs.declared.op.Op.{Op}
-use Rattle.op_model.specs.Records.{stream_length}
 use Rattle.op_pieces.specs.Cutting.{is_next, value_of}
 use Rattle.op_pieces.specs.Pieces.{next_typed}
+use Rattle.change_codec.specs.Fits.{IsOperation}
 use Rattle.change_codec.specs.Stream.{AreOperations}
 use Rattle.run_list.specs.declared.marks.TheConstants.{BEGINS}
 
@@ -61,18 +61,23 @@ unfoldable pub unrolled : List ℕ → Option Op → List Op → List Op
 unrolled [] last firsts = []
 unrolled (mark ∷ marks) last firsts = then_behind (unrolled marks) (next_of last mark firsts)
 
--- these are the marks of the list, the operations that begin its runs, where they stand, and how many bytes the records of all take
-pub record HoldsRuns (marks : List ℕ) (firsts : List Op) (starts : List ℕ) (bytes : ℕ) (ops : List Op) : Type 0 where
+-- these are the marks of the list, the operations that begin its runs, and where these stand
+pub record HoldsRuns (marks : List ℕ) (firsts : List Op) (starts : List ℕ) (ops : List Op) : Type 0 where
   pub marks_so : marks ≡ marks_behind None ops
   pub firsts_so : firsts ≡ firsts_behind None ops
   pub starts_so : starts ≡ starts_behind None 0 ops
-  pub bytes_so : bytes ≡ stream_length ops
   pub fits : AreOperations ops
-  pub within : bytes < 2 ^ 32
+  pub few : length ops < 2 ^ 32
 
 -- they are those of the list that they stand for
-abbrev pub AreRuns : List ℕ → List Op → List ℕ → ℕ → Type 0
-AreRuns marks firsts starts bytes = HoldsRuns marks firsts starts bytes (unrolled marks None firsts)
+abbrev pub AreRuns : List ℕ → List Op → List ℕ → Type 0
+AreRuns marks firsts starts = HoldsRuns marks firsts starts (unrolled marks None firsts)
+
+-- an operation goes on with the run of the last of these, and types this character
+pub record IsTypedBehind (ops : List Op) (value : ℕ) (op : Op) : Type 0 where
+  pub on : goes_on (last_behind None ops) op ≡ true
+  pub types : value ≡ value_of op.body
+  pub fits : IsOperation op
 
 -- an operation that is known to be the last one is the last one
 abbrev pub IsLast : Option Op → List Op → Type 0

@@ -1,7 +1,7 @@
 //! The operation behind the first ones of a list.
-ghost use Rattle.std.specs.Prelude.{◌≡◌, ◌<◌, true, suc, length, take, slice_index_or, IfOk, IfSome, Some, None};
+ghost use Rattle.std.specs.Prelude.{◌≡◌, ◌<◌, ◌^◌, suc, length, take, slice_index_or, IfOk, IfSome, MatchOption, Some, None};
 ghost use Rattle.op_model.specs.declared.op.Op.{Op as Operation};
-ghost use Rattle.run_list.specs.NextOnes.{GoesOnWith};
+ghost use Rattle.run_list.specs.NextOnes.{BeginsRun, GoesOnWith};
 ghost use Rattle.run_list.specs.Reading.{runs_of};
 ghost use Rattle.run_list.specs.Runs.{last_behind};
 
@@ -26,16 +26,38 @@ impl RunList {
         ensures op { IfOk result (λ it. it.0 ≡ slice_index_or self.now i it.0) }
         ensures runs { IfOk result (λ it. it.1 ≡ runs_of (take (suc i) self.now)) }
     {
-        match char::from_u32(self.marks[i]) {
+        match self.typed_mark(i) {
             Some(value) => {
                 let op = self.typed(i, before, value)?;
                 Ok((op, runs))
             }
             None => {
-                let op = self.firsts.as_slice().get(self.allocator(), runs)?;
+                let op = self.first(i, runs)?;
                 Ok((op, runs + 1))
             }
         }
+    }
+
+    /// The character that the i-th operation types, counted from 0, if it goes on with its run.
+    /// Constant.
+    pub(crate) fn typed_mark(&self, i: usize) -> Option<char>
+        requires { i < length self.now }
+        ensures { MatchOption result (BeginsRun self.now i) (GoesOnWith self.now i) }
+    {
+        char::from_u32(self.marks[i])
+    }
+
+    /// The i-th operation, counted from 0, which begins a run, behind so many. An error is out of
+    /// memory (1).
+    fn first(&self, i: usize, runs: usize) -> Result<Op, AllocError>
+        requires within { i < length self.now }
+        requires begins { BeginsRun self.now i }
+        requires runs { runs ≡ runs_of (take i self.now) }
+        ensures op { IfOk result (λ op. op ≡ slice_index_or self.now i op) }
+        ensures few { runs < 2 ^ 32 }
+    {
+        let op = self.firsts.as_slice().get(self.allocator(), runs)?;
+        Ok(op)
     }
 
     /// The i-th operation, counted from 0, which goes on with its run and types this character. An

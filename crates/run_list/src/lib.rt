@@ -4,16 +4,17 @@
 //! may have sixteen million operations.
 #![tactic(auto)]
 
+mod extending;
 mod finding;
 mod following;
 mod marks;
-mod pieces;
+mod putting;
 mod run_list;
 mod run_reader;
 mod run_reading;
 mod run_slice;
 mod typed;
 
-pub use run_list::{ListEnd, RunList};
+pub use run_list::RunList;
 pub use run_reader::RunReader;
 pub use run_slice::RunSlice;

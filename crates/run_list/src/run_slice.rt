@@ -1,7 +1,8 @@
 //! A borrowed list of operations.
-ghost use Rattle.std.specs.Prelude.{◌≡◌, ◌<◌, ◌≤◌, ◌^◌, suc, length, map, take, drop, slice_index_or, IfOk, IfSome, Some, None};
+ghost use Rattle.std.specs.Prelude.{◌≡◌, ◌<◌, ◌≤◌, ◌^◌, suc, length, map, take, drop, slice_index_or, IfOk, IfSome, MatchOption, Some, None};
 ghost use Rattle.op_list.specs.Heads.{heads};
 ghost use Rattle.change_codec.specs.Stream.{AreOperations};
+ghost use Rattle.run_list.specs.NextOnes.{BeginsRun, GoesOnWith};
 ghost use Rattle.run_list.specs.Reading.{runs_of};
 ghost use Rattle.run_list.specs.Runs.{last_behind};
 
@@ -121,6 +122,15 @@ impl<'a> RunSlice<'a> {
         ensures runs { IfOk result (λ it. it.1 ≡ runs_of (take (suc i) self.now)) }
     {
         self.list.next(i, runs, before)
+    }
+
+    /// The character that the i-th operation types, counted from 0, if it goes on with its run.
+    /// Constant.
+    pub(crate) fn typed_mark(&self, i: usize) -> Option<char>
+        requires { i < length self.now }
+        ensures { MatchOption result (BeginsRun self.now i) (GoesOnWith self.now i) }
+    {
+        self.list.typed_mark(i)
     }
 
     /// The operations from the n-th on, counted from 0. An error is out of memory (1). What `get`

@@ -1,0 +1,121 @@
+//! Operations that are put behind a list of runs.
+ghost use Rattle.std.specs.Prelude.{◌≡◌, ◌+◌, ◌<◌, ◌^◌, [], ◌∷◌, ◌++◌, length, take};
+ghost use Rattle.std.specs.Prelude.{true, false, None, OnOk, OnErr, IfOk};
+ghost use Rattle.op_model.specs.declared.op.Op.{Op as Operation};
+ghost use Rattle.run_list.specs.Runs.{goes_on as goes_on_of, last_behind, IsTypedBehind};
+
+use crate::marks::{BEGINS, MOST_BYTES, MOST_OPERATIONS};
+use crate::run_list::RunList;
+use crate::typed::followed;
+use change_codec::every_op_has_a_spelling;
+use op_model::Op;
+use op_pieces::{is_next, value_of};
+use std::alloc::AllocError;
+
+impl RunList {
+    /// Puts operations behind the others: all of them, or none. An error is out of memory (1), and
+    /// it is one too where the list would have 2^32 of them, or records of 2^32 bytes. Linear in
+    /// them.
+    pub fn append(&mut self, ops: &[Op]) -> Result<(), AllocError>
+        ensures ok { OnOk result (self.new ≡ self.old ++ ops.now) }
+        ensures err { OnErr result (self.new ≡ self.old) }
+    {
+        let before = self.len();
+        match self.append_each(ops) {
+            Ok(()) => Ok(()),
+            Err(refused) => {
+                self.truncate(before);
+                Err(refused)
+            }
+        }
+    }
+
+    /// Puts operations behind the others, one by one.
+    fn append_each(&mut self, ops: &[Op]) -> Result<(), AllocError>
+        ensures ok { OnOk result (self.new ≡ self.old ++ ops.now) }
+        ensures front { take (length self.old) self.new ≡ self.old }
+    {
+        for op in ops {
+            self.push(op)?;
+        }
+        Ok(())
+    }
+
+    /// Puts an operation behind the others.
+    pub(crate) fn push(&mut self, op: &Op) -> Result<(), AllocError>
+        ensures ok { OnOk result (self.new ≡ self.old ++ op.now ∷ []) }
+        ensures err { OnErr result (self.new ≡ self.old) }
+    {
+        if self.has_next(op)? {
+            self.go_on(op)
+        } else {
+            self.begin_run(op)
+        }
+    }
+
+    /// Whether an operation goes on with the run of the last one. An error is out of memory (1).
+    fn has_next(&self, op: &Op) -> Result<bool, AllocError>
+        ensures { IfOk result (λ on. on ≡ goes_on_of (last_behind None self.now) op.now) }
+    {
+        if let Some(last) = &self.last {
+            return Ok(is_next(last, op));
+        }
+        let len = self.len();
+        if len == 0 {
+            return Ok(false);
+        }
+        let last = self.get(len - 1)?;
+        Ok(is_next(&last, op))
+    }
+
+    /// Puts an operation behind the others that goes on with the run of the last one, which is
+    /// known again then.
+    fn go_on(&mut self, op: &Op) -> Result<(), AllocError>
+        requires { goes_on_of (last_behind None self.old) op.now ≡ true }
+        ensures ok { OnOk result (self.new ≡ self.old ++ op.now ∷ []) }
+        ensures err { OnErr result (self.new ≡ self.old) }
+    {
+        every_op_has_a_spelling(op);
+        let last = self.last.take();
+        self.type_on(value_of(&op.body))?;
+        self.last = followed(last, op);
+        Ok(())
+    }
+
+    /// Puts the operation behind the others that goes on with the run of the last one and types
+    /// this character.
+    pub(crate) fn type_on(&mut self, value: char) -> Result<(), AllocError>
+        requires { (op : Operation) × IsTypedBehind self.old value op }
+        ensures ok { OnOk result ((op : Operation) → IsTypedBehind self.old value op
+            → self.new ≡ self.old ++ op ∷ []) }
+        ensures err { OnErr result (self.new ≡ self.old) }
+    {
+        if self.marks.len() >= MOST_OPERATIONS {
+            return Err(AllocError);
+        }
+        self.marks.push(value as u32)?;
+        self.last = None;
+        Ok(())
+    }
+
+    /// Puts an operation behind the others that begins a run.
+    pub(crate) fn begin_run(&mut self, op: &Op) -> Result<(), AllocError>
+        requires { goes_on_of (last_behind None self.old) op.now ≡ false }
+        ensures ok { OnOk result (self.new ≡ self.old ++ op.now ∷ []) }
+        ensures err { OnErr result (self.new ≡ self.old) }
+    {
+        every_op_has_a_spelling(op);
+        let at = self.marks.len();
+        let bytes = self.firsts.as_slice().length_from(0) as u64;
+        if at >= MOST_OPERATIONS || bytes > MOST_BYTES || op.record_length() > MOST_BYTES - bytes {
+            return Err(AllocError);
+        }
+        self.marks.reserve(1)?;
+        self.starts.reserve(1)?;
+        self.firsts.append(std::slice::from_ref(op))?;
+        self.starts.push_reserved(at as u32);
+        self.marks.push_reserved(BEGINS);
+        self.last = op.copy().ok();
+        Ok(())
+    }
+}
