@@ -10,7 +10,7 @@ use crate::store::Store;
 use crate::stream_tail::StreamTail;
 use disk_trait::Disk;
 use op_ids::ReplicaId;
-use op_list::OpList;
+use run_list::RunList;
 use std::alloc::Global;
 
 /// A file that was opened: its store, the replica that it belongs to, and its operations.
@@ -18,7 +18,7 @@ use std::alloc::Global;
 pub struct Loaded<D: Disk> {
     pub store: Store<D>,
     pub replica: ReplicaId,
-    pub ops: OpList,
+    pub ops: RunList,
 }
 
 impl<D: Disk> Store<D> {
@@ -34,11 +34,12 @@ impl<D: Disk> Store<D> {
     /// A refusal hands the disk back.
     ///
     /// One sync, one `size`, one read of the two slots and one of each page that the live root
-    /// reaches. The stream is held in memory once, as the records of its operations; the store
-    /// itself holds its bytes behind the full pages, fewer than 4,096, and the pages' numbers, four
-    /// bytes each. These are sorted, to see that none is there twice. Of a file of the first format
-    /// it has the records of the operations once more, with runs, until its first commit: a pass
-    /// over the operations makes them.
+    /// reaches. The stream is in memory until its operations are read, and stands beside their list
+    /// so long, in which a typed character takes four bytes. The store itself holds the stream's
+    /// bytes behind the full pages, fewer than 4,096, and the pages' numbers, four bytes each.
+    /// These are sorted, to see that none is there twice. Of a file of the first format it has the
+    /// records of the operations, with runs, until its first commit: a pass over the operations
+    /// makes them.
     pub fn load(alloc: Global, mut disk: D) -> Result<Loaded<D>, OpenFault<D>>
         // The store is of the file's live root, and a crash leaves that file.
         ensures loaded { IfOk result

@@ -22,9 +22,9 @@ use crate::stream_tail::StreamTail;
 use change_codec::Format;
 use disk_trait::Disk;
 use ghost_lists::Written;
-use op_list::OpList;
 use page_file::Pages;
 use root_slots::{LoadedRoots, RootBody, Roots};
+use run_list::RunList;
 use std::alloc::{AllocError, Global};
 use stream_list::packed;
 
@@ -37,7 +37,7 @@ pub(crate) struct Image {
     pub next: Root,
     pub pages: Pages,
     pub stream: StreamTail,
-    pub ops: OpList,
+    pub ops: RunList,
     pub anew: Vec<u8>,
 }
 
@@ -93,7 +93,7 @@ fn roots_on(alloc: Global, head: RootBody, pages: &Pages) -> Result<(Root, Root)
 
 /// The records of operations in the newest format, where theirs has no runs; else nothing. An error
 /// is out of memory (1).
-fn spelled_anew(alloc: Global, format: Format, ops: &OpList) -> Result<Vec<u8>, AllocError>
+fn spelled_anew(alloc: Global, format: Format, ops: &RunList) -> Result<Vec<u8>, AllocError>
     ensures spells { IfOk result (λ anew. has_runs format ≡ false
         → SpellsList newest ops.now anew.items) }
     ensures short { IfOk result (λ anew. has_runs format ≡ false

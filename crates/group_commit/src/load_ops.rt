@@ -6,7 +6,7 @@ ghost use Rattle.group_commit.specs.Loading.{IsStreamFault};
 
 use crate::open_fault::OpenError;
 use change_codec::Format;
-use op_list::OpList;
+use run_list::RunList;
 use std::alloc::Global;
 use stream_list::read_stream;
 
@@ -18,7 +18,7 @@ pub(crate) fn ops_of(
     format: Format,
     stream: Vec<u8>,
     count: u64,
-) -> Result<OpList, OpenError>
+) -> Result<RunList, OpenError>
     requires { length stream.items ≤ MAX_STREAM_LENGTH }
     ensures found { IfOk result (λ ops. SpellsShort format ops count stream.items) }
     ensures fault { IfErr result (λ e. IsStreamFault e format stream.items count) }

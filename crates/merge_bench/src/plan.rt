@@ -1,9 +1,9 @@
 //! What is measured.
 use crate::place::Place;
 use op_ids::ReplicaId;
-use op_list::OpList;
 use op_model::{Change, Edit, EditText, Op};
 use replica_core::Replica;
+use run_list::RunList;
 use std::alloc::Global;
 
 /// The characters of an edit, at most.
@@ -146,10 +146,7 @@ fn insert(alloc: Global, replica: &mut Replica, at: u32, count: u32) -> Option<(
 
 /// The replica whose id ends in this byte, with the operations of another one.
 fn copied(alloc: Global, of: &Replica, last: u8) -> Option<Replica> {
-    let Ok(ops) = of.list().copy_from(alloc, 0) else {
-        return None;
-    };
-    let mut list = OpList::new(alloc);
-    list.append(&ops).ok()?;
+    let mut list = RunList::new(alloc);
+    list.extend_from(&of.list(), 0).ok()?;
     Replica::from_list(alloc, id(last)?, list).ok()
 }

@@ -1,5 +1,6 @@
 pub mod ReachedLemmas
 pub mod KeptLemmas
+pub mod ReadLemmas
 pub mod TellLemmas
 pub mod FollowLemmas
 pub mod SoundLemmas

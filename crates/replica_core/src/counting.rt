@@ -7,15 +7,15 @@ ghost use Rattle.replica_core.specs.Deciding.{AreCounted};
 
 use crate::index::Index;
 use op_ids::{Clock, ClockError, ReplicaId};
-use op_list::OpSlice;
 use op_model::Op;
+use run_list::RunSlice;
 use std::alloc::{AllocError, Global};
 
 /// How many operations each replica has among the first `count` of a causally closed list, with its
 /// clock and its index. An error is out of memory (1). A search by halves for each replica.
 pub fn clock_of_front(
     alloc: Global,
-    ops: &OpSlice<'_>,
+    ops: &RunSlice<'_>,
     clock: &Clock,
     index: &Index,
     count: usize,

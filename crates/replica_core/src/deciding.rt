@@ -18,14 +18,14 @@ use crate::lengths::{made_length, waiting_length};
 use crate::refusal::Refusal;
 use doc_core::Doc;
 use fixed_numbers::limits::{MAX_COUNTER, MAX_OPERATIONS, MAX_STREAM_LENGTH};
-use op_list::OpSlice;
 use op_model::Edit;
+use run_list::RunSlice;
 
 /// How many bytes the operations that an edit of a document makes add to what waits for a commit,
 /// or why it is refused, by the first cause: `Stale` (6), `Range` (5), `Limit` (7). There is room
 /// for its document or not. Takes no memory. Linear in the document.
 pub fn edit_length(
-    ops: &OpSlice<'_>,
+    ops: &RunSlice<'_>,
     known: &Knowledge<'_>,
     doc: &Doc,
     has_place: bool,
@@ -61,7 +61,7 @@ pub fn edit_length(
 /// Whether the operations, and then those of an edit that asks right, keep the limits of a store.
 /// There is room for its document or not, and the records that it makes take `bytes` bytes.
 fn is_within_limits(
-    ops: &OpSlice<'_>,
+    ops: &RunSlice<'_>,
     known: &Knowledge<'_>,
     has_place: bool,
     edit: &Edit,
@@ -96,7 +96,7 @@ fn has_counters(greatest: u64, count: u64) -> bool
 
 /// Whether there is room for `count` operations behind the others, where their document has a place
 /// or not, with records of `bytes` bytes behind a stream of `stream` bytes.
-pub fn has_room(ops: &OpSlice<'_>, has_place: bool, stream: u64, count: usize, bytes: u64) -> bool
+pub fn has_room(ops: &RunSlice<'_>, has_place: bool, stream: u64, count: usize, bytes: u64) -> bool
     ensures { result ≡ (has_place && nat_le (length ops.now + count) MAX_OPERATIONS
         && nat_le (stream + bytes) MAX_STREAM_LENGTH) }
 {

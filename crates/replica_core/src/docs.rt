@@ -13,7 +13,7 @@ ghost use Rattle.replica_core.specs.Docs.{numbers, AllStand, AreDocs};
 
 use doc_core::{Doc, Made, SequenceError};
 use fixed_numbers::limits::MAX_DOCUMENTS;
-use op_list::OpSlice;
+use run_list::RunSlice;
 use std::alloc::Global;
 
 /// Of the documents of a list the one with the number of this empty document, or else the empty
@@ -62,7 +62,7 @@ pub fn has_room(docs: &[Doc], place: Result<usize, usize>) -> bool
 
 /// How many operations a document has. That its list is causally closed, and so short enough to be
 /// counted, is for the proof. Constant.
-pub fn count(doc: &Doc, list: &OpSlice<'_>) -> usize
+pub fn count(doc: &Doc, list: &RunSlice<'_>) -> usize
     requires closed { IsCausallyClosed list.now }
     requires stands { StandsFor doc.now list.now }
     ensures { result ≡ rev list.now (doc_number doc.now) }

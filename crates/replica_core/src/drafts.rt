@@ -14,8 +14,8 @@ use crate::refusal::Refusal;
 use doc_core::{Doc, Draft, SequenceError};
 use edit_tokens::{Gathered, Place, Tokens};
 use op_ids::ReplicaId;
-use op_list::OpSlice;
 use op_model::{Op, place_among};
+use run_list::RunSlice;
 use std::alloc::{AllocError, Global};
 
 /// The documents of a causally closed list, whose numbers are given, and the tokens of a replica's
@@ -25,7 +25,7 @@ use std::alloc::{AllocError, Global};
 pub fn documents_of(
     alloc: Global,
     replica: ReplicaId,
-    list: &OpSlice<'_>,
+    list: &RunSlice<'_>,
     numbers: &[u32],
 ) -> Result<(Vec<Doc>, Tokens), Refusal>
     requires closed { IsCausallyClosed list.now }
@@ -53,14 +53,14 @@ fn empty(alloc: Global, numbers: &[u32]) -> Result<Vec<Draft>, AllocError>
     Ok(drafts)
 }
 
-/// Gives each operation of a list to its document's draft, and lets it go before the next one is
-/// read. Returns the tokens of a replica's edits. An error is out of memory (1).
+/// Gives each operation of a list to its document's draft, before the next one is made of it.
+/// Returns the tokens of a replica's edits. An error is out of memory (1).
 fn apply_all(
     alloc: Global,
     replica: ReplicaId,
     drafts: &mut Vec<Draft>,
     numbers: &[u32],
-    list: &OpSlice<'_>,
+    list: &RunSlice<'_>,
 ) -> Result<Gathered, Refusal>
     requires closed { IsCausallyClosed list.now }
     requires numbers { numbers.now ≡ documents list.now }
@@ -70,14 +70,16 @@ fn apply_all(
     ensures memory { IfErr result (λ e. e ≡ Refusal.Memory) }
 {
     let mut gathered = Gathered::new(alloc);
+    let mut reader = list.reader();
     for i in 0..list.len() {
-        let op = list.get(alloc, i)?;
-        let rev = apply(drafts, numbers, &op)?;
+        reader.read()?;
+        let op = reader.op();
+        let rev = apply(drafts, numbers, op)?;
         let place = Place {
             end: (i + 1) as u32,
             rev: rev as u32,
         };
-        gathered.count(replica, &op, place)?;
+        gathered.count(replica, op, place)?;
     }
     Ok(gathered)
 }

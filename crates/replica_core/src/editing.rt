@@ -5,19 +5,17 @@ ghost use Rattle.op_model.specs.Held.{with_edit};
 ghost use Rattle.replica_core.specs.Decided.{IsDecided, IsPrepared};
 ghost use Rattle.replica_core.specs.Refusal.{number_of};
 
-use crate::counting::count_all;
 use crate::decided::Decided;
 use crate::deciding::edit_length;
 use crate::docs;
 use crate::knowledge::Knowledge;
-use crate::making::made;
 use crate::prepared::Prepared;
+use crate::preparing::prepared;
 use crate::refusal::Refusal;
 use crate::replica::Replica;
 use crate::step::Step;
 use crate::ticket::Ticket;
 use doc_core::{Doc, SequenceError};
-use edit_tokens::Place;
 use ghost_lists::Seen;
 use op_model::Edit;
 
@@ -71,9 +69,8 @@ impl Replica {
     }
 
     /// Makes the operations of a session's new edit that nothing refuses, as `decide_edit` tells,
-    /// and puts them behind the list. An error is out of memory (1), and changes nothing. A few
-    /// steps for clocks, and what the document takes for it, which isn't searched again. With a
-    /// token a search by halves and one in an ordered map too, and some 60 bytes of memory.
+    /// and puts them behind the list. An error is out of memory (1), and changes nothing. Costs
+    /// what `prepare` and `put_prepared` do.
     pub fn put_edit(
         &mut self,
         session: u64,
@@ -87,7 +84,50 @@ impl Replica {
         ensures memory { IfErr result (λ e. e ≡ Refusal.Memory) }
         ensures err { OnErr result (self.new ≡ self.old) }
     {
-        let prepared = self.prepared(edit, decided)?;
+        let prepared = self.prepare(edit, decided)?;
+        self.put_prepared(session, edit, decided, prepared)
+    }
+
+    /// Makes the operations of a new edit that nothing refuses, as `decide_edit` tells, and what
+    /// the clock and the edit's place are with them; the replica stays as it is. An error is out of
+    /// memory (1). A few steps for clocks, and what the document takes to make them, which isn't
+    /// searched again.
+    pub fn prepare(&self, edit: &Edit, decided: Decided) -> Result<Prepared, Refusal>
+        requires { IsDecided self.now edit.now decided }
+        ensures prepared { IfOk result (IsPrepared self.now edit.now) }
+        ensures memory { IfErr result (λ e. e ≡ Refusal.Memory) }
+    {
+        let log = &self.log;
+        let alloc = log.list.allocator();
+        let ops = log.list.as_slice();
+        let empty = Doc::new(alloc, edit.doc);
+        let doc = docs::at(&log.docs, decided.place, &empty);
+        let known = Knowledge {
+            replica: self.id,
+            clock: &self.clock,
+            index: &log.index,
+        };
+        prepared(alloc, &ops, &known, doc, edit)
+    }
+
+    /// Puts the operations of a session's new edit behind the list, as `prepare` made them of this
+    /// very replica. An error is out of memory (1), and changes nothing. What the document takes
+    /// for them, which isn't searched again. With a token a search by halves and one in an ordered
+    /// map too, and some 60 bytes of memory.
+    pub fn put_prepared(
+        &mut self,
+        session: u64,
+        edit: &Edit,
+        decided: Decided,
+        prepared: Prepared,
+    ) -> Result<Ticket, Refusal>
+        requires decided { IsDecided self.old edit.now decided }
+        requires prepared { IsPrepared self.old edit.now prepared }
+        ensures made { OnOk result (self.new ≡ with_edit self.old session edit.now) }
+        ensures ticket { IfOk result (λ t. new_edit_alone self.old edit.now ≡ ticket t) }
+        ensures memory { IfErr result (λ e. e ≡ Refusal.Memory) }
+        ensures err { OnErr result (self.new ≡ self.old) }
+    {
         let first = self.log.list.len();
         let count = edit.change.size();
         let before = self.tokens.keep(edit.token, prepared.place)?;
@@ -115,37 +155,5 @@ impl Replica {
             rev: prepared.place.rev as usize,
             known: false,
         })
-    }
-
-    /// Makes the operations of a new edit that nothing refuses, and what the clock and the edit's
-    /// place are with them; the replica stays as it is. An error is out of memory (1).
-    fn prepared(&self, edit: &Edit, decided: Decided) -> Result<Prepared, Refusal>
-        requires { IsDecided self.now edit.now decided }
-        ensures prepared { IfOk result (IsPrepared self.now edit.now) }
-        ensures memory { IfErr result (λ e. e ≡ Refusal.Memory) }
-    {
-        let log = &self.log;
-        let alloc = log.list.allocator();
-        let ops = log.list.as_slice();
-        let empty = Doc::new(alloc, edit.doc);
-        let doc = docs::at(&log.docs, decided.place, &empty);
-        let rev = docs::count(doc, &ops);
-        let known = Knowledge {
-            replica: self.id,
-            clock: &self.clock,
-            index: &log.index,
-        };
-        let made = made(alloc, &ops, &known, doc, edit)?;
-        let mut clock = self.clock.copy()?;
-        count_all(&mut clock, made.as_slice())?;
-        let first = log.list.len();
-        let count = edit.change.size();
-        let end = first + count;
-        let rev = rev + count;
-        let place = Place {
-            end: end as u32,
-            rev: rev as u32,
-        };
-        Ok(Prepared { made, clock, place })
     }
 }

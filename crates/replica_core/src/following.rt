@@ -14,8 +14,8 @@ use crate::index::Index;
 use crate::named::{head_at, is_covered_insert};
 use crate::refusal::Refusal;
 use op_ids::{Clock, OpId};
-use op_list::OpSlice;
 use op_model::{Anchor, Body, End, Op, Start};
+use run_list::RunSlice;
 
 /// Whether a clock counts an operation: more of its replica than it depends on. At most 32 steps.
 pub fn is_known(clock: &Clock, op: &Op) -> bool
@@ -27,8 +27,14 @@ pub fn is_known(clock: &Clock, op: &Op) -> bool
 
 /// Whether an operation may follow the others, where it is known whether there are at most 1,024
 /// documents with its own: it is ready, and no check fails. Takes no memory. A few steps for
-/// clocks, and a binary search for each character that it names.
-pub fn may_follow(ops: &OpSlice<'_>, clock: &Clock, index: &Index, op: &Op, has_place: bool) -> bool
+/// clocks, and what `is_covered_insert` costs for each character that it names.
+pub fn may_follow(
+    ops: &RunSlice<'_>,
+    clock: &Clock,
+    index: &Index,
+    op: &Op,
+    has_place: bool,
+) -> bool
     requires counted { AreCounted ops.now clock.now index.now }
     requires place { has_place
         ≡ nat_le (length (with_number op.now.doc (documents ops.now))) MAX_DOCUMENTS }
@@ -45,10 +51,10 @@ pub fn may_follow(ops: &OpSlice<'_>, clock: &Clock, index: &Index, op: &Op, has_
 
 /// Of an operation that is ready, the first check that fails: `Counter` (21), `Names` (22),
 /// `Document` (23), `StoreLimit` (24); it is known whether there are at most 1,024 documents with
-/// its own. Takes no memory. A few steps for clocks, and a binary search for each character that it
-/// names.
+/// its own. Takes no memory. A few steps for clocks, and what `is_covered_insert` costs for each
+/// character that it names.
 pub fn first_failed(
-    ops: &OpSlice<'_>,
+    ops: &RunSlice<'_>,
     clock: &Clock,
     index: &Index,
     op: &Op,
@@ -77,7 +83,7 @@ pub fn first_failed(
 
 /// Whether the counter is greater than that of the last operation of its replica, and so than that
 /// of each earlier one.
-fn is_counted_up(ops: &OpSlice<'_>, index: &Index, op: &Op) -> bool
+fn is_counted_up(ops: &RunSlice<'_>, index: &Index, op: &Op) -> bool
     requires closed { IsCausallyClosed ops.now }
     requires index { IsIndexOf index.now ops.now }
     ensures { result ≡ is_counted_up_of ops.now op.now }
@@ -91,7 +97,7 @@ fn is_counted_up(ops: &OpSlice<'_>, index: &Index, op: &Op) -> bool
 
 /// Whether what an operation names are inserts of its document that its deps cover, with smaller
 /// counters.
-fn names_inserts(ops: &OpSlice<'_>, index: &Index, op: &Op) -> bool
+fn names_inserts(ops: &RunSlice<'_>, index: &Index, op: &Op) -> bool
     requires closed { IsCausallyClosed ops.now }
     requires index { IsIndexOf index.now ops.now }
     ensures { result ≡ names_inserts_of ops.now op.now }
@@ -110,7 +116,7 @@ fn names_inserts(ops: &OpSlice<'_>, index: &Index, op: &Op) -> bool
     }
 }
 
-fn names_at_start(ops: &OpSlice<'_>, index: &Index, op: &Op, start: &Start) -> bool
+fn names_at_start(ops: &RunSlice<'_>, index: &Index, op: &Op, start: &Start) -> bool
     requires closed { IsCausallyClosed ops.now }
     requires index { IsIndexOf index.now ops.now }
     ensures { result ≡ names_all ops.now op.now (named_by_start start.now) }
@@ -121,7 +127,7 @@ fn names_at_start(ops: &OpSlice<'_>, index: &Index, op: &Op, start: &Start) -> b
     }
 }
 
-fn names_at_end(ops: &OpSlice<'_>, index: &Index, op: &Op, end: &End) -> bool
+fn names_at_end(ops: &RunSlice<'_>, index: &Index, op: &Op, end: &End) -> bool
     requires closed { IsCausallyClosed ops.now }
     requires index { IsIndexOf index.now ops.now }
     ensures { result ≡ names_all ops.now op.now (named_by_end end.now) }
@@ -132,7 +138,7 @@ fn names_at_end(ops: &OpSlice<'_>, index: &Index, op: &Op, end: &End) -> bool
     }
 }
 
-fn names_at_anchor(ops: &OpSlice<'_>, index: &Index, op: &Op, anchor: &Anchor) -> bool
+fn names_at_anchor(ops: &RunSlice<'_>, index: &Index, op: &Op, anchor: &Anchor) -> bool
     requires closed { IsCausallyClosed ops.now }
     requires index { IsIndexOf index.now ops.now }
     ensures { result ≡ names_all ops.now op.now (named_by_anchor anchor.now) }
@@ -145,7 +151,7 @@ fn names_at_anchor(ops: &OpSlice<'_>, index: &Index, op: &Op, anchor: &Anchor) -
 
 /// Whether an id that an operation names is that of an insert of its document that its deps cover,
 /// with a smaller counter.
-fn names_insert(ops: &OpSlice<'_>, index: &Index, op: &Op, id: &OpId) -> bool
+fn names_insert(ops: &RunSlice<'_>, index: &Index, op: &Op, id: &OpId) -> bool
     requires closed { IsCausallyClosed ops.now }
     requires index { IsIndexOf index.now ops.now }
     ensures { result ≡ (is_covered_insert_of ops.now op.now.deps op.now.doc id.now
@@ -155,7 +161,7 @@ fn names_insert(ops: &OpSlice<'_>, index: &Index, op: &Op, id: &OpId) -> bool
 }
 
 /// Whether the operations, and then this one, keep the limits of a store.
-fn fits(ops: &OpSlice<'_>, clock: &Clock, index: &Index, op: &Op, has_place: bool) -> bool
+fn fits(ops: &RunSlice<'_>, clock: &Clock, index: &Index, op: &Op, has_place: bool) -> bool
     requires known { AreCounted ops.now clock.now index.now }
     requires place { has_place
         ≡ nat_le (length (with_number op.now.doc (documents ops.now))) MAX_DOCUMENTS }

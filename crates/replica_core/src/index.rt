@@ -8,8 +8,8 @@ ghost use Rattle.replica_core.specs.Makers.{places_of as places_in, room_of};
 
 use crate::maker::{self, Maker, count_below};
 use op_ids::ReplicaId;
-use op_list::OpSlice;
 use op_model::Op;
+use run_list::RunSlice;
 use std::alloc::{AllocError, Global};
 
 /// What is known of a list of operations without a pass over it: by replica the indexes of its
@@ -46,7 +46,7 @@ impl Index {
 
     /// How many operations of a replica stand before an index of the list, which is there for the
     /// proof. At most a step for each replica, and a search by halves.
-    pub fn count_before(&self, ops: &OpSlice<'_>, replica: ReplicaId, end: usize) -> usize
+    pub fn count_before(&self, ops: &RunSlice<'_>, replica: ReplicaId, end: usize) -> usize
         requires { IsIndexOf self.now ops.now }
         ensures { result ≡ length (made_by replica (take end ops.now)) }
     {

@@ -23,6 +23,7 @@ mod merging;
 mod named;
 mod opening;
 mod prepared;
+mod preparing;
 mod refusal;
 mod replica;
 mod step;
@@ -32,6 +33,7 @@ mod ticket;
 
 pub use decided::Decided;
 pub use merged::Merged;
+pub use prepared::Prepared;
 pub use refusal::Refusal;
 pub use replica::Replica;
 pub use ticket::Ticket;

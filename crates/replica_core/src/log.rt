@@ -10,13 +10,13 @@ use crate::docs;
 use crate::index::Index;
 use doc_core::{Doc, Made, SequenceError};
 use op_ids::ReplicaId;
-use op_list::OpList;
+use run_list::RunList;
 
 /// The operations of a replica, and what is known of them.
 #[derive(Debug, Drop)]
 pub struct Log {
     /// The operations, in the order of application.
-    pub list: OpList,
+    pub list: RunList,
     /// The documents that have operations, in rising order of number.
     pub docs: Vec<Doc>,
     /// What is known of the list without a pass over it.

@@ -9,15 +9,15 @@ use crate::knowledge::Knowledge;
 use crate::refusal::Refusal;
 use doc_core::{Doc, Made, MakeError};
 use op_ids::laws::replica_is_not_nil;
-use op_list::OpSlice;
 use op_model::{Author, Edit};
+use run_list::RunSlice;
 use std::alloc::Global;
 
 /// The operations of an edit of a document that nothing refuses. The list is there for the proof.
 /// An error is out of memory (1). Costs what `Doc::make` does.
 pub fn made(
     alloc: Global,
-    ops: &OpSlice<'_>,
+    ops: &RunSlice<'_>,
     known: &Knowledge<'_>,
     doc: &Doc,
     edit: &Edit,

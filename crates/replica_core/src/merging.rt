@@ -43,8 +43,9 @@ impl Replica {
 
     /// What a merge of an operation answers where there is memory for it: `OwnUnknown` (20), which
     /// is tested before `Early`, `Counter` (21), `Names` (22), `Document` (23), `StoreLimit` (24),
-    /// `Steps` (10). Takes no memory. A few steps for clocks, a search by halves for the document
-    /// and for each character that the operation names.
+    /// `Steps` (10). Takes no memory. A few steps for clocks, a search by halves for the document,
+    /// and two for each character that the operation names (one among its replica's operations,
+    /// with one at each step, where that doesn't edit alone).
     pub fn decide_merge(&self, op: &Op) -> Result<Merged, Refusal>
         ensures answer { IfOk result (λ m.
             merge_alone self.now op.now ≡ answer_of m) }

@@ -9,13 +9,14 @@ ghost use Rattle.replica_core.specs.Makers.{at_places, AreBelow, Climb};
 
 use crate::index::Index;
 use op_ids::OpId;
-use op_list::{OpHead, OpSlice};
+use op_list::OpHead;
 use op_model::Op;
+use run_list::RunSlice;
 
 /// Whether an insert of the operation's document with this id is among the operations that its deps
-/// cover. Takes no memory. A few steps where the id's replica edits alone, else a binary search
-/// among its operations.
-pub fn is_covered_insert(ops: &OpSlice<'_>, index: &Index, op: &Op, id: &OpId) -> bool
+/// cover. Takes no memory. A look at two heads where the id's replica edits alone, else a binary
+/// search among its operations, with a look at one for each step; each look is a search by halves.
+pub fn is_covered_insert(ops: &RunSlice<'_>, index: &Index, op: &Op, id: &OpId) -> bool
     requires closed { IsCausallyClosed ops.now }
     requires index { IsIndexOf index.now ops.now }
     ensures { result ≡ is_covered_insert_of ops.now op.now.deps op.now.doc id.now }
@@ -39,7 +40,7 @@ fn first(places: &[u32], count: usize) -> &[u32]
 
 /// Whether one of the operations at these indexes inserts the character of an id into a document.
 /// It is looked for first where it stands if their replica made all counters in between.
-fn has_insert(ops: &OpSlice<'_>, places: &[u32], doc: u32, id: &OpId) -> bool
+fn has_insert(ops: &RunSlice<'_>, places: &[u32], doc: u32, id: &OpId) -> bool
     requires below { AreBelow (length ops.now) places.now }
     requires climb { Climb (at_places ops.now places.now) }
     ensures { result
@@ -58,7 +59,7 @@ fn has_insert(ops: &OpSlice<'_>, places: &[u32], doc: u32, id: &OpId) -> bool
 
 /// Which of the operations at these indexes has a counter, if their replica made all counters in
 /// between.
-fn guessed(ops: &OpSlice<'_>, places: &[u32], counter: u64) -> usize
+fn guessed(ops: &RunSlice<'_>, places: &[u32], counter: u64) -> usize
     requires { AreBelow (length ops.now) places.now }
 {
     if places.is_empty() {
@@ -70,7 +71,7 @@ fn guessed(ops: &OpSlice<'_>, places: &[u32], counter: u64) -> usize
 
 /// Whether one of the operations at these indexes inserts the character of an id into a document.
 /// Their counters rise, so it is searched by halves.
-fn has_insert_by_halves(ops: &OpSlice<'_>, places: &[u32], doc: u32, id: &OpId) -> bool
+fn has_insert_by_halves(ops: &RunSlice<'_>, places: &[u32], doc: u32, id: &OpId) -> bool
     requires below { AreBelow (length ops.now) places.now }
     requires climb { Climb (at_places ops.now places.now) }
     ensures { result
@@ -96,7 +97,7 @@ fn has_insert_by_halves(ops: &OpSlice<'_>, places: &[u32], doc: u32, id: &OpId) 
 }
 
 /// Of the operations at these indexes the head of the k-th one, counted from 0.
-pub fn head_at(ops: &OpSlice<'_>, places: &[u32], k: usize) -> OpHead
+pub fn head_at(ops: &RunSlice<'_>, places: &[u32], k: usize) -> OpHead
     requires below { AreBelow (length ops.now) places.now }
     requires there { k < length places.now }
     ensures { result ≡ slice_index_or (heads (at_places ops.now places.now)) k result }

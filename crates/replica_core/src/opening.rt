@@ -16,8 +16,8 @@ use doc_core::Doc;
 use edit_tokens::Tokens;
 use fixed_numbers::limits::MAX_DOCUMENTS;
 use op_ids::{Clock, ReplicaId};
-use op_list::OpSlice;
 use op_model::{Op, put_among};
+use run_list::RunSlice;
 use std::alloc::Global;
 
 /// What a replica knows of a list that it was opened with.
@@ -33,7 +33,7 @@ pub struct Opened {
 /// edits in it. `BadOperation` (47) exactly where the list isn't; `Memory` (1) says nothing of
 /// that. The list is gone through twice: what may follow is decided before a document takes
 /// anything.
-pub fn counted(alloc: Global, replica: ReplicaId, list: &OpSlice<'_>) -> Result<Opened, Refusal>
+pub fn counted(alloc: Global, replica: ReplicaId, list: &RunSlice<'_>) -> Result<Opened, Refusal>
     ensures known { IfOk result (λ found. AreKnown list.now replica found) }
     ensures bad { IfErr result (λ e. e ≢ Refusal.Memory
         → (e ≡ Refusal.BadOperation) × (IsCausallyClosed list.now → ⊥)) }
@@ -49,7 +49,7 @@ pub fn counted(alloc: Global, replica: ReplicaId, list: &OpSlice<'_>) -> Result<
 }
 
 /// The clock, the documents' numbers and the index of a causally closed list. Refuses as `counted`.
-fn checked(alloc: Global, list: &OpSlice<'_>) -> Result<(Clock, Vec<u32>, Index), Refusal>
+fn checked(alloc: Global, list: &RunSlice<'_>) -> Result<(Clock, Vec<u32>, Index), Refusal>
     ensures counted { IfOk result (λ found. AreCounted list.now found.0 found.2) }
     ensures numbers { IfOk result (λ found. found.1.items ≡ documents list.now) }
     ensures bad { IfErr result (λ e. e ≢ Refusal.Memory
@@ -58,14 +58,16 @@ fn checked(alloc: Global, list: &OpSlice<'_>) -> Result<(Clock, Vec<u32>, Index)
     let mut clock = Clock::new(alloc);
     let mut numbers = Vec::new(alloc);
     let mut index = Index::new(alloc);
+    let mut reader = list.reader();
     for i in 0..list.len() {
-        let op = list.get(alloc, i)?;
+        reader.read()?;
+        let op = reader.op();
         put_among(&mut numbers, op.doc)?;
         let has_place = numbers.len() <= MAX_DOCUMENTS;
-        if !may_follow(&list.front(i), &clock, &index, &op, has_place) {
+        if !may_follow(&list.front(i), &clock, &index, op, has_place) {
             return Err(Refusal::BadOperation);
         }
-        count(alloc, &mut clock, &mut index, &op, i)?;
+        count(alloc, &mut clock, &mut index, op, i)?;
     }
     Ok((clock, numbers, index))
 }

@@ -6,6 +6,7 @@ ghost use Rattle.fixed_numbers.specs.declared.limits.TheConstants.{MAX_LISTED};
 ghost use Rattle.op_model.specs.Held.{opened_with, settled_list};
 ghost use Rattle.op_model.specs.Held.{with_acked, with_settled, with_told};
 ghost use Rattle.op_model.specs.Causality.{clock_of, IsCausallyClosed};
+ghost use Rattle.op_model.specs.Records.{stream_length};
 ghost use Rattle.op_model.specs.Replay.{reached};
 ghost use Rattle.op_model.specs.Spans.{spans as spans_of};
 ghost use Rattle.op_model.specs.Telling.{reach, untold as untold_of};
@@ -28,8 +29,8 @@ use crate::ticket::Ticket;
 use doc_core::Doc;
 use edit_tokens::Tokens;
 use op_ids::{Clock, ReplicaId};
-use op_list::{OpList, OpSlice};
 use op_model::{Op, Span, Text};
+use run_list::{RunList, RunSlice};
 use std::alloc::{AllocError, Global};
 use std::marker::Model;
 
@@ -73,7 +74,7 @@ impl Replica {
         Replica {
             id,
             log: Log {
-                list: OpList::new(alloc),
+                list: RunList::new(alloc),
                 docs: Vec::new(alloc),
                 index: Index::new(alloc),
             },
@@ -89,14 +90,14 @@ impl Replica {
 
     /// The replica as it is after opening a store with this list: all of it is settled.
     /// `BadOperation` (47) exactly where the list isn't causally closed; `Memory` (1) says nothing
-    /// of that. Two passes over the list, each of which reads each record once, linear in it, and
-    /// lets the operation go before the next one; nothing else reads a record. An operation takes a
-    /// few steps for clocks, a search by halves for its document, one for each character that it
-    /// names (a few steps where its replica edits alone), and for an insert a step for each greater
-    /// id that follows its origin. An own edit with a token takes 32 bytes, which are sorted at the
-    /// end, when as much again is taken for a while. For each character 72 bytes, of which 40 are
-    /// given back before that.
-    pub fn from_list(alloc: Global, id: ReplicaId, list: OpList) -> Result<Replica, Refusal>
+    /// of that. Two passes over the list, each of which makes each operation of the one before it,
+    /// or of its record where it begins a run, and lets that go. An operation takes a few steps for
+    /// clocks, a search by halves for its document, two for each character that it names (one among
+    /// its replica's operations, with one at each step, where that doesn't edit alone), and for an
+    /// insert a step for each greater id that follows its origin. An own edit with a token takes 32
+    /// bytes, which are sorted at the end, when as much again is taken for a while. For each
+    /// character 72 bytes, of which 40 are given back before that.
+    pub fn from_list(alloc: Global, id: ReplicaId, list: RunList) -> Result<Replica, Refusal>
         ensures opened { IfOk result (λ r. r ≡ opened_with id list) }
         ensures closed { OnOk result (IsCausallyClosed list) }
         ensures bad { IfErr result (λ e. e ≢ Refusal.Memory
@@ -130,11 +131,18 @@ impl Replica {
 
     /// The operations, in the order of application. The list is causally closed, replaying the kept
     /// steps gives it, and the numbers are in order, as all that a replica holds.
-    pub fn list(&self) -> OpSlice<'_>
+    pub fn list(&self) -> RunSlice<'_>
         ensures list { result ≡ self.now.list }
         ensures sound { IsSound self.now }
     {
         self.log.list.as_slice()
+    }
+
+    /// How many bytes the records of the operations take, one by one. Constant.
+    pub fn records_length(&self) -> u64
+        ensures { result ≡ stream_length self.now.list }
+    {
+        self.log.index.stream
     }
 
     /// How many operations of each replica the list has.
@@ -223,8 +231,8 @@ impl Replica {
 
     /// The first settled operations, at most 64 in the order of the list, that a clock doesn't
     /// count. They count as told. An error is out of memory (1), and changes nothing. For each
-    /// that is told a search by halves among the operations of each replica, and linear in its
-    /// record.
+    /// that is told a search by halves among the operations of each replica, and what
+    /// `RunSlice::get` costs.
     pub fn tell(&mut self, clock: &Clock) -> Result<Vec<Op>, Refusal>
         ensures told { IfOk result (λ ops.
             ops.items ≡ untold_of clock.now (settled_list self.old)) }

@@ -11,18 +11,18 @@ use crate::knowledge::Knowledge;
 use crate::maker::count_below;
 use fixed_numbers::limits::MAX_TOLD;
 use op_ids::{Clock, ReplicaId};
-use op_list::OpSlice;
 use op_model::Op;
+use run_list::RunSlice;
 use std::alloc::{AllocError, Global};
 
 /// Of the first `settled` operations of a causally closed list, with its clock and its index, the
 /// first ones, at most `MAX_TOLD`, that a peer's clock doesn't count, and how many operations the
 /// last of them needs. An error is out of memory (1). For each that is told a search by halves in
-/// the indexes of each replica; no other operation is looked at.
+/// the indexes of each replica, and what `RunSlice::get` costs; no other operation is looked at.
 pub fn untold(
     alloc: Global,
     peer: &Clock,
-    ops: &OpSlice<'_>,
+    ops: &RunSlice<'_>,
     known: &Knowledge<'_>,
     settled: usize,
 ) -> Result<(Vec<Op>, usize), AllocError>
@@ -40,7 +40,7 @@ pub fn untold(
         if next >= settled {
             return Ok((found, from));
         }
-        let op = ops.get(alloc, next)?;
+        let op = ops.get(next)?;
         found.push(op)?;
         from = next + 1;
     }
@@ -49,7 +49,7 @@ pub fn untold(
 
 /// The index of the first operation, from an index on, that a peer's clock doesn't count, or the
 /// length of the list. For each replica a search by halves.
-fn next_untold(peer: &Clock, ops: &OpSlice<'_>, clock: &Clock, index: &Index, from: usize) -> usize
+fn next_untold(peer: &Clock, ops: &RunSlice<'_>, clock: &Clock, index: &Index, from: usize) -> usize
     requires { AreCounted ops.now clock.now index.now }
     ensures { IsNextUntold peer.now (λ op. true) ops.now from result }
 {
@@ -62,7 +62,13 @@ fn next_untold(peer: &Clock, ops: &OpSlice<'_>, clock: &Clock, index: &Index, fr
 
 /// The index of a replica's first operation, from an index on, that a peer's clock doesn't count,
 /// or the length of the list. A search by halves.
-fn next_of(peer: &Clock, ops: &OpSlice<'_>, index: &Index, replica: ReplicaId, from: usize) -> usize
+fn next_of(
+    peer: &Clock,
+    ops: &RunSlice<'_>,
+    index: &Index,
+    replica: ReplicaId,
+    from: usize,
+) -> usize
     requires closed { IsCausallyClosed ops.now }
     requires index { IsIndexOf index.now ops.now }
     ensures { IsNextUntold peer.now (λ op. op.id.replica == replica) ops.now from result }

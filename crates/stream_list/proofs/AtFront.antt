@@ -1,5 +1,5 @@
 -- The piece at the front of bytes.
-use Rattle.std.proofs.Common.{◌≡◌, ◌⊎◌, ℕ, ◌≤◌, true, false, inl, inr, List, length, Option, Some, Result, Ok, Err, refl, ap, arith}
+use Rattle.std.proofs.Common.{◌≡◌, ◌⊎◌, ℕ, ◌≤◌, inl, inr, List, length, Option, Some, Result, Ok, Err, refl, ap, arith}
 use Rattle.std.proofs.lemmas.List.{length-take}
 use Rattle.op_model.specs.declared.op.Op.{Op}
 use Rattle.op_model.specs.Records.{stream_length}
@@ -17,27 +17,25 @@ use Rattle.stream_list.specs.Fronts.{BeginsWithFront}
 
 -- a single operation
 pub single_front : (f : Format) (bytes : List ℕ) (n : ℕ) (op : Op) → IsOf f op → BeginsWithOp bytes op n
-    → BeginsWithFront f bytes (record { len = n; count = 1; records = n; is_run = false })
+    → BeginsWithFront f bytes (record { len = n; count = 1; records = n })
 single_front f bytes n op of_format begins = record {
   piece = single op;
   of_format = record { runs = λ none. refl; tokens = of_format };
   begins = record { whole = begins.whole; spelled_so = begins.spelled_so; fits = record { first = begins.fits; others = tt; piece = refl } };
   counted = refl;
   measured = omega (arith, ap length begins.spelled_so, length-take n bytes, length_spelled op, begins.whole);
-  single = λ alone. refl;
   within = omega arith;
 }
 
 -- a run
 pub run_front : (f : Format) (bytes : List ℕ) (p : Run) (n count records : ℕ) → IsPieceOf f p → BeginsWithPiece bytes p n → count ≡ length (ops_of p)
-    → records ≡ stream_length (ops_of p) → records ≤ 125696 → BeginsWithFront f bytes (record { len = n; count = count; records = records; is_run = true })
+    → records ≡ stream_length (ops_of p) → records ≤ 125696 → BeginsWithFront f bytes (record { len = n; count = count; records = records })
 run_front f bytes p n count records of_format begins counted measured few = record {
   piece = p;
   of_format = of_format;
   begins = begins;
   counted = counted;
   measured = measured;
-  single = λ alone. absurd (let never : ⊥ = cc in never);
   within = omega (arith, begins_some bytes p n begins);
 }
 

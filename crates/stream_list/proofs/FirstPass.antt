@@ -1,5 +1,5 @@
 -- Pieces that were passed, from the first on.
-use Rattle.std.proofs.Common.{◌≡◌, ℕ, ◌+◌, ◌*◌, ◌-◌, ◌<◌, ◌≤◌, Bool, true, false, ◌||◌, List, [], ◌∷◌, ◌++◌, length, drop}
+use Rattle.std.proofs.Common.{◌≡◌, ℕ, ◌+◌, ◌*◌, ◌-◌, ◌<◌, ◌≤◌, List, [], ◌++◌, length, drop}
 use Rattle.std.proofs.Common.{refl, sym, ap, subst, ◌∙◌, append_assoc, arith}
 use Rattle.std.proofs.lemmas.List.{append-nil, length-append, length-take, take-append-drop}
 use Rattle.op_model.specs.declared.op.Op.{Op}
@@ -7,10 +7,8 @@ use Rattle.op_model.specs.Records.{stream_length}
 use Rattle.model_laws.proofs.Limits.{stream_length-append}
 use Rattle.op_pieces.specs.Pieces.{Run, ops_of}
 use Rattle.change_codec.specs.declared.format.Format.{Format}
-use Rattle.change_codec.specs.Stream.{spelled_all}
-use Rattle.change_codec.proofs.StreamLaws.{spelled_all-append}
 use Rattle.piece_codec.specs.Record.{BeginsWithPiece}
-use Rattle.piece_codec.specs.Spelling.{spelled_with, spelled_piece}
+use Rattle.piece_codec.specs.Spelling.{spelled_piece}
 use Rattle.piece_codec.specs.Stream.{SpellsList}
 use Rattle.piece_codec.proofs.StreamLaws.{both_join, goes_on, no_list, nothing, one_list, one_piece}
 use Rattle.stream_list.specs.declared.front.Front.{Front}
@@ -18,17 +16,16 @@ use Rattle.stream_list.specs.Fronts.{BeginsWithFront, BeginsWithNone, IsSurveyed
 use Rattle.stream_list.specs.Streams.{HasNone}
 
 -- the bytes before the rest spell operations, of which so many and so much is known
-pub record Passed (format : Format) (stream rest : List ℕ) (count left records : ℕ) (has_runs : Bool) : Type 0 where
+pub record Passed (format : Format) (stream rest : List ℕ) (count left records : ℕ) : Type 0 where
   pub ops : List Op
   pub before : List ℕ
   pub all : before ++ rest ≡ stream
   pub spells : SpellsList format ops before
   pub counted : length ops + left ≡ count
   pub measured : records ≡ stream_length ops
-  pub single : has_runs ≡ false → spelled_all ops ≡ before
   pub within : records ≤ 125696 * length before
 
-pub passed_none : (f : Format) (stream : List ℕ) (count : ℕ) → Passed f stream stream count count 0 false
+pub passed_none : (f : Format) (stream : List ℕ) (count : ℕ) → Passed f stream stream count count 0
 passed_none f stream count = record {
   ops = [];
   before = [];
@@ -36,7 +33,6 @@ passed_none f stream count = record {
   spells = nothing f;
   counted = omega arith;
   measured = refl;
-  single = λ alone. refl;
   within = omega arith;
 }
 
@@ -44,23 +40,11 @@ passed_none f stream count = record {
 pub parts : (bytes : List ℕ) (p : Run) (n : ℕ) → BeginsWithPiece bytes p n → spelled_piece p ++ drop n bytes ≡ bytes
 parts bytes p n begins = ap (λ (w : List ℕ). w ++ drop n bytes) (sym begins.spelled_so) ∙ take-append-drop n bytes
 
--- the record of a single operation is that of its piece
-spelled_single : (p : Run) → p.others ≡ [] → spelled_all (ops_of p) ≡ spelled_piece p
-spelled_single p none = by_others p.first p.others none
-  where
-    by_others : (op : Op) (vs : List ℕ) → vs ≡ [] → spelled_all (ops_of (record { first = op; others = vs })) ≡ spelled_with op vs
-    by_others op [] none = append-nil (spelled_with op [])
-    by_others op (v ∷ vs) none = absurd (let never : ⊥ = cc in never)
-
-neither : (a b : Bool) → (a || b) ≡ false → (a ≡ false) × (b ≡ false)
-neither true b e = absurd (let never : ⊥ = cc in never)
-neither false b e = (refl, e)
-
 -- one piece more was passed
-pub passed_more : (f : Format) (stream rest after : List ℕ) (count left records : ℕ) (has_runs : Bool) (front : Front) → Passed f stream rest count left records has_runs
+pub passed_more : (f : Format) (stream rest after : List ℕ) (count left records : ℕ) (front : Front) → Passed f stream rest count left records
     → BeginsWithFront f rest front → front.count ≤ left → after ≡ drop front.len rest
-    → Passed f stream after count (left - front.count) (records + front.records) (has_runs || front.is_run)
-passed_more f stream rest after count left records has_runs front passed begins few after_is =
+    → Passed f stream after count (left - front.count) (records + front.records)
+passed_more f stream rest after count left records front passed begins few after_is =
     let p = begins.piece in
     let whole = spelled_piece p in
     let there : whole ++ after ≡ rest = ap (λ (r : List ℕ). whole ++ r) after_is ∙ parts rest p front.len begins.begins in
@@ -73,23 +57,20 @@ passed_more f stream rest after count left records has_runs front passed begins 
       spells = both_join f passed.ops (ops_of p) passed.before whole passed.spells (one_piece f p begins.of_format begins.begins.fits);
       counted = omega (arith, passed.counted, length-append passed.ops (ops_of p), begins.counted, few);
       measured = omega (arith, passed.measured, begins.measured, stream_length-append passed.ops (ops_of p));
-      single = λ alone.
-          let both = neither has_runs front.is_run alone in
-          spelled_all-append passed.ops (ops_of p) ∙ (λ i. passed.single both.0 i ++ spelled_single p (begins.single both.1) i);
       within = omega (arith, passed.within, begins.within, bytes, size);
     }
 
 -- what stands behind those that were passed is no stream, so the whole is none
-pub none_behind : (f : Format) (stream rest : List ℕ) (count left records : ℕ) (has_runs : Bool) → Passed f stream rest count left records has_runs
+pub none_behind : (f : Format) (stream rest : List ℕ) (count left records : ℕ) → Passed f stream rest count left records
     → 0 < length rest → BeginsWithNone f rest → HasNone f stream count
-none_behind f stream rest count left records has_runs passed some none ops spells =
+none_behind f stream rest count left records passed some none ops spells =
     let behind = goes_on f f passed.ops ops passed.before rest passed.spells (subst (λ (bytes : List ℕ). SpellsList f ops bytes) (sym passed.all) spells) in
     absurd (no_list f rest some none behind.0 behind.1)
 
 -- the next piece has too many operations
-pub too_many : (f : Format) (stream rest : List ℕ) (count left records : ℕ) (has_runs : Bool) (front : Front) → Passed f stream rest count left records has_runs
+pub too_many : (f : Format) (stream rest : List ℕ) (count left records : ℕ) (front : Front) → Passed f stream rest count left records
     → BeginsWithFront f rest front → left < front.count → HasNone f stream count
-too_many f stream rest count left records has_runs front passed begins many ops spells =
+too_many f stream rest count left records front passed begins many ops spells =
     let p = begins.piece in
     let after = drop front.len rest in
     let behind = goes_on f f passed.ops ops passed.before rest passed.spells (subst (λ (bytes : List ℕ). SpellsList f ops bytes) (sym passed.all) spells) in
@@ -108,21 +89,20 @@ too_many f stream rest count left records has_runs front passed begins many ops 
     ))
 
 -- all were passed, and there are too few
-pub too_few : (f : Format) (stream rest : List ℕ) (count left records : ℕ) (has_runs : Bool) → Passed f stream rest count left records has_runs
+pub too_few : (f : Format) (stream rest : List ℕ) (count left records : ℕ) → Passed f stream rest count left records
     → rest ≡ [] → 0 < left → HasNone f stream count
-too_few f stream rest count left records has_runs passed none some ops spells =
+too_few f stream rest count left records passed none some ops spells =
     let behind = goes_on f f passed.ops ops passed.before rest passed.spells (subst (λ (bytes : List ℕ). SpellsList f ops bytes) (sym passed.all) spells) in
     let nothing_more = one_list f f behind.0 [] rest behind.1 (subst (λ (bytes : List ℕ). SpellsList f [] bytes) (sym none) (nothing f)) in
     λ is. absurd (omega (arith, is, some, passed.counted, ap length behind.2, length-append passed.ops behind.0, ap length nothing_more))
 
 -- all were passed, and there are as many as there should be
-pub passed_all : (f : Format) (stream rest : List ℕ) (count left records : ℕ) (has_runs : Bool) → Passed f stream rest count left records has_runs
-    → rest ≡ [] → left ≡ 0 → IsSurveyed f count stream (record { records = records; has_runs = has_runs })
-passed_all f stream rest count left records has_runs passed none no_more =
+pub passed_all : (f : Format) (stream rest : List ℕ) (count left records : ℕ) → Passed f stream rest count left records
+    → rest ≡ [] → left ≡ 0 → IsSurveyed f count stream records
+passed_all f stream rest count left records passed none no_more =
     let whole : passed.before ≡ stream = sym (append-nil passed.before) ∙ ap (λ (r : List ℕ). passed.before ++ r) (sym none) ∙ passed.all in
     record {
       ops = passed.ops;
       some = record { spells = subst (λ (bytes : List ℕ). SpellsList f passed.ops bytes) whole passed.spells; counted = omega (arith, passed.counted, no_more) };
       measured = passed.measured;
-      single = λ alone. passed.single alone ∙ whole;
     }

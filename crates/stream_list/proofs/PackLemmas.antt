@@ -1,6 +1,6 @@
 -- A list that is cut into pieces, one operation after another.
 use Rattle.std.proofs.Common.{◌≡◌, ℕ, ◌+◌, ◌<◌, ◌≤◌, List, [], ◌∷◌, ◌++◌, length, drop, get_or}
-use Rattle.std.proofs.Common.{Option, Some, None, option_to_list, sym, ap, ◌∙◌, refl, append_assoc}
+use Rattle.std.proofs.Common.{Option, option_to_list, sym, ap, ◌∙◌, append_assoc}
 use Rattle.std.proofs.lemmas.List.{append-nil, drop_all, drop_more}
 use Rattle.op_model.specs.declared.op.Op.{Op}
 use Rattle.op_pieces.specs.Cutting.{cut, cut_behind, Open}

@@ -1,9 +1,7 @@
--- Pieces that were unrolled, from the first on.
-use Rattle.std.proofs.Common.{◌≡◌, ℕ, ◌+◌, ◌≤◌, List, [], ◌++◌, drop, refl, sym, ap, subst, ◌∙◌, append_assoc, arith}
+-- Pieces that were put into the list, from the first on.
+use Rattle.std.proofs.Common.{◌≡◌, ℕ, List, [], ◌++◌, drop, refl, sym, ap, subst, ◌∙◌, append_assoc}
 use Rattle.std.proofs.lemmas.List.{append-nil}
 use Rattle.op_model.specs.declared.op.Op.{Op}
-use Rattle.op_model.specs.Records.{stream_length}
-use Rattle.model_laws.proofs.Limits.{stream_length-append}
 use Rattle.op_pieces.specs.Pieces.{Run, ops_of}
 use Rattle.change_codec.specs.declared.format.Format.{Format}
 use Rattle.piece_codec.specs.Formats.{IsPieceOf}
@@ -13,23 +11,21 @@ use Rattle.piece_codec.specs.Stream.{SpellsList}
 use Rattle.piece_codec.proofs.StreamLaws.{both_join, goes_on, nothing, one_piece}
 use Rattle.stream_list.proofs.FirstPass.{parts}
 
--- the bytes before the rest spell the list, the rest spells operations too, and the records of both take at most 2^30 bytes
-pub record Unrolled (format : Format) (stream rest : List ℕ) (list : List Op) : Type 0 where
+-- the bytes before the rest spell the list, and the rest spells operations too
+pub record Listed (format : Format) (stream rest : List ℕ) (list : List Op) : Type 0 where
   pub before : List ℕ
   pub behind : List Op
   pub all : before ++ rest ≡ stream
   pub spells : SpellsList format list before
   pub goes_on : SpellsList format behind rest
-  pub short : stream_length list + stream_length behind ≤ 1073741824
 
-pub unrolled_none : (f : Format) (stream : List ℕ) (list ops : List Op) → list ≡ [] → SpellsList f ops stream → stream_length ops ≤ 1073741824 → Unrolled f stream stream list
-unrolled_none f stream list ops none spells short = record {
+pub listed_none : (f : Format) (stream : List ℕ) (list ops : List Op) → list ≡ [] → SpellsList f ops stream → Listed f stream stream list
+listed_none f stream list ops none spells = record {
   before = [];
   behind = ops;
   all = refl;
   spells = subst (λ (empty : List Op). SpellsList f empty []) (sym none) (nothing f);
   goes_on = spells;
-  short = omega (arith, short, ap stream_length none);
 }
 
 -- what stands behind a piece at the front
@@ -44,21 +40,13 @@ behind_piece f rest p n behind of_format begins spells =
     (subst (λ (bytes : List ℕ). SpellsList f behind bytes) (sym (parts rest p n begins)) spells) in
     record { ops = b.0; spells = b.1; all = b.2 }
 
--- there is room for its operations
-pub room_for_piece : (f : Format) (stream rest : List ℕ) (list more : List Op) (p : Run) (n : ℕ) → Unrolled f stream rest list → IsPieceOf f p → BeginsWithPiece rest p n
-    → more ≡ ops_of p → stream_length list + stream_length more ≤ 1073741824
-room_for_piece f stream rest list more p n at of_format begins are =
-    let b = behind_piece f rest p n at.behind of_format begins at.goes_on in
-    omega (arith, at.short, ap stream_length are, ap stream_length b.all, stream_length-append (ops_of p) b.ops)
-
--- one piece more is unrolled
-pub unrolled_more : (f : Format) (stream rest after : List ℕ) (list more longer : List Op) (p : Run) (n : ℕ) → Unrolled f stream rest list → IsPieceOf f p
-    → BeginsWithPiece rest p n → more ≡ ops_of p → longer ≡ list ++ more → after ≡ drop n rest → Unrolled f stream after longer
-unrolled_more f stream rest after list more longer p n at of_format begins are longer_is after_is =
+-- one piece more is in the list
+pub listed_more : (f : Format) (stream rest after : List ℕ) (list longer : List Op) (p : Run) (n : ℕ) → Listed f stream rest list → IsPieceOf f p
+    → BeginsWithPiece rest p n → longer ≡ list ++ ops_of p → after ≡ drop n rest → Listed f stream after longer
+listed_more f stream rest after list longer p n at of_format begins joined after_is =
     let b = behind_piece f rest p n at.behind of_format begins at.goes_on in
     let whole = spelled_piece p in
     let there : whole ++ after ≡ rest = ap (λ (r : List ℕ). whole ++ r) after_is ∙ parts rest p n begins in
-    let joined : longer ≡ list ++ ops_of p = longer_is ∙ ap (λ (ops : List Op). list ++ ops) are in
     record {
       before = at.before ++ whole;
       behind = b.ops;
@@ -66,19 +54,10 @@ unrolled_more f stream rest after list more longer p n at of_format begins are l
       spells = subst (λ (ops : List Op). SpellsList f ops (at.before ++ whole)) (sym joined)
           (both_join f list (ops_of p) at.before whole at.spells (one_piece f p of_format begins.fits));
       goes_on = subst (λ (bytes : List ℕ). SpellsList f b.ops bytes) (sym after_is) b.spells;
-      short =
-          omega (
-            arith,
-            at.short,
-            ap stream_length joined,
-            ap stream_length b.all,
-            stream_length-append list (ops_of p),
-            stream_length-append (ops_of p) b.ops,
-          );
     }
 
 -- all are
-pub unrolled_all : (f : Format) (stream rest : List ℕ) (list : List Op) → Unrolled f stream rest list → rest ≡ [] → SpellsList f list stream
-unrolled_all f stream rest list at none =
+pub listed_all : (f : Format) (stream rest : List ℕ) (list : List Op) → Listed f stream rest list → rest ≡ [] → SpellsList f list stream
+listed_all f stream rest list at none =
     let whole : at.before ≡ stream = sym (append-nil at.before) ∙ ap (λ (r : List ℕ). at.before ++ r) (sym none) ∙ at.all in
     subst (λ (bytes : List ℕ). SpellsList f list bytes) whole at.spells

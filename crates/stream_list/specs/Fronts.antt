@@ -1,15 +1,13 @@
 -- What the first pass over a stream says of it.
-use Rattle.std.specs.Prelude.{◌≡◌, ℕ, ◌*◌, ◌≤◌, false, List, [], length}
+use Rattle.std.specs.Prelude.{◌≡◌, ℕ, ◌*◌, ◌≤◌, List, length}
 use Rattle.op_model.specs.declared.op.Op.{Op}
 use Rattle.op_model.specs.Records.{stream_length}
 use Rattle.op_pieces.specs.Pieces.{Run, ops_of}
 use Rattle.change_codec.specs.declared.format.Format.{Format}
-use Rattle.change_codec.specs.Stream.{spelled_all}
 use Rattle.piece_codec.specs.Formats.{IsPieceOf}
 use Rattle.piece_codec.specs.Record.{BeginsWithPiece}
 use Rattle.stream_list.specs.Streams.{SpellsSome}
 use Rattle.stream_list.specs.declared.front.Front.{Front}
-use Rattle.stream_list.specs.declared.survey.Survey.{Survey}
 
 -- the most that the records of a piece's operations take, one by one
 abbrev pub most_records : ℕ
@@ -22,16 +20,14 @@ pub record BeginsWithFront (format : Format) (bytes : List ℕ) (front : Front) 
   pub begins : BeginsWithPiece bytes piece front.len
   pub counted : front.count ≡ length (ops_of piece)
   pub measured : front.records ≡ stream_length (ops_of piece)
-  pub single : front.is_run ≡ false → piece.others ≡ []
   pub within : front.records ≤ most_records * front.len
 
 -- the bytes don't begin with a piece of the format
 abbrev pub BeginsWithNone : Format → List ℕ → Type 0
 BeginsWithNone format bytes = (p : Run) (n : ℕ) → IsPieceOf format p → BeginsWithPiece bytes p n → ⊥
 
--- the stream spells so many operations, whose records take so many bytes, and are the stream where it has no run
-pub record IsSurveyed (format : Format) (count : ℕ) (stream : List ℕ) (survey : Survey) : Type 0 where
+-- the stream spells so many operations, whose records take so many bytes
+pub record IsSurveyed (format : Format) (count : ℕ) (stream : List ℕ) (records : ℕ) : Type 0 where
   pub ops : List Op
   pub some : SpellsSome format ops count stream
-  pub measured : survey.records ≡ stream_length ops
-  pub single : survey.has_runs ≡ false → spelled_all ops ≡ stream
+  pub measured : records ≡ stream_length ops

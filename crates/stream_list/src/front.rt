@@ -21,8 +21,6 @@ pub struct Front {
     pub count: u64,
     /// How many bytes the records of these take, one by one.
     pub records: u64,
-    /// Whether it is a run.
-    pub is_run: bool,
 }
 
 /// What the piece of a format says that the bytes begin with. `Stream` (46) where they begin with
@@ -37,7 +35,6 @@ pub fn measure(alloc: Global, format: Format, bytes: &[u8]) -> Result<Front, Str
             len,
             count: 1,
             records: len as u64,
-            is_run: false,
         });
     }
     match take_piece(alloc, format, bytes) {
@@ -45,7 +42,6 @@ pub fn measure(alloc: Global, format: Format, bytes: &[u8]) -> Result<Front, Str
             len,
             count: piece.len() as u64,
             records: piece.records_length(),
-            is_run: true,
         }),
         Ok(None) => Err(StreamError::Stream),
         Err(CodecError::Memory) => Err(StreamError::Memory),

@@ -4,12 +4,12 @@ ghost use Rattle.fixed_numbers.specs.declared.limits.TheConstants.{MAX_STREAM_LE
 ghost use Rattle.stream_list.specs.Streams.{HasNone, HasTooLong, SpellsShort};
 ghost use Rattle.stream_list.specs.declared.read_error.ReadError.TheVariants.{Stream, Long};
 
+use crate::listing::listed;
 use crate::read_error::ReadError;
 use crate::survey::take_survey;
-use crate::unrolling::unrolled;
 use change_codec::Format;
 use fixed_numbers::limits::MAX_STREAM_LENGTH;
-use op_list::OpList;
+use run_list::RunList;
 use std::alloc::Global;
 
 /// The operations that a stream of a format spells, if they are `count`. `Stream` (46) where the
@@ -19,26 +19,23 @@ use std::alloc::Global;
 /// nothing of the bytes.
 ///
 /// A pass over the bytes tells all but `Memory` first. It ends at the first record that is none or
-/// has too many operations, and takes memory for one run at a time. The bytes of a stream without
-/// runs then stay where they are, in a second pass; those of another one are read once more, and
-/// stand beside the records of their operations until these are all there.
+/// has too many operations, and takes memory for one run at a time. In a second pass the operations
+/// of one piece after another are put into the list. Until it ends, the bytes of the stream stand
+/// in memory beside the list, in which a typed character takes four bytes.
 pub fn read_stream(
     alloc: Global,
     format: Format,
     count: u64,
     stream: Vec<u8>,
-) -> Result<OpList, ReadError>
+) -> Result<RunList, ReadError>
     requires { length stream.items ≤ MAX_STREAM_LENGTH }
     ensures found { IfOk result (λ ops. SpellsShort format ops count stream.items) }
     ensures none { IsErrOf result Stream → HasNone format stream.items count }
     ensures long { IsErrOf result Long → HasTooLong format stream.items count }
 {
-    let survey = take_survey(alloc, format, count, &stream)?;
-    if survey.records > MAX_STREAM_LENGTH {
+    let records = take_survey(alloc, format, count, &stream)?;
+    if records > MAX_STREAM_LENGTH {
         return Err(ReadError::Long);
     }
-    if survey.has_runs {
-        return Ok(unrolled(alloc, format, &stream)?);
-    }
-    Ok(OpList::read(alloc, format, stream)?)
+    Ok(listed(alloc, format, &stream)?)
 }

@@ -61,6 +61,11 @@ returns-in_err-current-clause-fault g c = λ told.
     let p = err_from_is_err_and c.from_residual-in_err-current.result c.from_residual-in_err-current.ensures.1 in
     rw (p.1, p.2) (inl tt)
 
+pub returns-in_err-anew-clause-fault : goal.returns-in_err-anew-clause-fault
+returns-in_err-anew-clause-fault g c = λ told.
+    let p = err_from_is_err_and c.from_residual-in_err-anew.result c.from_residual-in_err-anew.ensures.1 in
+    rw (p.1, p.2) (inl tt)
+
 pub returns-in_err-anew-clause-looks : goal.returns-in_err-anew-clause-looks
 returns-in_err-anew-clause-looks g c =
     let p = err_from_is_err_and c.from_residual-in_err-anew.result c.from_residual-in_err-anew.ensures.1 in

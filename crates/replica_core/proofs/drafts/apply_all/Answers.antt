@@ -4,6 +4,7 @@ use Rattle.op_model.proofs.RisingLemmas.{documents_up}
 use Rattle.replica_core.proofs.DocLemmas.{doc_there}
 use Rattle.replica_core.proofs.DraftLemmas.{take_push}
 use Rattle.replica_core.proofs.FollowLemmas.{follows_front}
+use Rattle.replica_core.proofs.ReadLemmas.{read_more, read_there}
 use Rattle.replica_core.proofs.RevLemmas.{few_operations, few_with}
 use Rattle.replica_core.proofs.TokenLemmas.{place_front}
 use Rattle.replica_core.proofs.drafts.apply_all.Goals as goal
@@ -13,14 +14,16 @@ apply-requires-clause-rising c = rw c.requires.numbers (documents_up c.args.list
 
 pub apply-requires-clause-there : goal.apply-requires-clause-there
 apply-requires-clause-there c =
-    rw c.requires.numbers (doc_there c.args.list.now c.loop-i.i c.in_ok-op.op (omega arith) c.in_ok-op.ensures)
+    let there = read_there c.args.list.now c.loop-i.i c.loop-i.reader c.read.new.self c.op-op.result.now c.loop-i.invariant.read c.in_ok-read.ensures.ok c.op-op.ensures in
+    rw c.requires.numbers (doc_there c.args.list.now c.loop-i.i c.op-op.result.now (omega arith) there)
 
 pub apply-requires-clause-may_come : goal.apply-requires-clause-may_come
 apply-requires-clause-may_come c =
-    let front = follows_front c.args.list.now c.loop-i.i c.in_ok-op.op c.requires.closed (omega arith) c.in_ok-op.ensures in (
+    let there = read_there c.args.list.now c.loop-i.i c.loop-i.reader c.read.new.self c.op-op.result.now c.loop-i.invariant.read c.in_ok-read.ensures.ok c.op-op.ensures in
+    let front = follows_front c.args.list.now c.loop-i.i c.op-op.result.now c.requires.closed (omega arith) there in (
       take c.loop-i.i c.args.list.now,
       c.loop-i.invariant.drafts,
-      follows_fits (take c.loop-i.i c.args.list.now) c.in_ok-op.op.doc c.in_ok-op.op front.1 refl,
+      follows_fits (take c.loop-i.i c.args.list.now) c.op-op.result.now.doc c.op-op.result.now front.1 refl,
     )
 
 pub overflow_cast-place : goal.overflow_cast-place
@@ -28,21 +31,25 @@ overflow_cast-place c = let few = few_operations c.args.list.now c.requires.clos
 
 pub overflow_cast-place-in-loop-i : goal.overflow_cast-place-in-loop-i
 overflow_cast-place-in-loop-i c =
-    let front = follows_front c.args.list.now c.loop-i.i c.in_ok-op.op c.requires.closed (omega arith) c.in_ok-op.ensures in
-    let fits = follows_fits (take c.loop-i.i c.args.list.now) c.in_ok-op.op.doc c.in_ok-op.op front.1 refl in
-    let few = few_with (take c.loop-i.i c.args.list.now) c.in_ok-op.op c.in_ok-op.op.doc front.0 front.1 in
+    let there = read_there c.args.list.now c.loop-i.i c.loop-i.reader c.read.new.self c.op-op.result.now c.loop-i.invariant.read c.in_ok-read.ensures.ok c.op-op.ensures in
+    let front = follows_front c.args.list.now c.loop-i.i c.op-op.result.now c.requires.closed (omega arith) there in
+    let fits = follows_fits (take c.loop-i.i c.args.list.now) c.op-op.result.now.doc c.op-op.result.now front.1 refl in
+    let few = few_with (take c.loop-i.i c.args.list.now) c.op-op.result.now c.op-op.result.now.doc front.0 front.1 in
     let revs = c.in_ok-rev.ensures.rev (take c.loop-i.i c.args.list.now) c.loop-i.invariant.drafts fits (omega arith) in
     record { fits = omega arith }
 
 pub loop-i-preserved : goal.loop-i-preserved
 loop-i-preserved c =
-    let front = follows_front c.args.list.now c.loop-i.i c.in_ok-op.op c.requires.closed (omega arith) c.in_ok-op.ensures in
-    let fits = follows_fits (take c.loop-i.i c.args.list.now) c.in_ok-op.op.doc c.in_ok-op.op front.1 refl in
-    let few = few_with (take c.loop-i.i c.args.list.now) c.in_ok-op.op c.in_ok-op.op.doc front.0 front.1 in
+    let there = read_there c.args.list.now c.loop-i.i c.loop-i.reader c.read.new.self c.op-op.result.now c.loop-i.invariant.read c.in_ok-read.ensures.ok c.op-op.ensures in
+    let front = follows_front c.args.list.now c.loop-i.i c.op-op.result.now c.requires.closed (omega arith) there in
+    let fits = follows_fits (take c.loop-i.i c.args.list.now) c.op-op.result.now.doc c.op-op.result.now front.1 refl in
+    let few = few_with (take c.loop-i.i c.args.list.now) c.op-op.result.now c.op-op.result.now.doc front.0 front.1 in
     let revs = c.in_ok-rev.ensures.rev (take c.loop-i.i c.args.list.now) c.loop-i.invariant.drafts fits (omega arith) in
-    rw (take_push c.args.list.now c.loop-i.i c.in_ok-op.op (omega arith) c.in_ok-op.ensures)
-    (record {
-      drafts = c.in_ok-rev.ensures.drafts (take c.loop-i.i c.args.list.now) c.loop-i.invariant.drafts fits;
-      tokens = c.in_ok-count.ensures.counted (take c.loop-i.i c.args.list.now) (sym (place_front c.args.list.now c.loop-i.i c.in_ok-op.op _ _ (omega arith) refl revs))
-          c.loop-i.invariant.tokens;
-    })
+    let grown = take_push c.args.list.now c.loop-i.i c.op-op.result.now (omega arith) there in
+    record {
+      read = read_more c.args.list.now c.loop-i.i c.loop-i.reader c.read.new.self c.loop-i.invariant.read c.in_ok-read.ensures.ok;
+      drafts = rw grown (c.in_ok-rev.ensures.drafts (take c.loop-i.i c.args.list.now) c.loop-i.invariant.drafts fits);
+      tokens = rw grown
+          (c.in_ok-count.ensures.counted (take c.loop-i.i c.args.list.now) (sym (place_front c.args.list.now c.loop-i.i c.op-op.result.now _ _ (omega arith) refl revs))
+          c.loop-i.invariant.tokens);
+    }

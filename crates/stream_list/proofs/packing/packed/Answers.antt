@@ -1,8 +1,5 @@
-use Rattle.std.proofs.Common.{◌≡◌, ◌++◌, ◌∷◌, [], ◌+◌, List, ℕ, Some, None, Option, option_to_list, drop, length, sym, ap, ◌∙◌, refl, rules, arith}
-use Rattle.std.proofs.lemmas.List.{append-nil, drop_all}
-use Rattle.op_model.specs.declared.op.Op.{Op}
-use Rattle.op_pieces.specs.Cutting.{cut, cut_behind}
-use Rattle.op_pieces.specs.Pieces.{Run}
+use Rattle.std.proofs.Common.{◌≡◌, ◌++◌, ◌+◌, List, ℕ, option_to_list, drop, sym, ap, ◌∙◌, refl, arith}
+use Rattle.op_pieces.specs.Cutting.{cut}
 use Rattle.change_codec.specs.declared.format.Format.TheVariants.{Third}
 use Rattle.change_codec.proofs.StreamLaws.{are_of_third}
 use Rattle.piece_codec.specs.Spelling.{spelled_piece}
@@ -32,7 +29,7 @@ bytes c = sym (packs_all c.args.list.now c.loop-i.i c.loop-i.out.items c.put_pie
     (c.in_ok-put_piece-2.ensures.ok ∙ ap (λ p. c.loop-i.out.items ++ spelled_piece p) c.finish.ensures))
 
 spells : (c : goal.After-drop-finish-4) → SpellsList Third c.args.list.now c.put_piece-2.new.out.items
-spells c = rw (bytes c) (cut_spells Third c.args.list.now refl c.records_from-records.ensures.fits (are_of_third c.args.list.now))
+spells c = rw (bytes c) (cut_spells Third c.args.list.now refl c.kept.ensures.fits (are_of_third c.args.list.now))
 
 pub returns-clause-bytes : goal.returns-clause-bytes
 returns-clause-bytes c = bytes c
