@@ -7,9 +7,7 @@ use Rattle.std.proofs.lemmas.Bool.Decides.{nat_tests}
 use Rattle.std.proofs.lemmas.List.{take-append-drop, take_all}
 use Rattle.disk_trait.specs.declared.facts.DiskFacts.{Ghosts}
 use Rattle.op_model.specs.declared.op.Op.{Op}
-use Rattle.change_codec.specs.Stream.{spelled_all, AreOperations}
-use Rattle.op_list.proofs.Recorded.{records_long}
-use Rattle.op_list.specs.Records.{AreRecords}
+use Rattle.op_model.specs.Records.{stream_length}
 use Rattle.root_slots.specs.Root.{version_of, count_of}
 use Rattle.piece_codec.proofs.StreamLaws.{no_longer}
 use Rattle.group_commit.specs.Begin.{has_room, has_room_for, is_idle, is_none, begin_due, AreWritten, Begins, IsAnswer}
@@ -34,11 +32,6 @@ pub some_long : (ops : List Op) → is_none ops ≡ false → 0 < length ops
 some_long [] some = absurd (cc)
 some_long (op ∷ ops) some = omega arith
 
--- room for records is room for their operations
-pub room_for : (current : Saved) (ops : List Op) (count : ℕ) (records : List ℕ) → AreRecords ops count records
-    → has_room_for current count (length records) ≡ has_room current ops
-room_for current ops count records are = rw (records_long ops count records are, sym are.counted) refl
-
 -- the answer that is due of a store with room
 pub begin_is_due : {D : Type 0} (s : StoreHeld D) (count : ℕ) (records : List ℕ) → s.failed ≡ false
     → is_idle s.phase ≡ true → 0 < count → has_room_for s.current count (length records) ≡ true
@@ -48,38 +41,28 @@ begin_is_due s count records works idle more room = rw (works, idle, some count 
     some : (n : ℕ) → 0 < n → (n == 0) ≡ false
     some n more = grind (arith, nat_tests)
 
--- where single records have room, pieces have that spell the same
-pub room_within : (current : Saved) (ops : List Op) (count : ℕ) (records pieces : List ℕ) → AreRecords ops count records → AreWritten ops count pieces
-    → has_room_for current count (length records) ≡ true → has_room_for current count (length pieces) ≡ true
-room_within current ops count records pieces are written room =
-    fewer (nat_lt (version_of current.body) 18446744073709551615 && nat_le (count_of current.body + count) 16777216) (length current.stream) (length records) (length pieces)
-    (omega (arith, records_long ops count records are, no_longer newest ops pieces written.spells)) room
+-- where operations have room, one by one, pieces have that spell them
+pub room_within : (current : Saved) (ops : List Op) (count : ℕ) (pieces : List ℕ) → AreWritten ops count pieces → has_room current ops ≡ true
+    → has_room_for current count (length pieces) ≡ true
+room_within current ops count pieces written room =
+    fewer (nat_lt (version_of current.body) 18446744073709551615 && nat_le (count_of current.body + count) 16777216) (length current.stream) (stream_length ops) (length pieces)
+    (no_longer newest ops pieces written.spells) (rw written.counted at room)
   where
     fewer : (b : Bool) (n more less : ℕ) → less ≤ more → (b && nat_le (n + more) 1073741824) ≡ true → (b && nat_le (n + less) 1073741824) ≡ true
     fewer b n more less within room = grind (arith, nat_tests)
 
--- it isn't said that there is nothing
-pub began_something : (due : Result (Option ℕ) StoreError) (n : ℕ) → due ≡ Ok (Some n) → IsAnswer due (Ok None) → ⊥
-began_something due n is (inl same) = absurd (cc)
-began_something due n is (inr memory) = let never = memory.0 in absurd (cc)
-
--- and it is refused when out of memory alone
+-- a begin with room is refused when out of memory alone
 pub refused_so : (due : Result (Option ℕ) StoreError) (n : ℕ) (error : StoreError) → due ≡ Ok (Some n) → IsAnswer due (Err error) → error ≡ Memory
 refused_so due n error is (inl same) = absurd (cc)
 refused_so due n error is (inr memory) = let same = memory.0 in cc
 
--- a refusal is no commit
-pub never_begun : (answer : Result (Option ℕ) StoreError) (error : StoreError) → answer ≡ Err error → (n : ℕ) → answer ≢ Ok (Some n)
-never_begun answer error refused n is = absurd (cc)
+-- what a meeting hands over is what waits
+pub handed_over : (l : LockedHeld) (list : List Op) (n : ℕ) → list ≡ l.replica.list → n ≡ l.begun → drop n list ≡ pending l
+handed_over l list n same begun = rw (same, begun) refl
 
--- what a meeting hands over are the records of what waits
-pub waiting_records : (l : LockedHeld) (list : List Op) (n long : ℕ) (records : List ℕ) → list ≡ l.replica.list → n ≡ l.begun → long ≡ length list
-    → records ≡ spelled_all (drop n list) → AreOperations (drop n list) → AreRecords (pending l) (long - n) records
-waiting_records l list n long records same begun counted spelled fits = record {
-  spelled_so = sym (rw (same, begun) at spelled);
-  fits = rw (same, begun) at fits;
-  counted = rw (counted, same, begun) (length-drop l.begun l.replica.list);
-}
+-- and there is so much of it
+pub handed_count : (l : LockedHeld) (list : List Op) (n long : ℕ) → list ≡ l.replica.list → n ≡ l.begun → long ≡ length list → long - n ≡ length (pending l)
+handed_count l list n long same begun counted = rw (counted, same, begun) (sym (length-drop l.begun l.replica.list))
 
 -- something waits, and there is room for it or not
 pub record IsTested {D : Type 0} (l : LockedHeld) (f : FlusherHeld D) (has : Bool) : Type 0 where
@@ -87,15 +70,14 @@ pub record IsTested {D : Type 0} (l : LockedHeld) (f : FlusherHeld D) (has : Boo
   pub room : has_room f.store.current (pending l) ≡ has
 
 -- the tests of a begin say so
-pub tested : {D : Type 0} (l : LockedHeld) (f : FlusherHeld D) (s : StoreHeld D) (list : List Op) (due : Bool) (count : ℕ) (records : List ℕ) (room : Bool)
-    → record { store = s; list = list; due = due } ≡ f → AreRecords (pending l) count records → count ≢ 0
-    → has_room_for s.current count (length records) ≡ room → IsTested l f room
-tested l f s list due count records room is are more has =
-    let counted = are.counted in
+pub tested : {D : Type 0} (l : LockedHeld) (f : FlusherHeld D) (s : StoreHeld D) (list : List Op) (due : Bool) (count bytes : ℕ) (has room : Bool)
+    → record { store = s; list = list; due = due } ≡ f → count ≡ length (pending l) → bytes ≡ stream_length (pending l) → count ≢ 0
+    → has ≡ has_room_for s.current count bytes → has ≡ room → IsTested l f room
+tested l f s list due count bytes has room is counted long more has_is is_room =
     let some : 0 < length (pending l) = omega (arith, counted, more) in
     record {
       some = some_ops (pending l) some;
-      room = sym (room_for f.store.current (pending l) count records are) ∙ ap (λ h. has_room_for h.store.current count (length records)) (sym is) ∙ has;
+      room = rw (counted, long) at (ap (λ h. has_room_for h.store.current count bytes) (sym is) ∙ sym has_is ∙ is_room);
     }
 
 -- the answer that is due where there is no commit and room for one
@@ -104,10 +86,9 @@ pub met_due : {D : Type 0} (l : LockedHeld) (f : FlusherHeld D) → is_none (pen
 met_due l f some room = rw (some, room) refl
 
 -- a commit that began is the one that was due
-pub met_begun : {D : Type 0} (l : LockedHeld) (f : FlusherHeld D) (n count : ℕ) (records : List ℕ) → IsTested l f true → AreRecords (pending l) count records
-    → n ≡ count_of f.store.current.body + count → IsMet (due_without l f) (Ok (Begun n))
-met_begun l f n count records test are is =
-    inl (sym (met_due l f test.some test.room ∙ ap (λ k. Ok (Begun (count_of f.store.current.body + k))) are.counted ∙ ap (λ k. Ok (Begun k)) (sym is)))
+pub met_begun : {D : Type 0} (l : LockedHeld) (f : FlusherHeld D) (n : ℕ) → IsTested l f true
+    → n ≡ count_of f.store.current.body + length (pending l) → IsMet (due_without l f) (Ok (Begun n))
+met_begun l f n test is = inl (sym (met_due l f test.some test.room ∙ ap (λ k. Ok (Begun k)) (sym is)))
 
 -- out of memory may stand in its place
 pub met_memory : {D : Type 0} (l : LockedHeld) (f : FlusherHeld D) (error : StoreError) → IsTested l f true → error ≡ Memory

@@ -1,13 +1,10 @@
 -- A flusher's list with more operations behind it.
-use Rattle.std.proofs.Common.{◌≡◌, ℕ, ◌+◌, ◌-◌, ◌<◌, Bool, true, false, List, ◌++◌, length, take, drop, refl, sym, ap, ◌∙◌, arith, length-append, Some, Ok}
-use Rattle.std.proofs.lemmas.List.{take_at, drop_at, take_all, take-append-le}
+use Rattle.std.proofs.Common.{◌≡◌, ℕ, ◌+◌, ◌-◌, ◌<◌, ◌≤◌, Bool, true, false, List, ◌++◌, length, take, drop, refl, sym, ap, ◌∙◌, arith, length-append, length-drop, Some, Ok}
+use Rattle.std.proofs.lemmas.List.{take_at, take_all, take-append-le}
 use Rattle.disk_trait.specs.declared.facts.DiskFacts.{Ghosts}
 use Rattle.op_model.specs.declared.op.Op.{Op}
-use Rattle.op_model.specs.Records.{stream_length}
-use Rattle.op_list.proofs.Recorded.{records_long}
-use Rattle.op_list.specs.Records.{AreRecords}
 use Rattle.root_slots.specs.Root.{count_of, replica_of, version_of}
-use Rattle.group_commit.specs.Begin.{has_room_for, is_idle, begin_due, Begins}
+use Rattle.group_commit.specs.Begin.{has_room_for, is_idle, begin_due, AreWritten, Begins}
 use Rattle.group_commit.specs.Held.{StoreHeld}
 use Rattle.group_commit.specs.Moving.{moves}
 use Rattle.group_commit.specs.Saved.{Saved}
@@ -89,16 +86,10 @@ flusher_begun facts s new list ops records due kept none begun =
       left = begun.begins.left;
     }
 
--- where the last operations of a list begin
-cut_at : (list ops : List Op) (count : ℕ) → length ops ≡ count → length list ≡ length (list ++ ops) - count
-cut_at list ops count counted = omega (arith, counted, length-append list ops)
-
--- a list without the operations that were put behind it
-pub cut_back : (list ops more : List Op) (count : ℕ) → more ≡ list ++ ops → length ops ≡ count → take (length more - count) more ≡ list
-cut_back list ops more count is counted = rw is (take_at list ops (length (list ++ ops) - count) (cut_at list ops count counted))
-
--- those operations take as many bytes as the records have
-pub cut_bytes : (list ops more : List Op) (count : ℕ) (records : List ℕ) → more ≡ list ++ ops → AreRecords ops count records
-    → stream_length (drop (length more - count) more) ≡ length records
-cut_bytes list ops more count records is are =
-    rw is (ap stream_length (drop_at list ops (length (list ++ ops) - count) (cut_at list ops count are.counted)) ∙ sym (records_long ops count records are))
+-- the operations that are put behind it are as many as are written
+pub put_written : (list : List Op) (n long : ℕ) (pieces : List ℕ) → long ≡ length list → AreWritten (drop n list) (length (drop n list)) pieces
+    → AreWritten (drop n list) (long - n) pieces
+put_written list n long pieces counted written = record {
+  spells = written.spells;
+  counted = length-drop n list ∙ ap (λ k. k - n) (sym counted);
+}

@@ -1,13 +1,11 @@
 -- The two parts right after opening.
-use Rattle.std.proofs.Common.{◌≡◌, ℕ, ◌≤◌, Bool, false, List, length, take, drop, sym, ap, ◌∙◌, arith, Result, Ok, Err}
+use Rattle.std.proofs.Common.{◌≡◌, ℕ, ◌≤◌, Bool, false, List, length, take, sym, ap, ◌∙◌, arith, Result, Ok, Err}
 use Rattle.std.specs.Prelude.{OnOk}
 use Rattle.std.specs.Result.{is_err}
 use Rattle.std.proofs.lemmas.Bool.{le-ltb}
 use Rattle.std.proofs.lemmas.List.{take_all}
 use Rattle.disk_trait.specs.declared.facts.DiskFacts.{Ghosts}
 use Rattle.op_model.specs.declared.op.Op.{Op}
-use Rattle.change_codec.specs.Stream.{spelled_all, AreOperations}
-use Rattle.op_list.specs.Records.{AreRecords}
 use Rattle.root_slots.specs.Root.{count_of}
 use Rattle.op_model.specs.Held.{opened_with, ReplicaHeld}
 use Rattle.group_commit.specs.Held.{StoreHeld}
@@ -18,12 +16,6 @@ use Rattle.hub_parts.specs.Locked.{due_behind, Keeps, LockedHeld}
 use Rattle.hub_parts.specs.Fitting.{FitTogether, side_of}
 use Rattle.hub_parts.proofs.FlusherSteps.{CrashLeaves}
 use Rattle.hub_parts.proofs.WaitingLengths.{none_waiting}
-
--- what is copied are the records of the whole list
-pub opened_records : (list ops : List Op) (long : ℕ) (records : List ℕ) → ops ≡ list → long ≡ length ops → records ≡ spelled_all (drop 0 ops)
-    → AreOperations (drop 0 ops) → AreRecords list long records
-opened_records list ops long records same counted spelled fits =
-    record { spelled_so = sym (rw same at spelled); fits = rw same at fits; counted = sym (rw same at counted) }
 
 -- a locked part to which no failure is told
 abbrev pub first_held : ReplicaHeld → ℕ → LockedHeld

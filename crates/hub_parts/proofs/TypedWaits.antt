@@ -1,5 +1,6 @@
 -- What is put behind the records that wait.
-use Rattle.std.proofs.Common.{◌≡◌, ℕ, ◌+◌, ◌-◌, ◌*◌, ◌<◌, ◌≤◌, true, List, [], ◌∷◌, ◌++◌, length, take, drop, get_or, refl, ap, sym, ◌∙◌, arith, subst}
+use Rattle.std.proofs.Common.{◌≡◌, ℕ, ◌+◌, ◌-◌, ◌*◌, ◌<◌, ◌≤◌, true, List, [], ◌∷◌, ◌++◌, length, take, drop, get_or, refl, ap, sym, ◌∙◌, arith, subst, Result, Ok, Err}
+use Rattle.std.specs.Prelude.{OnOk}
 use Rattle.std.proofs.lemmas.Bool.{leb-true, and_parts}
 use Rattle.std.proofs.lemmas.List.{drop-drop, drop_at, length-drop, take_all, take_at}
 use Rattle.change_codec.specs.Fits.{IsOperation}
@@ -17,7 +18,7 @@ use Rattle.op_model.specs.Made.{is_small, made}
 use Rattle.op_model.specs.Records.{record_length, stream_length}
 use Rattle.op_model.specs.Waiting.{text_length}
 use Rattle.op_pieces.specs.Cutting.{value_of}
-use Rattle.op_pieces.specs.Pieces.{Run, next_typed, typed_behind, fits_behind}
+use Rattle.op_pieces.specs.Pieces.{Run, single, next_typed, typed_behind, fits_behind}
 use Rattle.op_pieces.specs.Typed.{IsTyped}
 use Rattle.op_pieces.proofs.LengthLemmas.{few_others}
 use Rattle.op_pieces.proofs.PieceLemmas.{length-typed}
@@ -30,30 +31,32 @@ use Rattle.piece_codec.proofs.LengthLaws.{run_has_length}
 use Rattle.piece_codec.proofs.StreamLaws.{one_piece, single_records}
 use Rattle.hub_parts.specs.Adding.{Adds}
 
+-- what a success says, where more follows from it
+pub on_ok : {T E : Type 0} (answer : Result T E) (P Q : Type 0) → OnOk answer P → (P → Q) → OnOk answer Q
+on_ok (Ok x) P Q says more = more says
+on_ok (Err e) P Q says more = tt
+
+pub on_both : {T E : Type 0} (answer : Result T E) (P Q R : Type 0) → OnOk answer P → OnOk answer Q → (P → Q → R) → OnOk answer R
+on_both (Ok x) P Q R says too more = more says too
+on_both (Err e) P Q R says too more = tt
+
 -- single records behind what waited
-pub singles_add : (ops : List Op) (was now records : List ℕ) → AreOperations ops → records ≡ spelled_all ops → now ≡ was ++ records
-    → length records ≡ stream_length ops → Adds was now ops (stream_length ops)
-singles_add ops was now records fits is behind long = record {
-  records = records;
-  spells = rw is (single_records newest ops fits (are_of_third ops));
-  long = long;
+pub singles_add : (ops : List Op) (was now : List ℕ) → AreOperations ops → now ≡ was ++ spelled_all ops → Adds was now ops (stream_length ops)
+singles_add ops was now fits behind = record {
+  records = spelled_all ops;
+  spells = single_records newest ops fits (are_of_third ops);
+  long = length-spelled_all ops;
   behind = behind;
 }
 
-one_behind : (front list : List Op) (op : Op) (before : ℕ) → list ≡ front ++ op ∷ [] → before ≡ length front → drop before list ≡ op ∷ []
-one_behind front list op before grown long = rw (grown, long) (drop_at front (op ∷ []) (length front) refl)
-
--- how long its record is
-pub one_long : (front list : List Op) (op : Op) (before : ℕ) → list ≡ front ++ op ∷ [] → before ≡ length front
-    → stream_length (drop before list) ≡ record_length op
-one_long front list op before grown long = let l = ap stream_length (one_behind front list op before grown long) in omega (arith, l)
-
--- the record of one operation, which was put behind a list
-pub one_adds : (front list : List Op) (op : Op) (before : ℕ) (was now records : List ℕ) → list ≡ front ++ op ∷ [] → before ≡ length front
-    → AreOperations (drop before list) → records ≡ spelled_all (drop before list) → now ≡ was ++ records → Adds was now (drop before list) (record_length op)
-one_adds front list op before was now records grown long fits is behind =
-    subst (λ n. Adds was now (drop before list) n) (one_long front list op before grown long)
-    (singles_add (drop before list) was now records fits is behind (ap length is ∙ length-spelled_all (drop before list)))
+-- the record of one operation
+pub one_adds : (op : Op) (was now : List ℕ) → IsOperation op → now ≡ was ++ spelled op → Adds was now (op ∷ []) (record_length op)
+one_adds op was now fits behind = record {
+  records = spelled op;
+  spells = one_piece newest (single op) (record { runs = λ none. refl; tokens = (are_of_third (op ∷ [])).0 }) (record { first = fits; others = tt; piece = refl });
+  long = length_spelled op;
+  behind = behind;
+}
 
 -- what is typed behind an operation are scalar values
 typed_scalars : (op : Op) (vs : List ℕ) → AreOperations (typed_behind op vs) → AreScalars vs
@@ -102,14 +105,13 @@ one_typed ops text t few =
     alone op [] none = refl
     alone op (v ∷ vs) none = absurd (omega arith)
 
--- the record of the first operation of what was typed, as it stands in the list
+-- the record of the first operation of what was typed, and how many are typed behind it
 pub record First (ops : List Op) (text bytes : List ℕ) (t : IsTyped ops text) : Type 0 where
   pub is : bytes ≡ spelled t.run.first
   pub whole : 9 ≤ length bytes
   pub short : length bytes ≤ 1511
   pub inserts : is_insert t.run.first.body ≡ true
   pub few : length (drop 1 text) < 256
-  pub long : length bytes + 2 + 4 * length (drop 1 text) ≡ text_length ops
 
 piece_inserts : (op : Op) (vs : List ℕ) → fits_behind op vs ≡ true → 0 < length vs → is_insert op.body ≡ true
 piece_inserts op [] piece some = absurd (omega arith)
@@ -123,18 +125,14 @@ record_range op fits =
     let least = range.0 in
     (omega (arith, body, least), omega (arith, body, most))
 
-pub typed_first : (ops : List Op) (text bytes : List ℕ) (n : ℕ) (t : IsTyped ops text) → AreOperations ops → 2 ≤ length text
-    → n ≡ stream_length ops - stream_length (drop 1 ops) → bytes ≡ take n (spelled_all ops) → First ops text bytes t
-typed_first ops text bytes n t fits more count is =
+pub typed_first : (ops : List Op) (text bytes : List ℕ) (op : Op) (t : IsTyped ops text) → AreOperations ops → 2 ≤ length text
+    → op ≡ get_or ops 0 op → bytes ≡ spelled op → First ops text bytes t
+typed_first ops text bytes op t fits more here is =
     let first = t.run.first in
     let others = t.run.others in
-    let behind = typed_behind first others in
-    let some = more_others ops text t more in
-    let all : ops ≡ first ∷ behind = sym t.makes in
-    let alone : n ≡ record_length first = (let c : n ≡ stream_length (first ∷ behind) - stream_length behind = rw (sym t.makes) at count in omega (arith, c)) in
-    let spelled_first : bytes ≡ spelled first = is ∙ ap (λ x. take n (spelled_all x)) all ∙ take_at (spelled first) (spelled_all behind) n (length_spelled first ∙ sym alone) in
+    let spelled_first : bytes ≡ spelled first = is ∙ ap spelled (here ∙ ap (λ (x : List Op). get_or x 0 op) (sym t.makes)) in
     let long : length bytes ≡ record_length first = ap length spelled_first ∙ length_spelled first in
-    let range = record_range first (let these : AreOperations (first ∷ behind) = rw (sym t.makes) at fits in these.0) in
+    let range = record_range first (let these : AreOperations (first ∷ typed_behind first others) = rw (sym t.makes) at fits in these.0) in
     let least = range.0 in
     let most = range.1 in
     let rest : drop 1 text ≡ others = ap (drop 1) (sym t.types) in
@@ -142,29 +140,9 @@ typed_first ops text bytes n t fits more count is =
       is = spelled_first;
       whole = omega (arith, long, least);
       short = omega (arith, long, most);
-      inserts = piece_inserts first others t.piece some;
+      inserts = piece_inserts first others t.piece (more_others ops text t more);
       few = rw rest (few_others first others t.piece);
-      long = omega (arith, long, ap length rest, ap text_length all, run_text first others some);
     }
-
--- behind the first one there are fewer bytes
-rest_fewer : (ops : List Op) → stream_length (drop 1 ops) ≤ stream_length ops
-rest_fewer [] = omega arith
-rest_fewer (op ∷ ops) = omega arith
-
-pub rest_within : (list : List Op) (n rest : ℕ) (records : List ℕ) → records ≡ spelled_all (drop n list) → rest ≡ stream_length (drop (n + 1) list)
-    → rest ≤ length records
-rest_within list n rest records is count =
-    omega (arith, count, ap stream_length (sym (drop-drop 1 n list)), rest_fewer (drop n list), ap length is, length-spelled_all (drop n list))
-
-pub first_in_list : (list : List Op) (n : ℕ) (text records : List ℕ) (rest : ℕ) (t : IsTyped (drop n list) text) → AreOperations (drop n list)
-    → records ≡ spelled_all (drop n list) → rest ≡ stream_length (drop (n + 1) list) → 2 ≤ length text
-    → First (drop n list) text (take (length records - rest) records) t
-first_in_list list n text records rest t fits is count more =
-    let long : length records ≡ stream_length (drop n list) = ap length is ∙ length-spelled_all (drop n list) in
-    let behind : rest ≡ stream_length (drop 1 (drop n list)) = count ∙ ap stream_length (sym (drop-drop 1 n list)) in
-    let first : length records - rest ≡ stream_length (drop n list) - stream_length (drop 1 (drop n list)) = rw (long, behind) refl in
-    typed_first (drop n list) text (take (length records - rest) records) (length records - rest) t fits more first (ap (take (length records - rest)) is)
 
 -- the characters behind the first one
 pub others_are : (text : List ℕ) → take (length text - 1) (drop 1 text) ≡ drop 1 text
@@ -173,10 +151,6 @@ others_are text = take_all (length text - 1) (drop 1 text) (omega (arith, length
 -- the first character
 pub first_is : (ops : List Op) (text : List ℕ) (d : ℕ) (t : IsTyped ops text) → get_or text 0 d ≡ value_of t.run.first.body
 first_is ops text d t = ap (λ (x : List ℕ). get_or x 0 d) (sym t.types)
-
--- something was typed
-pub some_typed : (list : List Op) (n : ℕ) (text : List ℕ) → IsTyped (drop n list) text → n + 1 ≤ length list
-some_typed list n text t = let long = ap length t.makes in omega (arith, long, length-drop n list)
 
 -- what a small insert makes is typed
 pub made_typed : (ops : List Op) (list : List Op) (replica : ℕ) (e : Edit) (at : ℕ) (text : List ℕ) → ops ≡ made list replica e → e.change ≡ change.Insert at text

@@ -1,9 +1,10 @@
 -- The part of a hub that stands under the lock.
-use Rattle.std.specs.Prelude.{◌≡◌, ℕ, ◌+◌, ◌≤◌, ◌<◌, Bool, false, nat_lt, if◌then◌else◌, List, length, drop, Contains, Option, Some, None}
+use Rattle.std.specs.Prelude.{◌≡◌, ℕ, ◌+◌, ◌≤◌, ◌<◌, Bool, false, nat_lt, if◌then◌else◌, List, length, take, drop, Contains, Option, Some, None}
 use Rattle.fixed_numbers.specs.declared.limits.TheConstants.{MAX_PENDING}
 use Rattle.op_model.specs.Machine.{Commit, State}
 use Rattle.op_model.specs.Replay.{reached}
 use Rattle.op_model.specs.Held.{ReplicaHeld}
+use Rattle.op_model.specs.Records.{stream_length}
 use Rattle.op_model.specs.Waiting.{waiting_length}
 use Rattle.piece_codec.specs.Stream.{SpellsList}
 use Rattle.group_commit.specs.Plan.{newest}
@@ -59,6 +60,10 @@ pub record Keeps (l : LockedHeld) : Type 0 where
 pub record Waits (h : ReplicaHeld) (begun : ℕ) (records : List ℕ) : Type 0 where
   pub spells : SpellsList newest (drop begun h.list) records
   pub long : length records ≡ waiting_length begun h.steps h.list
+
+-- the records of the taken operations, one by one, have so many bytes
+abbrev pub Counts : ReplicaHeld → ℕ → ℕ → Type 0
+Counts h begun bytes = bytes ≡ stream_length (take begun h.list)
 
 -- what every locked part keeps: its replica's list is causally closed and the kept steps replay, and the above
 pub record IsLocked (l : LockedHeld) : Type 0 where

@@ -2,10 +2,9 @@
 use Rattle.std.specs.Prelude.{◌≡◌, ◌⊎◌, ℕ, ◌+◌, ◌<◌, Bool, true, false, not, if◌then◌else◌, List, ◌++◌, length, drop, Result, Ok, Err}
 use Rattle.disk_trait.specs.declared.facts.DiskFacts.{Ghosts}
 use Rattle.op_model.specs.declared.op.Op.{Op}
-use Rattle.op_list.specs.Records.{AreRecords}
 use Rattle.root_slots.specs.Root.{count_of}
 use Rattle.op_model.specs.Held.{with_settled}
-use Rattle.group_commit.specs.Begin.{has_room, has_room_for, is_idle, is_none, AreWritten, Begins}
+use Rattle.group_commit.specs.Begin.{has_room, is_idle, is_none, AreWritten, Begins}
 use Rattle.group_commit.specs.declared.error.StoreError.{StoreError}
 use Rattle.group_commit.specs.declared.error.StoreError.TheVariants.{Memory, Limit, Busy, Failed}
 use Rattle.hub_parts.specs.Locked.{has_commit, LockedHeld}
@@ -50,16 +49,20 @@ IsBeginning answer = ⊥
 abbrev pub IsMet : Result Met StoreError → Result Met StoreError → Type 0
 IsMet due answer = (answer ≡ due) ⊎ ((answer ≡ Err Memory) × IsBeginning due)
 
--- a commit of operations can begin whose single records these are, and which the pieces spell too: the device works, there is none,
--- and there is room for them
-pub record CanCommit {D : Type 0} (f : FlusherHeld D) (records pieces : List ℕ) (count : ℕ) : Type 0 where
+-- a commit of these operations can begin, which the pieces spell: the device works, there is no commit, and there is room for the
+-- operations
+pub record CanCommit {D : Type 0} (f : FlusherHeld D) (ops : List Op) (pieces : List ℕ) : Type 0 where
   pub works : f.store.failed ≡ false
   pub rests : f.due ≡ false
-  pub ops : List Op
-  pub are : AreRecords ops count records
-  pub written : AreWritten ops count pieces
-  pub some : 0 < count
-  pub room : has_room_for f.store.current count (length records) ≡ true
+  pub written : AreWritten ops (length ops) pieces
+  pub some : 0 < length ops
+  pub room : has_room f.store.current ops ≡ true
+
+-- the flusher begins a commit of these operations, by these records
+pub record BeginsCommit {D : Type 0} (facts : Ghosts D) (f : FlusherHeld D) (ops : List Op) (records : List ℕ) (f' : FlusherHeld D) : Type 0 where
+  pub begins : Begins facts f.store ops records f'.store
+  pub list : f'.list ≡ f.list ++ ops
+  pub due : f'.due ≡ true
 
 -- the flusher takes all that waits, and begins a commit of just these operations, by records that spell them
 pub record TakesAll {D : Type 0} (facts : Ghosts D) (l : LockedHeld) (f : FlusherHeld D) (l' : LockedHeld) (f' : FlusherHeld D) : Type 0 where

@@ -9,7 +9,8 @@ use disk_trait::Disk;
 impl Locked {
     /// Whether the two fit: they are of one replica, both have a commit or neither has, the
     /// flusher's list is the operations that were taken, and those of the live root are the settled
-    /// ones, or where the commit is through at least these. Takes no memory. Linear in the records.
+    /// ones, or where the commit is through at least these. Takes no memory. Linear in what both
+    /// hold of the lists.
     pub fn fits<D: Disk>(&self, flusher: &Flusher<D>) -> bool
         ensures { IsTrue result ↔ FitTogether self.now (side_of flusher.now) }
     {

@@ -5,23 +5,23 @@ ghost use Rattle.hub_parts.specs.Locked.{IsLocked, LockedHeld};
 ghost use Rattle.hub_parts.specs.Fitting.{FitTogether, side_of};
 
 use disk_trait::Disk;
-use fixed_numbers::limits::{MAX_PENDING, MAX_PENDING_RECORDS};
+use fixed_numbers::limits::MAX_PENDING;
 use group_commit::{Phase, Store, StoreError};
-use op_list::Records;
+use run_list::RunList;
 use std::alloc::AllocError;
 use std::marker::Model;
 
 /// The part of a hub that commits: the store, and the list of operations that the commit has, or
-/// else those that are committed, held as their records. It makes device calls without the lock,
-/// and is lent the locked part only where the two meet. Contracts see the store, the list, and
-/// whether there is a commit that isn't settled.
+/// else those that are committed, held as runs. It makes device calls without the lock, and is lent
+/// the locked part only where the two meet. Contracts see the store, the list, and whether there is
+/// a commit that isn't settled.
 ///
 /// The type keeps that every file which a crash may leave has the live root or the one that the
 /// commit makes, and that each of these has a beginning of the list.
 #[derive(Drop)]
 pub struct Flusher<D: Disk> {
     pub(crate) store: Store<D>,
-    pub(crate) list: Records,
+    pub(crate) list: RunList,
     /// Whether there is a commit that isn't settled.
     pub(crate) due: bool,
 }
@@ -63,17 +63,15 @@ impl<D: Disk> Flusher<D> {
         self.store.step()
     }
 
-    /// Makes room in the list for the most that a meeting takes, 87,031,808 bytes of single
-    /// records, so that it moves no record under the lock; if there is no memory for so much, for
-    /// 1,048,576 bytes. Room that stays empty is address space alone. An error is out of memory
-    /// (1). Linear in the list where it moves, else constant.
+    /// Makes room in the list for the most that a meeting takes, so that nothing of it moves under
+    /// the lock. That is 1,048,576 bytes of pieces, of which a character of a run takes four, and
+    /// each other operation its record. Room that stays empty is address space alone. An error is
+    /// out of memory (1). Linear in the list where it moves, else constant.
     pub fn reserve(&mut self) -> Result<(), AllocError>
         ensures { self.new ≡ self.old }
     {
-        if self.list.reserve(MAX_PENDING_RECORDS).is_ok() {
-            return Ok(());
-        }
-        self.list.reserve(MAX_PENDING as usize)
+        let bytes = MAX_PENDING as usize;
+        self.list.reserve(bytes / 4, bytes)
     }
 
     /// Whether a device call has failed, so that the file must be opened again. Takes no memory.

@@ -1,6 +1,7 @@
 //! What a meeting does to the locked part.
-ghost use Rattle.std.specs.Prelude.{◌≡◌, true, length};
+ghost use Rattle.std.specs.Prelude.{◌≡◌, true, length, drop};
 ghost use Rattle.op_model.specs.Held.{with_settled};
+ghost use Rattle.op_model.specs.Records.{stream_length};
 ghost use Rattle.hub_parts.specs.Locked.{has_commit};
 
 use crate::locked::Locked;
@@ -13,11 +14,20 @@ impl Locked {
         self.replica.settled() < self.begun
     }
 
+    /// How many bytes the records of the operations that wait for the next commit take, one by one.
+    /// Constant.
+    pub(crate) fn waiting_singles(&self) -> u64
+        ensures { result ≡ stream_length (drop self.now.begun self.now.replica.list) }
+    {
+        self.replica.records_length() - self.begun_bytes
+    }
+
     /// Marks all operations as taken for a commit.
     pub(crate) fn take_all(&mut self)
         ensures { self.new ≡ record self.old { begun = length self.old.replica.list } }
     {
         self.begun = self.replica.list().len();
+        self.begun_bytes = self.replica.records_length();
         self.waiting.clear();
     }
 

@@ -11,20 +11,22 @@ use std::marker::Model;
 /// The operations that wait for the next commit are those of the list behind the taken ones. Beside
 /// the list, their records stand in pieces, made with each edit, so a meeting spells nothing. The
 /// type keeps that these spell what waits, that what one edit typed is one of them, that they have
-/// at most 1,048,576 bytes, and that the settlements which are due have their places among the kept
-/// steps.
+/// at most 1,048,576 bytes, how many bytes the taken operations have one by one, and that the
+/// settlements which are due have their places among the kept steps.
 #[derive(Debug, Drop)]
 pub struct Locked {
     pub(crate) replica: Replica,
     /// How many operations of the list are settled or in the commit.
     pub(crate) begun: usize,
+    /// How many bytes the records of these take, one by one.
+    pub(crate) begun_bytes: u64,
     pub(crate) failure_told: bool,
     /// The records of the operations that wait for the next commit.
     pub(crate) waiting: Vec<u8>,
 }
 
 impl Model for Locked {
-    ghost use Rattle.hub_parts.specs.Locked.{LockedHeld, Keeps, Waits};
+    ghost use Rattle.hub_parts.specs.Locked.{LockedHeld, Counts, Keeps, Waits};
 
     ghost Value = { LockedHeld };
 
@@ -38,7 +40,7 @@ impl Model for Locked {
       replica = l.replica;
       begun = l.begun;
       failure_told = l.failure_told;
-    }) × Waits l.replica l.begun l.waiting.items };
+    }) × Waits l.replica l.begun l.waiting.items × Counts l.replica l.begun l.begun_bytes };
 }
 
 impl Locked {

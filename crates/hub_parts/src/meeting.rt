@@ -1,20 +1,19 @@
 //! The meetings of the two parts.
-ghost use Rattle.std.specs.Prelude.{◌≡◌, ◌+◌, ◌++◌, false, true, List};
+ghost use Rattle.std.specs.Prelude.{◌≡◌, ◌+◌, ◌≤◌, false, length, drop};
 ghost use Rattle.std.specs.Prelude.{IfOk, IfErr, OnOk, OnErr};
-ghost use Rattle.op_list.specs.Records.{AreRecords};
-ghost use Rattle.op_model.specs.declared.op.Op.{Op as Operation};
 ghost use Rattle.root_slots.specs.Root.{count_of};
-ghost use Rattle.group_commit.specs.Begin.{AreWritten, Begins};
 ghost use Rattle.group_commit.specs.declared.error.StoreError.TheVariants.{Memory};
 ghost use Rattle.hub_parts.specs.Locked.{has_commit};
 ghost use Rattle.hub_parts.specs.Fitting.{FitTogether, side_of};
-ghost use Rattle.hub_parts.specs.Meeting.{due_without, CanCommit, IsMet, LeavesBoth, Meets};
+ghost use Rattle.hub_parts.specs.Meeting.{due_without, BeginsCommit, CanCommit};
+ghost use Rattle.hub_parts.specs.Meeting.{IsMet, LeavesBoth, Meets};
 
 use crate::flusher::Flusher;
 use crate::locked::Locked;
 use crate::met::Met;
 use disk_trait::Disk;
 use group_commit::StoreError;
+use run_list::RunSlice;
 
 /// How often a begin that finds no memory is made, in a row, until its commit is given up.
 pub const BEGIN_TRIES: u32 = 1_000;
@@ -30,8 +29,9 @@ impl<D: Disk> Flusher<D> {
     /// - else a commit begins of all that waits. Where the store has no room (7) or a growth was
     ///   refused (1), both parts are as before.
     ///
-    /// Costs the bytes of the records that wait and of the pages that the commit writes. Nothing
-    /// else of either list is read, copied or spelled; where `reserve` made room, nothing moves.
+    /// Costs the bytes of the pieces that wait and of the pages that the commit writes, and a copy
+    /// of each operation that waits. Nothing else of either list is read, copied or spelled; where
+    /// `reserve` made room, nothing moves.
     pub fn meet(&mut self, locked: &mut Locked) -> Result<Met, StoreError>
         ensures met { Meets D.DiskFacts locked.old self.old result locked.new self.new }
         ensures fits { FitTogether locked.old (side_of self.old)
@@ -68,34 +68,39 @@ impl<D: Disk> Flusher<D> {
         locked.kept();
         let list = locked.list();
         let begun = locked.begun();
-        let records = list.records_from(begun);
         let count = (list.len() - begun) as u64;
         if count == 0 {
             return Ok(Met::Nothing);
         }
-        if !self.store.has_room(count, records.len() as u64) {
+        if !self.store.has_room(count, locked.waiting_singles()) {
             return Err(StoreError::Limit);
         }
-        let length = self.begin_commit(records, &locked.waiting, count)?;
+        let length = self.begin_commit(&list, begun, &locked.waiting)?;
         locked.take_all();
         Ok(Met::Begun(length))
     }
 
-    /// Begins a commit of the `count` operations whose single records these are, and which the
-    /// pieces spell too, where there is room for them, and answers the length of the list that it
-    /// commits. It is refused when out of memory alone, and changes nothing then.
-    fn begin_commit(&mut self, records: &[u8], pieces: &[u8], count: u64) -> Result<u64, StoreError>
-        requires { CanCommit self.old records.now pieces.now count }
-        ensures length { IfOk result (λ n. n ≡ count_of self.old.store.current.body + count) }
-        ensures taken { OnOk result ((self.new.due ≡ true)
-            × ((ops : List Operation) → AreRecords ops count records.now
-            → AreWritten ops count pieces.now
-            → Begins D.DiskFacts self.old.store ops pieces.now self.new.store
-            × (self.new.list ≡ self.old.list ++ ops))) }
+    /// Begins a commit of the operations of a list from the n-th on, counted from 0, which the
+    /// pieces spell, and answers the length of the list that it commits. It is refused when out of
+    /// memory alone, and changes nothing then.
+    fn begin_commit(
+        &mut self,
+        list: &RunSlice<'_>,
+        n: usize,
+        pieces: &[u8],
+    ) -> Result<u64, StoreError>
+        requires within { n ≤ length list.now }
+        requires can { CanCommit self.old (drop n list.now) pieces.now }
+        ensures length { IfOk result (λ long.
+            long ≡ count_of self.old.store.current.body + length (drop n list.now)) }
+        ensures taken { OnOk result
+            (BeginsCommit D.DiskFacts self.old (drop n list.now) pieces.now self.new) }
         ensures refused { IfErr result (λ error. error ≡ Memory) }
         ensures same { OnErr result (self.new ≡ self.old) }
     {
-        self.list.append(records, count)?;
+        let count = (list.len() - n) as u64;
+        let before = self.list.len();
+        self.list.extend_from(list, n)?;
         match self.store.begin_records(pieces, count) {
             Ok(Some(length)) => {
                 self.due = true;
@@ -103,7 +108,7 @@ impl<D: Disk> Flusher<D> {
             }
             Ok(None) => unreachable!(),
             Err(error) => {
-                self.list.drop_last(records.len(), count);
+                self.list.truncate(before);
                 Err(error)
             }
         }

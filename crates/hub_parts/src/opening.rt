@@ -9,8 +9,8 @@ ghost use Rattle.hub_parts.specs.Opening.{IsOpened};
 use crate::flusher::Flusher;
 use crate::locked::Locked;
 use disk_trait::Disk;
-use op_list::Records;
 use recovery::{OpenError, OpenFault, Opened};
+use run_list::RunList;
 use std::alloc::Global;
 
 /// The two parts of a hub.
@@ -23,7 +23,7 @@ pub struct Parts<D: Disk> {
 /// Opens the file of a disk: a sync, and then reads alone.
 ///
 /// Refuses as `recovery::open` does, with a device number, 42, 43, 45, 46, 47 or 1, and hands the
-/// disk back. Costs what `recovery::open` does, and a copy of the records.
+/// disk back. Costs what `recovery::open` does, and a copy of the list.
 pub fn open<D: Disk>(alloc: Global, disk: D) -> Result<Parts<D>, OpenFault<D>>
     // The replica is that of the file's image, as it is right after opening.
     ensures image { D.tells disk → IfOk result (λ it. IsImage (D.content disk)
@@ -42,8 +42,9 @@ pub fn open<D: Disk>(alloc: Global, disk: D) -> Result<Parts<D>, OpenFault<D>>
     let Opened { replica, store } = recovery::open(alloc, disk)?;
     let ops = replica.list();
     let begun = ops.len();
-    let mut list = Records::new(alloc);
-    if list.append(ops.records_from(0), begun as u64).is_err() {
+    let begun_bytes = replica.records_length();
+    let mut list = RunList::new(alloc);
+    if list.extend_from(&ops, 0).is_err() {
         return Err(OpenFault {
             cause: OpenError::Load(group_commit::OpenError::Memory),
             disk: store.into_disk(),
@@ -53,6 +54,7 @@ pub fn open<D: Disk>(alloc: Global, disk: D) -> Result<Parts<D>, OpenFault<D>>
         locked: Locked {
             replica,
             begun,
+            begun_bytes,
             failure_told: false,
             waiting: Vec::new(alloc),
         },

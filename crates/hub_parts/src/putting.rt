@@ -1,4 +1,4 @@
-//! The operations of an edit or a merge, put behind the list and into what waits.
+//! The operations of an edit or a merge, put into what waits and behind the list.
 ghost use Rattle.std.specs.Prelude.{◌≡◌, true, IfOk, IfErr, OnOk, OnErr};
 ghost use Rattle.op_model.specs.Held.{with_edit, with_merge};
 ghost use Rattle.op_model.specs.Machine.{edit_length, has_record_room, new_edit_alone, ticket};
@@ -10,7 +10,7 @@ ghost use Rattle.hub_parts.specs.Locked.{state_of};
 
 use crate::locked::Locked;
 use crate::waiting::put_made;
-use change_codec::put_bytes;
+use change_codec::{every_op_has_a_spelling, put_op};
 use op_model::{Edit, Op};
 use replica_core::{Decided, Refusal, Ticket};
 
@@ -33,14 +33,16 @@ impl Locked {
         ensures memory { IfErr result (λ e. e ≡ Refusal.Memory) }
         ensures err { OnErr result (self.new ≡ self.old) }
     {
-        let before = self.replica.list().len();
-        if self.waiting.reserve(decided.bytes as usize).is_err() {
-            return Err(Refusal::Memory);
+        let before = self.waiting.len();
+        let prepared = self.replica.prepare(edit, decided)?;
+        put_made(prepared.ops(), edit, &mut self.waiting)?;
+        match self.replica.put_prepared(session, edit, decided, prepared) {
+            Ok(ticket) => Ok(ticket),
+            Err(refusal) => {
+                self.waiting.truncate(before);
+                Err(refusal)
+            }
         }
-        let ticket = self.replica.put_edit(session, edit, decided)?;
-        let list = self.replica.list();
-        put_made(&list, before, edit, &mut self.waiting);
-        Ok(ticket)
     }
 
     /// Puts a peer's operation that may follow, and for whose record there is room, behind the
@@ -53,13 +55,15 @@ impl Locked {
         ensures memory { IfErr result (λ e. e ≡ Refusal.Memory) }
         ensures err { OnErr result (self.new ≡ self.old) }
     {
-        let before = self.replica.list().len();
-        if self.waiting.reserve(op.record_length() as usize).is_err() {
-            return Err(Refusal::Memory);
+        let before = self.waiting.len();
+        every_op_has_a_spelling(&op);
+        put_op(&op, &mut self.waiting)?;
+        match self.replica.put_merge(peer, op) {
+            Ok(()) => Ok(()),
+            Err(refusal) => {
+                self.waiting.truncate(before);
+                Err(refusal)
+            }
         }
-        self.replica.put_merge(peer, op)?;
-        let list = self.replica.list();
-        put_bytes(list.records_from(before), &mut self.waiting);
-        Ok(())
     }
 }

@@ -8,9 +8,9 @@ ghost use Rattle.replica_core.specs.Held.{IsSound};
 
 use crate::locked::Locked;
 use op_ids::{Clock, ReplicaId};
-use op_list::OpSlice;
 use op_model::{Edit, Span, Text};
 use replica_core::Ticket;
+use run_list::RunSlice;
 use std::alloc::AllocError;
 
 impl Locked {
@@ -23,7 +23,7 @@ impl Locked {
 
     /// The operations, in the order of application. The list is causally closed, replaying the kept
     /// steps gives it, and what is acknowledged and told is settled.
-    pub fn list(&self) -> OpSlice<'_>
+    pub fn list(&self) -> RunSlice<'_>
         ensures list { result ≡ self.now.replica.list }
         ensures sound { IsSound self.now.replica }
     {

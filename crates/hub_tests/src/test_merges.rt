@@ -9,12 +9,12 @@ use std::alloc::Global;
 /// The operation that a merge takes.
 pub fn brought(alloc: Global, peers: &[Replica], ask: &Ask) -> Option<Op> {
     match ask {
-        Ask::Merge(from, index) => op_at(alloc, peers.get(*from)?, *index),
+        Ask::Merge(from, index) => op_at(peers.get(*from)?, *index),
         Ask::MergeRemove(from) => removal(alloc, peers.get(*from)?),
-        Ask::MergeNowhere(from) => nowhere(alloc, peers.get(*from)?),
+        Ask::MergeNowhere(from) => nowhere(peers.get(*from)?),
         Ask::MergeSecond(from, counter, doc, third) => {
             let origin = match third {
-                Some(third) => Some(first_id(alloc, peers.get(*third)?)?),
+                Some(third) => Some(first_id(peers.get(*third)?)?),
                 None => None,
             };
             second(peers.get(*from)?, *counter, *doc, origin)
@@ -28,14 +28,14 @@ pub fn merge_into(peers: &mut Vec<Replica>, peer: usize, op: Option<Op>) -> Opti
 }
 
 /// The id of the first operation of a replica.
-fn first_id(alloc: Global, replica: &Replica) -> Option<OpId> {
-    Some(op_at(alloc, replica, 0)?.id)
+fn first_id(replica: &Replica) -> Option<OpId> {
+    Some(op_at(replica, 0)?.id)
 }
 
 /// A remove of a replica's first character, on which it doesn't depend: the first operation of
 /// replica 3.
 fn removal(alloc: Global, replica: &Replica) -> Option<Op> {
-    let target = first_id(alloc, replica)?;
+    let target = first_id(replica)?;
     Some(Op {
         id: id_of(9, 3)?,
         doc: 1,
@@ -46,8 +46,8 @@ fn removal(alloc: Global, replica: &Replica) -> Option<Op> {
 }
 
 /// The first operation of a replica, but of document 0.
-fn nowhere(alloc: Global, replica: &Replica) -> Option<Op> {
-    let mut op = op_at(alloc, replica, 0)?;
+fn nowhere(replica: &Replica) -> Option<Op> {
+    let mut op = op_at(replica, 0)?;
     op.doc = 0;
     Some(op)
 }
@@ -69,7 +69,7 @@ fn second(replica: &Replica, counter: u64, doc: u32, origin: Option<OpId>) -> Op
 pub fn merge_all(alloc: Global, peers: &mut Vec<Replica>, to: usize, from: usize) -> Option<usize> {
     let count = peers.get(from)?.list().len();
     for index in 0..count {
-        let op = op_at(alloc, peers.get(from)?, index);
+        let op = op_at(peers.get(from)?, index);
         merge_into(peers, to, op)?;
     }
     Some(0)

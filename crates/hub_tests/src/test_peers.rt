@@ -1,8 +1,8 @@
 //! What the tests ask of one replica.
 use op_ids::{Clock, OpId, ReplicaId};
-use op_list::{OpList, OpSlice};
 use op_model::{Op, Text};
 use replica_core::{Merged, Replica, Ticket};
+use run_list::{RunList, RunSlice};
 use std::alloc::{AllocError, Global};
 
 pub fn bytes_ending(last: u8) -> [u8; 16] {
@@ -30,29 +30,28 @@ pub fn merge(replica: &mut Replica, op: Op) -> usize {
 }
 
 /// The operation of a replica at an index.
-pub fn op_at(alloc: Global, replica: &Replica, index: usize) -> Option<Op> {
-    op_in(alloc, &replica.list(), index)
+pub fn op_at(replica: &Replica, index: usize) -> Option<Op> {
+    op_in(&replica.list(), index)
 }
 
-fn op_in(alloc: Global, ops: &OpSlice<'_>, index: usize) -> Option<Op> {
+fn op_in(ops: &RunSlice<'_>, index: usize) -> Option<Op> {
     if index >= ops.len() {
         return None;
     }
-    match ops.get(alloc, index) {
+    match ops.get(index) {
         Ok(op) => Some(op),
         Err(_) => None,
     }
 }
 
 /// The operations of a replica from an index on.
-pub fn ops_from(alloc: Global, replica: &Replica, from: usize) -> Result<OpList, AllocError> {
+pub fn ops_from(alloc: Global, replica: &Replica, from: usize) -> Result<RunList, AllocError> {
     let list = replica.list();
     if from > list.len() {
         return Err(AllocError);
     }
-    let copies = list.copy_from(alloc, from)?;
-    let mut ops = OpList::new(alloc);
-    ops.append(&copies)?;
+    let mut ops = RunList::new(alloc);
+    ops.extend_from(&list, from)?;
     Ok(ops)
 }
 
@@ -99,10 +98,10 @@ fn counting(alloc: Global, counts: &[u64; 3]) -> Option<Clock> {
 }
 
 /// The ids of the first operations, at most 64, that a clock doesn't count, by a look at each.
-fn uncounted(alloc: Global, list: &OpSlice<'_>, clock: &Clock) -> Result<Vec<OpId>, AllocError> {
+fn uncounted(alloc: Global, list: &RunSlice<'_>, clock: &Clock) -> Result<Vec<OpId>, AllocError> {
     let mut ids = Vec::new(alloc);
     for i in 0..list.len() {
-        let op = list.get(alloc, i)?;
+        let op = list.get(i)?;
         let is_counted = op.deps.get(op.id.replica()) < clock.get(op.id.replica());
         if !is_counted && ids.len() < 64 {
             ids.push(op.id)?;

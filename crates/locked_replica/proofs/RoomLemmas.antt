@@ -6,7 +6,7 @@ use Rattle.std.specs.List.{list_all}
 use Rattle.std.proofs.lemmas.Bool.Decides.{nat_tests}
 use Rattle.std.proofs.lemmas.Bool.{leb-true, le-leb}
 use Rattle.std.proofs.lemmas.List.{take-append-drop, length-take-le, append-nil}
-use Rattle.op_list.proofs.EndsOf.{stream_length-append}
+use Rattle.model_laws.proofs.Limits.{stream_length-append}
 use Rattle.op_model.specs.declared.op.Op.{Op}
 use Rattle.op_model.specs.Causality.{FollowInTurn, IsCausallyClosed, is_within_limits, is_in_range, clock_of, documents}
 use Rattle.op_model.specs.Records.{stream_length}

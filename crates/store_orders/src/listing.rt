@@ -48,7 +48,7 @@ fn room(replica: &Replica, numbers: &[u32]) -> FileRoom
 {
     let list = replica.list();
     FileRoom {
-        bytes: list.length_from(0) as u64,
+        bytes: replica.records_length(),
         documents: numbers.len() as u64,
         operations: list.len() as u64,
         replicas: replica.clock().len() as u64,

@@ -1,18 +1,25 @@
 //! Streams that have runs, read as lists.
 use crate::test_bytes::bytes_of;
 use crate::test_rows::{World, counted, cut_number, play, told};
-use change_codec::Format;
-use op_list::OpList;
+use change_codec::{Format, put_ops};
+use run_list::RunList;
 use std::alloc::Global;
 use std::test::Fail;
 use stream_list::read_stream;
 
 /// What is read of bytes as so many operations, or the number of its refusal.
-fn read(alloc: Global, format: Format, count: u64, bytes: Vec<u8>) -> Result<OpList, u8> {
+fn read(alloc: Global, format: Format, count: u64, bytes: Vec<u8>) -> Result<RunList, u8> {
     if bytes.as_slice().len() > 1_000 {
         return Err(0);
     }
     read_stream(alloc, format, count, bytes).map_err(|error| error.number())
+}
+
+/// Whether the operations of a list have these records.
+fn have_records(alloc: Global, list: &RunList, expected: &[u8]) -> Result<bool, Fail> {
+    let mut found = Vec::new(alloc);
+    put_ops(&list.as_slice().copy_from(alloc, 0)?, &mut found)?;
+    Ok(found.as_slice() == expected)
 }
 
 /// Whether records are read as the operations of as many single ones: `2 AB = FIRST SECOND`.
@@ -21,7 +28,7 @@ fn are_read(alloc: Global, words: &str) -> Result<bool, Fail> {
     let (records, singles) = words.split_once('=').ok_or("no records")?;
     let expected = bytes_of(alloc, singles)?;
     match read(alloc, Format::Second, count, bytes_of(alloc, records)?) {
-        Ok(list) => Ok(list.as_slice().records_from(0) == expected.as_slice()),
+        Ok(list) => have_records(alloc, &list, &expected),
         Err(_) => Ok(false),
     }
 }

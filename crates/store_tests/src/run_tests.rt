@@ -1,10 +1,7 @@
 //! Lists of operations that are held as runs.
-ghost use Rattle.std.specs.Prelude.{◌≡◌, ◌++◌, OnOk};
-
 use crate::test_names::id;
 use crate::test_ops::{op, ops};
-use crate::test_rows::{World, nothing, play, told, two_of};
-use change_codec::stream_length;
+use crate::test_rows::{World, counted, nothing, play, told, two_of};
 use op_model::Op;
 use run_list::RunList;
 use std::alloc::Global;
@@ -20,25 +17,16 @@ const TWO_RUNS: &str = "1 insert 0 é
     7 insert 5 d
     8 insert 7 e";
 
-/// Puts operations behind a list, if both are short.
-fn put(list: &mut RunList, ops: &[Op]) -> Result<(), Fail>
-    ensures { OnOk result (list.new ≡ list.old ++ ops.now) }
-{
-    if list.records_length() > 10_000 || stream_length(ops) > 10_000 {
-        Err("too long")?;
+/// Puts the pieces of operations behind a list.
+fn put_pieces(alloc: Global, list: &mut RunList, ops: &[Op]) -> Result<(), Fail> {
+    for piece in &op_pieces::cut(alloc, ops)? {
+        list.append_piece(piece)?;
     }
-    list.append(ops)?;
     Ok(())
 }
 
-/// Puts the operations of another list from the n-th on behind a list, if both are short.
+/// Puts the operations of another list from the n-th on behind a list.
 fn put_rest(list: &mut RunList, other: &RunList, n: usize) -> Result<(), Fail> {
-    if list.records_length() > 10_000 {
-        return Err("too long".into());
-    }
-    if other.records_length() > 10_000 {
-        return Err("too long".into());
-    }
     if n > other.len() {
         return Err("too short".into());
     }
@@ -57,14 +45,21 @@ struct Runs {
 fn put_each(alloc: Global, list: &mut RunList, ops: &[Op]) -> Result<String, Fail> {
     list.reserve(8, 1_000)?;
     for op in ops {
-        put(list, std::slice::from_ref(op))?;
+        list.append(std::slice::from_ref(op))?;
     }
     nothing(alloc)
 }
 
 /// Puts operations behind a list at once.
 fn put_all(alloc: Global, list: &mut RunList, ops: &[Op]) -> Result<String, Fail> {
-    put(list, ops)?;
+    list.append(ops)?;
+    nothing(alloc)
+}
+
+/// Puts operations behind a list, the pieces of the first `n` and then those of the others.
+fn put_parts(alloc: Global, list: &mut RunList, ops: &[Op], n: usize) -> Result<String, Fail> {
+    put_pieces(alloc, list, ops.get(..n).ok_or("too many")?)?;
+    put_pieces(alloc, list, ops.get(n..).ok_or("too many")?)?;
     nothing(alloc)
 }
 
@@ -90,19 +85,25 @@ fn head(alloc: Global, list: &RunList, i: usize) -> Result<String, Fail> {
     Ok(format!(in alloc; "{is_named} {doc} {is_insert}")?)
 }
 
-/// How many operations are held, and whether their records are as long as those of the operations.
-fn length(alloc: Global, runs: &Runs) -> Result<String, Fail> {
-    let count = runs.list.as_slice().len();
-    let is_so = runs.list.records_length() == stream_length(&runs.ops);
-    Ok(format!(in alloc; "{count} {is_so}")?)
+/// Whether a reader of the list reads the operations, one after another.
+fn is_read(runs: &Runs) -> Result<bool, Fail> {
+    let slice = runs.list.as_slice();
+    let mut reader = slice.reader();
+    for i in 0..slice.len() {
+        reader.read()?;
+        if *reader.op() != *runs.ops.get(i).ok_or("too many")? {
+            return Ok(false);
+        }
+    }
+    Ok(true)
 }
 
 /// Puts one more operation behind a list, and cuts it off again.
 fn cut(alloc: Global, list: &mut RunList) -> Result<String, Fail> {
     let more = op(alloc, 7, "9 insert 8 f")?;
-    let end = list.end();
-    put(list, std::slice::from_ref(&more))?;
-    list.cut(end);
+    let before = list.len();
+    list.append(std::slice::from_ref(&more))?;
+    list.truncate(before);
     nothing(alloc)
 }
 
@@ -133,7 +134,7 @@ fn put_front(list: &mut RunList, other: &RunList, n: usize) -> Result<(), Fail> 
     }
     let front = other.as_slice().front(n);
     for i in 0..n {
-        put(list, std::slice::from_ref(&front.get(i)?))?;
+        list.append(std::slice::from_ref(&front.get(i)?))?;
     }
     Ok(())
 }
@@ -155,7 +156,9 @@ impl World for Runs {
         match command {
             "each" => put_each(alloc, &mut self.list, &self.ops),
             "all" => put_all(alloc, &mut self.list, &self.ops),
-            "length" => length(alloc, self),
+            "pieces" => put_parts(alloc, &mut self.list, &self.ops, n),
+            "length" => counted(alloc, self.list.as_slice().len()),
+            "read" => told(alloc, is_read(self)),
             "held" => told(alloc, is_held(self, n)),
             "head" => head(alloc, &self.list, n),
             "cut" => cut(alloc, &mut self.list),
@@ -178,7 +181,7 @@ fn what_was_typed_is_read_back(rt: HostRuntime) -> Result<(), Fail> {
     plays(
         &rt,
         "each
-        length : 8 true
+        length : 8
         held 0 : true
         head 0 : true 7 true
         held 1 : true
@@ -199,12 +202,34 @@ fn what_was_typed_is_read_back(rt: HostRuntime) -> Result<(), Fail> {
 }
 
 #[test]
+fn pieces_go_on_with_the_run_before(rt: HostRuntime) -> Result<(), Fail> {
+    plays(
+        &rt,
+        "pieces 5
+        length : 8
+        copy 8 : true
+        one-way 8 : true",
+    )
+}
+
+#[test]
+fn a_list_is_read_in_its_order(rt: HostRuntime) -> Result<(), Fail> {
+    plays(
+        &rt,
+        "read : true
+        all
+        length : 8
+        read : true",
+    )
+}
+
+#[test]
 fn a_list_of_runs_is_cut(rt: HostRuntime) -> Result<(), Fail> {
     plays(
         &rt,
         "all
         cut
-        length : 8 true
+        length : 8
         copy 8 : true
         copy 5 : true",
     )
@@ -215,7 +240,7 @@ fn each_list_is_held_in_one_way(rt: HostRuntime) -> Result<(), Fail> {
     plays(
         &rt,
         "all
-        length : 8 true
+        length : 8
         one-way 0 : true
         one-way 1 : true
         one-way 2 : true

@@ -4,8 +4,8 @@ use change_codec::{Format, put_ops, take_ops};
 use disk_trait::{Disk, MemDisk};
 use group_commit::{Loaded, Phase, Store, StoreError};
 use op_ids::ReplicaId;
-use op_list::OpList;
 use op_model::Op;
+use run_list::RunList;
 use std::alloc::Global;
 use std::test::Fail;
 
@@ -104,7 +104,7 @@ pub(crate) fn disk_of(alloc: Global, calls: usize, words: &str) -> Result<Box<Me
 
 /// The replica and the operations of a file. They are taken out here, since nothing else is held
 /// then that an early return would have to drop.
-fn loaded(alloc: Global, disk: MemDisk) -> Result<(ReplicaId, OpList), Fail> {
+fn loaded(alloc: Global, disk: MemDisk) -> Result<(ReplicaId, RunList), Fail> {
     match load(alloc, disk) {
         Ok(loaded) => Ok((loaded.replica, loaded.ops)),
         Err(number) => Err(number.into()),
@@ -112,7 +112,7 @@ fn loaded(alloc: Global, disk: MemDisk) -> Result<(ReplicaId, OpList), Fail> {
 }
 
 /// Whether these operations are so many, and have these records.
-fn have_records(alloc: Global, ops: &OpList, count: usize, records: &str) -> Result<bool, Fail> {
+fn have_records(alloc: Global, ops: &RunList, count: usize, records: &str) -> Result<bool, Fail> {
     let mut found = Vec::new(alloc);
     put_ops(&ops.as_slice().copy_from(alloc, 0)?, &mut found)?;
     let expected = bytes_of(alloc, records)?;

@@ -17,18 +17,17 @@ use std::time::Duration;
 /// More seconds than any commit takes.
 const LONG: u64 = 60;
 
-/// Edits a document, and waits for the settlement if that is asked for.
-fn edit<J: BookNames, R: Wait>(
+/// Edits a document, and waits for the settlement.
+fn settle_edit<J: BookNames, R: Wait>(
     rt: &R,
     alloc: Global,
     shared: &Shared<J>,
     pass: &mut Pass<J>,
     doc: u32,
-    waits: bool,
 ) -> Option<()> {
     let edit = insert(alloc, doc)?;
     let ticket = shared.edit(rt, pass, &edit).ok()?;
-    if waits && !shared.acknowledge(rt, pass, ticket) {
+    if !shared.acknowledge(rt, pass, ticket) {
         return None;
     }
     Some(())
@@ -44,7 +43,7 @@ fn watched<J: BookNames, R: Wait + Clock>(
 ) -> Option<[Watched; 3]> {
     let first = shared.watch(rt, 1, Some(0), Duration::from_secs(LONG));
     let same = shared.watch(rt, 1, Some(1), Duration::ZERO);
-    edit(rt, alloc, shared, pass, 2, true)?;
+    settle_edit(rt, alloc, shared, pass, 2)?;
     Some([first, same, shared.watch(rt, 1, Some(1), Duration::ZERO)])
 }
 
@@ -53,8 +52,7 @@ fn watch_beside<J: BookNames + Send + Sync, R: Wait + Clock + Threads + Sync>(
     rt: &R,
     alloc: Global,
     shared: &Shared<J>,
-    pass: Pass<J>,
-    found: &Mutex<Option<[Watched; 3]>>,
+    (pass, found): (Pass<J>, &Mutex<Option<[Watched; 3]>>),
     flusher: &mut Flusher<MemDisk>,
 ) {
     thread::scope(thread::scope_env(), rt, |scope| {
@@ -77,7 +75,8 @@ fn unsettled<J: BookNames, R: Wait + Clock>(
     shared: &Shared<J>,
     pass: &mut Pass<J>,
 ) -> Option<[Watched; 2]> {
-    edit(rt, alloc, shared, pass, 1, false)?;
+    let edit = insert(alloc, 1)?;
+    shared.edit(rt, pass, &edit).ok()?;
     Some([
         shared.watch(rt, 1, None, Duration::from_secs(LONG)),
         shared.watch(rt, 1, Some(0), Duration::ZERO),
@@ -108,7 +107,7 @@ fn all_watched<J: BookNames + Send + Sync, R: Wait + Clock + Threads + Sync>(
     let mut pass = passes.into_iter().next()?;
     let before = unsettled(rt, alloc, &shared, &mut pass)?;
     let found = Mutex::new(None);
-    watch_beside(rt, alloc, &shared, pass, &found, &mut flusher);
+    watch_beside(rt, alloc, &shared, (pass, &found), &mut flusher);
     Some((before, found.into_inner()?, after_the_end(rt, &shared)))
 }
 
