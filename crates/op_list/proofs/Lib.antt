@@ -1,5 +1,4 @@
 pub mod EndsOf
 pub mod FirstRecord
 pub mod Holding
-pub mod Passing
-pub mod Recorded
+pub mod Told

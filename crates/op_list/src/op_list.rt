@@ -1,13 +1,10 @@
 //! A list of operations, held as records.
-ghost use Rattle.std.specs.Prelude.{◌≡◌, ◌+◌, ◌<◌, ◌^◌, [], ◌++◌, length, take, IfOk, OnOk, OnErr, IsErrOf};
-ghost use Rattle.change_codec.specs.declared.stream_error.StreamError.TheVariants.{Stream};
-ghost use Rattle.change_codec.specs.Formats.{AreOf};
-ghost use Rattle.change_codec.specs.Stream.{spelled_all, AreOperations, IsNoStream};
+ghost use Rattle.std.specs.Prelude.{◌≡◌, ◌+◌, ◌<◌, ◌^◌, [], ◌++◌, length, take, OnOk, OnErr};
 ghost use Rattle.op_model.specs.Records.{stream_length};
 
-use crate::ends::{find_ends, push_ends};
+use crate::ends::push_ends;
 use crate::op_slice::OpSlice;
-use change_codec::{Format, StreamError, put_ops};
+use change_codec::put_ops;
 use op_model::Op;
 use std::alloc::{AllocError, Global};
 use std::marker::Model;
@@ -43,20 +40,6 @@ impl OpList {
             records: Vec::new(alloc),
             ends: Vec::new(alloc),
         }
-    }
-
-    /// The operations of a format whose records these bytes are. `Stream` (46) where the bytes
-    /// aren't the records of its operations, one after another; `Memory` (1) says nothing of the
-    /// bytes. One pass. The bytes stay where they are.
-    pub fn read(alloc: Global, format: Format, records: Vec<u8>) -> Result<OpList, StreamError>
-        requires { length records.items < 2 ^ 32 }
-        ensures spelled_so { IfOk result (λ ops. spelled_all ops ≡ records.items) }
-        ensures fits { IfOk result (λ ops. AreOperations ops) }
-        ensures of_format { IfOk result (λ ops. AreOf format ops) }
-        ensures none { IsErrOf result Stream → IsNoStream format records.items }
-    {
-        let ends = find_ends(alloc, format, &records)?;
-        Ok(OpList { records, ends })
     }
 
     /// The operations. Constant.

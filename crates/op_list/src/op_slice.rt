@@ -111,7 +111,7 @@ impl<'a> OpSlice<'a> {
     }
 
     /// The records of the operations from the n-th on, counted from 0. Constant; takes no memory.
-    pub fn records_from(&self, n: usize) -> &'a [u8]
+    pub(crate) fn records_from(&self, n: usize) -> &'a [u8]
         requires { n ≤ length self.now }
         ensures spelled_so { result.now ≡ spelled_all (drop n self.now) }
         ensures fits { AreOperations (drop n self.now) }

@@ -35,7 +35,6 @@ mod piece_tests;
 #[cfg(test)]
 mod read_tests;
 #[cfg(test)]
-mod record_tests;
 #[cfg(test)]
 mod refusal_tests;
 #[cfg(test)]

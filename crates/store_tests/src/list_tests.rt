@@ -1,9 +1,8 @@
 //! Lists of operations that are held as records.
-use crate::record_tests::is_front;
 use crate::test_names::id;
 use crate::test_ops::ops;
 use crate::test_rows::{World, counted, play, told, two_of};
-use change_codec::{Format, put_ops, stream_length};
+use change_codec::stream_length;
 use op_list::OpList;
 use op_model::Op;
 use std::alloc::Global;
@@ -65,31 +64,6 @@ fn is_copied(listed: &Listed, end: usize, n: usize) -> Result<bool, Fail> {
     Ok(copy.as_slice() == expected)
 }
 
-/// What is read of these bytes, or the number of its refusal.
-fn read(alloc: Global, records: Vec<u8>) -> Result<OpList, u8> {
-    if records.as_slice().len() > 1_000 {
-        return Err(0);
-    }
-    OpList::read(alloc, Format::Third, records).map_err(|fault| fault.number())
-}
-
-/// Whether a copy of a list is of these operations.
-fn have(alloc: Global, list: &OpList, ops: &[Op]) -> Result<bool, Fail> {
-    Ok(list.as_slice().copy_from(alloc, 0)?.as_slice() == ops)
-}
-
-/// Whether the operations' records without so many bytes are read as the operations, or the number
-/// of the refusal.
-fn read_without(alloc: Global, ops: &[Op], less: usize) -> Result<String, Fail> {
-    let mut records = Vec::new(alloc);
-    put_ops(ops, &mut records)?;
-    records.truncate(records.len().saturating_sub(less));
-    match read(alloc, records) {
-        Ok(list) => told(alloc, have(alloc, &list, ops)),
-        Err(number) => counted(alloc, usize::from(number)),
-    }
-}
-
 /// Cuts a list, and tells how long it is then.
 fn truncate(alloc: Global, list: &mut OpList, n: usize) -> Result<String, Fail> {
     list.truncate(n);
@@ -106,15 +80,13 @@ impl World for Listed {
             "head" => head(alloc, self, first),
             "copy" => told(alloc, is_copied(self, first, second)),
             "cut" => truncate(alloc, &mut self.list, first),
-            "read" => read_without(alloc, &self.ops, first),
-            "front" => told(alloc, is_front(alloc, &self.list, first)),
             _ => Err("no such command".into()),
         }
     }
 }
 
 /// Plays rows over a list of one operation of each kind.
-pub(crate) fn plays(rt: &HostRuntime, rows: &str) -> Result<(), Fail> {
+fn plays(rt: &HostRuntime, rows: &str) -> Result<(), Fail> {
     let ops = ops(rt.alloc(), 7, EACH_KIND)?;
     let list = list_of(rt.alloc(), &ops)?;
     play(rt.alloc(), &mut Listed { ops, list }, rows)
@@ -157,14 +129,4 @@ fn a_list_is_cut(rt: HostRuntime) -> Result<(), Fail> {
         cut 2 : 2
         copy 2 0 : true",
     )
-}
-
-#[test]
-fn records_are_read(rt: HostRuntime) -> Result<(), Fail> {
-    plays(&rt, "read 0 : true")
-}
-
-#[test]
-fn a_cut_record_is_refused(rt: HostRuntime) -> Result<(), Fail> {
-    plays(&rt, "read 1 : 46")
 }

@@ -1,7 +1,7 @@
 use Rattle.std.proofs.Common.{ap, sym, ◌∙◌}
 use Rattle.change_codec.specs.Stream.{spelled_all}
 use Rattle.change_codec.proofs.StreamLaws.{spelled_all-determines}
-use Rattle.op_list.proofs.Recorded.{told}
+use Rattle.op_list.proofs.Told.{told}
 use Rattle.op_list.proofs.op_slice.OpSlice.is_same.Goals as goal
 
 pub returns : goal.returns

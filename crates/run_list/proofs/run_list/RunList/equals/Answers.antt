@@ -1,6 +1,6 @@
 use Rattle.std.proofs.Common.{length, take, ap, sym, ◌∙◌, arith, rules}
 use Rattle.std.specs.Prelude.{None}
-use Rattle.op_list.proofs.Recorded.{told}
+use Rattle.op_list.proofs.Told.{told}
 use Rattle.run_list.specs.Runs.{marks_behind, firsts_behind}
 use Rattle.run_list.proofs.Found.{rising}
 use Rattle.run_list.proofs.Holding.{front_held, same_held, few_firsts, marks_long}
