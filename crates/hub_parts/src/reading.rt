@@ -89,7 +89,7 @@ impl Locked {
 
     /// How many settled operations a document has: those that a commit has brought to the device,
     /// so that they outlive a power cut. Takes no memory. Costs what `Replica::rev` does, and a
-    /// step for each operation that isn't settled.
+    /// search by halves for each operation that isn't settled.
     pub fn settled_rev(&self, doc: u32) -> usize
         ensures { result
             ≡ rev_of (take self.now.replica.settled self.now.replica.list) doc }

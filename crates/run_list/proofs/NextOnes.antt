@@ -1,10 +1,10 @@
 -- The operation behind the first ones of a list.
 use Rattle.std.proofs.Common.{◌≡◌, ℕ, zero, suc, ◌+◌, ◌<◌, ◌≤◌, ◌^◌, true, false, List, [], ◌∷◌, ◌++◌}
-use Rattle.std.proofs.Common.{length, get_or, take, drop, Option, Some, None, refl, sym, ap, subst, ◌∙◌, inl, inr, arith, SomeIff, MatchOption}
+use Rattle.std.proofs.Common.{length, get_or, take, drop, Option, Some, None, refl, sym, ap, subst, ◌∙◌, inl, inr, arith, add-one, SomeIff, MatchOption}
 use Rattle.std.specs.Prelude.{IfSome}
 use Rattle.std.specs.Char.{IsScalar}
 use Rattle.std.proofs.lemmas.Bool.{cases_Bool}
-use Rattle.std.proofs.lemmas.List.{get_or_default, get_or-take, length-take}
+use Rattle.std.proofs.lemmas.List.{get_or_default, get_or-take, length-take, take-take}
 use Rattle.op_model.specs.declared.op.Op.{Op}
 use Rattle.op_pieces.specs.Cutting.{is_next, value_of}
 use Rattle.op_pieces.specs.Pieces.{next_typed}
@@ -12,7 +12,7 @@ use Rattle.op_pieces.proofs.PieceLemmas.{next_is}
 use Rattle.change_codec.specs.Fits.{IsOperation}
 use Rattle.change_codec.specs.Stream.{AreOperations}
 use Rattle.run_list.specs.NextOnes.{BeginsRun, GoesOnWith}
-use Rattle.run_list.specs.Reader.{IsRead}
+use Rattle.run_list.specs.Reader.{IsRead, HasRead}
 use Rattle.run_list.specs.Reading.{typed_at, runs_of}
 use Rattle.run_list.specs.Runs.{goes_on, mark_of, marks_behind, firsts_behind, last_behind, HoldsRuns, IsTypedBehind}
 use Rattle.run_list.proofs.Appending.{Going, going_on, next_of_list}
@@ -182,3 +182,21 @@ copied start ops self more n i going lt grown =
     let op = get_or ops i e in
     let is : op ≡ get_or ops i op = get_or_default ops i e op lt in
     (going_on _ _ _ _ _ _ _ going (next_of_list ops i op is lt) (grown e), last_too ops self more i op lt is (grown e))
+
+-- the first operations of a front are those of the list
+pub front_same : (list front : List Op) (i : ℕ) → take (length front) list ≡ front → i ≤ length front → take i list ≡ take i front
+front_same list front i is within = sym (take-take i (length front) list within) ∙ ap (take i) is
+
+-- and so is each
+pub front_at : (list front : List Op) (i : ℕ) (d : Op) → take (length front) list ≡ front → i < length front → get_or list i d ≡ get_or front i d
+front_at list front i d is lt = sym (get_or-take (length front) list i d lt) ∙ ap (λ (ops : List Op). get_or ops i d) is
+
+-- one more was read
+pub has_read : (list whole : List Op) (at more : ℕ) (op : Op) → take (length list) whole ≡ list → at < length list → op ≡ get_or whole at op
+    → more ≡ runs_of (take (suc at) whole) → HasRead list (at + 1) more (Some op)
+has_read list whole at more op is lt op_is more_is =
+    rw add-one (record {
+      within = omega arith;
+      begun = more_is ∙ ap runs_of (front_same whole list (suc at) is (omega arith));
+      last = op_is ∙ front_at whole list at op is lt;
+    })

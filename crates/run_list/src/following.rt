@@ -1,6 +1,5 @@
 //! The operation behind the first ones of a list.
 ghost use Rattle.std.specs.Prelude.{◌≡◌, ◌<◌, ◌^◌, suc, length, take, slice_index_or, IfOk, IfSome, MatchOption, Some, None};
-ghost use Rattle.op_model.specs.declared.op.Op.{Op as Operation};
 ghost use Rattle.run_list.specs.NextOnes.{BeginsRun, GoesOnWith};
 ghost use Rattle.run_list.specs.Reading.{runs_of};
 ghost use Rattle.run_list.specs.Runs.{last_behind};

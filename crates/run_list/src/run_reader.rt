@@ -52,7 +52,8 @@ impl<'a> RunReader<'a> {
     {
         // For the proof: there are no more operations than a `usize` counts.
         self.list.kept();
-        match self.list.next(self.at, self.runs, self.op.take()) {
+        let list = self.list.list();
+        match list.next(self.at, self.runs, self.op.take()) {
             Ok((op, runs)) => {
                 self.at += 1;
                 self.runs = runs;

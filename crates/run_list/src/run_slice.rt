@@ -1,10 +1,8 @@
 //! A borrowed list of operations.
-ghost use Rattle.std.specs.Prelude.{◌≡◌, ◌<◌, ◌≤◌, ◌^◌, suc, length, map, take, drop, slice_index_or, IfOk, IfSome, MatchOption, Some, None};
+ghost use Rattle.std.specs.Prelude.{◌≡◌, ◌<◌, ◌≤◌, ◌^◌, length, map, take, drop, slice_index_or, IfOk, MatchOption};
 ghost use Rattle.op_list.specs.Heads.{heads};
 ghost use Rattle.change_codec.specs.Stream.{AreOperations};
 ghost use Rattle.run_list.specs.NextOnes.{BeginsRun, GoesOnWith};
-ghost use Rattle.run_list.specs.Reading.{runs_of};
-ghost use Rattle.run_list.specs.Runs.{last_behind};
 
 use crate::run_list::RunList;
 use crate::run_reader::RunReader;
@@ -105,23 +103,6 @@ impl<'a> RunSlice<'a> {
         ensures { IfOk result (λ op. op ≡ slice_index_or self.now i op) }
     {
         self.list.get(i)
-    }
-
-    /// The i-th operation, counted from 0, and how many runs are begun with it, where `runs` are
-    /// begun before it; the one before it may be known. An error is out of memory (1).
-    pub(crate) fn next(
-        &self,
-        i: usize,
-        runs: usize,
-        before: Option<Op>,
-    ) -> Result<(Op, usize), AllocError>
-        requires within { i < length self.now }
-        requires runs { runs ≡ runs_of (take i self.now) }
-        requires before { IfSome before (λ op. last_behind None (take i self.now) ≡ Some op) }
-        ensures op { IfOk result (λ it. it.0 ≡ slice_index_or self.now i it.0) }
-        ensures runs { IfOk result (λ it. it.1 ≡ runs_of (take (suc i) self.now)) }
-    {
-        self.list.next(i, runs, before)
     }
 
     /// The character that the i-th operation types, counted from 0, if it goes on with its run.
