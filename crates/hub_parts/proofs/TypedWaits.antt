@@ -3,7 +3,7 @@ use Rattle.std.proofs.Common.{◌≡◌, ℕ, ◌+◌, ◌-◌, ◌*◌, ◌<◌
 use Rattle.std.proofs.Common.{length, take, drop, get_or, refl, ap, sym, ◌∙◌, arith, subst}
 use Rattle.std.specs.Prelude.{OnOk}
 use Rattle.std.proofs.lemmas.Bool.{leb-true, and_parts}
-use Rattle.std.proofs.lemmas.List.{drop-drop, drop_at, length-drop, take_all, take_at}
+use Rattle.std.proofs.lemmas.List.{length-drop, take_all}
 use Rattle.change_codec.specs.Fits.{IsOperation}
 use Rattle.change_codec.specs.Spelling.{spelled}
 use Rattle.change_codec.specs.Stream.{spelled_all, AreOperations}

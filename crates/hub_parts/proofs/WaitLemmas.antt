@@ -1,6 +1,6 @@
 -- The records of what waits, and the bytes of what is taken.
 use Rattle.std.proofs.Common.{◌≡◌, ℕ, ◌+◌, ◌≤◌, List, [], ◌++◌, length, drop, take, sym, ap, subst, ◌∙◌, arith, length-append}
-use Rattle.std.proofs.lemmas.List.{drop_all, drop-append-le, take_all, take_at, take-append-drop, take-append-le}
+use Rattle.std.proofs.lemmas.List.{drop_all, drop-append-le, take_all, take-append-drop, take-append-le}
 use Rattle.group_commit.specs.Plan.{newest}
 use Rattle.model_laws.proofs.Limits.{stream_length-append}
 use Rattle.op_model.specs.declared.op.Op.{Op}

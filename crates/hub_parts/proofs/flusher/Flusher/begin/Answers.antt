@@ -1,4 +1,4 @@
-use Rattle.std.proofs.Common.{◌-◌, ◌≡◌, length, true, false, sym, ◌∙◌}
+use Rattle.std.proofs.Common.{◌-◌, ◌≡◌, length, true, false}
 use Rattle.std.proofs.lemmas.Result.{err_from_is_err_and}
 use Rattle.hub_parts.proofs.BeginLemmas.{handed_count, handed_over, IsTested, tested, met_limit, met_memory, met_begun, meet_begun}
 use Rattle.hub_parts.specs.Meeting.{pending}

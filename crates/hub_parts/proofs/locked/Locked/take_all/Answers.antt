@@ -1,5 +1,4 @@
 use Rattle.std.proofs.Common.{length, ap, ◌∙◌}
-use Rattle.op_model.specs.Records.{stream_length}
 use Rattle.hub_parts.specs.Locked.{LockedHeld}
 use Rattle.hub_parts.proofs.KeptParts.{keeps_taken}
 use Rattle.hub_parts.proofs.WaitLemmas.{all_counted, none_waits}
