@@ -55,7 +55,7 @@ fn four_edit<J: BookNames + Send + Sync, R: Wait + Clock + Threads + Sync>(
     let (named, mut flusher) = share::<J>(alloc, opened)?;
     let Named { shared, passes } = named;
     let made = Mutex::new(0);
-    edit_beside(rt, alloc, &shared, (&made, passes), &mut flusher);
+    edit_beside(rt, alloc, &shared, &made, passes, &mut flusher);
     let made = made.into_inner();
     let locked = shared.end().into_locked();
     if locked.fits(&flusher) {
@@ -70,7 +70,8 @@ fn edit_beside<J: BookNames + Send + Sync, R: Wait + Clock + Threads + Sync>(
     rt: &R,
     alloc: Global,
     shared: &Shared<J>,
-    (made, passes): (&Mutex<u64>, Vec<Pass<J>>),
+    made: &Mutex<u64>,
+    passes: Vec<Pass<J>>,
     flusher: &mut Flusher<MemDisk>,
 ) {
     thread::scope(thread::scope_env(), rt, |scope| {

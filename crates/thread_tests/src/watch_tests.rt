@@ -52,7 +52,8 @@ fn watch_beside<J: BookNames + Send + Sync, R: Wait + Clock + Threads + Sync>(
     rt: &R,
     alloc: Global,
     shared: &Shared<J>,
-    (pass, found): (Pass<J>, &Mutex<Option<[Watched; 3]>>),
+    pass: Pass<J>,
+    found: &Mutex<Option<[Watched; 3]>>,
     flusher: &mut Flusher<MemDisk>,
 ) {
     thread::scope(thread::scope_env(), rt, |scope| {
@@ -107,7 +108,7 @@ fn all_watched<J: BookNames + Send + Sync, R: Wait + Clock + Threads + Sync>(
     let mut pass = passes.into_iter().next()?;
     let before = unsettled(rt, alloc, &shared, &mut pass)?;
     let found = Mutex::new(None);
-    watch_beside(rt, alloc, &shared, (pass, &found), &mut flusher);
+    watch_beside(rt, alloc, &shared, pass, &found, &mut flusher);
     Some((before, found.into_inner()?, after_the_end(rt, &shared)))
 }
 
