@@ -1,24 +1,18 @@
 -- What the run that a search finds says of the operation that was looked for.
 use Rattle.std.proofs.Common.{◌≡◌, ◌≢◌, ℕ, zero, suc, ◌+◌, ◌-◌, ◌<◌, ◌≤◌, ◌^◌, true, List}
-use Rattle.std.proofs.Common.{[], ◌∷◌, length, map, get_or, Option, Some, None, refl, sym, ap, subst, ◌∙◌, arith}
-use Rattle.std.specs.Prelude.{◌++◌, IfSome}
+use Rattle.std.proofs.Common.{[], ◌∷◌, length, map, get_or, Option, None, refl, sym, ap, subst, ◌∙◌, arith}
 use Rattle.std.specs.Char.{IsScalar}
 use Rattle.std.specs.List.Sorted.{IsNonDecreasing}
 use Rattle.std.proofs.lemmas.List.{get_or_default, get_or-map}
-use Rattle.op_ids.specs.Id.{Id}
 use Rattle.op_model.specs.declared.op.Op.{Op}
 use Rattle.change_codec.specs.Fits.{IsOperation}
 use Rattle.change_codec.specs.Stream.{AreOperations}
 use Rattle.op_list.specs.Heads.{head_of, heads}
 use Rattle.op_list.specs.declared.head.OpHead.{OpHead}
-use Rattle.op_ids.specs.Clock.{advanced}
-use Rattle.op_model.specs.declared.op.Body.TheVariants.{Insert}
-use Rattle.op_pieces.specs.Cutting.{is_next, value_of}
-use Rattle.op_pieces.proofs.PieceLemmas.{next_is}
-use Rattle.run_list.specs.Runs.{HoldsRuns, last_behind, IsLast}
+use Rattle.run_list.specs.Runs.{HoldsRuns}
 use Rattle.run_list.specs.Reading.{below, typed_at}
 use Rattle.run_list.proofs.Holding.{Found, found, some_run}
-use Rattle.run_list.proofs.Parts.{starts_rise, last-more}
+use Rattle.run_list.proofs.Parts.{starts_rise}
 
 -- a list is searched by what it holds
 
@@ -161,29 +155,3 @@ token_stands marks firsts starts ops i run token d it lt token_so =
     let far = i - get_or starts run 0 in
     let first : token ≡ op.token = token_so ∙ get_or-map (λ o. o.token) firsts run e token it.whole in
     token_is ops i (typed_at op far value) token d lt (it.is_it (typed_at op far value) e) (first ∙ sym (token_behind op far value))
-
--- the last operation
-
--- made of the one before it, it is the one that goes on with the run
-pub followed_is : (last op : Op) (deps : List (ℕ × ℕ)) (value : ℕ) → is_next last op ≡ true → deps ≡ advanced last.deps last.id.replica
-    → value ≡ value_of op.body
-    → record { id = op.id; doc = last.doc; token = last.token; deps = deps; body = Insert (Some last.id) value } ≡ op
-followed_is last op deps value on deps_are value_is =
-    let next = next_is last op on in
-    ap (λ (id : Id). record { id = id; doc = last.doc; token = last.token; deps = deps; body = Insert (Some last.id) value }) (ap (λ (o : Op). o.id) next)
-    ∙ (λ i. record {
-      id = record { counter = last.id.counter + 1; replica = last.id.replica };
-      doc = last.doc;
-      token = last.token;
-      deps = deps_are i;
-      body = Insert (Some last.id) (value_is i);
-    })
-    ∙ sym next
-
--- behind the others it is the last one
-pub last_known : (ops view : List Op) (op : Op) (last : Option Op) → view ≡ ops ++ op ∷ [] → IfSome last (λ l. l ≡ op) → IsLast last view
-last_known ops view op None view_is known = λ o is. absurd cc
-last_known ops view op (Some l) view_is known = λ o is. ap (last_behind None) view_is ∙ last-more None ops op ∙ ap Some (sym known) ∙ is
-
-pub none_known : (view : List Op) (last : Option Op) → last ≡ None → IsLast last view
-none_known view last none = λ o is. absurd cc

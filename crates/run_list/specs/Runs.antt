@@ -78,7 +78,3 @@ pub record IsTypedBehind (ops : List Op) (value : ℕ) (op : Op) : Type 0 where
   pub on : goes_on (last_behind None ops) op ≡ true
   pub types : value ≡ value_of op.body
   pub fits : IsOperation op
-
--- an operation that is known to be the last one is the last one
-abbrev pub IsLast : Option Op → List Op → Type 0
-IsLast last ops = (op : Op) → last ≡ Some op → last_behind None ops ≡ Some op

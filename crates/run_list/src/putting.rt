@@ -6,7 +6,6 @@ ghost use Rattle.run_list.specs.Runs.{goes_on as goes_on_of, last_behind, IsType
 
 use crate::marks::{BEGINS, MOST_BYTES, MOST_OPERATIONS};
 use crate::run_list::RunList;
-use crate::typed::followed;
 use change_codec::every_op_has_a_spelling;
 use op_model::Op;
 use op_pieces::{is_next, value_of};
@@ -57,9 +56,6 @@ impl RunList {
     fn has_next(&self, op: &Op) -> Result<bool, AllocError>
         ensures { IfOk result (λ on. on ≡ goes_on_of (last_behind None self.now) op.now) }
     {
-        if let Some(last) = &self.last {
-            return Ok(is_next(last, op));
-        }
         let len = self.len();
         if len == 0 {
             return Ok(false);
@@ -68,17 +64,14 @@ impl RunList {
         Ok(is_next(&last, op))
     }
 
-    /// Puts an operation behind the others that goes on with the run of the last one, which is
-    /// known again then.
+    /// Puts an operation behind the others that goes on with the run of the last one.
     fn go_on(&mut self, op: &Op) -> Result<(), AllocError>
         requires { goes_on_of (last_behind None self.old) op.now ≡ true }
         ensures ok { OnOk result (self.new ≡ self.old ++ op.now ∷ []) }
         ensures err { OnErr result (self.new ≡ self.old) }
     {
         every_op_has_a_spelling(op);
-        let last = self.last.take();
         self.type_on(value_of(&op.body))?;
-        self.last = followed(last, op);
         Ok(())
     }
 
@@ -94,7 +87,6 @@ impl RunList {
             return Err(AllocError);
         }
         self.marks.push(value as u32)?;
-        self.last = None;
         Ok(())
     }
 
@@ -115,7 +107,6 @@ impl RunList {
         self.firsts.append(std::slice::from_ref(op))?;
         self.starts.push_reserved(at as u32);
         self.marks.push_reserved(BEGINS);
-        self.last = op.copy().ok();
         Ok(())
     }
 }

@@ -4,7 +4,6 @@ ghost use Rattle.std.specs.Prelude.{◌≡◌, [], length, take, IsTrue, ◌↔�
 use crate::finding::count_below;
 use crate::run_slice::RunSlice;
 use op_list::OpList;
-use op_model::Op;
 use std::alloc::{AllocError, Global};
 use std::marker::Model;
 
@@ -19,8 +18,6 @@ pub struct RunList {
     pub(crate) firsts: OpList,
     /// Where these stand in the list.
     pub(crate) starts: Vec<u32>,
-    /// The last operation, if it is known, so that it isn't made anew for the next one.
-    pub(crate) last: Option<Op>,
 }
 
 impl Model for RunList {
@@ -29,12 +26,11 @@ impl Model for RunList {
 
     ghost Value = { List Op };
 
-    ghost use Rattle.run_list.specs.Runs.{unrolled, AreRuns, IsLast};
+    ghost use Rattle.run_list.specs.Runs.{unrolled, AreRuns};
 
     ghost view = { λ l. unrolled l.marks.items None l.firsts };
 
-    ghost invariant = { λ l. AreRuns l.marks.items l.firsts l.starts.items
-        × IsLast l.last (unrolled l.marks.items None l.firsts) };
+    ghost invariant = { λ l. AreRuns l.marks.items l.firsts l.starts.items };
 }
 
 impl RunList {
@@ -46,7 +42,6 @@ impl RunList {
             marks: Vec::new(alloc),
             firsts: OpList::new(alloc),
             starts: Vec::new(alloc),
-            last: None,
         }
     }
 
@@ -89,7 +84,6 @@ impl RunList {
         self.marks.truncate(n);
         self.starts.truncate(count);
         self.firsts.truncate(count);
-        self.last = None;
     }
 
     /// Whether it is this list. Takes no memory. Linear in what both hold: each list is held in one

@@ -18,7 +18,7 @@ impl RunList {
         ensures few { length self.now < 2 ^ 32 }
     {
         // For the proof: with a field read, it knows what the type keeps.
-        let _last = &self.last;
+        let _count = self.marks.len();
     }
 
     /// The i-th operation, counted from 0. An error is out of memory (1). A search by halves for

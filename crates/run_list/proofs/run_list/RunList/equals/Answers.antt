@@ -10,27 +10,27 @@ use Rattle.run_list.proofs.run_list.RunList.equals.Goals as goal
 
 pub count_below-count-requires : goal.count_below-count-requires
 count_below-count-requires c =
-    let holds = shown _ _ _ c.list-list.result.now c.list.invariant.0 c.list.view_is in
+    let holds = shown _ _ _ c.list-list.result.now c.list.invariant c.list.view_is in
     rising _ _ _ _ _ holds c.deref.ensures.value
 
 pub slice_bounds-eq-end : goal.slice_bounds-eq-end
 slice_bounds-eq-end c =
-    let holds = shown _ _ _ c.list-list.result.now c.list.invariant.0 c.list.view_is in
+    let holds = shown _ _ _ c.list-list.result.now c.list.invariant c.list.view_is in
     let front = front_held _ _ _ _ _ c.len-n.result c.count_below-count.result c.args.ops.now holds c.deref.ensures.value c.len-n.ensures
     c.count_below-count.ensures c.list-list.ensures.front in
     c.len-n.ensures ∙ sym (marks_long _ _ _ _ front) ∙ ap (λ ms. length (take c.len-n.result ms)) (sym c.deref-2.ensures.value)
 
 pub front-requires : goal.front-requires
 front-requires c =
-    let holds = shown _ _ _ c.list-list.result.now c.list.invariant.0 c.list.view_is in
+    let holds = shown _ _ _ c.list-list.result.now c.list.invariant c.list.view_is in
     let most = below_within c.len-n.result c.deref.result.now in
     let long = few_firsts _ _ _ _ holds in
     omega (arith, ap length c.as_slice-then-eq-2.ensures, ap length c.deref.ensures.value)
 
 pub returns-then-eq : goal.returns-then-eq
 returns-then-eq c =
-    let held = shown _ _ _ c.args.self.now c.self.invariant.0 c.self.view_is in
-    let holds = shown _ _ _ c.list-list.result.now c.list.invariant.0 c.list.view_is in
+    let held = shown _ _ _ c.args.self.now c.self.invariant c.self.view_is in
+    let holds = shown _ _ _ c.list-list.result.now c.list.invariant c.list.view_is in
     let front = front_held _ _ _ _ _ c.len-n.result c.count_below-count.result c.args.ops.now holds c.deref.ensures.value c.len-n.ensures
     c.count_below-count.ensures c.list-list.ensures.front in
     let says = told c.eq.result c.as_slice.result.now (take c.len-n.result c.deref-2.result.now) c.eq.ensures in
@@ -44,8 +44,8 @@ returns-then-eq c =
 
 pub returns-else-eq : goal.returns-else-eq
 returns-else-eq c =
-    let held = shown _ _ _ c.args.self.now c.self.invariant.0 c.self.view_is in
-    let holds = shown _ _ _ c.list-list.result.now c.list.invariant.0 c.list.view_is in
+    let held = shown _ _ _ c.args.self.now c.self.invariant c.self.view_is in
+    let holds = shown _ _ _ c.list-list.result.now c.list.invariant c.list.view_is in
     let front = front_held _ _ _ _ _ c.len-n.result c.count_below-count.result c.args.ops.now holds c.deref.ensures.value c.len-n.ensures
     c.count_below-count.ensures c.list-list.ensures.front in
     let says = told c.eq.result c.as_slice.result.now (take c.len-n.result c.deref-2.result.now) c.eq.ensures in (

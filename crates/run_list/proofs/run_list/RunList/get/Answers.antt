@@ -8,54 +8,54 @@ use Rattle.run_list.proofs.run_list.RunList.get.Goals as goal
 
 pub run_of-run-requires-clause-rising : goal.run_of-run-requires-clause-rising
 run_of-run-requires-clause-rising c =
-    let holds = shown _ _ _ c.args.self.now c.self.invariant.0 c.self.view_is in
+    let holds = shown _ _ _ c.args.self.now c.self.invariant c.self.view_is in
     rising _ _ _ _ _ holds c.deref.ensures.value
 
 pub run_of-run-requires-clause-some : goal.run_of-run-requires-clause-some
 run_of-run-requires-clause-some c =
-    let holds = shown _ _ _ c.args.self.now c.self.invariant.0 c.self.view_is in
+    let holds = shown _ _ _ c.args.self.now c.self.invariant c.self.view_is in
     some_begun _ _ _ _ _ _ holds c.deref.ensures.value c.requires
 
 pub run_of-run-requires-clause-small : goal.run_of-run-requires-clause-small
 run_of-run-requires-clause-small c =
-    let holds = shown _ _ _ c.args.self.now c.self.invariant.0 c.self.view_is in
+    let holds = shown _ _ _ c.args.self.now c.self.invariant c.self.view_is in
     let most = few _ _ _ _ holds in
     omega (arith, c.requires)
 
 pub index-requires : goal.index-requires
 index-requires c =
-    let holds = shown _ _ _ c.args.self.now c.self.invariant.0 c.self.view_is in
+    let holds = shown _ _ _ c.args.self.now c.self.invariant c.self.view_is in
     let it = found_in _ _ _ _ _ _ _ holds c.deref.ensures.value c.requires c.run_of-run.ensures in
     omega (arith, it.run)
 
 pub get-requires : goal.get-requires
 get-requires c =
-    let holds = shown _ _ _ c.args.self.now c.self.invariant.0 c.self.view_is in
+    let holds = shown _ _ _ c.args.self.now c.self.invariant c.self.view_is in
     let it = found_in _ _ _ _ _ _ _ holds c.deref.ensures.value c.requires c.run_of-run.ensures in
     omega (arith, it.whole, ap length c.as_slice.ensures)
 
 pub returns-then-start-i : goal.returns-then-start-i
 returns-then-start-i c =
-    let holds = shown _ _ _ c.args.self.now c.self.invariant.0 c.self.view_is in
+    let holds = shown _ _ _ c.args.self.now c.self.invariant c.self.view_is in
     let it = found_in _ _ _ _ _ _ _ holds c.deref.ensures.value c.requires c.run_of-run.ensures in
     let first = c.in_ok-first.ensures ∙ ap (λ fs. get_or fs c.run_of-run.result c.in_ok-first.first) c.as_slice.ensures in
     begins_it _ _ _ _ _ _ c.index.result.now c.in_ok-first.first c.in_ok-first.first it (start_is _ _ _ it.run c.index.ensures) c.if-start-i.true first
 
 pub index-requires-2 : goal.index-requires-2
 index-requires-2 c =
-    let holds = shown _ _ _ c.args.self.now c.self.invariant.0 c.self.view_is in
+    let holds = shown _ _ _ c.args.self.now c.self.invariant c.self.view_is in
     let it = found_in _ _ _ _ _ _ _ holds c.deref.ensures.value c.requires c.run_of-run.ensures in
     omega (arith, it.inside)
 
 pub overflow_sub-i : goal.overflow_sub-i
 overflow_sub-i c =
-    let holds = shown _ _ _ c.args.self.now c.self.invariant.0 c.self.view_is in
+    let holds = shown _ _ _ c.args.self.now c.self.invariant c.self.view_is in
     let it = found_in _ _ _ _ _ _ _ holds c.deref.ensures.value c.requires c.run_of-run.ensures in
     omega (arith, it.begun, start_is _ _ _ it.run c.index.ensures)
 
 pub typed_at-requires-clause-some : goal.typed_at-requires-clause-some
 typed_at-requires-clause-some c =
-    let holds = shown _ _ _ c.args.self.now c.self.invariant.0 c.self.view_is in
+    let holds = shown _ _ _ c.args.self.now c.self.invariant c.self.view_is in
     let it = found_in _ _ _ _ _ _ _ holds c.deref.ensures.value c.requires c.run_of-run.ensures in
     let start = start_is _ _ _ it.run c.index.ensures in
     let begun = it.begun in
@@ -64,7 +64,7 @@ typed_at-requires-clause-some c =
 
 is_typed : (c : goal.In-Some) (d : Op) → get_or c.args.self.now c.args.i d ≡ typed_at c.in_ok-first.first (c.args.i - c.index.result.now) c.in-Some.value
 is_typed c d =
-    let holds = shown _ _ _ c.args.self.now c.self.invariant.0 c.self.view_is in
+    let holds = shown _ _ _ c.args.self.now c.self.invariant c.self.view_is in
     let it = found_in _ _ _ _ _ _ _ holds c.deref.ensures.value c.requires c.run_of-run.ensures in
     let first = c.in_ok-first.ensures ∙ ap (λ fs. get_or fs c.run_of-run.result c.in_ok-first.first) c.as_slice.ensures in
     let mark : c.index-2.result.now ≡ get_or c.self.inside.marks.items c.args.i 0 = start_is _ _ _ it.inside c.index-2.ensures in
@@ -74,13 +74,13 @@ is_typed c d =
 
 pub typed_at-requires-clause-fits : goal.typed_at-requires-clause-fits
 typed_at-requires-clause-fits c =
-    let holds = shown _ _ _ c.args.self.now c.self.invariant.0 c.self.view_is in
+    let holds = shown _ _ _ c.args.self.now c.self.invariant c.self.view_is in
     fits_behind c.args.self.now c.args.i (c.args.i - c.index.result.now) c.in-Some.value c.in_ok-first.first c.in_ok-first.first c.requires holds.fits
     (is_typed c c.in_ok-first.first)
 
 pub unreachable-requires : goal.unreachable-requires
 unreachable-requires c =
-    let holds = shown _ _ _ c.args.self.now c.self.invariant.0 c.self.view_is in
+    let holds = shown _ _ _ c.args.self.now c.self.invariant c.self.view_is in
     let it = found_in _ _ _ _ _ _ _ holds c.deref.ensures.value c.requires c.run_of-run.ensures in
     let first = c.in_ok-first.ensures ∙ ap (λ fs. get_or fs c.run_of-run.result c.in_ok-first.first) c.as_slice.ensures in
     let mark : c.index-2.result.now ≡ get_or c.self.inside.marks.items c.args.i 0 = start_is _ _ _ it.inside c.index-2.ensures in
@@ -97,7 +97,7 @@ unreachable-requires c =
 
 pub returns : goal.returns
 returns c =
-    let holds = shown _ _ _ c.args.self.now c.self.invariant.0 c.self.view_is in
+    let holds = shown _ _ _ c.args.self.now c.self.invariant c.self.view_is in
     let it = found_in _ _ _ _ _ _ _ holds c.deref.ensures.value c.requires c.run_of-run.ensures in
     let first = c.in_ok-first.ensures ∙ ap (λ fs. get_or fs c.run_of-run.result c.in_ok-first.first) c.as_slice.ensures in
     let mark : c.index-2.result.now ≡ get_or c.self.inside.marks.items c.args.i 0 = start_is _ _ _ it.inside c.index-2.ensures in

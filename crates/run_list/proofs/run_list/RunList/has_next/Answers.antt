@@ -7,6 +7,6 @@ use Rattle.run_list.proofs.run_list.RunList.has_next.Goals as goal
 pub returns : goal.returns
 returns c =
     let long : length c.args.self.now ≡ suc (c.len-len.result - 1) = omega (arith, c.if-len-eq0.false) in
-    c.is_next-2.ensures
+    c.is_next.ensures
     ∙ ap (λ l. goes_on l c.args.op.now)
     (sym (last_at None c.args.self.now (c.len-len.result - 1) c.in_ok-last.last long ∙ ap Some (sym c.in_ok-last.ensures)))

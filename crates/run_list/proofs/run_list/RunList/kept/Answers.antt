@@ -4,5 +4,5 @@ use Rattle.run_list.proofs.run_list.RunList.kept.Goals as goal
 
 pub returns-clause-few : goal.returns-clause-few
 returns-clause-few c =
-    let holds = shown _ _ _ c.args.self.now c.self.invariant.0 c.self.view_is in
+    let holds = shown _ _ _ c.args.self.now c.self.invariant c.self.view_is in
     few _ _ _ _ holds

@@ -6,6 +6,6 @@ use Rattle.run_list.proofs.run_list.RunList.len.Goals as goal
 
 pub returns : goal.returns
 returns c =
-    let holds = shown _ _ _ c.args.self.now c.self.invariant.0 c.self.view_is in
+    let holds = shown _ _ _ c.args.self.now c.self.invariant c.self.view_is in
     let long = ap length holds.marks_so ∙ length-marks None c.args.self.now in
     omega arith

@@ -1,13 +1,10 @@
-use Rattle.std.proofs.Common.{[], refl, rules}
-use Rattle.std.specs.Prelude.{None}
-use Rattle.run_list.specs.Runs.{unrolled}
-use Rattle.run_list.proofs.Found.{none_known}
+use Rattle.std.proofs.Common.{[], rules}
 use Rattle.run_list.proofs.Holding.{holds_empty}
 use Rattle.run_list.proofs.Unrolling.{are_runs, held_is}
 use Rattle.run_list.proofs.run_list.RunList.new.Goals as goal
 
 pub invariant_of-result : goal.invariant_of-result
-invariant_of-result c = (are_runs _ _ _ _ (holds_empty _ _ _ (search rules) (search rules) (search rules)), none_known (unrolled c.new.result.items None c.new-2.result) None refl)
+invariant_of-result c = are_runs _ _ _ _ (holds_empty _ _ _ (search rules) (search rules) (search rules))
 
 pub returns : goal.returns
 returns c = held_is c.new.result.items c.new-2.result c.new-3.result.items [] (holds_empty _ _ _ (search rules) (search rules) (search rules))

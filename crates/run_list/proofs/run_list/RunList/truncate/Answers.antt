@@ -1,27 +1,25 @@
-use Rattle.std.proofs.Common.{◌≡◌, take, refl, ap, ◌∙◌}
-use Rattle.std.specs.Prelude.{None}
+use Rattle.std.proofs.Common.{◌≡◌, ap, ◌∙◌}
 use Rattle.run_list.specs.Reading.{below}
-use Rattle.run_list.specs.Runs.{HoldsRuns, unrolled}
-use Rattle.run_list.proofs.Found.{rising, none_known}
+use Rattle.run_list.proofs.Found.{rising}
 use Rattle.run_list.proofs.Holding.{holds_front}
 use Rattle.run_list.proofs.Unrolling.{shown, are_runs, held_is}
 use Rattle.run_list.proofs.run_list.RunList.truncate.Goals as goal
 
 pub count_below-count-requires : goal.count_below-count-requires
 count_below-count-requires c =
-    let holds = shown _ _ _ c.args.self.now c.self.invariant.0 c.self.view_is in
+    let holds = shown _ _ _ c.args.self.now c.self.invariant c.self.view_is in
     rising _ _ _ _ _ holds c.deref.ensures.value
 
-front : (c : goal.Joined-self)
-    → HoldsRuns c.truncate.new.self.items c.truncate-3.new.self c.truncate-2.new.self.items (take c.args.n c.args.self.now)
-front c =
-    let holds = shown _ _ _ c.args.self.now c.self.invariant.0 c.self.view_is in
+pub invariant_of-self : goal.invariant_of-self
+invariant_of-self c =
+    let holds = shown _ _ _ c.args.self.now c.self.invariant c.self.view_is in
     let count : c.count_below-count.result ≡ below c.args.n c.self.inside.starts.items =
     c.count_below-count.ensures ∙ ap (below c.args.n) c.deref.ensures.value in
-    holds_front _ _ _ _ _ _ _ _ _ holds count c.truncate.ensures.items c.truncate-3.ensures c.truncate-2.ensures.items
-
-pub invariant_of-self : goal.invariant_of-self
-invariant_of-self c = (are_runs _ _ _ _ (front c), none_known (unrolled c.truncate.new.self.items None c.truncate-3.new.self) None refl)
+    are_runs _ _ _ _ (holds_front _ _ _ _ _ _ _ _ _ holds count c.truncate.ensures.items c.truncate-3.ensures c.truncate-2.ensures.items)
 
 pub returns : goal.returns
-returns c = held_is _ _ _ _ (front c)
+returns c =
+    let holds = shown _ _ _ c.args.self.now c.self.invariant c.self.view_is in
+    let count : c.count_below-count.result ≡ below c.args.n c.self.inside.starts.items =
+    c.count_below-count.ensures ∙ ap (below c.args.n) c.deref.ensures.value in
+    held_is _ _ _ _ (holds_front _ _ _ _ _ _ _ _ _ holds count c.truncate.ensures.items c.truncate-3.ensures c.truncate-2.ensures.items)

@@ -7,11 +7,11 @@ use Rattle.run_list.proofs.run_list.RunList.typed_mark.Goals as goal
 
 pub index-requires : goal.index-requires
 index-requires c =
-    let holds = shown _ _ _ c.args.self.now c.self.invariant.0 c.self.view_is in
+    let holds = shown _ _ _ c.args.self.now c.self.invariant c.self.view_is in
     omega (arith, marks_long _ _ _ _ holds, c.requires)
 
 pub returns : goal.returns
 returns c =
-    let holds = shown _ _ _ c.args.self.now c.self.invariant.0 c.self.view_is in
+    let holds = shown _ _ _ c.args.self.now c.self.invariant c.self.view_is in
     let inside : c.args.i < length c.self.inside.marks.items = omega (arith, marks_long _ _ _ _ holds, c.requires) in
     mark_told _ _ _ _ c.args.i c.index.result.now c.from_u32.result holds c.requires (start_is _ _ _ inside c.index.ensures) c.from_u32.ensures.value
