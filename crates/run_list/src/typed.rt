@@ -1,15 +1,12 @@
 //! An operation of a run, made from the first one.
-ghost use Rattle.std.specs.Prelude.{◌≡◌, ◌+◌, ◌<◌, ◌≤◌, true, Some, IfOk, IfSome};
+ghost use Rattle.std.specs.Prelude.{◌≡◌, ◌+◌, ◌<◌, ◌≤◌, true, Some, IfOk};
 ghost use Rattle.fixed_numbers.specs.declared.limits.TheConstants.{MAX_COUNTER};
-ghost use Rattle.op_model.specs.declared.op.Op.{Op as Operation};
-ghost use Rattle.op_pieces.specs.Cutting.{is_next as is_next_of};
 ghost use Rattle.change_codec.specs.Fits.{IsOperation};
 ghost use Rattle.run_list.specs.Reading.{typed_at as typed_at_of};
 
 use op_ids::{ClockError, OpId};
 use op_list::OpHead;
 use op_model::{Body, Op};
-use op_pieces::value_of;
 use std::alloc::AllocError;
 
 /// The operation that stands so far behind the first one of its run, and types this character. An
