@@ -1,9 +1,11 @@
-"""Time and memory of opening files of many operations: python3 bench/open.py PROGRAM [FOLDER [COUNT ..]].
+"""Time and memory of opening files of many operations: python3 bench/open.py PROGRAM [--before PROGRAM] [FOLDER [COUNT ..]].
 
 The files are of 10^4, 10^5 and 10^6 inserts of one replica, typed at the end, at the front, at random places, and in 1,000
-documents in turn. Each is opened by a dump of a document that has no operations. The memory is the greatest resident set of the
-program, and is given for each operation beside its record in the file."""
+documents in turn. Each is opened by a dump of a document that has no operations, five times, by turns with the program before,
+if one is named; the middle one is told. The memory is the greatest resident set of the program, and is given for each operation
+beside its record in the file."""
 
+import argparse
 import multiprocessing
 import os
 import subprocess
@@ -12,6 +14,9 @@ import tempfile
 import time
 
 import store_file
+
+ROUNDS = 5
+COUNTS = (10_000, 100_000, 1_000_000)
 
 
 def make(name, count, shape):
@@ -29,21 +34,36 @@ def opened(program, name):
     return time.perf_counter() - started, usage.ru_maxrss * 1024, os.waitstatus_to_exitcode(status)
 
 
+def middle(runs):
+    return sorted(runs)[len(runs) // 2]
+
+
 def main():
-    program = os.path.abspath(sys.argv[1])
-    counts = [int(word) for word in sys.argv[3:]] or [10_000, 100_000, 1_000_000]
-    with tempfile.TemporaryDirectory(dir=sys.argv[2] if len(sys.argv) > 2 else ".") as room:
+    words = argparse.ArgumentParser(description=__doc__, formatter_class=argparse.RawDescriptionHelpFormatter)
+    words.add_argument("program")
+    words.add_argument("--before", metavar="PROGRAM")
+    words.add_argument("folder", nargs="?", default=".")
+    words.add_argument("counts", nargs="*", type=int, metavar="COUNT")
+    given = words.parse_intermixed_args()
+    programs = {"now": given.program, **({"before": given.before} if given.before else {})}
+    with tempfile.TemporaryDirectory(dir=given.folder) as room:
         for shape in store_file.SHAPES:
-            for count in counts:
+            for count in given.counts or COUNTS:
                 name = os.path.join(room, str(count))
                 make(name, count, shape)
-                took, memory, status = opened(program, name)
                 size = os.path.getsize(name)
-                print(
-                    f"{shape:9} {count:9} operations, {size:11} bytes: {took:7.3f} s, {took / count * 1e6:6.2f} us and "
-                    f"{memory / count:5.0f} bytes of memory an operation, {(memory - size) / count:5.0f} beside its record, status {status}",
-                    flush=True,
-                )
+                runs = {when: [] for when in programs}
+                for _ in range(ROUNDS):
+                    for when, program in programs.items():
+                        runs[when].append(opened(os.path.abspath(program), name))
+                for when, found in runs.items():
+                    took, memory = middle([run[0] for run in found]), middle([run[1] for run in found])
+                    print(
+                        f"{shape:9} {count:9} operations, {size:11} bytes, {when:6}: {took:7.3f} s, {took / count * 1e6:6.2f} us and "
+                        f"{memory / count:5.0f} bytes of memory an operation, {(memory - size) / count:5.0f} beside its record, "
+                        f"statuses {sorted({run[2] for run in found})}",
+                        flush=True,
+                    )
                 os.remove(name)
 
 

@@ -6,7 +6,7 @@ import time
 
 from beside import seat, together
 from daemon import PATIENCE, new_daemon
-from frames import HAVE, Peer, name, ops, replica, run_record
+from frames import HAVE, INSERT, Peer, inserted, name, ops, record, replica, run_record
 from program import insert, line
 
 RUN, RUNS, FRAMES = 256, 64, 8
@@ -22,7 +22,12 @@ def pieces(maker, known):
     while known < ALL:
         text = LETTERS[known : known + RUN]
         origin = name(known, maker) if known else None
-        found.append(run_record(maker, known + 1, text, [(maker, known)] if known else [], 2, origin))
+        deps = [(maker, known)] if known else []
+        # A run has at least two characters.
+        if len(text) == 1:
+            found.append(record(INSERT, maker, known + 1, inserted(text, origin), deps, 2))
+        else:
+            found.append(run_record(maker, known + 1, text, deps, 2, origin))
         known += len(text)
     return found
 

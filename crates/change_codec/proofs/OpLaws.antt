@@ -15,12 +15,13 @@ use Rattle.change_codec.specs.declared.format.Format.TheVariants.{Third}
 use Rattle.change_codec.specs.declared.head.Head.{Head}
 use Rattle.change_codec.specs.declared.content.Kind.{Kind}
 use Rattle.change_codec.specs.declared.content.Kind.TheVariants as kind
-use Rattle.change_codec.specs.Heads.{kind_of, head_of}
+use Rattle.change_codec.specs.Heads.{kind_of, head_of, origin_of}
 use Rattle.change_codec.specs.Spelling.{number_bytes, id_bytes, deps_bytes, origin_bytes}
 use Rattle.change_codec.specs.Spelling.{mark_bytes, key_bytes, start_bytes, end_bytes, kind_byte}
 use Rattle.change_codec.specs.Spelling.{token_bytes, tagged, content_bytes, body_bytes}
 use Rattle.change_codec.specs.Reading.{◌>>=◌, number_at, id_at, deps_at, origin_at, scalar_at}
-use Rattle.change_codec.specs.Reading.{mark_at, key_at, span_at, kind_named, kind_at, token_at, content_at, body_at, named_at}
+use Rattle.change_codec.specs.Reading.{mark_at, key_at, span_at, kind_named, kind_at, token_at, content_at, body_at}
+use Rattle.change_codec.specs.Reading.{named_at, behind_at, origin_for, only_value}
 use Rattle.change_codec.specs.Reading.{head_at, rest_at, with_head, op_at}
 use Rattle.change_codec.specs.Formats.{has_tokens, IsOf}
 use Rattle.change_codec.specs.Fits.{IsId, IsContent, IsToken, IsOperation}
@@ -271,17 +272,42 @@ head_again op rest fits =
       id_again op.id tail fits.id,
     ) refl
 
+-- the fields behind the head, one by one
+behind_deps : (op : Op) (rest : List ℕ) → (deps_bytes op.deps ++ (token_bytes op.token ++ content_bytes op.body)) ++ rest
+    ≡ deps_bytes op.deps ++ (token_bytes op.token ++ (content_bytes op.body ++ rest))
+behind_deps op rest =
+    append_assoc (deps_bytes op.deps) (token_bytes op.token ++ content_bytes op.body) rest
+    ∙ ap (λ (w : List ℕ). deps_bytes op.deps ++ w) (append_assoc (token_bytes op.token) (content_bytes op.body) rest)
+
 -- what was written behind head and deps as a token is read again
 pub token_is_read : (op : Op) (rest : List ℕ) → IsOperation op → named_at (body_bytes op ++ rest) ≡ Ok op.token
 unfolding named_at
 token_is_read op rest fits =
-    let content = token_bytes op.token ++ content_bytes op.body in
-    let regrouped : (deps_bytes op.deps ++ content) ++ rest ≡ deps_bytes op.deps ++ (token_bytes op.token ++ (content_bytes op.body ++ rest)) =
-    append_assoc (deps_bytes op.deps) content rest
-    ∙ ap (λ (w : List ℕ). deps_bytes op.deps ++ w) (append_assoc (token_bytes op.token) (content_bytes op.body) rest) in
     rw (
       head_again op rest fits,
-      regrouped,
+      behind_deps op rest,
       deps_again op.deps (token_bytes op.token ++ (content_bytes op.body ++ rest)) fits.deps fits.replicas,
       token_again op.token (content_bytes op.body ++ rest) fits.token,
+    ) refl
+
+-- the origin of what was written as content is read again
+origin_for_again : (body : Body) (rest : List ℕ) → IsContent body → origin_for (kind_of body) (content_bytes body ++ rest) ≡ Ok (origin_of body)
+unfolding content_bytes
+origin_for_again (Insert origin value) rest fits =
+    ap (λ (w : List ℕ). only_value (origin_at w)) (append_assoc (origin_bytes origin) (number_bytes w32 value) rest)
+    ∙ ap only_value (origin_again origin (number_bytes w32 value ++ rest) fits.0)
+origin_for_again (Remove target) rest fits = refl
+origin_for_again (AddMark mark from to) rest fits = refl
+origin_for_again (RemoveMark mark from to) rest fits = refl
+
+-- and the origin behind it
+pub origin_is_read : (op : Op) (rest : List ℕ) → IsOperation op → behind_at (body_bytes op ++ rest) ≡ Ok (origin_of op.body)
+unfolding behind_at
+origin_is_read op rest fits =
+    rw (
+      head_again op rest fits,
+      behind_deps op rest,
+      deps_again op.deps (token_bytes op.token ++ (content_bytes op.body ++ rest)) fits.deps fits.replicas,
+      token_again op.token (content_bytes op.body ++ rest) fits.token,
+      origin_for_again op.body rest fits.body,
     ) refl

@@ -9,6 +9,7 @@ use Rattle.std.proofs.lemmas.Bool.Decides.{nat_tests}
 use Rattle.std.proofs.lemmas.List.{drop_at, take-append-drop, length-take}
 use Rattle.op_ids.specs.Clock.{is_clock}
 use Rattle.op_model.specs.Records.{mark_length, key_length, start_length, end_length, body_length, token_length}
+use Rattle.op_ids.specs.Id.{Id}
 use Rattle.op_model.specs.declared.op.Op.{Op}
 use Rattle.op_model.specs.declared.op.Body.{Body}
 use Rattle.op_model.specs.declared.op.Body.TheVariants.{Insert, Remove, AddMark, RemoveMark}
@@ -27,15 +28,15 @@ use Rattle.change_codec.specs.declared.format.Format.{Format}
 use Rattle.change_codec.specs.declared.format.Format.TheVariants.{Third}
 use Rattle.change_codec.specs.declared.head.Head.{Head}
 use Rattle.change_codec.specs.Formats.{has_tokens, longest, IsOf}
-use Rattle.change_codec.specs.Heads.{head_of}
+use Rattle.change_codec.specs.Heads.{head_of, origin_of}
 use Rattle.change_codec.specs.Fits.{IsMark, IsContent, IsOperation}
-use Rattle.change_codec.specs.Reading.{head_at, named_at, op_at}
+use Rattle.change_codec.specs.Reading.{head_at, named_at, behind_at, op_at}
 use Rattle.change_codec.specs.Record.{length_at, taken, found_length, first_fault, IsPartial, BeginsWithOp, BeginsWithOneOf, Answers}
 use Rattle.change_codec.proofs.Answered.{only_answer, none_read, none_answered, fault_read, fault_answered, memory_found}
 use Rattle.change_codec.proofs.Framing.{framed_found, found_whole, found_spelled, framed_again, partial_framed, framed_partial}
 use Rattle.change_codec.proofs.Steps.{IsBytes, IsBytes-take, IsBytes-drop, done, ok_is}
 use Rattle.change_codec.proofs.Lengths.{length_body, length_spelled}
-use Rattle.change_codec.proofs.OpLaws.{op_takes, op_again, head_again, token_is_read}
+use Rattle.change_codec.proofs.OpLaws.{op_takes, op_again, head_again, token_is_read, origin_is_read}
 use Rattle.change_codec.proofs.Clean.{no_memory}
 
 -- ---- how long a body is
@@ -243,3 +244,15 @@ read_token bytes op n token b read = ok_is token op.token (sym read ∙ token_be
 -- a token can be read
 pub some_token : (bytes : List ℕ) (op : Op) (n : ℕ) (e : CodecError) → BeginsWithOp bytes op n → named_at (drop 4 bytes) ≡ Err e → ⊥
 some_token bytes op n e b read = let found = token_behind bytes op n b in cc
+
+-- and has the origin
+pub origin_behind : (bytes : List ℕ) (op : Op) (n : ℕ) → BeginsWithOp bytes op n → behind_at (drop 4 bytes) ≡ Ok (origin_of op.body)
+origin_behind bytes op n b = ap behind_at (body_behind bytes op n b) ∙ origin_is_read op (drop n bytes) b.fits
+
+-- what was read as an origin is the operation's
+pub read_origin : (bytes : List ℕ) (op : Op) (n : ℕ) (origin : Option Id) → BeginsWithOp bytes op n → behind_at (drop 4 bytes) ≡ Ok origin → origin ≡ origin_of op.body
+read_origin bytes op n origin b read = ok_is origin (origin_of op.body) (sym read ∙ origin_behind bytes op n b)
+
+-- an origin can be read
+pub some_origin : (bytes : List ℕ) (op : Op) (n : ℕ) (e : CodecError) → BeginsWithOp bytes op n → behind_at (drop 4 bytes) ≡ Err e → ⊥
+some_origin bytes op n e b read = let found = origin_behind bytes op n b in cc

@@ -263,3 +263,18 @@ named_at bytes = do
   deps ← deps_at head.1
   token ← token_at head.0.has_token deps.1
   Ok token.0
+
+-- the origin of what an operation of a kind does, if it has one
+abbrev pub origin_for : Kind → List ℕ → Result (Option Id) CodecError
+origin_for kind.Insert bytes = only_value (origin_at bytes)
+origin_for kind.Remove bytes = Ok None
+origin_for kind.AddMark bytes = Ok None
+origin_for kind.RemoveMark bytes = Ok None
+
+-- the origin that stands in a whole body, if it has one
+unfoldable pub behind_at : List ℕ → Result (Option Id) CodecError
+behind_at bytes = do
+  head ← head_at Third bytes
+  deps ← deps_at head.1
+  token ← token_at head.0.has_token deps.1
+  origin_for head.0.kind token.1

@@ -31,7 +31,7 @@ pub use format::Format;
 pub use head::Head;
 pub use id::{put_id, take_id, take_replica};
 pub use number::{put_byte, put_bytes, put_u16, put_u32, take_u16, take_u32, take_u64};
-pub use peek::{record_head, record_token, skip_op};
+pub use peek::{record_head, record_origin, record_token, skip_op};
 pub use record::{put_op, take_op, whole_body};
 pub use stream::{put_ops, stream_length, take_ops};
 pub use stream_error::StreamError;

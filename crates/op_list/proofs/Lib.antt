@@ -1,4 +1,5 @@
 pub mod EndsOf
 pub mod FirstRecord
 pub mod Holding
+pub mod OneRecord
 pub mod Told

@@ -4,7 +4,7 @@ use Rattle.op_model.specs.declared.op.Op.{Op}
 use Rattle.op_model.specs.Records.{record_length}
 use Rattle.change_codec.specs.declared.codec_error.CodecError.{CodecError}
 use Rattle.change_codec.specs.declared.format.Format.TheVariants.{Third}
-use Rattle.change_codec.specs.Record.{taken}
+use Rattle.change_codec.specs.Record.{taken, BeginsWithOp}
 use Rattle.change_codec.specs.Stream.{spelled_all, AreOperations}
 
 -- the operation that was found at the front of bytes, and then those behind it
@@ -37,3 +37,7 @@ pub record HoldsRecords (records ends : List ℕ) (ops : List Op) : Type 0 where
 -- the records are those of the operations that are read from them
 abbrev pub IsHeld : List ℕ → List ℕ → Type 0
 IsHeld records ends = HoldsRecords records ends (held records ends)
+
+-- the bytes are the record of the operation, and nothing behind it
+abbrev pub IsRecord : List ℕ → Op → Type 0
+IsRecord bytes op = BeginsWithOp bytes op (length bytes)

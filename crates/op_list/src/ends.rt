@@ -7,7 +7,7 @@ use op_model::Op;
 
 /// Puts where the records of operations end, the first of which starts there, in room that was
 /// reserved.
-pub fn push_ends(start: usize, ops: &[Op], ends: &mut Vec<u32>)
+pub(crate) fn push_ends(start: usize, ops: &[Op], ends: &mut Vec<u32>)
     requires room { vec_len ends.old + length ops.now ≤ vec_capacity ends.old }
     requires within { start + stream_length ops.now < 2 ^ 32 }
     ensures { ends.new.items ≡ ends.old.items ++ ends_of start ops.now }

@@ -1,6 +1,8 @@
 //! A list of operations, held as records.
-ghost use Rattle.std.specs.Prelude.{◌≡◌, ◌+◌, ◌<◌, ◌^◌, [], ◌++◌, length, take, OnOk, OnErr};
+ghost use Rattle.std.specs.Prelude.{◌≡◌, ◌+◌, ◌<◌, ◌^◌, [], ◌∷◌, ◌++◌, length, take, OnOk, OnErr};
+ghost use Rattle.op_model.specs.declared.op.Op.{Op as Operation};
 ghost use Rattle.op_model.specs.Records.{stream_length};
+ghost use Rattle.op_list.specs.Held.{IsRecord};
 
 use crate::ends::push_ends;
 use crate::op_slice::OpSlice;
@@ -72,6 +74,22 @@ impl OpList {
         self.ends.reserve(ops.len())?;
         put_ops(ops, &mut self.records)?;
         push_ends(start, ops, &mut self.ends);
+        Ok(())
+    }
+
+    /// Puts the operation behind the others whose record these bytes are. An error is out of memory
+    /// (1). Linear in the bytes, which are copied and not read.
+    pub fn append_record(&mut self, bytes: &[u8]) -> Result<(), AllocError>
+        requires one { (op : Operation) × IsRecord bytes.now op }
+        requires few { stream_length self.old + length bytes.now < 2 ^ 32 }
+        ensures ok { OnOk result ((op : Operation) → IsRecord bytes.now op
+            → self.new ≡ self.old ++ op ∷ []) }
+        ensures err { OnErr result (self.new ≡ self.old) }
+    {
+        let end = self.records.len() + bytes.len();
+        self.ends.reserve(1)?;
+        self.records.extend_from_slice(bytes)?;
+        self.ends.push_reserved(end as u32);
         Ok(())
     }
 

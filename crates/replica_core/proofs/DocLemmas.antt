@@ -4,7 +4,7 @@ use Rattle.std.proofs.Common.{◌∙◌, ap, append_assoc, append-nil, arith}
 use Rattle.std.specs.Prelude.{◌==◌, ◌≢◌, slice_set}
 use Rattle.std.specs.List.{list_any}
 use Rattle.std.proofs.lemmas.Bool.{cases_Bool, cases_order, eq-eqb, ne_eqb, le-ltb, both_ways, or_parts, or_from}
-use Rattle.std.proofs.lemmas.List.{take-append-drop}
+use Rattle.std.proofs.lemmas.List.{take-append-drop, length-append, get_or_push}
 use Rattle.doc_core.specs.declared.doc.Doc.{Doc}
 use Rattle.doc_core.specs.Standing.{StandsFor}
 use Rattle.replica_core.specs.Docs.{doc_number}
@@ -43,7 +43,7 @@ longer n [] back = refl
 longer n (m ∷ front) back = ap suc (longer n front back)
 
 -- a number that has a place of its own isn't there
-lacks_placed : (n at : ℕ) (ns : List ℕ) → IsUp ns → with_number n ns ≡ take at ns ++ n ∷ drop at ns → has n ns ≡ false
+pub lacks_placed : (n at : ℕ) (ns : List ℕ) → IsUp ns → with_number n ns ≡ take at ns ++ n ∷ drop at ns → has n ns ≡ false
 lacks_placed n at ns up placed =
     elim (cases_Bool (has n ns)) [
       | inl there ↦ let same = with_same n ns up there in
@@ -55,7 +55,7 @@ lacks_placed n at ns up placed =
     ]
 
 -- a document is one of those of a list where some operation is of it
-has-documents : (n : ℕ) (ops : List Op) → has n (documents ops) ≡ list_any (λ op. op.doc == n) ops
+pub has-documents : (n : ℕ) (ops : List Op) → has n (documents ops) ≡ list_any (λ op. op.doc == n) ops
 has-documents n [] = refl
 has-documents n (op ∷ ops) = has-with n op.doc (documents ops) ∙ ap (λ rest. (op.doc == n) || rest) (has-documents n ops)
 
@@ -76,7 +76,12 @@ pub doc_there : (list : List Op) (i : ℕ) (op : Op) → i < length list → op 
 doc_there list i op here is_it =
     with_same op.doc (documents list) (documents_up list) (has-documents op.doc list ∙ any_at list i op here is_it)
 
-differ : (a b : ℕ) → (a == b) ≡ false → a ≢ b
+-- and that of the last one
+pub doc_last : (list : List Op) (op : Op) → with_number op.doc (documents (list ++ op ∷ [])) ≡ documents (list ++ op ∷ [])
+doc_last list op =
+    doc_there (list ++ op ∷ []) (length list) op (omega (arith, length-append list (op ∷ []))) (sym (get_or_push list op op (length list) refl))
+
+pub differ : (a b : ℕ) → (a == b) ≡ false → a ≢ b
 differ a b apart same = both_ways (a == b) apart (eq-eqb a b same)
 
 -- operations of other documents leave a document as it is

@@ -1,6 +1,9 @@
 -- The drafts of the documents of a list, and one of them with an operation more.
-use Rattle.std.proofs.Common.{◌≡◌, ℕ, zero, suc, ◌+◌, ◌<◌, ◌^◌, List, [], ◌∷◌, ◌++◌, length, take, get_or, refl, sym, ◌∙◌, ap, arith}
-use Rattle.std.specs.Prelude.{slice_set}
+use Rattle.std.proofs.Common.{◌≡◌, ℕ, zero, suc, ◌+◌, ◌<◌, ◌^◌, false, List, [], ◌∷◌, ◌++◌, length, take, drop, get_or, refl, sym, ◌∙◌, ap, subst, arith}
+use Rattle.std.proofs.Common.{append_assoc, append-nil}
+use Rattle.std.specs.Prelude.{◌==◌, slice_set}
+use Rattle.std.specs.List.{list_any}
+use Rattle.std.proofs.lemmas.Bool.{or_parts}
 use Rattle.std.proofs.lemmas.List.{take_more, length-map}
 use Rattle.doc_core.specs.declared.doc.Doc.{Doc}
 use Rattle.doc_core.specs.declared.draft.Draft.{Draft}
@@ -13,16 +16,45 @@ use Rattle.doc_core.proofs.FittingLemmas.{draft_stays}
 use Rattle.op_model.specs.declared.op.Op.{Op}
 use Rattle.op_model.specs.Rising.{AllOver, IsUp}
 use Rattle.op_model.specs.Text.{rev}
-use Rattle.replica_core.specs.Docs.{draft_numbers, numbers, AllDrafts, AllStand}
+use Rattle.op_model.specs.Causality.{documents}
+use Rattle.op_model.specs.Spans.{with_number}
+use Rattle.model_laws.proofs.Up.{has}
+use Rattle.replica_core.proofs.DocLemmas.{differ, has-documents, lacks_placed}
+use Rattle.replica_core.specs.Docs.{draft_numbers, numbers, AllDrafts, AllStand, AreDrafts}
 
--- one more draft
-pub numbers_push : (ds : List Draft) (d : Draft) → draft_numbers (ds ++ d ∷ []) ≡ draft_numbers ds ++ draft_number d ∷ []
-numbers_push [] d = refl
-numbers_push (x ∷ ds) d = ap (λ rest. draft_number x ∷ rest) (numbers_push ds d)
+-- operations of other documents leave a draft as it is
+stays_all : (d : Draft) (before more : List Op) → list_any (λ op. op.doc == draft_number d) more ≡ false → IsDraftOf d before → IsDraftOf d (before ++ more)
+stays_all d before [] none draft = rw append-nil draft
+stays_all d before (op ∷ more) none draft =
+    let both = or_parts (op.doc == draft_number d) (list_any (λ o. o.doc == draft_number d) more) none in
+    rw append_assoc at (stays_all d (before ++ op ∷ []) more both.1 (draft_stays d before op (differ op.doc (draft_number d) both.0) draft))
 
-pub drafts_push : (ds : List Draft) (d : Draft) (ops : List Op) → AllDrafts ds ops → IsDraftOf d ops → AllDrafts (ds ++ d ∷ []) ops
-drafts_push [] d ops all draft = (draft, tt)
-drafts_push (x ∷ ds) d ops all draft = (all.0, drafts_push ds d ops all.1 draft)
+drafts_insert : (ds : List Draft) (at : ℕ) (new : Draft) (ops : List Op) → AllDrafts ds ops → IsDraftOf new ops → AllDrafts (take at ds ++ new ∷ drop at ds) ops
+drafts_insert ds zero new ops all draft = (draft, all)
+drafts_insert [] (suc at) new ops all draft = (draft, tt)
+drafts_insert (x ∷ ds) (suc at) new ops all draft = (all.0, drafts_insert ds at new ops all.1 draft)
+
+numbers_insert : (ds : List Draft) (at : ℕ) (new : Draft)
+    → draft_numbers (take at ds ++ new ∷ drop at ds) ≡ take at (draft_numbers ds) ++ draft_number new ∷ drop at (draft_numbers ds)
+numbers_insert ds zero new = refl
+numbers_insert [] (suc at) new = refl
+numbers_insert (x ∷ ds) (suc at) new = ap (λ rest. draft_number x ∷ rest) (numbers_insert ds at new)
+
+-- a new draft among the others, of a document that has no operation
+pub drafts_new : (ds more : List Draft) (ns more_numbers : List ℕ) (at : ℕ) (new : Draft) (doc : ℕ) (ops : List Op) → AreDrafts ds ns ops → IsUp ns
+    → ns ≡ documents ops → with_number doc ns ≡ take at ns ++ doc ∷ drop at ns → draft_number new ≡ doc → IsDraftOf new []
+    → more ≡ take at ds ++ new ∷ drop at ds → more_numbers ≡ take at ns ++ doc ∷ drop at ns → AreDrafts more more_numbers ops
+drafts_new ds more ns more_numbers at new doc ops are up ns_are placed same empty more_is numbers_are =
+    let lacks : has (draft_number new) (documents ops) ≡ false = rw (same, ← ns_are) (lacks_placed doc at ns up placed) in
+    let none : list_any (λ op. op.doc == draft_number new) ops ≡ false = sym (has-documents (draft_number new) ops) ∙ lacks in
+    let draft : IsDraftOf new ops = stays_all new [] ops none empty in
+    record {
+      numbers =
+          ap draft_numbers more_is ∙ numbers_insert ds at new
+          ∙ ap (λ (ms : List ℕ). take at ms ++ draft_number new ∷ drop at ms) are.numbers
+          ∙ ap (λ (n : ℕ). take at ns ++ n ∷ drop at ns) same ∙ sym numbers_are;
+      drafts = subst (λ (all : List Draft). AllDrafts all ops) (sym more_is) (drafts_insert ds at new ops are.drafts draft);
+    }
 
 -- one more document, that of the next draft
 pub docs_push : (ds : List Doc) (d : Doc) (x : Draft) (rest : List Draft) → doc_number d ≡ draft_number x

@@ -1,6 +1,5 @@
 -- The places of a replica's edits.
-use Rattle.std.proofs.Common.{◌≡◌, ℕ, ◌+◌, ◌<◌, List, [], ◌∷◌, ◌++◌, length, take, Some, ap, refl, sym, ◌∙◌, arith, length-append}
-use Rattle.std.proofs.lemmas.List.{length-take-le}
+use Rattle.std.proofs.Common.{◌≡◌, ℕ, ◌+◌, ◌<◌, List, [], ◌∷◌, ◌++◌, length, Some, ap, refl, sym, ◌∙◌, length-append}
 use Rattle.op_model.specs.declared.op.Op.{Op}
 use Rattle.op_model.specs.declared.edit.Edit.{Edit}
 use Rattle.op_model.specs.Held.{ReplicaHeld}
@@ -13,12 +12,10 @@ use Rattle.replica_core.specs.Held.{CanEdit}
 use Rattle.replica_core.proofs.LimitLemmas.{length-made}
 use Rattle.replica_core.proofs.SoundLemmas.{due_asks_right, rev-made}
 
--- the place of an operation behind the first i
-pub place_front : (list : List Op) (i : ℕ) (op : Op) (end revs : ℕ) → i < length list → end ≡ i + 1 → revs ≡ rev (take i list ++ op ∷ []) op.doc
-    → place_at (take i list, op) ≡ record { end = end; rev = revs }
-place_front list i op end revs here ends counts =
-    let long : length (take i list) ≡ i = length-take-le i list (omega arith) in
-    rw (long, ← ends, ← counts) refl
+-- the place of an operation behind others
+pub place_behind : (list : List Op) (op : Op) (end revs : ℕ) → end ≡ length list + 1 → revs ≡ rev (list ++ op ∷ []) op.doc
+    → place_at (list, op) ≡ record { end = end; rev = revs }
+place_behind list op end revs ends counts = rw (← ends, ← counts) refl
 
 -- an edit that nothing refuses has its place kept for its token
 pub tokens_edit : (h : ReplicaHeld) (e : Edit) (old new : List (ℕ × Place)) (place : Place) → CanEdit h e → 0 < size_of e.change

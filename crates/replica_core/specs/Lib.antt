@@ -9,4 +9,5 @@ pub mod Fields
 pub mod Makers
 pub mod Indexes
 pub mod Docs
+pub mod Passing
 pub mod Telling

@@ -13,7 +13,7 @@ use std::alloc::{AllocError, Global};
 
 /// How many operations each replica has among the first `count` of a causally closed list, with its
 /// clock and its index. An error is out of memory (1). A search by halves for each replica.
-pub fn clock_of_front(
+pub(crate) fn clock_of_front(
     alloc: Global,
     ops: &RunSlice<'_>,
     clock: &Clock,
@@ -38,7 +38,7 @@ pub fn clock_of_front(
 
 /// Counts operations that come behind others, with which they keep the limits of a store. An error
 /// is out of memory (1).
-pub fn count_all(clock: &mut Clock, ops: &[Op]) -> Result<(), AllocError>
+pub(crate) fn count_all(clock: &mut Clock, ops: &[Op]) -> Result<(), AllocError>
     requires { (earlier : List Op) × (clock.old ≡ clock_of earlier)
         × (is_within_limits (earlier ++ ops.now) ≡ true) }
     ensures { OnOk result ((earlier : List Op) → clock.old ≡ clock_of earlier
@@ -52,7 +52,7 @@ pub fn count_all(clock: &mut Clock, ops: &[Op]) -> Result<(), AllocError>
 
 /// Counts one more operation of a replica, for which the clock has room. An error is out of memory
 /// (1). At most 16 steps.
-pub fn advance(clock: &mut Clock, replica: ReplicaId) -> Result<(), AllocError>
+pub(crate) fn advance(clock: &mut Clock, replica: ReplicaId) -> Result<(), AllocError>
     requires { IsOverfull (advanced clock.old replica) → ⊥ }
     ensures { OnOk result (clock.new ≡ advanced clock.old replica) }
 {

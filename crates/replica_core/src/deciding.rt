@@ -24,7 +24,7 @@ use run_list::RunSlice;
 /// How many bytes the operations that an edit of a document makes add to what waits for a commit,
 /// or why it is refused, by the first cause: `Stale` (6), `Range` (5), `Limit` (7). There is room
 /// for its document or not. Takes no memory. Linear in the document.
-pub fn edit_length(
+pub(crate) fn edit_length(
     ops: &RunSlice<'_>,
     known: &Knowledge<'_>,
     doc: &Doc,
@@ -96,7 +96,13 @@ fn has_counters(greatest: u64, count: u64) -> bool
 
 /// Whether there is room for `count` operations behind the others, where their document has a place
 /// or not, with records of `bytes` bytes behind a stream of `stream` bytes.
-pub fn has_room(ops: &RunSlice<'_>, has_place: bool, stream: u64, count: usize, bytes: u64) -> bool
+pub(crate) fn has_room(
+    ops: &RunSlice<'_>,
+    has_place: bool,
+    stream: u64,
+    count: usize,
+    bytes: u64,
+) -> bool
     ensures { result ≡ (has_place && nat_le (length ops.now + count) MAX_OPERATIONS
         && nat_le (stream + bytes) MAX_STREAM_LENGTH) }
 {

@@ -18,7 +18,7 @@ use std::alloc::Global;
 
 /// Of the documents of a list the one with the number of this empty document, or else the empty
 /// one. Takes no memory. A search by halves.
-pub fn find<'a>(docs: &'a [Doc], empty: &'a Doc) -> &'a Doc
+pub(crate) fn find<'a>(docs: &'a [Doc], empty: &'a Doc) -> &'a Doc
     requires rising { IsUp (numbers docs.now) }
     requires empty { StandsFor empty.now [] }
     ensures number { doc_number result.now ≡ doc_number empty.now }
@@ -29,7 +29,7 @@ pub fn find<'a>(docs: &'a [Doc], empty: &'a Doc) -> &'a Doc
 
 /// The index of the document of a number, or where it goes among these, whose numbers rise. A
 /// search by halves.
-pub fn place(docs: &[Doc], doc: u32) -> Result<usize, usize>
+pub(crate) fn place(docs: &[Doc], doc: u32) -> Result<usize, usize>
     requires { IsUp (numbers docs.now) }
     ensures { IsPlace (numbers docs.now) doc result }
 {
@@ -37,7 +37,7 @@ pub fn place(docs: &[Doc], doc: u32) -> Result<usize, usize>
 }
 
 /// The document at this place, or else this empty one. Constant.
-pub fn at<'a>(docs: &'a [Doc], place: Result<usize, usize>, empty: &'a Doc) -> &'a Doc
+pub(crate) fn at<'a>(docs: &'a [Doc], place: Result<usize, usize>, empty: &'a Doc) -> &'a Doc
     requires place { IsPlace (numbers docs.now) (doc_number empty.now) place }
     requires empty { StandsFor empty.now [] }
     ensures number { doc_number result.now ≡ doc_number empty.now }
@@ -50,7 +50,7 @@ pub fn at<'a>(docs: &'a [Doc], place: Result<usize, usize>, empty: &'a Doc) -> &
 }
 
 /// Whether there are at most 1,024 documents with the one of this place. Constant.
-pub fn has_room(docs: &[Doc], place: Result<usize, usize>) -> bool
+pub(crate) fn has_room(docs: &[Doc], place: Result<usize, usize>) -> bool
     ensures { (doc : ℕ) → IsPlace (numbers docs.now) doc place
         → result ≡ nat_le (length (with_number doc (numbers docs.now))) MAX_DOCUMENTS }
 {
@@ -62,7 +62,7 @@ pub fn has_room(docs: &[Doc], place: Result<usize, usize>) -> bool
 
 /// How many operations a document has. That its list is causally closed, and so short enough to be
 /// counted, is for the proof. Constant.
-pub fn count(doc: &Doc, list: &RunSlice<'_>) -> usize
+pub(crate) fn count(doc: &Doc, list: &RunSlice<'_>) -> usize
     requires closed { IsCausallyClosed list.now }
     requires stands { StandsFor doc.now list.now }
     ensures { result ≡ rev list.now (doc_number doc.now) }
@@ -74,7 +74,7 @@ pub fn count(doc: &Doc, list: &RunSlice<'_>) -> usize
 /// Takes an edit of one document, which has this place, whole or not at all. `UnknownId` (60) only
 /// where it can't come after the others, `Memory` (1) where a growth was refused. A step for each
 /// greater document where it is new, and what the document itself takes.
-pub fn apply(
+pub(crate) fn apply(
     docs: &mut Vec<Doc>,
     alloc: Global,
     doc: u32,

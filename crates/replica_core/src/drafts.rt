@@ -3,91 +3,47 @@ ghost use Rattle.std.specs.Prelude.{◌≡◌, ◌<◌, ◌^◌, List, [], ◌�
 ghost use Rattle.op_model.specs.Placing.{Fits};
 ghost use Rattle.op_model.specs.Rising.{IsUp};
 ghost use Rattle.op_model.specs.declared.op.Op.{Op};
-ghost use Rattle.op_model.specs.Causality.{documents, IsCausallyClosed};
+ghost use Rattle.op_model.specs.Causality.{documents};
 ghost use Rattle.op_model.specs.Spans.{with_number};
 ghost use Rattle.op_model.specs.Text.{rev as rev_of};
-ghost use Rattle.edit_tokens.specs.Places.{AreTokens};
 ghost use Rattle.replica_core.specs.Docs.{draft_numbers, numbers as doc_numbers};
-ghost use Rattle.replica_core.specs.Docs.{AllDrafts, AllStand, AreDocs, AreDrafts};
+ghost use Rattle.replica_core.specs.Docs.{AllDrafts, AllStand, AreDrafts};
 
 use crate::refusal::Refusal;
 use doc_core::{Doc, Draft, SequenceError};
-use edit_tokens::{Gathered, Place, Tokens};
-use op_ids::ReplicaId;
 use op_model::{Op, place_among};
-use run_list::RunSlice;
 use std::alloc::{AllocError, Global};
 
-/// The documents of a causally closed list, whose numbers are given, and the tokens of a replica's
-/// edits in it. An error is out of memory (1). For each operation a search by halves for its
-/// document, and what its draft takes for it; then the tokens of the own ones are sorted, once the
-/// drafts are let go.
-pub fn documents_of(
+/// Sees to it that a document has a draft among these, whose numbers rise. An error is out of
+/// memory (1). A search by halves, and a step for each greater number if it is new.
+pub(crate) fn open(
     alloc: Global,
-    replica: ReplicaId,
-    list: &RunSlice<'_>,
-    numbers: &[u32],
-) -> Result<(Vec<Doc>, Tokens), Refusal>
-    requires closed { IsCausallyClosed list.now }
-    requires numbers { numbers.now ≡ documents list.now }
-    ensures docs { IfOk result (λ found. AreDocs found.0.items list.now) }
-    ensures tokens { IfOk result (λ found. AreTokens found.1 replica list.now) }
-    ensures memory { IfErr result (λ e. e ≡ Refusal.Memory) }
-{
-    let mut drafts = empty(alloc, numbers)?;
-    let gathered = apply_all(alloc, replica, &mut drafts, numbers, list)?;
-    let docs = finished(alloc, drafts)?;
-    let tokens = gathered.into_tokens(alloc)?;
-    Ok((docs, tokens))
-}
-
-/// The drafts of documents without operations. An error is out of memory (1).
-fn empty(alloc: Global, numbers: &[u32]) -> Result<Vec<Draft>, AllocError>
-    ensures { IfOk result (λ drafts. AreDrafts drafts.items numbers.now []) }
-{
-    let mut drafts = Vec::with_capacity(alloc, numbers.len())?;
-    for number in numbers {
-        let draft = Draft::new(alloc, *number)?;
-        drafts.push(draft)?;
-    }
-    Ok(drafts)
-}
-
-/// Gives each operation of a list to its document's draft, before the next one is made of it.
-/// Returns the tokens of a replica's edits. An error is out of memory (1).
-fn apply_all(
-    alloc: Global,
-    replica: ReplicaId,
+    numbers: &mut Vec<u32>,
     drafts: &mut Vec<Draft>,
-    numbers: &[u32],
-    list: &RunSlice<'_>,
-) -> Result<Gathered, Refusal>
-    requires closed { IsCausallyClosed list.now }
-    requires numbers { numbers.now ≡ documents list.now }
-    requires empty { AreDrafts drafts.old.items numbers.now [] }
-    ensures drafts { OnOk result (AreDrafts drafts.new.items numbers.now list.now) }
-    ensures tokens { IfOk result (λ gathered. AreTokens gathered replica list.now) }
-    ensures memory { IfErr result (λ e. e ≡ Refusal.Memory) }
+    doc: u32,
+) -> Result<(), AllocError>
+    requires rising { IsUp numbers.old.items }
+    requires drafts { draft_numbers drafts.old.items ≡ numbers.old.items }
+    ensures numbers { OnOk result (numbers.new.items ≡ with_number doc numbers.old.items) }
+    ensures drafts { OnOk result ((ops : List Op) → numbers.old.items ≡ documents ops
+        → AreDrafts drafts.old.items numbers.old.items ops
+        → AreDrafts drafts.new.items numbers.new.items ops) }
 {
-    let mut gathered = Gathered::new(alloc);
-    let mut reader = list.reader();
-    for i in 0..list.len() {
-        reader.read()?;
-        let op = reader.op();
-        let rev = apply(drafts, numbers, op)?;
-        let place = Place {
-            end: (i + 1) as u32,
-            rev: rev as u32,
-        };
-        gathered.count(replica, op, place)?;
+    match place_among(numbers, doc) {
+        Ok(_) => {}
+        Err(at) => {
+            let draft = Draft::new(alloc, doc)?;
+            numbers.insert(at, doc).map_err(AllocError::from)?;
+            drafts.insert(at, draft).map_err(AllocError::from)?;
+        }
     }
-    Ok(gathered)
+    Ok(())
 }
 
 /// Gives an operation that may come to its document's draft, and returns how many operations that
 /// has then. An error is out of memory (1). A search by halves for the document, and what its
 /// draft takes for it.
-fn apply(drafts: &mut Vec<Draft>, numbers: &[u32], op: &Op) -> Result<u64, Refusal>
+pub(crate) fn apply(drafts: &mut Vec<Draft>, numbers: &[u32], op: &Op) -> Result<u64, Refusal>
     requires rising { IsUp numbers.now }
     requires there { with_number op.now.doc numbers.now ≡ numbers.now }
     requires may_come { (ops : List Op) × AreDrafts drafts.old.items numbers.now ops
@@ -115,7 +71,7 @@ fn apply(drafts: &mut Vec<Draft>, numbers: &[u32], op: &Op) -> Result<u64, Refus
 
 /// The documents of drafts. One after another, so that a weave is let go before the next document
 /// takes memory. An error is out of memory (1).
-fn finished(alloc: Global, drafts: Vec<Draft>) -> Result<Vec<Doc>, AllocError>
+pub(crate) fn finished(alloc: Global, drafts: Vec<Draft>) -> Result<Vec<Doc>, AllocError>
     ensures numbers { IfOk result (λ docs. doc_numbers docs.items ≡ draft_numbers drafts.items) }
     ensures stand { IfOk result (λ docs. (ops : List Op) → AllDrafts drafts.items ops
         → AllStand docs.items ops) }

@@ -18,7 +18,7 @@ use op_model::{Anchor, Body, End, Op, Start};
 use run_list::RunSlice;
 
 /// Whether a clock counts an operation: more of its replica than it depends on. At most 32 steps.
-pub fn is_known(clock: &Clock, op: &Op) -> bool
+pub(crate) fn is_known(clock: &Clock, op: &Op) -> bool
     ensures { result ≡ is_known_in clock.now op.now }
 {
     let replica = op.id.replica();
@@ -28,7 +28,7 @@ pub fn is_known(clock: &Clock, op: &Op) -> bool
 /// Whether an operation may follow the others, where it is known whether there are at most 1,024
 /// documents with its own: it is ready, and no check fails. Takes no memory. A few steps for
 /// clocks, and what `is_covered_insert` costs for each character that it names.
-pub fn may_follow(
+pub(crate) fn may_follow(
     ops: &RunSlice<'_>,
     clock: &Clock,
     index: &Index,
@@ -53,7 +53,7 @@ pub fn may_follow(
 /// `Document` (23), `StoreLimit` (24); it is known whether there are at most 1,024 documents with
 /// its own. Takes no memory. A few steps for clocks, and what `is_covered_insert` costs for each
 /// character that it names.
-pub fn first_failed(
+pub(crate) fn first_failed(
     ops: &RunSlice<'_>,
     clock: &Clock,
     index: &Index,

@@ -21,7 +21,7 @@ use op_model::{
 };
 
 /// How many bytes the records take that a small edit of a document makes. Takes no memory.
-pub fn made_length(doc: &Doc, clock: &Clock, replica: ReplicaId, edit: &Edit) -> u64
+pub(crate) fn made_length(doc: &Doc, clock: &Clock, replica: ReplicaId, edit: &Edit) -> u64
     requires { is_small edit.now.change ≡ true }
     ensures { (ops : List Op) → StandsFor doc.now ops → doc_number doc.now ≡ edit.now.doc
         → clock.now ≡ clock_of ops → IsAskedRight ops edit.now
@@ -42,7 +42,7 @@ pub fn made_length(doc: &Doc, clock: &Clock, replica: ReplicaId, edit: &Edit) ->
 /// How many bytes the operations that a small edit of a document makes add to what waits for a
 /// commit, where their single records take `bytes`: what two or more characters add is one record.
 /// Takes no memory.
-pub fn waiting_length(doc: &Doc, clock: &Clock, edit: &Edit, bytes: u64) -> u64
+pub(crate) fn waiting_length(doc: &Doc, clock: &Clock, edit: &Edit, bytes: u64) -> u64
     requires { is_small edit.now.change ≡ true }
     ensures { (ops : List Op) (replica : ℕ) → StandsFor doc.now ops
         → doc_number doc.now ≡ edit.now.doc → clock.now ≡ clock_of ops → IsAskedRight ops edit.now

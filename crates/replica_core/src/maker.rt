@@ -15,7 +15,7 @@ pub struct Maker {
 }
 
 /// The indexes of a replica's operations. At most a step for each maker.
-pub fn places_of(makers: &[Maker], replica: ReplicaId) -> Option<&[u32]>
+pub(crate) fn places_of(makers: &[Maker], replica: ReplicaId) -> Option<&[u32]>
     ensures { MatchOption result (places_in makers.now replica ≡ [])
         (λ places. places.now ≡ places_in makers.now replica) }
 {
@@ -28,7 +28,7 @@ pub fn places_of(makers: &[Maker], replica: ReplicaId) -> Option<&[u32]>
 }
 
 /// How many of these indexes, which rise, are below another one. A search by halves.
-pub fn count_below(places: &[u32], index: usize) -> usize
+pub(crate) fn count_below(places: &[u32], index: usize) -> usize
     requires { IsNonDecreasing places.now }
     ensures bound { result ≤ length places.now }
     ensures place { IsPartitionPoint (λ p. nat_lt p index ≡ true) (λ p. nat_lt p index ≡ false)
@@ -50,7 +50,7 @@ fn place(makers: &[Maker], replica: ReplicaId) -> Option<usize>
 }
 
 /// Makes room for `count` more operations of a replica. An error is out of memory (1).
-pub fn reserve(
+pub(crate) fn reserve(
     makers: &mut Vec<Maker>,
     alloc: Global,
     replica: ReplicaId,
@@ -73,7 +73,7 @@ pub fn reserve(
 }
 
 /// Puts the index of a replica's next operation behind its others. There is room for it.
-pub fn put(makers: &mut Vec<Maker>, replica: ReplicaId, index: u32)
+pub(crate) fn put(makers: &mut Vec<Maker>, replica: ReplicaId, index: u32)
     requires { 0 < room_of makers.old.items replica }
     ensures own { places_in makers.new.items replica
         ≡ places_in makers.old.items replica ++ index ∷ [] }

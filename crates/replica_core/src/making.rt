@@ -15,7 +15,7 @@ use std::alloc::Global;
 
 /// The operations of an edit of a document that nothing refuses. The list is there for the proof.
 /// An error is out of memory (1). Costs what `Doc::make` does.
-pub fn made(
+pub(crate) fn made(
     alloc: Global,
     ops: &RunSlice<'_>,
     known: &Knowledge<'_>,

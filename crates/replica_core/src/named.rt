@@ -16,7 +16,7 @@ use run_list::RunSlice;
 /// Whether an insert of the operation's document with this id is among the operations that its deps
 /// cover. Takes no memory. A look at two heads where the id's replica edits alone, else a binary
 /// search among its operations, with a look at one for each step; each look is a search by halves.
-pub fn is_covered_insert(ops: &RunSlice<'_>, index: &Index, op: &Op, id: &OpId) -> bool
+pub(crate) fn is_covered_insert(ops: &RunSlice<'_>, index: &Index, op: &Op, id: &OpId) -> bool
     requires closed { IsCausallyClosed ops.now }
     requires index { IsIndexOf index.now ops.now }
     ensures { result ≡ is_covered_insert_of ops.now op.now.deps op.now.doc id.now }
@@ -97,7 +97,7 @@ fn has_insert_by_halves(ops: &RunSlice<'_>, places: &[u32], doc: u32, id: &OpId)
 }
 
 /// Of the operations at these indexes the head of the k-th one, counted from 0.
-pub fn head_at(ops: &RunSlice<'_>, places: &[u32], k: usize) -> OpHead
+pub(crate) fn head_at(ops: &RunSlice<'_>, places: &[u32], k: usize) -> OpHead
     requires below { AreBelow (length ops.now) places.now }
     requires there { k < length places.now }
     ensures { result ≡ slice_index_or (heads (at_places ops.now places.now)) k result }

@@ -1,22 +1,23 @@
 //! What is known of a list that is opened.
-ghost use Rattle.std.specs.Prelude.{◌≡◌, ◌≢◌, ◌+◌, ◌<◌, ◌^◌, List, ◌∷◌, [], ◌++◌, length, IfOk, IfErr, OnOk};
+ghost use Rattle.std.specs.Prelude.{◌≡◌, ◌≢◌, ◌+◌, ◌<◌, ◌^◌, ℕ, List, ◌∷◌, [], ◌++◌, length, IfOk, IfErr, OnOk};
 ghost use Rattle.op_ids.specs.Clock.{advanced, IsOverfull};
 ghost use Rattle.op_model.specs.declared.op.Op.{Op};
-ghost use Rattle.op_model.specs.Causality.{documents, IsCausallyClosed};
+ghost use Rattle.op_model.specs.Causality.{IsCausallyClosed, MayFollow};
 ghost use Rattle.op_model.specs.Records.{record_length};
-ghost use Rattle.replica_core.specs.Deciding.{AreCounted, AreKnown};
+ghost use Rattle.replica_core.specs.Deciding.{AreKnown};
 ghost use Rattle.replica_core.specs.Indexes.{IsIndexOf};
+ghost use Rattle.replica_core.specs.Passing.{ArePassed};
 
 use crate::counting::advance;
-use crate::drafts::documents_of;
+use crate::drafts::{apply, finished, open};
 use crate::following::may_follow;
 use crate::index::Index;
 use crate::refusal::Refusal;
-use doc_core::Doc;
-use edit_tokens::Tokens;
+use doc_core::{Doc, Draft};
+use edit_tokens::{Gathered, Place, Tokens};
 use fixed_numbers::limits::MAX_DOCUMENTS;
 use op_ids::{Clock, ReplicaId};
-use op_model::{Op, put_among};
+use op_model::Op;
 use run_list::RunSlice;
 use std::alloc::Global;
 
@@ -29,47 +30,111 @@ pub struct Opened {
     pub tokens: Tokens,
 }
 
+/// What is known of the operations that were passed so far.
+#[derive(Drop)]
+pub struct Passed {
+    pub clock: Clock,
+    pub index: Index,
+    /// The numbers of their documents, which rise.
+    pub numbers: Vec<u32>,
+    /// The drafts of these.
+    pub drafts: Vec<Draft>,
+    pub tokens: Gathered,
+}
+
 /// The clock, the documents and the index of a causally closed list, and the tokens of a replica's
 /// edits in it. `BadOperation` (47) exactly where the list isn't; `Memory` (1) says nothing of
-/// that. The list is gone through twice: what may follow is decided before a document takes
-/// anything.
-pub fn counted(alloc: Global, replica: ReplicaId, list: &RunSlice<'_>) -> Result<Opened, Refusal>
+/// that. One pass over the list, in which each operation is read once: for each a search by halves
+/// for its document, and what its draft takes for it. Then the tokens of the own ones are sorted,
+/// once the drafts are let go.
+pub(crate) fn counted(
+    alloc: Global,
+    replica: ReplicaId,
+    list: &RunSlice<'_>,
+) -> Result<Opened, Refusal>
     ensures known { IfOk result (λ found. AreKnown list.now replica found) }
     ensures bad { IfErr result (λ e. e ≢ Refusal.Memory
         → (e ≡ Refusal.BadOperation) × (IsCausallyClosed list.now → ⊥)) }
 {
-    let (clock, numbers, index) = checked(alloc, list)?;
-    let (docs, tokens) = documents_of(alloc, replica, list, &numbers)?;
-    Ok(Opened {
-        clock,
-        docs,
-        index,
-        tokens,
-    })
-}
-
-/// The clock, the documents' numbers and the index of a causally closed list. Refuses as `counted`.
-fn checked(alloc: Global, list: &RunSlice<'_>) -> Result<(Clock, Vec<u32>, Index), Refusal>
-    ensures counted { IfOk result (λ found. AreCounted list.now found.0 found.2) }
-    ensures numbers { IfOk result (λ found. found.1.items ≡ documents list.now) }
-    ensures bad { IfErr result (λ e. e ≢ Refusal.Memory
-        → (e ≡ Refusal.BadOperation) × (IsCausallyClosed list.now → ⊥)) }
-{
-    let mut clock = Clock::new(alloc);
-    let mut numbers = Vec::new(alloc);
-    let mut index = Index::new(alloc);
+    let mut passed = Passed::new(alloc);
     let mut reader = list.reader();
     for i in 0..list.len() {
         reader.read()?;
-        let op = reader.op();
-        put_among(&mut numbers, op.doc)?;
-        let has_place = numbers.len() <= MAX_DOCUMENTS;
-        if !may_follow(&list.front(i), &clock, &index, op, has_place) {
+        if let Err(refusal) = passed.pass(alloc, replica, &list.front(i), reader.op()) {
+            return Err(refusal);
+        }
+    }
+    let found = passed.finish(alloc)?;
+    Ok(found)
+}
+
+impl Passed {
+    /// Of no operations.
+    fn new(alloc: Global) -> Passed
+        ensures { (replica : ℕ) → ArePassed result replica [] }
+    {
+        Passed {
+            clock: Clock::new(alloc),
+            index: Index::new(alloc),
+            numbers: Vec::new(alloc),
+            drafts: Vec::new(alloc),
+            tokens: Gathered::new(alloc),
+        }
+    }
+
+    /// Passes an operation behind the others. `BadOperation` (47) exactly where it may not follow
+    /// them; `Memory` (1) says nothing of that. It is decided before its document's draft takes it.
+    fn pass(
+        &mut self,
+        alloc: Global,
+        replica: ReplicaId,
+        others: &RunSlice<'_>,
+        op: &Op,
+    ) -> Result<(), Refusal>
+        requires { ArePassed self.old replica others.now }
+        ensures passed { OnOk result (ArePassed self.new replica (others.now ++ op.now ∷ [])) }
+        ensures bad { IfErr result (λ e. e ≢ Refusal.Memory
+            → (e ≡ Refusal.BadOperation) × (MayFollow others.now op.now → ⊥)) }
+    {
+        open(alloc, &mut self.numbers, &mut self.drafts, op.doc)?;
+        let has_place = self.numbers.len() <= MAX_DOCUMENTS;
+        if !may_follow(others, &self.clock, &self.index, op, has_place) {
             return Err(Refusal::BadOperation);
         }
-        count(alloc, &mut clock, &mut index, op, i)?;
+        let behind = others.len();
+        count(alloc, &mut self.clock, &mut self.index, op, behind)?;
+        let rev = apply(&mut self.drafts, &self.numbers, op)?;
+        let place = Place {
+            end: (behind + 1) as u32,
+            rev: rev as u32,
+        };
+        self.tokens.count(replica, op, place)?;
+        Ok(())
     }
-    Ok((clock, numbers, index))
+
+    /// The same with documents in place of drafts, and the tokens sorted. An error is out of memory
+    /// (1).
+    fn finish(self, alloc: Global) -> Result<Opened, Refusal>
+        ensures known { IfOk result (λ found. (ops : List Op) (replica : ℕ)
+            → ArePassed self replica ops → AreKnown ops replica found) }
+        ensures memory { IfErr result (λ e. e ≡ Refusal.Memory) }
+    {
+        let Passed {
+            clock,
+            index,
+            drafts,
+            tokens,
+            ..
+        } = self;
+        let docs = finished(alloc, drafts)?;
+        let tokens = tokens.into_tokens(alloc)?;
+        Ok(Opened {
+            clock,
+            docs,
+            index,
+            tokens,
+        })
+    }
 }
 
 /// Counts an operation that may follow the `behind` counted ones, so that the clock has room for

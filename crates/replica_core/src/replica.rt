@@ -90,10 +90,10 @@ impl Replica {
 
     /// The replica as it is after opening a store with this list: all of it is settled.
     /// `BadOperation` (47) exactly where the list isn't causally closed; `Memory` (1) says nothing
-    /// of that. Two passes over the list, each of which makes each operation of the one before it,
-    /// or of its record where it begins a run, and lets that go. An operation takes a few steps for
-    /// clocks, a search by halves for its document, two for each character that it names (one among
-    /// its replica's operations, with one at each step, where that doesn't edit alone), and for an
+    /// of that. One pass over the list, which makes each operation of the one before it, or of its
+    /// record where it begins a run, and lets that go. An operation takes a few steps for clocks, a
+    /// search by halves for its document, two for each character that it names (one among its
+    /// replica's operations, with one at each step, where that doesn't edit alone), and for an
     /// insert a step for each greater id that follows its origin. An own edit with a token takes 32
     /// bytes, which are sorted at the end, when as much again is taken for a while. For each
     /// character 72 bytes, of which 40 are given back before that.

@@ -5,5 +5,6 @@ pub mod Reading
 pub mod Holding
 pub mod Found
 pub mod Appending
+pub mod RightBehind
 pub mod NextOnes
 pub mod Typing

@@ -4,7 +4,7 @@ ghost use Rattle.std.specs.List.Sorted.{IsNonDecreasing};
 ghost use Rattle.run_list.specs.Reading.{below};
 
 /// How many of these places, which rise, are below another one. A search by halves.
-pub fn count_below(places: &[u32], place: usize) -> usize
+pub(crate) fn count_below(places: &[u32], place: usize) -> usize
     requires { IsNonDecreasing places.now }
     ensures { result ≡ below place places.now }
 {
@@ -14,7 +14,7 @@ pub fn count_below(places: &[u32], place: usize) -> usize
 /// Which of the runs that begin at these places, which rise, has what stands there: the last one
 /// that doesn't begin behind it. It is looked for at the end, and where it is if each operation
 /// before begins a run; then by halves.
-pub fn run_of(starts: &[u32], place: usize) -> usize
+pub(crate) fn run_of(starts: &[u32], place: usize) -> usize
     requires rising { IsNonDecreasing starts.now }
     requires some { 0 < below (suc place) starts.now }
     requires small { place < 2 ^ 32 }

@@ -4,6 +4,7 @@
 //! may have sixteen million operations.
 #![tactic(auto)]
 
+mod behind;
 mod extending;
 mod finding;
 mod following;
@@ -13,8 +14,10 @@ mod run_list;
 mod run_reader;
 mod run_reading;
 mod run_slice;
+mod run_writer;
 mod typed;
 
 pub use run_list::RunList;
 pub use run_reader::RunReader;
 pub use run_slice::RunSlice;
+pub use run_writer::RunWriter;

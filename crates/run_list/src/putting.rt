@@ -1,8 +1,10 @@
 //! Operations that are put behind a list of runs.
 ghost use Rattle.std.specs.Prelude.{◌≡◌, ◌+◌, ◌<◌, ◌^◌, [], ◌∷◌, ◌++◌, length, take};
-ghost use Rattle.std.specs.Prelude.{true, false, None, OnOk, OnErr, IfOk};
+ghost use Rattle.std.specs.Prelude.{true, false, None, OnOk, OnErr, IfOk, IsTrue};
 ghost use Rattle.op_model.specs.declared.op.Op.{Op as Operation};
-ghost use Rattle.run_list.specs.Runs.{goes_on as goes_on_of, last_behind, IsTypedBehind};
+ghost use Rattle.op_model.specs.Records.{stream_length};
+ghost use Rattle.op_list.specs.Held.{IsRecord};
+ghost use Rattle.run_list.specs.Runs.{firsts_behind, goes_on as goes_on_of, last_behind, IsTypedBehind};
 
 use crate::marks::{BEGINS, MOST_BYTES, MOST_OPERATIONS};
 use crate::run_list::RunList;
@@ -45,7 +47,18 @@ impl RunList {
         ensures ok { OnOk result (self.new ≡ self.old ++ op.now ∷ []) }
         ensures err { OnErr result (self.new ≡ self.old) }
     {
-        if self.has_next(op)? {
+        let on = self.has_next(op)?;
+        self.push_known(on, op)
+    }
+
+    /// Puts an operation behind the others, where it is known whether it goes on with the run of
+    /// the last one.
+    pub(crate) fn push_known(&mut self, on: bool, op: &Op) -> Result<(), AllocError>
+        requires { on ≡ goes_on_of (last_behind None self.old) op.now }
+        ensures ok { OnOk result (self.new ≡ self.old ++ op.now ∷ []) }
+        ensures err { OnErr result (self.new ≡ self.old) }
+    {
+        if on {
             self.go_on(op)
         } else {
             self.begin_run(op)
@@ -53,7 +66,7 @@ impl RunList {
     }
 
     /// Whether an operation goes on with the run of the last one. An error is out of memory (1).
-    fn has_next(&self, op: &Op) -> Result<bool, AllocError>
+    pub(crate) fn has_next(&self, op: &Op) -> Result<bool, AllocError>
         ensures { IfOk result (λ on. on ≡ goes_on_of (last_behind None self.now) op.now) }
     {
         let len = self.len();
@@ -97,16 +110,50 @@ impl RunList {
         ensures err { OnErr result (self.new ≡ self.old) }
     {
         every_op_has_a_spelling(op);
-        let at = self.marks.len();
-        let bytes = self.firsts.as_slice().length_from(0) as u64;
-        if at >= MOST_OPERATIONS || bytes > MOST_BYTES || op.record_length() > MOST_BYTES - bytes {
+        if !self.has_room_for(op.record_length()) {
             return Err(AllocError);
         }
+        let at = self.marks.len();
         self.marks.reserve(1)?;
         self.starts.reserve(1)?;
         self.firsts.append(std::slice::from_ref(op))?;
         self.starts.push_reserved(at as u32);
         self.marks.push_reserved(BEGINS);
         Ok(())
+    }
+
+    /// Puts the operation behind the others whose record these bytes are, and which begins a run.
+    pub(crate) fn begin_record(&mut self, bytes: &[u8]) -> Result<(), AllocError>
+        requires one { (op : Operation) × IsRecord bytes.now op }
+        requires begins { (op : Operation) → IsRecord bytes.now op
+            → goes_on_of (last_behind None self.old) op ≡ false }
+        ensures ok { OnOk result ((op : Operation) → IsRecord bytes.now op
+            → self.new ≡ self.old ++ op ∷ []) }
+        ensures err { OnErr result (self.new ≡ self.old) }
+    {
+        if !self.has_room_for(bytes.len() as u64) {
+            return Err(AllocError);
+        }
+        let at = self.marks.len();
+        self.marks.reserve(1)?;
+        self.starts.reserve(1)?;
+        self.firsts.append_record(bytes)?;
+        self.starts.push_reserved(at as u32);
+        self.marks.push_reserved(BEGINS);
+        Ok(())
+    }
+
+    /// Whether there is room for one more operation that begins a run, with a record of so many
+    /// bytes.
+    fn has_room_for(&self, bytes: u64) -> bool
+        ensures few { IsTrue result → length self.now + 1 < 2 ^ 32 }
+        ensures short { IsTrue result
+            → stream_length (firsts_behind None self.now) + bytes < 2 ^ 32 }
+    {
+        if self.marks.len() >= MOST_OPERATIONS {
+            return false;
+        }
+        let held = self.firsts.as_slice().length_from(0) as u64;
+        held <= MOST_BYTES && bytes <= MOST_BYTES - held
     }
 }

@@ -11,7 +11,7 @@ use std::alloc::AllocError;
 
 /// The operation that stands so far behind the first one of its run, and types this character. An
 /// error is out of memory (1).
-pub fn typed_at(first: Op, behind: u64, value: char) -> Result<Op, AllocError>
+pub(crate) fn typed_at(first: Op, behind: u64, value: char) -> Result<Op, AllocError>
     requires some { 0 < behind }
     requires fits { IsOperation (typed_at_of first behind value) }
     ensures { IfOk result (λ op. op ≡ typed_at_of first behind value) }
@@ -44,7 +44,7 @@ pub fn typed_at(first: Op, behind: u64, value: char) -> Result<Op, AllocError>
 
 /// The head of the operation that stands so far behind the first one of its run, whose head this
 /// is.
-pub fn head_at(first: OpHead, behind: u64) -> OpHead
+pub(crate) fn head_at(first: OpHead, behind: u64) -> OpHead
     requires some { 0 < behind }
     requires fits { first.id.counter + behind ≤ MAX_COUNTER }
     ensures { result ≡ record {

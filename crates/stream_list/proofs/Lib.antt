@@ -1,5 +1,3 @@
 pub mod AtFront
-pub mod FirstPass
 pub mod PackLemmas
-pub mod SecondPass
-pub mod Surveyed
+pub mod Passing

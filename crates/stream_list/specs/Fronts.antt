@@ -1,12 +1,11 @@
--- What the first pass over a stream says of it.
-use Rattle.std.specs.Prelude.{◌≡◌, ℕ, ◌*◌, ◌≤◌, List, length}
+-- The piece at the front of a stream.
+use Rattle.std.specs.Prelude.{◌≡◌, ℕ, ◌*◌, ◌≤◌, List, ◌++◌, length}
 use Rattle.op_model.specs.declared.op.Op.{Op}
 use Rattle.op_model.specs.Records.{stream_length}
 use Rattle.op_pieces.specs.Pieces.{Run, ops_of}
 use Rattle.change_codec.specs.declared.format.Format.{Format}
 use Rattle.piece_codec.specs.Formats.{IsPieceOf}
 use Rattle.piece_codec.specs.Record.{BeginsWithPiece}
-use Rattle.stream_list.specs.Streams.{SpellsSome}
 use Rattle.stream_list.specs.declared.front.Front.{Front}
 
 -- the most that the records of a piece's operations take, one by one
@@ -26,8 +25,7 @@ pub record BeginsWithFront (format : Format) (bytes : List ℕ) (front : Front) 
 abbrev pub BeginsWithNone : Format → List ℕ → Type 0
 BeginsWithNone format bytes = (p : Run) (n : ℕ) → IsPieceOf format p → BeginsWithPiece bytes p n → ⊥
 
--- the stream spells so many operations, whose records take so many bytes
-pub record IsSurveyed (format : Format) (count : ℕ) (stream : List ℕ) (records : ℕ) : Type 0 where
-  pub ops : List Op
-  pub some : SpellsSome format ops count stream
-  pub measured : records ≡ stream_length ops
+-- and its operations are put behind a list
+pub record PutsFront (format : Format) (bytes : List ℕ) (front : Front) (before after : List Op) : Type 0 where
+  pub begins : BeginsWithFront format bytes front
+  pub put : after ≡ before ++ ops_of begins.piece

@@ -9,7 +9,6 @@ mod listing;
 mod packing;
 mod read_error;
 mod reading;
-mod survey;
 
 pub use packing::packed;
 pub use read_error::ReadError;

@@ -4,12 +4,11 @@ ghost use Rattle.fixed_numbers.specs.declared.limits.TheConstants.{MAX_STREAM_LE
 ghost use Rattle.stream_list.specs.Streams.{HasNone, HasTooLong, SpellsShort};
 ghost use Rattle.stream_list.specs.declared.read_error.ReadError.TheVariants.{Stream, Long};
 
-use crate::listing::listed;
+use crate::listing::list_stream;
 use crate::read_error::ReadError;
-use crate::survey::take_survey;
 use change_codec::Format;
 use fixed_numbers::limits::MAX_STREAM_LENGTH;
-use run_list::RunList;
+use run_list::{RunList, RunWriter};
 use std::alloc::Global;
 
 /// The operations that a stream of a format spells, if they are `count`. `Stream` (46) where the
@@ -18,10 +17,10 @@ use std::alloc::Global;
 /// than 2^30 bytes, as runs are shorter; `Memory` (1) may stand in place of each answer, and says
 /// nothing of the bytes.
 ///
-/// A pass over the bytes tells all but `Memory` first. It ends at the first record that is none or
-/// has too many operations, and takes memory for one run at a time. In a second pass the operations
-/// of one piece after another are put into the list. Until it ends, the bytes of the stream stand
-/// in memory beside the list, in which a typed character takes four bytes.
+/// One pass over the bytes, which ends at the first record that is none or has too many operations.
+/// What it passed is in the list by then: a typed character takes four bytes there, and each other
+/// operation its record and twelve. Until it ends, the bytes of the stream stand in memory beside
+/// the list.
 pub fn read_stream(
     alloc: Global,
     format: Format,
@@ -33,9 +32,10 @@ pub fn read_stream(
     ensures none { IsErrOf result Stream → HasNone format stream.items count }
     ensures long { IsErrOf result Long → HasTooLong format stream.items count }
 {
-    let records = take_survey(alloc, format, count, &stream)?;
+    let mut list = RunWriter::new(alloc);
+    let records = list_stream(alloc, format, count, &stream, &mut list)?;
     if records > MAX_STREAM_LENGTH {
         return Err(ReadError::Long);
     }
-    Ok(listed(alloc, format, &stream)?)
+    Ok(list.into_list())
 }

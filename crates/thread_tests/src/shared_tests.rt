@@ -54,9 +54,7 @@ fn four_edit<J: BookNames + Send + Sync, R: Wait + Clock + Threads + Sync>(
 {
     let (named, mut flusher) = share::<J>(alloc, opened)?;
     let Named { shared, passes } = named;
-    let made = Mutex::new(0);
-    edit_beside(rt, alloc, &shared, &made, passes, &mut flusher);
-    let made = made.into_inner();
+    let made = edit_beside(rt, alloc, &shared, passes, &mut flusher);
     let locked = shared.end().into_locked();
     if locked.fits(&flusher) {
         Some((made, locked.list().len()))
@@ -65,24 +63,26 @@ fn four_edit<J: BookNames + Send + Sync, R: Wait + Clock + Threads + Sync>(
     }
 }
 
-/// Four threads edit while this one flushes.
+/// Four threads edit while this one flushes. Gives how many entries their passes have in all.
 fn edit_beside<J: BookNames + Send + Sync, R: Wait + Clock + Threads + Sync>(
     rt: &R,
     alloc: Global,
     shared: &Shared<J>,
-    made: &Mutex<u64>,
     passes: Vec<Pass<J>>,
     flusher: &mut Flusher<MemDisk>,
-) {
+) -> u64 {
+    let made = Mutex::new(0);
+    let counted = &made;
     thread::scope(thread::scope_env(), rt, |scope| {
         let editing = scope.spawn(move || {
-            all_edit(rt, alloc, shared, made, passes);
+            all_edit(rt, alloc, shared, counted, passes);
             shared.close(rt);
         });
         if editing.is_ok() {
             flush(rt, shared, flusher, &NoCheckpoint);
         }
     });
+    made.into_inner()
 }
 
 /// Four threads edit, each with a pass of its own.

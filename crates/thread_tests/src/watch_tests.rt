@@ -47,25 +47,27 @@ fn watched<J: BookNames, R: Wait + Clock>(
     Some([first, same, shared.watch(rt, 1, Some(1), Duration::ZERO)])
 }
 
-/// Watches while this thread flushes.
+/// Watches while this thread flushes, and gives what was watched.
 fn watch_beside<J: BookNames + Send + Sync, R: Wait + Clock + Threads + Sync>(
     rt: &R,
     alloc: Global,
     shared: &Shared<J>,
     pass: Pass<J>,
-    found: &Mutex<Option<[Watched; 3]>>,
     flusher: &mut Flusher<MemDisk>,
-) {
+) -> Option<[Watched; 3]> {
+    let found = Mutex::new(None);
+    let seen = &found;
     thread::scope(thread::scope_env(), rt, |scope| {
         let watching = scope.spawn(move || {
             let mut pass = pass;
-            *found.lock(rt) = watched(rt, alloc, shared, &mut pass);
+            *seen.lock(rt) = watched(rt, alloc, shared, &mut pass);
             shared.close(rt);
         });
         if watching.is_ok() {
             flush(rt, shared, flusher, &NoCheckpoint);
         }
     });
+    found.into_inner()
 }
 
 /// What document 1 has come to beside an edit that isn't settled, for one who hasn't seen it and for
@@ -107,9 +109,8 @@ fn all_watched<J: BookNames + Send + Sync, R: Wait + Clock + Threads + Sync>(
     let Named { shared, passes } = opened.share::<J>(alloc, locked).ok()?;
     let mut pass = passes.into_iter().next()?;
     let before = unsettled(rt, alloc, &shared, &mut pass)?;
-    let found = Mutex::new(None);
-    watch_beside(rt, alloc, &shared, pass, &found, &mut flusher);
-    Some((before, found.into_inner()?, after_the_end(rt, &shared)))
+    let found = watch_beside(rt, alloc, &shared, pass, &mut flusher)?;
+    Some((before, found, after_the_end(rt, &shared)))
 }
 
 #[test]

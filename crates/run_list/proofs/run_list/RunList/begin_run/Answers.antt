@@ -1,7 +1,13 @@
-use Rattle.std.proofs.Common.{arith, rules}
+use Rattle.std.proofs.Common.{◌≡◌, true, arith, rules}
 use Rattle.run_list.proofs.Holding.{holds_first, marks_long}
 use Rattle.run_list.proofs.Unrolling.{shown, are_runs, held_is}
 use Rattle.run_list.proofs.run_list.RunList.begin_run.Goals as goal
+
+pub overflow_cast-at : goal.overflow_cast-at
+overflow_cast-at c =
+    let holds = shown _ _ _ c.args.self.now c.self.invariant c.self.view_is in
+    let room : c.has_room_for.result ≡ true = cc in
+    omega (arith, marks_long _ _ _ _ holds, c.has_room_for.ensures.few room, c.len-at.ensures)
 
 pub invariant_of-self-2 : goal.invariant_of-self-2
 invariant_of-self-2 c =

@@ -1,0 +1,133 @@
+//! A list of runs that is written from its beginning.
+ghost use Rattle.std.specs.Prelude.{◌≡◌, ◌∷◌, [], ◌++◌, IfOk, OnOk, OnErr, false, None};
+ghost use Rattle.op_model.specs.declared.op.Op.{Op as Operation};
+ghost use Rattle.op_list.specs.Held.{IsRecord};
+ghost use Rattle.op_pieces.specs.Pieces.{ops_of};
+ghost use Rattle.run_list.specs.Runs.{goes_on, last_behind};
+
+use crate::behind::is_right_behind;
+use crate::run_list::RunList;
+use change_codec::{CodecError, Format, take_op};
+use op_model::Op;
+use op_pieces::{Piece, is_next};
+use std::alloc::{AllocError, Global};
+use std::marker::Model;
+
+/// Writes a list of runs from its beginning on, as a file has it: by records of operations and by
+/// pieces. Contracts see the list.
+#[derive(Debug, Drop)]
+pub struct RunWriter {
+    list: RunList,
+    /// The last operation, if it is known.
+    last: Option<Op>,
+}
+
+impl Model for RunWriter {
+    ghost use Rattle.std.specs.Prelude.{List};
+    ghost use Rattle.op_model.specs.declared.op.Op.{Op};
+    ghost use Rattle.run_list.specs.Writer.{KnowsLast};
+
+    ghost Value = { List Op };
+
+    ghost view = { λ w. w.list };
+
+    ghost invariant = { λ w. KnowsLast w.list w.last };
+}
+
+impl RunWriter {
+    /// A writer of the empty list. Takes no memory.
+    pub fn new(alloc: Global) -> RunWriter
+        ensures { result ≡ [] }
+    {
+        RunWriter {
+            list: RunList::new(alloc),
+            last: None,
+        }
+    }
+
+    /// The list that was written. Constant.
+    pub fn into_list(self) -> RunList
+        ensures { result ≡ self }
+    {
+        let RunWriter { list, .. } = self;
+        list
+    }
+
+    /// Puts the operation behind the others whose record these bytes are. Refuses as
+    /// `RunList::append` does. Linear in the record, which is copied as it is unless the operation
+    /// may go on with the run of the last one.
+    pub fn put_record(&mut self, bytes: &[u8]) -> Result<(), AllocError>
+        requires { (op : Operation) × IsRecord bytes.now op }
+        ensures ok { OnOk result ((op : Operation) → IsRecord bytes.now op
+            → self.new ≡ self.old ++ op ∷ []) }
+        ensures err { OnErr result (self.new ≡ self.old) }
+    {
+        if self.may_go_on(bytes) {
+            let op = read_record(self.list.allocator(), bytes)?;
+            self.put(op)?;
+        } else {
+            self.last = None;
+            self.list.begin_record(bytes)?;
+        }
+        Ok(())
+    }
+
+    /// Puts the operations of a piece behind the others: all of them, or none. Refuses as
+    /// `RunList::append` does. Linear in the records of the last operation and of the piece's first
+    /// one, and in the characters of the others.
+    pub fn put_piece(&mut self, piece: &Piece) -> Result<(), AllocError>
+        ensures ok { OnOk result (self.new ≡ self.old ++ ops_of piece.now) }
+        ensures err { OnErr result (self.new ≡ self.old) }
+    {
+        self.last = None;
+        self.list.append_piece(piece)
+    }
+
+    /// Whether the operation of a record may go on with the run of the last one: it does only where
+    /// this says so.
+    fn may_go_on(&self, bytes: &[u8]) -> bool
+        requires { (op : Operation) × IsRecord bytes.now op }
+        ensures { result ≡ false → (op : Operation) → IsRecord bytes.now op
+            → goes_on (last_behind None self.now) op ≡ false }
+    {
+        let len = self.list.len();
+        if len == 0 {
+            return false;
+        }
+        is_right_behind(self.list.head(len - 1), bytes)
+    }
+
+    /// Puts an operation behind the others.
+    fn put(&mut self, op: Op) -> Result<(), AllocError>
+        ensures ok { OnOk result (self.new ≡ self.old ++ op ∷ []) }
+        ensures err { OnErr result (self.new ≡ self.old) }
+    {
+        let on = self.is_next(&op)?;
+        self.list.push_known(on, &op)?;
+        self.last = Some(op);
+        Ok(())
+    }
+
+    /// Whether an operation goes on with the run of the last one. An error is out of memory (1).
+    fn is_next(&self, op: &Op) -> Result<bool, AllocError>
+        ensures { IfOk result (λ on. on ≡ goes_on (last_behind None self.now) op.now) }
+    {
+        match &self.last {
+            Some(last) => Ok(is_next(last, op)),
+            None => self.list.has_next(op),
+        }
+    }
+}
+
+/// The operation of a record. An error is out of memory (1).
+fn read_record(alloc: Global, bytes: &[u8]) -> Result<Op, AllocError>
+    requires { (op : Operation) × IsRecord bytes.now op }
+    ensures { IfOk result (λ op. IsRecord bytes.now op) }
+{
+    match take_op(alloc, Format::Third, bytes) {
+        Ok(Some((op, _))) => Ok(op),
+        Ok(None) => unreachable!(),
+        Err(CodecError::Memory) => Err(AllocError),
+        Err(_) => unreachable!(),
+    }
+}
