@@ -114,6 +114,8 @@ class Again(WithDaemon):
                     session.stop()
                     with self.assertRaises(peritext.Ended):
                         next(revs)
+                # A file is free once its program has ended, which is after its connections.
+                self.daemon.ended()
                 self.daemon = Daemon(self.name)
                 self.addCleanup(self.daemon.kill)
 
