@@ -1,7 +1,9 @@
 -- One chunk: a cell that is put in, and a cell that becomes a tombstone.
 use Rattle.std.proofs.Common.{◌≡◌, ℕ, zero, suc, ◌+◌, ◌-◌, ◌≤◌, ◌<◌, Bool, true, false, not, List, [], ◌∷◌, ◌++◌, length, length-append, length-set}
-use Rattle.std.proofs.Common.{take, drop, get_or, Some, refl, sym, ◌∙◌, ap, arith}
-use Rattle.std.specs.Prelude.{slice_get, slice_set}
+use Rattle.std.proofs.Common.{take, drop, get_or, length-drop, get_or-drop, Some, None, refl, sym, ◌∙◌, ap, arith}
+use Rattle.std.specs.Prelude.{slice_get, slice_range, slice_set}
+use Rattle.std.proofs.Math.Seq.{take-suc}
+use Rattle.std.proofs.lemmas.Option.{get_or_from_slice_get, slice_get_within}
 use Rattle.std.proofs.lemmas.List.{take-append-drop}
 use Rattle.std.proofs.lemmas.List.Elements.{filter-append}
 use Rattle.std.proofs.lemmas.List.Sums.{count_by-le-length, length-filter}
@@ -62,12 +64,6 @@ put_hidden cells j visible c is room hidden =
     let many = is.counted in
     record { some = omega arith; few = omega arith; counted = omega arith }
 
--- what is read at an index is the cell there
-pub read_is : (cells : List Cell) (j : ℕ) (c x : Cell) → slice_get cells j ≡ Some c → x ≡ get_or cells j x → x ≡ c
-read_is [] j c x there is_it = absurd (cc)
-read_is (y ∷ cells) zero c x there is_it = let first : y ≡ c = cc in is_it ∙ first
-read_is (y ∷ cells) (suc j) c x there is_it = read_is cells j c x there is_it
-
 -- one visible cell less, where that cell becomes a tombstone
 less_shown : (cells : List Cell) (j : ℕ) (x : Cell) → j < length cells → x ≡ get_or cells j x → x.is_removed ≡ false
     → length (shown cells) ≡ suc (length (shown (slice_set cells j (record x { is_removed = true }))))
@@ -114,3 +110,27 @@ few_shown cells visible is =
     let many = is.counted in
     let few = is.few in
     omega arith
+
+-- a cell that is put where it stands
+pub same_set : (cells : List Cell) (j : ℕ) (c : Cell) → slice_get cells j ≡ Some c → slice_set cells j c ≡ cells
+same_set [] j c there = absurd (cc)
+same_set (y ∷ cells) zero c there = let first : y ≡ c = cc in rw first refl
+same_set (y ∷ cells) (suc j) c there = ap (λ cs. y ∷ cs) (same_set cells j c there)
+
+-- within a list there is a cell
+pub not_past : (cells : List Cell) (j : ℕ) → slice_get cells j ≡ None → j < length cells → ⊥
+not_past [] j none within = omega arith
+not_past (c ∷ cells) zero none within = cc
+not_past (c ∷ cells) (suc j) none within = not_past cells j none (omega arith)
+
+-- one cell more of them is copied
+pub copied : (cells : List Cell) (from j : ℕ) (c : Cell) → from ≤ j → slice_get cells j ≡ Some c
+    → slice_range cells from (j + 1) ≡ slice_range cells from j ++ c ∷ []
+copied cells from j c rising there =
+    let within : j < length cells = slice_get_within cells j c there in
+    let left = length-drop from cells in
+    let one : (j + 1) - from ≡ suc (j - from) = omega arith in
+    let at : from + (j - from) ≡ j = omega arith in
+    let here : get_or (drop from cells) (j - from) c ≡ c =
+    get_or-drop from cells (j - from) c ∙ (ap (λ n. get_or cells n c) at ∙ get_or_from_slice_get cells j c c there) in
+    rw one (take-suc (drop from cells) (j - from) c (omega arith) ∙ ap (λ x. take (j - from) (drop from cells) ++ x ∷ []) here)

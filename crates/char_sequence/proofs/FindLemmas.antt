@@ -20,13 +20,14 @@ no_chunk_has [] (suc i) id none = refl
 no_chunk_has (k ∷ ks) zero id none = absurd (cc)
 no_chunk_has (k ∷ ks) (suc i) id none = no_chunk_has ks i id none
 
+-- the cell that has an id is there
+pub cell_there : (found : Option Cell) (id : Id) → has_id_at found id ≡ true → (c : Cell) × (found ≡ Some c) × (is_same c.id id ≡ true)
+cell_there None id is = absurd (cc)
+cell_there (Some c) id is = (c, refl, is)
+
 -- a cell with this id is at its place
 pub is_place_of : (held : ChunkCells) (id : Id) (i j : ℕ) → has_id_at (cell_at held i j) id ≡ true → IsPlaceOf held id i j
-is_place_of held id i j is = go (cell_at held i j) refl is
-  where
-    go : (found : Option Cell) → cell_at held i j ≡ found → has_id_at found id ≡ true → IsPlaceOf held id i j
-    go None there is_it = absurd (cc)
-    go (Some c) there is_it = record { c = c; cell = there; same = is_it }
+is_place_of held id i j is = let one = cell_there (cell_at held i j) id is in record { c = one.0; cell = one.1; same = one.2 }
 
 -- a cell of a chunk is an item of it
 cell_of_chunk : (held : ChunkCells) (i j : ℕ) → cell_at held i j ≡ slice_get (get_or held i []) j
@@ -36,7 +37,7 @@ cell_of_chunk (k ∷ ks) zero j = refl
 cell_of_chunk (k ∷ ks) (suc i) j = cell_of_chunk ks i j
 
 -- a cell without the id can be passed
-pass_cell : (cs : List Cell) (j : ℕ) (id : Id) → has_id_at (slice_get cs j) id ≡ false → has_cell (drop j cs) id ≡ has_cell (drop (j + 1) cs) id
+pub pass_cell : (cs : List Cell) (j : ℕ) (id : Id) → has_id_at (slice_get cs j) id ≡ false → has_cell (drop j cs) id ≡ has_cell (drop (j + 1) cs) id
 pass_cell [] zero id other = refl
 pass_cell [] (suc j) id other = rw add-one refl
 pass_cell (c ∷ cs) zero id other = rw other refl

@@ -1,3 +1,4 @@
+pub mod PackedLemmas
 pub mod CutLemmas
 pub mod ContentLemmas
 pub mod PlaceLemmas

@@ -1,13 +1,13 @@
 -- What a weave shows, with one character more, or with one removed.
-use Rattle.std.proofs.Common.{◌≡◌, ℕ, zero, suc, ◌+◌, ◌-◌, ◌≤◌, ◌<◌, Bool, true, false, if◌then◌else◌, List, [], ◌∷◌, ◌++◌, length, length-drop, take}
+use Rattle.std.proofs.Common.{◌≡◌, ℕ, zero, suc, ◌+◌, ◌-◌, ◌≤◌, ◌<◌, true, false, List, [], ◌∷◌, ◌++◌, length, length-drop, take}
 use Rattle.std.proofs.Common.{drop}
-use Rattle.std.proofs.Common.{get_or, Option, Some, None, refl, sym, ◌∙◌, ap, subst, append_assoc, append-nil, arith}
+use Rattle.std.proofs.Common.{Option, Some, None, refl, sym, ◌∙◌, ap, subst, append_assoc, append-nil, arith}
 use Rattle.std.specs.List.{cons_option}
 use Rattle.std.specs.Prelude.{slice_get, slice_set}
 use Rattle.op_ids.specs.Id.{Id, is_same}
 use Rattle.op_model.specs.declared.op.Body.TheVariants.{Insert, Remove}
 use Rattle.char_sequence.specs.declared.cell.Cell.{Cell}
-use Rattle.char_sequence.specs.Cells.{inserted, past_greater, place_of, raised}
+use Rattle.char_sequence.specs.Cells.{inserted, past_greater}
 use Rattle.char_sequence.specs.Content.{TakesCell}
 use Rattle.char_sequence.specs.Links.{cell_at_place, followed, next_of, Leads, Passes}
 use Rattle.char_sequence.specs.Weave.{IsWoven, Starts, Weaves, woven}
@@ -15,25 +15,6 @@ use Rattle.char_sequence.proofs.HoldsLemmas.{takes_insert, takes_remove}
 use Rattle.char_sequence.proofs.LinkLemmas.{leads_at}
 use Rattle.char_sequence.proofs.OnceLemmas.{once_content}
 use Rattle.char_sequence.proofs.WeaveLemmas.{woven_insert, removed_there, IsFound}
-
--- what is counted nowhere has no cell
--- the cell at the place of an id has it
-pub place_has : (cells : List Cell) (id : Id) (i : ℕ) → place_of id cells ≡ Some i
-    → (c : Cell) × (slice_get cells i ≡ Some c) × (is_same c.id id ≡ true)
-place_has [] id i there = absurd (cc)
-place_has (c ∷ cells) id i there = go (is_same c.id id) refl (place_of id cells) (place_has cells id) there
-  where
-    go : (same : Bool) → is_same c.id id ≡ same → (rest : Option ℕ)
-        → ((k : ℕ) → rest ≡ Some k → (d : Cell) × (slice_get cells k ≡ Some d) × (is_same d.id id ≡ true))
-        → (if same then Some 0 else raised 1 rest) ≡ Some i
-        → (d : Cell) × (slice_get (c ∷ cells) i ≡ Some d) × (is_same d.id id ≡ true)
-    go true it rest later is = let first : 0 ≡ i = cc in (c, rw (sym first) refl, it)
-    go false it None later is = absurd (cc)
-    go false it (Some k) later is =
-        let up : 1 + k ≡ i = cc in
-        let shift : i ≡ suc k = omega arith in
-        let one = later k refl in
-        (one.0, rw shift one.1, one.2)
 
 -- the links lead to what is woven
 followed_led : (cells : List Cell) (next : List ℕ) (at : ℕ) (ps : List ℕ) (cs : List Cell) → Leads cells next at ps cs
@@ -96,20 +77,10 @@ takes_remove_in target old new order at c it same is_new id ops doc op fits same
     let once = once_content old ops doc holds in
     takes_remove target old new (is_new ∙ sym (removed_there order old c at target it same once)) id ops doc op fits same_id same_body holds
 
--- what is read at an index is the cell there
-read_there : (cells : List Cell) (i : ℕ) (c x : Cell) → cell_at_place cells (suc i) ≡ Some c → x ≡ get_or cells i x → x ≡ c
-read_there [] i c x there is_it = absurd (cc)
-read_there (y ∷ cells) zero c x there is_it = let first : y ≡ c = cc in is_it ∙ first
-read_there (y ∷ cells) (suc i) c x there is_it = read_there cells i c x there is_it
-
--- what is read before a place, counted from 1, is the cell there
-pub read_found : (cells : List Cell) (at : ℕ) (c x : Cell) → cell_at_place cells at ≡ Some c → x ≡ get_or cells (at - 1) x
-    → (x ≡ c) × (cell_at_place cells (suc (at - 1)) ≡ Some x)
-read_found cells zero c x there is_it = absurd (cc)
-read_found cells (suc i) c x there is_it =
-    let back : suc i - 1 ≡ i = omega arith in
-    let same : x ≡ c = read_there cells i c x there (rw back at is_it) in
-    (same, rw back (there ∙ ap Some (sym same)))
+-- the cell at a place, counted from 1, stands before it
+pub read_found : (cells : List Cell) (at : ℕ) (c : Cell) → cell_at_place cells at ≡ Some c → slice_get cells (at - 1) ≡ Some c
+read_found cells zero c there = absurd (cc)
+read_found cells (suc i) c there = let back : suc i - 1 ≡ i = omega arith in rw back there
 
 -- one link more is followed
 followed_more : (cells : List Cell) (next : List ℕ) (at n i : ℕ) → i < n

@@ -1,10 +1,9 @@
 -- Used by private functions and proofs alone.
 --
 -- Cells in the order of the text, and what the calls of a sequence make of them.
-use Rattle.std.specs.Prelude.{◌≡◌, ◌<◌, ◌++◌, length, take, drop, slice_set, ℕ, ◌+◌, ◌-◌, ◌==◌, Bool, true, false, not, if◌then◌else◌, List, [], ◌∷◌}
+use Rattle.std.specs.Prelude.{ℕ, ◌+◌, ◌-◌, ◌==◌, Bool, true, false, not, if◌then◌else◌, List, [], ◌∷◌}
 use Rattle.std.specs.Prelude.{map, filter, Option, Some, None}
 use Rattle.std.specs.List.{list_any}
-use Rattle.std.proofs.Common.{get_or}
 use Rattle.op_ids.specs.Id.{Id, is_below, is_same}
 use Rattle.char_sequence.specs.declared.cell.Cell.{Cell}
 
@@ -50,13 +49,6 @@ place_of id (c ∷ cs) = if is_same c.id id then Some 0 else raised 1 (place_of 
 -- the cells that a reader sees
 abbrev pub shown : List Cell → List Cell
 shown cs = filter (λ c. not c.is_removed) cs
-
--- the cell of this id is the i-th: what goes behind it goes behind the first i + 1 cells, and it alone is removed
-pub record IsAt (id : Id) (cs : List Cell) (i : ℕ) : Type 0 where
-  pub within : i < length cs
-  pub known : has_cell cs id ≡ true
-  pub behind : (c : Cell) → behind id c cs ≡ take (i + 1) cs ++ past_greater c (drop (i + 1) cs)
-  pub removed : (c : Cell) → c ≡ get_or cs i c → removed id cs ≡ slice_set cs i (record c { is_removed = true })
 
 -- the id of the k-th cell that a reader sees, counted from 0
 abbrev pub shown_at : List Cell → ℕ → Option Id

@@ -4,6 +4,7 @@ pub mod Finding
 pub mod Gaps
 pub mod Landing
 pub mod Links
+pub mod Packed
 pub mod Reading
 pub mod Sums
 pub mod Content

@@ -1,11 +1,12 @@
 //! A chunk of cells.
 ghost use Rattle.std.specs.Prelude.{◌≡◌, ◌++◌, ◌∷◌, ◌<◌, ◌≤◌, length, take, drop};
-ghost use Rattle.std.specs.Prelude.{slice_get, slice_set, count_by, not, true};
+ghost use Rattle.std.specs.Prelude.{slice_get, slice_range, slice_set, count_by, not, true};
 ghost use Rattle.std.specs.Prelude.{Some, IfOk, OnOk, OnErr};
 ghost use Rattle.char_sequence.specs.declared.cell.Cell as cell;
 ghost use Rattle.char_sequence.specs.Cells.{shown as shown_of};
 
 use crate::cell::Cell;
+use crate::cell_list::CellList;
 use std::alloc::{AllocError, Global};
 use std::marker::Model;
 
@@ -18,7 +19,7 @@ pub(crate) const MIN_CHUNK: usize = 256;
 /// From 1 to 512 cells in the order of the text, and how many of them a reader sees.
 #[derive(Debug, Drop)]
 pub struct Chunk {
-    cells: Vec<Cell>,
+    cells: CellList,
     shown: usize,
 }
 
@@ -30,9 +31,9 @@ impl Model for Chunk {
 
     ghost use Rattle.char_sequence.specs.Chunks.{IsChunk};
 
-    ghost view = { λ c. c.cells.items };
+    ghost view = { λ c. c.cells };
 
-    ghost invariant = { λ c. IsChunk c.cells.items c.shown };
+    ghost invariant = { λ c. IsChunk c.cells c.shown };
 }
 
 impl Chunk {
@@ -43,25 +44,32 @@ impl Chunk {
         ensures { IfOk result (λ chunk. chunk ≡ cells.now) }
     {
         Ok(Chunk {
-            cells: Vec::from_slice(alloc, cells)?,
+            cells: CellList::of(alloc, cells)?,
             shown: shown_in(cells),
         })
     }
 
-    /// All its cells. Constant.
-    pub fn cells(&self) -> &[Cell]
-        ensures cells { result.now ≡ self.now }
-        ensures few { length result.now ≤ MAX_CHUNK }
+    /// Puts its cells from one on and before another one behind others. An error is out of memory
+    /// (1). A step for each.
+    pub fn copy(&self, from: usize, end: usize, into: &mut Vec<Cell>) -> Result<(), AllocError>
+        requires rising { from ≤ end }
+        requires within { end ≤ length self.now }
+        ensures { OnOk result (into.new.items
+            ≡ into.old.items ++ slice_range self.now from end) }
     {
-        let _ = self.shown;
-        self.cells.as_slice()
+        for j in from..end {
+            if let Some(cell) = self.cells.get(j) {
+                into.push(cell)?;
+            }
+        }
+        Ok(())
     }
 
     /// A cell of it, or `None` past the last one. Constant.
     pub fn cell(&self, j: usize) -> Option<Cell>
         ensures { result ≡ slice_get self.now j }
     {
-        self.cells.get(j).copied()
+        self.cells.get(j)
     }
 
     /// How many cells it has, tombstones too. Constant.
@@ -109,10 +117,11 @@ impl Chunk {
             → self.new ≡ slice_set self.old j (record c { is_removed = true }) }
         ensures len { length self.new ≡ length self.old }
     {
-        let cell = &mut self.cells[j];
-        if !cell.is_removed {
-            cell.is_removed = true;
-            self.shown -= 1;
+        if let Some(cell) = self.cells.get(j) {
+            if !cell.is_removed {
+                self.cells.remove(j);
+                self.shown -= 1;
+            }
         }
     }
 }

@@ -13,7 +13,7 @@ ghost use Rattle.char_sequence.specs.declared.groups.TheConstants.{GROUP};
 use crate::cell::Cell;
 use crate::chunk::{Chunk, shown_in};
 use crate::chunk_size::ChunkSize;
-use crate::cutting::{cells_at, cut, joined, replace};
+use crate::cutting::{cut, joined, replace};
 use crate::groups::{GROUP, count, recount};
 use crate::place::Place;
 use op_model::Ticks;
@@ -175,7 +175,7 @@ impl Chunks {
         ensures err { OnErr result (self.new ≡ self.old) }
     {
         let alloc = *self.chunks.allocator();
-        let all = joined(alloc, cells_at(&self.chunks, i), j, cells)?;
+        let all = joined(alloc, &self.chunks, i, j, cells)?;
         let cut = cut(alloc, &all)?;
         let before = self.chunks.len();
         if cut.len() > MOST_CHUNKS - before {

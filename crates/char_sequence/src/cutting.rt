@@ -8,16 +8,29 @@ use crate::cell::Cell;
 use crate::chunk::{Chunk, MAX_CHUNK, MIN_CHUNK};
 use std::alloc::{AllocError, Global};
 
-/// The cells of a chunk, with a run of cells before the j-th one. An error is out of memory (1).
-pub fn joined(alloc: Global, old: &[Cell], j: usize, run: &[Cell]) -> Result<Vec<Cell>, AllocError>
-    requires { j ≤ length old.now }
-    ensures { IfOk result (λ all. all.items ≡ take j old.now ++ (run.now ++ drop j old.now)) }
+/// The cells of the i-th chunk, with a run of cells before its j-th one; where there is no i-th, the
+/// run. An error is out of memory (1).
+pub fn joined(
+    alloc: Global,
+    chunks: &[Chunk],
+    i: usize,
+    j: usize,
+    run: &[Cell],
+) -> Result<Vec<Cell>, AllocError>
+    requires { j ≤ length (get_or chunks.now i []) }
+    ensures { IfOk result (λ all. all.items
+        ≡ take j (get_or chunks.now i []) ++ (run.now ++ drop j (get_or chunks.now i []))) }
 {
-    let mut all = Vec::with_capacity(alloc, old.len() + run.len())?;
-    all.extend_from_slice(&old[..j])?;
-    all.extend_from_slice(run)?;
-    all.extend_from_slice(&old[j..])?;
-    Ok(all)
+    match chunks.get(i) {
+        None => Vec::from_slice(alloc, run),
+        Some(chunk) => {
+            let mut all = Vec::with_capacity(alloc, chunk.len().saturating_add(run.len()))?;
+            chunk.copy(0, j, &mut all)?;
+            all.extend_from_slice(run)?;
+            chunk.copy(j, chunk.len(), &mut all)?;
+            Ok(all)
+        }
+    }
 }
 
 /// Chunks of these cells: one, if they are at most 512; else of 256 each, but the last one, which
@@ -39,16 +52,6 @@ pub fn cut(alloc: Global, cells: &[Cell]) -> Result<Vec<Chunk>, AllocError>
     }
     chunks.push(Chunk::of(alloc, &cells[from..])?)?;
     Ok(chunks)
-}
-
-/// The cells of the i-th chunk, or none past the last one. Constant.
-pub fn cells_at(chunks: &[Chunk], i: usize) -> &[Cell]
-    ensures { result.now ≡ get_or chunks.now i [] }
-{
-    match chunks.get(i) {
-        Some(chunk) => chunk.cells(),
-        None => &[],
-    }
 }
 
 /// Puts these chunks in place of the i-th one, or behind all where there is no i-th. An error is

@@ -9,6 +9,7 @@ ghost use Rattle.char_sequence.specs.Finding.{has_id_at};
 use crate::chunks::Chunks;
 use crate::hints::Hints;
 use crate::place::Place;
+use crate::search::has_id;
 use op_ids::OpId;
 use op_model::Ticks;
 
@@ -39,10 +40,7 @@ pub fn place(chunks: &Chunks, hints: &Hints, id: &OpId) -> Option<Place>
 fn is_at(chunks: &Chunks, place: &Place, id: &OpId) -> bool
     ensures { result ≡ has_id_at (cell_at chunks.now place.now.chunk place.now.at) id.now }
 {
-    match chunks.cell(place.chunk, place.at, &mut Ticks::new()) {
-        Some(cell) => cell.id.is_same(*id),
-        None => false,
-    }
+    has_id(chunks.cell(place.chunk, place.at, &mut Ticks::new()), id)
 }
 
 /// The place of an id in a chunk.

@@ -6,6 +6,7 @@
 
 mod applying;
 mod cell;
+mod cell_list;
 mod chunk;
 mod chunk_size;
 mod chunks;
@@ -20,6 +21,7 @@ mod hidden;
 mod hints;
 mod landing;
 mod links;
+mod packed_cell;
 mod place;
 mod reading;
 mod search;

@@ -4,6 +4,7 @@ ghost use Rattle.char_sequence.specs.declared.cell.Cell.{Cell};
 ghost use Rattle.char_sequence.specs.Links.{cell_at_place, next_of as next_of_place, Leads, Passes};
 
 use crate::cell::Cell;
+use crate::cell_list::CellList;
 
 /// The place of the character behind a place in the text, or 0 behind the last one. Constant.
 pub fn next_of(next: &[u32], at: usize) -> u32
@@ -16,17 +17,17 @@ pub fn next_of(next: &[u32], at: usize) -> u32
 }
 
 /// The character at a place, counted from 1, or `None` where there is none. Constant.
-pub fn cell_at(cells: &[Cell], at: usize) -> Option<Cell>
+pub fn cell_at(cells: &CellList, at: usize) -> Option<Cell>
     ensures { result ≡ cell_at_place cells.now at }
 {
     if at == 0 {
         return None;
     }
-    cells.get(at - 1).copied()
+    cells.get(at - 1)
 }
 
 /// The place that a character goes behind: from a place on past all greater ids that follow.
-pub fn past(cells: &[Cell], next: &[u32], from: usize, cell: &Cell) -> usize
+pub fn past(cells: &CellList, next: &[u32], from: usize, cell: &Cell) -> usize
     ensures { (order : List ℕ) (cs : List Cell) → Leads cells.now next.now from order cs
         → length order ≤ length cells.now → Passes cell.now from order cs result }
 {

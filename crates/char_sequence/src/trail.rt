@@ -1,5 +1,5 @@
 //! The places of one replica's characters in a weave.
-use crate::cell::Cell;
+use crate::cell_list::CellList;
 use op_ids::{OpId, ReplicaId};
 use std::alloc::{AllocError, Global};
 
@@ -32,7 +32,7 @@ pub fn note(
 
 /// The place where a character should be, counted from 1, or 0. A few steps where its replica
 /// inserts alone, else a binary search among its characters.
-pub fn hinted(trails: &[Trail], cells: &[Cell], id: &OpId) -> usize {
+pub fn hinted(trails: &[Trail], cells: &CellList, id: &OpId) -> usize {
     for trail in trails {
         if trail.replica == id.replica() {
             return searched(&trail.places, cells, id.counter());
@@ -42,7 +42,7 @@ pub fn hinted(trails: &[Trail], cells: &[Cell], id: &OpId) -> usize {
 }
 
 /// Of these places, whose counters rise, the one with a counter, or 0.
-fn searched(places: &[u32], cells: &[Cell], counter: u64) -> usize {
+fn searched(places: &[u32], cells: &CellList, counter: u64) -> usize {
     let first = match places.first() {
         Some(place) => counter_at(cells, *place),
         None => return 0,
@@ -59,7 +59,7 @@ fn searched(places: &[u32], cells: &[Cell], counter: u64) -> usize {
 }
 
 /// The counter of the character at a place, or 0.
-fn counter_at(cells: &[Cell], place: u32) -> u64 {
+fn counter_at(cells: &CellList, place: u32) -> u64 {
     match cells.get((place as usize).saturating_sub(1)) {
         Some(cell) => cell.id.counter(),
         None => 0,

@@ -13,6 +13,7 @@ ghost use Rattle.char_sequence.specs.Weave.{Starts, Weaves};
 ghost use Rattle.char_sequence.specs.Woven.{IsWovenOf};
 
 use crate::cell::Cell;
+use crate::cell_list::CellList;
 use crate::chunks::Chunks;
 use crate::error::SequenceError;
 use crate::hints::Hints;
@@ -29,12 +30,12 @@ const MAX_CELLS: usize = 4_294_967_294;
 
 /// The characters of one document while many operations are taken, one after another: where a
 /// `Sequence` moves the characters of a chunk, this links an insert in. Each character keeps its
-/// place in the order in which it came; 36 bytes a character, and 4 for the hint by which it is
+/// place in the order in which it came; 16 bytes a character, and 4 for the hint by which it is
 /// found.
 #[derive(Debug, Drop)]
 pub struct Weave {
     /// The characters in the order in which they came.
-    cells: Vec<Cell>,
+    cells: CellList,
     /// By place, counted from 1, the place of the character behind it in the text, or 0 behind the
     /// last one. The entry at 0 is the first character's.
     next: Vec<u32>,
@@ -48,9 +49,9 @@ impl Model for Weave {
 
     ghost use Rattle.char_sequence.specs.Weave.{woven, IsWoven};
 
-    ghost view = { λ w. woven w.cells.items w.next.items };
+    ghost view = { λ w. woven w.cells w.next.items };
 
-    ghost invariant = { λ w. IsWoven w.cells.items w.next.items };
+    ghost invariant = { λ w. IsWoven w.cells w.next.items };
 }
 
 impl Weave {
@@ -61,7 +62,7 @@ impl Weave {
         let mut next = Vec::new(alloc);
         next.push(0)?;
         Ok(Weave {
-            cells: Vec::new(alloc),
+            cells: CellList::new(alloc),
             next,
             trails: Vec::new(alloc),
         })
@@ -93,15 +94,10 @@ impl Weave {
             value,
             is_removed: false,
         };
-        let slot = make_room(
-            &mut self.cells,
-            &mut self.next,
-            &mut self.trails,
-            id.replica(),
-        )?;
+        let slot = make_room(&mut self.next, &mut self.trails, id.replica())?;
         let at = past(&self.cells, &self.next, from, &cell);
         let behind = next_of(&self.next, at);
-        self.cells.push_reserved(cell);
+        self.cells.push(cell)?;
         self.next.push_reserved(behind);
         tie(&mut self.next, at, slot);
         Ok(())
@@ -121,8 +117,7 @@ impl Weave {
             Some(at) => at,
             None => return Err(SequenceError::UnknownId),
         };
-        let cell = &mut self.cells[at - 1];
-        cell.is_removed = true;
+        self.cells.remove(at - 1);
         Ok(())
     }
 
@@ -159,7 +154,7 @@ impl Weave {
 }
 
 /// The place where what hangs from an origin begins, or `None` where the origin isn't there.
-fn start_of(trails: &[Trail], cells: &[Cell], origin: &Option<OpId>) -> Option<usize>
+fn start_of(trails: &[Trail], cells: &CellList, origin: &Option<OpId>) -> Option<usize>
     ensures { (next : List ℕ) (cs : List Cell) (w : Weaves cells.now next cs)
         → MatchOption result (is_known cs origin.now ≡ false)
         (λ from. (is_known cs origin.now ≡ true) × Starts w.order cs origin.now from) }
@@ -172,7 +167,7 @@ fn start_of(trails: &[Trail], cells: &[Cell], origin: &Option<OpId>) -> Option<u
 
 /// The place of the character of an id, counted from 1, or `None` where there is none. A binary
 /// search; a search of all only where the hint is wrong.
-fn place_of(trails: &[Trail], cells: &[Cell], id: &OpId) -> Option<usize>
+fn place_of(trails: &[Trail], cells: &CellList, id: &OpId) -> Option<usize>
     ensures { MatchOption result (has_cell cells.now id.now ≡ false)
         (λ at. (c : Cell) × (cell_at_place cells.now at ≡ Some c)
         × (is_same c.id id.now ≡ true)) }
@@ -183,33 +178,26 @@ fn place_of(trails: &[Trail], cells: &[Cell], id: &OpId) -> Option<usize>
             return Some(hint);
         }
     }
-    match place(cells, id) {
-        Some(i) => Some(i + 1),
-        None => None,
-    }
+    place(cells, id)
 }
 
-/// Makes room for a character of a replica, and gives its place. An error is out of memory (1), or
-/// the limit of a weave; the characters stay as they are.
+/// Makes room for the link of a replica's character, and gives its place. An error is out of memory
+/// (1), or the limit of a weave; the links stay as they are.
 fn make_room(
-    cells: &mut Vec<Cell>,
     next: &mut Vec<u32>,
     trails: &mut Vec<Trail>,
     replica: ReplicaId,
 ) -> Result<u32, AllocError>
-    ensures cells { cells.new.items ≡ cells.old.items }
     ensures next { next.new.items ≡ next.old.items }
-    ensures room { OnOk result ((vec_len cells.new < vec_capacity cells.new)
-        × (vec_len next.new < vec_capacity next.new)) }
+    ensures room { OnOk result (vec_len next.new < vec_capacity next.new) }
     ensures slot { IfOk result (λ slot. slot ≡ length next.old.items) }
 {
     let slot = next.len();
     if slot > MAX_CELLS {
         return Err(AllocError);
     }
-    cells.reserve(1)?;
     next.reserve(1)?;
-    let alloc = *cells.allocator();
+    let alloc = *next.allocator();
     note(trails, alloc, replica, slot as u32)?;
     Ok(slot as u32)
 }

@@ -8,9 +8,9 @@ overflow_add-self c = let few = few_shown _ _ c.self.invariant in omega arith
 pub invariant_of-self-then-not-is_removed : goal.invariant_of-self-then-not-is_removed
 invariant_of-self-then-not-is_removed c =
     let room = rw (← c.self.view_is) at c.requires.room in
-    rw c.in_ok-insert.ensures.items (put_visible _ c.args.j _ c.args.cell c.self.invariant room c.if-not-is_removed.true)
+    rw c.in_ok-insert.ensures.put (put_visible _ c.args.j _ c.args.cell c.self.invariant room c.if-not-is_removed.true)
 
 pub invariant_of-self-else-not-is_removed : goal.invariant_of-self-else-not-is_removed
 invariant_of-self-else-not-is_removed c =
     let room = rw (← c.self.view_is) at c.requires.room in
-    rw c.in_ok-insert.ensures.items (put_hidden _ c.args.j _ c.args.cell c.self.invariant room c.if-not-is_removed.false)
+    rw c.in_ok-insert.ensures.put (put_hidden _ c.args.j _ c.args.cell c.self.invariant room c.if-not-is_removed.false)

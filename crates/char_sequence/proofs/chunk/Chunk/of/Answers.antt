@@ -7,4 +7,4 @@ use Rattle.char_sequence.proofs.chunk.Chunk.of.Goals as goal
 pub invariant_of-result : goal.invariant_of-result
 invariant_of-result c =
     let many = c.shown_in.ensures ∙ sym (length-filter (λ (d : Cell). not d.is_removed) c.args.cells.now) in
-    counted c.args.cells.now _ _ c.in_ok-from_slice.ensures.items many c.requires.some c.requires.few
+    counted c.args.cells.now _ _ c.in_ok-of.ensures many c.requires.some c.requires.few

@@ -9,36 +9,43 @@ use Rattle.char_sequence.proofs.weave.Weave.insert.Goals as goal
 pub returns-in-None-clause-unknown : goal.returns-in-None-clause-unknown
 returns-in-None-clause-unknown c = λ ops doc holds.
     let w = shown _ _ c.args.self.now c.self.invariant c.self.view_is in
-    let gone = (rw c.deref-2.ensures.value at c.in-None.ensures) c.self.inside.next.items c.args.self.now w in
+    let gone = c.in-None.ensures c.self.inside.next.items c.args.self.now w in
     unknown_there c.args.self.now ops doc c.args.origin _ holds (λ _. gone, λ _. refl)
 
 pub returns-in_err-slot-clause-unknown : goal.returns-in_err-slot-clause-unknown
 returns-in_err-slot-clause-unknown c = λ ops doc holds.
     let p = err_from_is_err_and c.from_residual.result c.from_residual.ensures.1 in
     let w = shown _ _ c.args.self.now c.self.invariant c.self.view_is in
-    let known = ((rw c.deref-2.ensures.value at c.in-Some.ensures) c.self.inside.next.items c.args.self.now w).0 in
+    let known = (c.in-Some.ensures c.self.inside.next.items c.args.self.now w).0 in
+    unknown_there c.args.self.now ops doc c.args.origin _ holds
+    (none_refused (is_known c.args.self.now c.args.origin) _ (rw (p.1, p.2) (λ never. cc)) known)
+
+pub returns-in_err-push-clause-unknown : goal.returns-in_err-push-clause-unknown
+returns-in_err-push-clause-unknown c = λ ops doc holds.
+    let p = err_from_is_err_and c.from_residual-in_err-push.result c.from_residual-in_err-push.ensures.1 in
+    let w = shown _ _ c.args.self.now c.self.invariant c.self.view_is in
+    let known = (c.in-Some.ensures c.self.inside.next.items c.args.self.now w).0 in
     unknown_there c.args.self.now ops doc c.args.origin _ holds
     (none_refused (is_known c.args.self.now c.args.origin) _ (rw (p.1, p.2) (λ never. cc)) known)
 
 -- what hangs from the origin starts at the place that was found
-begun : (c : goal.After-tie) → (w : Weaves c.self.inside.cells.items c.self.inside.next.items c.args.self.now)
+begun : (c : goal.After-tie) → (w : Weaves c.self.inside.cells c.self.inside.next.items c.args.self.now)
     → Starts w.order c.args.self.now c.args.origin c.in-Some.from
-begun c w = ((rw c.deref-2.ensures.value at c.in-Some.ensures) c.self.inside.next.items c.args.self.now w).1
+begun c w = (c.in-Some.ensures c.self.inside.next.items c.args.self.now w).1
 
 -- the weave with the character
-grown : (c : goal.After-tie) → (w : Weaves c.self.inside.cells.items c.self.inside.next.items c.args.self.now)
+grown : (c : goal.After-tie) → (w : Weaves c.self.inside.cells c.self.inside.next.items c.args.self.now)
     → (start : Starts w.order c.args.self.now c.args.origin c.in-Some.from)
-    → Weaves c.push_reserved.new.self.items c.tie.new.next.items
+    → Weaves c.push.new.self c.tie.new.next.items
     (take start.steps c.args.self.now ++ past_greater (record { id = c.args.id; value = c.args.value; is_removed = false })
     (drop start.steps c.args.self.now))
 grown c w start =
-    let cells = c.in_ok-slot.ensures.cells in
     let next = c.in_ok-slot.ensures.next in
-    let passes = rw (c.deref-3.ensures.value, c.deref-4.ensures.value, cells, next) at c.past-at.ensures in
-    let behind = rw (c.deref-5.ensures.value, next) at c.next_of-behind.ensures in
-    let tied = rw (c.push_reserved-2.ensures.items, next, behind, c.in_ok-slot.ensures.slot) at c.tie.ensures in
-    rw (c.push_reserved.ensures.items, cells)
-    (woven_with c.self.inside.cells.items c.self.inside.next.items c.tie.new.next.items c.args.self.now c.args.origin c.in-Some.from c.past-at.result
+    let passes = rw (c.deref-2.ensures.value, next) at c.past-at.ensures in
+    let behind = rw (c.deref-3.ensures.value, next) at c.next_of-behind.ensures in
+    let tied = rw (c.push_reserved.ensures.items, next, behind, c.in_ok-slot.ensures.slot) at c.tie.ensures in
+    rw c.in_ok-push.ensures.put
+    (woven_with c.self.inside.cells c.self.inside.next.items c.tie.new.next.items c.args.self.now c.args.origin c.in-Some.from c.past-at.result
     (record { id = c.args.id; value = c.args.value; is_removed = false }) w start passes tied)
 
 pub invariant_of-self-2 : goal.invariant_of-self-2
@@ -56,5 +63,5 @@ returns-clause-taken c =
 pub returns-clause-unknown : goal.returns-clause-unknown
 returns-clause-unknown c = λ ops doc holds.
     let w = shown _ _ c.args.self.now c.self.invariant c.self.view_is in
-    let known = ((rw c.deref-2.ensures.value at c.in-Some.ensures) c.self.inside.next.items c.args.self.now w).0 in
+    let known = (c.in-Some.ensures c.self.inside.next.items c.args.self.now w).0 in
     unknown_there c.args.self.now ops doc c.args.origin _ holds (none_refused (is_known c.args.self.now c.args.origin) _ (λ never. cc) known)

@@ -7,23 +7,23 @@ use Rattle.char_sequence.proofs.weave.Weave.sequence.Goals.{in-None, in-Some+in_
 pub loop-preserved : goal.loop-preserved
 loop-preserved c =
     let next = rw c.deref.ensures.value at c.next_of-at.ensures in
-    let read = rw c.deref-in-loop.ensures.value at c.cell_at.ensures in
-    let within : c.loop.counter < length c.self.inside.cells.items =
-    (let inside = c.loop-test.true in let long = c.self.inside.cells.ok.0 in let end = c.len-end.ensures in omega arith) in
-    let long = length c.self.inside.cells.items in
+    let read = c.cell_at.ensures in
+    let within : c.loop.counter < length c.self.inside.cells =
+    (let inside = c.loop-test.true in let end = c.len-end.ensures in omega arith) in
+    let long = length c.self.inside.cells in
     elim c.match-cell_at.branch [
       | in-Some+in_ok-push-in-Some w ↦
-          reads_one c.self.inside.cells.items c.self.inside.next.items c.loop.at long c.loop.counter c.next_of-at.result w.in-Some.cell
+          reads_one c.self.inside.cells c.self.inside.next.items c.loop.at long c.loop.counter c.next_of-at.result w.in-Some.cell
           (cells_of c.loop.chunks) (cells_of c.match-cell_at.chunks) _ within next (sym read ∙ w.in-Some.is)
           (ap cells_of w.chunks-is ∙ w.in_ok-push-in-Some.ensures.put) c.loop.invariant
       | in-None w ↦
-          reads_none c.self.inside.cells.items c.self.inside.next.items c.loop.at long c.loop.counter c.next_of-at.result
+          reads_none c.self.inside.cells c.self.inside.next.items c.loop.at long c.loop.counter c.next_of-at.result
           (cells_of c.loop.chunks) (cells_of c.match-cell_at.chunks) _ within next (sym read ∙ w.in-None.is) (ap cells_of w.chunks-is)
           c.loop.invariant
     ]
 
 pub returns : goal.returns
 returns c =
-    reads_all c.self.inside.cells.items c.self.inside.next.items c.loop.at _ c.loop.counter (cells_of c.loop.chunks) _
-    (let out = c.loop-test.false in let long = c.self.inside.cells.ok.0 in let end = c.len-end.ensures in omega arith)
+    reads_all c.self.inside.cells c.self.inside.next.items c.loop.at _ c.loop.counter (cells_of c.loop.chunks) _
+    (let out = c.loop-test.false in let end = c.len-end.ensures in omega arith)
     c.loop.invariant ∙ c.self.view_is

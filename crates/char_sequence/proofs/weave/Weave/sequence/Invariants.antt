@@ -7,5 +7,5 @@ use Rattle.char_sequence.proofs.weave.Weave.sequence.Given as goal
 -- those that were passed, and then those that the other links lead to, are all
 abbrev pub invariant-loop : goal.invariant-loop
 invariant-loop l =
-    cells_of l.chunks ++ followed l.self-inside.cells.items l.self-inside.next.items l.at (length l.self-inside.cells.items - l.counter)
-    ≡ woven l.self-inside.cells.items l.self-inside.next.items
+    cells_of l.chunks ++ followed l.self-inside.cells l.self-inside.next.items l.at (length l.self-inside.cells - l.counter)
+    ≡ woven l.self-inside.cells l.self-inside.next.items
