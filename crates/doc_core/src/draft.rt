@@ -1,5 +1,6 @@
 //! One document while it is opened.
-ghost use Rattle.std.specs.Prelude.{◌≡◌, ◌↔◌, ◌<◌, ◌^◌, ℕ, List, [], false, IfOk, OnOk, OnErr, IsErrOf};
+ghost use Rattle.std.specs.Prelude.{◌≡◌, ◌↔◌, ◌<◌, ◌^◌, ℕ, List, [], false, Some, IfOk, OnOk, OnErr, IsErrOf};
+ghost use Rattle.char_sequence.specs.Content.{is_there};
 ghost use Rattle.char_sequence.specs.Woven.{IsWovenOf};
 ghost use Rattle.doc_core.specs.Drafting.{IsDraftOf, TakesDraft};
 ghost use Rattle.doc_core.specs.Standing.{are_there, is_remove, StandsFor};
@@ -11,6 +12,7 @@ ghost use Rattle.op_model.specs.Text.{rev as rev_of};
 use crate::doc::Doc;
 use char_sequence::{SequenceError, Weave};
 use mark_anchors::Gathering;
+use op_ids::OpId;
 use op_model::{Body, Op};
 use std::alloc::{AllocError, Global};
 use std::marker::Model;
@@ -67,6 +69,15 @@ impl Draft {
             → rev_of ops self.now.number < 2 ^ 64 → result ≡ rev_of ops self.now.number }
     {
         self.rev
+    }
+
+    /// Whether one of the document's inserts has this id, also where its character is removed.
+    /// Takes no memory. A binary search; a search of all characters only where the hint is wrong.
+    pub fn has(&self, id: OpId) -> bool
+        ensures { (ops : List Op) → IsDraftOf self.now ops
+            → result ≡ is_there ops self.now.number (Some id) }
+    {
+        self.weave.has(id)
     }
 
     /// Takes an operation of the document. `UnknownId` (60) exactly where a character that it names

@@ -1,10 +1,10 @@
 -- The documents of a list, and one of them with more operations.
-use Rattle.std.proofs.Common.{◌≡◌, ℕ, zero, suc, ◌<◌, Bool, true, false, inl, inr, ◌||◌, List, [], ◌∷◌, ◌++◌, length, take, drop, get_or, refl, sym}
+use Rattle.std.proofs.Common.{◌≡◌, ℕ, zero, suc, ◌<◌, true, false, inl, inr, ◌||◌, List, [], ◌∷◌, ◌++◌, length, take, drop, get_or, refl, sym}
 use Rattle.std.proofs.Common.{◌∙◌, ap, append_assoc, append-nil, arith}
 use Rattle.std.specs.Prelude.{◌==◌, ◌≢◌, slice_set}
 use Rattle.std.specs.List.{list_any}
 use Rattle.std.proofs.lemmas.Bool.{cases_Bool, cases_order, eq-eqb, ne_eqb, le-ltb, both_ways, or_parts, or_from}
-use Rattle.std.proofs.lemmas.List.{take-append-drop, length-append, get_or_push}
+use Rattle.std.proofs.lemmas.List.{take-append-drop}
 use Rattle.doc_core.specs.declared.doc.Doc.{Doc}
 use Rattle.doc_core.specs.Standing.{StandsFor}
 use Rattle.replica_core.specs.Docs.{doc_number}
@@ -58,28 +58,6 @@ lacks_placed n at ns up placed =
 pub has-documents : (n : ℕ) (ops : List Op) → has n (documents ops) ≡ list_any (λ op. op.doc == n) ops
 has-documents n [] = refl
 has-documents n (op ∷ ops) = has-with n op.doc (documents ops) ∙ ap (λ rest. (op.doc == n) || rest) (has-documents n ops)
-
-any_at : (list : List Op) (i : ℕ) (op : Op) → i < length list → op ≡ get_or list i op → list_any (λ o. o.doc == op.doc) list ≡ true
-any_at [] i op here is_it = absurd (omega arith)
-any_at (x ∷ list) zero op here is_it =
-    let same : (x.doc == op.doc) ≡ true = eq-eqb x.doc op.doc (ap (λ (o : Op). o.doc) (sym is_it)) in
-    rw same refl
-any_at (x ∷ list) (suc i) op here is_it = or_later (x.doc == op.doc) (list_any (λ o. o.doc == op.doc) list) (any_at list i op (omega arith) is_it)
-  where
-    or_later : (a b : Bool) → b ≡ true → (a || b) ≡ true
-    or_later true b later = refl
-    or_later false b later = later
-
--- the document of an operation is one of those of its list
-pub doc_there : (list : List Op) (i : ℕ) (op : Op) → i < length list → op ≡ get_or list i op
-    → with_number op.doc (documents list) ≡ documents list
-doc_there list i op here is_it =
-    with_same op.doc (documents list) (documents_up list) (has-documents op.doc list ∙ any_at list i op here is_it)
-
--- and that of the last one
-pub doc_last : (list : List Op) (op : Op) → with_number op.doc (documents (list ++ op ∷ [])) ≡ documents (list ++ op ∷ [])
-doc_last list op =
-    doc_there (list ++ op ∷ []) (length list) op (omega (arith, length-append list (op ∷ []))) (sym (get_or_push list op op (length list) refl))
 
 pub differ : (a b : ℕ) → (a == b) ≡ false → a ≢ b
 differ a b apart same = both_ways (a == b) apart (eq-eqb a b same)

@@ -1,10 +1,11 @@
 -- The drafts of the documents of a list, and one of them with an operation more.
-use Rattle.std.proofs.Common.{◌≡◌, ℕ, zero, suc, ◌+◌, ◌<◌, ◌^◌, false, List, [], ◌∷◌, ◌++◌, length, take, drop, get_or, refl, sym, ◌∙◌, ap, subst, arith}
+use Rattle.std.proofs.Common.{◌≡◌, ℕ, zero, suc, ◌+◌, ◌<◌, ◌≤◌, ◌^◌, false, List, [], ◌∷◌, ◌++◌, length, take, drop, get_or, refl, sym, ◌∙◌, ap, subst, arith}
 use Rattle.std.proofs.Common.{append_assoc, append-nil}
 use Rattle.std.specs.Prelude.{◌==◌, slice_set}
 use Rattle.std.specs.List.{list_any}
 use Rattle.std.proofs.lemmas.Bool.{or_parts}
-use Rattle.std.proofs.lemmas.List.{take_more, length-map}
+use Rattle.std.proofs.Math.Seq.{get_or-append_seam}
+use Rattle.std.proofs.lemmas.List.{take_more, length-append, length-map, length-take-le}
 use Rattle.doc_core.specs.declared.doc.Doc.{Doc}
 use Rattle.doc_core.specs.declared.draft.Draft.{Draft}
 use Rattle.doc_core.specs.Drafting.{IsDraftOf}
@@ -20,7 +21,7 @@ use Rattle.op_model.specs.Causality.{documents}
 use Rattle.op_model.specs.Spans.{with_number}
 use Rattle.model_laws.proofs.Up.{has}
 use Rattle.replica_core.proofs.DocLemmas.{differ, has-documents, lacks_placed}
-use Rattle.replica_core.specs.Docs.{draft_numbers, numbers, AllDrafts, AllStand, AreDrafts}
+use Rattle.replica_core.specs.Docs.{draft_numbers, numbers, AllDrafts, AllStand, AreDrafts, IsNumberAt}
 
 -- operations of other documents leave a draft as it is
 stays_all : (d : Draft) (before more : List Op) → list_any (λ op. op.doc == draft_number d) more ≡ false → IsDraftOf d before → IsDraftOf d (before ++ more)
@@ -85,14 +86,22 @@ number_at [] i d n here is_it is_n = absurd (omega arith)
 number_at (x ∷ ds) zero d n here is_it is_n = let first : d ≡ x = is_it in is_n ∙ sym (ap draft_number first)
 number_at (x ∷ ds) (suc i) d n here is_it is_n = number_at ds i d n (omega arith) is_it is_n
 
--- the draft of a document whose number was found is there, and is of that number
-pub found_at : (ds : List Draft) (i : ℕ) (d : Draft) (n : ℕ) (ns : List ℕ) → draft_numbers ds ≡ ns → i < length ns → n ≡ get_or ns i n
-    → d ≡ get_or ds i d → (i < length ds) × (n ≡ draft_number d)
-found_at ds i d n ns are below is_n is_it =
-    let as_many = ap length are in
+-- a number that was put at an index is there
+pub number_put : (ns more : List ℕ) (at n : ℕ) → at ≤ length ns → more ≡ take at ns ++ n ∷ drop at ns → IsNumberAt more at n
+number_put ns more at n within are =
+    let front : length (take at ns) ≡ at = length-take-le at ns within in
+    let long = length-append (take at ns) (n ∷ drop at ns) in
+    let seam = rw front at (get_or-append_seam (take at ns) n (drop at ns) n) in
+    rw are (record { there = omega arith; number = sym seam })
+
+-- the draft at the index of a number is there, and is of that number
+pub found_at : (ds : List Draft) (i : ℕ) (d : Draft) (n : ℕ) → IsNumberAt (draft_numbers ds) i n → d ≡ get_or ds i d
+    → (i < length ds) × (n ≡ draft_number d)
+found_at ds i d n is is_it =
+    let there = is.there in
     let many = length-map ds draft_number in
     let here : i < length ds = omega arith in
-    (here, number_at ds i d n here is_it (rw are is_n))
+    (here, number_at ds i d n here is_it is.number)
 
 over_number : (n : ℕ) (ds : List Draft) (i : ℕ) (d : Draft) → AllOver n (draft_numbers ds) → i < length ds → d ≡ get_or ds i d → n < draft_number d
 over_number n [] i d over here is_it = absurd (omega arith)

@@ -17,6 +17,7 @@ pub mod IndexLemmas
 pub mod DocLemmas
 pub mod NumberLemmas
 pub mod DraftLemmas
+pub mod CoveredLemmas
 pub mod CountLemmas
 pub mod EditLemmas
 pub mod RevLemmas

@@ -1,7 +1,7 @@
 -- Used by private functions and proofs alone.
 --
 -- The documents of a list.
-use Rattle.std.specs.Prelude.{◌≡◌, ℕ, List, [], ◌∷◌, map}
+use Rattle.std.specs.Prelude.{◌≡◌, ◌<◌, ℕ, List, [], ◌∷◌, length, map, slice_index_or}
 use Rattle.doc_core.specs.declared.doc.Doc.{Doc}
 use Rattle.doc_core.specs.declared.draft.Draft.{Draft}
 use Rattle.doc_core.specs.Drafting.{IsDraftOf}
@@ -44,3 +44,8 @@ AllDrafts (d ∷ ds) ops = IsDraftOf d ops × AllDrafts ds ops
 pub record AreDrafts (ds : List Draft) (ns : List ℕ) (ops : List Op) : Type 0 where
   pub numbers : draft_numbers ds ≡ ns
   pub drafts : AllDrafts ds ops
+
+-- at this index of the numbers stands this one
+pub record IsNumberAt (ns : List ℕ) (at n : ℕ) : Type 0 where
+  pub there : at < length ns
+  pub number : n ≡ slice_index_or ns at n

@@ -1,7 +1,7 @@
 //! Whether an operation may follow a list.
-ghost use Rattle.std.specs.Prelude.{◌≡◌, ◌<◌, ◌++◌, ◌∷◌, [], ◌&&◌, ◌==◌, nat_le, nat_lt, length, true, MatchOption, Some, None, IsTrue, ◌↔◌};
+ghost use Rattle.std.specs.Prelude.{◌≡◌, ◌<◌, ◌++◌, ◌∷◌, [], ◌&&◌, ◌==◌, nat_le, nat_lt, length, MatchOption, Some, None};
 ghost use Rattle.fixed_numbers.specs.declared.limits.TheConstants.{MAX_DOCUMENTS};
-ghost use Rattle.op_model.specs.Causality.{IsCausallyClosed, MayFollow, documents, first_failed as first_failed_of};
+ghost use Rattle.op_model.specs.Causality.{IsCausallyClosed, documents, first_failed as first_failed_of};
 ghost use Rattle.op_model.specs.Causality.{is_counted_up as is_counted_up_of, is_covered_insert as is_covered_insert_of, is_known as is_known_in};
 ghost use Rattle.op_model.specs.Causality.{is_within_limits, named_by_anchor, named_by_end, named_by_start, names_inserts as names_inserts_of};
 ghost use Rattle.op_model.specs.Spans.{with_number};
@@ -23,30 +23,6 @@ pub(crate) fn is_known(clock: &Clock, op: &Op) -> bool
 {
     let replica = op.id.replica();
     op.deps.get(replica) < clock.get(replica)
-}
-
-/// Whether an operation may follow the others, where it is known whether there are at most 1,024
-/// documents with its own: it is ready, and no check fails. Takes no memory. A few steps for
-/// clocks, and what `is_covered_insert` costs for each character that it names.
-pub(crate) fn may_follow(
-    ops: &RunSlice<'_>,
-    clock: &Clock,
-    index: &Index,
-    op: &Op,
-    has_place: bool,
-) -> bool
-    requires counted { AreCounted ops.now clock.now index.now }
-    requires place { has_place
-        ≡ nat_le (length (with_number op.now.doc (documents ops.now))) MAX_DOCUMENTS }
-    ensures { IsTrue result ↔ MayFollow ops.now op.now }
-{
-    if !clock.ready(op.id.replica(), &op.deps) {
-        return false;
-    }
-    match first_failed(ops, clock, index, op, has_place) {
-        None => true,
-        Some(_) => false,
-    }
 }
 
 /// Of an operation that is ready, the first check that fails: `Counter` (21), `Names` (22),
@@ -83,7 +59,7 @@ pub(crate) fn first_failed(
 
 /// Whether the counter is greater than that of the last operation of its replica, and so than that
 /// of each earlier one.
-fn is_counted_up(ops: &RunSlice<'_>, index: &Index, op: &Op) -> bool
+pub(crate) fn is_counted_up(ops: &RunSlice<'_>, index: &Index, op: &Op) -> bool
     requires closed { IsCausallyClosed ops.now }
     requires index { IsIndexOf index.now ops.now }
     ensures { result ≡ is_counted_up_of ops.now op.now }
@@ -97,7 +73,7 @@ fn is_counted_up(ops: &RunSlice<'_>, index: &Index, op: &Op) -> bool
 
 /// Whether what an operation names are inserts of its document that its deps cover, with smaller
 /// counters.
-fn names_inserts(ops: &RunSlice<'_>, index: &Index, op: &Op) -> bool
+pub(crate) fn names_inserts(ops: &RunSlice<'_>, index: &Index, op: &Op) -> bool
     requires closed { IsCausallyClosed ops.now }
     requires index { IsIndexOf index.now ops.now }
     ensures { result ≡ names_inserts_of ops.now op.now }
@@ -161,7 +137,13 @@ fn names_insert(ops: &RunSlice<'_>, index: &Index, op: &Op, id: &OpId) -> bool
 }
 
 /// Whether the operations, and then this one, keep the limits of a store.
-fn fits(ops: &RunSlice<'_>, clock: &Clock, index: &Index, op: &Op, has_place: bool) -> bool
+pub(crate) fn fits(
+    ops: &RunSlice<'_>,
+    clock: &Clock,
+    index: &Index,
+    op: &Op,
+    has_place: bool,
+) -> bool
     requires known { AreCounted ops.now clock.now index.now }
     requires place { has_place
         ≡ nat_le (length (with_number op.now.doc (documents ops.now))) MAX_DOCUMENTS }

@@ -1,23 +1,26 @@
 //! What is known of a list that is opened.
-ghost use Rattle.std.specs.Prelude.{◌≡◌, ◌≢◌, ◌+◌, ◌<◌, ◌^◌, ℕ, List, ◌∷◌, [], ◌++◌, length, IfOk, IfErr, OnOk};
+ghost use Rattle.std.specs.Prelude.{◌≡◌, ◌≢◌, ◌+◌, ◌<◌, ◌^◌, ◌↔◌, ◌&&◌, ℕ, List, ◌∷◌, [], ◌++◌, length, nat_lt, IfOk, IfErr, OnOk, IsTrue};
+ghost use Rattle.doc_core.specs.Drafting.{IsDraftOf};
 ghost use Rattle.op_ids.specs.Clock.{advanced, IsOverfull};
 ghost use Rattle.op_model.specs.declared.op.Op.{Op};
 ghost use Rattle.op_model.specs.Causality.{IsCausallyClosed, MayFollow};
+ghost use Rattle.op_model.specs.Causality.{is_covered_insert as is_covered_insert_of, names_inserts as names_inserts_of};
 ghost use Rattle.op_model.specs.Records.{record_length};
-ghost use Rattle.replica_core.specs.Deciding.{AreKnown};
+ghost use Rattle.replica_core.specs.Deciding.{AreCounted, AreKnown};
 ghost use Rattle.replica_core.specs.Indexes.{IsIndexOf};
-ghost use Rattle.replica_core.specs.Passing.{ArePassed};
+ghost use Rattle.replica_core.specs.Passing.{ArePassed, IsOpenFor};
 
 use crate::counting::advance;
 use crate::drafts::{apply, finished, open};
-use crate::following::may_follow;
+use crate::following::{fits, is_counted_up, names_inserts};
 use crate::index::Index;
+use crate::named::is_covered_insert;
 use crate::refusal::Refusal;
 use doc_core::{Doc, Draft};
 use edit_tokens::{Gathered, Place, Tokens};
 use fixed_numbers::limits::MAX_DOCUMENTS;
-use op_ids::{Clock, ReplicaId};
-use op_model::Op;
+use op_ids::{Clock, OpId, ReplicaId};
+use op_model::{Body, Op};
 use run_list::RunSlice;
 use std::alloc::Global;
 
@@ -45,8 +48,8 @@ pub struct Passed {
 /// The clock, the documents and the index of a causally closed list, and the tokens of a replica's
 /// edits in it. `BadOperation` (47) exactly where the list isn't; `Memory` (1) says nothing of
 /// that. One pass over the list, in which each operation is read once: for each a search by halves
-/// for its document, and what its draft takes for it. Then the tokens of the own ones are sorted,
-/// once the drafts are let go.
+/// for its document, what `may_take` costs, and what its draft takes for it. Then the tokens of the
+/// own ones are sorted, once the drafts are let go.
 pub(crate) fn counted(
     alloc: Global,
     replica: ReplicaId,
@@ -96,20 +99,82 @@ impl Passed {
         ensures bad { IfErr result (λ e. e ≢ Refusal.Memory
             → (e ≡ Refusal.BadOperation) × (MayFollow others.now op.now → ⊥)) }
     {
-        open(alloc, &mut self.numbers, &mut self.drafts, op.doc)?;
-        let has_place = self.numbers.len() <= MAX_DOCUMENTS;
-        if !may_follow(others, &self.clock, &self.index, op, has_place) {
+        let at = open(alloc, &mut self.numbers, &mut self.drafts, op.doc)?;
+        if !self.may_take(others, op, at) {
             return Err(Refusal::BadOperation);
         }
         let behind = others.len();
         count(alloc, &mut self.clock, &mut self.index, op, behind)?;
-        let rev = apply(&mut self.drafts, &self.numbers, op)?;
+        let rev = apply(&mut self.drafts, at, op)?;
         let place = Place {
             end: (behind + 1) as u32,
             rev: rev as u32,
         };
         self.tokens.count(replica, op, place)?;
         Ok(())
+    }
+
+    /// Whether an operation may follow the others, where the draft of its document has this index.
+    /// Takes no memory. A few steps for clocks, a look at the last operation of its replica, and
+    /// what `names_inserts_in` costs.
+    fn may_take(&self, others: &RunSlice<'_>, op: &Op, at: usize) -> bool
+        requires { IsOpenFor self.now op.now.doc at others.now }
+        ensures { IsTrue result ↔ MayFollow others.now op.now }
+    {
+        let draft = &self.drafts[at];
+        let has_place = self.numbers.len() <= MAX_DOCUMENTS;
+        self.clock.ready(op.id.replica(), &op.deps)
+            && is_counted_up(others, &self.index, op)
+            && self.names_inserts_in(draft, others, op)
+            && op.doc != 0
+            && fits(others, &self.clock, &self.index, op, has_place)
+    }
+
+    /// Whether what an operation names are inserts of its document that its deps cover, with
+    /// smaller counters. Takes no memory. What `is_covered_in` costs for the one character that an
+    /// insert or a remove names, and what `is_covered_insert` costs for each that a mark names.
+    fn names_inserts_in(&self, draft: &Draft, others: &RunSlice<'_>, op: &Op) -> bool
+        requires counted { AreCounted others.now self.now.clock self.now.index }
+        requires draft { IsDraftOf draft.now others.now }
+        requires number { draft.now.number ≡ op.now.doc }
+        ensures { result ≡ names_inserts_of others.now op.now }
+    {
+        match &op.body {
+            Body::Insert {
+                origin: Some(origin),
+                ..
+            } => self.names_insert_in(draft, others, op, origin),
+            Body::Remove { target } => self.names_insert_in(draft, others, op, target),
+            _ => names_inserts(others, &self.index, op),
+        }
+    }
+
+    /// Whether an id that an operation names is that of an insert of its document that its deps
+    /// cover, with a smaller counter.
+    fn names_insert_in(&self, draft: &Draft, others: &RunSlice<'_>, op: &Op, id: &OpId) -> bool
+        requires counted { AreCounted others.now self.now.clock self.now.index }
+        requires draft { IsDraftOf draft.now others.now }
+        requires number { draft.now.number ≡ op.now.doc }
+        ensures { result ≡ (is_covered_insert_of others.now op.now.deps op.now.doc id.now
+            && nat_lt id.now.counter op.now.id.counter) }
+    {
+        self.is_covered_in(draft, others, op, id) && id.counter() < op.id.counter()
+    }
+
+    /// Whether an insert of the operation's document with this id is among the operations that its
+    /// deps cover. Where they cover all of the id's replica, it is if the draft has its character,
+    /// which spares a look into the list: what `Draft::has` costs. Else what `is_covered_insert`
+    /// costs. Takes no memory. A few steps for clocks.
+    fn is_covered_in(&self, draft: &Draft, others: &RunSlice<'_>, op: &Op, id: &OpId) -> bool
+        requires counted { AreCounted others.now self.now.clock self.now.index }
+        requires draft { IsDraftOf draft.now others.now }
+        requires number { draft.now.number ≡ op.now.doc }
+        ensures { result ≡ is_covered_insert_of others.now op.now.deps op.now.doc id.now }
+    {
+        if op.deps.covers(id.replica(), self.clock.get(id.replica())) {
+            return draft.has(*id);
+        }
+        is_covered_insert(others, &self.index, op, id)
     }
 
     /// The same with documents in place of drafts, and the tokens sorted. An error is out of memory
