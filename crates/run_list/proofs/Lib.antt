@@ -1,3 +1,4 @@
+mod NextRecord
 pub mod Unrolling
 pub mod Parts
 pub mod Counting

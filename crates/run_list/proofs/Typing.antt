@@ -36,7 +36,7 @@ same_id id = and_from _ _ (same_number id.counter) (same_number id.replica)
 same_clock : (c : List (ℕ × ℕ)) → is_same_clock c c ≡ true
 same_clock c = (is_same_clock_tells c c (is_same_clock c c) refl).1 refl
 
-typed_is_next : (op : Op) (v : ℕ) → is_insert op.body ≡ true → is_next op (next_typed op v) ≡ true
+pub typed_is_next : (op : Op) (v : ℕ) → is_insert op.body ≡ true → is_next op (next_typed op v) ≡ true
 typed_is_next op v inserts =
     and_from _ _ inserts (and_from _ _ (same_id op.id) (and_from _ _ (same_number (op.id.counter + 1)) (and_from _ _ (same_number op.id.replica)
     (and_from _ _ (same_number op.doc) (and_from _ _ (same_token op.token) (same_clock (advanced op.deps op.id.replica)))))))

@@ -9,6 +9,7 @@ mod extending;
 mod finding;
 mod following;
 mod marks;
+mod next_record;
 mod putting;
 mod run_list;
 mod run_reader;

@@ -1,15 +1,18 @@
 //! A list of runs that is written from its beginning.
-ghost use Rattle.std.specs.Prelude.{◌≡◌, ◌∷◌, [], ◌++◌, IfOk, OnOk, OnErr, false, None};
+ghost use Rattle.std.specs.Prelude.{◌≡◌, ◌∷◌, [], ◌++◌, IfOk, IfSome, Ok, OnOk, OnErr, false, None};
 ghost use Rattle.op_model.specs.declared.op.Op.{Op as Operation};
+ghost use Rattle.change_codec.specs.Formats.{IsOf};
+ghost use Rattle.change_codec.specs.Record.{BeginsWithOp};
 ghost use Rattle.op_list.specs.Held.{IsRecord};
 ghost use Rattle.op_pieces.specs.Pieces.{ops_of};
 ghost use Rattle.run_list.specs.Runs.{goes_on, last_behind};
 
 use crate::behind::is_right_behind;
+use crate::next_record::next_spelled;
 use crate::run_list::RunList;
 use change_codec::{CodecError, Format, take_op};
 use op_model::Op;
-use op_pieces::{Piece, is_next};
+use op_pieces::{Piece, is_next, value_of};
 use std::alloc::{AllocError, Global};
 use std::marker::Model;
 
@@ -20,6 +23,8 @@ pub struct RunWriter {
     list: RunList,
     /// The last operation, if it is known.
     last: Option<Op>,
+    /// Memory for its record.
+    spelling: Vec<u8>,
 }
 
 impl Model for RunWriter {
@@ -42,6 +47,7 @@ impl RunWriter {
         RunWriter {
             list: RunList::new(alloc),
             last: None,
+            spelling: Vec::new(alloc),
         }
     }
 
@@ -51,6 +57,29 @@ impl RunWriter {
     {
         let RunWriter { list, .. } = self;
         list
+    }
+
+    /// Puts the operation behind the others whose record the bytes begin with, if the format has it
+    /// and it is typed right behind the last one, which has to be known, and gives how many bytes
+    /// the record takes. `None` changes nothing and says nothing of the bytes. Refuses as
+    /// `RunList::append` does. One pass over the record; takes memory for the list alone.
+    pub fn type_record(&mut self, format: Format, bytes: &[u8]) -> Result<Option<usize>, AllocError>
+        ensures typed { IfOk result (λ found. IfSome found (λ n. (op : Operation)
+            × IsOf format op × BeginsWithOp bytes.now op n
+            × (self.new ≡ self.old ++ op ∷ []))) }
+        ensures none { result ≡ Ok None → self.new ≡ self.old }
+        ensures err { OnErr result (self.new ≡ self.old) }
+    {
+        let Some(last) = self.last.take() else {
+            return Ok(None);
+        };
+        let Some(next) = next_spelled(last, format, bytes, &mut self.spelling)? else {
+            return Ok(None);
+        };
+        self.list.type_on(value_of(&next.body))?;
+        let len = next.record_length() as usize;
+        self.last = Some(next);
+        Ok(Some(len))
     }
 
     /// Puts the operation behind the others whose record these bytes are. Refuses as

@@ -21,9 +21,30 @@ pub struct Front {
 
 /// Puts the operations of the piece of a format into a list that the bytes begin with, and gives
 /// what the piece says. `Stream` (46) where they begin with none; `Memory` (1) may stand in place
-/// of a piece. One pass over a single operation, whose bytes are then copied as they are unless it
-/// may go on with a run, and two over a run.
+/// of a piece. One pass over a single operation, which takes no memory beside the list's where it
+/// is typed behind the last one, and two over a run.
 pub(crate) fn put_front(
+    alloc: Global,
+    format: Format,
+    bytes: &[u8],
+    list: &mut RunWriter,
+) -> Result<Front, StreamError>
+    ensures found { IfOk result (λ front. PutsFront format bytes.now front list.old list.new) }
+    ensures none { IsErrOf result Stream → BeginsWithNone format bytes.now }
+{
+    match list.type_record(format, bytes)? {
+        Some(len) => Ok(Front {
+            len,
+            count: 1,
+            records: len as u64,
+        }),
+        None => put_read(alloc, format, bytes, list),
+    }
+}
+
+/// The same, for any piece. The bytes of a single operation are copied as they are unless it may go
+/// on with a run.
+fn put_read(
     alloc: Global,
     format: Format,
     bytes: &[u8],

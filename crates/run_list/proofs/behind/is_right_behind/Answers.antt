@@ -1,5 +1,5 @@
 use Rattle.std.proofs.Common.{◌≡◌, length, refl, sym, ap, ◌∙◌}
-use Rattle.std.specs.Prelude.{◌&&◌, true, false}
+use Rattle.std.specs.Prelude.{true, false}
 use Rattle.change_codec.specs.Heads.{head_of, origin_of}
 use Rattle.run_list.specs.Writer.{is_id, is_numbered_behind}
 use Rattle.run_list.proofs.behind.is_right_behind.Goals as goal

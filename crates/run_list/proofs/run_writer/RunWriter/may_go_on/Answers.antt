@@ -1,6 +1,6 @@
-use Rattle.std.proofs.Common.{◌≡◌, ◌-◌, suc, false, Some, None, length, get_or, sym, ap, ◌∙◌, arith}
+use Rattle.std.proofs.Common.{◌≡◌, ◌-◌, suc, false, None, length, get_or, sym, ap, ◌∙◌, arith}
 use Rattle.std.proofs.lemmas.List.{get_or-map}
-use Rattle.op_list.specs.Heads.{head_of, heads}
+use Rattle.op_list.specs.Heads.{head_of}
 use Rattle.run_list.specs.Runs.{goes_on}
 use Rattle.run_list.specs.Writer.{is_right_behind}
 use Rattle.run_list.proofs.RightBehind.{others_begin}
