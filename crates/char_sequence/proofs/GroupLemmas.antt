@@ -1,9 +1,10 @@
 -- How many cells of each 64 chunks a reader sees.
-use Rattle.std.proofs.Common.{◌≡◌, ℕ, ◌+◌, ◌-◌, ◌*◌, ◌/◌, ◌≤◌, ◌<◌, ◌^◌, inl, inr, List, ◌++◌, length, take, drop, get_or}
+use Rattle.std.proofs.Common.{◌≡◌, ℕ, ◌+◌, ◌-◌, ◌*◌, ◌/◌, ◌≤◌, ◌<◌, ◌^◌, inl, inr, List, [], ◌∷◌, ◌++◌, length, take, drop, get_or}
 use Rattle.std.proofs.Common.{sym, ◌∙◌, ap, arith}
 use Rattle.std.specs.Prelude.{slice_set, min}
 use Rattle.std.proofs.lemmas.Bool.{cases_lt}
-use Rattle.std.proofs.lemmas.List.{drop-set-add, drop-set-lt, get_or-drop, get_or-take, length-drop, length-set, length-take-le, take-set-le}
+use Rattle.std.proofs.lemmas.List.{drop-append-le, drop-set-add, drop-set-lt, get_or-drop, get_or-take, get_or_append_left, get_or_push, length-drop}
+use Rattle.std.proofs.lemmas.List.{length-set, length-take-le, length_push, take-append-le, take-set-le}
 use Rattle.std.proofs.lemmas.List.Sums.{sum_by-take-drop, sum_by-take-le}
 use Rattle.std.proofs.Common.{get_or-set_other, get_or-set_same, set}
 use Rattle.std.proofs.Math.Seq.{take-append_seam, take-set-lt}
@@ -96,6 +97,46 @@ recounted_none groups held i new are past =
       whole = let w = are.whole in omega arith;
       rest = let r = are.rest in omega arith;
       each = λ g below. are.each g below ∙ sym (group_behind held i g new (omega arith));
+    }
+
+-- a chunk behind all others changes none of the whole groups before it
+group_kept : (held : ChunkCells) (k : List Cell) (g : ℕ) → 64 * g + 64 ≤ length held → seen_in_group (held ++ k ∷ []) g ≡ seen_in_group held g
+group_kept held k g whole =
+    let rest = length-drop (64 * g) held in
+    ap (λ ks. seen (take 64 ks)) (drop-append-le (64 * g) held (k ∷ []) (omega arith))
+    ∙ ap seen (take-append-le 64 (drop (64 * g) held) (k ∷ []) (omega arith))
+
+-- with a chunk more behind the others the counts stay, if it makes no whole group
+pub still_groups : (groups : List ℕ) (held now : ChunkCells) (k : List Cell) → AreGroups groups held → now ≡ held ++ k ∷ []
+    → length now < 64 * length groups + 64 → AreGroups groups now
+still_groups groups held now k are more short =
+    let long = ap length more ∙ length_push held k in
+    let whole = are.whole in
+    record {
+      whole = omega arith;
+      rest = short;
+      each = λ g below. are.each g below ∙ (sym (group_kept held k g (omega arith)) ∙ ap (λ ks. seen_in_group ks g) (sym more));
+    }
+
+-- if it makes one, the count of the last 64 comes behind the others
+pub one_group_more : (groups new : List ℕ) (held now : ChunkCells) (k : List Cell) (count : ℕ) → AreGroups groups held → now ≡ held ++ k ∷ []
+    → length now ≡ 64 * length groups + 64 → count ≡ seen_in_group now (length groups) → new ≡ groups ++ count ∷ [] → AreGroups new now
+one_group_more groups new held now k count are more full counted is_new =
+    let long = ap length more ∙ length_push held k in
+    let many = ap length is_new ∙ length_push groups count in
+    record {
+      whole = omega arith;
+      rest = omega arith;
+      each = λ g below. elim (cases_lt g (length groups)) [
+        | inl less ↦
+            let whole = are.whole in
+            ap (λ ns. get_or ns g 0) is_new
+            ∙ (get_or_append_left groups (count ∷ []) 0 g less
+            ∙ (are.each g less ∙ (sym (group_kept held k g (omega arith)) ∙ ap (λ ks. seen_in_group ks g) (sym more))))
+        | inr least ↦
+            let last : g ≡ length groups = omega arith in
+            ap (λ ns. get_or ns g 0) is_new ∙ (get_or_push groups count 0 g (sym last) ∙ (counted ∙ ap (seen_in_group now) (sym last)))
+      ];
     }
 
 -- a list written back over one as long

@@ -16,6 +16,8 @@ pub mod LandingLemmas
 pub mod IndexLemmas
 pub mod ApplyLemmas
 pub mod ChunkLemmas
+pub mod AppendLemmas
+pub mod BuildingLemmas
 pub mod ReplacedLemmas
 pub mod SumLemmas
 pub mod GroupLemmas

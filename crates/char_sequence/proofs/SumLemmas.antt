@@ -1,7 +1,7 @@
 -- How many cells of chunks a reader sees, where one of them changes, or some stand in place of one.
 use Rattle.std.proofs.Common.{◌≡◌, ℕ, ◌+◌, ◌-◌, ◌*◌, ◌≤◌, ◌<◌, ◌^◌, not, List, [], ◌∷◌, ◌++◌, length, get_or, refl, sym, ◌∙◌, ap, arith}
 use Rattle.std.specs.Prelude.{slice_set, count_by}
-use Rattle.std.proofs.lemmas.List.Sums.{count_by-le-length, get_or-le-sum_by, length-filter, sum_by-cons, sum_by-set}
+use Rattle.std.proofs.lemmas.List.Sums.{count_by-le-length, get_or-le-sum_by, length-filter, sum_by-cons, sum_by-set, sum_by_push}
 use Rattle.char_sequence.specs.declared.cell.Cell.{Cell}
 use Rattle.char_sequence.specs.Cells.{shown}
 use Rattle.char_sequence.specs.Chunks.{AreSized, ChunkCells, IsPlace, before, cells_of, from}
@@ -70,6 +70,14 @@ counted_set held i shown before after k new inside is all old now = let set = se
 pub counted_run : (held now : ChunkCells) (i j shown more : ℕ) (run : List Cell) → IsPlace held i j
     → cells_of now ≡ before held i j ++ (run ++ from held i j) → shown ≡ seen held → more ≡ count_by (λ c. not c.is_removed) run → shown + more ≡ seen now
 counted_run held now i j shown more run place put all run_is = let new = seen_run held now i j run place put in omega arith
+
+-- and one that adds those of a chunk that came behind all others
+pub counted_pushed : (held now : ChunkCells) (k : List Cell) (shown more : ℕ) → now ≡ held ++ k ∷ [] → shown ≡ seen held → more ≡ seen_in k
+    → shown + more ≡ seen now
+counted_pushed held now k shown more is_now all own =
+    let both = ap seen is_now in
+    let sum = sum_by_push seen_in held k in
+    omega arith
 
 -- a count can be kept, also while a part of it is changed
 pub fits_set : (held : ChunkCells) (shown before after : ℕ) → AreSized 1 held → length held ≤ 2 ^ 54 → shown ≡ seen held → after ≤ 512

@@ -1,3 +1,4 @@
+pub mod Building
 pub mod Cells
 pub mod Chunks
 pub mod Finding

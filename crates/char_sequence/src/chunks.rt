@@ -3,18 +3,18 @@ ghost use Rattle.std.specs.Prelude.{◌≤◌, ◌≡◌, ◌++◌, ◌∷◌, [
 ghost use Rattle.std.specs.Prelude.{Some, true, OnOk, OnErr};
 ghost use Rattle.std.proofs.Common.{get_or};
 ghost use Rattle.char_sequence.specs.Chunks.{size_at, cell_at, cells_of, before, from, AreChunks};
-ghost use Rattle.char_sequence.specs.Chunks.{IsPlace};
+ghost use Rattle.char_sequence.specs.Chunks.{IsPlace, AreSized};
 ghost use Rattle.char_sequence.specs.Cells.{shown as shown_of};
 ghost use Rattle.char_sequence.specs.declared.cell.Cell as cell;
 ghost use Rattle.char_sequence.specs.Sums.{seen_in_group};
-ghost use Rattle.char_sequence.specs.declared.chunk.TheConstants.{MAX_CHUNK};
+ghost use Rattle.char_sequence.specs.declared.chunk.TheConstants.{MAX_CHUNK, MIN_CHUNK};
 ghost use Rattle.char_sequence.specs.declared.groups.TheConstants.{GROUP};
 
 use crate::cell::Cell;
 use crate::chunk::{Chunk, shown_in};
 use crate::chunk_size::ChunkSize;
 use crate::cutting::{cut, joined, replace};
-use crate::groups::{GROUP, count, recount};
+use crate::groups::{GROUP, count, count_last, recount};
 use crate::place::Place;
 use op_model::Ticks;
 use std::alloc::{AllocError, Global};
@@ -190,13 +190,25 @@ impl Chunks {
         Ok(self.chunks.len().saturating_sub(before))
     }
 
-    /// Puts a cell behind all others. An error is out of memory (1), and leaves all as it was.
-    pub fn push(&mut self, cell: Cell) -> Result<(), AllocError>
-        ensures put { OnOk result (cells_of self.new ≡ cells_of self.old ++ cell ∷ []) }
+    /// Puts cells behind all others, as a chunk of their own. An error is out of memory (1), and
+    /// leaves all as it was. A step for each of these cells, and 64 steps for each 64th chunk.
+    pub fn append(&mut self, cells: &[Cell]) -> Result<(), AllocError>
+        requires sized { AreSized MIN_CHUNK self.old }
+        requires many { MIN_CHUNK ≤ length cells.now }
+        requires few { length cells.now ≤ MAX_CHUNK }
+        ensures put { OnOk result (self.new ≡ self.old ++ cells.now ∷ []) }
         ensures err { OnErr result (self.new ≡ self.old) }
     {
-        let end = self.end();
-        self.insert(end.chunk, end.at, &[cell])?;
+        if self.chunks.len() >= MOST_CHUNKS {
+            return Err(AllocError);
+        }
+        let alloc = *self.chunks.allocator();
+        let chunk = Chunk::of(alloc, cells)?;
+        self.chunks.reserve(1)?;
+        self.groups.reserve(1)?;
+        self.shown += chunk.shown();
+        self.chunks.push_reserved(chunk);
+        count_last(&mut self.groups, &self.chunks);
         Ok(())
     }
 

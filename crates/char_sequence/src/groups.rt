@@ -1,5 +1,6 @@
 //! How many cells a reader sees in each 64 chunks, one behind the other.
-ghost use Rattle.std.specs.Prelude.{◌≡◌, ◌≤◌, ◌<◌, ◌+◌, ◌*◌, ◌^◌, List, length, slice_set};
+ghost use Rattle.std.specs.Prelude.{◌≡◌, ◌≤◌, ◌<◌, ◌+◌, ◌*◌, ◌^◌, ◌++◌, ◌∷◌, [], List, length};
+ghost use Rattle.std.specs.Prelude.{slice_set, vec_len, vec_capacity};
 ghost use Rattle.std.proofs.Common.{get_or};
 ghost use Rattle.char_sequence.specs.declared.cell.Cell as cell;
 ghost use Rattle.char_sequence.specs.Chunks.{AreSized, ChunkCells};
@@ -18,6 +19,21 @@ pub fn count(groups: &mut [usize], chunks: &[Chunk])
 {
     for g in 0..groups.len() {
         groups[g] = seen_in(&chunks[g * GROUP..g * GROUP + GROUP]);
+    }
+}
+
+/// Counts the last 64 chunks, if one that came behind the others made them a whole group. The room
+/// for a count is there. A step for each of the 64, and none if they aren't whole.
+pub fn count_last(groups: &mut Vec<usize>, chunks: &[Chunk])
+    requires room { vec_len groups.old < vec_capacity groups.old }
+    requires whole { GROUP * length groups.old.items ≤ length chunks.now }
+    requires rest { length chunks.now ≤ GROUP * length groups.old.items + GROUP }
+    ensures { (held : ChunkCells) (k : List cell.Cell) → AreGroups groups.old.items held
+        → chunks.now ≡ held ++ k ∷ [] → AreGroups groups.new.items chunks.now }
+{
+    let start = groups.len() * GROUP;
+    if chunks.len() - start == GROUP {
+        groups.push_reserved(seen_in(&chunks[start..]));
     }
 }
 

@@ -5,6 +5,7 @@
 #![tactic(auto)]
 
 mod applying;
+mod building;
 mod cell;
 mod cell_list;
 mod chunk;

@@ -12,9 +12,9 @@ ghost use Rattle.char_sequence.specs.Links.{cell_at_place};
 ghost use Rattle.char_sequence.specs.Weave.{Starts, Weaves};
 ghost use Rattle.char_sequence.specs.Woven.{IsWovenOf};
 
+use crate::building::Building;
 use crate::cell::Cell;
 use crate::cell_list::CellList;
-use crate::chunks::Chunks;
 use crate::error::SequenceError;
 use crate::hints::Hints;
 use crate::links::{cell_at, next_of, past, tie};
@@ -137,17 +137,17 @@ impl Weave {
     pub fn sequence(&self, alloc: Global) -> Result<Sequence, AllocError>
         ensures { IfOk result (λ s. cells_of s ≡ self.now) }
     {
-        let mut chunks = Chunks::new(alloc);
+        let mut building = Building::new(alloc);
         let mut at = 0;
         for _ in 0..self.cells.len() {
             at = next_of(&self.next, at) as usize;
             match cell_at(&self.cells, at) {
-                Some(cell) => chunks.push(cell)?,
+                Some(cell) => building.push(cell)?,
                 None => {}
             }
         }
         Ok(Sequence {
-            chunks,
+            chunks: building.into_chunks()?,
             hints: Hints::new(alloc),
         })
     }

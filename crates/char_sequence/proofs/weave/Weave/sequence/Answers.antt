@@ -1,5 +1,4 @@
-use Rattle.std.proofs.Common.{◌<◌, length, sym, ◌∙◌, ap, arith}
-use Rattle.char_sequence.specs.Chunks.{cells_of}
+use Rattle.std.proofs.Common.{◌<◌, length, sym, ◌∙◌, arith}
 use Rattle.char_sequence.proofs.WovenLemmas.{reads_all, reads_none, reads_one}
 use Rattle.char_sequence.proofs.weave.Weave.sequence.Goals as goal
 use Rattle.char_sequence.proofs.weave.Weave.sequence.Goals.{in-None, in-Some+in_ok-push-in-Some}
@@ -14,16 +13,17 @@ loop-preserved c =
     elim c.match-cell_at.branch [
       | in-Some+in_ok-push-in-Some w ↦
           reads_one c.self.inside.cells c.self.inside.next.items c.loop.at long c.loop.counter c.next_of-at.result w.in-Some.cell
-          (cells_of c.loop.chunks) (cells_of c.match-cell_at.chunks) _ within next (sym read ∙ w.in-Some.is)
-          (ap cells_of w.chunks-is ∙ w.in_ok-push-in-Some.ensures.put) c.loop.invariant
+          c.loop.building c.match-cell_at.building _ within next (sym read ∙ w.in-Some.is)
+          (w.building-is ∙ w.in_ok-push-in-Some.ensures.put) c.loop.invariant
       | in-None w ↦
           reads_none c.self.inside.cells c.self.inside.next.items c.loop.at long c.loop.counter c.next_of-at.result
-          (cells_of c.loop.chunks) (cells_of c.match-cell_at.chunks) _ within next (sym read ∙ w.in-None.is) (ap cells_of w.chunks-is)
+          c.loop.building c.match-cell_at.building _ within next (sym read ∙ w.in-None.is) w.building-is
           c.loop.invariant
     ]
 
 pub returns : goal.returns
 returns c =
-    reads_all c.self.inside.cells c.self.inside.next.items c.loop.at _ c.loop.counter (cells_of c.loop.chunks) _
+    c.in_ok-into_chunks.ensures
+    ∙ (reads_all c.self.inside.cells c.self.inside.next.items c.loop.at _ c.loop.counter c.loop.building _
     (let out = c.loop-test.false in let end = c.len-end.ensures in omega arith)
-    c.loop.invariant ∙ c.self.view_is
+    c.loop.invariant ∙ c.self.view_is)

@@ -1,5 +1,4 @@
 use Rattle.std.proofs.Common.{◌≡◌, ◌-◌, ◌++◌, length}
-use Rattle.char_sequence.specs.Chunks.{cells_of}
 use Rattle.char_sequence.specs.Links.{followed}
 use Rattle.char_sequence.specs.Weave.{woven}
 use Rattle.char_sequence.proofs.weave.Weave.sequence.Given as goal
@@ -7,5 +6,5 @@ use Rattle.char_sequence.proofs.weave.Weave.sequence.Given as goal
 -- those that were passed, and then those that the other links lead to, are all
 abbrev pub invariant-loop : goal.invariant-loop
 invariant-loop l =
-    cells_of l.chunks ++ followed l.self-inside.cells l.self-inside.next.items l.at (length l.self-inside.cells - l.counter)
+    l.building ++ followed l.self-inside.cells l.self-inside.next.items l.at (length l.self-inside.cells - l.counter)
     ≡ woven l.self-inside.cells l.self-inside.next.items
