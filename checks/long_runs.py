@@ -14,6 +14,8 @@ ALL = RUN * RUNS * FRAMES
 LETTERS = "".join(chr(97 + at % 26) for at in range(ALL))
 # The longest that an edit beside it may take, in seconds.
 MOST = 2
+# Too much waits for a commit.
+BUSY = 8
 
 
 def pieces(maker, known):
@@ -59,6 +61,16 @@ def tell(port, maker):
     return known == ALL, said
 
 
+def taken(talk, request):
+    """The answer to a request, which is sent again while too much waits for a commit."""
+    ends = time.monotonic() + MOST
+    answer = talk.ask(request)
+    while answer.get("code") == BUSY and time.monotonic() < ends:
+        time.sleep(0.01)
+        answer = talk.ask(request)
+    return answer
+
+
 def check(checks, program, _until):
     maker, daemon, slowest, done = replica(7), new_daemon(program, "long"), [0.0], [False]
     told = []
@@ -71,7 +83,8 @@ def check(checks, program, _until):
         talk = seat(daemon)
         while not done[0]:
             began = time.monotonic()
-            checks.holds("an edit beside long frames", talk.ask(insert(0, "x"))["ok"])
+            answer = taken(talk, insert(0, "x"))
+            checks.holds(f"an edit beside long frames ({answer})", answer["ok"])
             slowest[0] = max(slowest[0], time.monotonic() - began)
             time.sleep(0.02)
         talk.close()
