@@ -1,16 +1,17 @@
 -- How many cells of each 64 chunks a reader sees.
-use Rattle.std.proofs.Common.{◌≡◌, ℕ, ◌+◌, ◌-◌, ◌*◌, ◌/◌, ◌≤◌, ◌<◌, ◌^◌, inl, inr, List, [], ◌∷◌, ◌++◌, length, take, drop, get_or}
+use Rattle.std.proofs.Common.{◌≡◌, ℕ, ◌+◌, ◌-◌, ◌*◌, ◌/◌, ◌≤◌, ◌<◌, ◌^◌, inl, inr, List, [], ◌∷◌, ◌++◌, length, take, drop, get_or, zero, suc, refl}
 use Rattle.std.proofs.Common.{sym, ◌∙◌, ap, arith}
 use Rattle.std.specs.Prelude.{slice_set, min}
 use Rattle.std.proofs.lemmas.Bool.{cases_lt}
 use Rattle.std.proofs.lemmas.List.{drop-append-le, drop-set-add, drop-set-lt, get_or-drop, get_or-take, get_or_append_left, get_or_push, length-drop}
-use Rattle.std.proofs.lemmas.List.{length-set, length-take-le, length_push, take-append-le, take-set-le}
+use Rattle.std.proofs.lemmas.List.{length-set, length-take-le, length_push, take-append-le, take-set-le, take-take}
 use Rattle.std.proofs.lemmas.List.Sums.{sum_by-take-drop, sum_by-take-le}
 use Rattle.std.proofs.Common.{get_or-set_other, get_or-set_same, set}
 use Rattle.std.proofs.Math.Seq.{take-append_seam, take-set-lt}
 use Rattle.char_sequence.specs.declared.cell.Cell.{Cell}
-use Rattle.char_sequence.specs.Chunks.{AreSized, ChunkCells}
+use Rattle.char_sequence.specs.Chunks.{AreSized, ChunkCells, IsPlace}
 use Rattle.char_sequence.specs.Sums.{seen, seen_in, seen_in_group, AreGroups}
+use Rattle.char_sequence.proofs.PlaceLemmas.{chunk_of_place}
 use Rattle.char_sequence.proofs.SumLemmas.{seen_most, seen_part, seen_set}
 
 -- a chunk of another group changes
@@ -142,3 +143,38 @@ one_group_more groups new held now k count are more full counted is_new =
 -- a list written back over one as long
 pub written_back : (n : ℕ) (new old : List ℕ) → n ≡ length new → take n (new ++ drop (length new) old) ≡ new
 written_back n new old long = ap (λ m. take m (new ++ drop (length new) old)) long ∙ take-append_seam new (drop (length new) old)
+
+-- chunks before a place stay where they are in a front of all
+front_same : (n m i : ℕ) (held : ChunkCells) → n + m ≤ i → take m (drop n (take i held)) ≡ take m (drop n held)
+front_same zero m i held within = take-take m i held (omega arith)
+front_same (suc n) m zero held within = absurd (omega arith)
+front_same (suc n) m (suc i) [] within = refl
+front_same (suc n) m (suc i) (k ∷ held) within = front_same n m i held (omega arith)
+
+-- so the counts of whole groups before a place stay, if the chunks before it do
+pub front_groups : (groups : List ℕ) (held now : ChunkCells) (i : ℕ) → AreGroups groups held → take i now ≡ take i held → i ≤ length held
+    → (g : ℕ) → g < i / 64 → (g < length groups) × (get_or groups g 0 ≡ seen_in_group now g)
+front_groups groups held now i are same within g below =
+    let rest = are.rest in
+    let near : 64 * g + 64 ≤ i = omega arith in
+    let there : g < length groups = omega arith in (
+      there,
+      are.each g there
+          ∙ ap seen (sym (front_same (64 * g) 64 i held near) ∙ ap (λ ks. take 64 (drop (64 * g) ks)) (sym same) ∙ front_same (64 * g) 64 i now near),
+    )
+
+-- one more is counted
+pub one_counted : (groups now : List ℕ) (held : ChunkCells) (g count : ℕ) → now ≡ slice_set groups g count → g < length groups
+    → count ≡ seen_in_group held g → ((h : ℕ) → h < g → get_or groups h 0 ≡ seen_in_group held h) → (h : ℕ) → h < g + 1
+    → get_or now h 0 ≡ seen_in_group held h
+one_counted groups now held g count put inside is before h less = rw put (elim (cases_lt h g) [
+  | inl past ↦ get_or-set_other groups g h count 0 (λ same. omega arith) ∙ before h past
+  | inr own ↦ let here : h ≡ g = omega arith in rw here (get_or-set_same groups g count 0 inside ∙ is)
+])
+
+-- where others stand in place of the chunk at a place, or behind all, the chunks before it stay
+pub front_stays : (held now by : ChunkCells) (i j : ℕ) → IsPlace held i j → now ≡ take i held ++ by → (take i now ≡ take i held) × (i ≤ length held)
+front_stays held now by i j place put =
+    let within : i ≤ length held = omega (arith, chunk_of_place held i j place) in
+    let long : i ≤ length (take i held) = let all = length-take-le i held within in omega arith in
+    (ap (take i) put ∙ take-append-le i (take i held) by long ∙ take-take i i held (omega arith), within)

@@ -184,7 +184,7 @@ impl Chunks {
         let kept = if i < before { before - 1 } else { before };
         let mut groups = vec![in alloc; 0; (kept + cut.len()) / GROUP]?;
         replace(&mut self.chunks, i, cut)?;
-        count(&mut groups, &self.chunks);
+        count(&mut groups, &self.chunks, &self.groups, i / GROUP);
         self.groups = groups;
         self.shown += shown_in(cells);
         Ok(self.chunks.len().saturating_sub(before))

@@ -1,24 +1,31 @@
 //! How many cells a reader sees in each 64 chunks, one behind the other.
-ghost use Rattle.std.specs.Prelude.{◌≡◌, ◌≤◌, ◌<◌, ◌+◌, ◌*◌, ◌^◌, ◌++◌, ◌∷◌, [], List, length};
+ghost use Rattle.std.specs.Prelude.{◌≡◌, ◌≤◌, ◌<◌, ◌+◌, ◌*◌, ◌^◌, ◌++◌, ◌∷◌, [], ℕ, List, length};
 ghost use Rattle.std.specs.Prelude.{slice_set, vec_len, vec_capacity};
 ghost use Rattle.std.proofs.Common.{get_or};
 ghost use Rattle.char_sequence.specs.declared.cell.Cell as cell;
 ghost use Rattle.char_sequence.specs.Chunks.{AreSized, ChunkCells};
-ghost use Rattle.char_sequence.specs.Sums.{seen, seen_in, AreGroups};
+ghost use Rattle.char_sequence.specs.Sums.{seen, seen_in, seen_in_group, AreGroups};
 
 use crate::chunk::Chunk;
 
 /// How many chunks are counted together.
 pub(crate) const GROUP: usize = 64;
 
-/// Counts anew: as many whole groups as there are counts. A step for each of their chunks.
-pub fn count(groups: &mut [usize], chunks: &[Chunk])
+/// Counts anew: as many whole groups as there are counts, but for the first `same` ones, which are
+/// as they were. A step for each, and for each chunk of the others.
+pub fn count(groups: &mut [usize], chunks: &[Chunk], old: &[usize], same: usize)
     requires whole { GROUP * length groups.old ≤ length chunks.now }
     requires rest { length chunks.now < GROUP * length groups.old + GROUP }
+    requires same { (g : ℕ) → g < same → g < length groups.old → (g < length old.now)
+        × (get_or old.now g 0 ≡ seen_in_group chunks.now g) }
     ensures { AreGroups groups.new chunks.now }
 {
     for g in 0..groups.len() {
-        groups[g] = seen_in(&chunks[g * GROUP..g * GROUP + GROUP]);
+        groups[g] = if g < same {
+            old[g]
+        } else {
+            seen_in(&chunks[g * GROUP..g * GROUP + GROUP])
+        };
     }
 }
 

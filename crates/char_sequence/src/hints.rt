@@ -169,10 +169,8 @@ fn position(positions: &[u32], serial: u32) -> usize {
 
 /// Renews the positions of the chunks from one on.
 fn renumber(serials: &[u32], positions: &mut [u32], from: usize) {
-    for (i, serial) in serials.iter().enumerate() {
-        if i >= from {
-            set_position(positions, *serial, low(i));
-        }
+    for (i, serial) in serials.iter().enumerate().skip(from) {
+        set_position(positions, *serial, low(i));
     }
 }
 

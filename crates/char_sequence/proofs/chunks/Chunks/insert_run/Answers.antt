@@ -1,7 +1,7 @@
 use Rattle.std.proofs.Common.{length, refl, ◌∙◌, ap, arith}
 use Rattle.char_sequence.proofs.ReplacedLemmas.{few_replaced, run_cells, run_sized}
 use Rattle.char_sequence.proofs.SumLemmas.{counted_run, fits_run}
-use Rattle.char_sequence.proofs.GroupLemmas.{written_back}
+use Rattle.char_sequence.proofs.GroupLemmas.{front_groups, front_stays, written_back}
 use Rattle.char_sequence.proofs.chunks.Chunks.insert_run.Goals as goal
 
 pub overflow_add-self : goal.overflow_add-self
@@ -45,3 +45,10 @@ returns-clause-put c =
     rw (← c.self.view_is)
     (run_cells c.self.inside.chunks.items c.args.i c.args.j c.in_ok-cut.cut.items _ _ c.deref-2.result.now c.args.cells.now
     refl (c.deref-2.ensures.value ∙ joined) c.in_ok-cut.ensures.cells c.in_ok-replace.ensures.put)
+
+pub count-requires-clause-same : goal.count-requires-clause-same
+count-requires-clause-same c = λ g below inside.
+    let place = rw (← c.self.view_is) at c.requires in
+    let stays = front_stays c.self.inside.chunks.items _ _ c.args.i c.args.j place c.in_ok-replace.ensures.put in
+    rw (c.deref-4.ensures.value, c.deref-3.ensures.value)
+    (front_groups c.self.inside.groups.items c.self.inside.chunks.items _ c.args.i c.self.invariant.3 stays.0 stays.1 g below)
