@@ -34,7 +34,7 @@ impl Model for Building {
 
 impl Building {
     /// No cells. Takes no memory.
-    pub fn new(alloc: Global) -> Building
+    pub(crate) fn new(alloc: Global) -> Building
         ensures { result ≡ [] }
     {
         Building {
@@ -45,7 +45,7 @@ impl Building {
 
     /// Puts a cell behind all others. An error is out of memory (1), and leaves them as they were.
     /// Constant, but for each 256th cell, for which a chunk of 256 is made.
-    pub fn push(&mut self, cell: Cell) -> Result<(), AllocError>
+    pub(crate) fn push(&mut self, cell: Cell) -> Result<(), AllocError>
         ensures put { OnOk result (self.new ≡ self.old ++ cell ∷ []) }
         ensures err { OnErr result (self.new ≡ self.old) }
     {
@@ -59,7 +59,7 @@ impl Building {
 
     /// The chunks of all cells. An error is out of memory (1). A step for each cell that has no
     /// chunk yet.
-    pub fn into_chunks(self) -> Result<Chunks, AllocError>
+    pub(crate) fn into_chunks(self) -> Result<Chunks, AllocError>
         ensures { IfOk result (λ chunks. cells_of chunks ≡ self) }
     {
         let Building { mut chunks, rest } = self;

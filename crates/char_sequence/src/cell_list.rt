@@ -1,5 +1,5 @@
 //! Cells in twelve bytes each.
-ghost use Rattle.std.specs.Prelude.{◌≡◌, ◌≤◌, ◌<◌, ◌++◌, ◌∷◌, ℕ, List, [], Some, length, take, drop};
+ghost use Rattle.std.specs.Prelude.{◌≡◌, ◌≤◌, ◌<◌, ◌++◌, ◌∷◌, List, [], Some, length, take, drop};
 ghost use Rattle.std.specs.Prelude.{slice_get, slice_set, true, IfOk, OnOk, OnErr};
 ghost use Rattle.char_sequence.specs.declared.cell.Cell as cell;
 ghost use Rattle.char_sequence.specs.Packed.{unpacked, IsPacked, Grows};
@@ -39,7 +39,7 @@ impl Model for CellList {
 
 impl CellList {
     /// No cells. Takes no memory.
-    pub fn new(alloc: Global) -> CellList
+    pub(crate) fn new(alloc: Global) -> CellList
         ensures { result ≡ [] }
     {
         CellList {
@@ -49,7 +49,7 @@ impl CellList {
     }
 
     /// These cells, with room for no more. An error is out of memory (1). A step for each.
-    pub fn of(alloc: Global, cells: &[Cell]) -> Result<CellList, AllocError>
+    pub(crate) fn of(alloc: Global, cells: &[Cell]) -> Result<CellList, AllocError>
         ensures { IfOk result (λ list. list ≡ cells.now) }
     {
         let mut list = CellList {
@@ -63,14 +63,14 @@ impl CellList {
     }
 
     /// How many cells. Constant.
-    pub fn len(&self) -> usize
+    pub(crate) fn len(&self) -> usize
         ensures { result ≡ length self.now }
     {
         self.cells.len()
     }
 
     /// A cell, or `None` past the last one. Constant.
-    pub fn get(&self, i: usize) -> Option<Cell>
+    pub(crate) fn get(&self, i: usize) -> Option<Cell>
         ensures { result ≡ slice_get self.now i }
     {
         let packed = self.cells.get(i)?;
@@ -82,7 +82,7 @@ impl CellList {
     }
 
     /// Puts a cell behind all others. An error is out of memory (1), and leaves them as they were.
-    pub fn push(&mut self, cell: Cell) -> Result<(), AllocError>
+    pub(crate) fn push(&mut self, cell: Cell) -> Result<(), AllocError>
         ensures put { OnOk result (self.new ≡ self.old ++ cell ∷ []) }
         ensures err { OnErr result (self.new ≡ self.old) }
     {
@@ -93,7 +93,7 @@ impl CellList {
 
     /// Puts a cell before the i-th one, or behind the last one. An error is out of memory (1), and
     /// leaves them as they were. The cells behind move.
-    pub fn insert(&mut self, i: usize, cell: Cell) -> Result<(), AllocError>
+    pub(crate) fn insert(&mut self, i: usize, cell: Cell) -> Result<(), AllocError>
         requires { i ≤ length self.old }
         ensures put { OnOk result (self.new ≡ take i self.old ++ cell ∷ drop i self.old) }
         ensures err { OnErr result (self.new ≡ self.old) }
@@ -104,7 +104,7 @@ impl CellList {
     }
 
     /// Makes a cell a tombstone. Constant.
-    pub fn remove(&mut self, i: usize)
+    pub(crate) fn remove(&mut self, i: usize)
         requires { i < length self.old }
         ensures removed { (c : cell.Cell) → slice_get self.old i ≡ Some c
             → self.new ≡ slice_set self.old i (record c { is_removed = true }) }

@@ -38,7 +38,7 @@ impl Model for Chunk {
 
 impl Chunk {
     /// A chunk of these cells, from 1 to 512 of them. An error is out of memory (1).
-    pub fn of(alloc: Global, cells: &[Cell]) -> Result<Chunk, AllocError>
+    pub(crate) fn of(alloc: Global, cells: &[Cell]) -> Result<Chunk, AllocError>
         requires some { 0 < length cells.now }
         requires few { length cells.now ≤ MAX_CHUNK }
         ensures { IfOk result (λ chunk. chunk ≡ cells.now) }
@@ -51,7 +51,12 @@ impl Chunk {
 
     /// Puts its cells from one on and before another one behind others. An error is out of memory
     /// (1). A step for each.
-    pub fn copy(&self, from: usize, end: usize, into: &mut Vec<Cell>) -> Result<(), AllocError>
+    pub(crate) fn copy(
+        &self,
+        from: usize,
+        end: usize,
+        into: &mut Vec<Cell>,
+    ) -> Result<(), AllocError>
         requires rising { from ≤ end }
         requires within { end ≤ length self.now }
         ensures { OnOk result (into.new.items
@@ -66,21 +71,21 @@ impl Chunk {
     }
 
     /// A cell of it, or `None` past the last one. Constant.
-    pub fn cell(&self, j: usize) -> Option<Cell>
+    pub(crate) fn cell(&self, j: usize) -> Option<Cell>
         ensures { result ≡ slice_get self.now j }
     {
         self.cells.get(j)
     }
 
     /// How many cells it has, tombstones too. Constant.
-    pub fn len(&self) -> usize
+    pub(crate) fn len(&self) -> usize
         ensures { result ≡ length self.now }
     {
         self.cells.len()
     }
 
     /// How many of its cells a reader sees. Constant.
-    pub fn shown(&self) -> usize
+    pub(crate) fn shown(&self) -> usize
         ensures shown { result ≡ length (shown_of self.now) }
         ensures few { result ≤ MAX_CHUNK }
     {
@@ -88,7 +93,7 @@ impl Chunk {
     }
 
     /// Whether it can take one cell more. Constant.
-    pub fn has_room(&self) -> bool
+    pub(crate) fn has_room(&self) -> bool
         ensures { result ≡ true → length self.now < MAX_CHUNK }
     {
         self.cells.len() < MAX_CHUNK
@@ -96,7 +101,7 @@ impl Chunk {
 
     /// Puts a cell before its j-th cell, or behind its last one. An error is out of memory (1),
     /// and leaves it as it was. The cells behind move.
-    pub fn insert(&mut self, j: usize, cell: Cell) -> Result<(), AllocError>
+    pub(crate) fn insert(&mut self, j: usize, cell: Cell) -> Result<(), AllocError>
         requires place { j ≤ length self.old }
         requires room { length self.old < MAX_CHUNK }
         ensures put { OnOk result (self.new ≡ take j self.old ++ cell ∷ drop j self.old) }
@@ -111,7 +116,7 @@ impl Chunk {
     }
 
     /// Makes a cell a tombstone. Constant.
-    pub fn remove(&mut self, j: usize)
+    pub(crate) fn remove(&mut self, j: usize)
         requires { j < length self.old }
         ensures removed { (c : cell.Cell) → slice_get self.old j ≡ Some c
             → self.new ≡ slice_set self.old j (record c { is_removed = true }) }
@@ -127,7 +132,7 @@ impl Chunk {
 }
 
 /// How many of these cells a reader sees. A step for each.
-pub fn shown_in(cells: &[Cell]) -> usize
+pub(crate) fn shown_in(cells: &[Cell]) -> usize
     ensures { result ≡ count_by (λ c. not c.is_removed) cells.now }
 {
     cells.iter().filter(|cell| !cell.is_removed).count()

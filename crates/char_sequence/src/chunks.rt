@@ -50,7 +50,7 @@ impl Model for Chunks {
 
 impl Chunks {
     /// No cells. Constant.
-    pub fn new(alloc: Global) -> Chunks
+    pub(crate) fn new(alloc: Global) -> Chunks
         ensures { result ≡ [] }
     {
         Chunks {
@@ -61,19 +61,19 @@ impl Chunks {
     }
 
     /// The allocator that it keeps.
-    pub fn allocator(&self) -> Global {
+    pub(crate) fn allocator(&self) -> Global {
         *self.chunks.allocator()
     }
 
     /// How many chunks there are. Constant.
-    pub fn len(&self) -> usize
+    pub(crate) fn len(&self) -> usize
         ensures { result ≡ length self.now }
     {
         self.chunks.len()
     }
 
     /// How many whole 64 chunks there are. Constant.
-    pub fn groups(&self) -> usize
+    pub(crate) fn groups(&self) -> usize
         ensures whole { GROUP * result ≤ length self.now }
         ensures rest { length self.now < GROUP * result + GROUP }
     {
@@ -81,7 +81,7 @@ impl Chunks {
     }
 
     /// How many of the cells of the g-th 64 chunks a reader sees. One tick. Constant.
-    pub fn group(&self, g: usize, ticks: &mut Ticks) -> usize
+    pub(crate) fn group(&self, g: usize, ticks: &mut Ticks) -> usize
         requires { GROUP * g + GROUP ≤ length self.now }
         ensures seen { result ≡ seen_in_group self.now g }
         ensures tick { ticks.new ≡ ticks.old + 1 }
@@ -91,7 +91,7 @@ impl Chunks {
     }
 
     /// How many of its cells a reader sees. Constant.
-    pub fn shown(&self) -> usize
+    pub(crate) fn shown(&self) -> usize
         ensures { result ≡ length (shown_of (cells_of self.now)) }
     {
         self.shown
@@ -99,7 +99,7 @@ impl Chunks {
 
     /// What holds of all chunks: none is empty, none has over 512 cells, and where there are
     /// several, each has at least 256; and they are at most 2^54. It does nothing.
-    pub fn are_sized(&self)
+    pub(crate) fn are_sized(&self)
         ensures chunks { AreChunks self.now }
         ensures many { length self.now ≤ 2 ^ 54 }
     {
@@ -107,7 +107,7 @@ impl Chunks {
     }
 
     /// The size of a chunk, or `None` past the last one. One tick. Constant.
-    pub fn chunk(&self, i: usize, ticks: &mut Ticks) -> Option<ChunkSize>
+    pub(crate) fn chunk(&self, i: usize, ticks: &mut Ticks) -> Option<ChunkSize>
         ensures size { result ≡ size_at self.now i }
         ensures tick { ticks.new ≡ ticks.old + 1 }
     {
@@ -120,7 +120,7 @@ impl Chunks {
     }
 
     /// A cell of a chunk, or `None` past the last one. One tick. Constant.
-    pub fn cell(&self, i: usize, j: usize, ticks: &mut Ticks) -> Option<Cell>
+    pub(crate) fn cell(&self, i: usize, j: usize, ticks: &mut Ticks) -> Option<Cell>
         ensures cell { result ≡ cell_at self.now i j }
         ensures tick { ticks.new ≡ ticks.old + 1 }
     {
@@ -132,7 +132,7 @@ impl Chunks {
     /// behind its last one. How many chunks there are more: they stand behind the i-th. No cells
     /// change nothing. An error is out of memory (1), and leaves all as it was. It moves at most
     /// the cells of one chunk, and where chunks come, the chunks behind.
-    pub fn insert(&mut self, i: usize, j: usize, cells: &[Cell]) -> Result<usize, AllocError>
+    pub(crate) fn insert(&mut self, i: usize, j: usize, cells: &[Cell]) -> Result<usize, AllocError>
         requires { IsPlace self.old i j }
         ensures put { OnOk result (cells_of self.new
             ≡ before self.old i j ++ (cells.now ++ from self.old i j)) }
@@ -192,7 +192,7 @@ impl Chunks {
 
     /// Puts cells behind all others, as a chunk of their own. An error is out of memory (1), and
     /// leaves all as it was. A step for each of these cells, and 64 steps for each 64th chunk.
-    pub fn append(&mut self, cells: &[Cell]) -> Result<(), AllocError>
+    pub(crate) fn append(&mut self, cells: &[Cell]) -> Result<(), AllocError>
         requires sized { AreSized MIN_CHUNK self.old }
         requires many { MIN_CHUNK ≤ length cells.now }
         requires few { length cells.now ≤ MAX_CHUNK }
@@ -213,7 +213,7 @@ impl Chunks {
     }
 
     /// The place behind all cells. Constant.
-    pub fn end(&self) -> Place
+    pub(crate) fn end(&self) -> Place
         ensures place { IsPlace self.now result.chunk result.at }
         ensures before { before self.now result.chunk result.at ≡ cells_of self.now }
         ensures from { from self.now result.chunk result.at ≡ [] }
@@ -228,7 +228,7 @@ impl Chunks {
     }
 
     /// Makes a cell a tombstone. Constant.
-    pub fn remove(&mut self, i: usize, j: usize)
+    pub(crate) fn remove(&mut self, i: usize, j: usize)
         requires { (i < length self.old) × (j < length (get_or self.old i [])) }
         ensures { (c : cell.Cell) → cell_at self.old i j ≡ Some c → cells_of self.new
             ≡ before self.old i j ++ (record c { is_removed = true }) ∷ from self.old i (j + 1) }

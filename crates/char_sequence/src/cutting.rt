@@ -10,7 +10,7 @@ use std::alloc::{AllocError, Global};
 
 /// The cells of the i-th chunk, with a run of cells before its j-th one; where there is no i-th, the
 /// run. An error is out of memory (1).
-pub fn joined(
+pub(crate) fn joined(
     alloc: Global,
     chunks: &[Chunk],
     i: usize,
@@ -35,7 +35,7 @@ pub fn joined(
 
 /// Chunks of these cells: one, if they are at most 512; else of 256 each, but the last one, which
 /// has from 257 to 512. An error is out of memory (1).
-pub fn cut(alloc: Global, cells: &[Cell]) -> Result<Vec<Chunk>, AllocError>
+pub(crate) fn cut(alloc: Global, cells: &[Cell]) -> Result<Vec<Chunk>, AllocError>
     ensures cells { IfOk result (λ chunks. cells_of chunks.items ≡ cells.now) }
     ensures chunks { IfOk result (λ chunks. AreChunks chunks.items) }
     ensures halved { IfOk result (λ chunks. MIN_CHUNK ≤ length cells.now
@@ -56,7 +56,7 @@ pub fn cut(alloc: Global, cells: &[Cell]) -> Result<Vec<Chunk>, AllocError>
 
 /// Puts these chunks in place of the i-th one, or behind all where there is no i-th. An error is
 /// out of memory (1), and leaves all as it was. The chunks behind move.
-pub fn replace(chunks: &mut Vec<Chunk>, i: usize, by: Vec<Chunk>) -> Result<(), AllocError>
+pub(crate) fn replace(chunks: &mut Vec<Chunk>, i: usize, by: Vec<Chunk>) -> Result<(), AllocError>
     requires { i ≤ length chunks.old.items }
     ensures put { OnOk result (chunks.new.items
         ≡ take i chunks.old.items ++ (by.items ++ drop (i + 1) chunks.old.items)) }

@@ -23,7 +23,7 @@ const FINDS_PER_CHUNK: usize = 8;
 /// character before them. Constant where no mark ends just after a character; else a step for each
 /// chunk of tombstones, and about the less of a question to the marks for each tombstone and a
 /// search for each character that a mark ends just after.
-pub fn last_ended<M: EndsAfter>(
+pub(crate) fn last_ended<M: EndsAfter>(
     chunks: &Chunks,
     hints: &Hints,
     from: &Place,

@@ -15,7 +15,7 @@ use op_model::Ticks;
 
 /// The place before the cell with this id, or `None` where there is none. The cell that was put in
 /// last and the one behind it are tried first, then the chunk that is hinted at, then all.
-pub fn place(chunks: &Chunks, hints: &Hints, id: &OpId) -> Option<Place>
+pub(crate) fn place(chunks: &Chunks, hints: &Hints, id: &OpId) -> Option<Place>
     ensures { MatchOption result (has_cell (cells_of chunks.now) id.now ≡ false)
         (λ p. IsPlaceOf chunks.now id.now p.chunk p.at) }
 {
@@ -78,7 +78,7 @@ fn in_all(chunks: &Chunks, id: &OpId) -> Option<Place>
 }
 
 /// Whether an origin is there: the beginning always is.
-pub fn knows(chunks: &Chunks, hints: &Hints, origin: &Option<OpId>) -> bool
+pub(crate) fn knows(chunks: &Chunks, hints: &Hints, origin: &Option<OpId>) -> bool
     ensures { result ≡ is_known (cells_of chunks.now) origin.now }
 {
     match origin {
@@ -91,7 +91,7 @@ pub fn knows(chunks: &Chunks, hints: &Hints, origin: &Option<OpId>) -> bool
 }
 
 /// Whether characters are there.
-pub fn knows_all(chunks: &Chunks, hints: &Hints, ids: &[OpId]) -> bool
+pub(crate) fn knows_all(chunks: &Chunks, hints: &Hints, ids: &[OpId]) -> bool
     ensures { result ≡ list_all (λ id. has_cell (cells_of chunks.now) id) ids.now }
 {
     for id in ids {
@@ -104,7 +104,7 @@ pub fn knows_all(chunks: &Chunks, hints: &Hints, ids: &[OpId]) -> bool
 }
 
 /// How many cells stand before a place. A step for each chunk before it.
-pub fn index(chunks: &Chunks, place: &Place) -> usize
+pub(crate) fn index(chunks: &Chunks, place: &Place) -> usize
     requires { IsPlace chunks.now place.now.chunk place.now.at }
     ensures { result ≡ length (before chunks.now place.now.chunk place.now.at) }
 {

@@ -13,7 +13,7 @@ pub(crate) const GROUP: usize = 64;
 
 /// Counts anew: as many whole groups as there are counts, but for the first `same` ones, which are
 /// as they were. A step for each, and for each chunk of the others.
-pub fn count(groups: &mut [usize], chunks: &[Chunk], old: &[usize], same: usize)
+pub(crate) fn count(groups: &mut [usize], chunks: &[Chunk], old: &[usize], same: usize)
     requires whole { GROUP * length groups.old ≤ length chunks.now }
     requires rest { length chunks.now < GROUP * length groups.old + GROUP }
     requires same { (g : ℕ) → g < same → g < length groups.old → (g < length old.now)
@@ -31,7 +31,7 @@ pub fn count(groups: &mut [usize], chunks: &[Chunk], old: &[usize], same: usize)
 
 /// Counts the last 64 chunks, if one that came behind the others made them a whole group. The room
 /// for a count is there. A step for each of the 64, and none if they aren't whole.
-pub fn count_last(groups: &mut Vec<usize>, chunks: &[Chunk])
+pub(crate) fn count_last(groups: &mut Vec<usize>, chunks: &[Chunk])
     requires room { vec_len groups.old < vec_capacity groups.old }
     requires whole { GROUP * length groups.old.items ≤ length chunks.now }
     requires rest { length chunks.now ≤ GROUP * length groups.old.items + GROUP }
@@ -57,7 +57,7 @@ fn seen_in(chunks: &[Chunk]) -> usize
 }
 
 /// Takes the count of the i-th chunk away from that of its group, and another one in. Constant.
-pub fn recount(groups: &mut [usize], i: usize, before: usize, after: usize)
+pub(crate) fn recount(groups: &mut [usize], i: usize, before: usize, after: usize)
     ensures { (held : ChunkCells) (k new : List cell.Cell) → AreGroups groups.old held
         → AreSized 1 held → length held ≤ 2 ^ 54 → i < length held → k ≡ get_or held i k
         → before ≡ seen_in k → after ≡ seen_in new → after ≤ 512

@@ -12,7 +12,7 @@ use op_model::Ticks;
 /// A place behind tombstones that follow a place: past its chunk, if no reader sees a cell from
 /// there on, and past the next ones that show nothing. A step for each of these chunks, but for
 /// whole 64 chunks one step.
-pub fn past_hidden(chunks: &Chunks, from: &Place) -> Place
+pub(crate) fn past_hidden(chunks: &Chunks, from: &Place) -> Place
     requires { IsPlace chunks.now from.now.chunk from.now.at }
     ensures { Hides chunks.now from.now result }
 {
@@ -76,7 +76,7 @@ fn next_chunk(chunks: &Chunks, at: &Place) -> Option<Place>
 
 /// The place of the first cell from a place on that a reader sees; the end where there is none. A
 /// step for each chunk up to there, and for each cell of the first and of the last one.
-pub fn first_shown(chunks: &Chunks, from: &Place) -> Place
+pub(crate) fn first_shown(chunks: &Chunks, from: &Place) -> Place
     requires { IsPlace chunks.now from.now.chunk from.now.at }
     ensures { HidesUpTo chunks.now from.now result }
 {

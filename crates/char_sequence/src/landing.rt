@@ -14,7 +14,12 @@ use op_ids::OpId;
 
 /// Where a cell goes: behind its origin and past all greater ids that follow, or `None` where the
 /// origin isn't there.
-pub fn landing(chunks: &Chunks, hints: &Hints, origin: &Option<OpId>, cell: &Cell) -> Option<Place>
+pub(crate) fn landing(
+    chunks: &Chunks,
+    hints: &Hints,
+    origin: &Option<OpId>,
+    cell: &Cell,
+) -> Option<Place>
     ensures { MatchOption result (is_known (cells_of chunks.now) origin.now ≡ false)
         (Lands chunks.now origin.now cell.now) }
 {

@@ -7,7 +7,7 @@ use crate::cell::Cell;
 use crate::cell_list::CellList;
 
 /// The place of the character behind a place in the text, or 0 behind the last one. Constant.
-pub fn next_of(next: &[u32], at: usize) -> u32
+pub(crate) fn next_of(next: &[u32], at: usize) -> u32
     ensures { result ≡ next_of_place next.now at }
 {
     match next.get(at) {
@@ -17,7 +17,7 @@ pub fn next_of(next: &[u32], at: usize) -> u32
 }
 
 /// The character at a place, counted from 1, or `None` where there is none. Constant.
-pub fn cell_at(cells: &CellList, at: usize) -> Option<Cell>
+pub(crate) fn cell_at(cells: &CellList, at: usize) -> Option<Cell>
     ensures { result ≡ cell_at_place cells.now at }
 {
     if at == 0 {
@@ -27,7 +27,7 @@ pub fn cell_at(cells: &CellList, at: usize) -> Option<Cell>
 }
 
 /// The place that a character goes behind: from a place on past all greater ids that follow.
-pub fn past(cells: &CellList, next: &[u32], from: usize, cell: &Cell) -> usize
+pub(crate) fn past(cells: &CellList, next: &[u32], from: usize, cell: &Cell) -> usize
     ensures { (order : List ℕ) (cs : List Cell) → Leads cells.now next.now from order cs
         → length order ≤ length cells.now → Passes cell.now from order cs result }
 {
@@ -47,7 +47,7 @@ pub fn past(cells: &CellList, next: &[u32], from: usize, cell: &Cell) -> usize
 }
 
 /// Links a place to another one.
-pub fn tie(next: &mut Vec<u32>, at: usize, behind: u32)
+pub(crate) fn tie(next: &mut Vec<u32>, at: usize, behind: u32)
     ensures { at < length next.old.items
         → next.new.items ≡ slice_set next.old.items at behind }
 {

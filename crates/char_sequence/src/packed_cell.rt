@@ -24,7 +24,7 @@ pub struct PackedCell {
 
 impl PackedCell {
     /// A cell of which it is known where its replica stands among some.
-    pub fn new(cell: &Cell, maker: u8) -> PackedCell
+    pub(crate) fn new(cell: &Cell, maker: u8) -> PackedCell
         ensures maker { result.maker ≡ maker }
         ensures counter { 0 < counter_of result }
         ensures cell { (makers : List ℕ) → get_or makers maker 0 ≡ cell.now.id.replica
@@ -41,7 +41,7 @@ impl PackedCell {
     }
 
     /// The counter of its id.
-    pub fn counter(&self) -> u64
+    pub(crate) fn counter(&self) -> u64
         ensures counter { result ≡ counter_of self.now }
         ensures in_range { result ≤ MAX_COUNTER }
     {

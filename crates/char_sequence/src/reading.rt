@@ -12,7 +12,7 @@ use op_model::Ticks;
 use std::alloc::AllocError;
 
 /// The first cell from a place on, and the place behind it; `None` at the end.
-pub fn next(chunks: &Chunks, place: &Place) -> Option<(Cell, Place)>
+pub(crate) fn next(chunks: &Chunks, place: &Place) -> Option<(Cell, Place)>
     requires { IsPlace chunks.now place.now.chunk place.now.at }
     ensures { MatchOption result (from_of chunks.now place.now.chunk place.now.at ≡ [])
         (λ found. Passes chunks.now place.now found.0 found.1) }
@@ -39,7 +39,7 @@ pub fn next(chunks: &Chunks, place: &Place) -> Option<(Cell, Place)>
 }
 
 /// The ids of the tombstones from a place on. An error is out of memory (1).
-pub fn tombstones(chunks: &Chunks, from: &Place) -> Result<Vec<OpId>, AllocError>
+pub(crate) fn tombstones(chunks: &Chunks, from: &Place) -> Result<Vec<OpId>, AllocError>
     requires { IsPlace chunks.now from.now.chunk from.now.at }
     ensures { IfOk result (λ found. found.items
         ≡ first_removed (from_of chunks.now from.now.chunk from.now.at)) }
@@ -57,7 +57,7 @@ pub fn tombstones(chunks: &Chunks, from: &Place) -> Result<Vec<OpId>, AllocError
 }
 
 /// The values of the cells that a reader sees. An error is out of memory (1).
-pub fn values(chunks: &Chunks) -> Result<Vec<char>, AllocError>
+pub(crate) fn values(chunks: &Chunks) -> Result<Vec<char>, AllocError>
     ensures { IfOk result (λ found. found.items ≡ shown_values (cells_of chunks.now)) }
 {
     let mut found = Vec::new(chunks.allocator());

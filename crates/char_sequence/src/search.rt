@@ -12,7 +12,7 @@ use op_ids::OpId;
 
 /// The place of the cell with an id, counted from 1, or `None` where there is none. A step for each
 /// cell.
-pub fn place(cells: &CellList, id: &OpId) -> Option<usize>
+pub(crate) fn place(cells: &CellList, id: &OpId) -> Option<usize>
     ensures { MatchOption result (has_cell cells.now id.now ≡ false)
         (λ at. (c : cell.Cell) × (cell_at_place cells.now at ≡ Some c)
         × (is_same c.id id.now ≡ true)) }
@@ -26,7 +26,7 @@ pub fn place(cells: &CellList, id: &OpId) -> Option<usize>
 }
 
 /// Whether there is a cell, and it has an id.
-pub fn has_id(cell: Option<Cell>, id: &OpId) -> bool
+pub(crate) fn has_id(cell: Option<Cell>, id: &OpId) -> bool
     ensures { result ≡ has_id_at cell id.now }
 {
     match cell {

@@ -22,7 +22,7 @@ use std::alloc::AllocError;
 
 /// The k-th cell that a reader sees, counted from 0: a tick for each whole 64 chunks before it, for
 /// each chunk of its own 64, and for each cell of its chunk.
-pub fn shown(chunks: &Chunks, k: usize, ticks: &mut Ticks) -> Option<Seen>
+pub(crate) fn shown(chunks: &Chunks, k: usize, ticks: &mut Ticks) -> Option<Seen>
     ensures found { MatchOption result (shown_at (cells_of chunks.now) k ≡ None)
         (IsSeen chunks.now 0 0 k) }
     ensures ticks { ticks.new
@@ -110,7 +110,7 @@ fn shown_in(chunks: &Chunks, i: usize, cells: usize, k: usize, ticks: &mut Ticks
 
 /// The place behind the first `count` cells that a reader sees, or `None` where there are fewer.
 /// Costs what `shown` does.
-pub fn gap(chunks: &Chunks, count: usize) -> Option<Gap>
+pub(crate) fn gap(chunks: &Chunks, count: usize) -> Option<Gap>
     ensures { MatchOption result (length (shown_of (cells_of chunks.now)) < count)
         (λ gap. (count ≤ length (shown_of (cells_of chunks.now))) × (gap.count ≡ count)
         × IsGap chunks.now gap) }
@@ -134,7 +134,7 @@ pub fn gap(chunks: &Chunks, count: usize) -> Option<Gap>
 
 /// The place behind the first `count` cells that a reader sees; the end where there are fewer.
 /// Costs what `shown` does.
-pub fn behind(chunks: &Chunks, count: usize) -> Place
+pub(crate) fn behind(chunks: &Chunks, count: usize) -> Place
     ensures place { IsPlace chunks.now result.chunk result.at }
     ensures rest { from_of chunks.now result.chunk result.at
         ≡ behind_shown (cells_of chunks.now) count }
@@ -147,7 +147,7 @@ pub fn behind(chunks: &Chunks, count: usize) -> Place
 
 /// The ids of `count` cells that a reader sees, from the k-th on, or of as many as there are.
 /// Chunks that show nothing are passed in one step each.
-pub fn shown_from(chunks: &Chunks, k: usize, count: usize) -> Result<Vec<OpId>, AllocError>
+pub(crate) fn shown_from(chunks: &Chunks, k: usize, count: usize) -> Result<Vec<OpId>, AllocError>
     ensures range { IfOk result (λ ids. ids.items
         ≡ map (λ c. c.id) (take count (drop k (shown_of (cells_of chunks.now))))) }
     ensures few { IfOk result (λ ids. length ids.items ≤ count) }

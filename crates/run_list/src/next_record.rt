@@ -1,5 +1,5 @@
 //! The record of what is typed next.
-ghost use Rattle.std.specs.Prelude.{◌≡◌, ◌≤◌, true, length, take, IfOk, IfSome, IsTrue};
+ghost use Rattle.std.specs.Prelude.{◌≡◌, ◌≤◌, length, take, IfOk, IfSome, IsTrue};
 ghost use Rattle.std.specs.Char.{IsScalar};
 ghost use Rattle.change_codec.specs.Formats.{IsOf};
 ghost use Rattle.op_pieces.specs.Pieces.{has_room_behind};

@@ -38,17 +38,17 @@ pub(crate) fn put_front(
             count: 1,
             records: len as u64,
         }),
-        None => put_read(alloc, format, bytes, list),
+        None => put_read(list, alloc, format, bytes),
     }
 }
 
 /// The same, for any piece. The bytes of a single operation are copied as they are unless it may go
 /// on with a run.
 fn put_read(
+    list: &mut RunWriter,
     alloc: Global,
     format: Format,
     bytes: &[u8],
-    list: &mut RunWriter,
 ) -> Result<Front, StreamError>
     ensures found { IfOk result (λ front. PutsFront format bytes.now front list.old list.new) }
     ensures none { IsErrOf result Stream → BeginsWithNone format bytes.now }
