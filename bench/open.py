@@ -2,8 +2,8 @@
 
 The files are of 10^4, 10^5 and 10^6 inserts of one replica, typed at the end, at the front, at random places, and in 1,000
 documents in turn. Each is opened by a dump of a document that has no operations, five times, by turns with the program before,
-if one is named; the middle one is told. The memory is the greatest resident set of the program, and is given for each operation
-beside its record in the file."""
+if one is named; the middle one is told. The memory is the greatest resident set of the program, for each operation in all and beside
+its record in the file; and then what a session that opened the file holds, for each operation in all."""
 
 import argparse
 import multiprocessing
@@ -14,6 +14,8 @@ import tempfile
 import time
 
 import store_file
+from memory import resident
+from session import Session
 
 ROUNDS = 5
 COUNTS = (10_000, 100_000, 1_000_000)
@@ -32,6 +34,15 @@ def opened(program, name):
     run = subprocess.Popen([program, "dump", name, "2000"], stdout=subprocess.DEVNULL, stderr=subprocess.DEVNULL)
     _, status, usage = os.wait4(run.pid, 0)
     return time.perf_counter() - started, usage.ru_maxrss * 1024, os.waitstatus_to_exitcode(status)
+
+
+def held(program, name):
+    """The resident memory of a session that has opened the file."""
+    session = Session(program, name)
+    session.ask(op="status")
+    memory = resident(session.run.pid)
+    session.end()
+    return memory
 
 
 def middle(runs):
@@ -61,6 +72,7 @@ def main():
                     print(
                         f"{shape:9} {count:9} operations, {size:11} bytes, {when:6}: {took:7.3f} s, {took / count * 1e6:6.2f} us and "
                         f"{memory / count:5.0f} bytes of memory an operation, {(memory - size) / count:5.0f} beside its record, "
+                        f"{held(os.path.abspath(programs[when]), name) / count:5.0f} once it is open, "
                         f"statuses {sorted({run[2] for run in found})}",
                         flush=True,
                     )
