@@ -98,7 +98,9 @@ fn single_records_and_runs_are_read(rt: HostRuntime) -> Result<(), Fail> {
         are 2 FIRST STRONG = FIRST STRONG : true
         are 4 FIRST SECOND CD = FIRST SECOND THIRD FOURTH : true
         are 4 AB CD = FIRST SECOND THIRD FOURTH : true
-        are 4 AB THIRD FOURTH = FIRST SECOND THIRD FOURTH : true",
+        are 4 AB THIRD FOURTH = FIRST SECOND THIRD FOURTH : true
+        are 4 FIRST SECOND THIRD FOURTH = FIRST SECOND THIRD FOURTH : true
+        are 4 FIRST SECOND THIRD THIRD = FIRST SECOND THIRD THIRD : true",
     )
 }
 
