@@ -46,8 +46,8 @@ pub(crate) fn open(
 /// returns how many operations that has then. An error is out of memory (1). What the draft takes
 /// for it.
 pub(crate) fn apply(drafts: &mut Vec<Draft>, at: usize, op: &Op) -> Result<u64, Refusal>
-    requires rising { IsUp (draft_numbers drafts.old.items) }
-    requires there { IsNumberAt (draft_numbers drafts.old.items) at op.now.doc }
+    requires there { IsUp (draft_numbers drafts.old.items)
+        × IsNumberAt (draft_numbers drafts.old.items) at op.now.doc }
     requires may_come { (ops : List Op) × AllDrafts drafts.old.items ops
         × Fits ops op.now.doc op.now }
     ensures numbers { OnOk result

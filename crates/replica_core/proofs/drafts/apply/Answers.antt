@@ -11,14 +11,14 @@ returns-in-Ok-clause-numbers c =
 
 pub returns-in-Ok-clause-drafts : goal.returns-in-Ok-clause-drafts
 returns-in-Ok-clause-drafts c = λ ops all may.
-    let found = found_at c.args.drafts.now.items c.args.at c.index_mut-draft.result.now c.args.op.now.doc c.requires.there c.index_mut-draft.ensures.value in
-    draft_put c.args.drafts.now.items c.args.at c.index_mut-draft.result.now c.apply.new.self ops c.args.op.now c.requires.rising found.0
+    let found = found_at c.args.drafts.now.items c.args.at c.index_mut-draft.result.now c.args.op.now.doc c.requires.there.1 c.index_mut-draft.ensures.value in
+    draft_put c.args.drafts.now.items c.args.at c.index_mut-draft.result.now c.apply.new.self ops c.args.op.now c.requires.there.0 found.0
     c.index_mut-draft.ensures.value found.1 all
     (λ draft. c.in-Ok.ensures.taken ops draft (may_come_at ops c.args.op.now.doc (draft_number c.index_mut-draft.result.now) c.args.op.now found.1 may))
 
 pub returns-in-Ok-clause-rev : goal.returns-in-Ok-clause-rev
 returns-in-Ok-clause-rev c = λ ops all may few.
-    let found = found_at c.args.drafts.now.items c.args.at c.index_mut-draft.result.now c.args.op.now.doc c.requires.there c.index_mut-draft.ensures.value in
+    let found = found_at c.args.drafts.now.items c.args.at c.index_mut-draft.result.now c.args.op.now.doc c.requires.there.1 c.index_mut-draft.ensures.value in
     let takes = draft_takes c.args.drafts.now.items c.args.at c.index_mut-draft.result.now c.args.op.now ops found.0 c.index_mut-draft.ensures.value found.1
     all may in
     draft_rev c.index_mut-draft.result.now c.apply.new.self ops c.args.op.now c.rev.result found.1 c.in-Ok.ensures.number
@@ -26,7 +26,7 @@ returns-in-Ok-clause-rev c = λ ops all may few.
 
 pub unreachable-requires : goal.unreachable-requires
 unreachable-requires c =
-    let found = found_at c.args.drafts.now.items c.args.at c.index_mut-draft.result.now c.args.op.now.doc c.requires.there c.index_mut-draft.ensures.value in
+    let found = found_at c.args.drafts.now.items c.args.at c.index_mut-draft.result.now c.args.op.now.doc c.requires.there.1 c.index_mut-draft.ensures.value in
     let takes = draft_takes c.args.drafts.now.items c.args.at c.index_mut-draft.result.now c.args.op.now c.requires.may_come.0 found.0 c.index_mut-draft.ensures.value found.1
     c.requires.may_come.1 c.requires.may_come.2 in
     let missing = (c.in-Err-UnknownId.ensures.unknown c.requires.may_come.0 takes.0).0 (ap Err c.in-Err-UnknownId.field-0-is) in

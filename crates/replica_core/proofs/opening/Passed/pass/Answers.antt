@@ -34,16 +34,13 @@ count-requires-clause-small c =
     let follows : MayFollow c.args.others.now c.args.op.now = c.if-not-may_take.ensures.0 refl in
     record_fits c.args.others.now c.args.op.now c.args.self.now.index.stream follows c.requires.counted.index.stream
 
-pub apply-requires-clause-rising : goal.apply-requires-clause-rising
-apply-requires-clause-rising c =
-    let drafts = c.in_ok-at.ensures.drafts c.args.others.now c.requires.numbers c.requires.drafts in
-    let pushed = documents-push c.args.others.now c.args.op.now in
-    rw (drafts.numbers, c.in_ok-at.ensures.numbers, c.requires.numbers, ← pushed) (documents_up (c.args.others.now ++ c.args.op.now ∷ []))
-
 pub apply-requires-clause-there : goal.apply-requires-clause-there
 apply-requires-clause-there c =
     let drafts = c.in_ok-at.ensures.drafts c.args.others.now c.requires.numbers c.requires.drafts in
-    rw drafts.numbers c.in_ok-at.ensures.place
+    let pushed = documents-push c.args.others.now c.args.op.now in (
+      rw (drafts.numbers, c.in_ok-at.ensures.numbers, c.requires.numbers, ← pushed) (documents_up (c.args.others.now ++ c.args.op.now ∷ [])),
+      rw drafts.numbers c.in_ok-at.ensures.place,
+    )
 
 pub apply-requires-clause-may_come : goal.apply-requires-clause-may_come
 apply-requires-clause-may_come c =
