@@ -4,7 +4,7 @@ use Rattle.std.proofs.Common.{take, drop, get_or, length-drop, get_or-drop, Some
 use Rattle.std.specs.Prelude.{slice_get, slice_range, slice_set}
 use Rattle.std.proofs.Math.Seq.{take-suc}
 use Rattle.std.proofs.lemmas.Option.{get_or_from_slice_get, slice_get_within}
-use Rattle.std.proofs.lemmas.List.{take-append-drop}
+use Rattle.std.proofs.lemmas.List.{set-get_or, take-append-drop}
 use Rattle.std.proofs.lemmas.List.Elements.{filter-append}
 use Rattle.std.proofs.lemmas.List.Sums.{count_by-le-length, length-filter}
 use Rattle.char_sequence.specs.declared.cell.Cell.{Cell}
@@ -113,9 +113,7 @@ few_shown cells visible is =
 
 -- a cell that is put where it stands
 pub same_set : (cells : List Cell) (j : ℕ) (c : Cell) → slice_get cells j ≡ Some c → slice_set cells j c ≡ cells
-same_set [] j c there = absurd (cc)
-same_set (y ∷ cells) zero c there = let first : y ≡ c = cc in rw first refl
-same_set (y ∷ cells) (suc j) c there = ap (λ cs. y ∷ cs) (same_set cells j c there)
+same_set cells j c there = ap (slice_set cells j) (sym (get_or_from_slice_get cells j c c there)) ∙ set-get_or cells j c
 
 -- within a list there is a cell
 pub not_past : (cells : List Cell) (j : ℕ) → slice_get cells j ≡ None → j < length cells → ⊥

@@ -4,7 +4,7 @@ use Rattle.std.proofs.Common.{refl, sym, ◌∙◌, ap, arith}
 use Rattle.std.specs.Prelude.{map, slice_get, slice_set, slice_index_or}
 use Rattle.std.specs.List.{All}
 use Rattle.std.specs.Prelude.{Result, Ok, Err, OnErr, option_map}
-use Rattle.std.proofs.lemmas.List.Elements.{All-append, All-cons, All-drop, All-push, All-set, All-take}
+use Rattle.std.proofs.lemmas.List.Elements.{All-append, All-cons, All-drop, All-push, All-take}
 use Rattle.std.proofs.lemmas.Option.{slice_get-map, slice_get_read}
 use Rattle.std.proofs.lemmas.Grind.{get_or_default_zero}
 use Rattle.std.proofs.lemmas.List.{drop-map, map-append, map-set, take-map}
@@ -52,9 +52,9 @@ one_more old new ps now p more grows all is =
     rw more (All-push (IsPacked new) ps p (still old new ps grows all) is)
 
 -- and these are the cells then
-pub more_cells : (old new : List ℕ) (ps now : List PackedCell) (p : PackedCell) (c : Cell) → now ≡ ps ++ p ∷ [] → Grows old new
+pub cells_behind : (old new : List ℕ) (ps now : List PackedCell) (p : PackedCell) (c : Cell) → now ≡ ps ++ p ∷ [] → Grows old new
     → All (IsPacked old) ps → unpacked new p ≡ c → map (unpacked new) now ≡ map (unpacked old) ps ++ c ∷ []
-more_cells old new ps now p c more grows all same =
+cells_behind old new ps now p c more grows all same =
     rw (more, map-append (unpacked new) ps (p ∷ []), same_cells old new ps grows all, same) refl
 
 -- one more among them
@@ -80,14 +80,7 @@ cells_put old new ps now i p c put grows all same =
       same,
     ) refl
 
--- a tombstone in its place is packed as it was
-pub one_removed : (makers : List ℕ) (ps : List PackedCell) (i : ℕ) (p : PackedCell) → p ≡ get_or ps i p → i < length ps
-    → All (IsPacked makers) ps → All (IsPacked makers) (slice_set ps i (record p { is_removed = true }))
-one_removed makers ps i p is within all =
-    let it : IsPacked makers p = rw (sym is) at (all i p within) in
-    All-set (IsPacked makers) ps i (record p { is_removed = true }) (record { known = it.known; counted = it.counted }) all
-
--- and these are the cells then
+-- the cells with a tombstone in the place of one
 pub cells_removed : (makers : List ℕ) (ps : List PackedCell) (i : ℕ) (p : PackedCell) (c : Cell) → p ≡ get_or ps i p → i < length ps
     → slice_get (map (unpacked makers) ps) i ≡ Some c
     → map (unpacked makers) (slice_set ps i (record p { is_removed = true }))

@@ -8,8 +8,8 @@ use crate::cell::Cell;
 use crate::chunk::{Chunk, MAX_CHUNK, MIN_CHUNK};
 use std::alloc::{AllocError, Global};
 
-/// The cells of the i-th chunk, with a run of cells before its j-th one; where there is no i-th, the
-/// run. An error is out of memory (1).
+/// The cells of the i-th chunk, with a run of cells before its j-th one; the run alone where there
+/// is no i-th. An error is out of memory (1).
 pub(crate) fn joined(
     alloc: Global,
     chunks: &[Chunk],

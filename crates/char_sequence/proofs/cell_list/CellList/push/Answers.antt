@@ -1,5 +1,5 @@
 use Rattle.std.proofs.Common.{◌∙◌}
-use Rattle.char_sequence.proofs.PackedLemmas.{more_cells, on_error, one_more, same_cells, still}
+use Rattle.char_sequence.proofs.PackedLemmas.{cells_behind, on_error, one_more, same_cells, still}
 use Rattle.char_sequence.proofs.cell_list.CellList.push.Goals as goal
 
 pub returns-in_err-packed-clause-err : goal.returns-in_err-packed-clause-err
@@ -22,5 +22,5 @@ invariant_of-self-2 c =
 pub returns-clause-put : goal.returns-clause-put
 returns-clause-put c =
     rw (← c.self.view_is)
-    (more_cells _ _ c.self.inside.cells.items _ c.in_ok-packed.packed c.args.cell c.in_ok-push.ensures.items c.pack.ensures.grows
+    (cells_behind _ _ c.self.inside.cells.items _ c.in_ok-packed.packed c.args.cell c.in_ok-push.ensures.items c.pack.ensures.grows
     c.self.invariant c.in_ok-packed.ensures.packed.1)
