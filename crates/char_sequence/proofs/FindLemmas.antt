@@ -9,16 +9,9 @@ use Rattle.std.proofs.lemmas.Bool.Decides.{nat_tests}
 use Rattle.op_ids.specs.Id.{Id, is_same}
 use Rattle.char_sequence.specs.declared.cell.Cell.{Cell}
 use Rattle.char_sequence.specs.Cells.{has_cell, is_known}
-use Rattle.char_sequence.specs.Chunks.{ChunkCells, IsPlaceOf, before, cell_at, cells_of, from, size_at}
+use Rattle.char_sequence.specs.Chunks.{ChunkCells, IsPlaceOf, before, cell_at, cells_of, from}
 use Rattle.char_sequence.specs.Finding.{has_id_at}
 use Rattle.char_sequence.proofs.PlaceLemmas.{from_cell, joined}
-
--- past the last chunk no cell has an id
-pub no_chunk_has : (held : ChunkCells) (i : ℕ) (id : Id) → size_at held i ≡ None → has_cell (get_or held i []) id ≡ false
-no_chunk_has [] zero id none = refl
-no_chunk_has [] (suc i) id none = refl
-no_chunk_has (k ∷ ks) zero id none = absurd (cc)
-no_chunk_has (k ∷ ks) (suc i) id none = no_chunk_has ks i id none
 
 -- the cell that has an id is there
 pub cell_there : (found : Option Cell) (id : Id) → has_id_at found id ≡ true → (c : Cell) × (found ≡ Some c) × (is_same c.id id ≡ true)
@@ -29,29 +22,12 @@ cell_there (Some c) id is = (c, refl, is)
 pub is_place_of : (held : ChunkCells) (id : Id) (i j : ℕ) → has_id_at (cell_at held i j) id ≡ true → IsPlaceOf held id i j
 is_place_of held id i j is = let one = cell_there (cell_at held i j) id is in record { c = one.0; cell = one.1; same = one.2 }
 
--- a cell of a chunk is an item of it
-cell_of_chunk : (held : ChunkCells) (i j : ℕ) → cell_at held i j ≡ slice_get (get_or held i []) j
-cell_of_chunk [] zero j = refl
-cell_of_chunk [] (suc i) j = refl
-cell_of_chunk (k ∷ ks) zero j = refl
-cell_of_chunk (k ∷ ks) (suc i) j = cell_of_chunk ks i j
-
 -- a cell without the id can be passed
 pub pass_cell : (cs : List Cell) (j : ℕ) (id : Id) → has_id_at (slice_get cs j) id ≡ false → has_cell (drop j cs) id ≡ has_cell (drop (j + 1) cs) id
 pass_cell [] zero id other = refl
 pass_cell [] (suc j) id other = rw add-one refl
 pass_cell (c ∷ cs) zero id other = rw other refl
 pass_cell (c ∷ cs) (suc j) id other = let rest = pass_cell cs j id other in rw (add-one (suc j)) (rw add-one at rest)
-
-pub pass_in_chunk : (held : ChunkCells) (i j : ℕ) (id : Id) → has_id_at (cell_at held i j) id ≡ false
-    → has_cell (get_or held i []) id ≡ has_cell (drop j (get_or held i [])) id
-    → has_cell (get_or held i []) id ≡ has_cell (drop (j + 1) (get_or held i [])) id
-pass_in_chunk held i j id other so = so ∙ pass_cell (get_or held i []) j id (rw (cell_of_chunk held i j) at other)
-
--- all cells of a chunk were passed
-pub passed_chunk : (held : ChunkCells) (i j : ℕ) (id : Id) → length (get_or held i []) ≤ j
-    → has_cell (get_or held i []) id ≡ has_cell (drop j (get_or held i [])) id → has_cell (get_or held i []) id ≡ false
-passed_chunk held i j id end so = so ∙ ap (λ cs. has_cell cs id) (drop_of_length-le (get_or held i []) end)
 
 -- all chunks were passed
 pub passed_all_chunks : (held : ChunkCells) (i : ℕ) (id : Id) → length held ≤ i

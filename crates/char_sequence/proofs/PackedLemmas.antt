@@ -1,15 +1,18 @@
 -- Cells in twelve bytes, and the replicas that are held apart.
-use Rattle.std.proofs.Common.{◌≡◌, ℕ, ◌+◌, ◌<◌, suc, zero, true, List, [], ◌∷◌, ◌++◌, length, length-append, take, drop, get_or, Some}
+use Rattle.std.proofs.Common.{◌≡◌, ◌≢◌, false, ℕ, ◌+◌, ◌<◌, suc, zero, true, List, [], ◌∷◌, ◌++◌, length, length-append, take, drop, get_or, Some}
 use Rattle.std.proofs.Common.{refl, sym, ◌∙◌, ap, arith}
 use Rattle.std.specs.Prelude.{map, slice_get, slice_set, slice_index_or}
 use Rattle.std.specs.List.{All}
 use Rattle.std.specs.Prelude.{Result, Ok, Err, OnErr, option_map}
 use Rattle.std.proofs.lemmas.List.Elements.{All-append, All-cons, All-drop, All-push, All-take}
+use Rattle.std.proofs.lemmas.Bool.Decides.{nat_tests}
 use Rattle.std.proofs.lemmas.Option.{slice_get-map, slice_get_read}
 use Rattle.std.proofs.lemmas.Grind.{get_or_default_zero}
 use Rattle.std.proofs.lemmas.List.{drop-map, map-append, map-set, take-map}
 use Rattle.char_sequence.specs.declared.cell.Cell.{Cell}
 use Rattle.char_sequence.specs.declared.packed_cell.PackedCell.{PackedCell}
+use Rattle.op_ids.specs.Id.{Id, is_same}
+use Rattle.char_sequence.specs.Finding.{has_id_at}
 use Rattle.char_sequence.specs.Packed.{counter_of, unpacked, IsPacked, Grows}
 
 -- behind some replicas nothing changes what stands before
@@ -106,3 +109,15 @@ got makers ps i p all counter replica view packed is within count by =
     let it : IsPacked makers p = rw (sym is) at (packed i p within) in
     let same : replica ≡ get_or makers p.maker 0 = by ∙ get_or_default_zero makers p.maker replica it.known in
     rw (count, same, ← view) (sym (slice_get-map (unpacked makers) ps i ∙ ap (option_map (unpacked makers)) there))
+
+-- ids with other counters are others
+other_counter : (a b : Id) → a.counter ≢ b.counter → is_same a b ≡ false
+unfolding is_same
+other_counter a b other = grind (arith, nat_tests)
+
+-- a cell that doesn't have the counter of an id doesn't have the id
+pub has_another_id : (makers : List ℕ) (ps : List PackedCell) (i : ℕ) (p : PackedCell) (all : List Cell) (id : Id) → map (unpacked makers) ps ≡ all
+    → p ≡ get_or ps i p → i < length ps → counter_of p ≢ id.counter → has_id_at (slice_get all i) id ≡ false
+has_another_id makers ps i p all id view is within other =
+    let there : slice_get ps i ≡ Some p = slice_get_read ps (length ps) i p refl within is in
+    rw (← view, slice_get-map (unpacked makers) ps i, there) (other_counter (unpacked makers p).id id other)

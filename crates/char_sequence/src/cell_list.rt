@@ -1,11 +1,14 @@
 //! Cells in twelve bytes each.
 ghost use Rattle.std.specs.Prelude.{◌≡◌, ◌≤◌, ◌<◌, ◌++◌, ◌∷◌, List, [], Some, length, take, drop};
-ghost use Rattle.std.specs.Prelude.{slice_get, slice_set, true, IfOk, OnOk, OnErr};
+ghost use Rattle.std.specs.Prelude.{slice_get, slice_set, true, false, IfOk, OnOk, OnErr, MatchOption};
 ghost use Rattle.char_sequence.specs.declared.cell.Cell as cell;
+ghost use Rattle.char_sequence.specs.Cells.{has_cell};
+ghost use Rattle.char_sequence.specs.Finding.{has_id_at};
 ghost use Rattle.char_sequence.specs.Packed.{unpacked, IsPacked, Grows};
 
 use crate::cell::Cell;
 use crate::packed_cell::PackedCell;
+use crate::search::has_id;
 use op_ids::{OpId, ReplicaId};
 use std::alloc::{AllocError, Global};
 use std::marker::Model;
@@ -79,6 +82,21 @@ impl CellList {
             value: packed.value,
             is_removed: packed.is_removed,
         })
+    }
+
+    /// How many cells stand before the first one with an id, or `None` where none has it. A step
+    /// for each of them.
+    pub(crate) fn find(&self, id: &OpId) -> Option<usize>
+        ensures { MatchOption result (has_cell self.now id.now ≡ false)
+            (λ at. has_id_at (slice_get self.now at) id.now ≡ true) }
+    {
+        let counter = id.counter();
+        for i in 0..self.cells.len() {
+            if self.cells[i].may_have(counter) && has_id(self.get(i), id) {
+                return Some(i);
+            }
+        }
+        None
     }
 
     /// Puts a cell behind all others. An error is out of memory (1), and leaves them as they were.

@@ -1,12 +1,14 @@
 //! A chunk of cells.
 ghost use Rattle.std.specs.Prelude.{◌≡◌, ◌++◌, ◌∷◌, ◌<◌, ◌≤◌, length, take, drop};
-ghost use Rattle.std.specs.Prelude.{slice_get, slice_range, slice_set, count_by, not, true};
-ghost use Rattle.std.specs.Prelude.{Some, IfOk, OnOk, OnErr};
+ghost use Rattle.std.specs.Prelude.{slice_get, slice_range, slice_set, count_by, not, true, false};
+ghost use Rattle.std.specs.Prelude.{Some, IfOk, OnOk, OnErr, MatchOption};
 ghost use Rattle.char_sequence.specs.declared.cell.Cell as cell;
-ghost use Rattle.char_sequence.specs.Cells.{shown as shown_of};
+ghost use Rattle.char_sequence.specs.Cells.{has_cell, shown as shown_of};
+ghost use Rattle.char_sequence.specs.Finding.{has_id_at};
 
 use crate::cell::Cell;
 use crate::cell_list::CellList;
+use op_ids::OpId;
 use std::alloc::{AllocError, Global};
 use std::marker::Model;
 
@@ -75,6 +77,15 @@ impl Chunk {
         ensures { result ≡ slice_get self.now j }
     {
         self.cells.get(j)
+    }
+
+    /// How many of its cells stand before the first one with an id, or `None` where none has it. A
+    /// step for each of them.
+    pub(crate) fn find(&self, id: &OpId) -> Option<usize>
+        ensures { MatchOption result (has_cell self.now id.now ≡ false)
+            (λ at. has_id_at (slice_get self.now at) id.now ≡ true) }
+    {
+        self.cells.find(id)
     }
 
     /// How many cells it has, tombstones too. Constant.

@@ -1,10 +1,11 @@
 //! The cells of a sequence, cut into chunks.
 ghost use Rattle.std.specs.Prelude.{◌≤◌, ◌≡◌, ◌++◌, ◌∷◌, [], ◌<◌, ◌+◌, ◌*◌, ◌^◌, length};
-ghost use Rattle.std.specs.Prelude.{Some, true, OnOk, OnErr};
+ghost use Rattle.std.specs.Prelude.{Some, true, false, OnOk, OnErr, MatchOption};
 ghost use Rattle.std.proofs.Common.{get_or};
 ghost use Rattle.char_sequence.specs.Chunks.{size_at, cell_at, cells_of, before, from, AreChunks};
 ghost use Rattle.char_sequence.specs.Chunks.{IsPlace, AreSized};
-ghost use Rattle.char_sequence.specs.Cells.{shown as shown_of};
+ghost use Rattle.char_sequence.specs.Cells.{has_cell, shown as shown_of};
+ghost use Rattle.char_sequence.specs.Finding.{has_id_at};
 ghost use Rattle.char_sequence.specs.declared.cell.Cell as cell;
 ghost use Rattle.char_sequence.specs.Sums.{seen_in_group};
 ghost use Rattle.char_sequence.specs.declared.chunk.TheConstants.{MAX_CHUNK, MIN_CHUNK};
@@ -16,6 +17,7 @@ use crate::chunk_size::ChunkSize;
 use crate::cutting::{cut, joined, replace};
 use crate::groups::{GROUP, count, count_last, recount};
 use crate::place::Place;
+use op_ids::OpId;
 use op_model::Ticks;
 use std::alloc::{AllocError, Global};
 use std::marker::Model;
@@ -25,7 +27,7 @@ const MOST_CHUNKS: usize = 18_014_398_509_481_984;
 
 /// Cells in the order of the text, in chunks of at most 512, so that one more moves few others. A
 /// full chunk that is to take a cell is split: what it then has is cut into its first 256 and the
-/// rest. Its only readers are `chunk` and `cell`.
+/// rest. Its only readers are `chunk` and `cell`, and by an id `find`.
 #[derive(Debug, Drop)]
 pub struct Chunks {
     chunks: Vec<Chunk>,
@@ -126,6 +128,15 @@ impl Chunks {
     {
         ticks.tick();
         self.chunks.get(i)?.cell(j)
+    }
+
+    /// Where the first cell with an id stands in a chunk, or `None` where none has it there. A step
+    /// for each cell before it.
+    pub(crate) fn find(&self, i: usize, id: &OpId) -> Option<usize>
+        ensures { MatchOption result (has_cell (get_or self.now i []) id.now ≡ false)
+            (λ j. has_id_at (cell_at self.now i j) id.now ≡ true) }
+    {
+        self.chunks.get(i)?.find(id)
     }
 
     /// Puts cells, one behind the other, at a place: before the j-th cell of the i-th chunk, or

@@ -48,17 +48,10 @@ fn in_chunk(chunks: &Chunks, i: usize, id: &OpId) -> Option<Place>
     ensures { MatchOption result (has_cell (get_or chunks.now i []) id.now ≡ false)
         (λ p. IsPlaceOf chunks.now id.now p.chunk p.at) }
 {
-    let size = match chunks.chunk(i, &mut Ticks::new()) {
-        Some(size) => size,
-        None => return None,
-    };
-    for j in 0..size.cells {
-        let place = Place { chunk: i, at: j };
-        if is_at(chunks, &place, id) {
-            return Some(place);
-        }
+    match chunks.find(i, id) {
+        Some(at) => Some(Place { chunk: i, at }),
+        None => None,
     }
-    None
 }
 
 /// The place of an id, of all.

@@ -1,5 +1,5 @@
 //! A cell in twelve bytes.
-ghost use Rattle.std.specs.Prelude.{◌≡◌, ◌<◌, ◌≤◌, ℕ, List};
+ghost use Rattle.std.specs.Prelude.{◌≡◌, ◌≢◌, ◌<◌, ◌≤◌, ◌%◌, false, ℕ, List};
 ghost use Rattle.std.proofs.Common.{get_or};
 ghost use Rattle.fixed_numbers.specs.declared.limits.TheConstants.{MAX_COUNTER};
 ghost use Rattle.char_sequence.specs.Packed.{counter_of, unpacked};
@@ -32,7 +32,7 @@ impl PackedCell {
     {
         let counter = cell.id.counter();
         PackedCell {
-            low: (counter % WORD) as u32,
+            low: low(counter),
             value: cell.value,
             high: (counter / WORD) as u16,
             maker,
@@ -47,4 +47,18 @@ impl PackedCell {
     {
         self.high as u64 * WORD + self.low as u64
     }
+
+    /// Whether its id may have this counter: the low 32 bits are equal.
+    pub(crate) fn may_have(&self, counter: u64) -> bool
+        ensures { result ≡ false → counter_of self.now ≢ counter }
+    {
+        self.low == low(counter)
+    }
+}
+
+/// The low 32 bits of a counter.
+fn low(counter: u64) -> u32
+    ensures { result ≡ counter % WORD }
+{
+    (counter % WORD) as u32
 }
