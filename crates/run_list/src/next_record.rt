@@ -72,5 +72,18 @@ fn begins_with(bytes: &[u8], front: &[u8]) -> bool
     ensures within { IsTrue result → length front.now ≤ length bytes.now }
     ensures same { IsTrue result → take (length front.now) bytes.now ≡ front.now }
 {
-    front.len() <= bytes.len() && bytes.split_at(front.len()).0 == front
+    front.len() <= bytes.len() && are_same(bytes.split_at(front.len()).0, front)
+}
+
+/// Whether so many bytes are these. The pass doesn't end at the first that isn't, so the compiler
+/// makes it in steps of many bytes.
+fn are_same(bytes: &[u8], front: &[u8]) -> bool
+    requires { length bytes.now ≡ length front.now }
+    ensures { IsTrue result → bytes.now ≡ front.now }
+{
+    let mut same = true;
+    for i in 0..front.len() {
+        same = same & (bytes[i] == front[i]);
+    }
+    same
 }
