@@ -1,6 +1,11 @@
 -- Which refusal names which fault.
 use Rattle.std.proofs.Common.{◌≡◌, ◌⊎◌, ℕ, false, List, refl, inl, inr, Result, Ok, Err}
-use Rattle.group_commit.specs.Loading.{NamesLoadFault, IsReadFault, IsFirstFault, IsStreamFault, failures_of, is_of_sync, of_roots, of_pages}
+use Rattle.group_commit.specs.Loading.{NamesLoadFault, IsReadFault, IsFirstFault, IsStreamFault, failures_of, is_of_sync, of_roots, of_pages, of_stream}
+use Rattle.group_commit.specs.Parts.{IsFeedFault}
+use Rattle.stream_list.specs.ReadError.{of_stream as of_feed}
+use Rattle.stream_list.specs.Streams.{NeverHas}
+use Rattle.change_codec.specs.declared.stream_error.StreamError.{StreamError}
+use Rattle.change_codec.specs.declared.stream_error.StreamError.TheVariants.{Memory as StreamMemory, Stream as StreamBad}
 use Rattle.page_file.specs.PageError.{failures_of as failures_of_pages}
 use Rattle.page_file.specs.declared.error.PageError.{PageError}
 use Rattle.page_file.specs.declared.error.PageError.TheVariants.{Memory as PagesMemory, BadTable as PagesBad, ReadFailed as PagesReadFailed}
@@ -46,17 +51,6 @@ failures_same RootsMemory = refl
 failures_same RootsNone = refl
 failures_same RootsBad = refl
 failures_same RootsReadFailed = refl
-
--- what names a fault of the stream hasn't met a failure of the device
-pub quiet_ops : (e : OpenError) (format : Format) (bytes : List ℕ) (count : ℕ) → IsStreamFault e format bytes count → failures_of e ≡ 0
-quiet_ops Memory format bytes count fault = refl
-quiet_ops NoRoot format bytes count fault = absurd fault
-quiet_ops BadRoot format bytes count fault = absurd fault
-quiet_ops BadTable format bytes count fault = absurd fault
-quiet_ops BadStream format bytes count fault = refl
-quiet_ops TooLong format bytes count fault = refl
-quiet_ops ReadFailed format bytes count fault = absurd fault
-quiet_ops SyncFailed format bytes count fault = absurd fault
 
 -- a fault of the stream is the file's
 pub fault_of_ops : (file body bytes : List ℕ) (e : OpenError) → stored file ≡ Ok (body, bytes)
@@ -104,3 +98,9 @@ first_fault BadStream file fault = fault
 first_fault TooLong file fault = fault
 first_fault ReadFailed file fault = fault
 first_fault SyncFailed file fault = tt
+
+-- the bytes so far are at fault, where more aren't taken
+pub feed_fault : (e : StreamError) (format : Format) (bytes : List ℕ) (count : ℕ) → (e ≡ StreamBad → NeverHas format bytes count)
+    → IsFeedFault (of_stream (of_feed e)) format bytes count
+feed_fault StreamMemory format bytes count never = tt
+feed_fault StreamBad format bytes count never = never refl

@@ -1,6 +1,6 @@
 -- What a file stands for, from what was read of it.
 use Rattle.std.proofs.Common.{◌≡◌, ◌≢◌, ℕ, zero, suc, ◌-◌, ◌<◌, Bool, true, false, not, ◌&&◌, ◌==◌}
-use Rattle.std.proofs.Common.{nat_lt, List, [], ◌++◌, length, take, drop, refl, sym, ap, ◌∙◌, arith}
+use Rattle.std.proofs.Common.{nat_lt, List, [], ◌++◌, length, take, drop, refl, sym, ap, ◌∙◌, arith, subst, inl, inr}
 use Rattle.std.proofs.Common.{Result, Ok, Err, if◌then◌else◌}
 use Rattle.std.proofs.lemmas.Bool.Decides.{nat_tests}
 use Rattle.std.proofs.lemmas.List.{drop_at}
@@ -13,7 +13,10 @@ use Rattle.group_commit.specs.Saved.{Saved}
 use Rattle.group_commit.specs.Image.{data_pages_in, are_tables, tables_in, stream, pages_reached, Stores, in_slot, root_and_stream, stored}
 use Rattle.group_commit.specs.Standing.{Stands}
 use Rattle.group_commit.specs.declared.phase.Phase.TheVariants.{Idle}
-use Rattle.group_commit.specs.Loading.{reached_in, stream_of, stream_behind, reached_of, stream_at}
+use Rattle.group_commit.specs.Loading.{reached_in, stream_of, stream_behind, reached_of, stream_at, IsReadFault, IsStreamFault}
+use Rattle.group_commit.specs.Parts.{NamesReadFault}
+use Rattle.group_commit.specs.declared.open_fault.OpenError.{OpenError}
+use Rattle.group_commit.proofs.Faults.{names_on, fault_of_ops}
 
 -- the stream of a root body, step by step
 stream_steps : (file root : List ℕ) → is_root root ≡ true
@@ -70,14 +73,23 @@ stores_of file root bytes ns head spells read found = record {
 }
 
 -- a fault of the stream is the file's
-pub stream_fault : (file : List ℕ) (slot : ℕ) (stale_open : Bool) (head : Root) (n : ℕ) → IsLive file slot stale_open head → stream_at head file ≡ Err n → stored file ≡ Err n
+stream_fault : (file : List ℕ) (slot : ℕ) (stale_open : Bool) (head : Root) (n : ℕ) → IsLive file slot stale_open head → stream_at head file ≡ Err n → stored file ≡ Err n
 stream_fault file slot stale_open head n it is =
     ap (in_slot file) it.picked ∙ ap (root_and_stream (body slot file)) (stream_is file (body slot file) head it.spells ∙ is)
 
-pub stored_stream : (file : List ℕ) (slot : ℕ) (stale_open : Bool) (head : Root) (bytes : List ℕ) → IsLive file slot stale_open head → stream_at head file ≡ Ok bytes
+stored_stream : (file : List ℕ) (slot : ℕ) (stale_open : Bool) (head : Root) (bytes : List ℕ) → IsLive file slot stale_open head → stream_at head file ≡ Ok bytes
     → stored file ≡ Ok (body slot file, bytes)
 stored_stream file slot stale_open head bytes it is =
     ap (in_slot file) it.picked ∙ ap (root_and_stream (body slot file)) (stream_is file (body slot file) head it.spells ∙ is)
+
+-- so is what names why it isn't read as so many operations
+pub root_fault : (file : List ℕ) (slot : ℕ) (stale_open : Bool) (head : Root) (e : OpenError) → IsLive file slot stale_open head
+    → NamesReadFault e head.format head.operations (stream_at head file) → IsReadFault e file
+root_fault file slot stale_open head e it (inl named) =
+    inl (names_on e (stream_at head file) (stored file) (λ n is. stream_fault file slot stale_open head n it is) named)
+root_fault file slot stale_open head e it (inr found) =
+    fault_of_ops file (body slot file) found.0 e (stored_stream file slot stale_open head found.0 it found.1)
+    (subst (λ (r : Root). IsStreamFault e r.format found.0 r.operations) (sym it.spells.says) found.2)
 
 -- the live slot is open, and the other one closed or older
 record Opened (file : List ℕ) (slot : ℕ) : Type 0 where

@@ -16,6 +16,7 @@ pub mod NextDataPages
 pub mod OpeningReads
 pub mod PageReads
 pub mod PagingLemmas
+pub mod PartLemmas
 pub mod PlanLemmas
 pub mod RecordLemmas
 pub mod Renewing

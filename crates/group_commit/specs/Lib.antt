@@ -10,6 +10,7 @@ pub mod Moving
 pub mod NewFile
 pub mod Opening
 pub mod Paging
+pub mod Parts
 pub mod Plan
 pub mod Planning
 pub mod Saved

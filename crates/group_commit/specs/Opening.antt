@@ -7,6 +7,7 @@ use Rattle.page_file.specs.Index.{Index}
 use Rattle.root_slots.specs.Body.{Root}
 use Rattle.root_slots.specs.Root.{replica_of, stream_length_of}
 use Rattle.root_slots.specs.Slots.{live}
+use Rattle.stream_list.specs.Streams.{SpellsShort}
 use Rattle.group_commit.specs.Commit.{IsRootOf, IsLeft}
 use Rattle.group_commit.specs.Standing.{Stands}
 use Rattle.group_commit.specs.Held.{StoreHeld}
@@ -53,16 +54,21 @@ pub record IsIndexed (head : Root) (index : Index) : Type 0 where
   -- none is taken for a commit
   pub none_taken : index.taken ≡ []
 
--- what a root names was read from the file of a disk: its pages, and its stream
+-- these bytes are as many as a root says of its stream, and spell these operations in its format, as many as it says
+pub record HasOperations (head : Root) (bytes : List ℕ) (ops : List Op) : Type 0 where
+  pub long : length bytes ≡ head.stream_length
+  pub spelled : SpellsShort head.format ops head.operations bytes
+
+-- what a root names was read from the file of a disk: its pages, its stream, and its operations
 pub record IsStreamOf {D : Type 0} (facts : Ghosts D) (head : Root) (disk : D) (it : Stream) : Type 0 where
   -- its pages are in memory
   pub index : IsIndexed head it.pages
-  -- there are as many bytes as it says
-  pub long : length it.bytes.items ≡ head.stream_length
+  -- the bytes of its stream spell its operations
+  pub has : HasOperations head it.tail it.ops
   -- the pages are those that its table pages name
   pub pages : facts.tells disk → reached_of head (facts.content disk) ≡ Ok (head.tables ++ it.pages.data_pages)
   -- the bytes are those of its data pages
-  pub stream : facts.tells disk → stream_at head (facts.content disk) ≡ Ok it.bytes.items
+  pub stream : facts.tells disk → stream_at head (facts.content disk) ≡ Ok it.tail
 
 -- what the file of a disk stands for was read, with an empty root in the place of a commit's
 pub record IsImageOf {D : Type 0} (facts : Ghosts D) (disk : D) (it : Image) : Type 0 where

@@ -13,6 +13,7 @@ mod load;
 mod load_image;
 mod load_ops;
 mod load_pages;
+mod load_parts;
 mod load_stream;
 mod open_fault;
 mod opening_sync;

@@ -13,7 +13,6 @@ ghost use Rattle.piece_codec.specs.Formats.{has_runs};
 ghost use Rattle.piece_codec.specs.Stream.{SpellsList};
 ghost use Rattle.group_commit.specs.Opening.{IsLookedAt, IsImageOf, HandsBack};
 
-use crate::load_ops::ops_of;
 use crate::load_stream::{Stream, read_stream};
 use crate::open_fault::OpenError;
 use crate::opening_sync::sync_file;
@@ -116,18 +115,15 @@ pub(crate) fn read_image<D: Disk>(alloc: Global, disk: &mut D) -> Result<Image, 
         root,
         file_size,
     } = load_roots(alloc, disk)?;
-    let Stream { pages, bytes } = read_stream(alloc, disk, file_size, &root)?;
-    let stream = StreamTail::new(alloc).and(&bytes)?;
-    let format = root.format();
-    let ops = ops_of(alloc, format, bytes, root.operations())?;
-    let anew = spelled_anew(alloc, format, &ops)?;
+    let Stream { pages, tail, ops } = read_stream(alloc, disk, file_size, &root)?;
+    let anew = spelled_anew(alloc, root.format(), &ops)?;
     let (current, next) = roots_on(alloc, root, &pages)?;
     Ok(Image {
         roots,
         current,
         next,
         pages,
-        stream,
+        stream: tail,
         ops,
         anew,
     })

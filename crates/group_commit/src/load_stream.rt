@@ -1,23 +1,32 @@
 //! The stream that a root names, page by page.
 ghost use Rattle.std.specs.Prelude.{◌≡◌, ◌+◌, ◌*◌, ◌≤◌, ◌++◌, length, IfOk, IfErr, Ok};
+ghost use Rattle.fixed_numbers.specs.declared.limits.TheConstants.{MAX_STREAM_LENGTH};
 ghost use Rattle.fixed_numbers.specs.declared.sizes.TheConstants.{PAGE_SIZE};
 ghost use Rattle.page_file.specs.Pages.{pages};
 ghost use Rattle.root_slots.specs.Body.{IsRoot};
-ghost use Rattle.group_commit.specs.Loading.{NamesLoadFault, failed_in, reached_of, stream_of, stream_at};
-ghost use Rattle.group_commit.specs.Opening.{IsLookedAt, IsIndexed, IsStreamOf};
+ghost use Rattle.group_commit.specs.Loading.{NamesLoadFault, failed_in};
+ghost use Rattle.group_commit.specs.Loading.{reached_of, stream_of, stream_at};
+ghost use Rattle.group_commit.specs.Opening.{HasOperations, IsLookedAt, IsIndexed, IsStreamOf};
+ghost use Rattle.group_commit.specs.Parts.{NamesReadFault};
 
+use crate::load_ops::ops_of;
 use crate::load_pages::{are_within, data_pages};
+use crate::load_parts::{PartlyRead, read_parts};
 use crate::open_fault::OpenError;
+use crate::stream_tail::StreamTail;
 use disk_trait::Disk;
-use page_file::{Pages, is_zero, read_pages};
+use page_file::Pages;
 use root_slots::RootBody;
+use run_list::RunList;
 use std::alloc::Global;
+use stream_list::StreamReader;
 
-/// The pages of a root, and the stream that they hold.
+/// The pages of a root, the stream that they hold, and its operations.
 #[derive(Drop)]
 pub(crate) struct Stream {
     pub pages: Pages,
-    pub bytes: Vec<u8>,
+    pub tail: StreamTail,
+    pub ops: RunList,
 }
 
 /// The pages of a root. 43 where a table page isn't whole in the file, 45 where the table pages
@@ -49,40 +58,42 @@ fn read_tables<D: Disk>(
     }
 }
 
-/// The stream of this length that these data pages hold. 45 where one isn't whole in the file, 46
-/// where the rest of the last one isn't zero, 50 where a read failed, 1 when out of memory.
+/// The operations of a root, from its data pages, and the end of its stream. 45 where a page isn't
+/// whole in the file; 46 where the rest of the last one isn't zero, or the stream doesn't spell as
+/// many operations as the root says; 47 where the records of these take more than 2^30 bytes, one
+/// by one; 50 where a read failed, 1 when out of memory.
 fn read_data<D: Disk>(
     alloc: Global,
     disk: &mut D,
     size: u64,
-    stream_length: u64,
+    head: &RootBody,
     numbers: &[u32],
-) -> Result<Vec<u8>, OpenError>
+) -> Result<(StreamTail, RunList), OpenError>
     requires size { D.tells disk.old → size ≡ length (D.content disk.old) }
-    requires room { stream_length ≤ PAGE_SIZE * length numbers.now }
-    ensures value { D.tells disk.old → IfOk result
-        (λ bytes. stream_of stream_length (pages numbers.now (D.content disk.old))
-        ≡ Ok bytes.items) }
-    ensures long { IfOk result (λ bytes. length bytes.items ≡ stream_length) }
+    requires room { (head.now.stream_length ≤ MAX_STREAM_LENGTH)
+        × (head.now.stream_length ≤ PAGE_SIZE * length numbers.now) }
+    ensures value { D.tells disk.old → IfOk result (λ it.
+        stream_of head.now.stream_length (pages numbers.now (D.content disk.old)) ≡ Ok it.0) }
+    ensures read { IfOk result (λ it. HasOperations head.now it.0 it.1) }
     ensures fault { D.tells disk.old → IfErr result
-        (λ e. NamesLoadFault e (stream_of stream_length (pages numbers.now (D.content disk.old)))) }
+        (λ e. NamesReadFault e head.now.format head.now.operations
+        (stream_of head.now.stream_length (pages numbers.now (D.content disk.old)))) }
     ensures looks { IsLookedAt D.DiskFacts (failed_in result) 0 disk.old disk.new }
 {
     if !are_within(numbers, size) {
         return Err(OpenError::BadTable);
     }
-    let mut bytes = read_pages(alloc, disk, numbers)?;
-    let (_, rest) = bytes.split_at(stream_length as usize);
-    if !is_zero(rest) {
-        return Err(OpenError::BadStream);
-    }
-    bytes.truncate(stream_length as usize);
-    Ok(bytes)
+    let begun = PartlyRead {
+        reader: StreamReader::new(alloc, head.format(), head.operations()),
+        tail: StreamTail::new(alloc),
+        left: head.stream_length(),
+    };
+    let PartlyRead { reader, tail, .. } = read_parts(alloc, disk, numbers, begun)?;
+    Ok((tail, ops_of(reader)?))
 }
 
-/// The stream of a root, page by page. 43 where a table page isn't whole in the file; 45 where the
-/// table pages break their rules or a data page isn't whole; 46 where the rest of the last one
-/// isn't zero; 50 where a read failed, 1 when out of memory.
+/// What a root names, page by page. 43 where a table page isn't whole in the file; 45 where the
+/// table pages break their rules or a data page isn't whole; 46, 47, 50 and 1 as `read_data` does.
 pub(crate) fn read_stream<D: Disk>(
     alloc: Global,
     disk: &mut D,
@@ -92,12 +103,13 @@ pub(crate) fn read_stream<D: Disk>(
     requires size { D.tells disk.old → size ≡ length (D.content disk.old) }
     requires valid { IsRoot head.now }
     ensures read { IfOk result (λ it. IsStreamOf D.DiskFacts head.now disk.old it) }
-    ensures fault { D.tells disk.old
-        → IfErr result (λ e. NamesLoadFault e (stream_at head.now (D.content disk.old))) }
+    ensures fault { D.tells disk.old → IfErr result
+        (λ e. NamesReadFault e head.now.format head.now.operations
+        (stream_at head.now (D.content disk.old))) }
     ensures looks { IsLookedAt D.DiskFacts (failed_in result) 0 disk.old disk.new }
 {
     let pages = read_tables(alloc, disk, size, head)?;
     let (_, data_pages) = pages.live();
-    let bytes = read_data(alloc, disk, size, head.stream_length(), data_pages)?;
-    Ok(Stream { pages, bytes })
+    let (tail, ops) = read_data(alloc, disk, size, head, data_pages)?;
+    Ok(Stream { pages, tail, ops })
 }

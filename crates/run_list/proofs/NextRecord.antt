@@ -12,10 +12,14 @@ use Rattle.change_codec.specs.Spelling.{spelled}
 use Rattle.change_codec.specs.declared.format.Format.{Format}
 use Rattle.change_codec.proofs.Lengths.{length_spelled}
 use Rattle.piece_codec.proofs.StreamOperations.{typed_operations}
-use Rattle.run_list.specs.Reading.{typed_at}
-use Rattle.run_list.specs.Writer.{IsSpelledNext}
-use Rattle.run_list.proofs.Reading.{typed_more}
-use Rattle.run_list.proofs.Typing.{typed_is_next}
+use Rattle.bare_runs.specs.Reading.{typed_at}
+use Rattle.std.proofs.Common.{Option, Some, refl}
+use Rattle.op_pieces.specs.Cutting.{value_of}
+use Rattle.run_list.specs.Told.{bare_of, IsTypedOn}
+use Rattle.run_list.specs.Writer.{IsSpelledNext, KnowsLast}
+use Rattle.run_list.proofs.Continuing.{spelled_on}
+use Rattle.bare_runs.proofs.Reading.{typed_more}
+use Rattle.run_list.proofs.NextTyped.{typed_is_next}
 
 -- it keeps the rules of its fields, if there is room for it
 pub next_fits : (last : Op) (v : ℕ) → IsOperation last → IsScalar v → has_room_behind last 1 ≡ true → IsOperation (typed_at last 1 v)
@@ -43,3 +47,13 @@ pub spelled_next : (last op : Op) (v : ℕ) (f : Format) (bytes front : List ℕ
     → IsSpelledNext last f bytes op
 spelled_next last op v f bytes front is fits room of_f spells within same =
     rw is (next_begins last v f bytes front fits room of_f (spells ∙ ap spelled is) within same)
+
+-- what is spelled so with another token in place of the last one's goes on with the run
+pub typed_next : (ops : List Op) (held : Option Op) (last told op : Op) (f : Format) (bytes : List ℕ) (value : ℕ) → KnowsLast ops held → Some last ≡ held
+    → bare_of told ≡ bare_of last → IsSpelledNext told f bytes op → value ≡ value_of op.body → IsTypedOn ops value op.token op
+typed_next ops held last told op f bytes value knows is same it types = record {
+  on = spelled_on ops last told op (subst (KnowsLast ops) (sym is) knows) same it.next;
+  types = types;
+  token_so = refl;
+  fits = it.begins.fits;
+}

@@ -1,45 +1,20 @@
 -- The operations of a piece that are put behind a list, one by one.
 use Rattle.std.proofs.Common.{◌≡◌, ℕ, zero, suc, ◌+◌, ◌<◌, ◌≤◌, true, List, [], ◌∷◌, ◌++◌}
-use Rattle.std.proofs.Common.{length, get_or, take, drop, Option, Some, None, refl, sym, ap, subst, ◌∙◌, arith, append_assoc, add-one}
-use Rattle.std.specs.Prelude.{◌==◌}
-use Rattle.std.proofs.lemmas.Bool.{and_from}
-use Rattle.std.proofs.lemmas.Bool.Decides.{nat_tests}
+use Rattle.std.proofs.Common.{length, get_or, take, drop, Some, None, refl, sym, ap, subst, ◌∙◌, arith, append_assoc, add-one}
 use Rattle.std.proofs.lemmas.List.{take_at}
-use Rattle.op_ids.proofs.EqualityLemmas.{is_same_clock_tells}
-use Rattle.op_ids.specs.Clock.{advanced, is_same_clock}
-use Rattle.op_ids.specs.Id.{Id, is_same}
 use Rattle.op_model.specs.declared.op.Op.{Op}
-use Rattle.op_model.specs.Causality.{is_insert}
 use Rattle.change_codec.specs.Stream.{AreOperations}
-use Rattle.op_pieces.specs.Cutting.{is_next, is_same_token}
 use Rattle.op_pieces.specs.Pieces.{Run, next_typed, typed_behind, last_typed, fits_behind}
 use Rattle.op_pieces.proofs.PieceLemmas.{last_more}
 use Rattle.op_pieces.proofs.UnrolledLemmas.{room_parts, others_fit}
 use Rattle.piece_codec.specs.Fits.{IsWhole}
 use Rattle.piece_codec.proofs.StreamOperations.{typed_operations}
-use Rattle.run_list.specs.Runs.{last_behind, IsTypedBehind}
-use Rattle.run_list.proofs.Appending.{Going, going_on, all_put}
-use Rattle.run_list.proofs.Parts.{last-more}
-
--- what is typed right behind an operation is the next one
-same_number : (n : ℕ) → (n == n) ≡ true
-same_number n = grind (arith, nat_tests)
-
-same_token : (t : Option ℕ) → is_same_token t t ≡ true
-same_token None = refl
-same_token (Some t) = same_number t
-
-same_id : (id : Id) → is_same id id ≡ true
-unfolding is_same
-same_id id = and_from _ _ (same_number id.counter) (same_number id.replica)
-
-same_clock : (c : List (ℕ × ℕ)) → is_same_clock c c ≡ true
-same_clock c = (is_same_clock_tells c c (is_same_clock c c) refl).1 refl
-
-pub typed_is_next : (op : Op) (v : ℕ) → is_insert op.body ≡ true → is_next op (next_typed op v) ≡ true
-typed_is_next op v inserts =
-    and_from _ _ inserts (and_from _ _ (same_id op.id) (and_from _ _ (same_number (op.id.counter + 1)) (and_from _ _ (same_number op.id.replica)
-    (and_from _ _ (same_number op.doc) (and_from _ _ (same_token op.token) (same_clock (advanced op.deps op.id.replica)))))))
+use Rattle.bare_runs.specs.Runs.{last_behind}
+use Rattle.run_list.specs.Told.{bare_of, IsTypedOn}
+use Rattle.run_list.proofs.Continuing.{goes_on_bare}
+use Rattle.run_list.proofs.NextTyped.{typed_is_next}
+use Rattle.bare_runs.proofs.Appending.{Going, going_on, all_put}
+use Rattle.bare_runs.proofs.Parts.{last-more}
 
 -- of a piece's operations those up to the i-th are put behind the first one
 pub record Typing (start : List Op) (first : Op) (others : List ℕ) (i : ℕ) (self : List Op) : Type 0 where
@@ -59,6 +34,11 @@ typing_begins start self p whole is = record {
   room = whole.piece;
 }
 
+-- the token stays the same
+token_stays : (first : Op) (vs : List ℕ) → first.token ≡ (last_typed first vs).token
+token_stays first [] = refl
+token_stays first (v ∷ vs) = token_stays (next_typed first v) vs
+
 -- what is left begins with the next character
 record Next (others : List ℕ) (i more v : ℕ) : Type 0 where
   pub left : drop i others ≡ v ∷ drop more others
@@ -75,14 +55,17 @@ next_character : (others : List ℕ) (i v : ℕ) → v ≡ get_or others i v →
 next_character others i v is lt = rw add-one (next_from others i v is lt)
 
 pub typed_one : (start self : List Op) (first : Op) (others : List ℕ) (i v : ℕ) → Typing start first others i self → v ≡ get_or others i v
-    → i < length others → IsTypedBehind self v (next_typed (last_typed first (take i others)) v)
+    → i < length others → IsTypedOn self v first.token (next_typed (last_typed first (take i others)) v)
 typed_one start self first others i v it is lt =
     let last = last_typed first (take i others) in
     let next = next_character others i v is lt in
     let room : fits_behind last (v ∷ drop (i + 1) others) ≡ true = ap (fits_behind last) (sym next.left) ∙ it.room in
     record {
-      on = rw it.last (typed_is_next last v (room_parts last (suc (length (drop (i + 1) others))) room).inserts);
+      on =
+          goes_on_bare self last (next_typed last v) it.last
+          ∙ typed_is_next (bare_of last) v (room_parts last (suc (length (drop (i + 1) others))) room).inserts;
       types = refl;
+      token_so = token_stays first (take i others);
       fits = (subst (λ (vs : List ℕ). AreOperations (typed_behind last vs)) next.left it.fits).0;
     }
 

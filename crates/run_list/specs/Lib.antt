@@ -1,5 +1,4 @@
-pub mod Runs
-pub mod Reading
+pub mod Column
+pub mod Told
 pub mod Reader
-pub mod NextOnes
 pub mod Writer

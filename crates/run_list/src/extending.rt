@@ -1,8 +1,6 @@
 //! Lists and pieces that are put behind a list of runs.
-ghost use Rattle.std.specs.Prelude.{◌≡◌, ◌<◌, ◌≤◌, [], ◌∷◌, ◌++◌, length, take, drop, slice_index_or, None, OnOk, OnErr};
-ghost use Rattle.op_model.specs.declared.op.Op.{Op};
+ghost use Rattle.std.specs.Prelude.{◌≡◌, ◌≤◌, ◌++◌, length, take, drop, OnOk, OnErr};
 ghost use Rattle.op_pieces.specs.Pieces.{ops_of};
-ghost use Rattle.run_list.specs.Runs.{last_behind};
 
 use crate::run_list::RunList;
 use crate::run_slice::RunSlice;
@@ -19,11 +17,14 @@ impl RunList {
         ensures ok { OnOk result (self.new ≡ self.old ++ drop n ops.now) }
         ensures err { OnErr result (self.new ≡ self.old) }
     {
-        let before = self.len();
-        match self.extend_each(ops, n) {
+        // For the proof: the operations keep their rules.
+        ops.kept();
+        let before = self.tokens.len();
+        self.tokens.extend_from(&ops.list().tokens, n, ops.len())?;
+        match self.bare.extend_from(&ops.bare(), n) {
             Ok(()) => Ok(()),
             Err(refused) => {
-                self.truncate(before);
+                self.tokens.truncate(before);
                 Err(refused)
             }
         }
@@ -45,57 +46,6 @@ impl RunList {
         }
     }
 
-    /// Puts the operations of another list behind the others, one by one.
-    fn extend_each(&mut self, ops: &RunSlice<'_>, n: usize) -> Result<(), AllocError>
-        requires { n ≤ length ops.now }
-        ensures ok { OnOk result (self.new ≡ self.old ++ drop n ops.now) }
-        ensures front { take (length self.old) self.new ≡ self.old }
-    {
-        if n == ops.len() {
-            return Ok(());
-        }
-        let op = ops.get(n)?;
-        self.push(&op)?;
-        self.copy_each(ops, n + 1)
-    }
-
-    /// Puts the operations of another list behind the others, where the last one here is the one
-    /// before them there: so a run goes on here where it does there.
-    fn copy_each(&mut self, ops: &RunSlice<'_>, n: usize) -> Result<(), AllocError>
-        requires within { n ≤ length ops.now }
-        requires last { last_behind None self.old ≡ last_behind None (take n ops.now) }
-        ensures ok { OnOk result (self.new ≡ self.old ++ drop n ops.now) }
-        ensures front { take (length self.old) self.new ≡ self.old }
-    {
-        for i in n..ops.len() {
-            self.copy_one(ops, i)?;
-        }
-        Ok(())
-    }
-
-    /// Puts the i-th operation of another list behind the others, where the last one here is the
-    /// one before it there.
-    fn copy_one(&mut self, ops: &RunSlice<'_>, i: usize) -> Result<(), AllocError>
-        requires within { i < length ops.now }
-        requires last { last_behind None self.old ≡ last_behind None (take i ops.now) }
-        ensures ok { OnOk result ((d : Op)
-            → self.new ≡ self.old ++ slice_index_or ops.now i d ∷ []) }
-        ensures err { OnErr result (self.new ≡ self.old) }
-    {
-        match ops.typed_mark(i) {
-            Some(value) => {
-                // For the proof: the operations keep their rules.
-                ops.kept();
-                self.type_on(value)?;
-            }
-            None => {
-                let op = ops.get(i)?;
-                self.begin_run(&op)?;
-            }
-        }
-        Ok(())
-    }
-
     /// Puts the operations of a piece behind the others, one by one.
     fn type_piece(&mut self, piece: &Piece) -> Result<(), AllocError>
         ensures ok { OnOk result (self.new ≡ self.old ++ ops_of piece.now) }
@@ -104,7 +54,7 @@ impl RunList {
         every_piece_has_a_spelling(piece);
         self.push(piece.first())?;
         for value in piece.others() {
-            self.type_on(*value)?;
+            self.type_on(*value, piece.first().token)?;
         }
         Ok(())
     }

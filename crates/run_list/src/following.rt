@@ -1,80 +1,41 @@
 //! The operation behind the first ones of a list.
-ghost use Rattle.std.specs.Prelude.{◌≡◌, ◌<◌, ◌^◌, suc, length, take, slice_index_or, IfOk, IfSome, MatchOption, Some, None};
-ghost use Rattle.run_list.specs.NextOnes.{BeginsRun, GoesOnWith};
-ghost use Rattle.run_list.specs.Reading.{runs_of};
-ghost use Rattle.run_list.specs.Runs.{last_behind};
+ghost use Rattle.std.specs.Prelude.{◌≡◌, ◌<◌, suc, length, take, slice_index_or, IfOk, IfSome, Some, None};
+ghost use Rattle.bare_runs.specs.Runs.{last_behind};
+ghost use Rattle.run_list.specs.Reader.{AreBegun};
 
 use crate::run_list::RunList;
-use crate::typed::typed_at;
+use crate::token_numbers::{bare_of_some, token_of};
 use op_model::Op;
 use std::alloc::AllocError;
 
+/// What the first operations of a list begin.
+#[derive(Clone, Copy, Debug)]
+pub(crate) struct Begun {
+    /// How many runs.
+    pub(crate) runs: usize,
+    /// How many changes of the token.
+    pub(crate) changes: usize,
+}
+
 impl RunList {
-    /// The i-th operation, counted from 0, and how many runs are begun with it, where `runs` are
-    /// begun before it; the one before it may be known, and is made into it where it goes on with
-    /// its run. An error is out of memory (1).
+    /// The i-th operation, counted from 0, and what is begun with it, where this is begun before
+    /// it; the one before it may be known, and is made into it where it goes on with its run. An
+    /// error is out of memory (1).
     pub(crate) fn next(
         &self,
         i: usize,
-        runs: usize,
+        begun: Begun,
         before: Option<Op>,
-    ) -> Result<(Op, usize), AllocError>
+    ) -> Result<(Op, Begun), AllocError>
         requires within { i < length self.now }
-        requires runs { runs ≡ runs_of (take i self.now) }
+        requires begun { AreBegun (take i self.now) begun }
         requires before { IfSome before (λ op. last_behind None (take i self.now) ≡ Some op) }
         ensures op { IfOk result (λ it. it.0 ≡ slice_index_or self.now i it.0) }
-        ensures runs { IfOk result (λ it. it.1 ≡ runs_of (take (suc i) self.now)) }
+        ensures begun { IfOk result (λ it. AreBegun (take (suc i) self.now) it.1) }
     {
-        match self.typed_mark(i) {
-            Some(value) => {
-                let op = self.typed(i, before, value)?;
-                Ok((op, runs))
-            }
-            None => {
-                let op = self.first(i, runs)?;
-                Ok((op, runs + 1))
-            }
-        }
-    }
-
-    /// The character that the i-th operation types, counted from 0, if it goes on with its run.
-    /// Constant.
-    pub(crate) fn typed_mark(&self, i: usize) -> Option<char>
-        requires { i < length self.now }
-        ensures { MatchOption result (BeginsRun self.now i) (GoesOnWith self.now i) }
-    {
-        char::from_u32(self.marks[i])
-    }
-
-    /// The i-th operation, counted from 0, which begins a run, behind so many. An error is out of
-    /// memory (1).
-    fn first(&self, i: usize, runs: usize) -> Result<Op, AllocError>
-        requires within { i < length self.now }
-        requires begins { BeginsRun self.now i }
-        requires runs { runs ≡ runs_of (take i self.now) }
-        ensures op { IfOk result (λ op. op ≡ slice_index_or self.now i op) }
-        ensures few { runs < 2 ^ 32 }
-    {
-        let op = self.firsts.as_slice().get(self.allocator(), runs)?;
-        Ok(op)
-    }
-
-    /// The i-th operation, counted from 0, which goes on with its run and types this character. An
-    /// error is out of memory (1).
-    fn typed(&self, i: usize, before: Option<Op>, value: char) -> Result<Op, AllocError>
-        requires within { i < length self.now }
-        requires on { GoesOnWith self.now i value }
-        requires before { IfSome before (λ op. last_behind None (take i self.now) ≡ Some op) }
-        ensures { IfOk result (λ op. op ≡ slice_index_or self.now i op) }
-    {
-        // For the proof: the operations keep their rules.
-        self.kept();
-        match before {
-            Some(op) => {
-                let op = typed_at(op, 1, value)?;
-                Ok(op)
-            }
-            None => self.get(i),
-        }
+        let (mut op, runs) = self.bare.next(i, begun.runs, bare_of_some(before))?;
+        let changes = self.tokens.changes_with(i, begun.changes);
+        op.token = token_of(self.tokens.number_with(i, changes));
+        Ok((op, Begun { runs, changes }))
     }
 }

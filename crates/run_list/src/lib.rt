@@ -1,14 +1,14 @@
-//! A list of operations, held as runs of typed characters.
+//! A list of operations, held as runs of typed characters, and their tokens beside them.
 //!
-//! A character that is typed behind another one takes four bytes, and no record of its own: a list
-//! may have sixteen million operations.
+//! A character that is typed behind another one takes four bytes, and no record of its own; where
+//! its token is not that of the operation before, twenty more. So a list may have sixteen million
+//! operations, though each edit has a token of its own.
 #![tactic(auto)]
 
 mod behind;
+mod column_extending;
 mod extending;
-mod finding;
 mod following;
-mod marks;
 mod next_record;
 mod putting;
 mod run_list;
@@ -16,7 +16,8 @@ mod run_reader;
 mod run_reading;
 mod run_slice;
 mod run_writer;
-mod typed;
+mod token_column;
+mod token_numbers;
 
 pub use run_list::RunList;
 pub use run_reader::RunReader;

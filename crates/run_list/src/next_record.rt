@@ -3,12 +3,15 @@ ghost use Rattle.std.specs.Prelude.{◌≡◌, ◌≤◌, length, take, IfOk, If
 ghost use Rattle.std.specs.Char.{IsScalar};
 ghost use Rattle.change_codec.specs.Formats.{IsOf};
 ghost use Rattle.op_pieces.specs.Pieces.{has_room_behind};
+ghost use Rattle.run_list.specs.Told.{bare_of as bare_of_op};
 ghost use Rattle.run_list.specs.Writer.{IsSpelledNext};
 
-use crate::typed::typed_at;
-use change_codec::{Format, every_op_has_a_spelling, put_op, take_scalar};
+use crate::token_numbers::bare_of;
+use bare_runs::typed_at;
+use change_codec::{Format, every_op_has_a_spelling, put_op, take_scalar, take_token, take_u32};
 use fixed_numbers::limits::MAX_COUNTER;
-use op_model::{Body, Op};
+use op_ids::Token;
+use op_model::{Body, Op, insert_length};
 use std::alloc::AllocError;
 
 /// The operation that is typed right behind another one, if the format has it and the bytes begin
@@ -37,6 +40,32 @@ pub(crate) fn next_spelled(
         Ok(Some(next))
     } else {
         Ok(None)
+    }
+}
+
+/// The operation with the token in place of its own that stands in the bytes, if these begin with
+/// the record of what is typed right behind it: else with any. Constant.
+pub(crate) fn with_told_token(last: Op, bytes: &[u8]) -> Op
+    ensures { bare_of_op result ≡ bare_of_op last }
+{
+    let mut last = bare_of(last);
+    last.token = told_token(bytes, last.record_length() as usize);
+    last
+}
+
+/// The token before the content of an insert behind a character whose record would take so many
+/// bytes without it, if the bytes begin with a longer one.
+fn told_token(bytes: &[u8], len: usize) -> Option<Token> {
+    let Ok((body, _)) = take_u32(bytes) else {
+        return None;
+    };
+    if body as usize + 4 <= len {
+        return None;
+    }
+    let at = len.checked_sub(insert_length(true) as usize)?;
+    match take_token(true, bytes.get(at..)?) {
+        Ok((token, _)) => token,
+        Err(_) => None,
     }
 }
 

@@ -1,36 +1,35 @@
-//! A list of operations, held as runs.
+//! A list of operations, held as runs, and their tokens beside them.
 ghost use Rattle.std.specs.Prelude.{◌≡◌, [], length, take, IsTrue, ◌↔◌};
 
-use crate::finding::count_below;
 use crate::run_slice::RunSlice;
-use op_list::OpList;
+use crate::token_column::TokenColumn;
+use bare_runs::BareList;
 use std::alloc::{AllocError, Global};
 use std::marker::Model;
 
 /// A list of operations, held as runs: of one that is typed right behind the one before it the
-/// character alone is held, four bytes, and of each other one its record and 12 bytes. Contracts
-/// see the list.
+/// character alone is held, four bytes, and of each other one its record without the token and 12
+/// bytes; of a token that is not that of the operation before it, twenty bytes. Contracts see the
+/// list.
 #[derive(Debug, Drop)]
 pub struct RunList {
-    /// For each operation the character that it types, or that it begins a run.
-    pub(crate) marks: Vec<u32>,
-    /// The operations that begin a run.
-    pub(crate) firsts: OpList,
-    /// Where these stand in the list.
-    pub(crate) starts: Vec<u32>,
+    /// The operations without their tokens.
+    pub(crate) bare: BareList,
+    /// Their tokens.
+    pub(crate) tokens: TokenColumn,
 }
 
 impl Model for RunList {
-    ghost use Rattle.std.specs.Prelude.{List, None};
+    ghost use Rattle.std.specs.Prelude.{List};
     ghost use Rattle.op_model.specs.declared.op.Op.{Op};
 
     ghost Value = { List Op };
 
-    ghost use Rattle.run_list.specs.Runs.{unrolled, AreRuns};
+    ghost use Rattle.run_list.specs.Told.{told, AreTold};
 
-    ghost view = { λ l. unrolled l.marks.items None l.firsts };
+    ghost view = { λ l. told l.tokens l.bare };
 
-    ghost invariant = { λ l. AreRuns l.marks.items l.firsts l.starts.items };
+    ghost invariant = { λ l. AreTold l.bare l.tokens };
 }
 
 impl RunList {
@@ -39,9 +38,8 @@ impl RunList {
         ensures { result ≡ [] }
     {
         RunList {
-            marks: Vec::new(alloc),
-            firsts: OpList::new(alloc),
-            starts: Vec::new(alloc),
+            bare: BareList::new(alloc),
+            tokens: TokenColumn::new(alloc),
         }
     }
 
@@ -56,23 +54,22 @@ impl RunList {
     pub fn len(&self) -> usize
         ensures { result ≡ length self.now }
     {
-        self.marks.len()
+        self.bare.len()
     }
 
     /// Where its memory comes from.
     pub fn allocator(&self) -> Global {
-        *self.marks.allocator()
+        self.bare.allocator()
     }
 
     /// Makes room for `more` further operations, of which those that begin a run have records of
-    /// `bytes` bytes. An error is out of memory (1). Linear in the list where it moves, else
-    /// constant.
+    /// `bytes` bytes, and for as many changes of the token. An error is out of memory (1). Linear in
+    /// the list where it moves, else constant.
     pub fn reserve(&mut self, more: usize, bytes: usize) -> Result<(), AllocError>
         ensures { self.new ≡ self.old }
     {
-        self.marks.reserve(more)?;
-        self.starts.reserve(more)?;
-        self.firsts.reserve(more, bytes)
+        self.bare.reserve(more, bytes)?;
+        self.tokens.reserve(more)
     }
 
     /// Keeps the first n operations, or all of them where they are fewer. Takes no memory. A search
@@ -80,10 +77,8 @@ impl RunList {
     pub fn truncate(&mut self, n: usize)
         ensures { self.new ≡ take n self.old }
     {
-        let count = count_below(&self.starts, n);
-        self.marks.truncate(n);
-        self.starts.truncate(count);
-        self.firsts.truncate(count);
+        self.bare.truncate(n);
+        self.tokens.truncate(n);
     }
 
     /// Whether it is this list. Takes no memory. Linear in what both hold: each list is held in one
@@ -91,16 +86,6 @@ impl RunList {
     pub fn equals(&self, ops: &RunSlice<'_>) -> bool
         ensures { IsTrue result ↔ (self.now ≡ ops.now) }
     {
-        let n = ops.len();
-        if self.len() != n {
-            return false;
-        }
-        let list = ops.list();
-        let count = count_below(&list.starts, n);
-        self.marks.as_slice() == &list.marks[..n]
-            && self
-                .firsts
-                .as_slice()
-                .is_same(&list.firsts.as_slice().front(count))
+        self.bare.equals(&ops.bare()) && self.tokens.is_front(&ops.list().tokens, ops.len())
     }
 }

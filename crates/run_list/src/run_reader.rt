@@ -1,6 +1,7 @@
 //! The operations of a list of runs, in their order.
 ghost use Rattle.std.specs.Prelude.{◌≡◌, ◌+◌, ◌-◌, ◌<◌, length, slice_index_or, OnOk};
 
+use crate::following::Begun;
 use crate::run_slice::RunSlice;
 use op_model::Op;
 use std::alloc::AllocError;
@@ -13,8 +14,8 @@ pub struct RunReader<'a> {
     list: RunSlice<'a>,
     /// How many operations were read.
     at: usize,
-    /// How many runs these begin.
-    runs: usize,
+    /// What these begin.
+    begun: Begun,
     /// The last of them.
     op: Option<Op>,
 }
@@ -26,7 +27,7 @@ impl<'a> Model for RunReader<'a> {
 
     ghost view = { λ r. record { list = r.list; at = r.at } };
 
-    ghost invariant = { λ r. HasRead r.list r.at r.runs r.op };
+    ghost invariant = { λ r. HasRead r.list r.at r.begun r.op };
 }
 
 impl<'a> RunReader<'a> {
@@ -37,7 +38,10 @@ impl<'a> RunReader<'a> {
         RunReader {
             list,
             at: 0,
-            runs: 0,
+            begun: Begun {
+                runs: 0,
+                changes: 0,
+            },
             op: None,
         }
     }
@@ -53,16 +57,19 @@ impl<'a> RunReader<'a> {
         // For the proof: there are no more operations than a `usize` counts.
         self.list.kept();
         let list = self.list.list();
-        match list.next(self.at, self.runs, self.op.take()) {
-            Ok((op, runs)) => {
+        match list.next(self.at, self.begun, self.op.take()) {
+            Ok((op, begun)) => {
                 self.at += 1;
-                self.runs = runs;
+                self.begun = begun;
                 self.op = Some(op);
                 Ok(())
             }
             Err(refused) => {
                 self.at = 0;
-                self.runs = 0;
+                self.begun = Begun {
+                    runs: 0,
+                    changes: 0,
+                };
                 Err(refused)
             }
         }

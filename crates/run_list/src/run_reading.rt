@@ -3,9 +3,8 @@ ghost use Rattle.std.specs.Prelude.{◌≡◌, ◌<◌, ◌^◌, length, IfOk, s
 ghost use Rattle.op_list.specs.Heads.{heads};
 ghost use Rattle.change_codec.specs.Stream.{AreOperations};
 
-use crate::finding::run_of;
 use crate::run_list::RunList;
-use crate::typed::{head_at, typed_at};
+use crate::token_numbers::token_of;
 use op_ids::Token;
 use op_list::OpHead;
 use op_model::Op;
@@ -17,29 +16,18 @@ impl RunList {
         ensures fits { AreOperations self.now }
         ensures few { length self.now < 2 ^ 32 }
     {
-        // For the proof: with a field read, it knows what the type keeps.
-        let _count = self.marks.len();
+        self.bare.kept();
     }
 
     /// The i-th operation, counted from 0. An error is out of memory (1). A search by halves for
-    /// its run, and linear in the record of that.
+    /// its run and one for its token, and linear in the record of the run.
     pub(crate) fn get(&self, i: usize) -> Result<Op, AllocError>
         requires { i < length self.now }
         ensures { IfOk result (λ op. op ≡ slice_index_or self.now i op) }
     {
-        let run = run_of(&self.starts, i);
-        let start = self.starts[run] as usize;
-        let first = self.firsts.as_slice().get(self.allocator(), run)?;
-        if start == i {
-            return Ok(first);
-        }
-        match char::from_u32(self.marks[i]) {
-            Some(value) => {
-                let op = typed_at(first, (i - start) as u64, value)?;
-                Ok(op)
-            }
-            None => unreachable!(),
-        }
+        let mut op = self.bare.as_slice().get(i)?;
+        op.token = token_of(self.tokens.get(i));
+        Ok(op)
     }
 
     /// The head of the i-th operation, counted from 0. A search by halves for its run; takes no
@@ -48,23 +36,15 @@ impl RunList {
         requires { i < length self.now }
         ensures { result ≡ slice_index_or (heads self.now) i result }
     {
-        let run = run_of(&self.starts, i);
-        let start = self.starts[run] as usize;
-        let first = self.firsts.as_slice().head(run);
-        if start == i {
-            return first;
-        }
-        head_at(first, (i - start) as u64)
+        self.bare.as_slice().head(i)
     }
 
-    /// The token of the i-th operation, counted from 0, if it has one: that of the first one of its
-    /// run. A search by halves for the run, and a pass over the deps of its first operation; takes
-    /// no memory.
+    /// The token of the i-th operation, counted from 0, if it has one. A search by halves; takes no
+    /// memory.
     pub(crate) fn token(&self, i: usize) -> Option<Token>
         requires { i < length self.now }
         ensures { result ≡ slice_index_or (map (λ op. op.token) self.now) i result }
     {
-        let run = run_of(&self.starts, i);
-        self.firsts.as_slice().token(run)
+        token_of(self.tokens.get(i))
     }
 }

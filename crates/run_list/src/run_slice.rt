@@ -1,11 +1,12 @@
 //! A borrowed list of operations.
-ghost use Rattle.std.specs.Prelude.{◌≡◌, ◌<◌, ◌≤◌, ◌^◌, length, map, take, drop, slice_index_or, IfOk, MatchOption};
+ghost use Rattle.std.specs.Prelude.{◌≡◌, ◌<◌, ◌≤◌, ◌^◌, length, map, take, drop, slice_index_or, IfOk};
 ghost use Rattle.op_list.specs.Heads.{heads};
 ghost use Rattle.change_codec.specs.Stream.{AreOperations};
-ghost use Rattle.run_list.specs.NextOnes.{BeginsRun, GoesOnWith};
+ghost use Rattle.run_list.specs.Told.{bare_ops};
 
 use crate::run_list::RunList;
 use crate::run_reader::RunReader;
+use bare_runs::BareSlice;
 use op_ids::Token;
 use op_list::OpHead;
 use op_model::Op;
@@ -45,6 +46,14 @@ impl<'a> RunSlice<'a> {
         ensures within { length self.now ≤ length result.now }
     {
         self.list
+    }
+
+    /// The operations without their tokens.
+    pub(crate) fn bare(&self) -> BareSlice<'a>
+        ensures { result ≡ bare_ops self.now }
+    {
+        let list = self.list;
+        list.bare.as_slice().front(self.len)
     }
 
     /// How many operations. Constant.
@@ -87,8 +96,8 @@ impl<'a> RunSlice<'a> {
         self.list.head(i)
     }
 
-    /// The token of the i-th operation, counted from 0, if it has one. A search by halves for its
-    /// run, and a pass over the deps of the first operation of that; takes no memory.
+    /// The token of the i-th operation, counted from 0, if it has one. A search by halves; takes no
+    /// memory.
     pub fn token(&self, i: usize) -> Option<Token>
         requires { i < length self.now }
         ensures { result ≡ slice_index_or (map (λ op. op.token) self.now) i result }
@@ -97,21 +106,12 @@ impl<'a> RunSlice<'a> {
     }
 
     /// The i-th operation, counted from 0. An error is out of memory (1). A search by halves for
-    /// its run, and linear in the record of the first operation of that.
+    /// its run and one for its token, and linear in the record of the run's first operation.
     pub fn get(&self, i: usize) -> Result<Op, AllocError>
         requires { i < length self.now }
         ensures { IfOk result (λ op. op ≡ slice_index_or self.now i op) }
     {
         self.list.get(i)
-    }
-
-    /// The character that the i-th operation types, counted from 0, if it goes on with its run.
-    /// Constant.
-    pub(crate) fn typed_mark(&self, i: usize) -> Option<char>
-        requires { i < length self.now }
-        ensures { MatchOption result (BeginsRun self.now i) (GoesOnWith self.now i) }
-    {
-        self.list.typed_mark(i)
     }
 
     /// The operations from the n-th on, counted from 0. An error is out of memory (1). What `get`

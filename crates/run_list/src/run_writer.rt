@@ -5,14 +5,16 @@ ghost use Rattle.change_codec.specs.Formats.{IsOf};
 ghost use Rattle.change_codec.specs.Record.{BeginsWithOp};
 ghost use Rattle.op_list.specs.Held.{IsRecord};
 ghost use Rattle.op_pieces.specs.Pieces.{ops_of};
-ghost use Rattle.run_list.specs.Runs.{goes_on, last_behind};
+ghost use Rattle.run_list.specs.Told.{continues};
 
 use crate::behind::is_right_behind;
-use crate::next_record::next_spelled;
+use crate::next_record::{next_spelled, with_told_token};
+use crate::putting::read_record;
 use crate::run_list::RunList;
-use change_codec::{CodecError, Format, take_op};
+use crate::token_numbers::is_next_bare;
+use change_codec::Format;
 use op_model::Op;
-use op_pieces::{Piece, is_next, value_of};
+use op_pieces::{Piece, value_of};
 use std::alloc::{AllocError, Global};
 use std::marker::Model;
 
@@ -73,10 +75,11 @@ impl RunWriter {
         let Some(last) = self.last.take() else {
             return Ok(None);
         };
-        let Some(next) = next_spelled(last, format, bytes, &mut self.spelling)? else {
+        let told = with_told_token(last, bytes);
+        let Some(next) = next_spelled(told, format, bytes, &mut self.spelling)? else {
             return Ok(None);
         };
-        self.list.type_on(value_of(&next.body))?;
+        self.list.type_on(value_of(&next.body), next.token)?;
         let len = next.record_length() as usize;
         self.last = Some(next);
         Ok(Some(len))
@@ -84,7 +87,7 @@ impl RunWriter {
 
     /// Puts the operation behind the others whose record these bytes are. Refuses as
     /// `RunList::append` does. Linear in the record, which is copied as it is unless the operation
-    /// may go on with the run of the last one.
+    /// has a token or may go on with the run of the last one.
     pub fn put_record(&mut self, bytes: &[u8]) -> Result<(), AllocError>
         requires { (op : Operation) × IsRecord bytes.now op }
         ensures ok { OnOk result ((op : Operation) → IsRecord bytes.now op
@@ -117,7 +120,7 @@ impl RunWriter {
     fn may_go_on(&self, bytes: &[u8]) -> bool
         requires { (op : Operation) × IsRecord bytes.now op }
         ensures { result ≡ false → (op : Operation) → IsRecord bytes.now op
-            → goes_on (last_behind None self.now) op ≡ false }
+            → continues self.now op ≡ false }
     {
         let len = self.list.len();
         if len == 0 {
@@ -137,26 +140,15 @@ impl RunWriter {
         Ok(())
     }
 
-    /// Whether an operation goes on with the run of the last one. An error is out of memory (1).
-    fn is_next(&self, op: &Op) -> Result<bool, AllocError>
-        ensures { IfOk result (λ on. on ≡ goes_on (last_behind None self.now) op.now) }
+    /// Whether an operation goes on with the run of the last one, which isn't known then. An error
+    /// is out of memory (1).
+    fn is_next(&mut self, op: &Op) -> Result<bool, AllocError>
+        ensures test { IfOk result (λ on. on ≡ continues self.old op.now) }
+        ensures same { self.new ≡ self.old }
     {
-        match &self.last {
-            Some(last) => Ok(is_next(last, op)),
+        match self.last.take() {
+            Some(last) => Ok(is_next_bare(last, op)),
             None => self.list.has_next(op),
         }
-    }
-}
-
-/// The operation of a record. An error is out of memory (1).
-fn read_record(alloc: Global, bytes: &[u8]) -> Result<Op, AllocError>
-    requires { (op : Operation) × IsRecord bytes.now op }
-    ensures { IfOk result (λ op. IsRecord bytes.now op) }
-{
-    match take_op(alloc, Format::Third, bytes) {
-        Ok(Some((op, _))) => Ok(op),
-        Ok(None) => unreachable!(),
-        Err(CodecError::Memory) => Err(AllocError),
-        Err(_) => unreachable!(),
     }
 }

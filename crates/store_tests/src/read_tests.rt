@@ -1,11 +1,13 @@
 //! Streams that have runs, read as lists.
+ghost use Rattle.std.specs.Prelude.{◌+◌, ◌≤◌, length};
+
 use crate::test_bytes::bytes_of;
 use crate::test_rows::{World, counted, cut_number, play, told};
 use change_codec::{Format, put_ops};
 use run_list::RunList;
 use std::alloc::Global;
 use std::test::Fail;
-use stream_list::read_stream;
+use stream_list::{ReadError, StreamReader, read_stream};
 
 /// What is read of bytes as so many operations, or the number of its refusal.
 fn read(alloc: Global, format: Format, count: u64, bytes: Vec<u8>) -> Result<RunList, u8> {
@@ -62,6 +64,33 @@ fn are_cuts_refused(alloc: Global) -> Result<bool, Fail> {
     Ok(true)
 }
 
+/// What is read of bytes as three operations, where they come in two parts.
+fn read_parts(alloc: Global, front: &[u8], back: &[u8]) -> Result<RunList, ReadError>
+    requires { length front.now + length back.now ≤ 1000 }
+{
+    let reader = StreamReader::new(alloc, Format::Third, 3).feed(front)?;
+    reader.feed(back)?.finish()
+}
+
+/// Whether the first insert and a run behind it are read, wherever they are cut in two.
+fn are_parts_read(alloc: Global) -> Result<bool, Fail> {
+    let bytes = bytes_of(alloc, "FIRST CD")?;
+    let expected = bytes_of(alloc, "FIRST THIRD FOURTH")?;
+    if bytes.len() > 1_000 {
+        return Ok(false);
+    }
+    for end in 0..=bytes.len() {
+        let (front, back) = bytes.split_at(end);
+        let Ok(list) = read_parts(alloc, front, back) else {
+            return Ok(false);
+        };
+        if !have_records(alloc, &list, &expected)? {
+            return Ok(false);
+        }
+    }
+    Ok(true)
+}
+
 /// Streams need nothing to be held.
 #[derive(Drop)]
 struct Streams;
@@ -74,6 +103,7 @@ impl World for Streams {
             "first" => refusal(alloc, Format::First, words),
             "third" => refusal(alloc, Format::Third, words),
             "cuts" => told(alloc, are_cuts_refused(alloc)),
+            "parts" => told(alloc, are_parts_read(alloc)),
             _ => Err("no such command".into()),
         }
     }
@@ -131,4 +161,9 @@ fn the_first_format_has_no_runs(rt: HostRuntime) -> Result<(), Fail> {
 #[test]
 fn a_cut_run_is_refused(rt: HostRuntime) -> Result<(), Fail> {
     play(rt.alloc(), &mut Streams, "cuts : true")
+}
+
+#[test]
+fn a_stream_in_two_parts_is_read_as_one(rt: HostRuntime) -> Result<(), Fail> {
+    play(rt.alloc(), &mut Streams, "parts : true")
 }

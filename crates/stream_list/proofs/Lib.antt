@@ -1,3 +1,4 @@
 pub mod AtFront
 pub mod PackLemmas
-pub mod Passing
+pub mod PassingLemmas
+pub mod Unfinished

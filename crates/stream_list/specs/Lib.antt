@@ -1,3 +1,4 @@
 pub mod Fronts
+pub mod Passing
 pub mod ReadError
 pub mod Streams

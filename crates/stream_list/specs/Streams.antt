@@ -1,5 +1,5 @@
 -- What the bytes of a stream are as a list of so many operations.
-use Rattle.std.specs.Prelude.{◌≡◌, ◌≢◌, ℕ, ◌≤◌, ◌<◌, List, length}
+use Rattle.std.specs.Prelude.{◌≡◌, ◌≢◌, ℕ, ◌≤◌, ◌<◌, List, ◌++◌, length}
 use Rattle.fixed_numbers.specs.declared.limits.TheConstants.{MAX_STREAM_LENGTH}
 use Rattle.op_model.specs.declared.op.Op.{Op}
 use Rattle.op_model.specs.Records.{stream_length}
@@ -19,6 +19,10 @@ pub record SpellsShort (format : Format) (ops : List Op) (count : ℕ) (bytes : 
 -- the bytes don't spell so many operations
 abbrev pub HasNone : Format → List ℕ → ℕ → Type 0
 HasNone format bytes count = (ops : List Op) → SpellsList format ops bytes → length ops ≢ count
+
+-- nor do they with any bytes behind them
+abbrev pub NeverHas : Format → List ℕ → ℕ → Type 0
+NeverHas format bytes count = (more : List ℕ) → HasNone format (bytes ++ more) count
 
 -- the bytes spell so many operations, whose records, one by one, take more than 2^30 bytes
 pub record HasTooLong (format : Format) (bytes : List ℕ) (count : ℕ) : Type 0 where

@@ -1,12 +1,11 @@
 //! The piece at the front of a stream.
-ghost use Rattle.std.specs.Prelude.{IfOk, IsErrOf};
-ghost use Rattle.change_codec.specs.declared.stream_error.StreamError.TheVariants.{Stream};
+ghost use Rattle.std.specs.Prelude.{◌≡◌, IfOk, IfSome, Ok, None};
 ghost use Rattle.stream_list.specs.Fronts.{BeginsWithNone, PutsFront};
 
-use change_codec::{CodecError, Format, StreamError, skip_op};
+use change_codec::{CodecError, Format, skip_op};
 use piece_codec::take_piece;
 use run_list::RunWriter;
-use std::alloc::Global;
+use std::alloc::{AllocError, Global};
 
 /// What the piece at the front says, without its operations.
 #[derive(Clone, Copy, Debug)]
@@ -20,24 +19,26 @@ pub struct Front {
 }
 
 /// Puts the operations of the piece of a format into a list that the bytes begin with, and gives
-/// what the piece says. `Stream` (46) where they begin with none; `Memory` (1) may stand in place
-/// of a piece. One pass over a single operation, which takes no memory beside the list's where it
-/// is typed behind the last one, and two over a run.
+/// what the piece says. `None` where they begin with none, which changes nothing; an error is out
+/// of memory (1). One pass over a single operation, which takes no memory beside the list's where
+/// it is typed behind the last one, and two over a run.
 pub(crate) fn put_front(
     alloc: Global,
     format: Format,
     bytes: &[u8],
     list: &mut RunWriter,
-) -> Result<Front, StreamError>
-    ensures found { IfOk result (λ front. PutsFront format bytes.now front list.old list.new) }
-    ensures none { IsErrOf result Stream → BeginsWithNone format bytes.now }
+) -> Result<Option<Front>, AllocError>
+    ensures found { IfOk result (λ found. IfSome found
+        (λ front. PutsFront format bytes.now front list.old list.new)) }
+    ensures none { result ≡ Ok None → BeginsWithNone format bytes.now }
+    ensures same { result ≡ Ok None → list.new ≡ list.old }
 {
     match list.type_record(format, bytes)? {
-        Some(len) => Ok(Front {
+        Some(len) => Ok(Some(Front {
             len,
             count: 1,
             records: len as u64,
-        }),
+        })),
         None => put_read(list, alloc, format, bytes),
     }
 }
@@ -49,29 +50,31 @@ fn put_read(
     alloc: Global,
     format: Format,
     bytes: &[u8],
-) -> Result<Front, StreamError>
-    ensures found { IfOk result (λ front. PutsFront format bytes.now front list.old list.new) }
-    ensures none { IsErrOf result Stream → BeginsWithNone format bytes.now }
+) -> Result<Option<Front>, AllocError>
+    ensures found { IfOk result (λ found. IfSome found
+        (λ front. PutsFront format bytes.now front list.old list.new)) }
+    ensures none { result ≡ Ok None → BeginsWithNone format bytes.now }
+    ensures same { result ≡ Ok None → list.new ≡ list.old }
 {
     if let Some(len) = skip_op(format, bytes) {
         list.put_record(bytes.split_at(len).0)?;
-        return Ok(Front {
+        return Ok(Some(Front {
             len,
             count: 1,
             records: len as u64,
-        });
+        }));
     }
     match take_piece(alloc, format, bytes) {
         Ok(Some((piece, len))) => {
             list.put_piece(&piece)?;
-            Ok(Front {
+            Ok(Some(Front {
                 len,
                 count: piece.len() as u64,
                 records: piece.records_length(),
-            })
+            }))
         }
-        Ok(None) => Err(StreamError::Stream),
-        Err(CodecError::Memory) => Err(StreamError::Memory),
-        Err(_) => Err(StreamError::Stream),
+        Ok(None) => Ok(None),
+        Err(CodecError::Memory) => Err(AllocError),
+        Err(_) => Ok(None),
     }
 }

@@ -5,11 +5,13 @@
 #![tactic(auto)]
 
 mod front;
-mod listing;
 mod packing;
+mod passing;
 mod read_error;
 mod reading;
+mod stream_reader;
 
 pub use packing::packed;
 pub use read_error::ReadError;
 pub use reading::read_stream;
+pub use stream_reader::StreamReader;

@@ -4,11 +4,10 @@ ghost use Rattle.fixed_numbers.specs.declared.limits.TheConstants.{MAX_STREAM_LE
 ghost use Rattle.stream_list.specs.Streams.{HasNone, HasTooLong, SpellsShort};
 ghost use Rattle.stream_list.specs.declared.read_error.ReadError.TheVariants.{Stream, Long};
 
-use crate::listing::list_stream;
 use crate::read_error::ReadError;
+use crate::stream_reader::StreamReader;
 use change_codec::Format;
-use fixed_numbers::limits::MAX_STREAM_LENGTH;
-use run_list::{RunList, RunWriter};
+use run_list::RunList;
 use std::alloc::Global;
 
 /// The operations that a stream of a format spells, if they are `count`. `Stream` (46) where the
@@ -19,8 +18,8 @@ use std::alloc::Global;
 ///
 /// One pass over the bytes, which ends at the first record that is none or has too many operations.
 /// What it passed is in the list by then: a typed character takes four bytes there, and each other
-/// operation its record and twelve. Until it ends, the bytes of the stream stand in memory beside
-/// the list.
+/// operation its record and twelve. Until it ends, the bytes of the stream stand in memory twice
+/// beside the list; a [`StreamReader`] takes them in parts, of which one alone stands there.
 pub fn read_stream(
     alloc: Global,
     format: Format,
@@ -32,10 +31,6 @@ pub fn read_stream(
     ensures none { IsErrOf result Stream → HasNone format stream.items count }
     ensures long { IsErrOf result Long → HasTooLong format stream.items count }
 {
-    let mut list = RunWriter::new(alloc);
-    let records = list_stream(alloc, format, count, &stream, &mut list)?;
-    if records > MAX_STREAM_LENGTH {
-        return Err(ReadError::Long);
-    }
-    Ok(list.into_list())
+    let reader = StreamReader::new(alloc, format, count).feed(&stream)?;
+    reader.finish()
 }

@@ -1,15 +1,23 @@
-use Rattle.std.proofs.Common.{sym, arith, rules}
-use Rattle.run_list.proofs.Holding.{holds_next, marks_long}
-use Rattle.run_list.proofs.Unrolling.{shown, are_runs, held_is}
+use Rattle.std.proofs.Common.{◌++◌, ◌∷◌, [], ap, ◌∙◌}
+use Rattle.op_model.specs.declared.op.Op.{Op}
+use Rattle.run_list.specs.Told.{bare_of, number_of, HoldsTold, IsTypedOn}
+use Rattle.run_list.proofs.Telling.{shown, are_told, told_is, more_told}
+use Rattle.run_list.proofs.Continuing.{typed_bare}
 use Rattle.run_list.proofs.run_list.RunList.type_on.Goals as goal
 
-pub invariant_of-self-2 : goal.invariant_of-self-2
-invariant_of-self-2 c =
-    let holds = shown _ _ _ c.args.self.now c.self.invariant c.self.view_is in
-    let typed = c.requires.1 in
-    are_runs _ _ _ _ (holds_next _ _ _ _ c.requires.0 c.push.new.self.items holds typed.fits typed.on (rw (sym typed.types) (search rules)) (omega (arith, marks_long _ _ _ _ holds)))
+pub type_on-requires : goal.type_on-requires
+type_on-requires c =
+    let holds = shown _ _ c.args.self.now c.self.invariant c.self.view_is in
+    (bare_of c.requires.0, typed_bare _ _ _ c.args.value c.args.token c.requires.0 holds c.requires.1)
 
-pub returns-clause-ok : goal.returns-clause-ok
-returns-clause-ok c op typed =
-    let holds = shown _ _ _ c.args.self.now c.self.invariant c.self.view_is in
-    held_is _ _ _ _ (holds_next _ _ _ _ op c.push.new.self.items holds typed.fits typed.on (rw (sym typed.types) (search rules)) (omega (arith, marks_long _ _ _ _ holds)))
+grown : (c : goal.In-Ok) (op : Op) → IsTypedOn c.args.self.now c.args.value c.args.token op → HoldsTold c.type_on.new.self c.push.new.self (c.args.self.now ++ op ∷ [])
+grown c op typed =
+    let holds = shown _ _ c.args.self.now c.self.invariant c.self.view_is in
+    more_told _ _ _ op _ _ holds typed.fits (c.in-Ok.ensures.ok (bare_of op) (typed_bare _ _ _ c.args.value c.args.token op holds typed))
+    (c.in_ok-push.ensures.ok ∙ ap (λ n. c.self.inside.tokens ++ n ∷ []) (c.number_of.ensures.value ∙ ap number_of typed.token_so))
+
+pub invariant_of-self-in-Ok : goal.invariant_of-self-in-Ok
+invariant_of-self-in-Ok c = are_told _ _ _ (grown c c.requires.0 c.requires.1)
+
+pub returns-in-Ok-clause-ok : goal.returns-in-Ok-clause-ok
+returns-in-Ok-clause-ok c = λ op typed. told_is _ _ _ (grown c op typed)

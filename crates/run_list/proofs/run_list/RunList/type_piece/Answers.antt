@@ -15,7 +15,7 @@ type_on-requires c =
     let is : c.value-item.result ≡ get_or others i c.value-item.result = c.value-item.is ∙ ap (λ vs. get_or vs i c.value-item.result) c.others-value-items.ensures.same in
     let lt : i < length others = omega (arith, ap length c.others-value-items.ensures.same) in (
       next_typed (last_typed c.args.piece.now.first (take i others)) c.value-item.result,
-      typed_one c.args.self.now c.loop-value.self c.args.piece.now.first others i c.value-item.result c.loop-value.invariant is lt,
+      rw c.first-in-loop-value.ensures (typed_one c.args.self.now c.loop-value.self c.args.piece.now.first others i c.value-item.result c.loop-value.invariant is lt),
     )
 
 pub loop-value-preserved : goal.loop-value-preserved
@@ -26,7 +26,7 @@ loop-value-preserved c =
     let lt : i < length others = omega (arith, ap length c.others-value-items.ensures.same) in
     let typed = typed_one c.args.self.now c.loop-value.self c.args.piece.now.first others i c.value-item.result c.loop-value.invariant is lt in
     typing_on c.args.self.now c.loop-value.self c.type_on.new.self c.args.piece.now.first others i c.value-item.result c.loop-value.invariant is lt
-    (c.in_ok-type_on.ensures.ok _ typed)
+    (c.in_ok-type_on.ensures.ok (next_typed (last_typed c.args.piece.now.first (take i others)) c.value-item.result) (rw c.first-in-loop-value.ensures typed))
 
 pub returns-clause-ok : goal.returns-clause-ok
 returns-clause-ok c =
