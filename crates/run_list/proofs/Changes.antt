@@ -6,8 +6,8 @@ use Rattle.std.specs.List.Sorted.{IsNonDecreasing}
 use Rattle.std.proofs.lemmas.Bool.{cases_Bool, eqb-true}
 use Rattle.std.proofs.lemmas.Bool.Decides.{nat_tests}
 use Rattle.std.proofs.lemmas.List.{get_or_default}
-use Rattle.bare_runs.specs.Reading.{below}
-use Rattle.bare_runs.proofs.Counting.{counted_below}
+use Rattle.run_list.specs.Reading.{below}
+use Rattle.run_list.proofs.Counting.{counted_below}
 use Rattle.run_list.specs.Column.{starts_behind, changes_behind, last_number}
 
 pub length-changes : (last at : ℕ) (ns : List ℕ) → length (changes_behind last ns) ≡ length (starts_behind last at ns)

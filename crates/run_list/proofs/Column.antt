@@ -6,8 +6,8 @@ use Rattle.std.proofs.lemmas.Bool.{cases_Bool, eqb-true}
 use Rattle.std.proofs.lemmas.Bool.Decides.{nat_tests}
 use Rattle.std.proofs.lemmas.List.{length-take}
 use Rattle.std.specs.List.Sorted.{IsNonDecreasing}
-use Rattle.bare_runs.specs.Reading.{below}
-use Rattle.bare_runs.proofs.Reading.{found_below}
+use Rattle.run_list.specs.Reading.{below}
+use Rattle.run_list.proofs.Reading.{found_below}
 use Rattle.run_list.specs.Column.{starts_behind, changes_behind, last_number, number_at, numbers_from, numbers_of, changes_in, HoldsColumn, IsColumn}
 use Rattle.run_list.proofs.Changes.{length-changes, below-starts, starts-take, changes-take}
 use Rattle.run_list.proofs.Changes.{changes-same, changes-more, starts-same, starts-more, starts_rise, one_more_below, no_more_below}

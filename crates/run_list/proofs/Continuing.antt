@@ -6,14 +6,14 @@ use Rattle.op_ids.specs.Clock.{advanced, is_same_clock}
 use Rattle.op_model.specs.declared.op.Op.{Op}
 use Rattle.op_model.specs.Causality.{is_insert}
 use Rattle.op_pieces.specs.Cutting.{is_behind, is_next, is_same_token}
-use Rattle.bare_runs.specs.Runs.{goes_on, last_behind, IsTypedBehind}
+use Rattle.run_list.specs.Runs.{goes_on, last_behind, IsTypedBehind}
 use Rattle.run_list.specs.Told.{with_token, bare_of, bare_ops, continues, HoldsTold, IsTypedOn}
 use Rattle.std.proofs.Common.{◌+◌}
 use Rattle.std.specs.Option.{option_map}
 use Rattle.run_list.proofs.Telling.{last_bare, bare_fits, bare_at, bare_long}
 use Rattle.std.proofs.Common.{◌<◌, suc, length, get_or, arith}
 use Rattle.std.specs.Prelude.{IfSome}
-use Rattle.bare_runs.proofs.Parts.{last_at}
+use Rattle.run_list.proofs.Parts.{last_at}
 use Rattle.run_list.proofs.NextTyped.{same_token}
 
 -- with one token for both it is as with none

@@ -3,8 +3,8 @@ use Rattle.std.proofs.Common.{◌≡◌, ℕ, zero, suc, ◌+◌, ◌<◌, ◌�
 use Rattle.std.specs.Prelude.{IfSome}
 use Rattle.std.proofs.lemmas.List.{get_or-take, length-take, take-take}
 use Rattle.op_model.specs.declared.op.Op.{Op}
-use Rattle.bare_runs.specs.Runs.{last_behind}
-use Rattle.bare_runs.proofs.Parts.{last_at}
+use Rattle.run_list.specs.Runs.{last_behind}
+use Rattle.run_list.proofs.Parts.{last_at}
 use Rattle.run_list.specs.Reader.{AreBegun, IsRead, HasRead}
 use Rattle.run_list.specs.declared.following.Begun.{Begun}
 

@@ -12,13 +12,13 @@ use Rattle.change_codec.specs.Spelling.{spelled}
 use Rattle.change_codec.specs.declared.format.Format.{Format}
 use Rattle.change_codec.proofs.Lengths.{length_spelled}
 use Rattle.piece_codec.proofs.StreamOperations.{typed_operations}
-use Rattle.bare_runs.specs.Reading.{typed_at}
+use Rattle.run_list.specs.Reading.{typed_at}
 use Rattle.std.proofs.Common.{Option, Some, refl}
 use Rattle.op_pieces.specs.Cutting.{value_of}
 use Rattle.run_list.specs.Told.{bare_of, IsTypedOn}
 use Rattle.run_list.specs.Writer.{IsSpelledNext, KnowsLast}
 use Rattle.run_list.proofs.Continuing.{spelled_on}
-use Rattle.bare_runs.proofs.Reading.{typed_more}
+use Rattle.run_list.proofs.Reading.{typed_more}
 use Rattle.run_list.proofs.NextTyped.{typed_is_next}
 
 -- it keeps the rules of its fields, if there is room for it

@@ -10,7 +10,7 @@ use Rattle.op_list.proofs.Holding.{fits_take, fits_drop, fits_append}
 use Rattle.change_codec.specs.Fits.{IsOperation, IsToken}
 use Rattle.change_codec.specs.Stream.{AreOperations}
 use Rattle.change_codec.proofs.StreamLaws.{are_more}
-use Rattle.bare_runs.specs.Runs.{last_behind}
+use Rattle.run_list.specs.Runs.{last_behind}
 use Rattle.run_list.specs.Told.{with_token, bare_of, number_of, token_of, bare_ops, tokens_of, told, HoldsTold, AreTold}
 
 -- a token's number stands for it

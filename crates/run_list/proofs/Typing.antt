@@ -9,12 +9,12 @@ use Rattle.op_pieces.proofs.PieceLemmas.{last_more}
 use Rattle.op_pieces.proofs.UnrolledLemmas.{room_parts, others_fit}
 use Rattle.piece_codec.specs.Fits.{IsWhole}
 use Rattle.piece_codec.proofs.StreamOperations.{typed_operations}
-use Rattle.bare_runs.specs.Runs.{last_behind}
+use Rattle.run_list.specs.Runs.{last_behind}
 use Rattle.run_list.specs.Told.{bare_of, IsTypedOn}
 use Rattle.run_list.proofs.Continuing.{goes_on_bare}
 use Rattle.run_list.proofs.NextTyped.{typed_is_next}
-use Rattle.bare_runs.proofs.Appending.{Going, going_on, all_put}
-use Rattle.bare_runs.proofs.Parts.{last-more}
+use Rattle.run_list.proofs.Appending.{Going, going_on, all_put}
+use Rattle.run_list.proofs.Parts.{last-more}
 
 -- of a piece's operations those up to the i-th are put behind the first one
 pub record Typing (start : List Op) (first : Op) (others : List ℕ) (i : ℕ) (self : List Op) : Type 0 where

@@ -2,3 +2,6 @@ pub mod Column
 pub mod Told
 pub mod Reader
 pub mod Writer
+pub mod Runs
+pub mod Reading
+pub mod NextOnes

@@ -1,7 +1,7 @@
 -- How far a list was read.
 use Rattle.std.specs.Prelude.{◌≡◌, ℕ, zero, suc, ◌≤◌, List, length, take, get_or, Option, Some, None}
 use Rattle.op_model.specs.declared.op.Op.{Op}
-use Rattle.bare_runs.specs.Reading.{runs_of}
+use Rattle.run_list.specs.Reading.{runs_of}
 use Rattle.run_list.specs.Column.{changes_in}
 use Rattle.run_list.specs.Told.{bare_ops, tokens_of}
 use Rattle.run_list.specs.declared.following.Begun.{Begun}

@@ -4,7 +4,7 @@ use Rattle.op_model.specs.declared.op.Op.{Op}
 use Rattle.op_pieces.specs.Cutting.{value_of}
 use Rattle.change_codec.specs.Fits.{IsOperation}
 use Rattle.change_codec.specs.Stream.{AreOperations}
-use Rattle.bare_runs.specs.Runs.{goes_on, last_behind}
+use Rattle.run_list.specs.Runs.{goes_on, last_behind}
 
 -- the operation with this token in place of its own
 abbrev pub with_token : Op → Option ℕ → Op

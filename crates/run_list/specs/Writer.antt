@@ -11,7 +11,7 @@ use Rattle.change_codec.specs.declared.format.Format.{Format}
 use Rattle.change_codec.specs.Formats.{IsOf}
 use Rattle.change_codec.specs.Record.{BeginsWithOp}
 use Rattle.op_pieces.specs.Cutting.{is_next}
-use Rattle.bare_runs.specs.Runs.{last_behind}
+use Rattle.run_list.specs.Runs.{last_behind}
 
 -- the operation that is known is the last one
 abbrev pub KnowsLast : List Op → Option Op → Type 0

@@ -1,6 +1,6 @@
 //! The operation behind the first ones of a list.
 ghost use Rattle.std.specs.Prelude.{◌≡◌, ◌<◌, suc, length, take, slice_index_or, IfOk, IfSome, Some, None};
-ghost use Rattle.bare_runs.specs.Runs.{last_behind};
+ghost use Rattle.run_list.specs.Runs.{last_behind};
 ghost use Rattle.run_list.specs.Reader.{AreBegun};
 
 use crate::run_list::RunList;

@@ -5,10 +5,18 @@
 //! operations, though each edit has a token of its own.
 #![tactic(auto)]
 
+mod bare_extending;
+mod bare_following;
+mod bare_list;
+mod bare_putting;
+mod bare_reading;
+mod bare_slice;
 mod behind;
 mod column_extending;
 mod extending;
+mod finding;
 mod following;
+mod marks;
 mod next_record;
 mod putting;
 mod run_list;
@@ -18,6 +26,7 @@ mod run_slice;
 mod run_writer;
 mod token_column;
 mod token_numbers;
+mod typed;
 
 pub use run_list::RunList;
 pub use run_reader::RunReader;

@@ -7,7 +7,7 @@ ghost use Rattle.run_list.specs.Told.{bare_of as bare_of_op};
 ghost use Rattle.run_list.specs.Writer.{IsSpelledNext};
 
 use crate::token_numbers::bare_of;
-use bare_runs::typed_at;
+use crate::typed::typed_at;
 use change_codec::{Format, every_op_has_a_spelling, put_op, take_scalar, take_token, take_u32};
 use fixed_numbers::limits::MAX_COUNTER;
 use op_ids::Token;

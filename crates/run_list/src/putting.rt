@@ -3,7 +3,7 @@ ghost use Rattle.std.specs.Prelude.{◌≡◌, [], ◌∷◌, ◌++◌, length, 
 ghost use Rattle.std.specs.Prelude.{true, false, None, OnOk, OnErr, IfOk};
 ghost use Rattle.op_model.specs.declared.op.Op.{Op as Operation};
 ghost use Rattle.op_list.specs.Held.{IsRecord};
-ghost use Rattle.bare_runs.specs.Runs.{goes_on, last_behind};
+ghost use Rattle.run_list.specs.Runs.{goes_on, last_behind};
 ghost use Rattle.run_list.specs.Told.{bare_ops, continues, with_token, IsTypedOn};
 
 use crate::run_list::RunList;

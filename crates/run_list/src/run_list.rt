@@ -1,9 +1,9 @@
 //! A list of operations, held as runs, and their tokens beside them.
 ghost use Rattle.std.specs.Prelude.{◌≡◌, [], length, take, IsTrue, ◌↔◌};
 
+use crate::bare_list::BareList;
 use crate::run_slice::RunSlice;
 use crate::token_column::TokenColumn;
-use bare_runs::BareList;
 use std::alloc::{AllocError, Global};
 use std::marker::Model;
 

@@ -4,9 +4,9 @@ ghost use Rattle.op_list.specs.Heads.{heads};
 ghost use Rattle.change_codec.specs.Stream.{AreOperations};
 ghost use Rattle.run_list.specs.Told.{bare_ops};
 
+use crate::bare_slice::BareSlice;
 use crate::run_list::RunList;
 use crate::run_reader::RunReader;
-use bare_runs::BareSlice;
 use op_ids::Token;
 use op_list::OpHead;
 use op_model::Op;

@@ -2,7 +2,7 @@
 ghost use Rattle.std.specs.Prelude.{◌≡◌, ◌<◌, ◌≤◌, [], ◌∷◌, ◌++◌, length, take, suc, slice_index_or, OnOk, OnErr, IsTrue, ◌↔◌};
 ghost use Rattle.run_list.specs.Column.{changes_in, last_number};
 
-use bare_runs::count_below;
+use crate::finding::count_below;
 use std::alloc::{AllocError, Global};
 use std::marker::Model;
 

@@ -1,5 +1,5 @@
 use Rattle.std.proofs.Common.{refl, arith}
-use Rattle.bare_runs.proofs.Appending.{going_begins, going_on, all_put, next_of_list, none_left}
+use Rattle.run_list.proofs.Appending.{going_begins, going_on, all_put, next_of_list, none_left}
 use Rattle.run_list.proofs.run_list.RunList.append_each.Goals as goal
 
 pub loop-op-init : goal.loop-op-init

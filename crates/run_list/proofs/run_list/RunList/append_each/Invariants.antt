@@ -1,5 +1,5 @@
 use Rattle.std.proofs.Common.{drop}
-use Rattle.bare_runs.proofs.Appending.{Going}
+use Rattle.run_list.proofs.Appending.{Going}
 use Rattle.run_list.proofs.run_list.RunList.append_each.Given as goal
 
 abbrev pub invariant-loop-op : goal.invariant-loop-op

@@ -1,6 +1,6 @@
 use Rattle.std.proofs.Common.{suc, take, sym, ap, ◌∙◌, arith}
 use Rattle.std.proofs.lemmas.List.{take-map}
-use Rattle.bare_runs.specs.Reading.{runs_of}
+use Rattle.run_list.specs.Reading.{runs_of}
 use Rattle.run_list.specs.Column.{changes_in}
 use Rattle.run_list.specs.Told.{bare_of, number_of, with_token}
 use Rattle.run_list.proofs.Telling.{shown, bare_long, told_at}

@@ -1,5 +1,5 @@
 use Rattle.std.proofs.Common.{◌≡◌, None, Some, sym, ap, ◌∙◌, subst}
-use Rattle.bare_runs.specs.Runs.{last_behind}
+use Rattle.run_list.specs.Runs.{last_behind}
 use Rattle.run_list.specs.Told.{continues}
 use Rattle.run_list.specs.Writer.{KnowsLast}
 use Rattle.run_list.proofs.Continuing.{goes_on_bare}

@@ -5,7 +5,7 @@ use Rattle.run_list.specs.Told.{bare_of}
 use Rattle.run_list.specs.Writer.{is_right_behind}
 use Rattle.run_list.proofs.Continuing.{goes_on_bare}
 use Rattle.run_list.proofs.RightBehind.{others_begin}
-use Rattle.bare_runs.proofs.Parts.{last_at}
+use Rattle.run_list.proofs.Parts.{last_at}
 use Rattle.run_list.proofs.run_writer.RunWriter.may_go_on.Goals as goal
 
 pub returns : goal.returns

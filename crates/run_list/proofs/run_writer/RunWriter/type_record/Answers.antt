@@ -1,6 +1,6 @@
 use Rattle.std.proofs.Common.{◌++◌, ◌∷◌, [], None, ap, ◌∙◌}
-use Rattle.bare_runs.specs.Runs.{last_behind}
-use Rattle.bare_runs.proofs.Parts.{last-more}
+use Rattle.run_list.specs.Runs.{last_behind}
+use Rattle.run_list.proofs.Parts.{last-more}
 use Rattle.run_list.specs.Writer.{IsSpelledNext}
 use Rattle.run_list.proofs.NextRecord.{typed_next}
 use Rattle.run_list.proofs.run_writer.RunWriter.type_record.Goals as goal

@@ -1,5 +1,5 @@
 use Rattle.std.proofs.Common.{ap, ◌∙◌}
-use Rattle.bare_runs.specs.Reading.{below}
+use Rattle.run_list.specs.Reading.{below}
 use Rattle.run_list.proofs.Column.{shows, before, rising}
 use Rattle.run_list.proofs.token_column.TokenColumn.changes_before.Goals as goal
 

@@ -1,5 +1,5 @@
 use Rattle.std.proofs.Common.{ap, ◌∙◌, suc, add-one}
-use Rattle.bare_runs.specs.Reading.{below}
+use Rattle.run_list.specs.Reading.{below}
 use Rattle.run_list.proofs.Column.{shows, up_to, rising}
 use Rattle.run_list.proofs.token_column.TokenColumn.changes_up_to.Goals as goal
 

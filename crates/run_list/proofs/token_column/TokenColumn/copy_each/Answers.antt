@@ -1,6 +1,6 @@
 use Rattle.std.proofs.Common.{◌≡◌, ◌<◌, get_or, refl, arith, ◌∙◌, sym, take, length, add-one}
 use Rattle.std.proofs.lemmas.List.{length-take, get_or-take}
-use Rattle.bare_runs.proofs.Appending.{going_begins, going_on, all_put, none_left, next_of_list}
+use Rattle.run_list.proofs.Appending.{going_begins, going_on, all_put, none_left, next_of_list}
 use Rattle.run_list.proofs.token_column.TokenColumn.copy_each.Goals as goal
 
 pub loop-i-init : goal.loop-i-init

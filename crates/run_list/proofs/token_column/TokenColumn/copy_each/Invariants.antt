@@ -1,6 +1,6 @@
 use Rattle.std.proofs.Common.{◌≡◌, drop, take}
 use Rattle.run_list.specs.Column.{changes_in}
-use Rattle.bare_runs.proofs.Appending.{Going}
+use Rattle.run_list.proofs.Appending.{Going}
 use Rattle.run_list.proofs.token_column.TokenColumn.copy_each.Given as goal
 
 -- those up to the i-th are put, and the changes before it are known

@@ -1,7 +1,7 @@
 use Rattle.std.proofs.Common.{◌≡◌, suc, ◌-◌, ◌<◌, length, get_or, refl, arith}
 use Rattle.std.proofs.lemmas.Bool.Decides.{nat_tests}
-use Rattle.bare_runs.specs.Reading.{below}
-use Rattle.bare_runs.proofs.Reading.{below_within}
+use Rattle.run_list.specs.Reading.{below}
+use Rattle.run_list.proofs.Reading.{below_within}
 use Rattle.run_list.proofs.Changes.{all_below}
 use Rattle.run_list.proofs.Column.{shows, no_more, rising}
 use Rattle.run_list.proofs.token_column.TokenColumn.is_behind_changes.Goals as goal

@@ -1,7 +1,7 @@
 use Rattle.std.proofs.Common.{length, take, ap, sym, ◌∙◌, arith, rules}
 use Rattle.std.proofs.lemmas.List.{length-take}
 use Rattle.op_list.proofs.Told.{told}
-use Rattle.bare_runs.proofs.Reading.{below_within}
+use Rattle.run_list.proofs.Reading.{below_within}
 use Rattle.run_list.specs.Column.{starts_behind, changes_behind}
 use Rattle.run_list.proofs.Column.{shows, rising, front_of, same_column, as_long}
 use Rattle.run_list.proofs.token_column.TokenColumn.is_front.Goals as goal

@@ -1,5 +1,5 @@
 use Rattle.std.proofs.Common.{arith, ap, ◌∙◌}
-use Rattle.bare_runs.specs.Reading.{below}
+use Rattle.run_list.specs.Reading.{below}
 use Rattle.run_list.proofs.Column.{shows, rising, front_holds, is_column, column_is}
 use Rattle.run_list.proofs.token_column.TokenColumn.truncate.Goals as goal
 

@@ -1,0 +1,131 @@
+//! Operations that are put behind a list of runs.
+ghost use Rattle.std.specs.Prelude.{◌≡◌, ◌+◌, ◌<◌, ◌^◌, [], ◌∷◌, ◌++◌, length};
+ghost use Rattle.std.specs.Prelude.{true, false, None, OnOk, OnErr, IfOk, IsTrue};
+ghost use Rattle.op_model.specs.declared.op.Op.{Op as Operation};
+ghost use Rattle.op_model.specs.Records.{stream_length};
+ghost use Rattle.op_list.specs.Held.{IsRecord};
+ghost use Rattle.run_list.specs.Runs.{firsts_behind, goes_on as goes_on_of, last_behind, IsTypedBehind};
+
+use crate::bare_list::BareList;
+use crate::marks::{BEGINS, MOST_BYTES, MOST_OPERATIONS};
+use change_codec::every_op_has_a_spelling;
+use op_model::Op;
+use op_pieces::{is_next, value_of};
+use std::alloc::AllocError;
+
+impl BareList {
+    /// Puts an operation behind the others.
+    pub(crate) fn push(&mut self, op: &Op) -> Result<(), AllocError>
+        ensures ok { OnOk result (self.new ≡ self.old ++ op.now ∷ []) }
+        ensures err { OnErr result (self.new ≡ self.old) }
+    {
+        let on = self.has_next(op)?;
+        self.push_known(on, op)
+    }
+
+    /// Puts an operation behind the others, where it is known whether it goes on with the run of
+    /// the last one.
+    fn push_known(&mut self, on: bool, op: &Op) -> Result<(), AllocError>
+        requires { on ≡ goes_on_of (last_behind None self.old) op.now }
+        ensures ok { OnOk result (self.new ≡ self.old ++ op.now ∷ []) }
+        ensures err { OnErr result (self.new ≡ self.old) }
+    {
+        if on {
+            self.go_on(op)
+        } else {
+            self.begin_run(op)
+        }
+    }
+
+    /// Whether an operation goes on with the run of the last one. An error is out of memory (1).
+    fn has_next(&self, op: &Op) -> Result<bool, AllocError>
+        ensures { IfOk result (λ on. on ≡ goes_on_of (last_behind None self.now) op.now) }
+    {
+        let len = self.len();
+        if len == 0 {
+            return Ok(false);
+        }
+        let last = self.get(len - 1)?;
+        Ok(is_next(&last, op))
+    }
+
+    /// Puts an operation behind the others that goes on with the run of the last one.
+    fn go_on(&mut self, op: &Op) -> Result<(), AllocError>
+        requires { goes_on_of (last_behind None self.old) op.now ≡ true }
+        ensures ok { OnOk result (self.new ≡ self.old ++ op.now ∷ []) }
+        ensures err { OnErr result (self.new ≡ self.old) }
+    {
+        every_op_has_a_spelling(op);
+        self.type_on(value_of(&op.body))?;
+        Ok(())
+    }
+
+    /// Puts the operation behind the others that goes on with the run of the last one and types
+    /// this character.
+    pub(crate) fn type_on(&mut self, value: char) -> Result<(), AllocError>
+        requires { (op : Operation) × IsTypedBehind self.old value op }
+        ensures ok { OnOk result ((op : Operation) → IsTypedBehind self.old value op
+            → self.new ≡ self.old ++ op ∷ []) }
+        ensures err { OnErr result (self.new ≡ self.old) }
+    {
+        if self.marks.len() >= MOST_OPERATIONS {
+            return Err(AllocError);
+        }
+        self.marks.push(value as u32)?;
+        Ok(())
+    }
+
+    /// Puts an operation behind the others that begins a run.
+    pub(crate) fn begin_run(&mut self, op: &Op) -> Result<(), AllocError>
+        requires { goes_on_of (last_behind None self.old) op.now ≡ false }
+        ensures ok { OnOk result (self.new ≡ self.old ++ op.now ∷ []) }
+        ensures err { OnErr result (self.new ≡ self.old) }
+    {
+        every_op_has_a_spelling(op);
+        if !self.has_room_for(op.record_length()) {
+            return Err(AllocError);
+        }
+        let at = self.marks.len();
+        self.marks.reserve(1)?;
+        self.starts.reserve(1)?;
+        self.firsts.append(std::slice::from_ref(op))?;
+        self.starts.push_reserved(at as u32);
+        self.marks.push_reserved(BEGINS);
+        Ok(())
+    }
+
+    /// Puts the operation behind the others whose record these bytes are, and which begins a run.
+    pub(crate) fn begin_record(&mut self, bytes: &[u8]) -> Result<(), AllocError>
+        requires one { (op : Operation) × IsRecord bytes.now op }
+        requires begins { (op : Operation) → IsRecord bytes.now op
+            → goes_on_of (last_behind None self.old) op ≡ false }
+        ensures ok { OnOk result ((op : Operation) → IsRecord bytes.now op
+            → self.new ≡ self.old ++ op ∷ []) }
+        ensures err { OnErr result (self.new ≡ self.old) }
+    {
+        if !self.has_room_for(bytes.len() as u64) {
+            return Err(AllocError);
+        }
+        let at = self.marks.len();
+        self.marks.reserve(1)?;
+        self.starts.reserve(1)?;
+        self.firsts.append_record(bytes)?;
+        self.starts.push_reserved(at as u32);
+        self.marks.push_reserved(BEGINS);
+        Ok(())
+    }
+
+    /// Whether there is room for one more operation that begins a run, with a record of so many
+    /// bytes.
+    fn has_room_for(&self, bytes: u64) -> bool
+        ensures few { IsTrue result → length self.now + 1 < 2 ^ 32 }
+        ensures short { IsTrue result
+            → stream_length (firsts_behind None self.now) + bytes < 2 ^ 32 }
+    {
+        if self.marks.len() >= MOST_OPERATIONS {
+            return false;
+        }
+        let held = self.firsts.as_slice().length_from(0) as u64;
+        held <= MOST_BYTES && bytes <= MOST_BYTES - held
+    }
+}
