@@ -13,3 +13,4 @@ pub mod Shares
 pub mod StreamLaws
 pub mod StreamOperations
 pub mod TypedLaws
+pub mod Short

@@ -15,3 +15,4 @@ pub mod Typing
 mod NextRecord
 pub mod RightBehind
 pub mod LastRead
+pub mod Fronts

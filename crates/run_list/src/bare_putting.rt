@@ -19,18 +19,7 @@ impl BareList {
         ensures ok { OnOk result (self.new ≡ self.old ++ op.now ∷ []) }
         ensures err { OnErr result (self.new ≡ self.old) }
     {
-        let on = self.has_next(op)?;
-        self.push_known(on, op)
-    }
-
-    /// Puts an operation behind the others, where it is known whether it goes on with the run of
-    /// the last one.
-    fn push_known(&mut self, on: bool, op: &Op) -> Result<(), AllocError>
-        requires { on ≡ goes_on_of (last_behind None self.old) op.now }
-        ensures ok { OnOk result (self.new ≡ self.old ++ op.now ∷ []) }
-        ensures err { OnErr result (self.new ≡ self.old) }
-    {
-        if on {
+        if self.has_next(op)? {
             self.go_on(op)
         } else {
             self.begin_run(op)

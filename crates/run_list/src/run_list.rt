@@ -63,8 +63,8 @@ impl RunList {
     }
 
     /// Makes room for `more` further operations, of which those that begin a run have records of
-    /// `bytes` bytes, and for as many changes of the token. An error is out of memory (1). Linear in
-    /// the list where it moves, else constant.
+    /// `bytes` bytes, and for as many changes of the token. An error is out of memory (1). Linear
+    /// in the list where it moves, else constant.
     pub fn reserve(&mut self, more: usize, bytes: usize) -> Result<(), AllocError>
         ensures { self.new ≡ self.old }
     {

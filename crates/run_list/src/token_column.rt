@@ -96,8 +96,8 @@ impl TokenColumn {
         self.changes.reserve(more)
     }
 
-    /// Puts a number behind the others. An error is out of memory (1), and it is one too where there
-    /// would be 2^32 of them. Constant.
+    /// Puts a number behind the others. An error is out of memory (1), and it is one too where
+    /// there would be 2^32 of them. Constant.
     pub(crate) fn push(&mut self, number: u128) -> Result<(), AllocError>
         ensures ok { OnOk result (self.new ≡ self.old ++ number ∷ []) }
         ensures err { OnErr result (self.new ≡ self.old) }

@@ -1,5 +1,5 @@
 //! The pieces of a stream, one after another.
-ghost use Rattle.std.specs.Prelude.{◌≡◌, ◌≤◌, length, IfOk, IsErrOf};
+ghost use Rattle.std.specs.Prelude.{◌≤◌, length, IfOk, IsErrOf};
 ghost use Rattle.fixed_numbers.specs.declared.limits.TheConstants.{MAX_STREAM_LENGTH};
 ghost use Rattle.change_codec.specs.declared.stream_error.StreamError.TheVariants.{Stream};
 ghost use Rattle.stream_list.specs.Fronts.{BeginsWithNone};

@@ -3,7 +3,8 @@ use Rattle.std.proofs.lemmas.List.{nil_from_length}
 use Rattle.stream_list.specs.Passing.{Reading}
 use Rattle.stream_list.specs.Streams.{HasNone, SpellsShort}
 use Rattle.stream_list.proofs.PassingLemmas.{ends_early, passed_all}
-use Rattle.stream_list.proofs.stream_reader.StreamReader.finish.Goals.{then-not-is_empty-via-then-not-is_empty, then-not-is_empty-via-else-not-is_empty+then-listed-gt0}
+use Rattle.stream_list.proofs.stream_reader.StreamReader.finish.Goals.{then-not-is_empty-via-then-not-is_empty}
+use Rattle.stream_list.proofs.stream_reader.StreamReader.finish.Goals.{then-not-is_empty-via-else-not-is_empty+then-listed-gt0}
 use Rattle.stream_list.proofs.stream_reader.StreamReader.finish.Goals as goal
 
 pub returns-then-not-is_empty-clause-none : goal.returns-then-not-is_empty-clause-none
