@@ -37,6 +37,7 @@ import session_memory
 import streams
 import terminal
 import tokens
+import typed_memory
 import watching
 import web_pages
 import web_sockets
@@ -46,8 +47,9 @@ from program import Checks
 
 LIMIT = 600
 GROUPS = (
-    words, sentences, terminal, examples, exports, long_texts, streams, locks, lost_files, full_disk, ending, crafted, formats, long_runs, damage, each_byte, kills, tokens, memory, serving, served_limits, journal, web_pages,
-    last_place, peers, watching, web_sockets, parting, put_back, backups, parted_files, idle_links, rude, noise, worst, session_memory, renewal,
+    words, sentences, terminal, examples, exports, long_texts, streams, locks, lost_files, full_disk, ending, crafted, formats, long_runs,
+    damage, each_byte, kills, tokens, typed_memory, memory, serving, served_limits, journal, web_pages, last_place, peers, watching,
+    web_sockets, parting, put_back, backups, parted_files, idle_links, rude, noise, worst, session_memory, renewal,
 )
 
 
