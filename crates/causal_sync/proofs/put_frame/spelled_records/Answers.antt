@@ -2,7 +2,8 @@ use Rattle.std.proofs.Common.{◌≡◌, ◌∷◌, ◌+◌, suc, length, drop, 
 use Rattle.std.proofs.Math.Seq.{drop-cons}
 use Rattle.std.proofs.lemmas.List.{length-append}
 use Rattle.piece_codec.specs.Spelling.{spelled_piece}
-use Rattle.causal_sync.proofs.Spellings.{piece_short, records_more}
+use Rattle.piece_codec.proofs.Short.{piece_short}
+use Rattle.causal_sync.proofs.Spellings.{records_more}
 use Rattle.causal_sync.proofs.put_frame.spelled_records.Goals as goal
 
 pub loop-piece-preserved : goal.loop-piece-preserved
