@@ -21,11 +21,11 @@ returns-in_err-it-clause-fault g c = λ told.
     let p = err_from_is_err_and c.from_residual.result c.from_residual.ensures.1 in
     let at = c.loop-rest.invariant in
     let file = g.D.DiskFacts.content c.args.disk.now in
-    let cut = cut_parts _ _ _ _ c.split_at.ensures.front c.split_at.ensures.back in
+    let cut = cut_parts c.min.result c.split_at.result.0.now c.split_at.result.1.now c.loop-rest.rest.now c.split_at.ensures.front c.split_at.ensures.back in
     let fault = rw (at.looks.looks told).same at (c.in_err-it.ensures.fault (at.looks.tells.1 told)) in
     rw (p.1, p.2) (part_fault c.args.begun.left c.args.begun.reader.format c.args.begun.reader.count (pages c.args.numbers.now file)
     (joined (pages c.loop-rest.rest.now file)) (joined (pages c.split_at.result.0.now file)) (joined (pages c.split_at.result.1.now file)) c.loop-rest.it
-    c.in_err-it.field-0.0 (c.requires.whole told) (joined_parts _ _ _ file cut) (at.reads told) at.on.format at.on.count fault)
+    c.in_err-it.field-0.0 (c.requires.whole told) (joined_parts c.split_at.result.0.now c.split_at.result.1.now c.loop-rest.rest.now file cut) (at.reads told) at.on.format at.on.count fault)
 
 pub loop-rest-preserved : goal.loop-rest-preserved
 loop-rest-preserved g c =
