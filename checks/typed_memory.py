@@ -53,19 +53,23 @@ def check_session(checks, program, name):
 
 
 def opened(program, name):
-    """The greatest memory of a dump of a document without operations, and its status."""
-    run = subprocess.Popen([program, "dump", name, "2"], stdout=subprocess.DEVNULL, stderr=subprocess.DEVNULL)
-    _, status, usage = os.wait4(run.pid, 0)
-    return usage.ru_maxrss * 1024, os.waitstatus_to_exitcode(status)
+    """The greatest memory of a session that opens a file, and its status. (That of a process that has ended may be its parent's.)"""
+    session = Typing(program, name)
+    session.run.stdin.write(line(op="status"))
+    session.run.stdin.flush()
+    session.run.stdout.readline()
+    with open(f"/proc/{session.run.pid}/status", encoding="ascii") as file:
+        most = next(int(said.split()[1]) * 1024 for said in file if said.startswith("VmHWM:"))
+    return most, session.end()
 
 
 def check_opening(checks, program, name):
     new_file(program, name)
     before, status = opened(program, name)
-    checks.same("a dump of an empty file", status, 0)
+    checks.same("a session of an empty file", status, 0)
     write(name, file_of(b"".join(typed(NAME, COUNT)), COUNT, 3))
     most, status = opened(program, name)
-    checks.same("a dump of a file of typed text", status, 0)
+    checks.same("a session of a file of typed text", status, 0)
     more = (most - before) / COUNT
     checks.holds(f"a typed character takes {more:.0f} bytes while its file is opened, at most {OPENING}", more <= OPENING)
 
