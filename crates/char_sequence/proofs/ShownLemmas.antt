@@ -1,7 +1,7 @@
 -- Cells of a chunk that are read one after another.
 use Rattle.std.proofs.lemmas.Bool.{true≢false}
 use Rattle.std.proofs.lemmas.Bool.Decides.{nat_tests}
-use Rattle.std.proofs.Common.{◌≡◌, ◌≤◌, ◌<◌, refl, sym, arith, Bool, not, if◌then◌else◌, ℕ, ◌+◌, ◌-◌, ◌==◌, true, false, List, [], ◌∷◌, length, drop, get_or}
+use Rattle.std.proofs.Common.{slice_get, ◌++◌, zero, suc, ◌≡◌, ◌≤◌, ◌<◌, refl, sym, arith, Bool, not, if◌then◌else◌, ℕ, ◌+◌, ◌-◌, ◌==◌, true, false, List, [], ◌∷◌, length, drop, get_or}
 use Rattle.std.proofs.Common.{Option, Some, None, ◌∙◌, ap}
 use Rattle.std.specs.Option.{MatchOption}
 use Rattle.std.proofs.Math.ListN.{drop_of_length-le}
@@ -116,3 +116,47 @@ pub seen_of : (held : ChunkCells) (i k left : ℕ) (found : Option Seen) → sho
     → MatchOption found (shown_at (cells_of held) k ≡ None) (IsSeen held 0 0 k)
 seen_of held i k left None found rest is = absurd is
 seen_of held i k left (Some seen) found rest is = seen_from held i k left seen found rest is
+
+-- ---- a chunk of which each cell is seen
+
+-- a reader sees no more cells than there are
+pub few_shown : (cs : List Cell) → length (shown cs) ≤ length cs
+few_shown [] = omega arith
+few_shown (c ∷ cs) = step c.is_removed (few_shown cs) where
+  step : (gone : Bool) → length (shown cs) ≤ length cs → length (if not gone then c ∷ shown cs else shown cs) ≤ length (c ∷ cs)
+  step true few = omega arith
+  step false few = omega arith
+
+-- where as many cells are seen as there are, the first one is, and as many as there are of the others
+first_seen : (c : Cell) (cs : List Cell) → length (c ∷ cs) ≤ length (shown (c ∷ cs)) → (c.is_removed ≡ false) × (length cs ≤ length (shown cs))
+first_seen c cs whole = step c.is_removed refl (few_shown cs) whole where
+  step : (gone : Bool) → c.is_removed ≡ gone → length (shown cs) ≤ length cs → length (c ∷ cs) ≤ length (if not gone then c ∷ shown cs else shown cs)
+      → (c.is_removed ≡ false) × (length cs ≤ length (shown cs))
+  step true e few whole = absurd (let never : ⊥ = omega arith in never)
+  step false e few whole = (e, omega arith)
+
+-- there the k-th cell is the k-th that is seen, and the others follow it
+kth_seen : (cs rest : List Cell) (k : ℕ) (c : Cell) → length cs ≤ length (shown cs) → slice_get cs k ≡ Some c
+    → (shown_at (cs ++ rest) k ≡ Some c.id) × (behind_shown (cs ++ rest) (k + 1) ≡ drop (k + 1) cs ++ rest)
+kth_seen [] rest k c whole is = absurd (cc)
+kth_seen (d ∷ cs) rest zero c whole is =
+    let (seen, others) = first_seen d cs whole in
+    let same : d ≡ c = cc in
+    (shown_first d (cs ++ rest) seen ∙ ap (λ (e : Cell). Some e.id) same, behind_next d (cs ++ rest) 0 seen ∙ behind_none (cs ++ rest))
+kth_seen (d ∷ cs) rest (suc k) c whole is =
+    let (seen, others) = first_seen d cs whole in
+    let (found, behind) = kth_seen cs rest k c others is in
+    let some : (suc k == 0) ≡ false = grind (arith, nat_tests) in
+    let back : suc k - 1 ≡ k = omega arith in
+    let next : suc k ≡ k + 1 = omega arith in
+    let behind_all : suc k + 1 ≡ suc (k + 1) = omega arith in (
+      shown_next d (cs ++ rest) (suc k) seen some ∙ (ap (shown_at (cs ++ rest)) back ∙ found),
+      behind_next d (cs ++ rest) (suc k) seen ∙ (ap (behind_shown (cs ++ rest)) next ∙ (behind ∙ ap (λ n. drop n (d ∷ cs) ++ rest) (sym behind_all))),
+    )
+
+-- so it is found without a look at the cells before it
+pub found_at : (held : ChunkCells) (i k : ℕ) (c : Cell) (seen : Seen) → length (get_or held i []) ≤ length (shown (get_or held i []))
+    → cell_at held i k ≡ Some c → seen ≡ record { id = c.id; behind = record { chunk = i; at = k + 1 } } → IsSeen held i 0 k seen
+found_at held i k c seen whole is is_it =
+    let (found, behind) = kth_seen (get_or held i []) (cells_of (drop (i + 1) held)) k c whole (in_its_chunk held i k c is).1 in
+    rw is_it (record { id = found; place = place_behind held i k c is; rest = sym behind })

@@ -3,13 +3,14 @@ ghost use Rattle.std.specs.Prelude.{◌≡◌, ◌+◌, ◌*◌, ◌≤◌, ◌<
 ghost use Rattle.std.specs.Prelude.{None, IfOk, OnOk, MatchOption};
 ghost use Rattle.std.proofs.Common.{get_or};
 ghost use Rattle.char_sequence.specs.Cells.{behind_shown, shown as shown_of, shown_at};
-ghost use Rattle.char_sequence.specs.Chunks.{cells_of, from as from_of, IsPlace};
+ghost use Rattle.char_sequence.specs.Chunks.{cells_of, from as from_of, IsPlace, size_of};
 ghost use Rattle.char_sequence.specs.Gaps.{IsGap, IsSeen};
 ghost use Rattle.char_sequence.specs.Sums.{StartsAt};
 ghost use Rattle.char_sequence.specs.declared.chunk.TheConstants.{MAX_CHUNK, MIN_CHUNK};
 ghost use Rattle.char_sequence.specs.declared.groups.TheConstants.{GROUP};
 
 use crate::cell::Cell;
+use crate::chunk_size::ChunkSize;
 use crate::chunks::Chunks;
 use crate::gap::{Gap, Seen};
 use crate::groups::GROUP;
@@ -37,12 +38,44 @@ pub(crate) fn shown(chunks: &Chunks, k: usize, ticks: &mut Ticks) -> Option<Seen
     let mut i = start.chunk;
     while let Some(size) = chunks.chunk(i, ticks) {
         if left < size.shown {
-            return shown_in(chunks, i, size.cells, left, ticks);
+            return shown_of_chunk(chunks, i, size, left, ticks);
         }
         left -= size.shown;
         i += 1;
     }
     None
+}
+
+/// The k-th cell that a reader sees from a chunk on, which is one of that chunk: a tick where that
+/// has no tombstones, else one for each of its cells up to it.
+fn shown_of_chunk(
+    chunks: &Chunks,
+    i: usize,
+    size: ChunkSize,
+    k: usize,
+    ticks: &mut Ticks,
+) -> Option<Seen>
+    requires size { size ≡ size_of (get_or chunks.now i []) }
+    requires here { k < length (shown_of (get_or chunks.now i [])) }
+    ensures found { MatchOption result ⊥ (IsSeen chunks.now i 0 k) }
+    ensures ticks { ticks.new ≤ ticks.old + size.cells }
+    ensures rising { ticks.old ≤ ticks.new }
+{
+    if size.shown < size.cells {
+        return shown_in(chunks, i, size.cells, k, ticks);
+    }
+    // Each of its cells is seen.
+    chunks.are_sized();
+    match chunks.cell(i, k, ticks) {
+        Some(cell) => Some(Seen {
+            id: cell.id,
+            behind: Place {
+                chunk: i,
+                at: k + 1,
+            },
+        }),
+        None => None,
+    }
 }
 
 /// A chunk, and how many cells from there on a reader sees before one.

@@ -7,7 +7,7 @@ use Rattle.group_commit.specs.Saved.{Saved}
 use Rattle.group_commit.specs.Commit.{IsLeft}
 use Rattle.group_commit.specs.Standing.{Stands}
 use Rattle.group_commit.specs.Held.{StoreHeld, gone_on, left_at}
-use Rattle.group_commit.specs.Standing.{IsPlan, IsSound}
+use Rattle.group_commit.specs.Standing.{IsPlan, IsSoundStore}
 use Rattle.group_commit.specs.Step.{failures_in, Call, call_in, writes_of, syncs_of, error_of, IsDeviceCall, IsLeftAround, Does, MakesCall}
 use Rattle.group_commit.specs.declared.error.StoreError.{StoreError}
 use Rattle.group_commit.specs.declared.phase.Phase.{Phase}
@@ -28,7 +28,7 @@ left_in Sync3 slot stale_open current next numbers fresh c below plan stood = is
 
 module _ {D : Type 0} (facts : Ghosts D) where
   -- what a crash now leaves of a store
-  pub left_of : (held : StoreHeld D) (slot : ℕ) (numbers fresh : List ℕ) → IsSound facts held slot numbers fresh → facts.tells held.disk
+  pub left_of : (held : StoreHeld D) (slot : ℕ) (numbers fresh : List ℕ) → IsSoundStore facts held slot numbers fresh → facts.tells held.disk
       → (c : List ℕ) → facts.survives held.disk c → IsLeft held.phase held.current held.next c
   left_of held slot numbers fresh sound tells c left =
       left_in held.phase slot held.stale_open held.current held.next numbers fresh c sound.slots sound.plan (sound.stands tells c left)
@@ -36,7 +36,7 @@ module _ {D : Type 0} (facts : Ghosts D) where
   -- a device call between two sound stores
   pub device_call : (T : Type 0) (made : Call) (result : Result T StoreError) (inside old new : StoreHeld D) (slot slot' : ℕ)
       (numbers fresh : List ℕ) → inside ≡ old
-      → IsSound facts inside slot numbers fresh → IsSound facts new slot' numbers fresh
+      → IsSoundStore facts inside slot numbers fresh → IsSoundStore facts new slot' numbers fresh
       → (facts.tells new.disk ↔ facts.tells inside.disk)
       → (facts.tells inside.disk → IsOneCall facts (failures_in result) (writes_of made) (syncs_of made) inside.disk new.disk)
       → (facts.tells inside.disk → IsLawful facts inside.disk) → IfErr result (λ e. e ≡ error_of made)
@@ -54,7 +54,7 @@ module _ {D : Type 0} (facts : Ghosts D) where
 
   -- the device call of a phase was made, between two sound stores
   pub call_made : (phase : Phase) (inside old new : StoreHeld D) (slot slot' : ℕ) (numbers fresh : List ℕ) → inside ≡ old → inside.phase ≡ phase
-      → IsSound facts inside slot numbers fresh → IsSound facts new slot' numbers fresh
+      → IsSoundStore facts inside slot numbers fresh → IsSoundStore facts new slot' numbers fresh
       → (facts.tells new.disk ↔ facts.tells inside.disk)
       → (facts.tells inside.disk → IsOneCall facts 0 (writes_of (call_in phase)) (syncs_of (call_in phase)) inside.disk new.disk)
       → (facts.tells inside.disk → IsLawful facts inside.disk) → new ≡ gone_on phase inside new.disk
@@ -71,7 +71,7 @@ module _ {D : Type 0} (facts : Ghosts D) where
 
   -- the device call of a phase failed, between two sound stores
   pub call_failed : (phase : Phase) (e : StoreError) (inside old new : StoreHeld D) (slot slot' : ℕ) (numbers fresh : List ℕ) → inside ≡ old
-      → inside.phase ≡ phase → IsSound facts inside slot numbers fresh → IsSound facts new slot' numbers fresh
+      → inside.phase ≡ phase → IsSoundStore facts inside slot numbers fresh → IsSoundStore facts new slot' numbers fresh
       → (facts.tells new.disk ↔ facts.tells inside.disk)
       → (facts.tells inside.disk → IsOneCall facts 1 (writes_of (call_in phase)) (syncs_of (call_in phase)) inside.disk new.disk)
       → (facts.tells inside.disk → IsLawful facts inside.disk) → e ≡ error_of (call_in phase)

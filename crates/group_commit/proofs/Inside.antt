@@ -13,9 +13,9 @@ use Rattle.page_file.proofs.Apart.{apart_first, each_behind, place_of, has-appen
 use Rattle.root_slots.specs.Root.{tables_of}
 use Rattle.group_commit.specs.Saved.{Saved}
 use Rattle.group_commit.specs.Image.{tables_in, data_pages_in}
-use Rattle.group_commit.specs.Standing.{HasPages, ReadAs, Reads}
+use Rattle.group_commit.specs.Standing.{HasPages, ReadAs, HasWritten}
 use Rattle.group_commit.specs.Held.{StoreHeld}
-use Rattle.group_commit.specs.Standing.{IsSound}
+use Rattle.group_commit.specs.Standing.{IsSoundStore}
 use Rattle.group_commit.specs.declared.phase.Phase.{Phase}
 use Rattle.group_commit.specs.declared.phase.Phase.TheVariants.{Idle, Pages}
 use Rattle.group_commit.proofs.Frame.{reading_of}
@@ -60,7 +60,7 @@ stored_whole root file has_pages =
 
 module _ {D : Type 0} (facts : Ghosts D) where
   -- the next page begins in the file, or at its end
-  pub inside_page : (held : StoreHeld D) (slot : ℕ) (numbers fresh : List ℕ) (k : ℕ) → IsSound facts held slot numbers fresh → held.phase ≡ Pages k
+  pub inside_page : (held : StoreHeld D) (slot : ℕ) (numbers fresh : List ℕ) (k : ℕ) → IsSoundStore facts held slot numbers fresh → held.phase ≡ Pages k
       → facts.tells held.disk → (facts.tells held.disk → IsLawful facts held.disk) → held.failed ≡ false
       → 4096 * get_or numbers k 0 ≤ length (facts.content held.disk)
   inside_page held slot numbers fresh k sound at_page tells lawful works =
@@ -81,7 +81,7 @@ module _ {D : Type 0} (facts : Ghosts D) where
       not_idle : (p : Phase) (k : ℕ) → p ≡ Pages k → p ≡ Idle → ⊥
       not_idle p k is idle = cc
 
-      read_so : (p : Phase) → p ≡ Pages k → Reads p slot held.next numbers fresh (facts.content held.disk) → ReadAs k numbers fresh (facts.content held.disk)
+      read_so : (p : Phase) → p ≡ Pages k → HasWritten p slot held.next numbers fresh (facts.content held.disk) → ReadAs k numbers fresh (facts.content held.disk)
       read_so p is reads = rw (is) at reads
 
       part_size : (i : ℕ) → i < length numbers → length fresh ≡ 4096 * length numbers → length (part fresh (4096 * i) 4096) ≡ 4096

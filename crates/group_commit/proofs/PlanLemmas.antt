@@ -16,7 +16,7 @@ use Rattle.root_slots.proofs.HeadLemmas.{length-tables}
 use Rattle.root_slots.proofs.SpellingLemmas.{all_words}
 use Rattle.group_commit.specs.Saved.{Saved, HasDataPages}
 use Rattle.group_commit.specs.Changes.{cut, changed, parts, data_of, changed_data, changed_tables}
-use Rattle.group_commit.specs.Standing.{Makes}
+use Rattle.group_commit.specs.Standing.{MakesNext}
 use Rattle.group_commit.specs.Plan.{IsNextRoot, KeepsPages, kept_of}
 use Rattle.group_commit.specs.Planning.{Prepares, padded}
 use Rattle.group_commit.proofs.CutLemmas.{cut_changed}
@@ -180,7 +180,7 @@ module _ (base next : Saved) (records : List ℕ) (more kept : ℕ) (olds new_da
         wide = all_words rest (λ i. rw (get_or-drop (1024 * (kept / 1024)) (take kept olds ++ new_data) i 0) (small (1024 * (kept / 1024) + i)));
       }
 
-  makes : ((i : ℕ) → get_or (take kept olds ++ new_data) i 0 < 2 ^ 32) → Makes base (new_data ++ new_tables) (data_bytes ++ table_bytes) next
+  makes : ((i : ℕ) → get_or (take kept olds ++ new_data) i 0 < 2 ^ 32) → MakesNext base (new_data ++ new_tables) (data_bytes ++ table_bytes) next
   makes small file keeps reads =
       let there = both_of base.body base.stream (tables_of base.body) olds file refl f.had.long (rw (f.had.reaches) at keeps) in
       let both : HasBoth base.body base.stream (tables_of base.body) olds there.0 there.1 file = there.2 in

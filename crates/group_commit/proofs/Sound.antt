@@ -11,9 +11,9 @@ use Rattle.page_file.proofs.Apart.{apart_first, apart_each, each_behind}
 use Rattle.page_file.proofs.Parts.{part_written}
 use Rattle.root_slots.specs.Slots.{gate, body}
 use Rattle.group_commit.specs.Saved.{Saved}
-use Rattle.group_commit.specs.Standing.{Stands, ReadAs, Reads}
+use Rattle.group_commit.specs.Standing.{Stands, ReadAs, HasWritten}
 use Rattle.group_commit.specs.Held.{StoreHeld, behind_pages, gone_on}
-use Rattle.group_commit.specs.Standing.{IsPlan, IsSound}
+use Rattle.group_commit.specs.Standing.{IsPlan, IsSoundStore}
 use Rattle.group_commit.specs.declared.phase.Phase.{Phase}
 use Rattle.group_commit.specs.declared.phase.Phase.TheVariants.{Idle, Pages, Close, Sync1, Body, Sync2, Gate, Sync3}
 use Rattle.root_slots.proofs.SlotWrites.{gate_written}
@@ -49,12 +49,12 @@ module _ {D : Type 0} (facts : Ghosts D) where
     makes = plan.makes;
   }
 
-  with_phase : (held : StoreHeld D) (slot : ℕ) (numbers fresh : List ℕ) (p : Phase) → held.phase ≡ p → IsSound facts held slot numbers fresh
-      → IsSound facts (record held { phase = p }) slot numbers fresh
+  with_phase : (held : StoreHeld D) (slot : ℕ) (numbers fresh : List ℕ) (p : Phase) → held.phase ≡ p → IsSoundStore facts held slot numbers fresh
+      → IsSoundStore facts (record held { phase = p }) slot numbers fresh
   with_phase held slot numbers fresh p is sound = rw (sym is) sound
 
   -- the page that is written next is a new one, and none of the live root's
-  fresh_page : (held : StoreHeld D) (slot : ℕ) (numbers fresh : List ℕ) (k : ℕ) → IsSound facts held slot numbers fresh → held.phase ≡ Pages k
+  fresh_page : (held : StoreHeld D) (slot : ℕ) (numbers fresh : List ℕ) (k : ℕ) → IsSoundStore facts held slot numbers fresh → held.phase ≡ Pages k
       → (k < length numbers) × (are_pages numbers ≡ true) × (has (get_or numbers k 0) held.current.pages ≡ false) × (2 ≤ get_or numbers k 0)
   fresh_page held slot numbers fresh k sound at_page =
       let plan = (with_phase held slot numbers fresh (Pages k) at_page sound).plan (λ is. absurd cc) in
@@ -63,13 +63,13 @@ module _ {D : Type 0} (facts : Ghosts D) where
       (within, apart, apart_each numbers held.current.pages k plan.free within, each_behind numbers k apart within)
 
   -- a page is written
-  pub sound_page : (held : StoreHeld D) (slot : ℕ) (numbers fresh : List ℕ) (k : ℕ) (new : D) → IsSound facts held slot numbers fresh → held.phase ≡ Pages k
+  pub sound_page : (held : StoreHeld D) (slot : ℕ) (numbers fresh : List ℕ) (k : ℕ) (new : D) → IsSoundStore facts held slot numbers fresh → held.phase ≡ Pages k
       → (facts.tells held.disk → IsLawful facts held.disk) → (facts.tells new → facts.tells held.disk)
       → (facts.tells held.disk → Tears facts (4096 * get_or numbers k 0) 4096 held.disk new)
       → (facts.tells held.disk → facts.content new ≡ overwritten (facts.content held.disk) (4096 * get_or numbers k 0) (part fresh (4096 * k) 4096))
       → (facts.tells held.disk → 4096 * get_or numbers k 0 ≤ length (facts.content held.disk))
       → length held.numbers ≡ length numbers → held.failed ≡ false
-      → IsSound facts (gone_on (Pages k) held new) slot numbers fresh
+      → IsSoundStore facts (gone_on (Pages k) held new) slot numbers fresh
   sound_page held slot numbers fresh k new sound at_page lawful told tears written inside count works =
       let s = with_phase held slot numbers fresh (Pages k) at_page sound in
       let plan = s.plan (λ is. absurd cc) in
@@ -121,19 +121,19 @@ module _ {D : Type 0} (facts : Ghosts D) where
       part_size fresh k n room within = omega (arith, length-take 4096 (drop (4096 * k) fresh), length-drop (4096 * k) fresh, room, within)
 
       reads_at : (k n slot : ℕ) (stale_open : Bool) (next : Saved) (numbers fresh file : List ℕ) → n ≡ length numbers → k ≤ length numbers → ReadAs k numbers fresh file
-          → (stale_open ≡ false → gate (1 - slot) file ≢ 1) → Reads (behind_pages k n stale_open) slot next numbers fresh file
+          → (stale_open ≡ false → gate (1 - slot) file ≢ 1) → HasWritten (behind_pages k n stale_open) slot next numbers fresh file
       reads_at k n slot stale_open next numbers fresh file count within reads shut = by_test (nat_lt k n) stale_open (ltb-false k n) shut
         where
           by_test : (t stale_open : Bool) → (t ≡ false → n ≤ k) → (stale_open ≡ false → gate (1 - slot) file ≢ 1)
-              → Reads (if t then Pages k else if stale_open then Close else Sync1) slot next numbers fresh file
+              → HasWritten (if t then Pages k else if stale_open then Close else Sync1) slot next numbers fresh file
           by_test true stale_open above shut = reads
           by_test false true above shut = λ i below. reads i (omega (arith, below, above refl, count))
           by_test false false above shut = ((λ i below. reads i (omega (arith, below, above refl, count))), shut refl)
 
-  pub sound_page_failed : (held : StoreHeld D) (slot : ℕ) (numbers fresh : List ℕ) (k : ℕ) (new : D) → IsSound facts held slot numbers fresh → held.phase ≡ Pages k
+  pub sound_page_failed : (held : StoreHeld D) (slot : ℕ) (numbers fresh : List ℕ) (k : ℕ) (new : D) → IsSoundStore facts held slot numbers fresh → held.phase ≡ Pages k
       → (facts.tells new → facts.tells held.disk)
       → (facts.tells held.disk → Tears facts (4096 * get_or numbers k 0) 4096 held.disk new)
-      → IsSound facts (record held { disk = new; failed = true }) slot numbers fresh
+      → IsSoundStore facts (record held { disk = new; failed = true }) slot numbers fresh
   sound_page_failed held slot numbers fresh k new sound at_page told tears =
       let s = with_phase held slot numbers fresh (Pages k) at_page sound in
       let (within, apart, lacks, above) = fresh_page held slot numbers fresh k sound at_page in
@@ -147,12 +147,12 @@ module _ {D : Type 0} (facts : Ghosts D) where
       }
 
   -- the stale gate is written, as 0 or in part
-  pub sound_close : (held : StoreHeld D) (slot : ℕ) (numbers fresh : List ℕ) (failed : Bool) (new : D) → IsSound facts held slot numbers fresh → held.phase ≡ Close
+  pub sound_close : (held : StoreHeld D) (slot : ℕ) (numbers fresh : List ℕ) (failed : Bool) (new : D) → IsSoundStore facts held slot numbers fresh → held.phase ≡ Close
       → (facts.tells new → facts.tells held.disk)
       → (facts.tells held.disk → Tears facts (4096 * (1 - slot)) 1 held.disk new)
       → (facts.tells held.disk → failed ≡ false → facts.content new ≡ overwritten (facts.content held.disk) (4096 * (1 - slot)) (0 ∷ []))
       → (facts.tells held.disk → IsLawful facts held.disk) → held.failed ≡ false
-      → IsSound facts (record held { disk = new; phase = Sync1; failed = failed }) slot numbers fresh
+      → IsSoundStore facts (record held { disk = new; phase = Sync1; failed = failed }) slot numbers fresh
   sound_close held slot numbers fresh failed new sound at_close told tears written lawful works =
       let s = with_phase held slot numbers fresh Close at_close sound in
       let plan = s.plan (λ is. absurd cc) in
@@ -174,10 +174,10 @@ module _ {D : Type 0} (facts : Ghosts D) where
       }
 
   -- the new pages and the closed gate are settled
-  pub sound_sync1 : (held : StoreHeld D) (slot : ℕ) (numbers fresh : List ℕ) (new : D) → IsSound facts held slot numbers fresh → held.phase ≡ Sync1
+  pub sound_sync1 : (held : StoreHeld D) (slot : ℕ) (numbers fresh : List ℕ) (new : D) → IsSoundStore facts held slot numbers fresh → held.phase ≡ Sync1
       → (facts.tells new → facts.tells held.disk) → (facts.tells held.disk → Settles facts held.disk new)
       → (facts.tells held.disk → IsLawful facts held.disk) → held.failed ≡ false
-      → IsSound facts (record held { disk = new; phase = Body }) slot numbers fresh
+      → IsSoundStore facts (record held { disk = new; phase = Body }) slot numbers fresh
   sound_sync1 held slot numbers fresh new sound at_sync told settles lawful works =
       let s = with_phase held slot numbers fresh Sync1 at_sync sound in
       let plan = s.plan (λ is. absurd cc) in
@@ -191,12 +191,12 @@ module _ {D : Type 0} (facts : Ghosts D) where
       }
 
   -- the body of the stale slot is written, whole or in part
-  pub sound_body : (held : StoreHeld D) (slot : ℕ) (numbers fresh : List ℕ) (failed : Bool) (new : D) → IsSound facts held slot numbers fresh → held.phase ≡ Body
+  pub sound_body : (held : StoreHeld D) (slot : ℕ) (numbers fresh : List ℕ) (failed : Bool) (new : D) → IsSoundStore facts held slot numbers fresh → held.phase ≡ Body
       → (facts.tells new → facts.tells held.disk)
       → (facts.tells held.disk → Tears facts (4096 * (1 - slot) + 8) 4088 held.disk new)
       → (facts.tells held.disk → failed ≡ false → facts.content new ≡ overwritten (facts.content held.disk) (4096 * (1 - slot) + 8) held.next.body)
       → (facts.tells held.disk → IsLawful facts held.disk)
-      → IsSound facts (record held { disk = new; phase = Sync2; failed = failed }) slot numbers fresh
+      → IsSoundStore facts (record held { disk = new; phase = Sync2; failed = failed }) slot numbers fresh
   sound_body held slot numbers fresh failed new sound at_body told tears written lawful =
       let s = with_phase held slot numbers fresh Body at_body sound in
       let plan = s.plan (λ is. absurd cc) in
@@ -214,10 +214,10 @@ module _ {D : Type 0} (facts : Ghosts D) where
       }
 
   -- that body is settled
-  pub sound_sync2 : (held : StoreHeld D) (slot : ℕ) (numbers fresh : List ℕ) (new : D) → IsSound facts held slot numbers fresh → held.phase ≡ Sync2
+  pub sound_sync2 : (held : StoreHeld D) (slot : ℕ) (numbers fresh : List ℕ) (new : D) → IsSoundStore facts held slot numbers fresh → held.phase ≡ Sync2
       → (facts.tells new → facts.tells held.disk) → (facts.tells held.disk → Settles facts held.disk new)
       → (facts.tells held.disk → IsLawful facts held.disk) → held.failed ≡ false
-      → IsSound facts (record held { disk = new; phase = Gate }) slot numbers fresh
+      → IsSoundStore facts (record held { disk = new; phase = Gate }) slot numbers fresh
   sound_sync2 held slot numbers fresh new sound at_sync told settles lawful works =
       let s = with_phase held slot numbers fresh Sync2 at_sync sound in
       let plan = s.plan (λ is. absurd cc) in
@@ -231,12 +231,12 @@ module _ {D : Type 0} (facts : Ghosts D) where
       }
 
   -- the gate of the new root is written, as 1 or in part
-  pub sound_gate : (held : StoreHeld D) (slot : ℕ) (numbers fresh : List ℕ) (failed : Bool) (new : D) → IsSound facts held slot numbers fresh → held.phase ≡ Gate
+  pub sound_gate : (held : StoreHeld D) (slot : ℕ) (numbers fresh : List ℕ) (failed : Bool) (new : D) → IsSoundStore facts held slot numbers fresh → held.phase ≡ Gate
       → (facts.tells new → facts.tells held.disk)
       → (facts.tells held.disk → Tears facts (4096 * (1 - slot)) 1 held.disk new)
       → (facts.tells held.disk → failed ≡ false → facts.content new ≡ overwritten (facts.content held.disk) (4096 * (1 - slot)) (1 ∷ []))
       → (facts.tells held.disk → IsLawful facts held.disk)
-      → IsSound facts (record held { disk = new; phase = Sync3; failed = failed }) slot numbers fresh
+      → IsSoundStore facts (record held { disk = new; phase = Sync3; failed = failed }) slot numbers fresh
   sound_gate held slot numbers fresh failed new sound at_gate told tears written lawful =
       let s = with_phase held slot numbers fresh Gate at_gate sound in
       let plan = s.plan (λ is. absurd cc) in
@@ -253,10 +253,10 @@ module _ {D : Type 0} (facts : Ghosts D) where
       }
 
   -- the gate is settled: the new root is live
-  pub sound_sync3 : (held : StoreHeld D) (slot : ℕ) (numbers fresh : List ℕ) (new : D) → IsSound facts held slot numbers fresh → held.phase ≡ Sync3
+  pub sound_sync3 : (held : StoreHeld D) (slot : ℕ) (numbers fresh : List ℕ) (new : D) → IsSoundStore facts held slot numbers fresh → held.phase ≡ Sync3
       → (facts.tells new → facts.tells held.disk) → (facts.tells held.disk → Settles facts held.disk new)
       → (facts.tells held.disk → IsLawful facts held.disk) → held.failed ≡ false
-      → IsSound facts (gone_on Sync3 held new) (1 - slot) numbers fresh
+      → IsSoundStore facts (gone_on Sync3 held new) (1 - slot) numbers fresh
   sound_sync3 held slot numbers fresh new sound at_sync told settles lawful works =
       let s = with_phase held slot numbers fresh Sync3 at_sync sound in
       let plan = s.plan (λ is. absurd cc) in
@@ -270,9 +270,9 @@ module _ {D : Type 0} (facts : Ghosts D) where
       }
 
   -- a sync that fails settles nothing
-  pub sound_sync_failed : (held : StoreHeld D) (slot : ℕ) (numbers fresh : List ℕ) (new : D) → IsSound facts held slot numbers fresh
+  pub sound_sync_failed : (held : StoreHeld D) (slot : ℕ) (numbers fresh : List ℕ) (new : D) → IsSoundStore facts held slot numbers fresh
       → (facts.tells new → facts.tells held.disk) → (facts.tells held.disk → Keeps facts held.disk new)
-      → IsSound facts (record held { disk = new; failed = true }) slot numbers fresh
+      → IsSoundStore facts (record held { disk = new; failed = true }) slot numbers fresh
   sound_sync_failed held slot numbers fresh new sound told keeps = record {
     slots = sound.slots;
     room = sound.room;
@@ -283,9 +283,9 @@ module _ {D : Type 0} (facts : Ghosts D) where
 
   -- a commit begins: no device call is made
   pub sound_begin : (held : StoreHeld D) (slot : ℕ) (old_numbers old_fresh : List ℕ) (next : Saved) (numbers fresh : List ℕ)
-      → IsSound facts held slot old_numbers old_fresh → held.phase ≡ Idle
+      → IsSoundStore facts held slot old_numbers old_fresh → held.phase ≡ Idle
       → length fresh ≡ 4096 * length numbers → IsPlan (Pages 0) held.current next numbers fresh
-      → IsSound facts (record held { phase = Pages 0; next = next; numbers = numbers }) slot numbers fresh
+      → IsSoundStore facts (record held { phase = Pages 0; next = next; numbers = numbers }) slot numbers fresh
   sound_begin held slot old_numbers old_fresh next numbers fresh sound idle room plan =
       let s = with_phase held slot old_numbers old_fresh Idle idle sound in
       record {

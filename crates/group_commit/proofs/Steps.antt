@@ -10,7 +10,7 @@ use Rattle.root_slots.specs.Slots.{gate, body, live}
 use Rattle.group_commit.specs.Image.{in_slot, root_and_stream, stream, tables_in, data_pages_in}
 use Rattle.group_commit.specs.Saved.{Saved}
 use Rattle.group_commit.specs.Commit.{IsRootOf, IsLeft}
-use Rattle.group_commit.specs.Standing.{HasPages, IsOlder, StaleSlot, Stands, ReadAs, Reads, Makes}
+use Rattle.group_commit.specs.Standing.{HasPages, IsOlder, StaleSlot, Stands, ReadAs, HasWritten, MakesNext}
 use Rattle.group_commit.specs.declared.phase.Phase.{Phase}
 use Rattle.group_commit.specs.declared.phase.Phase.TheVariants.{Idle, Pages, Close, Sync1, Body, Sync2, Gate, Sync3}
 use Rattle.group_commit.proofs.Frame.{stores_same, reading_of}
@@ -89,8 +89,8 @@ stands_close slot stale_open current next d c below torn s =
     (λ is. rw (body_behind_gate d c (1 - slot) torn) (s.stale_slot.0 s.stale_slot.1))
 
 -- the pages and the closed gate are settled
-pub stands_sync1 : (slot : ℕ) (stale_open : Bool) (current next : Saved) (numbers fresh : List ℕ) (file : List ℕ) → Makes current numbers fresh next
-    → Reads Sync1 slot next numbers fresh file → Stands Sync1 slot stale_open current next file → Stands Body slot stale_open current next file
+pub stands_sync1 : (slot : ℕ) (stale_open : Bool) (current next : Saved) (numbers fresh : List ℕ) (file : List ℕ) → MakesNext current numbers fresh next
+    → HasWritten Sync1 slot next numbers fresh file → Stands Sync1 slot stale_open current next file → Stands Body slot stale_open current next file
 stands_sync1 slot stale_open current next numbers fresh file makes reads s =
     stands_on Sync1 Body slot stale_open current next file s (reads.1, makes file s.keeps reads.0)
 

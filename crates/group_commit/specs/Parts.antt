@@ -15,7 +15,7 @@ pub record IsPartly (it : PartlyRead) : Type 0 where
   pub short : length it.tail + it.left ≤ MAX_STREAM_LENGTH
 
 -- none of its bytes are read, and so many bytes of pages have room for it
-pub record IsBegun (it : PartlyRead) (size : ℕ) : Type 0 where
+pub record IsUnread (it : PartlyRead) (size : ℕ) : Type 0 where
   pub partly : IsPartly it
   pub none : it.tail ≡ []
   pub room : it.left ≤ size

@@ -10,7 +10,7 @@ use Rattle.group_commit.specs.Changes.{changed_pages, data_of}
 use Rattle.group_commit.specs.Paging.{IsIndexOf}
 use Rattle.group_commit.specs.Plan.{IsNextRoot, KeepsPages, newest}
 use Rattle.group_commit.specs.Saved.{Saved, Paged, HasDataPages, with_stream, base_of}
-use Rattle.group_commit.specs.Standing.{IsPlan, Makes}
+use Rattle.group_commit.specs.Standing.{IsPlan, MakesNext}
 use Rattle.group_commit.specs.declared.phase.Phase.TheVariants.{Pages}
 
 -- A plan for these records behind a base, with 4,096 bytes for each new page: those that change or are new. They are the lowest
@@ -21,7 +21,7 @@ pub record Prepares (live : List ℕ) (base : Saved) (records : List ℕ) (more 
   pub free : are_pages (numbers ++ live) ≡ true
   pub lowest : AreLowest live numbers
   pub some : 0 < length numbers
-  pub makes : Makes base numbers fresh next
+  pub makes : MakesNext base numbers fresh next
   pub room : length fresh ≡ PAGE_SIZE * length numbers
   pub changes : numbers ≡ changed_pages base next
   pub pages : KeepsPages base records next

@@ -53,17 +53,17 @@ abbrev pub ReadAs : ℕ → List ℕ → List ℕ → List ℕ → Type 0
 ReadAs k numbers fresh file = (i : ℕ) → i < k → page (get_or numbers i 0) file ≡ part fresh (PAGE_SIZE * i) PAGE_SIZE
 
 -- what reads give of the writes since the last sync
-abbrev pub Reads : Phase → ℕ → Saved → List ℕ → List ℕ → List ℕ → Type 0
-Reads (Pages k) slot next numbers fresh file = ReadAs k numbers fresh file
-Reads Close slot next numbers fresh file = ReadAs (length numbers) numbers fresh file
-Reads Sync1 slot next numbers fresh file = ReadAs (length numbers) numbers fresh file × (gate (1 - slot) file ≢ 1)
-Reads Sync2 slot next numbers fresh file = body (1 - slot) file ≡ next.body
-Reads Sync3 slot next numbers fresh file = gate (1 - slot) file ≡ 1
-Reads phase slot next numbers fresh file = ⊤
+abbrev pub HasWritten : Phase → ℕ → Saved → List ℕ → List ℕ → List ℕ → Type 0
+HasWritten (Pages k) slot next numbers fresh file = ReadAs k numbers fresh file
+HasWritten Close slot next numbers fresh file = ReadAs (length numbers) numbers fresh file
+HasWritten Sync1 slot next numbers fresh file = ReadAs (length numbers) numbers fresh file × (gate (1 - slot) file ≢ 1)
+HasWritten Sync2 slot next numbers fresh file = body (1 - slot) file ≡ next.body
+HasWritten Sync3 slot next numbers fresh file = gate (1 - slot) file ≡ 1
+HasWritten phase slot next numbers fresh file = ⊤
 
 -- with its new pages written, a file that has the current root has the next one
-abbrev pub Makes : Saved → List ℕ → List ℕ → Saved → Type 0
-Makes current numbers fresh next = (file : List ℕ) → HasPages current file → ReadAs (length numbers) numbers fresh file → HasPages next file
+abbrev pub MakesNext : Saved → List ℕ → List ℕ → Saved → Type 0
+MakesNext current numbers fresh next = (file : List ℕ) → HasPages current file → ReadAs (length numbers) numbers fresh file → HasPages next file
 
 -- what a commit under way is about to write
 pub record IsPlan (phase : Phase) (current next : Saved) (numbers fresh : List ℕ) : Type 0 where
@@ -75,16 +75,16 @@ pub record IsPlan (phase : Phase) (current next : Saved) (numbers fresh : List �
   -- each is the lowest free one: all pages below it are live or taken before
   pub lowest : AreLowest current.pages numbers
   pub under_way : (k : ℕ) → phase ≡ Pages k → k < length numbers
-  pub makes : Makes current numbers fresh next
+  pub makes : MakesNext current numbers fresh next
 
 -- what a store keeps
-pub record IsSound {D : Type 0} (facts : Ghosts D) (held : StoreHeld D) (slot : ℕ) (numbers fresh : List ℕ) : Type 0 where
+pub record IsSoundStore {D : Type 0} (facts : Ghosts D) (held : StoreHeld D) (slot : ℕ) (numbers fresh : List ℕ) : Type 0 where
   pub slots : slot < 2
   pub room : length fresh ≡ PAGE_SIZE * length numbers
   pub plan : held.phase ≢ Idle → IsPlan held.phase held.current held.next numbers fresh
   pub stands : facts.tells held.disk → (c : List ℕ) → facts.survives held.disk c
       → Stands held.phase slot held.stale_open held.current held.next c
-  pub reads : facts.tells held.disk → held.failed ≡ false → Reads held.phase slot held.next numbers fresh (facts.content held.disk)
+  pub reads : facts.tells held.disk → held.failed ≡ false → HasWritten held.phase slot held.next numbers fresh (facts.content held.disk)
 
 -- Each root's stream is as long as the root says. They are two: the next one doesn't go on with the live one where a commit writes the
 -- whole list anew. What it begins with then is kept.

@@ -4,7 +4,7 @@ ghost use Rattle.fixed_numbers.specs.declared.sizes.TheConstants.{PAGE_SIZE};
 ghost use Rattle.page_file.specs.Pages.{pages, are_whole, joined};
 ghost use Rattle.group_commit.specs.Loading.{failed_in, stream_of};
 ghost use Rattle.group_commit.specs.Opening.{IsLookedAt};
-ghost use Rattle.group_commit.specs.Parts.{IsBegun, IsPartly, IsPartFault, IsReadOn};
+ghost use Rattle.group_commit.specs.Parts.{IsUnread, IsPartly, IsPartFault, IsReadOn};
 ghost use Rattle.group_commit.specs.Parts.{NamesReadFault, TakesPart};
 
 use crate::load_ops::feed;
@@ -73,7 +73,7 @@ pub(crate) fn read_parts<D: Disk>(
     begun: PartlyRead,
 ) -> Result<PartlyRead, OpenError>
     requires whole { D.tells disk.old → are_whole (pages numbers.now (D.content disk.old)) ≡ true }
-    requires begun { IsBegun begun (PAGE_SIZE * length numbers.now) }
+    requires begun { IsUnread begun (PAGE_SIZE * length numbers.now) }
     ensures on { IfOk result (IsReadOn begun (PAGE_SIZE * length numbers.now)) }
     ensures value { D.tells disk.old → IfOk result (λ it.
         stream_of begun.left (pages numbers.now (D.content disk.old)) ≡ Ok it.tail) }

@@ -1,6 +1,6 @@
 //! A store over a disk.
 ghost use Rattle.group_commit.specs.Held.{StoreHeld, held_of};
-ghost use Rattle.group_commit.specs.Standing.{IsSound, HasStreams};
+ghost use Rattle.group_commit.specs.Standing.{IsSoundStore, HasStreams};
 ghost use Rattle.group_commit.specs.Paging.{IsPaging};
 ghost use Rattle.group_commit.specs.Saved.{with_stream};
 
@@ -45,7 +45,7 @@ impl<D: Disk> Model for Store<D> {
     ghost view = { λ s. held_of s.disk s.phase s.roots (with_stream s.current s.stream)
         (with_stream s.next s.next_stream) s.numbers.items s.failed };
 
-    ghost invariant = { λ s. IsSound D.DiskFacts (held_of s.disk s.phase s.roots
+    ghost invariant = { λ s. IsSoundStore D.DiskFacts (held_of s.disk s.phase s.roots
         (with_stream s.current s.stream) (with_stream s.next s.next_stream) s.numbers.items
         s.failed) s.roots.slot s.numbers.items s.fresh.items
         × HasStreams s.current s.next s.stream s.next_stream s.anew.items

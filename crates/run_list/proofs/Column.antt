@@ -8,12 +8,12 @@ use Rattle.std.proofs.lemmas.List.{length-take}
 use Rattle.std.specs.List.Sorted.{IsNonDecreasing}
 use Rattle.run_list.specs.Reading.{below}
 use Rattle.run_list.proofs.Reading.{found_below}
-use Rattle.run_list.specs.Column.{starts_behind, changes_behind, last_number, number_at, numbers_from, numbers_of, changes_in, HoldsColumn, IsColumn}
+use Rattle.run_list.specs.Column.{change_starts, changes_behind, number_behind, number_at, numbers_from, numbers_of, changes_in, HoldsColumn, IsColumn}
 use Rattle.run_list.proofs.Changes.{length-changes, below-starts, starts-take, changes-take}
 use Rattle.run_list.proofs.Changes.{changes-same, changes-more, starts-same, starts-more, starts_rise, one_more_below, no_more_below}
 
 -- changes that stand later aren't looked at
-stays : (place last before at : ℕ) (ns : List ℕ) → place < at → number_at place last (starts_behind before at ns) (changes_behind before ns) ≡ last
+stays : (place last before at : ℕ) (ns : List ℕ) → place < at → number_at place last (change_starts before at ns) (changes_behind before ns) ≡ last
 stays place last before at [] lt = refl
 stays place last before at (n ∷ ns) lt =
     elim (cases_Bool (n == before)) [
@@ -23,7 +23,7 @@ stays place last before at (n ∷ ns) lt =
 
 -- each number is what the last change up to it made
 reads : (ns : List ℕ) (i at place last d : ℕ) → i < length ns → place ≡ at + i
-    → number_at place last (starts_behind last at ns) (changes_behind last ns) ≡ get_or ns i d
+    → number_at place last (change_starts last at ns) (changes_behind last ns) ≡ get_or ns i d
 reads [] i at place last d lt is = absurd (omega arith)
 reads (n ∷ ns) zero at place last d lt is =
     elim (cases_Bool (n == last)) [
@@ -36,7 +36,7 @@ reads (n ∷ ns) (suc i) at place last d lt is =
     let rest = reads ns i (suc at) place n d (omega arith) (omega arith) in
     elim (cases_Bool (n == last)) [
       | inl same ↦
-          rw same (ap (λ (l : ℕ). number_at place l (starts_behind n (suc at) ns) (changes_behind n ns)) (sym (eqb-true n last same)) ∙ rest)
+          rw same (ap (λ (l : ℕ). number_at place l (change_starts n (suc at) ns) (changes_behind n ns)) (sym (eqb-true n last same)) ∙ rest)
       | inr other ↦ let lower : nat_lt at (suc place) ≡ true = grind (arith, nat_tests) in rw (other, lower) rest
     ]
 
@@ -61,8 +61,8 @@ pub column_is : (starts changes : List ℕ) (len : ℕ) (numbers : List ℕ) →
 column_is starts changes len numbers holds =
     ap (numbers_of starts changes) holds.len_so
     ∙ ap (λ (ss : List ℕ). numbers_of ss changes (length numbers)) holds.starts_so
-    ∙ ap (λ (cs : List ℕ). numbers_of (starts_behind 0 0 numbers) cs (length numbers)) holds.changes_so
-    ∙ are_from numbers 0 (starts_behind 0 0 numbers) (changes_behind 0 numbers) (λ i lt. reads numbers i 0 (0 + i) 0 0 lt refl)
+    ∙ ap (λ (cs : List ℕ). numbers_of (change_starts 0 0 numbers) cs (length numbers)) holds.changes_so
+    ∙ are_from numbers 0 (change_starts 0 0 numbers) (changes_behind 0 numbers) (λ i lt. reads numbers i 0 (0 + i) 0 0 lt refl)
 
 pub is_column : (starts changes : List ℕ) (len : ℕ) (numbers : List ℕ) → HoldsColumn starts changes len numbers → IsColumn starts changes len
 is_column starts changes len numbers holds =
@@ -80,7 +80,7 @@ no_numbers starts changes len starts_are changes_are len_is =
     record { starts_so = starts_are; changes_so = changes_are; len_so = len_is; few = omega arith }
 
 pub same_more : (starts changes : List ℕ) (len more : ℕ) (numbers : List ℕ) (n : ℕ) → HoldsColumn starts changes len numbers
-    → (n == last_number 0 numbers) ≡ true → more ≡ len + 1 → more < 2 ^ 32 → HoldsColumn starts changes more (numbers ++ n ∷ [])
+    → (n == number_behind 0 numbers) ≡ true → more ≡ len + 1 → more < 2 ^ 32 → HoldsColumn starts changes more (numbers ++ n ∷ [])
 same_more starts changes len more numbers n holds same more_is small = record {
   starts_so = holds.starts_so ∙ sym (starts-same 0 0 numbers n same);
   changes_so = holds.changes_so ∙ sym (changes-same 0 numbers n same);
@@ -89,7 +89,7 @@ same_more starts changes len more numbers n holds same more_is small = record {
 }
 
 pub other_more : (starts changes : List ℕ) (len more : ℕ) (numbers : List ℕ) (n : ℕ) (more_starts more_changes : List ℕ)
-    → HoldsColumn starts changes len numbers → (n == last_number 0 numbers) ≡ false → more_starts ≡ starts ++ len ∷ []
+    → HoldsColumn starts changes len numbers → (n == number_behind 0 numbers) ≡ false → more_starts ≡ starts ++ len ∷ []
     → more_changes ≡ changes ++ n ∷ [] → more ≡ len + 1 → more < 2 ^ 32 → HoldsColumn more_starts more_changes more (numbers ++ n ∷ [])
 other_more starts changes len more numbers n more_starts more_changes holds other starts_are changes_are more_is small = record {
   starts_so =
@@ -104,14 +104,14 @@ pub front_holds : (starts changes : List ℕ) (len : ℕ) (numbers : List ℕ) (
     → HoldsColumn starts changes len numbers → n ≤ length numbers → k ≡ below n starts → front_starts ≡ take k starts
     → front_changes ≡ take k changes → HoldsColumn front_starts front_changes n (take n numbers)
 front_holds starts changes len numbers n k front_starts front_changes holds within k_is starts_are changes_are =
-    let count : k ≡ length (starts_behind 0 0 (take n numbers)) =
+    let count : k ≡ length (change_starts 0 0 (take n numbers)) =
     k_is ∙ ap (below n) holds.starts_so ∙ below-starts n 0 n 0 numbers (omega arith) in
     record {
       starts_so =
-          starts_are ∙ ap (λ (j : ℕ). take j starts) count ∙ ap (take (length (starts_behind 0 0 (take n numbers)))) holds.starts_so
+          starts_are ∙ ap (λ (j : ℕ). take j starts) count ∙ ap (take (length (change_starts 0 0 (take n numbers)))) holds.starts_so
           ∙ starts-take n 0 0 numbers;
       changes_so =
-          changes_are ∙ ap (λ (j : ℕ). take j changes) count ∙ ap (take (length (starts_behind 0 0 (take n numbers)))) holds.changes_so
+          changes_are ∙ ap (λ (j : ℕ). take j changes) count ∙ ap (take (length (change_starts 0 0 (take n numbers)))) holds.changes_so
           ∙ changes-take n 0 0 numbers;
       len_so = omega (arith, length-take n numbers);
       few = omega (arith, length-take n numbers, holds.few);
@@ -170,12 +170,12 @@ as_long starts changes len numbers holds =
 stands : (starts changes : List ℕ) (len : ℕ) (numbers : List ℕ) (i d : ℕ) → HoldsColumn starts changes len numbers → i < length numbers
     → number_at i 0 starts changes ≡ get_or numbers i d
 stands starts changes len numbers i d holds lt =
-    ap (λ (ss : List ℕ). number_at i 0 ss changes) holds.starts_so ∙ ap (number_at i 0 (starts_behind 0 0 numbers)) holds.changes_so
+    ap (λ (ss : List ℕ). number_at i 0 ss changes) holds.starts_so ∙ ap (number_at i 0 (change_starts 0 0 numbers)) holds.changes_so
     ∙ reads numbers i 0 i 0 d lt (omega arith)
 
 pub is_zero : (numbers : List ℕ) (i d : ℕ) → i < length numbers → changes_in (take (suc i) numbers) ≡ 0 → 0 ≡ get_or numbers i d
 is_zero numbers i d lt none =
-    sym (unchanged i 0 (starts_behind 0 0 numbers) (changes_behind 0 numbers) (below-starts (suc i) 0 (suc i) 0 numbers (omega arith) ∙ none))
+    sym (unchanged i 0 (change_starts 0 0 numbers) (changes_behind 0 numbers) (below-starts (suc i) 0 (suc i) 0 numbers (omega arith) ∙ none))
     ∙ reads numbers i 0 i 0 d lt (omega arith)
 
 -- the last change up to it made it
@@ -217,18 +217,18 @@ before starts changes len numbers i holds = ap (below i) holds.starts_so ∙ bel
 pub changes_here : (starts changes : List ℕ) (len : ℕ) (numbers : List ℕ) (i k d : ℕ) → HoldsColumn starts changes len numbers
     → k ≡ changes_in (take i numbers) → k < length starts → get_or starts k d ≡ i → suc k ≡ changes_in (take (suc i) numbers)
 changes_here starts changes len numbers i k d holds k_is lt is =
-    let count : below i (starts_behind 0 0 numbers) ≡ k = below-starts i 0 i 0 numbers (omega arith) ∙ sym k_is in
-    let lt_there : below i (starts_behind 0 0 numbers) < length (starts_behind 0 0 numbers) = omega (arith, count, lt, ap length holds.starts_so) in
-    let is_there : get_or (starts_behind 0 0 numbers) (below i (starts_behind 0 0 numbers)) d ≡ i =
-    ap (λ (j : ℕ). get_or (starts_behind 0 0 numbers) j d) count ∙ ap (λ (ss : List ℕ). get_or ss k d) (sym holds.starts_so) ∙ is in
+    let count : below i (change_starts 0 0 numbers) ≡ k = below-starts i 0 i 0 numbers (omega arith) ∙ sym k_is in
+    let lt_there : below i (change_starts 0 0 numbers) < length (change_starts 0 0 numbers) = omega (arith, count, lt, ap length holds.starts_so) in
+    let is_there : get_or (change_starts 0 0 numbers) (below i (change_starts 0 0 numbers)) d ≡ i =
+    ap (λ (j : ℕ). get_or (change_starts 0 0 numbers) j d) count ∙ ap (λ (ss : List ℕ). get_or ss k d) (sym holds.starts_so) ∙ is in
     ap suc (sym count) ∙ sym (one_more_below i 0 0 d numbers lt_there is_there) ∙ below-starts (suc i) 0 (suc i) 0 numbers (omega arith)
 
 pub no_change_here : (starts changes : List ℕ) (len : ℕ) (numbers : List ℕ) (i k d : ℕ) → HoldsColumn starts changes len numbers
     → k ≡ changes_in (take i numbers) → (k < length starts → get_or starts k d ≡ i → ⊥) → k ≡ changes_in (take (suc i) numbers)
 no_change_here starts changes len numbers i k d holds k_is never =
-    let count : below i (starts_behind 0 0 numbers) ≡ k = below-starts i 0 i 0 numbers (omega arith) ∙ sym k_is in
-    let nowhere : below i (starts_behind 0 0 numbers) < length (starts_behind 0 0 numbers)
-    → get_or (starts_behind 0 0 numbers) (below i (starts_behind 0 0 numbers)) d ≡ i → ⊥ =
+    let count : below i (change_starts 0 0 numbers) ≡ k = below-starts i 0 i 0 numbers (omega arith) ∙ sym k_is in
+    let nowhere : below i (change_starts 0 0 numbers) < length (change_starts 0 0 numbers)
+    → get_or (change_starts 0 0 numbers) (below i (change_starts 0 0 numbers)) d ≡ i → ⊥ =
     λ lt is. never (omega (arith, count, lt, ap length holds.starts_so))
-    (ap (λ (ss : List ℕ). get_or ss k d) holds.starts_so ∙ ap (λ (j : ℕ). get_or (starts_behind 0 0 numbers) j d) (sym count) ∙ is) in
+    (ap (λ (ss : List ℕ). get_or ss k d) holds.starts_so ∙ ap (λ (j : ℕ). get_or (change_starts 0 0 numbers) j d) (sym count) ∙ is) in
     sym count ∙ sym (no_more_below i 0 0 d numbers nowhere) ∙ below-starts (suc i) 0 (suc i) 0 numbers (omega arith)

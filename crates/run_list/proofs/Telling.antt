@@ -11,10 +11,10 @@ use Rattle.change_codec.specs.Fits.{IsOperation, IsToken}
 use Rattle.change_codec.specs.Stream.{AreOperations}
 use Rattle.change_codec.proofs.StreamLaws.{are_more}
 use Rattle.run_list.specs.Runs.{last_behind}
-use Rattle.run_list.specs.Told.{with_token, bare_of, number_of, token_of, bare_ops, tokens_of, told, HoldsTold, AreTold}
+use Rattle.run_list.specs.Told.{with_token, bare_of, token_number, token_of, bare_ops, tokens_of, told, HoldsTold, AreTold}
 
 -- a token's number stands for it
-pub token_again : (token : Option ℕ) → IsToken token → token_of (number_of token) ≡ token
+pub token_again : (token : Option ℕ) → IsToken token → token_of (token_number token) ≡ token
 token_again None fits = refl
 token_again (Some zero) fits = absurd (omega (arith, fits.0))
 token_again (Some (suc n)) fits = refl
@@ -41,7 +41,7 @@ pub bare_long : (bare : List Op) (tokens : List ℕ) (ops : List Op) → HoldsTo
 bare_long bare tokens ops holds = ap length holds.bare_so ∙ length-map ops bare_of
 
 pub tokens_long : (bare : List Op) (tokens : List ℕ) (ops : List Op) → HoldsTold bare tokens ops → length tokens ≡ length ops
-tokens_long bare tokens ops holds = ap length holds.tokens_so ∙ length-map ops (λ op. number_of op.token)
+tokens_long bare tokens ops holds = ap length holds.tokens_so ∙ length-map ops (λ op. token_number op.token)
 
 -- what holds the list after each call
 
@@ -49,12 +49,12 @@ pub nothing_told : (bare : List Op) (tokens : List ℕ) → bare ≡ [] → toke
 nothing_told bare tokens bare_is tokens_are = record { bare_so = bare_is; tokens_so = tokens_are; fits = tt }
 
 pub more_told : (bare : List Op) (tokens : List ℕ) (ops : List Op) (op : Op) (more_bare : List Op) (more_tokens : List ℕ) → HoldsTold bare tokens ops
-    → IsOperation op → more_bare ≡ bare ++ bare_of op ∷ [] → more_tokens ≡ tokens ++ number_of op.token ∷ [] → HoldsTold more_bare more_tokens (ops ++ op ∷ [])
+    → IsOperation op → more_bare ≡ bare ++ bare_of op ∷ [] → more_tokens ≡ tokens ++ token_number op.token ∷ [] → HoldsTold more_bare more_tokens (ops ++ op ∷ [])
 more_told bare tokens ops op more_bare more_tokens holds fits bare_is tokens_are = record {
   bare_so = bare_is ∙ ap (λ (b : List Op). b ++ bare_of op ∷ []) holds.bare_so ∙ sym (map-append bare_of ops (op ∷ []));
   tokens_so =
-      tokens_are ∙ ap (λ (ns : List ℕ). ns ++ number_of op.token ∷ []) holds.tokens_so
-      ∙ sym (map-append (λ o. number_of o.token) ops (op ∷ []));
+      tokens_are ∙ ap (λ (ns : List ℕ). ns ++ token_number op.token ∷ []) holds.tokens_so
+      ∙ sym (map-append (λ o. token_number o.token) ops (op ∷ []));
   fits = are_more ops op holds.fits fits;
 }
 
@@ -62,7 +62,7 @@ pub front_told : (bare : List Op) (tokens : List ℕ) (ops : List Op) (n : ℕ) 
     → front_bare ≡ take n bare → front_tokens ≡ take n tokens → HoldsTold front_bare front_tokens (take n ops)
 front_told bare tokens ops n front_bare front_tokens holds bare_is tokens_are = record {
   bare_so = bare_is ∙ ap (take n) holds.bare_so ∙ take-map bare_of n ops;
-  tokens_so = tokens_are ∙ ap (take n) holds.tokens_so ∙ take-map (λ op. number_of op.token) n ops;
+  tokens_so = tokens_are ∙ ap (take n) holds.tokens_so ∙ take-map (λ op. token_number op.token) n ops;
   fits = fits_take n ops holds.fits;
 }
 
@@ -95,8 +95,8 @@ joined_told bare tokens ops n others more_bare more_tokens holds fits bare_is to
       ∙ ap (λ (b : List Op). bare_ops ops ++ b) (drop-mapped bare_of n others) ∙ sym (map-append bare_of ops (drop n others));
   tokens_so =
       tokens_are ∙ ap (λ (ns : List ℕ). ns ++ drop n (tokens_of others)) holds.tokens_so
-      ∙ ap (λ (ns : List ℕ). tokens_of ops ++ ns) (drop-mapped (λ op. number_of op.token) n others)
-      ∙ sym (map-append (λ op. number_of op.token) ops (drop n others));
+      ∙ ap (λ (ns : List ℕ). tokens_of ops ++ ns) (drop-mapped (λ op. token_number op.token) n others)
+      ∙ sym (map-append (λ op. token_number op.token) ops (drop n others));
   fits = fits_append ops (drop n others) holds.fits (fits_drop n others fits);
 }
 
@@ -114,7 +114,7 @@ fits_at (op ∷ ops) (suc i) d lt fits = fits_at ops i d (omega arith) fits.1
 pub token_at : (bare : List Op) (tokens : List ℕ) (ops : List Op) (i n : ℕ) (d : Op) → HoldsTold bare tokens ops → i < length ops
     → n ≡ get_or tokens i n → token_of n ≡ (get_or ops i d).token
 token_at bare tokens ops i n d holds lt is =
-    ap token_of (is ∙ ap (λ (ns : List ℕ). get_or ns i n) holds.tokens_so ∙ get_or-map (λ op. number_of op.token) ops i d n lt)
+    ap token_of (is ∙ ap (λ (ns : List ℕ). get_or ns i n) holds.tokens_so ∙ get_or-map (λ op. token_number op.token) ops i d n lt)
     ∙ token_again (get_or ops i d).token (fits_at ops i d lt holds.fits).token
 
 pub bare_at : (bare : List Op) (tokens : List ℕ) (ops : List Op) (i : ℕ) (op d : Op) → HoldsTold bare tokens ops → i < length ops

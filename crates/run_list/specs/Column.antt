@@ -2,9 +2,9 @@
 use Rattle.std.specs.Prelude.{◌≡◌, ℕ, zero, suc, ◌<◌, ◌^◌, ◌==◌, nat_lt, List, [], ◌∷◌, length, if◌then◌else◌}
 
 -- where these change, behind one, if the first of them stands there
-abbrev pub starts_behind : ℕ → ℕ → List ℕ → List ℕ
-starts_behind last at [] = []
-starts_behind last at (n ∷ ns) = if n == last then starts_behind n (suc at) ns else at ∷ starts_behind n (suc at) ns
+abbrev pub change_starts : ℕ → ℕ → List ℕ → List ℕ
+change_starts last at [] = []
+change_starts last at (n ∷ ns) = if n == last then change_starts n (suc at) ns else at ∷ change_starts n (suc at) ns
 
 -- and to what
 abbrev pub changes_behind : ℕ → List ℕ → List ℕ
@@ -12,9 +12,9 @@ changes_behind last [] = []
 changes_behind last (n ∷ ns) = if n == last then changes_behind n ns else n ∷ changes_behind n ns
 
 -- the last of these, or the one before all
-abbrev pub last_number : ℕ → List ℕ → ℕ
-last_number last [] = last
-last_number last (n ∷ ns) = last_number n ns
+abbrev pub number_behind : ℕ → List ℕ → ℕ
+number_behind last [] = last
+number_behind last (n ∷ ns) = number_behind n ns
 
 -- what stands at a place: what the last change up to it made, or the one before all
 abbrev pub number_at : ℕ → ℕ → List ℕ → List ℕ → ℕ
@@ -33,7 +33,7 @@ numbers_of starts changes len = numbers_from len 0 starts changes
 
 -- so many numbers are these, and change there and to that
 pub record HoldsColumn (starts changes : List ℕ) (len : ℕ) (numbers : List ℕ) : Type 0 where
-  pub starts_so : starts ≡ starts_behind 0 0 numbers
+  pub starts_so : starts ≡ change_starts 0 0 numbers
   pub changes_so : changes ≡ changes_behind 0 numbers
   pub len_so : len ≡ length numbers
   pub few : length numbers < 2 ^ 32
@@ -44,4 +44,4 @@ IsColumn starts changes len = HoldsColumn starts changes len (numbers_of starts 
 
 -- how many changes these make
 abbrev pub changes_in : List ℕ → ℕ
-changes_in numbers = length (starts_behind 0 0 numbers)
+changes_in numbers = length (change_starts 0 0 numbers)

@@ -15,9 +15,9 @@ abbrev pub bare_of : Op → Op
 bare_of op = with_token op None
 
 -- a token as its number, and 0 for none
-abbrev pub number_of : Option ℕ → ℕ
-number_of None = 0
-number_of (Some token) = token
+abbrev pub token_number : Option ℕ → ℕ
+token_number None = 0
+token_number (Some token) = token
 
 -- the token that a number stands for
 abbrev pub token_of : ℕ → Option ℕ
@@ -30,7 +30,7 @@ bare_ops ops = map bare_of ops
 
 -- the numbers of their tokens
 abbrev pub tokens_of : List Op → List ℕ
-tokens_of ops = map (λ op. number_of op.token) ops
+tokens_of ops = map (λ op. token_number op.token) ops
 
 -- operations with the tokens that these numbers stand for
 unfoldable pub told : List ℕ → List Op → List Op

@@ -1,6 +1,6 @@
 //! The tokens of a list of operations, as numbers.
 ghost use Rattle.std.specs.Prelude.{◌≡◌, ◌<◌, ◌≤◌, [], ◌∷◌, ◌++◌, length, take, suc, slice_index_or, OnOk, OnErr, IsTrue, ◌↔◌};
-ghost use Rattle.run_list.specs.Column.{changes_in, last_number};
+ghost use Rattle.run_list.specs.Column.{changes_in, number_behind};
 
 use crate::finding::count_below;
 use std::alloc::{AllocError, Global};
@@ -152,7 +152,7 @@ impl TokenColumn {
 
     /// The last number, or 0 where there is none. Constant.
     fn last(&self) -> u128
-        ensures { result ≡ last_number 0 self.now }
+        ensures { result ≡ number_behind 0 self.now }
     {
         let count = self.changes.len();
         if count == 0 {

@@ -3,7 +3,7 @@ ghost use Rattle.std.specs.Prelude.{◌≡◌};
 ghost use Rattle.std.specs.Option.{option_map};
 ghost use Rattle.change_codec.specs.Fits.{IsToken};
 ghost use Rattle.op_pieces.specs.Cutting.{is_next as is_next_of};
-ghost use Rattle.run_list.specs.Told.{bare_of as bare_of_op, number_of as number_of_token, token_of as token_of_number};
+ghost use Rattle.run_list.specs.Told.{bare_of as bare_of_op, token_number, token_of as token_of_number};
 
 use op_ids::Token;
 use op_model::Op;
@@ -11,7 +11,7 @@ use op_pieces::is_next;
 
 /// A token as its number, and 0 for none.
 pub(crate) fn number_of(token: Option<Token>) -> u128
-    ensures value { result ≡ number_of_token token }
+    ensures value { result ≡ token_number token }
     ensures fits { IsToken token }
 {
     match token {

@@ -1,4 +1,4 @@
-use Rattle.std.proofs.Common.{inl, inr, refl, ◌≤◌, ◌+◌, ◌-◌, [], length, drop, get_or, sym, ◌∙◌, ap, arith}
+use Rattle.std.proofs.Common.{◌≡◌, inl, inr, refl, ◌≤◌, ◌+◌, ◌-◌, [], length, drop, get_or, sym, ◌∙◌, ap, arith}
 use Rattle.char_sequence.specs.Cells.{behind_shown, shown, shown_at}
 use Rattle.char_sequence.specs.Chunks.{cells_of}
 use Rattle.char_sequence.proofs.BehindLemmas.{behind_chunk}
@@ -7,13 +7,17 @@ use Rattle.char_sequence.proofs.PlaceLemmas.{few_in_chunk}
 use Rattle.char_sequence.proofs.ShownLemmas.{seen_of}
 use Rattle.char_sequence.proofs.SizeLemmas.{few_chunks, next_chunk, none_read, past_all, past_chunk, size_read}
 use Rattle.char_sequence.proofs.shown.shown.Goals as goal
-use Rattle.char_sequence.proofs.shown.shown.Goals.{After-shown_in}
+use Rattle.char_sequence.proofs.shown.shown.Goals.{After-shown_of_chunk}
 
-pub shown_in-requires-clause-cells : goal.shown_in-requires-clause-cells
-shown_in-requires-clause-cells c = (size_read c.args.chunks.now c.loop-size.i c.in-Some.size (sym c.chunk.ensures.size ∙ c.in-Some.is)).1
+pub shown_of_chunk-requires-clause-size : goal.shown_of_chunk-requires-clause-size
+shown_of_chunk-requires-clause-size c =
+    let read = size_read c.args.chunks.now c.loop-size.i c.in-Some.size (sym c.chunk.ensures.size ∙ c.in-Some.is) in
+    let cells : c.in-Some.size ≡ record { cells = length (get_or c.args.chunks.now c.loop-size.i []); shown = c.in-Some.size.shown } =
+    ap (λ n. record { cells = n; shown = c.in-Some.size.shown }) read.1 in
+    cells ∙ ap (λ n. record { cells = length (get_or c.args.chunks.now c.loop-size.i []); shown = n }) read.2
 
-pub shown_in-requires-clause-here : goal.shown_in-requires-clause-here
-shown_in-requires-clause-here c =
+pub shown_of_chunk-requires-clause-here : goal.shown_of_chunk-requires-clause-here
+shown_of_chunk-requires-clause-here c =
     let read = size_read c.args.chunks.now c.loop-size.i c.in-Some.size (sym c.chunk.ensures.size ∙ c.in-Some.is) in
     let here = c.if-left-size.true in
     let is = read.2 in
@@ -21,11 +25,11 @@ shown_in-requires-clause-here c =
 
 pub returns-then-left-size-clause-found : goal.returns-then-left-size-clause-found
 returns-then-left-size-clause-found c =
-    seen_of c.args.chunks.now c.loop-size.i c.args.k c.loop-size.left c.shown_in.result c.loop-size.invariant.found c.loop-size.invariant.rest
-    c.shown_in.ensures.found
+    seen_of c.args.chunks.now c.loop-size.i c.args.k c.loop-size.left c.shown_of_chunk.result c.loop-size.invariant.found c.loop-size.invariant.rest
+    c.shown_of_chunk.ensures.found
 
 -- what was read where the cell is found
-reads : (c : After-shown_in) → Reads c.args.ticks.now c.past_groups-start.new.ticks c.loop-size.ticks c.shown_in.new.ticks c.past_groups-start.result.chunk c.loop-size.i c.in-Some.size.cells
+reads : (c : After-shown_of_chunk) → Reads c.args.ticks.now c.past_groups-start.new.ticks c.loop-size.ticks c.shown_of_chunk.new.ticks c.past_groups-start.result.chunk c.loop-size.i c.in-Some.size.cells
 reads c =
     let read = size_read c.args.chunks.now c.loop-size.i c.in-Some.size (sym c.chunk.ensures.size ∙ c.in-Some.is) in
     let small = few_in_chunk c.args.chunks.now c.loop-size.i c.are_sized.ensures.chunks.sized in
@@ -33,7 +37,7 @@ reads c =
       groups = c.past_groups-start.ensures.ticks;
       low = c.loop-size.invariant.low;
       chunks = c.loop-size.invariant.ticks;
-      last = let one = c.chunk.ensures.tick in let more = c.shown_in.ensures.ticks in omega arith;
+      last = let one = c.chunk.ensures.tick in let more = c.shown_of_chunk.ensures.ticks in omega arith;
       small = let cells = read.1 in omega arith;
     }
 
@@ -41,16 +45,16 @@ pub returns-then-left-size-clause-ticks : goal.returns-then-left-size-clause-tic
 returns-then-left-size-clause-ticks c =
     let held = c.args.chunks.now in
     let read = size_read held c.loop-size.i c.in-Some.size (sym c.chunk.ensures.size ∙ c.in-Some.is) in
-    reads_all c.args.ticks.now c.past_groups-start.new.ticks c.loop-size.ticks c.shown_in.new.ticks c.past_groups-start.result.chunk c.loop-size.i
-    c.in-Some.size.cells (length held) (length (cells_of held)) (reads (goal.at.returns-then-left-size-clause-ticks c).After-shown_in) read.0
+    reads_all c.args.ticks.now c.past_groups-start.new.ticks c.loop-size.ticks c.shown_of_chunk.new.ticks c.past_groups-start.result.chunk c.loop-size.i
+    c.in-Some.size.cells (length held) (length (cells_of held)) (reads (goal.at.returns-then-left-size-clause-ticks c).After-shown_of_chunk) read.0
     c.past_groups-start.ensures.none (several held c.are_sized.ensures.chunks) (few_chunks held c.are_sized.ensures.chunks)
 
 pub returns-then-left-size-clause-fewer : goal.returns-then-left-size-clause-fewer
 returns-then-left-size-clause-fewer c =
     let held = c.args.chunks.now in
     let read = size_read held c.loop-size.i c.in-Some.size (sym c.chunk.ensures.size ∙ c.in-Some.is) in
-    reads_few c.args.ticks.now c.past_groups-start.new.ticks c.loop-size.ticks c.shown_in.new.ticks c.past_groups-start.result.chunk c.loop-size.i
-    c.in-Some.size.cells (length held) (length (cells_of held)) (reads (goal.at.returns-then-left-size-clause-fewer c).After-shown_in)
+    reads_few c.args.ticks.now c.past_groups-start.new.ticks c.loop-size.ticks c.shown_of_chunk.new.ticks c.past_groups-start.result.chunk c.loop-size.i
+    c.in-Some.size.cells (length held) (length (cells_of held)) (reads (goal.at.returns-then-left-size-clause-fewer c).After-shown_of_chunk)
     c.loop-size.invariant.here (λ whole. near_none held c.loop-size.i _ c.loop-size.left (c.loop-size.invariant.near whole)) (inl read.0)
     (few_chunks held c.are_sized.ensures.chunks)
 

@@ -2,7 +2,7 @@ use Rattle.std.proofs.Common.{rules, ◌≡◌, ap, sym, ◌∙◌, false, lengt
 use Rattle.std.specs.Prelude.{ℕ, Vec, vec_len}
 use Rattle.std.specs.declared.alloc.Global.{Global}
 use Rattle.std.proofs.lemmas.Result.{err_from_is_err_and}
-use Rattle.group_commit.specs.Standing.{IsSound}
+use Rattle.group_commit.specs.Standing.{IsSoundStore}
 use Rattle.group_commit.specs.Paging.{taken_in}
 use Rattle.group_commit.specs.Saved.{with_stream, base_of}
 use Rattle.group_commit.specs.declared.phase.Phase.TheVariants.{Idle, Pages}
@@ -52,7 +52,7 @@ invariant_of-self g c =
     (c.self.invariant.0, c.self.invariant.1, paging_roomy _ _ _ _ _ _ _ _ _ c.self.invariant.2 idle c.in_err-reserve.ensures.same)
 
 sound_new : (g : _) (c : goal.After-self-3-1 g)
-    → IsSound g.D.DiskFacts (record {
+    → IsSoundStore g.D.DiskFacts (record {
       disk = c.self.inside.disk;
       phase = Pages 0;
       slot = c.self.inside.roots.slot;

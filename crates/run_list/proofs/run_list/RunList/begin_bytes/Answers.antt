@@ -1,7 +1,7 @@
 use Rattle.std.proofs.Common.{◌++◌, ◌∷◌, [], sym, ap, ◌∙◌}
 use Rattle.op_model.specs.declared.op.Op.{Op}
 use Rattle.op_list.specs.Held.{IsRecord}
-use Rattle.run_list.specs.Told.{number_of, HoldsTold}
+use Rattle.run_list.specs.Told.{token_number, HoldsTold}
 use Rattle.run_list.proofs.Telling.{shown, are_told, told_is, more_told, same_bare}
 use Rattle.run_list.proofs.run_list.RunList.begin_bytes.Goals as goal
 
@@ -9,7 +9,7 @@ grown : (c : goal.In-Ok) (op : Op) → IsRecord c.args.bytes.now op → HoldsTol
 grown c op is =
     let holds = shown _ _ c.args.self.now c.self.invariant c.self.view_is in
     more_told _ _ _ op _ _ holds is.fits (c.in-Ok.ensures.ok op is ∙ ap (λ o. c.self.inside.bare ++ o ∷ []) (same_bare op (c.requires.none op is)))
-    (c.in_ok-push.ensures.ok ∙ ap (λ t. c.self.inside.tokens ++ number_of t ∷ []) (sym (c.requires.none op is)))
+    (c.in_ok-push.ensures.ok ∙ ap (λ t. c.self.inside.tokens ++ token_number t ∷ []) (sym (c.requires.none op is)))
 
 pub invariant_of-self-in-Ok : goal.invariant_of-self-in-Ok
 invariant_of-self-in-Ok c = are_told _ _ _ (grown c c.requires.one.0 c.requires.one.1)

@@ -2,7 +2,7 @@ use Rattle.std.proofs.Common.{suc, take, sym, ap, ◌∙◌, arith}
 use Rattle.std.proofs.lemmas.List.{take-map}
 use Rattle.run_list.specs.Reading.{runs_of}
 use Rattle.run_list.specs.Column.{changes_in}
-use Rattle.run_list.specs.Told.{bare_of, number_of, with_token}
+use Rattle.run_list.specs.Told.{bare_of, token_number, with_token}
 use Rattle.run_list.proofs.Telling.{shown, bare_long, told_at}
 use Rattle.run_list.proofs.Continuing.{before_bare}
 use Rattle.run_list.proofs.run_list.RunList.next.Goals as goal
@@ -25,7 +25,7 @@ pub changes_with-changes-requires : goal.changes_with-changes-requires
 changes_with-changes-requires c =
     let holds = shown _ _ c.args.self.now c.self.invariant c.self.view_is in
     c.requires.begun.changes
-    ∙ ap changes_in (sym (ap (take c.args.i) holds.tokens_so ∙ take-map (λ op. number_of op.token) c.args.i c.args.self.now))
+    ∙ ap changes_in (sym (ap (take c.args.i) holds.tokens_so ∙ take-map (λ op. token_number op.token) c.args.i c.args.self.now))
 
 pub returns-clause-op : goal.returns-clause-op
 returns-clause-op c =
@@ -42,5 +42,5 @@ returns-clause-begun c =
           ∙ ap runs_of (ap (take (suc c.args.i)) holds.bare_so ∙ take-map bare_of (suc c.args.i) c.args.self.now);
       changes =
           c.changes_with-changes.ensures
-          ∙ ap changes_in (ap (take (suc c.args.i)) holds.tokens_so ∙ take-map (λ op. number_of op.token) (suc c.args.i) c.args.self.now);
+          ∙ ap changes_in (ap (take (suc c.args.i)) holds.tokens_so ∙ take-map (λ op. token_number op.token) (suc c.args.i) c.args.self.now);
     }

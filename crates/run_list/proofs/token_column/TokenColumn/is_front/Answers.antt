@@ -2,7 +2,7 @@ use Rattle.std.proofs.Common.{length, take, ap, sym, ◌∙◌, arith, rules}
 use Rattle.std.proofs.lemmas.List.{length-take}
 use Rattle.op_list.proofs.Told.{told}
 use Rattle.run_list.proofs.Reading.{below_within}
-use Rattle.run_list.specs.Column.{starts_behind, changes_behind}
+use Rattle.run_list.specs.Column.{change_starts, changes_behind}
 use Rattle.run_list.proofs.Column.{shows, rising, front_of, same_column, as_long}
 use Rattle.run_list.proofs.token_column.TokenColumn.is_front.Goals as goal
 
@@ -59,6 +59,6 @@ returns-else-eq c =
       λ equal. absurd (search rules),
       λ same.
           says.1
-          (c.as_slice.ensures.value ∙ held.starts_so ∙ ap (starts_behind 0 0) same ∙ sym front.starts_so
+          (c.as_slice.ensures.value ∙ held.starts_so ∙ ap (change_starts 0 0) same ∙ sym front.starts_so
           ∙ sym (ap (take count) c.deref-2.ensures.value)),
     )
