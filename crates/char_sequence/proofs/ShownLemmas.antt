@@ -1,7 +1,8 @@
 -- Cells of a chunk that are read one after another.
 use Rattle.std.proofs.lemmas.Bool.{true≢false}
 use Rattle.std.proofs.lemmas.Bool.Decides.{nat_tests}
-use Rattle.std.proofs.Common.{slice_get, ◌++◌, zero, suc, ◌≡◌, ◌≤◌, ◌<◌, refl, sym, arith, Bool, not, if◌then◌else◌, ℕ, ◌+◌, ◌-◌, ◌==◌, true, false, List, [], ◌∷◌, length, drop, get_or}
+use Rattle.std.proofs.Common.{slice_get, ◌++◌, zero, suc, ◌≡◌, ◌≤◌, ◌<◌, refl, sym, arith, Bool, not}
+use Rattle.std.proofs.Common.{if◌then◌else◌, ℕ, ◌+◌, ◌-◌, ◌==◌, true, false, List, [], ◌∷◌, length, drop, get_or}
 use Rattle.std.proofs.Common.{Option, Some, None, ◌∙◌, ap}
 use Rattle.std.specs.Option.{MatchOption}
 use Rattle.std.proofs.Math.ListN.{drop_of_length-le}

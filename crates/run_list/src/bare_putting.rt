@@ -1,6 +1,6 @@
 //! Operations that are put behind a list of runs.
 ghost use Rattle.std.specs.Prelude.{◌≡◌, ◌+◌, ◌<◌, ◌^◌, [], ◌∷◌, ◌++◌, length};
-ghost use Rattle.std.specs.Prelude.{true, false, None, OnOk, OnErr, IfOk, IsTrue};
+ghost use Rattle.std.specs.Prelude.{false, None, OnOk, OnErr, IsTrue};
 ghost use Rattle.op_model.specs.declared.op.Op.{Op as Operation};
 ghost use Rattle.op_model.specs.Records.{stream_length};
 ghost use Rattle.op_list.specs.Held.{IsRecord};
@@ -10,45 +10,9 @@ use crate::bare_list::BareList;
 use crate::marks::{BEGINS, MOST_BYTES, MOST_OPERATIONS};
 use change_codec::every_op_has_a_spelling;
 use op_model::Op;
-use op_pieces::{is_next, value_of};
 use std::alloc::AllocError;
 
 impl BareList {
-    /// Puts an operation behind the others.
-    pub(crate) fn push(&mut self, op: &Op) -> Result<(), AllocError>
-        ensures ok { OnOk result (self.new ≡ self.old ++ op.now ∷ []) }
-        ensures err { OnErr result (self.new ≡ self.old) }
-    {
-        if self.has_next(op)? {
-            self.go_on(op)
-        } else {
-            self.begin_run(op)
-        }
-    }
-
-    /// Whether an operation goes on with the run of the last one. An error is out of memory (1).
-    fn has_next(&self, op: &Op) -> Result<bool, AllocError>
-        ensures { IfOk result (λ on. on ≡ goes_on_of (last_behind None self.now) op.now) }
-    {
-        let len = self.len();
-        if len == 0 {
-            return Ok(false);
-        }
-        let last = self.get(len - 1)?;
-        Ok(is_next(&last, op))
-    }
-
-    /// Puts an operation behind the others that goes on with the run of the last one.
-    fn go_on(&mut self, op: &Op) -> Result<(), AllocError>
-        requires { goes_on_of (last_behind None self.old) op.now ≡ true }
-        ensures ok { OnOk result (self.new ≡ self.old ++ op.now ∷ []) }
-        ensures err { OnErr result (self.new ≡ self.old) }
-    {
-        every_op_has_a_spelling(op);
-        self.type_on(value_of(&op.body))?;
-        Ok(())
-    }
-
     /// Puts the operation behind the others that goes on with the run of the last one and types
     /// this character.
     pub(crate) fn type_on(&mut self, value: char) -> Result<(), AllocError>

@@ -1,6 +1,8 @@
 //! Lists and pieces that are put behind a list of runs.
-ghost use Rattle.std.specs.Prelude.{◌≡◌, ◌≤◌, ◌++◌, length, take, drop, OnOk, OnErr};
+ghost use Rattle.std.specs.Prelude.{◌≡◌, ◌≤◌, ◌++◌, length, take, drop, None, OnOk, OnErr};
 ghost use Rattle.op_pieces.specs.Pieces.{ops_of};
+ghost use Rattle.run_list.specs.Runs.{last_behind};
+ghost use Rattle.run_list.specs.Told.{bare_ops};
 
 use crate::run_list::RunList;
 use crate::run_slice::RunSlice;
@@ -17,13 +19,47 @@ impl RunList {
         ensures ok { OnOk result (self.new ≡ self.old ++ drop n ops.now) }
         ensures err { OnErr result (self.new ≡ self.old) }
     {
+        let before = self.len();
+        match self.extend_each(ops, n) {
+            Ok(()) => Ok(()),
+            Err(refused) => {
+                self.truncate(before);
+                Err(refused)
+            }
+        }
+    }
+
+    /// Puts the operations of another list behind the others, the first of them by itself.
+    fn extend_each(&mut self, ops: &RunSlice<'_>, n: usize) -> Result<(), AllocError>
+        requires { n ≤ length ops.now }
+        ensures ok { OnOk result (self.new ≡ self.old ++ drop n ops.now) }
+        ensures front { take (length self.old) self.new ≡ self.old }
+    {
+        if n == ops.len() {
+            return Ok(());
+        }
+        let op = ops.get(n)?;
+        self.push(&op)?;
+        self.copy_each(ops, n + 1)
+    }
+
+    /// Puts the operations of another list behind the others, where the last one here is the one
+    /// before them there, but for its token: so a run goes on here where it does there.
+    fn copy_each(&mut self, ops: &RunSlice<'_>, n: usize) -> Result<(), AllocError>
+        requires within { n ≤ length ops.now }
+        requires last { last_behind None (bare_ops self.old)
+            ≡ last_behind None (take n (bare_ops ops.now)) }
+        ensures ok { OnOk result (self.new ≡ self.old ++ drop n ops.now) }
+        ensures err { OnErr result (self.new ≡ self.old) }
+    {
         // For the proof: the operations keep their rules.
         ops.kept();
         let before = self.tokens.len();
         self.tokens.extend_from(&ops.list().tokens, n, ops.len())?;
-        match self.bare.extend_from(&ops.bare(), n) {
+        match self.bare.copy_each(&ops.bare(), n) {
             Ok(()) => Ok(()),
             Err(refused) => {
+                self.bare.truncate(before);
                 self.tokens.truncate(before);
                 Err(refused)
             }

@@ -1,9 +1,9 @@
 use Rattle.std.proofs.Common.{◌++◌, drop, ap, ◌∙◌}
 use Rattle.run_list.specs.Told.{HoldsTold}
 use Rattle.run_list.proofs.Telling.{shown, are_told, told_is, front_held, joined_told}
-use Rattle.run_list.proofs.run_list.RunList.extend_from.Goals as goal
+use Rattle.run_list.proofs.run_list.RunList.copy_each.Goals as goal
 
-grown : (c : goal.In-Ok) → HoldsTold c.extend_from-2.new.self c.extend_from.new.self (c.args.self.now ++ drop c.args.n c.args.ops.now)
+grown : (c : goal.In-Ok) → HoldsTold c.copy_each.new.self c.extend_from.new.self (c.args.self.now ++ drop c.args.n c.args.ops.now)
 grown c =
     let held = shown _ _ c.args.self.now c.self.invariant c.self.view_is in
     let holds = shown _ _ c.list.result.now c.behind-ops.invariant c.behind-ops.view_is in
