@@ -22,7 +22,7 @@ use op_model::Ticks;
 use std::alloc::AllocError;
 
 /// The k-th cell that a reader sees, counted from 0: a tick for each whole 64 chunks before it, for
-/// each chunk of its own 64, and for each cell of its chunk.
+/// each chunk of its own 64, and what `shown_of_chunk` takes.
 pub(crate) fn shown(chunks: &Chunks, k: usize, ticks: &mut Ticks) -> Option<Seen>
     ensures found { MatchOption result (shown_at (cells_of chunks.now) k ≡ None)
         (IsSeen chunks.now 0 0 k) }
