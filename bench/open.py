@@ -21,9 +21,9 @@ ROUNDS = 5
 COUNTS = (10_000, 100_000, 1_000_000)
 
 
-def make(name, count, shape):
+def make(name, count, shape, has_tokens=False):
     """Makes a file in a process of its own, whose memory the opening doesn't inherit."""
-    maker = multiprocessing.get_context("spawn").Process(target=store_file.make, args=(name, count, shape))
+    maker = multiprocessing.get_context("spawn").Process(target=store_file.make, args=(name, count, shape, has_tokens))
     maker.start()
     maker.join()
 

@@ -13,7 +13,6 @@ import tempfile
 import uuid
 
 import open as opening
-import store_file
 from session import Session
 
 TURNS, EDITS = 10, 2_000
@@ -54,14 +53,14 @@ def openings(program, folder, count):
     with tempfile.TemporaryDirectory(dir=folder) as room:
         names = {has_tokens: os.path.join(room, f"tokens-{has_tokens}") for has_tokens in (False, True)}
         for has_tokens, name in names.items():
-            store_file.make(name, count, "end", has_tokens)
+            opening.make(name, count, "end", has_tokens)
         found = {False: [], True: []}
         for turn in range(6):
             found[bool(turn % 2)].append(opening.opened(program, names[bool(turn % 2)]))
         for has_tokens, runs in found.items():
             took, memory, status = min(runs)
-            beside = memory - os.path.getsize(names[has_tokens])
-            print(f"{count} edits {'with' if has_tokens else 'without'} tokens: opened in {took:.2f} s, {beside / 1e6:.0f} MB beside the records, status {status}")
+            with_tokens = "with" if has_tokens else "without"
+            print(f"{count} edits {with_tokens} tokens: opened in {took:.2f} s, {memory / count:.0f} bytes of memory an edit in all, status {status}")
 
 
 def main():

@@ -24,8 +24,8 @@ impl Sequence {
     /// Takes an insert of a character behind its origin, or at the beginning where there is none.
     /// `UnknownId` (60) where the origin isn't there, `Memory` (1) where a growth was refused;
     /// both leave the sequence as it was. A search of the origin, of all characters only where the
-    /// hint is wrong; a step for each greater id that follows it; and at most the characters of one
-    /// chunk move.
+    /// hint is wrong; a step for each greater id that follows it; at most the characters of one
+    /// chunk move, and where that is cut, the chunks behind it.
     pub fn apply_insert(
         &mut self,
         id: OpId,

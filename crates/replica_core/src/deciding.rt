@@ -23,7 +23,8 @@ use run_list::RunSlice;
 
 /// How many bytes the operations that an edit of a document makes add to what waits for a commit,
 /// or why it is refused, by the first cause: `Stale` (6), `Range` (5), `Limit` (7). There is room
-/// for its document or not. Takes no memory. Linear in the document.
+/// for its document or not. Takes no memory. Constant, but for an insert at the beginning, which
+/// costs what `Doc::origin` does.
 pub(crate) fn edit_length(
     ops: &RunSlice<'_>,
     known: &Knowledge<'_>,

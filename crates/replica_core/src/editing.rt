@@ -43,8 +43,8 @@ impl Replica {
 
     /// How many bytes a new edit would add to what waits for a commit, and the place of its
     /// document, or why it is refused, by the first cause: `Stale` (6), `Range` (5), `Limit` (7),
-    /// `Steps` (10). Takes no memory. A few steps for clocks, a search by
-    /// halves for the document, and linear in it.
+    /// `Steps` (10). Takes no memory. A few steps for clocks, a search by halves for the document,
+    /// and for an insert at its beginning what `Doc::origin` costs.
     pub fn decide_edit(&self, edit: &Edit) -> Result<Decided, Refusal>
         ensures decided { IfOk result (IsDecided self.now edit.now) }
         ensures refused { IfErr result (λ e.
@@ -113,7 +113,7 @@ impl Replica {
     /// Puts the operations of a session's new edit behind the list, as `prepare` made them of this
     /// very replica. An error is out of memory (1), and changes nothing. What the document takes
     /// for them, which isn't searched again. With a token a search by halves and one in an ordered
-    /// map too, and some 60 bytes of memory.
+    /// map too, and some 80 bytes of memory.
     pub fn put_prepared(
         &mut self,
         session: u64,

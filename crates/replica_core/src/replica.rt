@@ -96,7 +96,7 @@ impl Replica {
     /// replica's operations, with one at each step, where that doesn't edit alone), and for an
     /// insert a step for each greater id that follows its origin. An own edit with a token takes 32
     /// bytes, which are sorted at the end, when as much again is taken for a while. For each
-    /// character 72 bytes, of which 40 are given back before that.
+    /// character 40 bytes, of which 20 are given back before that.
     pub fn from_list(alloc: Global, id: ReplicaId, list: RunList) -> Result<Replica, Refusal>
         ensures opened { IfOk result (λ r. r ≡ opened_with id list) }
         ensures closed { OnOk result (IsCausallyClosed list) }

@@ -12,8 +12,8 @@ use std::alloc::{AllocError, Global};
 
 /// The records of the pieces that a list is cut into, in the third format: as few as can be. They
 /// are no longer than those of its operations, one by one, and some fifteen times shorter for typed
-/// text. An error is out of memory (1). One pass over the list, of which an operation is in memory
-/// at a time.
+/// text. An error is out of memory (1). One pass over the list, of which a piece is in memory at a
+/// time; for each operation what `RunSlice::get` costs.
 pub fn packed(alloc: Global, list: &RunSlice<'_>) -> Result<Vec<u8>, AllocError>
     ensures bytes { IfOk result (λ bytes. bytes.items ≡ spelled_pieces (cut list.now)) }
     ensures spells { IfOk result (λ bytes. SpellsList Third list.now bytes.items) }

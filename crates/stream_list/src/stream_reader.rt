@@ -17,8 +17,8 @@ use std::marker::Model;
 
 /// A stream of a format that comes in parts, and of which a number of operations is expected.
 /// Contracts see these two, and the bytes so far. Memory holds the list of the operations so far,
-/// in which a typed character takes four bytes and each other operation its record and twelve, and
-/// fewer than 1,511 bytes of an unfinished record.
+/// in which a typed character takes four bytes, each other operation its record without the token
+/// and twelve, and a new token twenty, and fewer than 1,511 bytes of an unfinished record.
 #[derive(Drop)]
 pub struct StreamReader {
     format: Format,
