@@ -36,11 +36,11 @@ impl<D: Disk> Store<D> {
     /// One sync, one `size`, one read of the two slots and one of each page that the live root
     /// reaches, up to a refusal. The stream is read in parts of 64 pages (256 KiB), and the
     /// operations of each are listed before the next one is read. So beside the list, in which a
-    /// typed character takes four bytes and a new token twenty, memory holds one part, twice, and an
-    /// unfinished record of fewer than 1,511 bytes. The store itself holds the stream's bytes behind
-    /// the full pages, fewer than 4,096, and the pages' numbers, four bytes each. These are sorted,
-    /// to see that none is there twice. Of a file of the first format it has the records of the operations,
-    /// with runs, until its first commit: a pass over the operations makes them.
+    /// typed character takes four bytes and a new token twenty, memory holds one part, twice, and
+    /// an unfinished record of fewer than 1,511 bytes. The store itself holds the stream's bytes
+    /// behind the full pages, fewer than 4,096, and the pages' numbers, four bytes each. These are
+    /// sorted, to see that none is there twice. Of a file of the first format it has the records of
+    /// the operations, with runs, until its first commit: a pass over the operations makes them.
     pub fn load(alloc: Global, mut disk: D) -> Result<Loaded<D>, OpenFault<D>>
         // The store is of the file's live root, and a crash leaves that file.
         ensures loaded { IfOk result

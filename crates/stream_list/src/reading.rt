@@ -19,7 +19,8 @@ use std::alloc::Global;
 /// One pass over the bytes, which ends at the first record that is none or has too many operations.
 /// What it passed is in the list by then: a typed character takes four bytes there, each other
 /// operation its record without the token and twelve, and a new token twenty. Until it ends, the
-/// bytes of the stream stand in memory twice beside the list; a [`StreamReader`] takes them in parts, of which one alone stands there.
+/// bytes of the stream stand in memory twice beside the list; a [`StreamReader`] takes them in
+/// parts, of which one alone stands there.
 pub fn read_stream(
     alloc: Global,
     format: Format,
