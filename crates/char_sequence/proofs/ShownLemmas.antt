@@ -15,6 +15,7 @@ use Rattle.char_sequence.proofs.BehindLemmas.{behind_none}
 use Rattle.char_sequence.proofs.PlaceLemmas.{chunks_from, cut_behind, from_cell, in_its_chunk, place_behind}
 use Rattle.char_sequence.proofs.ReadLemmas.{shown_first, shown_next, shown_skip}
 use Rattle.char_sequence.proofs.StartLemmas.{from_start}
+use Rattle.char_sequence.proofs.SumLemmas.{seen_few}
 
 -- the cells of a chunk from one on begin with it
 pub from_here : (held : ChunkCells) (i j : ℕ) (c : Cell) → cell_at held i j ≡ Some c
@@ -120,17 +121,9 @@ seen_of held i k left (Some seen) found rest is = seen_from held i k left seen f
 
 -- ---- a chunk of which each cell is seen
 
--- a reader sees no more cells than there are
-pub few_shown : (cs : List Cell) → length (shown cs) ≤ length cs
-few_shown [] = omega arith
-few_shown (c ∷ cs) = step c.is_removed (few_shown cs) where
-  step : (gone : Bool) → length (shown cs) ≤ length cs → length (if not gone then c ∷ shown cs else shown cs) ≤ length (c ∷ cs)
-  step true few = omega arith
-  step false few = omega arith
-
 -- where as many cells are seen as there are, the first one is, and as many as there are of the others
 first_seen : (c : Cell) (cs : List Cell) → length (c ∷ cs) ≤ length (shown (c ∷ cs)) → (c.is_removed ≡ false) × (length cs ≤ length (shown cs))
-first_seen c cs whole = step c.is_removed refl (few_shown cs) whole where
+first_seen c cs whole = step c.is_removed refl (seen_few cs) whole where
   step : (gone : Bool) → c.is_removed ≡ gone → length (shown cs) ≤ length cs → length (c ∷ cs) ≤ length (if not gone then c ∷ shown cs else shown cs)
       → (c.is_removed ≡ false) × (length cs ≤ length (shown cs))
   step true e few whole = absurd (let never : ⊥ = omega arith in never)

@@ -2,7 +2,8 @@ use Rattle.std.proofs.Common.{◌≤◌, [], length, get_or, refl, sym, ◌∙�
 use Rattle.char_sequence.specs.Cells.{shown}
 use Rattle.char_sequence.specs.declared.chunk_size.ChunkSize.{ChunkSize}
 use Rattle.char_sequence.proofs.PlaceLemmas.{ends_chunk}
-use Rattle.char_sequence.proofs.ShownLemmas.{few_shown, found_at}
+use Rattle.char_sequence.proofs.ShownLemmas.{found_at}
+use Rattle.char_sequence.proofs.SumLemmas.{seen_few}
 use Rattle.char_sequence.proofs.shown.shown_of_chunk.Goals as goal
 use Rattle.char_sequence.proofs.shown.shown_of_chunk.Goals.{Else-size}
 
@@ -22,6 +23,6 @@ returns-in-Some-clause-found c =
 pub returns-in-None-clause-found : goal.returns-in-None-clause-found
 returns-in-None-clause-found c =
     let out = ends_chunk c.args.chunks.now c.args.i c.args.k (sym c.cell.ensures.cell ∙ c.in-None.is) in
-    let few = few_shown (get_or c.args.chunks.now c.args.i []) in
+    let few = seen_few (get_or c.args.chunks.now c.args.i []) in
     let here = c.requires.here in
     omega arith
