@@ -47,20 +47,24 @@ peritext:
 	    cp $(PROGRAM) bin/peritext && mv bin/asked bin/sources; \
 	fi
 
-# The proved program below PREFIX, with its manual page and the documents for whoever keeps files. DESTDIR goes in front, as packages want it.
+# The proved program below PREFIX, with its manual page, and the documents and clients as they stand here, so that each finds the others.
+# DESTDIR goes in front, as packages want it.
 PREFIX ?= /usr/local
 SHARE = $(DESTDIR)$(PREFIX)/share
+NOT_INSTALLED = -name tests -o -name build -o -name node_modules -o -name __pycache__ -o -name '*.egg-info'
 
 install: peritext
 	install -D -m 755 bin/peritext $(DESTDIR)$(PREFIX)/bin/peritext
-	mkdir -p $(SHARE)/man/man1 $(SHARE)/doc/peritext
+	mkdir -p $(SHARE)/man/man1
 	python3 tools/man_page.py bin/peritext > $(SHARE)/man/man1/peritext.1
-	install -m 644 README.md docs/*.md docs/*.svg docs/peritext.service $(SHARE)/doc/peritext
+	find README.md docs clients \( $(NOT_INSTALLED) \) -prune -o -type f -exec install -D -m 644 {} $(SHARE)/doc/peritext/{} \;
 
-# What the demo and its test run: bin/peritext, which is built only where it isn't there, or another program that PERITEXT names.
+# What the demo and its test run: bin/peritext, which is built only where it isn't there, or another program that PERITEXT names. The demo is
+# content with the unproved program where that alone is there.
 PERITEXT ?= bin/peritext
+SHOWN = $(if $(filter bin/peritext,$(PERITEXT)),$(or $(wildcard bin/peritext),$(wildcard bin/unproved/peritext),bin/peritext),$(PERITEXT))
 HAS_NODE = node -e 'process.exit(parseInt(process.versions.node) < 20 ? 1 : 0)' 2> /dev/null
-HAS_PROGRAM = test "$(PERITEXT)" != bin/peritext || test -x bin/peritext || $(MAKE) peritext
+HAS_PROGRAM = test "$(1)" != bin/peritext || test -x bin/peritext || $(MAKE) peritext
 
 # Where the demo keeps its two files.
 DEMO ?= bin/demo
@@ -68,10 +72,11 @@ DEMO ?= bin/demo
 # A page with two editors, each over a daemon of its own, until Ctrl-C.
 demo:
 	@$(HAS_NODE) || { echo "The demo can't be shown, for there is no node of version 20 or later: apt-get install nodejs (from Debian 13 on)"; exit 1; }
-	@$(HAS_PROGRAM)
-	@PERITEXT="$(PERITEXT)" node clients/web/src/main.js "$(DEMO)"
+	@$(call HAS_PROGRAM,$(SHOWN))
+	@echo "The demo runs $(SHOWN)$(if $(findstring unproved,$(SHOWN)), (nothing of it is proved))"
+	@PERITEXT="$(SHOWN)" node clients/web/src/main.js "$(DEMO)"
 
 # The same in a browser without a window. PICTURES=docs takes the pictures of docs/ anew.
 test-demo:
-	@if $(HAS_NODE); then $(HAS_PROGRAM) && PERITEXT="$(PERITEXT)" PICTURES="$(PICTURES)" node clients/web/tests/run.mjs; \
+	@if $(HAS_NODE); then $(call HAS_PROGRAM,$(PERITEXT)) && PERITEXT="$(PERITEXT)" PICTURES="$(PICTURES)" node clients/web/tests/run.mjs; \
 	else echo "skipped: clients/web, for there is no node of version 20 or later: apt-get install nodejs (from Debian 13 on)"; fi

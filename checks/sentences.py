@@ -9,6 +9,9 @@ SENTENCE = re.compile(r'    /// (\d+(?:, \d+)*)(: [^\n]*)?\n    #\[error\("([^"]
 CUT = re.compile(r"\\\n +")
 ENTRY = re.compile(r'^ +(\d+): (?:"([^"]*)"|(\w+)),$', re.MULTILINE)
 NAMED = re.compile(r'^(?:const )?(\w+) = "([^"]*)";?$', re.MULTILINE)
+# A client's table of words, and its rows.
+TABLE = re.compile(r"^(?:const )?([A-Z]+) = \{\n(.*?)^\}", re.MULTILINE | re.DOTALL)
+ROW = re.compile(r'^ +"?([a-z ]+)"?: "([^"]*)",$', re.MULTILINE)
 
 
 def text(*path):
@@ -34,11 +37,21 @@ def advice(*path):
     return {int(number): words or named[name] for number, words, name in ENTRY.findall(source)}
 
 
+def of_requests(folder, end):
+    """What a client says in place of these, as far as the request tells the cause."""
+    named = {name.lstrip("_"): words for name, words in NAMED.findall(text(*folder, f"refusals.{end}"))}
+    tables = {name: dict(ROW.findall(rows)) for name, rows in TABLE.findall(text(*folder, f"rules.{end}"))}
+    return named, {name: rows for name, rows in tables.items() if rows}
+
+
 def check(checks, _program, _until):
     said = of_numbers()
     python = advice("clients", "python", "src", "peritext", "refusals.py")
     script = advice("clients", "js", "src", "refusals.js")
     checks.same("the sentences of both clients", script, python)
+    script, python_rules = of_requests(("clients", "js", "src"), "js"), of_requests(("clients", "python", "src", "peritext"), "py")
+    checks.same("what both clients say of a request's fields", script, python_rules)
+    checks.same("their tables", sorted(python_rules[1]), ["BESIDE", "NEEDED", "OPTIONAL", "RULES"])
     checks.same("the sentences of the Python client", {number: python.get(number) for number in said}, said)
     shown = re.findall(r"^\| ([\d, ]+) \| (.*) \|$", text("docs", "OPERATING.md").partition("## What a terminal shows")[2].partition("\n## ")[0], re.MULTILINE)
     wanted = [(", ".join(map(str, numbers)), words) for numbers, _, words in sentences().values()]

@@ -15,8 +15,34 @@ const NEVER = 2 ** 32 - 1;
 /** A name for one edit, a random UUID. However often that is sent under it, it is made once. */
 export function newToken() {
   // A page that came over plain HTTP has no `randomUUID`.
-  const bytes = crypto.getRandomValues(new Uint8Array(16));
-  bytes[6] = 0x40 | (bytes[6] & 0x0f);
+  return uuidOf(crypto.getRandomValues(new Uint8Array(16)), 4);
+}
+
+/** Refuses a call that needs `tokenAfter` where there is none. */
+export function needDigest() {
+  if (crypto.subtle !== undefined) return;
+  throw new TypeError("a page has tokens for more than 256 characters only over HTTPS or from localhost: make several calls, with a token each");
+}
+
+/**
+ * The token of a further edit of a call that was given one: the same for the same words (RFC 9562, version 5).
+ * @param {string} token
+ * @param {string} words
+ */
+export async function tokenAfter(token, words) {
+  const digits = token.replace(/[^0-9a-f]/gi, "").slice(-32);
+  const bytes = Uint8Array.from(digits.match(/../g) ?? [], (byte) => parseInt(byte, 16));
+  const named = new Uint8Array([...bytes, ...new TextEncoder().encode(words)]);
+  return uuidOf(new Uint8Array(await crypto.subtle.digest("SHA-1", named)), 5);
+}
+
+/**
+ * @param {Uint8Array} drawn
+ * @param {number} version
+ */
+function uuidOf(drawn, version) {
+  const bytes = drawn.slice(0, 16);
+  bytes[6] = (version << 4) | (bytes[6] & 0x0f);
   bytes[8] = 0x80 | (bytes[8] & 0x3f);
   const digits = Array.from(bytes, (byte) => byte.toString(16).padStart(2, "0")).join("");
   return digits.replace(/^(.{8})(.{4})(.{4})(.{4})/, "$1-$2-$3-$4-");

@@ -6,20 +6,20 @@ import { refused } from "./refusals.js";
 export class NoAnswer extends Error {}
 
 /**
- * What a line answers to a request of this kind, or the refusal that it tells. `NoAnswer` if it isn't one.
+ * What a line answers to a request, or the refusal that it tells. `NoAnswer` if it isn't one.
  * @param {string} line
- * @param {unknown} op
+ * @param {Record<string, unknown>} request
  * @returns {import("./session.js").Answer | import("./refusals.js").Refused}
  */
-export function answerOf(line, op) {
+export function answerOf(line, request) {
   const told = object(line);
   if (told.ok === true) {
-    need(told, FIELDS.get(op) ?? {});
+    need(told, FIELDS.get(request.op) ?? {});
     return told;
   }
   if (told.ok === false) {
     need(told, REFUSAL);
-    return refused(told.code, told.error);
+    return refused(told.code, told.error, request);
   }
   throw new NoAnswer("a line came that doesn't say `ok`");
 }

@@ -1,5 +1,6 @@
 /** A session of a daemon, over connections of any kind. */
 
+import { after, check } from "./milliseconds.js";
 import { Ended, NoDaemon } from "./refusals.js";
 import { Session } from "./session.js";
 
@@ -12,10 +13,11 @@ const PATIENCE = 10_000;
  */
 
 /**
- * `patience`: milliseconds until somebody who listens has to have answered first; `timeout`: those without a byte while an
- * answer is due, or null for no limit; `retry`: those without an answer for which a daemon is looked for, 10,000 unless it
- * is given, or null to send nothing twice and give edits no token, as where another file may come to the port.
- * @typedef {{patience?: number, timeout?: number | null, retry?: number | null}} Options
+ * `patience`: milliseconds until somebody who listens has to have answered first, or null for no limit; `timeout`: those
+ * without a byte while an answer is due, or null for no limit; `retry`: those without an answer for which a daemon is looked
+ * for, 10,000 unless it is given, or null to send nothing twice and give edits no token, as where another file may come to
+ * the port. Each may be infinite.
+ * @typedef {{patience?: number | null, timeout?: number | null, retry?: number | null}} Options
  */
 
 /**
@@ -25,14 +27,10 @@ const PATIENCE = 10_000;
  * @param {Options} options
  */
 export async function connectBy(begin, nobody, { patience = PATIENCE, timeout, retry }) {
-  const again = () => placed(begin(), nobody, patience, timeout);
-  const begun = await again();
-  try {
-    return new Session(begun, retry === null ? { timeout } : { timeout, again, retry });
-  } catch (error) {
-    begun.abandon();
-    throw error;
-  }
+  // Before there is a connection: it would keep a place.
+  check({ patience, timeout, retry });
+  const again = () => placed(begin(), nobody, patience ?? Infinity, timeout);
+  return new Session(await again(), { timeout, again, retry });
 }
 
 /**
@@ -43,7 +41,7 @@ export async function connectBy(begin, nobody, { patience = PATIENCE, timeout, r
  * @param {number | null | undefined} timeout
  */
 async function placed(begun, nobody, patience, timeout) {
-  const timer = setTimeout(() => begun.abandon(), patience);
+  const callOff = after(patience, () => begun.abandon());
   try {
     // A daemon without a place for this session says so in place of the answer.
     await new Session(begun, { timeout }).send({ op: "status" });
@@ -51,7 +49,7 @@ async function placed(begun, nobody, patience, timeout) {
     begun.abandon();
     throw error instanceof Ended ? new NoDaemon(nobody(begun.fault)) : error;
   } finally {
-    clearTimeout(timer);
+    callOff();
   }
   return begun;
 }

@@ -1,10 +1,13 @@
 /** A document of a session. */
 
+import { needDigest, tokenAfter } from "./again.js";
 import { keyOf } from "./marks.js";
 import { Reading } from "./reading.js";
 import { Stale } from "./refusals.js";
+import { LONGEST, isWhole } from "./rules.js";
 
 /**
+ * @typedef {import("./again.js").Request} Request
  * @typedef {import("./marks.js").Mark} Mark
  * @typedef {import("./marks.js").Span} Span
  */
@@ -15,6 +18,10 @@ import { Stale } from "./refusals.js";
  * has to have read.
  *
  * Each edit answers the document's new `rev` once it is settled on the disk: it then outlives a power cut.
+ *
+ * An edit is of at most 256 characters. A longer `insert` or `delete` goes as several edits, each of which is answered
+ * before the next one is sent. If anybody edits the document in between, the next one is `Stale`, and those before it are
+ * made. The tokens of all but the first follow from the one that is given.
  */
 export class Document {
   /**
@@ -27,25 +34,25 @@ export class Document {
   }
 
   /**
-   * Puts 1 to 256 characters before the one at a place, or at the end.
+   * Puts characters before the one at a place, or at the end.
    * @param {number} at
    * @param {string} text
    * @param {number} [rev]
    * @param {string} [token]
    */
   insert(at, text, rev, token) {
-    return this.edit({ op: "insert", at, text }, rev, token);
+    return this.#editAll(pieces(at, text), rev, token);
   }
 
   /**
-   * Takes away 1 to 256 characters from a place on.
+   * Takes characters away from a place on.
    * @param {number} at
    * @param {number} count
    * @param {number} [rev]
    * @param {string} [token]
    */
   delete(at, count, rev, token) {
-    return this.edit({ op: "delete", at, count }, rev, token);
+    return this.#editAll(stretches(at, count), rev, token);
   }
 
   /**
@@ -86,6 +93,43 @@ export class Document {
     return answer.rev;
   }
 
+  /**
+   * Makes edits one after the other, and gives the last answer.
+   * @param {Generator<Request, void>} edits
+   * @param {number} [rev]
+   * @param {string} [token]
+   * @returns {Promise<number>}
+   */
+  async #editAll(edits, rev, token) {
+    const first = /** @type {Request} */ (edits.next().value);
+    let next = edits.next();
+    if (!next.done && token !== undefined) needDigest();
+    // This one is sent at once, in its order among other calls.
+    let last = await this.edit(first, rev, token);
+    for (let made = LONGEST; !next.done; made += LONGEST) {
+      last = await this.#editNext(next.value, last, token && (await tokenAfter(token, String(made))));
+      next = edits.next();
+    }
+    return last;
+  }
+
+  /**
+   * Makes an edit after one that was answered with this `rev`. If it is `Stale` for a lost connection alone, it is sent anew.
+   * @param {Request} fields
+   * @param {number} rev
+   * @param {string} [token]
+   * @returns {Promise<number>}
+   */
+  async #editNext(fields, rev, token) {
+    for (;;) {
+      try {
+        return await this.edit(fields, rev, token);
+      } catch (error) {
+        if (!(error instanceof Stale) || (await this.rev()) !== rev) throw error;
+      }
+    }
+  }
+
   /** The text. */
   async text() {
     return (await this.read()).text;
@@ -114,5 +158,33 @@ export class Document {
   /** How many operations the document has. */
   async rev() {
     return (await this.read()).rev;
+  }
+}
+
+/**
+ * The edits that put a text in. What can't be put in is refused as it is.
+ * @param {number} at
+ * @param {string} text
+ */
+function* pieces(at, text) {
+  const isCut = isWhole(at, 0) && typeof text === "string" && text !== "" && !/\p{Surrogate}/u.test(text);
+  const characters = isCut ? [...text] : [];
+  if (!isCut) yield { op: "insert", at, text };
+  for (let first = 0; first < characters.length; first += LONGEST) {
+    yield { op: "insert", at: at + first, text: characters.slice(first, first + LONGEST).join("") };
+  }
+}
+
+/**
+ * The edits that take a stretch away, from its end on: if that is past the end of the text, nothing is taken away.
+ * @param {number} at
+ * @param {number} count
+ */
+function* stretches(at, count) {
+  const isCut = isWhole(at, 0) && isWhole(count, 1);
+  if (!isCut) yield { op: "delete", at, count };
+  for (let end = isCut ? count : 0; end > 0; end -= LONGEST) {
+    const first = Math.max(end - LONGEST, 0);
+    yield { op: "delete", at: at + first, count: end - first };
   }
 }

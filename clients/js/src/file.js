@@ -4,6 +4,7 @@ import { spawn } from "node:child_process";
 import { randomUUID } from "node:crypto";
 
 import { Lines } from "./lines.js";
+import { check } from "./milliseconds.js";
 import { Ended, refused } from "./refusals.js";
 import { Session } from "./session.js";
 
@@ -81,6 +82,8 @@ export class FileSession extends Session {
    * @param {{timeout?: number | null}} options
    */
   constructor(program, file, options) {
+    // Before the program runs: it would keep the file.
+    check(options);
     const child = new Child(program, ["edit", file]);
     super(child, options);
     this.#child = child;

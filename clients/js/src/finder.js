@@ -1,6 +1,7 @@
 /** Where a session goes on whose transport has ended. */
 
 import { hasMade, isEdit } from "./again.js";
+import { after } from "./milliseconds.js";
 import { Ended, Refused } from "./refusals.js";
 
 /**
@@ -35,7 +36,6 @@ export class Finder {
    * @param {(transport: Transport) => Session} begin a session to ask with
    */
   constructor(again, retry, begin) {
-    if (!(retry > 0)) throw new RangeError(`retry is ${retry}; it has to be more than 0 milliseconds`);
     this.#again = again;
     this.#retry = retry;
     this.#begin = begin;
@@ -95,19 +95,18 @@ function pause(time) {
  */
 async function within(promised, time, letGo = () => {}) {
   let isLate = false;
-  /** @type {NodeJS.Timeout | number | undefined} */
-  let timer;
+  let callOff = () => {};
   const tooLate = new Promise((done) => {
-    timer = setTimeout(() => {
+    callOff = after(time, () => {
       isLate = true;
       done(undefined);
-    }, time);
+    });
   });
   const came = promised.then((it) => (isLate ? letGo(it) : it)).catch(() => undefined);
   try {
     return /** @type {T | undefined} */ (await Promise.race([came, tooLate]));
   } finally {
-    clearTimeout(timer);
+    callOff();
   }
 }
 

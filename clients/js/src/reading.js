@@ -19,7 +19,7 @@ export class Reading {
   }
 
   /**
-   * Puts 1 to 256 characters in at an index.
+   * Puts characters in at an index.
    * @param {number} index
    * @param {string} text
    */
@@ -29,7 +29,7 @@ export class Reading {
   }
 
   /**
-   * Takes away the 1 to 256 characters from an index up to another.
+   * Takes away the characters from an index up to another.
    * @param {number} from
    * @param {number} to
    */

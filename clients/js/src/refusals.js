@@ -1,5 +1,7 @@
 /** What the program answers in place of a result. */
 
+import { broken, isLong } from "./rules.js";
+
 const LINE = "the line is no request of docs/PROTOCOL.md; mend what made it";
 const BYTES = "the file isn't what this program wrote; keep a copy, and go on from a peer with a new replica";
 
@@ -14,7 +16,7 @@ const ADVICE = {
   4: "a value breaks its rule, as that of a UUID, of a document's number or of a form, or an older program doesn't know a field; mend what wrote it",
   5: "there is no such place in the text; read it anew",
   6: "the document has moved on; read it anew, and make the edit for what is there",
-  7: "at most 256 characters in one request; else the file has reached a limit, and can only be read",
+  7: "at most 256 characters in one edit; else the file is full (docs/OPERATING.md, Limits), and can still be read",
   8: "too much waits, or all places for sessions are taken; try again a little later",
   9: "the device failed, and an edit that wasn't answered may be there or not; end the program, look at the disk, open again",
   10: "a million steps since opening; connect again if the daemon opens its file anew, else end the program and start it again",
@@ -34,6 +36,30 @@ const ADVICE = {
   71: "standard input or output failed; look at the other end of the pipe",
 };
 
+/** What is said in place of these, as far as the request tells the cause. */
+const MEND = "mend what wrote it";
+const FULL = "the file has all the operations, records, documents or replicas that it may have (docs/OPERATING.md, Limits), and can still be read";
+const LONG = "at most 256 characters in one edit; send it in parts";
+const TOKEN = "an older program knows no `token`; start one that is as new as this client";
+
+/**
+ * Why, and what to do, after a refusal of a request, if that is known.
+ * @param {number} number
+ * @param {import("./rules.js").Request} [request]
+ */
+function sentence(number, request) {
+  if (number === 4 && request !== undefined) return ofFields(request);
+  if (number === 7 && request !== undefined) return isLong(request) ? LONG : FULL;
+  return ADVICE[number];
+}
+
+/** @param {import("./rules.js").Request} request */
+function ofFields(request) {
+  const faults = broken(request);
+  if (faults.length > 0) return `${faults.join(", ")}; ${MEND}`;
+  return request.token === undefined ? ADVICE[4] : TOKEN;
+}
+
 /**
  * A request that was refused: its number and its word. Nothing was changed, except where the number is 9: then the
  * device failed, and whether the edit is there is known once the file is opened again.
@@ -42,9 +68,10 @@ export class Refused extends Error {
   /**
    * @param {number} number
    * @param {string} word
+   * @param {import("./rules.js").Request} [request]
    */
-  constructor(number, word) {
-    const advice = ADVICE[number];
+  constructor(number, word, request) {
+    const advice = sentence(number, request);
     super(advice === undefined ? `${number} ${word}` : `${number} ${word}: ${advice}`);
     this.name = new.target.name;
     this.number = number;
@@ -84,7 +111,8 @@ export class NoDaemon extends Error {
  * The error for a refusal.
  * @param {number} number
  * @param {string} word
+ * @param {import("./rules.js").Request} [request]
  */
-export function refused(number, word) {
-  return number === 6 ? new Stale(number, word) : new Refused(number, word);
+export function refused(number, word, request) {
+  return number === 6 ? new Stale(number, word, request) : new Refused(number, word, request);
 }

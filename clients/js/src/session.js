@@ -4,6 +4,7 @@ import { isEdit, repeated, withToken } from "./again.js";
 import { NoAnswer, answerOf } from "./answers.js";
 import { Document } from "./document.js";
 import { Finder, RETRY, cut } from "./finder.js";
+import { check } from "./milliseconds.js";
 import { Ended, Refused } from "./refusals.js";
 import { Silence, TIMEOUT } from "./silence.js";
 
@@ -41,7 +42,7 @@ const STEPS = 10;
  *
  * With `again` it outlives its transport: what wasn't answered is sent again over another one, in its order and before
  * anything else. Each edit has a token, under which the file makes it once. `again` tries once to reach the same file; it
- * is called again and again, for `retry` milliseconds without an answer.
+ * is called again and again, for `retry` milliseconds without an answer; with null nothing is sent twice.
  */
 export class Session {
   /** @type {Transport} */
@@ -77,12 +78,13 @@ export class Session {
 
   /**
    * @param {Transport} transport
-   * @param {{timeout?: number | null, again?: () => Promise<Transport>, retry?: number}} options
+   * @param {{timeout?: number | null, again?: () => Promise<Transport>, retry?: number | null}} options
    */
   constructor(transport, { timeout = TIMEOUT, again, retry = RETRY } = {}) {
+    check({ timeout, retry });
     this.#timeout = timeout;
     this.#silence = new Silence(timeout, () => this.#fallSilent());
-    if (again !== undefined) this.#finder = new Finder(again, retry, (other) => new Session(other, { timeout }));
+    if (again !== undefined && retry !== null) this.#finder = new Finder(again, retry, (other) => new Session(other, { timeout }));
     this.#end = new Promise((resolve) => (this.#ended = resolve));
     this.#transport = this.#joined(transport);
   }
@@ -254,7 +256,7 @@ export class Session {
     const [owed] = this.#waiting;
     if (owed === undefined) throw new NoAnswer("a line came that nobody asked for");
     // It waits on until this is known to be its answer.
-    const told = answerOf(line, owed.request.op);
+    const told = answerOf(line, owed.request);
     this.#waiting.shift();
     const isPutOff = this.#puts(owed, told);
     if (isPutOff) this.#putOff.push(owed);

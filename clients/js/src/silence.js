@@ -1,13 +1,12 @@
 /** How long nothing comes while something is due. */
 
+import { LONGEST } from "./milliseconds.js";
+
 /** Milliseconds without a byte, unless the caller says otherwise. */
 export const TIMEOUT = 30_000;
 
 /** Milliseconds for a second look: if this program itself stood still, what came meanwhile is read first. */
 const MOMENT = 100;
-
-/** A timer of more would end at once. */
-const LONGEST = 2 ** 31 - 1;
 
 /** Tells once that for so long something was due and no byte came. */
 export class Silence {
@@ -27,9 +26,6 @@ export class Silence {
    * @param {() => void} tell
    */
   constructor(timeout, tell) {
-    if (timeout !== null && !(timeout > 0)) {
-      throw new RangeError(`timeout is ${timeout}; it has to be more than 0 milliseconds, or null for no limit`);
-    }
     this.#timeout = timeout ?? Infinity;
     this.#tell = tell;
   }

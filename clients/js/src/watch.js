@@ -2,6 +2,7 @@
 
 import { NoAnswer, answerOf } from "./answers.js";
 import { RETRY, cut } from "./finder.js";
+import { check } from "./milliseconds.js";
 import { Ended, Refused } from "./refusals.js";
 
 /** The refusal of a daemon that has no place. */
@@ -24,7 +25,7 @@ const PAUSE = 50;
  */
 export class Watch {
   #begin;
-  #line;
+  #request;
   #retry;
   #newest = -1;
   #given = -1;
@@ -49,8 +50,9 @@ export class Watch {
    *   it is given, or null not to look
    */
   constructor(begin, document, { retry = RETRY } = {}) {
+    check({ retry });
     this.#begin = begin;
-    this.#line = JSON.stringify({ op: "watch", doc: document });
+    this.#request = { op: "watch", doc: document };
     this.#retry = retry ?? 0;
     this.#run().catch((error) => this.#finish(error));
   }
@@ -142,7 +144,7 @@ export class Watch {
         end();
       };
       try {
-        transport.send(this.#line);
+        transport.send(JSON.stringify(this.#request));
       } catch {
         cut(transport);
         end();
@@ -156,7 +158,7 @@ export class Watch {
    */
   #isTaken(line) {
     try {
-      const told = answerOf(line, "watch");
+      const told = answerOf(line, this.#request);
       if (!(told instanceof Refused)) return this.#isNext(told.rev);
       // A place may come again where there was one.
       if (told.number !== BUSY || this.#newest < 0) this.#finish(told);

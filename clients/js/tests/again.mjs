@@ -64,6 +64,24 @@ test("all that is under way is made once, in its order, and before anything else
     await session.close();
   }));
 
+test("a long text and a long stretch go on over lost connections, and are made once", () =>
+  withStores(async (port, over) => {
+    const session = await connect(port);
+    const document = session.document(1);
+    const long = [...Array(1_000).keys()].map((number) => String.fromCodePoint(0x1f300 + number)).join("");
+    over.loses = numbered(1, 3, 4, 9);
+    assert.equal(await soon(document.insert(0, long)), 1_000);
+    assert.equal(await document.text(), long);
+    over.loses = numbered(0, 2, 5);
+    assert.equal(await soon(document.delete(100, 800)), 1_800);
+    assert.equal(await document.text(), toText(long, 0, 100) + toText(long, 900, 1_000));
+    await session.close();
+  }));
+
+function toText(long, from, to) {
+  return [...long].slice(from, to).join("");
+}
+
 test("readings that were lost are asked for again", () =>
   withStores(async (port, over) => {
     const session = await connect(port);

@@ -33,6 +33,89 @@ test("a reading's edits are counted in units and follow each other", async () =>
   await assert.rejects(reading.insert(2, "x"), RangeError);
 });
 
+/** A document over a store, and the requests that are sent to it. */
+function documentOver(store = new Store()) {
+  const transport = store.session();
+  const sent = [];
+  const { send } = transport;
+  transport.send = (line) => {
+    sent.push(JSON.parse(line));
+    send.call(transport, line);
+  };
+  return { document: new Session(transport).document(1), sent };
+}
+
+test("a long text and a long stretch go as several edits", async () => {
+  const { document, sent } = documentOver();
+  const long = "a😀".repeat(400);
+  assert.equal(await document.insert(0, "()"), 2);
+  assert.equal(await document.insert(1, long, 2), 802);
+  assert.equal(await document.text(), `(${long})`);
+  assert.deepEqual(sent.slice(1, 5).map(({ at, rev }) => [at, rev]), [[1, 2], [257, 258], [513, 514], [769, 770]]);
+  assert.equal(await document.delete(1, 800), 1602);
+  assert.deepEqual(sent.slice(6).map(({ at, count, rev }) => [at, count, rev]), [[545, 256, undefined], [289, 256, 1058], [33, 256, 1314], [1, 32, 1570]]);
+  assert.equal(await document.text(), "()");
+  let reading = await document.read();
+  reading = await reading.insert(1, long);
+  assert.deepEqual([reading.text, reading.rev], [`(${long})`, 2402]);
+  reading = await reading.delete(1, 1 + long.length);
+  assert.deepEqual([reading.text, reading.rev], ["()", 3202]);
+  assert.equal(await document.text(), "()");
+});
+
+test("what can't be made whole is refused whole", async () => {
+  const { document } = documentOver();
+  const rev = await document.insert(0, "x".repeat(590));
+  await assert.rejects(document.delete(0, 600), { number: 5 });
+  await assert.rejects(document.delete(-10, 600), { number: 4 });
+  await assert.rejects(document.delete(0.5, 300), { number: 4 });
+  await assert.rejects(document.insert(591, "x".repeat(600)), { number: 5 });
+  await assert.rejects(document.insert(-1, "x".repeat(600)), { number: 4 });
+  await assert.rejects(document.insert(0, `${"x".repeat(300)}\ud800`), { number: 2 });
+  await assert.rejects(document.insert(0, `${"x".repeat(255)}\ude00`), { number: 2 });
+  await assert.rejects(document.insert(0, ""), { number: 4 });
+  assert.deepEqual([await document.text(), await document.rev()], ["x".repeat(590), rev]);
+});
+
+test("an edit in the middle of a long call makes it stale", async () => {
+  const { document } = documentOver();
+  const long = document.insert(0, "x".repeat(300));
+  const other = document.insert(0, "y");
+  await assert.rejects(long, Stale);
+  assert.equal(await other, 257);
+  assert.equal(await document.text(), `y${"x".repeat(256)}`);
+  const stretch = document.delete(0, 257);
+  await document.insert(0, "z");
+  await assert.rejects(stretch, Stale);
+  assert.equal(await document.text(), "zy");
+});
+
+test("the tokens of a long call follow from the one that is given", async () => {
+  const tokens = ["00000000-0000-4000-8000-0000000000d1", "aea89127-c0ba-58bc-b97e-f85132f6a51d"];
+  const calls = [(document, token) => document.insert(0, "x".repeat(300), undefined, token), (document, token) => document.delete(0, 300, undefined, token)];
+  const store = new Store();
+  new Session(store.session()).document(1).insert(0, "x".repeat(256));
+  for (const [place, call] of calls.entries()) {
+    const { document, sent } = documentOver(place === 0 ? new Store() : store);
+    if (place === 1) await document.insert(0, "x".repeat(44));
+    const rev = await call(document, tokens[0]);
+    assert.deepEqual(sent.slice(-2).map(({ token }) => token), tokens);
+    // The whole call may be sent again, and makes nothing then.
+    assert.equal(await call(document, tokens[0]), rev);
+    assert.equal(await document.rev(), rev);
+  }
+});
+
+test("without digests a long call with a token is refused", async (context) => {
+  context.mock.getter(crypto, "subtle", () => undefined);
+  const { document, sent } = documentOver();
+  const token = "00000000-0000-4000-8000-0000000000d1";
+  await assert.rejects(document.insert(0, "x".repeat(300), undefined, token), { name: "TypeError", message: /only over HTTPS or from localhost/ });
+  assert.deepEqual(sent, []);
+  assert.equal(await document.insert(0, "x".repeat(256), undefined, token), 256);
+  assert.equal(await document.insert(0, "x".repeat(300)), 556);
+});
+
 test("a reading of a text that has moved on is stale", async () => {
   const document = new Session(new Store().session()).document(1);
   const reading = await document.read();
@@ -59,6 +142,28 @@ test("a refusal has its number and word", async () => {
   await document.insert(0, "a");
   await assert.rejects(document.insert(0, "b", 0), { name: "Stale", number: 6 });
   await document.insert(0, "c");
+});
+
+test("a refusal says what it is about", async () => {
+  const session = new Session(new Store().session());
+  const whole = "has to be a whole number from";
+  const words = (fields) => session.send(fields).then(assert.fail, ({ message }) => message);
+  for (const [fields, about] of [
+    [{ doc: 0, at: 0, text: "a" }, `\`doc\` ${whole} 1 to 4294967295; mend`],
+    [{ doc: 1, at: -1, text: "" }, `\`at\` ${whole} 0 to 4294967295, \`text\` has to be a text of at least one character; mend`],
+    [{ doc: 1, at: 0 }, "`text` has to be"],
+    [{ doc: 1, at: 0, text: "a", token: "00000000-0000-0000-0000-000000000000" }, "`token` has to be a UUID other than the nil one"],
+    [{ doc: 1, at: undefined, text: "a", kind: "em" }, `\`at\` ${whole} 0 to 4294967295, \`kind\` is no field of this request`],
+  ]) {
+    const message = await words({ op: "insert", ...fields });
+    assert(message.startsWith(`4 field: ${about}`), message);
+  }
+  await session.document(1).insert(0, "x");
+  assert.match(await words({ op: "insert", doc: 1, at: 0, text: "x".repeat(257) }), /^7 limit: at most 256 characters in one edit; send it in parts$/);
+  const edit = { op: "delete", doc: 1, at: 0, count: 1, token: COMMENT };
+  assert.match(new Refused(7, "limit", edit).message, /^7 limit: the file has all the operations, records, documents or replicas that it may have/);
+  assert.match(new Refused(4, "field", edit).message, /an older program knows no `token`/);
+  assert.match(new Refused(4, "field", { op: "mark", doc: 1, from: 0, to: 1, ...link("") }).message, /`url` has to be a text of 1 to 1024 bytes; mend/);
 });
 
 test("requests under way are answered in order", async () => {

@@ -1,4 +1,4 @@
-// The examples of README.md, run as they stand: over the program that PERITEXT names, or else over its model.
+// The examples of README.md, and the one of the first page, run as they stand: over the program that PERITEXT names, or else over its model.
 
 import assert from "node:assert/strict";
 import { existsSync, mkdirSync, readFileSync, symlinkSync } from "node:fs";
@@ -10,9 +10,13 @@ import { Session } from "peritext";
 import { Store } from "./fake.mjs";
 import { LIBRARIES, MODEL, View, library, plainSchema, prosemirror, withFile } from "./support.mjs";
 
-const page = readFileSync(new URL("../README.md", import.meta.url), "utf8");
-const examples = [...page.matchAll(/^```js\n(.*?)^```$/gms)].map(([, code]) => code);
+const examples = examplesOf("../README.md");
 const AsyncFunction = (async () => {}).constructor;
+
+function examplesOf(name) {
+  const page = readFileSync(new URL(name, import.meta.url), "utf8");
+  return [...page.matchAll(/^```js\n(.*?)^```$/gms)].map(([, code]) => code);
+}
 
 /** Runs an example, and gives what it exports and what it printed. */
 async function run(code, exported = "undefined") {
@@ -59,6 +63,13 @@ test("the second example converts places", () =>
   withProgram(async () => {
     const { printed } = await run(examples[1]);
     assert.deepEqual(printed, [["😀 The quick red fox"]]);
+  }));
+
+test("the example of the first page prints the text", () =>
+  withProgram(async () => {
+    const [code, ...more] = examplesOf("../../../README.md");
+    assert.equal(more.length, 0);
+    assert.deepEqual((await run(code)).printed, [["The quick fox"]]);
   }));
 
 const skip = existsSync(`${LIBRARIES}/prosemirror-state`) ? false : "node-prosemirror-state isn't installed";

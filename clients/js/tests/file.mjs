@@ -55,12 +55,28 @@ test("a reading converts places", () =>
     await assert.rejects(reading.insert(0, "y"), Stale);
   }));
 
+test("a long text and a long stretch go as several edits, once under a token", () =>
+  withSession(async (session) => {
+    const text = session.document(1);
+    const long = "ä😀".repeat(400);
+    const token = "00000000-0000-4000-8000-0000000000d1";
+    for (const rev of [800, 800]) assert.equal(await text.insert(0, long, undefined, token), rev);
+    let reading = await text.read();
+    assert.equal(reading.text, long);
+    await assert.rejects(text.delete(1, 800), { number: 5 });
+    await assert.rejects(text.insert(0, `${long}\ud800`), { number: 2, word: "syntax" });
+    reading = await reading.delete(0, 900);
+    assert.equal(await text.text(), reading.text);
+    assert.equal(await text.delete(0, 200), 1_600);
+  }));
+
 test("refusals have number and word", () =>
   withSession(async (session) => {
     const text = session.document(1);
     await text.insert(0, "ab");
     await assert.rejects(text.insert(3, "x"), { number: 5, word: "range" });
-    await assert.rejects(text.insert(0, "x".repeat(257)), { number: 7, word: "limit" });
+    await assert.rejects(session.send({ op: "insert", doc: 1, at: 0, text: "x".repeat(257) }), { number: 7, word: "limit", message: /in one edit; send it in parts/ });
+    await assert.rejects(session.send({ op: "insert", doc: 0, at: 0, text: "x" }), { number: 4, message: /`doc` has to be a whole number from 1/ });
     await assert.rejects(text.insert(0, ""), { number: 4, word: "field" });
     await assert.rejects(text.insert(0, "\ud800"), { number: 2, word: "syntax" });
     await assert.rejects(session.send({ op: "sing" }), { number: 3, word: "request" });

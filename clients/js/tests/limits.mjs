@@ -3,8 +3,9 @@
 import assert from "node:assert/strict";
 import { test } from "node:test";
 
-import { Ended, Session, connect, open } from "peritext";
+import { Ended, Session, Watch, connect, connectWeb, open, watch, watchWeb } from "peritext";
 
+import { after } from "../src/milliseconds.js";
 import { Store } from "./fake.mjs";
 import { withFile } from "./support.mjs";
 import { STATUS, asked, pause, programOf, soon, withTalk } from "./talk.mjs";
@@ -53,6 +54,62 @@ test("it is half a minute unless it is said", async (context) => {
 test("a limit is more than nothing", () => {
   for (const timeout of [0, -1, NaN]) assert.throws(() => new Session(new Store().session(), { timeout }), RangeError);
 });
+
+test("what is no time is refused at the call", async () => {
+  const calls = {
+    timeout: [connect, connectWeb, (_, options) => open("no file", { program: "no program", ...options }), sessionOf],
+    patience: [connect, connectWeb],
+    retry: [connect, connectWeb, sessionOf, (port, options) => watch(port, 1, options), (port, options) => watchWeb(port, 1, options)],
+  };
+  const wrong = [[0, RangeError], [-1, RangeError], [NaN, RangeError], ["10", TypeError], [true, TypeError], [{}, TypeError], [10n, TypeError]];
+  let asked = 0;
+  await withTalk(() => (asked += 1), async (port) => {
+    for (const [name, all] of Object.entries(calls)) {
+      for (const call of all) {
+        for (const [value, kind] of wrong) {
+          const isTold = (error) => error instanceof kind && error.message.startsWith(`${name} is `) && error.message.includes("; it has to be ");
+          await assert.rejects(async () => call(port, { [name]: value }), isTold, `${call} ${name} ${String(value)}`);
+        }
+      }
+    }
+  });
+  assert.equal(asked, 0);
+  await assert.rejects(async () => new Watch(() => assert.fail(), 1, { retry: "10" }), { message: /^retry is "10"; it has to be a number of milliseconds/ });
+});
+
+function sessionOf(_, options) {
+  return new Session(new Store().session(), options);
+}
+
+test("a time may be longer than a timer can be", async (context) => {
+  for (const time of [2 ** 31, 1e300, Infinity]) {
+    const talk = async (socket, lines) => {
+      await asked(lines, 1);
+      await pause(20);
+      socket.write(LINE);
+    };
+    const work = async (port) => {
+      const session = await connect(port, { patience: time, timeout: time, retry: time });
+      // The second one goes over another connection.
+      for (const text of ["abc", "abc"]) assert.equal(await soon(session.document(1).text()), text);
+      await soon(session.close());
+    };
+    await withTalk(talk, work, 20);
+    const found = new Watch(() => pause(20).then(() => new Store().session()), 1, { retry: time });
+    await assert.rejects(soon(found.next()), { number: 3 });
+  }
+  context.mock.timers.enable({ apis: ["setTimeout"] });
+  let isOver = false;
+  after(2 ** 31 + 9, () => (isOver = true));
+  context.mock.timers.tick(2 ** 31 - 1);
+  context.mock.timers.tick(9);
+  assert.equal(isOver, false);
+  context.mock.timers.tick(1);
+  assert.equal(isOver, true);
+});
+
+test("null is no limit for the first answer", () =>
+  withTalk(asked, async (port) => (await connect(port, { patience: null })).close(), 20));
 
 test("silence ends the session for all who wait", () =>
   withSession(silent, async (session) => {

@@ -8,14 +8,18 @@ import { createInterface } from "node:readline";
 
 export const STATUS = '{"applied":0,"ok":true,"settled":0,"state":"open"}';
 
-/** Runs a test with the port of a daemon that greets each session, and has `talk` speak to it before it ends the connection. */
-export async function withTalk(talk, work) {
+/**
+ * Runs a test with the port of a daemon that greets each session, after so many milliseconds, and has `talk` speak to it
+ * before it ends the connection.
+ */
+export async function withTalk(talk, work, after = 0) {
   const sockets = new Set();
   const server = createServer({ allowHalfOpen: true, noDelay: true }, async (socket) => {
     sockets.add(socket);
     socket.on("error", () => {});
     const lines = createInterface({ input: socket })[Symbol.asyncIterator]();
     await lines.next();
+    if (after > 0) await pause(after);
     socket.write(`${STATUS}\n`);
     await talk(socket, lines);
     socket.end();

@@ -172,6 +172,47 @@ class MadeAndLost(WithFile):
         self.assertLess(len(connections), 15)
 
 
+class Parts(WithFile):
+    """Calls that are several edits."""
+
+    def over(self, answers, read):
+        """A document of a daemon that answers its edits so, and its readings with this `rev`; and what was sent there."""
+        sent = []
+
+        def talk(connection, lines):
+            for line in lines:
+                request = json.loads(line)
+                sent.append(request)
+                connection.sendall(answers.pop(0) if request["op"] != "text" else b'{"ok":true,"rev":%d,"text":""}\n' % read)
+
+        daemon = FakeDaemon(talk)
+        self.addCleanup(daemon.close)
+        session = peritext.connect(daemon.port)
+        self.addCleanup(session.close)
+        return session.document(1), sent
+
+    def test_each_part_names_the_rev_of_the_one_before(self):
+        answers = [b'{"ok":true,"rev":%d}\n' % rev for rev in (300, 310, 311)]
+        text, sent = self.over(answers, 0)
+        self.assertEqual(text.delete(7, 600), 311)
+        self.assertEqual([(edit["at"], edit["count"], edit.get("rev")) for edit in sent], [(351, 256, None), (95, 256, 300), (7, 88, 310)])
+        self.assertEqual(len({edit["token"] for edit in sent}), 3)
+
+    def test_an_edit_of_another_session_in_the_middle_is_stale(self):
+        for call in (lambda text: text.insert(0, "x" * 600), lambda text: text.delete(0, 600)):
+            text, sent = self.over([b'{"ok":true,"rev":256}\n', b'{"code":6,"error":"stale","ok":false}\n'], 257)
+            with self.assertRaises(peritext.Stale):
+                call(text)
+            self.assertEqual([request.get("rev") for request in sent], [None, 256, None])
+
+    def test_the_tokens_of_the_parts_follow_from_the_one_that_is_given(self):
+        tokens = [str(TOKEN), "aea89127-c0ba-58bc-b97e-f85132f6a51d"]
+        for call in (lambda text: text.insert(0, "x" * 300, token=TOKEN), lambda text: text.delete(0, 300, token=str(TOKEN))):
+            text, sent = self.over([b'{"ok":true,"rev":256}\n', b'{"ok":true,"rev":300}\n'], 0)
+            self.assertEqual(call(text), 300)
+            self.assertEqual([edit["token"] for edit in sent], tokens)
+
+
 class Tokens(WithFile):
     def test_a_token_acts_once_across_sessions(self):
         for _ in range(2):
@@ -182,7 +223,8 @@ class Tokens(WithFile):
                 self.assertEqual(text.mark(0, 1, peritext.EM, token=UUID(int=8)), 602)
                 self.assertEqual(text.unmark(0, 1, peritext.EM, token=UUID(int=9)), 603)
                 self.assertEqual(text.delete(0, 1, token=UUID(int=10)), 604)
-                self.assertEqual(text.read(), ("x" * 599 + "a", 604))
+                self.assertEqual(text.delete(0, 590, token=UUID(int=11)), 1194)
+                self.assertEqual(text.read(), ("x" * 9 + "a", 1194))
 
     def test_a_refused_edit_leaves_no_token(self):
         with self.open() as opened:

@@ -183,7 +183,9 @@ class Examples(WithDaemon):
     def test_the_examples_of_the_docs_are_so(self):
         result = doctest.testmod(daemon, extraglobs={"port": self.daemon.port})
         self.assertEqual((result.failed, result.attempted > 0), (0, True))
-        self.assertEqual(doctest.testmod(peritext.refusals).failed, 0)
+        for module in (peritext.answers, peritext.refusals, peritext.rules, peritext.seconds):
+            result = doctest.testmod(module)
+            self.assertEqual((result.failed, result.attempted > 0), (0, True))
 
     def test_the_example_of_the_page_is_so(self):
         with open(os.path.join(CLIENT, "README.md"), encoding="utf-8") as page:

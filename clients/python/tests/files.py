@@ -55,6 +55,28 @@ class Edits(WithFile):
                 text.insert(1, long, 1_257)
             self.assertEqual(text.rev(), 1_258)
 
+    def test_a_long_stretch_is_taken_away_by_several_edits(self):
+        with self.open() as opened:
+            text = opened.document(1)
+            rev = text.insert(0, "(" + "ä" * 1_000 + ")")
+            self.assertEqual(text.delete(1, 1_000, rev), 2_002)
+            self.assertEqual(text.text(), "()")
+            self.assertEqual(text.insert(1, "x" * 600), 2_602)
+            self.assertEqual(text.delete(1, 600), 3_202)
+            self.assertEqual(text.read(), ("()", 3_202))
+
+    def test_what_can_t_be_made_whole_is_refused_whole(self):
+        with self.open() as opened:
+            text = opened.document(1)
+            rev = text.insert(0, "x" * 590)
+            self.assertEqual(self.refusal(text.delete, 0, 600), (5, "range"))
+            self.assertEqual(self.refusal(text.delete, -10, 600), (4, "field"))
+            self.assertEqual(self.refusal(text.insert, 591, "x" * 600), (5, "range"))
+            self.assertEqual(self.refusal(text.insert, -1, "x" * 600), (4, "field"))
+            with self.assertRaises(UnicodeEncodeError):
+                text.insert(0, "x" * 300 + "\ud800")
+            self.assertEqual(text.read(), ("x" * 590, rev))
+
     def test_an_empty_text_is_no_request(self):
         with self.open() as opened:
             with self.assertRaises(ValueError):
@@ -86,6 +108,31 @@ class Refusals(WithFile):
             text.insert(0, "c", rev)
             with self.assertRaises(peritext.Stale):
                 text.insert(0, "d", rev)
+
+    def test_a_refusal_says_what_it_is_about(self):
+        whole = "has to be a whole number from"
+        with self.open() as opened:
+            for fields, about in (
+                ({"doc": 0, "at": 0, "text": "a"}, f"`doc` {whole} 1 to 4294967295; mend"),
+                ({"doc": 1, "at": -1, "text": ""}, f"`at` {whole} 0 to 4294967295, `text` has to be a text of at least one character; mend"),
+                ({"doc": 1, "at": 0}, "`text` has to be"),
+                ({"doc": 1, "at": 0, "text": "a", "rev": "1"}, f"`rev` {whole} 0"),
+                ({"doc": 1, "at": 0, "text": "a", "token": str(UUID(int=0))}, "`token` has to be a UUID other than the nil one"),
+                ({"doc": 1, "at": 0, "text": "a", "kind": "em"}, "`kind` is no field of this request"),
+            ):
+                self.assertIn(f"4 field: {about}", self.words(opened, op="insert", **fields))
+            self.assertIn("`url` has to be a text of 1 to 1024 bytes; mend", self.words(opened, op="mark", doc=1, to=1, kind="link", url="", **{"from": 0}))
+            self.assertIn("at most 256 characters in one edit; send it in parts", self.words(opened, op="insert", doc=1, at=0, text="x" * 257))
+            for number in range(1, 1_025):
+                opened.document(number).send_insert(0, "x")
+            self.assertIn("7 limit: the file has all the operations, records, documents", self.words(opened, op="insert", doc=1_025, at=0, text="x"))
+        older = str(peritext.Refused(4, "field", {"op": "delete", "doc": 1, "at": 0, "count": 1, "token": str(UUID(int=7))}))
+        self.assertIn("an older program knows no `token`", older)
+
+    def words(self, session, **fields):
+        with self.assertRaises(peritext.Refused) as caught:
+            session.ask(**fields)
+        return str(caught.exception)
 
     def test_a_file_is_held_by_one_session(self):
         with self.open():

@@ -44,6 +44,31 @@ class OverSockets(Limits):
             with self.assertRaises(ValueError):
                 peritext.connect(port, timeout=timeout)
 
+    def test_what_is_no_time_is_refused_at_the_call(self):
+        asked = []
+        port = self.over(lambda connection, lines: asked.append(1))
+        for call in (peritext.connect, lambda _port, timeout=1, retry=1: peritext.open("file", "no program", timeout)):
+            self.assert_refused(lambda value, call=call: call(port, timeout=value), "timeout")
+        self.assert_refused(lambda value: peritext.connect(port, retry=value), "retry")
+        self.assert_refused(lambda value: peritext.Watch(port, 1, value), "retry")
+        self.assertEqual(asked, [])
+
+    def assert_refused(self, call, name):
+        for value, fault in ((0, ValueError), (-1, ValueError), (float("nan"), ValueError), ("10", TypeError), (True, TypeError), ([], TypeError)):
+            with self.subTest(name=name, value=value), self.assertRaises(fault) as caught:
+                call(value)
+            self.assertIn(f"{name} is {value!r}; it has to be ", str(caught.exception))
+
+    def test_any_number_is_a_time(self):
+        def talk(connection, lines):
+            lines.readline()
+            connection.sendall(LINE)
+
+        for number in (float("inf"), 1e300, 10**400, 2**31, 2 * threading.TIMEOUT_MAX):
+            with self.subTest(number=number), peritext.connect(self.over(talk), timeout=number, retry=number) as session:
+                # The second one goes over another connection.
+                self.assertEqual([session.document(1).text() for _ in range(2)], ["abc", "abc"])
+
     def test_silence_ends_the_session_for_all_who_wait(self):
         port = self.over(lambda connection, lines: list(lines))
         with peritext.connect(port, timeout=SHORT, retry=None) as session:

@@ -4,6 +4,7 @@ import asyncio
 import doctest
 import threading
 import time
+from unittest import mock
 
 import peritext
 from fake import FakeDaemon
@@ -11,6 +12,22 @@ from peritext import daemon
 from support import PATIENCE, Daemon, WithDaemon, retried
 
 STEP = 0.05
+
+
+def soon(revs):
+    """What a watch gives next, or its fault; nothing if it waits."""
+    found = []
+
+    def read():
+        try:
+            found.append(next(revs))
+        except Exception as fault:
+            found.append(fault)
+
+    reader = threading.Thread(target=read, daemon=True)
+    reader.start()
+    reader.join(PATIENCE)
+    return found[0] if found else None
 
 
 class Told(WithDaemon):
@@ -105,6 +122,17 @@ class Again(WithDaemon):
             self.assertEqual(session.document(1).insert(0, "y"), 2)
             self.assertEqual(next(revs), 2)
 
+    def test_it_looks_without_an_end(self):
+        session = self.connect(retry=float("inf"))
+        revs = session.watch(1)
+        self.addCleanup(revs.close)
+        self.assertEqual(next(revs), 0)
+        self.daemon.kill()
+        again = Daemon(self.name, self.daemon.port)
+        self.addCleanup(again.kill)
+        self.assertEqual(session.document(1).insert(0, "x"), 1)
+        self.assertEqual(soon(revs), 1)
+
     def test_it_ends_if_there_is_nobody(self):
         for retry in (None, 0.2):
             with self.subTest(retry=retry):
@@ -160,6 +188,14 @@ class Refused(WithDaemon):
             with self.assertRaises(peritext.Ended) as caught:
                 next(revs)
             self.assertIn("another file", str(caught.exception))
+
+    def test_whatever_ends_it_is_told(self):
+        patch = mock.patch.object(peritext.Watch, "_connect_again", side_effect=RuntimeError("odd"))
+        with patch, self.answered(b'{"ok":true,"rev":7}\n')(10) as revs:
+            self.assertEqual(next(revs), 7)
+            fault = soon(revs)
+        self.assertIsInstance(fault, peritext.Ended)
+        self.assertIn("odd", str(fault))
 
     def test_the_same_number_isn_t_told_again(self):
         lines = [b'{"ok":true,"rev":7}\n', b'{"ok":true,"rev":7}\n', b'{"ok":true,"rev":9}\n']

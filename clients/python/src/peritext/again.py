@@ -32,4 +32,4 @@ def is_known(made: dict[str, Any] | None, ask: Callable[[dict[str, Any]], bytes]
     """Whether somebody who is asked has an edit that was answered: else it isn't the same file. Where there is none, it is taken for the same."""
     if made is None:
         return True
-    return not isinstance(answer_of(ask({**made, "rev": NEVER}), made["op"]), Refused)
+    return not isinstance(answer_of(ask({**made, "rev": NEVER}), made), Refused)

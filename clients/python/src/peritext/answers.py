@@ -12,21 +12,21 @@ class NoAnswer(Exception):
     """A line that is no answer to its request, and why."""
 
 
-def answer_of(line: bytes, op: object) -> dict[str, Any] | Refused:
-    """What a line answers to a request of this kind. `NoAnswer` if it isn't one.
+def answer_of(line: bytes, request: Mapping[str, Any]) -> dict[str, Any] | Refused:
+    """What a line answers to a request. `NoAnswer` if it isn't one.
 
-    >>> answer_of(b'{"ok":true,"rev":3}', "insert")
+    >>> answer_of(b'{"ok":true,"rev":3}', {"op": "insert", "doc": 1, "at": 0, "text": "abc"})
     {'ok': True, 'rev': 3}
-    >>> answer_of(b'{"code":6,"error":"stale","ok":false}', "insert").word
-    'stale'
+    >>> answer_of(b'{"code":5,"error":"range","ok":false}', {"op": "insert", "doc": 1, "at": 9, "text": "abc"}).word
+    'range'
     """
-    told = _object(line)
+    told, op = _object(line), request.get("op")
     if told.get("ok") is True:
         _need(told, _FIELDS.get(op, {}) if isinstance(op, str) else {})
         return told
     if told.get("ok") is False:
         _need(told, _REFUSAL)
-        return refused(told["code"], told["error"])
+        return refused(told["code"], told["error"], request)
     raise NoAnswer("a line came that doesn't say `ok`")
 
 

@@ -14,6 +14,7 @@ from .answers import NoAnswer, answer_of
 from .lines import line_of
 from .ports import HOST, PATIENCE, PAUSE
 from .refusals import NoDaemon, Refused
+from .seconds import retry_of, timeout_of
 from .session import Owed, Session
 from .silence import TIMEOUT
 from .watching import Watch
@@ -22,6 +23,8 @@ from .watching import Watch
 LONGEST = 65_536
 
 
+# What a session asks first.
+STATUS = {"op": "status"}
 # The refusal of a daemon that is about to open its file anew.
 STEPS = 10
 # Seconds for which a daemon whose connection ended is looked for again.
@@ -36,11 +39,9 @@ class SocketSession(Session):
     """
 
     def __init__(self, connection: socket.socket, port: int, timeout: float | None = TIMEOUT, retry: float | None = RETRY) -> None:
-        if retry is not None and not retry > 0:
-            raise ValueError(f"retry is {retry}; it has to be more than 0 seconds, or None to send nothing twice")
         self._connection = connection
         self._port = port
-        self._retry = retry
+        self._retry = retry_of(retry)
         # Whether this session asked the daemon to end.
         self._stops = False
         # An edit that this session was answered.
@@ -183,13 +184,16 @@ def connect(port: int, timeout: float | None = TIMEOUT, retry: float | None = RE
     """A session of the daemon whose `--sessions` port this is. `NoDaemon` if there is none; `Refused` with the number 8 if all 32 places are taken.
 
     `timeout` is how many seconds may pass without a byte while an answer is due; None waits as long as it takes. `retry` is for how many
-    seconds the daemon is looked for again where a connection ends before all is answered, counted from the last answer; None sends nothing twice, and gives edits no token.
+    seconds the daemon is looked for again where a connection ends before all is answered, counted from the last answer; None sends nothing twice,
+    and gives edits no token. Both may be infinite.
 
     >>> with connect(port) as one, connect(port) as other:
     ...     rev = one.document(7).insert(0, "seen by all")
     ...     other.document(7).text()
     'seen by all'
     """
+    # Before there is a connection: it would keep a place.
+    timeout, retry = timeout_of(timeout), retry_of(retry)
     return SocketSession(_connection(port, time.monotonic() + PATIENCE), port, timeout, retry)
 
 
@@ -212,7 +216,7 @@ def _greet(connection: socket.socket, port: int, until: float) -> None:
     # A request is small, and waits for nothing.
     connection.setsockopt(socket.IPPROTO_TCP, socket.TCP_NODELAY, 1)
     try:
-        answer = answer_of(_answer_to(connection, b'{"op":"status"}\n', until), "status")
+        answer = answer_of(_answer_to(connection, line_of(STATUS), until), STATUS)
     except (NoAnswer, OSError):
         raise NoDaemon(f"no session is served on port {port}: name the port behind --sessions, not that behind --peers") from None
     if isinstance(answer, Refused):

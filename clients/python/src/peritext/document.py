@@ -2,20 +2,17 @@
 
 from __future__ import annotations
 
-from typing import TYPE_CHECKING, Any, NamedTuple
+from typing import TYPE_CHECKING, Any, Iterator, NamedTuple
 from uuid import UUID, uuid5
 
 from .marks import Mark, Span
 from .refusals import Stale
+from .rules import LONGEST, is_whole
 
 if TYPE_CHECKING:
     from concurrent.futures import Future
 
     from .session import Session
-
-
-# How many characters a request may put in.
-LONGEST = 256
 
 
 class Reading(NamedTuple):
@@ -31,6 +28,10 @@ class Document:
     Each edit answers the document's new `rev` once it is settled on the disk: it then outlives a power cut. An edit with a `token` is made
     once, however often it is sent, and answered as at first: also by another session of the same file, and after a crash. A session of a daemon
     draws one where none is given.
+
+    An edit is of at most 256 characters. A longer `insert` or `delete` goes as several edits, each of which is answered before the next one is
+    sent. If another session edits the document in between, the next one is `Stale`, and those before it are made. The tokens of all but the first
+    follow from the one that is given.
     """
 
     def __init__(self, session: Session, number: int) -> None:
@@ -38,31 +39,16 @@ class Document:
         self.number = number
 
     def insert(self, at: int, text: str, rev: int | None = None, token: UUID | None = None) -> int:
-        """Puts characters before the one at a place, or at the end.
-
-        A request has at most 256 of them: a longer text goes in as several edits, each of which is answered before the next one is sent. If another
-        session edits the document in between, the next one is `Stale`, and those before it are in the text.
-        """
+        """Puts characters before the one at a place, or at the end."""
         if not text:
             raise ValueError("an empty text is no request")
-        rev = self._edit(rev, token, op="insert", at=at, text=text[:LONGEST])
-        for first in range(LONGEST, len(text), LONGEST):
-            part = token and uuid5(token, str(first))
-            rev = self._insert_next(rev, part, at + first, text[first : first + LONGEST])
-        return rev
-
-    def _insert_next(self, rev: int, token: UUID | None, at: int, text: str) -> int:
-        """Puts in what comes next to an edit that was answered with this `rev`. If it is `Stale` for a lost connection alone, it is sent anew."""
-        while True:
-            try:
-                return self._edit(rev, token, op="insert", at=at, text=text)
-            except Stale:
-                if self.rev() != rev:
-                    raise
+        # What can't be sent is refused before a part of it is in.
+        text.encode()
+        return self._edit_all(_pieces(at, text), rev, token)
 
     def delete(self, at: int, count: int, rev: int | None = None, token: UUID | None = None) -> int:
-        """Takes away 1 to 256 characters from a place on."""
-        return self._edit(rev, token, op="delete", at=at, count=count)
+        """Takes characters away from a place on."""
+        return self._edit_all(_stretches(at, count), rev, token)
 
     def mark(self, start: int, end: int, mark: Mark, rev: int | None = None, token: UUID | None = None) -> int:
         """Marks the characters from a place up to another, that one not included."""
@@ -92,6 +78,22 @@ class Document:
         """How many operations the document has."""
         return self.read().rev
 
+    def _edit_all(self, edits: Iterator[dict[str, Any]], rev: int | None, token: UUID | None) -> int:
+        """Makes edits one after the other, and gives the last answer."""
+        last = self._edit(rev, token, **next(edits))
+        for number, fields in enumerate(edits, 1):
+            last = self._edit_next(last, token and uuid5(UUID(str(token)), str(number * LONGEST)), **fields)
+        return last
+
+    def _edit_next(self, rev: int, token: UUID | None, **fields: Any) -> int:
+        """Makes an edit after one that was answered with this `rev`. If it is `Stale` for a lost connection alone, it is sent anew."""
+        while True:
+            try:
+                return self._edit(rev, token, **fields)
+            except Stale:
+                if self.rev() != rev:
+                    raise
+
     def _edit(self, rev: int | None, token: UUID | None, **fields: Any) -> int:
         given = {"rev": rev, "token": token and str(token)}
         return self.session.edit(doc=self.number, **fields, **{name: value for name, value in given.items() if value is not None})
@@ -105,3 +107,22 @@ class Document:
         True
         """
         return self.session.send(op="insert", doc=self.number, at=at, text=text)
+
+
+def _pieces(at: int, text: str) -> Iterator[dict[str, Any]]:
+    """The edits that put a text in. One of which the place is none is refused as it is."""
+    if not is_whole(at, 0):
+        yield {"op": "insert", "at": at, "text": text}
+        return
+    for first in range(0, len(text), LONGEST):
+        yield {"op": "insert", "at": at + first, "text": text[first : first + LONGEST]}
+
+
+def _stretches(at: int, count: int) -> Iterator[dict[str, Any]]:
+    """The edits that take a stretch away, from its end on: if that is past the end of the text, nothing is taken away."""
+    if not (is_whole(at, 0) and is_whole(count, LONGEST)):
+        yield {"op": "delete", "at": at, "count": count}
+        return
+    for end in range(count, 0, -LONGEST):
+        first = max(end - LONGEST, 0)
+        yield {"op": "delete", "at": at + first, "count": end - first}

@@ -10,6 +10,7 @@ from typing import Union, cast
 from uuid import UUID, uuid4
 
 from .refusals import Ended, refused
+from .seconds import timeout_of
 from .session import Session
 from .silence import TIMEOUT
 
@@ -20,6 +21,8 @@ class FileSession(Session):
     """A session of a program of its own, which holds the file alone."""
 
     def __init__(self, program: Path, file: Path, timeout: float | None = TIMEOUT) -> None:
+        # Before the program runs: it would keep the file.
+        timeout = timeout_of(timeout)
         self._program = started(program, "edit", file)
         self._is_killed = False
         assert self._program.stdin and self._program.stdout

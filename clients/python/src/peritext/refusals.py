@@ -2,6 +2,10 @@
 
 from __future__ import annotations
 
+from typing import Any, Mapping
+
+from .rules import broken, is_long
+
 _LINE = "the line is no request of docs/PROTOCOL.md; mend what made it"
 _BYTES = "the file isn't what this program wrote; keep a copy, and go on from a peer with a new replica"
 
@@ -13,7 +17,7 @@ ADVICE = {
     4: "a value breaks its rule, as that of a UUID, of a document's number or of a form, or an older program doesn't know a field; mend what wrote it",
     5: "there is no such place in the text; read it anew",
     6: "the document has moved on; read it anew, and make the edit for what is there",
-    7: "at most 256 characters in one request; else the file has reached a limit, and can only be read",
+    7: "at most 256 characters in one edit; else the file is full (docs/OPERATING.md, Limits), and can still be read",
     8: "too much waits, or all places for sessions are taken; try again a little later",
     9: "the device failed, and an edit that wasn't answered may be there or not; end the program, look at the disk, open again",
     10: "a million steps since opening; connect again if the daemon opens its file anew, else end the program and start it again",
@@ -32,6 +36,31 @@ ADVICE = {
     70: "a port is taken (choose another), or nobody listens where --link points (start that daemon first)",
     71: "standard input or output failed; look at the other end of the pipe",
 }
+# What is said in place of these, as far as the request tells the cause.
+_MEND = "mend what wrote it"
+_FULL = "the file has all the operations, records, documents or replicas that it may have (docs/OPERATING.md, Limits), and can still be read"
+_LONG = "at most 256 characters in one edit; send it in parts"
+_TOKEN = "an older program knows no `token`; start one that is as new as this client"
+
+
+def sentence(number: int, request: Mapping[str, Any] | None) -> str | None:
+    """Why, and what to do, after a refusal of a request, if that is known.
+
+    >>> sentence(7, {"op": "delete", "doc": 1, "at": 0, "count": 300})
+    'at most 256 characters in one edit; send it in parts'
+    """
+    if number == 4 and request is not None:
+        return _of_fields(request)
+    if number == 7 and request is not None:
+        return _LONG if is_long(request) else _FULL
+    return ADVICE.get(number)
+
+
+def _of_fields(request: Mapping[str, Any]) -> str:
+    faults = broken(request)
+    if faults:
+        return f"{', '.join(faults)}; {_MEND}"
+    return _TOKEN if "token" in request else ADVICE[4]
 
 
 class Refused(Exception):
@@ -42,8 +71,8 @@ class Refused(Exception):
     '5 range: there is no such place in the text; read it anew'
     """
 
-    def __init__(self, number: int, word: str) -> None:
-        advice = ADVICE.get(number)
+    def __init__(self, number: int, word: str, request: Mapping[str, Any] | None = None) -> None:
+        advice = sentence(number, request)
         super().__init__(f"{number} {word}: {advice}" if advice else f"{number} {word}")
         self.number = number
         self.word = word
@@ -62,5 +91,5 @@ class NoDaemon(ConnectionError):
     """Nobody listens on the port, or somebody who serves no sessions."""
 
 
-def refused(number: int, word: str) -> Refused:
-    return Stale(number, word) if number == 6 else Refused(number, word)
+def refused(number: int, word: str, request: Mapping[str, Any] | None = None) -> Refused:
+    return Stale(number, word, request) if number == 6 else Refused(number, word, request)

@@ -14,6 +14,7 @@ from .document import Document
 from .lines import Lines, line_of
 from .peers import Connected, connected_of
 from .refusals import Ended, Refused, Stale
+from .seconds import timeout_of
 from .silence import TIMEOUT, Silence
 
 # Bytes that are read at once.
@@ -36,6 +37,7 @@ class Session:
     """
 
     def __init__(self, requests: IO[bytes], answers: BufferedReader, timeout: float | None = TIMEOUT) -> None:
+        timeout = timeout_of(timeout)
         self._requests = requests
         self._answers = answers
         self._waiting: deque[Owed] = deque()
@@ -186,7 +188,7 @@ class Session:
         if owed is None:
             raise NoAnswer("a line came that nobody asked for")
         # It waits on until this is known to be its answer.
-        told = answer_of(line, owed.request.get("op"))
+        told = answer_of(line, owed.request)
         if self._is_taken_off(told, self._puts_off(owed, told)):
             if isinstance(told, Refused):
                 owed.answer.set_exception(told)

@@ -16,8 +16,6 @@ class Silence:
     """Tells once, from a thread of its own, that for so many seconds something was due and no byte came."""
 
     def __init__(self, timeout: float | None, tell: Callable[[], None]) -> None:
-        if timeout is not None and not timeout > 0:
-            raise ValueError(f"timeout is {timeout}; it has to be more than 0 seconds, or None for no limit")
         self._timeout = timeout
         self._tell = tell
         # When the last byte came, or the first request since nothing was due; None while nothing is due.

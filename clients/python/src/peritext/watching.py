@@ -15,6 +15,7 @@ from .answers import NoAnswer, answer_of
 from .lines import Lines, line_of
 from .ports import HOST, PATIENCE, PAUSE
 from .refusals import Ended, NoDaemon, Refused
+from .seconds import retry_of
 
 # Bytes that are read at once.
 PART = 65_536
@@ -32,8 +33,8 @@ class Watch:
 
     def __init__(self, port: int, number: int, retry: float | None) -> None:
         self._port = port
-        self._request = line_of({"op": "watch", "doc": number})
-        self._retry = retry
+        self._request = {"op": "watch", "doc": number}
+        self._retry = retry_of(retry)
         # The newest number, and the last one that was given.
         self._newest = -1
         self._given = -1
@@ -125,9 +126,10 @@ class Watch:
                     while True:
                         self._note(self._rev(self._connection))
                 self._connect_again()
-        except (Ended, Refused) as error:
+        except Exception as error:
             with self._change:
-                self._end = error
+                # Whoever waits is told, whatever it is.
+                self._end = error if isinstance(error, (Ended, Refused)) else Ended(f"the daemon couldn't be heard: {error!r}")
                 self._tell()
         finally:
             self._connection.close()
@@ -170,8 +172,8 @@ class Watch:
             raise NoDaemon(f"nobody listens on port {self._port} ({error.strerror or error})") from None
         self._lines, self._heard = Lines(), deque()
         try:
-            connection.settimeout(max(until - time.monotonic(), PAUSE))
-            connection.sendall(self._request)
+            connection.settimeout(max(min(until - time.monotonic(), PATIENCE), PAUSE))
+            connection.sendall(line_of(self._request))
             first = self._rev(connection)
             connection.settimeout(None)
         except (NoAnswer, OSError):
@@ -193,7 +195,7 @@ class Watch:
             if not part:
                 raise NoAnswer("the connection ended")
             self._heard.extend(self._lines.take(part))
-        told = answer_of(self._heard.popleft(), "watch")
+        told = answer_of(self._heard.popleft(), self._request)
         if isinstance(told, Refused):
             raise told
         return int(told["rev"])

@@ -1,0 +1,144 @@
+/** The rules of a request's fields, as docs/FORMATS.md has them, and which of them a request breaks. */
+
+/** @typedef {Record<string, unknown>} Request */
+
+/** How many characters one edit may put in, or take away. */
+export const LONGEST = 256;
+
+/**
+ * The fields that a request needs, and those that a mark needs beside them.
+ * @type {Record<string, string>}
+ */
+const NEEDED = {
+  insert: "doc at text",
+  delete: "doc at count",
+  mark: "doc from to kind",
+  unmark: "doc from to kind",
+  text: "doc",
+  spans: "doc",
+  watch: "doc",
+};
+/** @type {Record<string, string>} */
+const BESIDE = {
+  "mark link": "url",
+  "mark comment": "id",
+  "unmark comment": "id",
+};
+
+/**
+ * The fields that any edit may have.
+ * @type {Record<string, string>}
+ */
+const OPTIONAL = {
+  insert: "rev token",
+  delete: "rev token",
+  mark: "rev token",
+  unmark: "rev token",
+};
+
+/**
+ * What each field has to be.
+ * @type {Record<string, string>}
+ */
+const RULES = {
+  doc: "a whole number from 1 to 4294967295",
+  count: "a whole number from 1 to 4294967295",
+  at: "a whole number from 0 to 4294967295",
+  from: "a whole number from 0 to 4294967295",
+  to: "a whole number from 0 to 4294967295",
+  rev: "a whole number from 0 to 4294967295",
+  text: "a text of at least one character",
+  kind: "strong, em, link or comment",
+  url: "a text of 1 to 1024 bytes",
+  id: "a UUID",
+  token: "a UUID other than the nil one",
+};
+const KINDS = new Set(["strong", "em", "link", "comment"]);
+const UUID = /^(urn:uuid:|\{)?[0-9a-f]{8}(-?[0-9a-f]{4}){3}-?[0-9a-f]{12}\}?$/i;
+const NIL = /^(urn:uuid:)?[0{}-]*$/;
+
+/**
+ * Which rules the fields of a request break, in words.
+ * @param {Request} request
+ */
+export function broken(request) {
+  const op = String(request.op);
+  const needed = [...wordsOf(NEEDED, op), ...wordsOf(BESIDE, `${op} ${String(request.kind)}`)];
+  const optional = wordsOf(OPTIONAL, op);
+  // What is undefined isn't sent.
+  const others = Object.keys(request).filter((name) => name !== "op" && request[name] !== undefined && !needed.includes(name));
+  const strange = others.filter((name) => !optional.includes(name)).map((name) => `\`${name}\` is no field of this request`);
+  return [...wrong(request, needed), ...strange, ...wrong(request, others.filter((name) => optional.includes(name)))];
+}
+
+/**
+ * Whether an edit is about more characters than one may be.
+ * @param {Request} request
+ */
+export function isLong({ text, count }) {
+  return (typeof text === "string" && [...text].length > LONGEST) || (isWhole(count, 0) && Number(count) > LONGEST);
+}
+
+/**
+ * @param {unknown} value
+ * @param {number} least
+ */
+export function isWhole(value, least) {
+  return Number.isInteger(value) && Number(value) >= least && Number(value) < 2 ** 32;
+}
+
+/**
+ * @param {Record<string, string>} table
+ * @param {string} key
+ */
+function wordsOf(table, key) {
+  return Object.hasOwn(table, key) ? table[key].split(" ") : [];
+}
+
+/**
+ * @param {Request} request
+ * @param {string[]} names
+ */
+function wrong(request, names) {
+  return names.filter((name) => !HOLDS[name](request[name])).map((name) => `\`${name}\` has to be ${RULES[name]}`);
+}
+
+/** @param {number} least */
+function from(least) {
+  return (/** @type {unknown} */ value) => isWhole(value, least);
+}
+
+/** @param {unknown} value */
+function isText(value) {
+  return typeof value === "string" && value !== "";
+}
+
+/** @param {any} value */
+function isUrl(value) {
+  return isText(value) && new TextEncoder().encode(value).length <= 1024;
+}
+
+/** @param {any} value */
+function isUuid(value) {
+  return typeof value === "string" && UUID.test(value);
+}
+
+/** @param {any} value */
+function isToken(value) {
+  return isUuid(value) && !NIL.test(value);
+}
+
+/** @type {Record<string, (value: unknown) => boolean>} */
+const HOLDS = {
+  doc: from(1),
+  count: from(1),
+  at: from(0),
+  from: from(0),
+  to: from(0),
+  rev: from(0),
+  text: isText,
+  kind: (value) => KINDS.has(/** @type {string} */ (value)),
+  url: isUrl,
+  id: isUuid,
+  token: isToken,
+};
