@@ -4,12 +4,15 @@ import os
 import pty
 import re
 import shutil
+import signal
+import socket
 import subprocess
 import time
 
-from daemon import PATIENCE, Daemon, Talk, connection, free_ports, new_daemon, within
+from daemon import HOST, PATIENCE, Daemon, Talk, connection, free_ports, new_daemon, within
 from full_disk import limited
 from program import PAGE, REPLICA, fault, insert, line, new_file
+from sentences import sentences
 
 STOP = line(op="stop")
 # The replica of the other file.
@@ -42,6 +45,11 @@ class Logging(Daemon):
 
 class Ending(Logging):
     flags = ("--end-on-failure",)
+
+
+def ended_by(code, reason, name, **about):
+    """The last event of a daemon that a refusal ended, whose sentence has this name."""
+    return {"event": "end", "code": str(code), "reason": reason, "status": "1", "cause": sentences()[name][2], **about}
 
 
 def only(told, name):
@@ -127,7 +135,7 @@ def check_failing(checks, program):
     told = events(said.removesuffix(fault(9)[2]))
     checks.same("the end of a failed one", (status, output, said.endswith(fault(9)[2])), (1, b"", True))
     checks.same("the commit that failed", only(told, "commit_failed"), [{"event": "commit_failed", "code": "9", "reason": "failed"}])
-    checks.same("its last event", told[-1], {"event": "end", "code": "9", "reason": "failed"})
+    checks.same("its last event", told[-1], ended_by(9, "failed", "Failed", file="failing"))
 
 
 def check_unread(checks, program):
@@ -225,13 +233,58 @@ def check_silent(checks, program):
     checks.same("the events on a terminal", [it["event"] for it in told], ["listening", "end"])
 
 
-def check_refused(checks, program):
-    """A daemon that can't begin tells of the refusal alone."""
+def check_terminal(checks, program):
+    """A terminal that nobody reads takes a few lines, and then keeps its writer: the daemon ends in time all the same."""
+    new_file(program, "shown")
     sessions, peers = free_ports(2)
-    words = ("serve", "not there", "--sessions", str(sessions), "--peers", str(peers), "--log")
-    ran = subprocess.run([program, *words], capture_output=True, timeout=60)
-    wanted = fault(54)[2]
-    checks.same("a refusal with --log", (ran.returncode, ran.stdout, ran.stderr), (1, b"", wanted))
+    shown, end = pty.openpty()
+    words = [program, "serve", "shown", "--sessions", str(sessions), "--peers", str(peers), "--log"]
+    run = subprocess.Popen(words, stdin=subprocess.DEVNULL, stdout=subprocess.DEVNULL, stderr=end)
+    os.close(end)
+    for _ in range(SESSIONS // 2):
+        Talk(sessions).close()
+    talk = Talk(sessions)
+    checks.same("the stop of one on a terminal", talk.ask(STOP), {"ok": True})
+    talk.close()
+    begun = time.monotonic()
+    try:
+        checks.same("its status", run.wait(timeout=SECONDS), 0)
+    except subprocess.TimeoutExpired:
+        checks.holds("it ends though nobody reads the terminal", False)
+        run.kill()
+        run.wait()
+    print(f"  on a terminal that nobody reads it ended after {time.monotonic() - begun:.1f} s")
+    os.close(shown)
+
+
+def check_refused(checks, program):
+    """A daemon that can't begin tells of the refusal, and why with --log."""
+    new_file(program, "refused")
+    sessions, peers, taken, nobody = free_ports(4)
+    serve = ("serve", "refused", "--sessions", str(sessions), "--peers", str(peers))
+    with socket.socket() as other:
+        other.bind((HOST, taken))
+        other.listen()
+        for words, number, ended in (
+            (("serve", "not there", *serve[2:]), 54, ended_by(54, "open failed", "NotThere", file="not there")),
+            ((*serve[:3], str(taken), *serve[4:]), 70, ended_by(70, "socket", "PortTaken", port=str(taken))),
+            ((*serve, "--link", str(nobody)), 70, ended_by(70, "socket", "NoPeer", port=str(nobody))),
+            ((*serve, "--web", str(nobody), "--origin", "none"), 4, ended_by(4, "field", "Origin")),
+        ):
+            ran = subprocess.run([program, *words, "--log"], capture_output=True, timeout=60)
+            wanted = fault(number)[2]
+            checks.same(f"a refusal with --log {words}", (ran.returncode, ran.stdout, ran.stderr[-len(wanted) :]), (1, b"", wanted))
+            checks.same("and why", events(ran.stderr.removesuffix(wanted)), [ended])
+            ran = subprocess.run([program, *words], capture_output=True, timeout=60)
+            checks.same(f"and without {words}", (ran.returncode, ran.stdout, ran.stderr), (1, b"", wanted))
+
+
+def check_killed(checks, program):
+    """A daemon that is ended by a signal can tell of no end."""
+    daemon = Logging(program, "refused")
+    daemon.run.terminate()
+    status, output, said = daemon.ended()
+    checks.same("one that was ended by TERM", (status, output, only(events(said), "end")), (-signal.SIGTERM, b"", []))
 
 
 def check(checks, program, _until):
@@ -243,4 +296,6 @@ def check(checks, program, _until):
     check_slow(checks, program)
     check_gone(checks, program)
     check_silent(checks, program)
+    check_terminal(checks, program)
     check_refused(checks, program)
+    check_killed(checks, program)

@@ -1,5 +1,5 @@
-"""What a web page can have a browser send to a daemon's ports without asking: a connection that begins as an HTTP request is closed before
-anything of it is served, wherever it is cut.
+"""What a web page can have a browser send to a daemon's ports without asking: a connection that begins as an HTTP request, TLS or another
+protocol of browsers does is closed before anything of it is served, wherever it is cut.
 """
 
 import time
@@ -12,11 +12,30 @@ STATUS, STOP, TEXT = line(op="status"), line(op="stop"), line(op="text", doc=1)
 BODY = insert(0, "from a web page") + STOP
 HEADERS = b"Host: 127.0.0.1\r\nOrigin: http://example.test\r\nContent-Type: text/plain\r\nContent-Length: %d\r\n\r\n" % len(BODY)
 POST = b"POST / HTTP/1.1\r\n" + HEADERS + BODY
-# The beginnings of requests: with a method that browsers send, with one that nobody knows, with none of a request behind it.
-REQUESTS = [method + rest for method in (b"GET", b"PUT", b"OPTIONS", b"PRI", b"X", b"A" * 5_000) for rest in (b" / HTTP/1.1\r\n" + HEADERS + BODY, b" ")]
+# The beginnings of requests: with a method that browsers send, with one that a script made up, with none of a request behind it.
+METHODS = (b"GET", b"PUT", b"OPTIONS", b"PRI", b"X", b"A" * 5_000, b"get", b"x", b"patch", b"1", b"M-SEARCH", b"!#$%&'*+-.^_`|~")
+REQUESTS = [method + rest for method in METHODS for rest in (b" / HTTP/1.1\r\n" + HEADERS + BODY, b" ")]
+# What a page's server chose (a session ticket, a name) stands in the bytes by which a browser begins TLS, with line feeds in them.
+TICKET = b"\n" + TEXT + BODY
+
+
+def hello(ticket):
+    """A TLS 1.2 ClientHello with this session ticket (RFC 8446, 4.1.2; RFC 5077, 3.2)."""
+    extension = b"\x00\x23" + len(ticket).to_bytes(2, "big") + ticket
+    body = b"\x03\x03" + bytes(32) + b"\x00" + b"\x00\x02\x13\x01" + b"\x01\x00" + len(extension).to_bytes(2, "big") + extension
+    message = b"\x01" + len(body).to_bytes(3, "big") + body
+    return b"\x16\x03\x01" + len(message).to_bytes(2, "big") + message
+
+
+# TLS, STUN and TURN over TCP (RFC 8489, and framed by RFC 4571), SOCKS 4 and 5, DNS over TCP; and each control byte alone.
+CONTROLS = [byte for byte in (*range(32), 127) if byte not in b"\t\n\r"]
+OTHERS = [hello(TICKET), b"\x00\x01\x00\x40\x21\x12\xa4\x42" + TICKET, b"\x00\x64\x00\x01" + TICKET, b"\x04\x01" + TICKET, b"\x05\x01\x00" + TICKET]
+OTHERS += [bytes([byte]) + TICKET for byte in CONTROLS]
+# As many bytes as a frame has that begins so.
+FILL = bytes(1 << 17)
 SYNTAX = {"code": 2, "error": "syntax", "ok": False}
 # Lines that begin nearly as a request does, and are answered.
-LINES = (b"GET\n", b"GET/ \n", b" GET /\n", b"get / HTTP/1.1\n", b"\nGET / HTTP/1.1\n", b"G1 \n")
+LINES = (b"GET\n", b"GET/ \n", b" GET /\n", b"\nGET / HTTP/1.1\n", b"G{ \n", b"\xff\n", b"\r\x16\n", b"\t\x00\n", b"{\x01\n", b"{}x \n")
 
 
 def heard(port, data, cut=None):
@@ -41,10 +60,11 @@ def heard(port, data, cut=None):
 
 
 def check_sessions(checks, daemon):
-    for request in (POST, *REQUESTS):
+    for request in (POST, *REQUESTS, *OTHERS):
         checks.same(f"a session that begins {request[:12]}", heard(daemon.sessions, request), b"")
-    for cut in (1, 2, 3, 4, 5, 6, 7, 64):
-        checks.same(f"a request in pieces of {cut}", heard(daemon.sessions, POST[:160] if cut < 8 else POST, cut), b"")
+    for begun in (POST, OTHERS[0]):
+        for cut in (1, 2, 3, 4, 5, 6, 7, 64):
+            checks.same(f"one that begins {begun[:4]} in pieces of {cut}", heard(daemon.sessions, begun[:160] if cut < 8 else begun, cut), b"")
     for data in LINES:
         talk = daemon.talk()
         checks.same(f"a line {data}", talk.ask(data), SYNTAX)
@@ -57,10 +77,11 @@ def check_sessions(checks, daemon):
 
 
 def check_peers(checks, daemon):
-    for request in (POST, *REQUESTS):
+    for request in (POST, *REQUESTS, *OTHERS):
         peer = Peer(daemon.peers)
         try:
-            peer.say(request)
+            # Some begin as the length of a frame does: then it is one, and no HELLO.
+            peer.say(request + (FILL if request in OTHERS else b""))
         except OSError:
             pass  # It may have ended before all was sent.
         # Four bytes are the length of a frame, and no request's are that of one.

@@ -4,6 +4,8 @@ answered, and the same with a client that others wrote, where there is one.
 
 import asyncio
 import json
+import socket
+import threading
 import time
 
 from daemon import HOST, PATIENCE, Daemon, connection, free_ports, new_daemon, within
@@ -14,6 +16,8 @@ from web_frames import BINARY, CLOSE, PING, PONG, TEXT, WebSocket, accept_of, fr
 PAGE = "http://localhost:8080"
 OTHER = "https://page.example"
 PLACES = 32
+# Seconds that a busy machine takes more.
+SLACK = 3
 LONGEST = 65_536
 # How a text frame begins whose length is in eight bytes.
 LONG_FRAME = b"\x81\xff"
@@ -111,6 +115,50 @@ def check_watch(checks, daemon):
     while isinstance(found, dict):
         found = made.answer()
     checks.same("a line ends it", found, 1001)
+    made.close()
+
+
+def fill(made, data):
+    """Sends these bytes again and again until the daemon takes no more, and then what is left of them at last."""
+    at = 0
+    made.socket.settimeout(0.5)
+    try:
+        while True:
+            at = (at + made.socket.send(data[at:])) % len(data)
+    except TimeoutError:
+        made.socket.settimeout(PATIENCE)
+    return data[at:] if at else b""
+
+
+def check_full(checks, daemon):
+    """One that is told of changes, and pings until nothing more is taken: each frame that it then reads is whole."""
+    made = daemon.open()
+    made.socket.setsockopt(socket.SOL_SOCKET, socket.SO_RCVBUF, 4_096)
+    first = made.ask(line(op="watch", doc=1))["rev"]
+    for turn in range(2):
+        rest = fill(made, frame(PING, b"p" * (100 + turn)) * 10)
+        talk = daemon.talk()
+        talk.ask(insert(0, "w"))
+        talk.close()
+        time.sleep(0.5)
+        pongs, found = 0, (None, b"")
+        sender = threading.Thread(target=made.send, args=(rest,))
+        sender.start()
+        while found and found[0] != TEXT:
+            try:
+                found = made.frame()
+            except ValueError as error:
+                found = None
+                checks.holds(f"a frame that is whole: {error}", False)
+            pongs += found is not None and found[0] == PONG and len(found[1]) in range(100, 103)
+        sender.join()
+        checks.same("the number between pongs", found and json.loads(found[1]), {"ok": True, "rev": first + turn + 1})
+        checks.holds(f"{pongs} pongs", pongs > 100)
+    made.send(frame(CLOSE, (1000).to_bytes(2, "big")))
+    found = made.frame()
+    while found and found[0] == PONG:
+        found = made.frame()
+    checks.same("its close is answered", found, (CLOSE, (1000).to_bytes(2, "big")))
     made.close()
 
 
@@ -213,6 +261,7 @@ def check_heads(checks, daemon):
     whole = head(port)[0]
     for cut in (1, 7, 64):
         checks.same(f"a head in pieces of {cut}", said(port, whole, cut, 0.0002), 101)
+    checks.same("a longer head by the byte", said(port, head(port, extra=["X: " + "x" * 500])[0], 1, 0.0002), 101)
     fields = [line for line in whole.decode().split("\r\n") if line]
     for missing in fields[2:]:
         without = "\r\n".join([*(it for it in fields if it != missing), "", ""]).encode()
@@ -228,8 +277,11 @@ def check_heads(checks, daemon):
     slow = connection(port)
     slow.sendall(whole[:20])
     checks.same("a head that doesn't come", slow.recv(100), b"")
-    checks.holds("is waited for two seconds or so", time.monotonic() - start < 6)
+    checks.holds("is waited for two seconds", 1.5 < time.monotonic() - start < 2 + SLACK)
     slow.close()
+    start = time.monotonic()
+    checks.same("a head that never comes to its end", said(port, b"GET / HTTP/1.1\r\nX: " + b"x" * 1_000, 1, 0.02), None)
+    checks.holds("has two seconds as well", time.monotonic() - start < 2 + SLACK)
 
 
 def comes(daemon):
@@ -251,12 +303,43 @@ def last_place(daemon):
     return found[-1]
 
 
+def until_ended(made, data):
+    """Sends these bytes again and again, and reads nothing, until the daemon has ended the connection; how long that took."""
+    begun = time.monotonic()
+    made.socket.settimeout(0.1)
+    while time.monotonic() - begun < PATIENCE:
+        try:
+            made.send(data)
+            time.sleep(0.002)
+        except TimeoutError:
+            pass
+        except OSError:
+            break
+    made.close()
+    return time.monotonic() - begun
+
+
+def check_pinging(checks, daemon, seated):
+    """One that finds the last place and says what is no line keeps it for a second, and two more in which it may close."""
+    for what, data in (
+        ("pings", frame(PING, b"")), ("pings much", frame(PING, b"p" * 125) * 300), ("pongs", frame(PONG, b"")),
+        ("says empty parts of a message", frame(TEXT, b"", fin=False) + frame(0, b"", fin=False) * 99 + frame(0, b"", fin=False)),
+    ):
+        within("the last place is free", lambda: seated.ask(line(op="peers"))["sessions"] == PLACES - 1)
+        made = daemon.open()
+        begun = frame(TEXT, b"", fin=False) if "parts" in what else b""
+        made.send(begun)
+        took = until_ended(made, data[len(begun) :])
+        checks.holds(f"one that {what} in the last place is ended after {took:.1f} s", 0.8 < took < 3 + SLACK)
+
+
 def check_places(checks, program):
     """WebSockets and sessions of lines share 32 places, the last one is for whoever asks for the status or a stop."""
     daemon = web_daemon(program, "places")
     held = [daemon.open() for _ in range(PLACES - 1)]
     checks.same("31 are served", {made.ask(STATUS)["ok"] for made in held}, {True})
-    made = daemon.open()
+    check_pinging(checks, daemon, held[0])
+    made = comes(daemon)
     checks.same("the last place isn't for reading", (made.ask(READ), made.answer() in (1000, 1001, None)), (BUSY, True))
     made.close()
     made = last_place(daemon)
@@ -355,6 +438,7 @@ def check(checks, program, _until):
     daemon = web_daemon(program, "web")
     check_sessions(checks, daemon)
     check_watch(checks, daemon)
+    check_full(checks, daemon)
     check_rules(checks, daemon)
     check_rude(checks, daemon)
     check_guests(checks, daemon)

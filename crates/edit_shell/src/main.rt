@@ -1,7 +1,7 @@
 //! The program `peritext`.
 #![tactic(auto)]
 
-mod error_stream;
+mod error_way;
 mod held;
 mod looking;
 mod origins;
@@ -9,6 +9,7 @@ mod refusing;
 mod serving;
 mod sockets;
 mod standard;
+mod telling;
 
 use std::process::ExitCode;
 

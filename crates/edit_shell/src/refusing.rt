@@ -51,15 +51,20 @@ pub fn of_file<'a>(
 ) -> Result<(), Refused<'a>> {
     match end {
         Ok(()) => Ok(()),
-        Err(fault) => Err(Refused {
-            fault,
-            about: About::File(path, purpose),
-        }),
+        Err(fault) => Err(of_path(fault, path, purpose)),
     }
 }
 
-/// What a refusal is about, and why it is so.
-fn explanation<'a, R: Files<File = File>>(
+/// A refusal of a run over the file of this path.
+pub fn of_path(fault: Fault, path: &str, purpose: Purpose) -> Refused<'_> {
+    Refused {
+        fault,
+        about: About::File(path, purpose),
+    }
+}
+
+/// What a refusal is about, and why it is so. A file is looked at for that.
+pub fn explanation<'a, R: Files<File = File>>(
     rt: &R,
     refused: Refused<'a>,
 ) -> (Option<Place<'a>>, Sentence) {

@@ -1,19 +1,18 @@
 //! The daemon over a file and sockets, and the thread that writes its events.
 ghost use Rattle.std.specs.Prelude.{◌≡◌, [], IfOk};
 
-use crate::error_stream::ErrorStream;
+use crate::error_way::ErrorWay;
 use crate::looking::Purpose;
 use crate::origins::origins;
-use crate::refusing::{Refused, of_file};
+use crate::refusing::{Refused, of_file, of_path};
 use crate::sockets::open_sockets;
+use crate::telling::{tell_end, tell_listening};
 use command_syntax::ServeOrder;
 use disk_trait::{Disk, FileDisk};
-use event_journal::{Event, Journal, Reason, Telling};
-use file_listing::documents;
+use event_journal::{Journal, Telling};
 use hub_parts::{Parts, open};
 use serve_threads::{Served, Sockets, serve_on};
 use shared_hub::NoCheckpoint;
-use std::alloc::Global;
 use std::fs::File;
 use std::io::{IsTerminal, Write};
 use std::net::{Net, TcpListener, TcpStream};
@@ -22,11 +21,10 @@ use std::sync::Wait;
 use std::thread;
 use std::thread::Threads;
 use store_orders::Fault;
-use web_guests::Origin;
 
-/// Serves the sessions and the peers of a file. From when it listens it tells of itself on standard
-/// error: all events with `--log`; on a terminal else where it listens and its end; and else
-/// nothing. The thread that writes them has ended too when this returns.
+/// Serves the sessions and the peers of a file. It tells of itself on standard error: all events
+/// with `--log`, a start that failed too; on a terminal else where it listens and its end; and else
+/// nothing. The thread that hands its lines on has ended too when this returns.
 pub fn serve<
     'a,
     R: Files<File = File>
@@ -36,29 +34,13 @@ pub fn serve<
         + Sync
         + Net<Listener = TcpListener, Stream = TcpStream>
         + AllocGlobal,
-    F: Write + IsTerminal + Copy + Send + Drop,
+    F: Write + IsTerminal + Copy + Send + Drop + 'static,
 >(rt: &R, order: ServeOrder<'a>, faults: &F) -> Result<(), Refused<'a>> {
-    let origins = origins(rt.alloc(), order)?;
-    serve_pages(rt, order, origins.as_slice(), faults)
-}
-
-/// Serves the sessions and the peers of a file, and web pages of these origins.
-fn serve_pages<
-    'a,
-    R: Files<File = File>
-        + Clock
-        + Wait
-        + Threads
-        + Sync
-        + Net<Listener = TcpListener, Stream = TcpStream>
-        + AllocGlobal,
-    F: Write + IsTerminal + Copy + Send + Drop,
->(rt: &R, order: ServeOrder<'a>, origins: &[Origin], faults: &F) -> Result<(), Refused<'a>> {
     let Some(telling) = telling(order, faults) else {
-        return serve_file(rt, order, origins, None);
+        return serve_order(rt, order, None).end;
     };
     let journal = Journal::new(rt.alloc(), telling);
-    serve_and_tell(rt, order, origins, &journal, *faults)
+    serve_and_tell(rt, order, &journal, *faults)
 }
 
 /// What is told of a daemon, if anything is.
@@ -72,7 +54,7 @@ fn telling<F: IsTerminal>(order: ServeOrder<'_>, faults: &F) -> Option<Telling> 
     }
 }
 
-/// Serves a file, while a thread writes what the journal is told.
+/// Serves what an order names, while a thread hands on what the journal is told.
 fn serve_and_tell<
     'a,
     R: Files<File = File>
@@ -82,29 +64,56 @@ fn serve_and_tell<
         + Sync
         + Net<Listener = TcpListener, Stream = TcpStream>
         + AllocGlobal,
-    F: Write + Send + Drop,
->(
-    rt: &R,
-    order: ServeOrder<'a>,
-    origins: &[Origin],
-    journal: &Journal,
-    errors: F,
-) -> Result<(), Refused<'a>> {
+    F: Write + Send + Drop + 'static,
+>(rt: &R, order: ServeOrder<'a>, journal: &Journal, errors: F) -> Result<(), Refused<'a>> {
     thread::scope(thread::scope_env(), rt, move |scope| {
         // Where there is no thread, nothing is told.
-        let _ = scope.spawn(move || journal.write_all(rt, &mut ErrorStream { errors }));
-        let end = serve_file(rt, order, origins, Some(journal));
+        let _ = scope.spawn(move || hand_on(rt, journal, errors));
+        let ran = serve_order(rt, order, Some(journal));
+        if order.logs || ran.has_listened {
+            tell_end(rt, journal, ran.end);
+        }
         journal.end(rt);
-        end
+        ran.end
     })
 }
 
-/// Serves a file to the daemon's end, and tells of its beginning and end. Faults come in this
-/// order: the file can't be opened (54); it is no store, the device fails or memory is refused (42
-/// to 47, 50, 52, 1); a socket can't be opened or the peer can't be joined (70); the device failed
-/// while it served, or what was applied couldn't be settled (9); or those of an opening, where the
-/// file is opened anew.
-fn serve_file<
+/// Hands on what the journal is told, to its end; nothing if there is no way to the errors.
+fn hand_on<R: Wait + Clock + Threads + Net, F: Write + Send + Drop + 'static>(
+    rt: &R,
+    journal: &Journal,
+    errors: F,
+) {
+    if let Ok(mut way) = ErrorWay::open(rt, errors) {
+        journal.write_all(rt, &mut way);
+        way.end();
+    }
+}
+
+/// What became of an order.
+#[derive(Clone, Copy, Drop)]
+struct Ran<'a> {
+    end: Result<(), Refused<'a>>,
+    /// Whether a file was served.
+    has_listened: bool,
+}
+
+impl<'a> Ran<'a> {
+    /// Nothing was served.
+    fn not(refused: Refused<'a>) -> Ran<'a> {
+        Ran {
+            end: Err(refused),
+            has_listened: false,
+        }
+    }
+}
+
+/// Serves what an order names to the daemon's end. Faults come in this order: an origin that is
+/// none (4); the file can't be opened (54); it is no store, the device fails or memory is refused
+/// (42 to 47, 50, 52, 1); a socket can't be opened or the peer can't be joined (70); the device
+/// failed while it served, or what was applied couldn't be settled (9); or those of an opening,
+/// where the file is opened anew.
+fn serve_order<
     'a,
     'b,
     R: Files<File = File>
@@ -114,25 +123,28 @@ fn serve_file<
         + Sync
         + Net<Listener = TcpListener, Stream = TcpStream>
         + AllocGlobal,
->(
-    rt: &R,
-    order: ServeOrder<'a>,
-    origins: &'b [Origin],
-    journal: Option<&'b Journal>,
-) -> Result<(), Refused<'a>> {
-    let end = match open_file(rt, order.file) {
-        Ok(parts) => {
-            let sockets = open_sockets(rt, order)?;
-            let sockets = Sockets {
-                origins,
-                journal,
-                ..sockets
-            };
-            serve_opened(rt, order, parts, sockets)
-        }
-        Err(fault) => Err(fault),
+>(rt: &R, order: ServeOrder<'a>, journal: Option<&'b Journal>) -> Ran<'a> {
+    let origins = match origins(rt.alloc(), order) {
+        Ok(origins) => origins,
+        Err(refused) => return Ran::not(refused),
     };
-    of_file(end, order.file, Purpose::Writing)
+    let parts = match open_file(rt, order.file) {
+        Ok(parts) => parts,
+        Err(fault) => return Ran::not(of_path(fault, order.file, Purpose::Writing)),
+    };
+    let sockets = match open_sockets(rt, order) {
+        Ok(sockets) => Sockets {
+            origins: origins.as_slice(),
+            journal,
+            ..sockets
+        },
+        Err(refused) => return Ran::not(refused),
+    };
+    let end = serve_opened(rt, order, parts, sockets);
+    Ran {
+        end: of_file(end, order.file, Purpose::Writing),
+        has_listened: true,
+    }
 }
 
 /// Opens a file for a daemon.
@@ -151,7 +163,7 @@ fn open_file<R: Files<File = File> + AllocGlobal>(
     }
 }
 
-/// Serves a file that is open over its sockets, and tells of its beginning and end.
+/// Serves a file that is open over its sockets, and tells of its beginning.
 fn serve_opened<
     'a,
     R: Clock
@@ -168,14 +180,13 @@ fn serve_opened<
 ) -> Result<(), Fault>
     requires { parts.locked.replica.steps ≡ [] }
 {
-    let journal = sockets.journal;
-    tell_listening(rt, rt.alloc(), order, &parts, journal);
-    let end = match serve_on(rt, rt.alloc(), parts, sockets, &NoCheckpoint) {
+    if let Some(journal) = sockets.journal {
+        tell_listening(rt, order, &parts, journal);
+    }
+    match serve_on(rt, rt.alloc(), parts, sockets, &NoCheckpoint) {
         Ok(served) => end_of(&served),
         Err(fault) => Err(Fault::from(fault.cause)),
-    };
-    tell_end(rt, rt.alloc(), journal, end);
-    end
+    }
 }
 
 /// What ended a daemon, if it is a refusal.
@@ -187,53 +198,4 @@ fn end_of<D: Disk>(served: &Served<D>) -> Result<(), Fault> {
     } else {
         Ok(())
     }
-}
-
-/// Tells how a daemon ended, if anybody is told.
-fn tell_end<R: Wait>(rt: &R, alloc: Global, journal: Option<&Journal>, end: Result<(), Fault>) {
-    let Some(journal) = journal else {
-        return;
-    };
-    match end {
-        Ok(()) => tell_reason(rt, journal, 0, "stopped"),
-        Err(fault) => {
-            if let Ok(word) = fault.to_string(alloc) {
-                tell_reason(rt, journal, fault.number(), word.as_str());
-            }
-        }
-    }
-}
-
-/// Tells that a daemon ended for this reason.
-fn tell_reason<R: Wait>(rt: &R, journal: &Journal, code: u8, word: &str) {
-    let reason = Reason { code, word };
-    journal.tell(rt, &Event::End { reason });
-}
-
-/// Tells which file is served, and where, if anybody is told.
-fn tell_listening<R: Wait, D: Disk>(
-    rt: &R,
-    alloc: Global,
-    order: ServeOrder<'_>,
-    parts: &Parts<D>,
-    journal: Option<&Journal>,
-) {
-    let Some(journal) = journal else {
-        return;
-    };
-    let list = parts.locked.list();
-    let documents = match documents(alloc, &list) {
-        Ok(documents) => documents.len() as u64,
-        Err(_) => 0,
-    };
-    let event = Event::Listening {
-        file: order.file,
-        replica: parts.locked.replica(),
-        sessions: order.sessions,
-        peers: order.peers,
-        web: order.web.map(|web| web.port),
-        operations: list.len() as u64,
-        documents,
-    };
-    journal.tell(rt, &event);
 }

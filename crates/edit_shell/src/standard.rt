@@ -39,7 +39,7 @@ pub fn run<
         + Net<Listener = TcpListener, Stream = TcpStream>
         + AllocGlobal,
     W: Write,
-    F: Write + IsTerminal + Copy + Send + Drop,
+    F: Write + IsTerminal + Copy + Send + Drop + 'static,
 >(rt: &R, output: &mut W, faults: &mut F) -> u8 {
     let alloc = rt.alloc();
     let given: io::Result<Vec<String>> = match env::args(rt) {
@@ -84,7 +84,7 @@ fn run_words<
         + Net<Listener = TcpListener, Stream = TcpStream>
         + AllocGlobal,
     W: Write,
-    F: Write + IsTerminal + Copy + Send + Drop,
+    F: Write + IsTerminal + Copy + Send + Drop + 'static,
 >(rt: &R, words: &[&str], output: &mut W, faults: &mut F) -> u8 {
     match order(rt.alloc(), words) {
         Ok(order) => run_order(rt, &order, output, faults),
@@ -145,7 +145,7 @@ fn run_order<
         + Net<Listener = TcpListener, Stream = TcpStream>
         + AllocGlobal,
     W: Write,
-    F: Write + IsTerminal + Copy + Send + Drop,
+    F: Write + IsTerminal + Copy + Send + Drop + 'static,
 >(rt: &R, order: &Order<'_>, output: &mut W, faults: &mut F) -> u8 {
     match hold_closed_streams(rt) {
         Ok(_held) => run_held(rt, order, output, faults),
@@ -170,7 +170,7 @@ fn run_held<
         + Net<Listener = TcpListener, Stream = TcpStream>
         + AllocGlobal,
     W: Write,
-    F: Write + IsTerminal + Copy + Send + Drop,
+    F: Write + IsTerminal + Copy + Send + Drop + 'static,
 >(rt: &R, order: &Order<'_>, output: &mut W, faults: &mut F) -> u8 {
     match order {
         Order::Store(order) => run_on_disk(rt, order, output, faults),

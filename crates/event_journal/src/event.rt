@@ -1,4 +1,5 @@
 //! What a daemon tells of itself, each as a line.
+use crate::cause::Cause;
 use crate::quoted::Quoted;
 use crate::reason::Reason;
 use op_ids::ReplicaId;
@@ -80,9 +81,10 @@ pub enum Event<'a> {
     Dropped {
         count: u64,
     },
-    /// The daemon ended.
+    /// The daemon ended: by a stop, or for a cause.
     End {
         reason: Reason<'a>,
+        cause: Option<Cause<'a>>,
     },
 }
 
@@ -113,7 +115,10 @@ impl<'a> Display for Event<'a> {
             Event::CommitFailed { reason } => write!(f, "event=commit_failed {reason}"),
             Event::OpenedAnew => f.write_str("event=opened_anew"),
             Event::Dropped { count } => write!(f, "event=dropped count={count}"),
-            Event::End { reason } => write!(f, "event=end {reason}"),
+            Event::End { reason, cause } => match cause {
+                Some(cause) => write!(f, "event=end {reason} {cause}"),
+                None => write!(f, "event=end {reason}"),
+            },
         }
     }
 }

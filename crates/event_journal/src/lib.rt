@@ -4,12 +4,14 @@
 //! of the lines that stops reading holds nobody up.
 #![tactic(auto)]
 
+mod cause;
 mod event;
 mod journal;
 mod line_writer;
 mod quoted;
 mod reason;
 
+pub use cause::{About, Cause};
 pub use event::{Event, LinkPlace};
 pub use journal::{Journal, Telling};
 pub use quoted::Quoted;

@@ -11,7 +11,7 @@ use std::time::Duration;
 const PAUSE: u64 = 10;
 
 /// How many such pauses there are in all once the journal has ended.
-const LAST_PAUSES: u32 = 20;
+const LAST_PAUSES: u32 = 10;
 
 /// Writes lines, as long as somebody takes them.
 #[derive(Drop)]

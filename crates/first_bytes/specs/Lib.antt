@@ -1,1 +1,1 @@
-pub mod RequestLine
+pub mod Beginnings

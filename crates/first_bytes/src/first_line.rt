@@ -1,6 +1,5 @@
 //! The first line of a session, where it is looked at before the session is served.
 
-use crate::waits::has_to_wait;
 use session_lines::{Command, read_command, watch_line};
 use std::alloc::Global;
 use std::io;
@@ -10,10 +9,6 @@ use std::marker::Model;
 /// As many bytes as a session reads at once: so what came in one piece is still served in one, also
 /// if the daemon is about to end. A longer line is no request for the status, a stop or a watch.
 const ROOM: usize = 4_096;
-
-/// How many times at most is read until the line is there. A read of a socket with a time limit of
-/// 10 milliseconds ends after that, so nobody keeps the last place for a second without asking.
-const TURNS: usize = 100;
 
 /// What was read of a session before it is served: nothing, or its first line and perhaps more. As
 /// a reader it hands that on.
@@ -47,25 +42,9 @@ impl FirstLine {
         }
     }
 
-    /// Reads until a line is there; not to its end where it is too long, nothing comes in time or
-    /// the reader ends.
-    pub fn read_from<S: Read>(&mut self, reader: &mut S) {
-        for _ in 0..TURNS {
-            if self.is_enough() {
-                return;
-            }
-            match self.read_once(reader) {
-                Ok(0) => return,
-                Ok(_) => {}
-                Err(error) if has_to_wait(error.kind()) => {}
-                Err(_) => return,
-            }
-        }
-    }
-
     /// Reads until a line is there, for as long as the reader waits; not to its end where it is too
-    /// long or the reader ends. After an error what came before it is there, and the next call goes
-    /// on behind that.
+    /// long or the reader ends. After an error, as that of a reader whose time is over, what came
+    /// before it is there, and the next call goes on behind that.
     pub fn wait_for<S: Read>(&mut self, reader: &mut S) -> io::Result<()> {
         // A read that isn't the last one gives a byte at least.
         for _ in 0..ROOM {

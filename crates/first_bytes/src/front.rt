@@ -1,36 +1,39 @@
-//! Whether what came begins with a request line of HTTP.
+//! Whether what came can be how a session begins.
 ghost use Rattle.std.specs.Prelude.{◌≡◌, ◌++◌, ◌∷◌, List, ℕ, []};
-ghost use Rattle.first_bytes.specs.RequestLine.{asks, is_request};
+ghost use Rattle.first_bytes.specs.Beginnings.{is_control, is_foreign_after, is_word_byte};
 
-/// How what came from a connection begins. No line and no frame of ours begins as a request line
-/// does, but a web page can have a browser send one here without asking.
+/// How what came from a connection begins. A web page can have a browser send bytes here without
+/// asking: as HTTP or TLS begin, or another protocol that isn't ours. No line of a session begins
+/// so.
 #[derive(Clone, Copy, Debug, Drop, PartialEq, Eq)]
 pub enum Front {
     /// Nothing came so far.
     Nothing,
-    /// Capital letters, and nothing else so far.
-    Capitals,
-    /// A request line: capital letters, and a space.
-    Request,
-    /// Anything else.
+    /// A word as the methods of HTTP are, and nothing else so far.
+    Word,
+    /// No session's: a word and a space, as a request of HTTP begins, or a control byte other than
+    /// tab, line feed and carriage return, as TLS begins.
+    Foreign,
+    /// Anything else, as a session may begin.
     Other,
 }
 
 impl Front {
-    /// Whether it is that of a request line.
-    pub fn is_request(self) -> bool
-        ensures { result ≡ asks self [] }
+    /// Whether no session begins so.
+    pub fn is_foreign(self) -> bool
+        ensures { result ≡ is_foreign_after self [] }
     {
-        self == Front::Request
+        self == Front::Foreign
     }
 
     /// The beginning, once these bytes have come too.
     pub fn behind(self, bytes: &[u8]) -> Front
-        ensures { (more : List ℕ) → asks result more ≡ asks self (bytes.now ++ more) }
+        ensures { (more : List ℕ) → is_foreign_after result more
+            ≡ is_foreign_after self (bytes.now ++ more) }
     {
         match self {
-            Front::Request | Front::Other => self,
-            Front::Nothing | Front::Capitals => {
+            Front::Foreign | Front::Other => self,
+            Front::Nothing | Front::Word => {
                 let mut front = self;
                 for byte in bytes {
                     front = front.next(*byte);
@@ -42,15 +45,29 @@ impl Front {
 
     /// The beginning, once this byte has come too.
     fn next(self, byte: u8) -> Front
-        ensures { (more : List ℕ) → asks result more ≡ asks self (byte ∷ more) }
+        ensures { (more : List ℕ) → is_foreign_after result more
+            ≡ is_foreign_after self (byte ∷ more) }
     {
         match self {
-            Front::Nothing if byte.is_ascii_uppercase() => Front::Capitals,
-            Front::Nothing => Front::Other,
-            Front::Capitals if byte == b' ' => Front::Request,
-            Front::Capitals if byte.is_ascii_uppercase() => Front::Capitals,
-            Front::Capitals => Front::Other,
-            Front::Request | Front::Other => self,
+            Front::Nothing if is_control(byte) => Front::Foreign,
+            Front::Word if byte == b' ' => Front::Foreign,
+            Front::Nothing | Front::Word if is_word_byte(byte) => Front::Word,
+            Front::Nothing | Front::Word => Front::Other,
+            Front::Foreign | Front::Other => self,
         }
     }
+}
+
+/// Whether it is a control byte that stands in no line.
+fn is_control(byte: u8) -> bool
+    ensures { result ≡ is_control byte }
+{
+    matches!(byte, 0..=8 | 11..=12 | 14..=31 | 127)
+}
+
+/// Whether it may stand in a method of HTTP.
+fn is_word_byte(byte: u8) -> bool
+    ensures { result ≡ is_word_byte byte }
+{
+    byte.is_ascii_alphanumeric() || b"!#$%&'*+-.^_`|~".contains(&byte)
 }

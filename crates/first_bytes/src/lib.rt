@@ -1,4 +1,4 @@
-//! What a session's first bytes say: a request line of HTTP, or what its first line asks for.
+//! What a session's first bytes say: that no session begins so, or what its first line asks for.
 //!
 //! It looks before the session does: a web page that posts to the port is let go before any line of
 //! it is served.

@@ -14,7 +14,7 @@ fn a_status_or_a_stop_is_told_by_the_first_line(rt: HostRuntime) {
     for (said, is_let_in) in cases {
         let mut first = FirstLine::new();
         let mut reader = said.as_bytes();
-        first.read_from(&mut reader);
+        let _ = first.wait_for(&mut reader);
         assert!(rt; first.as_slice() == said.as_bytes(), "{said}");
         assert!(rt;
             first.asks_for_status_or_stop(rt.alloc()) == is_let_in,

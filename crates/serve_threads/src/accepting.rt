@@ -7,6 +7,7 @@ use crate::entry::Entry;
 use crate::hall::Hall;
 use crate::lobby::Lobby;
 use crate::session_thread::serve_session;
+use crate::timed::Timed;
 use crate::web_thread::serve_web;
 use event_journal::{Event, LinkPlace, Reason};
 use fixed_numbers::refusals::BUSY;
@@ -120,9 +121,11 @@ fn serve<R: Wait + Clock + Threads + Sync, J: BookNames + Send + Sync, C: Checkp
 ) {
     match kind {
         Kind::Session => {
+            let timed = Timed::new(hall.rt, stream);
             let caller = Caller {
                 stream,
-                reader: stream,
+                timed: &timed,
+                reader: &timed,
                 writer: stream,
             };
             serve_session(hall, lobby, entry, caller);

@@ -2,13 +2,17 @@
 
 use crate::busy::say_busy;
 use crate::last_words::send_last_words;
+use crate::timed::Timed;
 use std::io::Write;
 use std::net::TcpStream;
+use std::rt::Clock;
 
 /// A session's connection: what comes from it, and where the answers go.
 #[derive(Drop)]
-pub(crate) struct Caller<'a, S, W> {
+pub(crate) struct Caller<'a, R: Clock, S, W> {
     pub stream: &'a TcpStream,
+    /// The time of what is read by the reader.
+    pub timed: &'a Timed<'a, R>,
     pub reader: S,
     pub writer: W,
 }

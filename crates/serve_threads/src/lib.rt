@@ -21,9 +21,11 @@ mod renewing;
 mod serving;
 mod session_thread;
 mod sockets;
+mod timed;
 mod until_closed;
 mod watch_thread;
 mod web_ends;
+mod web_sides;
 mod web_thread;
 
 pub use host::Host;

@@ -5,6 +5,7 @@ use crate::entry::Entry;
 use crate::hall::Hall;
 use crate::last_words::send_last_words;
 use crate::lobby::Lobby;
+use crate::timed::Timed;
 use crate::until_closed::UntilClosed;
 use crate::watch_thread::watch;
 use event_journal::{Event, Reason};
@@ -21,8 +22,8 @@ use std::rt::Clock;
 use std::sync::Wait;
 use std::time::Duration;
 
-/// How long a read of a session that has the last place waits for its first line, in milliseconds.
-const TURN: u64 = 10;
+/// How long a session that has the last place has for its first line, in milliseconds.
+const FIRST_LINE: u64 = 1_000;
 
 /// Serves a session whose connection is in this lobby, to its end, and gives its place back. One
 /// for which there is no memory or no pass is answered 8, and so is one that has the last place and
@@ -33,14 +34,15 @@ pub(crate) fn serve_session<
     C: Checkpoint,
     S: Read + Drop,
     W: Answers + Drop,
->(hall: &Hall<R, J, C>, lobby: &Lobby<J>, entry: Entry, caller: Caller<'_, S, W>) {
+>(hall: &Hall<R, J, C>, lobby: &Lobby<J>, entry: Entry, caller: Caller<'_, R, S, W>) {
     let Caller {
         stream,
+        timed,
         mut reader,
         mut writer,
     } = caller;
     let mut first = FirstLine::new();
-    let is_let_in = !entry.has_last || may_have_last(hall.alloc, stream, &mut reader, &mut first);
+    let is_let_in = !entry.has_last || may_have_last(hall.alloc, timed, &mut reader, &mut first);
     let found = if is_let_in {
         lobby.take_pass(hall.rt)
     } else {
@@ -51,6 +53,7 @@ pub(crate) fn serve_session<
             let rest = UntilClosed::new(hall.rt, lobby, entry, reader);
             let caller = Caller {
                 stream,
+                timed,
                 reader: first.chain(rest),
                 writer,
             };
@@ -92,24 +95,28 @@ fn reason_of(served: &Result<(), SessionFault>) -> Reason<'static> {
 
 /// Reads the first line of a session, for which it has a second, and answers whether it may have
 /// the last place: it asks for the status or a stop. Else whoever is to see what the daemon does,
-/// or to end it, would be kept out.
-fn may_have_last<S: Read>(
+/// or to end it, would be kept out. The time goes on for one that may not, so that it can't keep
+/// the place by not reading why.
+fn may_have_last<R: Clock, S: Read>(
     alloc: Global,
-    stream: &TcpStream,
+    timed: &Timed<'_, R>,
     reader: &mut S,
     first: &mut FirstLine,
 ) -> bool {
-    let _ = stream.set_read_timeout(Some(Duration::from_millis(TURN)));
-    first.read_from(reader);
-    let _ = stream.set_read_timeout(None);
-    first.asks_for_status_or_stop(alloc)
+    timed.begin(Duration::from_millis(FIRST_LINE));
+    let _ = first.wait_for(reader);
+    let may = first.asks_for_status_or_stop(alloc);
+    if may {
+        timed.end();
+    }
+    may
 }
 
 /// Serves a session with this pass, and gives that back.
 fn serve<R: Wait + Clock, J: BookNames, C: Checkpoint, S: Read + Drop, W: Answers + Drop>(
     hall: &Hall<R, J, C>,
     number: u64,
-    caller: Caller<'_, S, W>,
+    caller: Caller<'_, R, S, W>,
     pass: Pass<J>,
 ) -> Pass<J> {
     hall.tell(&Event::SessionUp { session: number });
@@ -120,6 +127,7 @@ fn serve<R: Wait + Clock, J: BookNames, C: Checkpoint, S: Read + Drop, W: Answer
         stream,
         reader,
         writer,
+        ..
     } = caller;
     let reader = FirstWatch::new(hall.alloc, FirstLook::new(reader));
     let mut session = Session::new(reader, writer);

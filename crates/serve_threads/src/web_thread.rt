@@ -6,22 +6,22 @@ use crate::hall::Hall;
 use crate::last_words::send_last_words;
 use crate::lobby::Lobby;
 use crate::session_thread::serve_session;
+use crate::timed::Timed;
 use crate::web_ends::{WebAnswers, WebLines};
+use crate::web_sides::{ReadSide, WriteSide};
 use event_journal::{Event, Reason};
 use pass_books::BookNames;
 use shared_hub::Checkpoint;
-use std::cell::Cell;
+use std::cell::{Cell, RefCell};
 use std::net::TcpStream;
 use std::rt::Clock;
 use std::sync::Wait;
 use std::time::Duration;
 use web_guests::{Refusal, admit};
+use web_lines::Outlet;
 
-/// How long one read of the head of its request waits, in milliseconds: it has two seconds in all.
-const TURN: u64 = 5;
-
-/// How long one write of the answer to it waits, in seconds.
-const PATIENCE: u64 = 2;
+/// How long the head of its request may take, and one write of the answer to it, in seconds.
+const HEAD: u64 = 2;
 
 /// Serves a session whose connection is in this lobby, once it asked for a WebSocket and may come,
 /// to its end, and gives its place back.
@@ -31,7 +31,8 @@ pub(crate) fn serve_web<R: Wait + Clock, J: BookNames, C: Checkpoint>(
     entry: Entry,
     stream: &TcpStream,
 ) {
-    if let Err(refusal) = let_in(hall, stream) {
+    let timed = Timed::new(hall.rt, stream);
+    if let Err(refusal) = let_in(hall, stream, &timed) {
         if is_answered(refusal) {
             send_last_words(stream);
         }
@@ -39,11 +40,22 @@ pub(crate) fn serve_web<R: Wait + Clock, J: BookNames, C: Checkpoint>(
         lobby.leave(hall.rt, entry, None);
         return;
     }
+    let outlet = RefCell::new(Outlet::new(hall.alloc));
+    let heard = ReadSide {
+        timed: &timed,
+        stream,
+        outlet: &outlet,
+    };
+    let said = WriteSide {
+        stream,
+        outlet: &outlet,
+    };
     let is_closed = Cell::new(false);
     let caller = Caller {
         stream,
-        reader: WebLines::new(hall.alloc, stream, &is_closed),
-        writer: WebAnswers::new(hall.alloc, stream, &is_closed),
+        timed: &timed,
+        reader: WebLines::new(hall.alloc, heard, &is_closed),
+        writer: WebAnswers::new(hall.alloc, said, &is_closed),
     };
     serve_session(hall, lobby, entry, caller);
 }
@@ -57,19 +69,18 @@ fn is_answered(refusal: Refusal) -> bool {
 }
 
 /// Reads what a connection asks for, and answers that.
-fn let_in<R: Wait, J: BookNames, C: Checkpoint>(
+fn let_in<R: Wait + Clock, J: BookNames, C: Checkpoint>(
     hall: &Hall<R, J, C>,
     stream: &TcpStream,
+    timed: &Timed<'_, R>,
 ) -> Result<(), Refusal> {
     let Ok(place) = stream.local_addr() else {
         return Err(Refusal::Failed);
     };
-    let _ = stream.set_read_timeout(Some(Duration::from_millis(TURN)));
-    let _ = stream.set_write_timeout(Some(Duration::from_secs(PATIENCE)));
+    timed.begin(Duration::from_secs(HEAD));
     let origins = hall.manner.origins;
-    let admitted = admit(hall.alloc, stream, place.port(), origins, None);
-    let _ = stream.set_read_timeout(None);
-    let _ = stream.set_write_timeout(None);
+    let admitted = admit(hall.alloc, timed, place.port(), origins, None);
+    timed.end();
     match admitted {
         Ok(_socket) => Ok(()),
         Err(refusal) => Err(refusal),

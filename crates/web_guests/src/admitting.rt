@@ -25,8 +25,8 @@ use websocket::handshake::server::{check_request, write_response};
 const MOST_FIELDS: usize = 64;
 
 /// Lets a guest in that asks for a WebSocket and may come, or tells it why not and closes the
-/// stream. Nothing after its head was read then. The stream has to have a time limit for each read
-/// and write: the head takes 400 reads at most.
+/// stream. Nothing after its head was read then. How long that may take is the stream's to say: a
+/// read fails (`TimedOut`) and a write ends once the guest's time is over.
 pub fn admit<S: Read + Write + Drop>(
     alloc: Global,
     mut stream: S,

@@ -9,17 +9,18 @@ use crate::refusal::Refusal;
 use first_bytes::has_to_wait;
 use httparse::spans::{HeaderSpan, RequestSpans, parse_request};
 use httparse::{Error, Status};
-use std::io::Read;
+use std::io::{ErrorKind, Read};
 
 /// The longest head, in bytes.
 const LONGEST: usize = 8_192;
 
-/// How many times at most is read until the head is there. The caller's time limit is that of one
-/// read, so a guest that sends its head byte by byte keeps a place for that often at most.
-const TURNS: usize = 400;
+/// How many times at most is read until the head is there: a read that was neither the last one nor
+/// interrupted has given a byte at least.
+const TURNS: usize = 2 * LONGEST;
 
 /// Reads a head from a stream of which nothing was read, and finds its parts. A guest that says
-/// more than its head before it is answered is refused.
+/// more than its head before it is answered is refused, and so is one whose time is over (the
+/// stream's `TimedOut`).
 pub fn read_head<S: Read>(
     stream: &mut S,
     head: &mut Vec<u8>,
@@ -46,7 +47,7 @@ pub fn read_head<S: Read>(
     Err(Refusal::TooSlow)
 }
 
-/// Reads once, after what is there; nothing where nothing came in time.
+/// Reads once, after what is there; nothing if the read was interrupted or would have to wait.
 fn read_once<S: Read>(stream: &mut S, head: &mut Vec<u8>) -> Result<(), Refusal>
     ensures ok { OnOk result (TakesMore (S.remaining stream.old) (S.remaining stream.new)
         head.old.items head.new.items) }
@@ -56,6 +57,7 @@ fn read_once<S: Read>(stream: &mut S, head: &mut Vec<u8>) -> Result<(), Refusal>
     match stream.read(&mut piece) {
         Ok(0) => Err(Refusal::Failed),
         Ok(count) => add(&piece[..count], head),
+        Err(error) if error.kind() == ErrorKind::TimedOut => Err(Refusal::TooSlow),
         Err(error) if has_to_wait(error.kind()) => Ok(()),
         Err(_) => Err(Refusal::Failed),
     }

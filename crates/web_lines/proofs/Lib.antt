@@ -1,3 +1,4 @@
+mod GoingLemmas
 mod HandingLemmas
 mod JoiningLemmas
 mod TakingLemmas

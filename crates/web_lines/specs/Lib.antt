@@ -1,4 +1,5 @@
 pub mod Answering
 pub mod Endings
 pub mod Lines
+pub mod Outgoing
 pub mod Reading

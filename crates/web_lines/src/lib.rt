@@ -8,9 +8,11 @@ mod ending;
 mod held_lines;
 mod laws;
 mod message_lines;
+mod outlet;
 
 pub use answer_messages::AnswerMessages;
 pub use connection::LONGEST;
 pub use ending::Ending;
 pub use laws::{calls_add_up, writes_add_up};
 pub use message_lines::MessageLines;
+pub use outlet::Outlet;
