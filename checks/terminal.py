@@ -8,9 +8,11 @@ import subprocess
 
 from daemon import HOST, free_ports
 from locks import Session, as_nobody
-from program import REPLICA, fault, insert, new_file, run, write
+from program import REPLICA, fault, insert, line, new_file, run, write
 from sentences import sentences
 from words import MADE
+
+STATUS = line(op="status")
 
 
 def on_terminal(program, *words, **how):
@@ -110,7 +112,33 @@ def check_ports(checks, program):
     same(checks, program, ("serve", "none", *ports), 54, "none", "NotThere")
 
 
+GREETING = (
+    b"peritext: a session over a new store in memory, which is gone at its end. It waits for requests, a line\n"
+    b"peritext: each; Ctrl-D ends it. 'peritext --help' tells of files and of requests.\n"
+)
+
+
+def check_without_words(checks, program):
+    """Who starts the program alone at a terminal is told what it waits for; on others' standard error nothing is said."""
+    shown, end = pty.openpty()
+    run = subprocess.Popen([program], stdin=end, stdout=subprocess.PIPE, stderr=end)
+    os.close(end)
+    os.write(shown, STATUS)
+    answers = run.stdout.readline(), run.stdout.readline()
+    os.write(shown, b"\x04")
+    checks.same("a session at a terminal", (answers[0], b'"open"' in answers[1], run.wait(timeout=60)), (b'{"ok":true}\n', True, 0))
+    run.stdout.close()
+    said = os.read(shown, 4096).replace(b"\r\n", b"\n")
+    os.close(shown)
+    # The terminal shows what is typed too.
+    checks.same("what it is told first", said.replace(STATUS, b""), GREETING)
+    for words in ((), ("edit", "none")):
+        said = on_terminal(program, *words)[2]
+        checks.holds(f"without input from a terminal {words}", GREETING not in said)
+
+
 def check(checks, program, _until):
+    check_without_words(checks, program)
     check_files(checks, program)
     check_rights(checks, program)
     check_held(checks, program)

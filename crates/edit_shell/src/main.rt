@@ -2,6 +2,7 @@
 #![tactic(auto)]
 
 mod error_way;
+mod greeting;
 mod held;
 mod looking;
 mod origins;
@@ -14,5 +15,7 @@ mod telling;
 use std::process::ExitCode;
 
 fn main(rt: HostRuntime) -> ExitCode {
-    ExitCode::from(standard::run(&rt, &mut rt.stdout(), &mut rt.stderr()))
+    let (mut output, mut faults) = (rt.stdout(), rt.stderr());
+    greeting::greet(&rt, &rt.stdin(), &mut faults);
+    ExitCode::from(standard::run(&rt, &mut output, &mut faults))
 }

@@ -37,6 +37,8 @@ Example:
 const EDIT_EXAMPLES: &str = "\
 Each line of the input is a request, each line of the output its answer. An edit is answered
 once it is on the disk. Nobody else can have the file open meanwhile (54).
+Exit status: 0, though requests were refused: their answers say so. 1 with a line 'peritext:
+NUMBER WORD' on standard error if the file can't be opened (54) or the device failed (9).
 
 Examples of requests:
   {\"op\":\"insert\",\"doc\":1,\"at\":0,\"text\":\"Hello\"}
