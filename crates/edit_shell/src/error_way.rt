@@ -60,7 +60,7 @@ impl Write for ErrorWay {
 }
 
 /// Writes what comes, until nothing more does or nothing can be written.
-fn pass_on<F: Write + Drop>(mut from: UnixStream, mut errors: F) {
+fn pass_on<S: Read + Drop, F: Write + Drop>(mut from: S, mut errors: F) {
     let mut piece = [0; PIECE];
     for _ in 0..u64::MAX {
         match from.read(&mut piece) {

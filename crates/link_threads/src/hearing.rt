@@ -74,7 +74,7 @@ pub(crate) struct Hearing<'a, R: Wait + Clock, J: BookNames, C: Checkpoint> {
 
 impl<'a, R: Wait + Clock, J: BookNames, C: Checkpoint> Hearing<'a, R, J, C> {
     /// One that has heard nothing so far.
-    pub fn new(
+    pub(crate) fn new(
         host: &'a LinkHost<'a, R, J, C>,
         end: &'a LinkEnd,
         pass: &'a mut Pass<J>,
@@ -101,7 +101,7 @@ impl<'a, R: Wait + Clock, J: BookNames, C: Checkpoint> Hearing<'a, R, J, C> {
     /// Hears what the other end says, and merges its operations, until the stream ends, breaks its
     /// rules or says BYE; an operation is refused for good, for want of steps (10) or since the
     /// device failed (9); or the other end has operations of this replica that aren't here.
-    pub fn run<S: Read>(&mut self, alloc: Global, own: ReplicaId, stream: &mut S) {
+    pub(crate) fn run<S: Read>(&mut self, alloc: Global, own: ReplicaId, stream: &mut S) {
         let mut piece = [0; PIECE];
         for _ in self.rt.forever() {
             let count = match stream.read(&mut piece) {

@@ -51,7 +51,7 @@ struct EndState {
 
 impl LinkEnd {
     /// A link of this replica. An error is out of memory (1).
-    pub fn start(alloc: Global, own: ReplicaId) -> Result<LinkEnd, AllocError> {
+    pub(crate) fn start(alloc: Global, own: ReplicaId) -> Result<LinkEnd, AllocError> {
         let link = Link::start(alloc, own)?;
         Ok(LinkEnd {
             held: Mutex::new(EndState {
@@ -69,13 +69,13 @@ impl LinkEnd {
     }
 
     /// Takes bytes of the other end, as `Link::feed` does.
-    pub fn feed<R: Wait>(&self, rt: &R, bytes: &[u8]) -> Result<(), LinkError> {
+    pub(crate) fn feed<R: Wait>(&self, rt: &R, bytes: &[u8]) -> Result<(), LinkError> {
         self.held.lock(rt).link.feed(bytes)
     }
 
     /// Whether bytes begin with the HELLO that this replica says itself. Not where there is no
     /// memory to tell.
-    pub fn is_own_hello(alloc: Global, own: ReplicaId, bytes: &[u8]) -> bool {
+    pub(crate) fn is_own_hello(alloc: Global, own: ReplicaId, bytes: &[u8]) -> bool {
         match Link::start(alloc, own) {
             Ok(link) => {
                 let mut link = link;
@@ -86,67 +86,67 @@ impl LinkEnd {
     }
 
     /// The next frame of the other end.
-    pub fn next<R: Wait>(&self, rt: &R) -> Option<Said> {
+    pub(crate) fn next<R: Wait>(&self, rt: &R) -> Option<Said> {
         self.held.lock(rt).next()
     }
 
     /// Marks that nothing more is heard: once all that is due is told, the link ends.
-    pub fn end_hearing<R: Wait>(&self, rt: &R) {
+    pub(crate) fn end_hearing<R: Wait>(&self, rt: &R) {
         self.held.lock(rt).has_heard_all = true;
     }
 
     /// Whether nothing more is heard, though all that is due is to be told yet.
-    pub fn has_heard_all<R: Wait>(&self, rt: &R) -> bool {
+    pub(crate) fn has_heard_all<R: Wait>(&self, rt: &R) -> bool {
         self.held.lock(rt).has_heard_all
     }
 
     /// Marks that the thread that hears has ended. If all that is due is to be told yet, the other
     /// one goes on until it is.
-    pub fn end_unless_due<R: Wait>(&self, rt: &R) {
+    pub(crate) fn end_unless_due<R: Wait>(&self, rt: &R) {
         let mut held = self.held.lock(rt);
         held.is_over |= !held.has_heard_all;
     }
 
     /// Marks that one of the two threads has ended.
-    pub fn end<R: Wait>(&self, rt: &R) {
+    pub(crate) fn end<R: Wait>(&self, rt: &R) {
         self.held.lock(rt).is_over = true;
     }
 
     /// Whether one of the two threads has ended.
-    pub fn is_over<R: Wait>(&self, rt: &R) -> bool {
+    pub(crate) fn is_over<R: Wait>(&self, rt: &R) -> bool {
         self.held.lock(rt).is_over
     }
 
     /// Whether the other end took something of what was told, as a HAVE of it says.
-    pub fn was_taken<R: Wait>(&self, rt: &R) -> bool {
+    pub(crate) fn was_taken<R: Wait>(&self, rt: &R) -> bool {
         self.held.lock(rt).told.was_taken()
     }
 
     /// Whether a HAVE since the last call counted no more than the one before it, so that what was
     /// told is asked for again.
-    pub fn take_asked_again<R: Wait>(&self, rt: &R) -> bool {
+    pub(crate) fn take_asked_again<R: Wait>(&self, rt: &R) -> bool {
         mem::take(&mut self.held.lock(rt).is_asked_again)
     }
 
     /// The clock of what the other end has or was told; `None` before a HAVE was heard, and as
     /// long as nothing more is to be told before the next one.
-    pub fn base<R: Wait>(&self, rt: &R) -> Result<Option<Clock>, AllocError> {
+    pub(crate) fn base<R: Wait>(&self, rt: &R) -> Result<Option<Clock>, AllocError> {
         self.held.lock(rt).base()
     }
 
     /// The other end's replica, and the clock of its last HAVE, if that is another one than the
     /// last time. If there is no memory for it, it is given the next time.
-    pub fn take_heard<R: Wait>(&self, rt: &R) -> Option<(ReplicaId, Clock)> {
+    pub(crate) fn take_heard<R: Wait>(&self, rt: &R) -> Option<(ReplicaId, Clock)> {
         self.held.lock(rt).take_heard()
     }
 
     /// Says a HAVE, as `Link::say_have` does.
-    pub fn say_have<R: Wait>(&self, rt: &R, clock: &Clock) -> Result<(), LinkError> {
+    pub(crate) fn say_have<R: Wait>(&self, rt: &R, clock: &Clock) -> Result<(), LinkError> {
         self.held.lock(rt).link.say_have(clock)
     }
 
     /// Says operations, as `Link::say_ops` does.
-    pub fn say_ops<R: Wait>(&self, rt: &R, ops: &[Op]) -> Result<(), LinkError>
+    pub(crate) fn say_ops<R: Wait>(&self, rt: &R, ops: &[Op]) -> Result<(), LinkError>
         requires some { 1 ≤ length ops.now }
         requires most { length ops.now ≤ MAX_TOLD }
     {
@@ -154,12 +154,12 @@ impl LinkEnd {
     }
 
     /// Says BYE, as `Link::say_bye` does.
-    pub fn say_bye<R: Wait>(&self, rt: &R) -> Result<(), LinkError> {
+    pub(crate) fn say_bye<R: Wait>(&self, rt: &R) -> Result<(), LinkError> {
         self.held.lock(rt).link.say_bye()
     }
 
     /// The bytes of what was said and not yet taken.
-    pub fn take_out<R: Wait>(&self, rt: &R) -> Vec<u8> {
+    pub(crate) fn take_out<R: Wait>(&self, rt: &R) -> Vec<u8> {
         self.held.lock(rt).link.take_out()
     }
 }

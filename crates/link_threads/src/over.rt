@@ -29,7 +29,7 @@ pub(crate) enum Over {
 
 impl Over {
     /// The number of the refusal that ended the link, or 0 where nothing was refused.
-    pub fn number(self) -> u8 {
+    pub(crate) fn number(self) -> u8 {
         match self {
             Over::Closed | Over::Bye => 0,
             Over::NoMemory => MEMORY,

@@ -24,17 +24,17 @@ pub(crate) struct Patience {
 
 impl Patience {
     /// The first pause comes next.
-    pub fn new() -> Patience {
+    pub(crate) fn new() -> Patience {
         Patience { next: 0 }
     }
 
     /// Notes that an operation was taken: the first pause comes next.
-    pub fn end(&mut self) {
+    pub(crate) fn end(&mut self) {
         self.next = 0;
     }
 
     /// Makes a pause, and answers whether the link goes on; it ends sooner if that doesn't.
-    pub fn pause<R: Wait + Clock>(&mut self, rt: &R, end: &LinkEnd) -> bool {
+    pub(crate) fn pause<R: Wait + Clock>(&mut self, rt: &R, end: &LinkEnd) -> bool {
         let time = self.next;
         self.next = LONGEST.min(SECOND.max(time.saturating_mul(2)));
         for _ in 0..time / LOOK {

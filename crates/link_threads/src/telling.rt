@@ -43,7 +43,7 @@ pub(crate) struct Telling<'a, R: Wait + Clock, J: BookNames> {
 impl<'a, R: Wait + Clock, J: BookNames> Telling<'a, R, J> {
     /// The thread of the link whose pass has this number, with the notes of the one that hears.
     /// Nothing was said so far.
-    pub fn new<C: Checkpoint>(
+    pub(crate) fn new<C: Checkpoint>(
         host: &'a LinkHost<'a, R, J, C>,
         end: &'a LinkEnd,
         link: usize,
@@ -62,7 +62,7 @@ impl<'a, R: Wait + Clock, J: BookNames> Telling<'a, R, J> {
 
     /// Says what is due, each time that there is something, until nothing more is heard or the
     /// daemon ends; and then BYE, unless the stream has failed.
-    pub fn run<S: Write>(&mut self, stream: &mut S) {
+    pub(crate) fn run<S: Write>(&mut self, stream: &mut S) {
         let mut peer = SharedPeer {
             rt: self.rt,
             shared: self.shared,

@@ -25,7 +25,7 @@ struct Place {
 
 impl Told {
     /// Nothing was told so far.
-    pub fn nothing() -> Told {
+    pub(crate) fn nothing() -> Told {
         Told {
             first: None,
             is_asked_again: false,
@@ -34,7 +34,7 @@ impl Told {
     }
 
     /// Notes operations that were told, of which this is the first.
-    pub fn add(&mut self, op: &Op) {
+    pub(crate) fn add(&mut self, op: &Op) {
         if self.first.is_none() {
             let replica = op.id.replica();
             let before = op.deps.get(replica);
@@ -43,12 +43,12 @@ impl Told {
     }
 
     /// Whether operations were told since the last HAVE.
-    pub fn is_some(&self) -> bool {
+    pub(crate) fn is_some(&self) -> bool {
         self.first.is_some()
     }
 
     /// Notes a HAVE of this clock.
-    pub fn hear_have(&mut self, clock: &Clock) {
+    pub(crate) fn hear_have(&mut self, clock: &Clock) {
         if let Some(first) = self.first.take() {
             self.is_asked_again = clock.get(first.replica) <= first.before;
             self.was_taken |= !self.is_asked_again;
@@ -56,12 +56,12 @@ impl Told {
     }
 
     /// Whether no more is to be told before the next HAVE.
-    pub fn is_enough(&self) -> bool {
+    pub(crate) fn is_enough(&self) -> bool {
         self.is_asked_again && self.first.is_some()
     }
 
     /// Whether the other end took something of what was told, at any time.
-    pub fn was_taken(&self) -> bool {
+    pub(crate) fn was_taken(&self) -> bool {
         self.was_taken
     }
 }

@@ -21,7 +21,7 @@ const TURNS: usize = 2 * LONGEST;
 /// Reads a head from a stream of which nothing was read, and finds its parts. A guest that says
 /// more than its head before it is answered is refused, and so is one whose time is over (the
 /// stream's `TimedOut`).
-pub fn read_head<S: Read>(
+pub(crate) fn read_head<S: Read>(
     stream: &mut S,
     head: &mut Vec<u8>,
     spans: &mut [HeaderSpan],

@@ -12,7 +12,7 @@ ghost use Rattle.web_guests.specs.Origins.{is_own_port, until};
 const LONGEST: usize = 255;
 
 /// Whether a browser writes an origin like this, of 255 bytes at most.
-pub fn is_origin(text: &[u8]) -> bool
+pub(crate) fn is_origin(text: &[u8]) -> bool
     ensures { result ≡ is_origin text.now }
 {
     text.len() <= LONGEST && is_from_place(text)

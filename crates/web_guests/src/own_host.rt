@@ -7,7 +7,7 @@ use itoa::Buffer;
 
 /// Whether the host is `127.0.0.1` or `localhost`, in any case, with this port; without a port only
 /// if it is 80. Any other name may point here too, as one that a web page's owner has set up does.
-pub fn is_own_host(host: &[u8], port: u16) -> bool
+pub(crate) fn is_own_host(host: &[u8], port: u16) -> bool
     ensures { result ≡ is_own_host port host.now }
 {
     is_host_named(host, b"127.0.0.1", port) || is_host_named(host, b"localhost", port)

@@ -18,7 +18,7 @@ pub const LONGEST: usize = 65_536;
 const PIECE: usize = 4_096;
 
 /// A server's socket on a stream of which nothing was read since its handshake.
-pub fn server<S: Drop>(alloc: Global, stream: S) -> WebSocket<S, NoMask>
+pub(crate) fn server<S: Drop>(alloc: Global, stream: S) -> WebSocket<S, NoMask>
     ensures fresh { IsFresh result stream Server }
     ensures messages { result.conn.config.max_message_size ≡ Some 65_536 }
     ensures frames { result.conn.config.max_frame_size ≡ Some 65_536 }
@@ -33,7 +33,7 @@ pub fn server<S: Drop>(alloc: Global, stream: S) -> WebSocket<S, NoMask>
 
 /// Sends a text message. If the stream fails the message waits, and the next flush tells why. An
 /// error leaves the socket as it was: `NotConnected` after a close, or `OutOfMemory`.
-pub fn send_text<S: Read + Write + Drop>(
+pub(crate) fn send_text<S: Read + Write + Drop>(
     socket: &mut WebSocket<S, NoMask>,
     alloc: Global,
     words: &str,
@@ -55,7 +55,7 @@ pub fn send_text<S: Read + Write + Drop>(
 
 /// Sends a close, unless one was sent or answered before, and all that waits. If it fails for the
 /// stream the next call goes on.
-pub fn send_close<S: Read + Write + Drop>(
+pub(crate) fn send_close<S: Read + Write + Drop>(
     socket: &mut WebSocket<S, NoMask>,
     frame: CloseFrame,
 ) -> io::Result<()>
@@ -70,7 +70,7 @@ pub fn send_close<S: Read + Write + Drop>(
 }
 
 /// A close with this code and no reason.
-pub fn bare_close(code: CloseCode) -> CloseFrame
+pub(crate) fn bare_close(code: CloseCode) -> CloseFrame
     ensures code { result.code ≡ code }
     ensures reason { result.reason ≡ [] }
 {
@@ -83,7 +83,7 @@ pub fn bare_close(code: CloseCode) -> CloseFrame
 /// An error of a socket as one of a reader or a writer: the stream's as it was, `OutOfMemory`,
 /// `NotConnected` for a connection that is closed, and `InvalidInput` for a close that can't be
 /// sent.
-pub fn io_error(error: Error) -> io::Error {
+pub(crate) fn io_error(error: Error) -> io::Error {
     match error {
         Error::Io(error) => error,
         Error::OutOfMemory => io::Error::from(ErrorKind::OutOfMemory),

@@ -25,7 +25,7 @@ impl Model for HeldLines {
 
 impl HeldLines {
     /// Nothing.
-    pub fn nothing() -> HeldLines
+    pub(crate) fn nothing() -> HeldLines
         ensures { result ≡ [] }
     {
         HeldLines {
@@ -35,7 +35,7 @@ impl HeldLines {
     }
 
     /// The lines of a message: none of one that is no text.
-    pub fn of(message: Message) -> HeldLines
+    pub(crate) fn of(message: Message) -> HeldLines
         ensures { result ≡ lines_of (content_of message) }
     {
         match message {
@@ -56,14 +56,14 @@ impl HeldLines {
     }
 
     /// Whether nothing is left.
-    pub fn is_empty(&self) -> bool
+    pub(crate) fn is_empty(&self) -> bool
         ensures { IsTrue result ↔ (self.now ≡ []) }
     {
         self.text.is_empty() && !self.is_feed_due
     }
 
     /// Hands on what fits into a piece, and tells how many bytes.
-    pub fn hand_on(&mut self, piece: &mut [u8]) -> usize
+    pub(crate) fn hand_on(&mut self, piece: &mut [u8]) -> usize
         ensures bound { result ≤ length piece.new }
         ensures bytes { self.old ≡ take result piece.new ++ self.new }
         ensures some { result ≡ 0 → 0 < length piece.new → self.old ≡ [] }
