@@ -3,10 +3,11 @@ afterwards.
 
 python3 bench/soak.py PROGRAM [MINUTES [FOLDER]]. 10 minutes, if none are given; the files are made in FOLDER, or here. Each edit inserts a
 token that nothing else inserts. At the end all three have to show the same texts, each answered token once, each other one at most once,
-and whole. Beside the two links between them, six peers only listen: at the end each has to have been told every operation once. The first
+and whole. Every third session comes by a WebSocket, and pings too. Beside the two links between them, six peers only listen: at the end each has to have been told every operation once. The first
 daemon isn't killed in the first half, so that its memory can be seen beside that of the same file opened anew.
 """
 
+import json
 import os
 import random
 import sys
@@ -15,9 +16,14 @@ import threading
 import time
 
 from followers import Follower
-from servers import REPLICAS, Daemon, Refused
+from servers import REPLICAS, Daemon, Refused, free_port
+
+sys.path.append(os.path.join(os.path.dirname(os.path.abspath(__file__)), "..", "checks"))
+from web_frames import PING, PONG, WebSocket, frame  # the client of the checks
 
 SESSIONS, DAEMONS, DOCUMENTS, FOLLOWERS = 32, 3, 8, 6
+# Of so many sessions one comes by a WebSocket, and how many of its requests have a ping before them.
+WEBS, PINGED = 3, 0.2
 # A token has so many characters; nobody inserts inside one, so each is whole in the text.
 TOKEN = 6
 # Seconds between two edits of a session, and between two kills, at most.
@@ -33,6 +39,29 @@ def token(number):
 def resident(process):
     with open(f"/proc/{process}/status", encoding="ascii") as file:
         return next(int(line.split()[1]) * 1024 for line in file if line.startswith("VmRSS:"))
+
+
+class WebTalk:
+    """A session by a WebSocket."""
+
+    def __init__(self, port, chance):
+        self.socket, self.chance = WebSocket(port), chance
+        if self.socket.status != 101:
+            raise ConnectionError(f"status {self.socket.status}")
+
+    def ask(self, **fields):
+        is_pinged = self.chance.random() < PINGED
+        if is_pinged:
+            self.socket.send(frame(PING, b"there?"))
+        self.socket.say(json.dumps(fields))
+        if is_pinged and self.socket.frame() != (PONG, b"there?"):
+            raise ConnectionError("no pong")
+        answer = self.socket.answer()
+        if not isinstance(answer, dict):
+            raise ConnectionError("no answer")
+        if not answer["ok"]:
+            raise Refused(answer)
+        return answer
 
 
 class Tokens:
@@ -63,13 +92,14 @@ class Tokens:
                 self.open[doc].discard(name)
 
 
-def edit(daemon, tokens, over, chance):
+def edit(daemon, tokens, over, chance, by_web):
     """A session that edits until it is over; where the daemon is gone it comes again."""
     talk = None
+    begin = (lambda: WebTalk(daemon.web, chance)) if by_web else daemon.talk
     while not over.wait(chance.random() * PAUSE):
         doc, name = chance.randrange(DOCUMENTS), tokens.take()
         try:
-            talk = talk or daemon.talk()
+            talk = talk or begin()
             begun = time.perf_counter()
             tokens.open[doc].add(name)
             talk.ask(op="insert", doc=doc + 1, at=0, text=name)
@@ -86,7 +116,7 @@ class Row:
     """Three daemons, each of which joins the one before."""
 
     def __init__(self, program, folder):
-        self.daemons = [Daemon(program, os.path.join(folder, f"store{n}"), REPLICAS[n]) for n in range(DAEMONS)]
+        self.daemons = [Daemon(program, os.path.join(folder, f"store{n}"), REPLICAS[n], web=free_port()) for n in range(DAEMONS)]
         self.kills = 0
         for number in range(DAEMONS):
             self.start(number)
@@ -147,7 +177,7 @@ def soaked(row, tokens, seconds, chance):
     """Edits and kills for so long."""
     over = threading.Event()
     threads = [
-        threading.Thread(target=edit, args=(row.daemons[n % DAEMONS], tokens, over, random.Random(n))) for n in range(SESSIONS)
+        threading.Thread(target=edit, args=(row.daemons[n % DAEMONS], tokens, over, random.Random(n), n // DAEMONS % WEBS == 0)) for n in range(SESSIONS)
     ]
     for thread in threads:
         thread.start()

@@ -1,11 +1,29 @@
--- What is shown of a document.
-use Rattle.std.specs.Prelude.{ℕ, List, ◌++◌}
+-- What is shown of a document, and of a disk.
+use Rattle.std.specs.Prelude.{◌≡◌, ◌⊎◌, ℕ, List, ◌++◌}
 use Rattle.op_model.specs.declared.op.Op.{Op}
 use Rattle.op_model.specs.Text.{text, rev}
 use Rattle.op_model.specs.Spans.{spans}
 use Rattle.session_lines.specs.Saying.{said}
 use Rattle.session_lines.specs.declared.answer.Answer.TheVariants.{Text, Spans}
+use Rattle.recovery.specs.Faults.{IsFault, number_of as number_of_open}
+use Rattle.recovery.specs.Image.{IsImage}
+use Rattle.recovery.specs.declared.open_fault.OpenError.{OpenError}
+use Rattle.store_orders.specs.Ends.{number_of}
+use Rattle.store_orders.specs.declared.fault.Fault.{Fault}
+use Rattle.store_orders.specs.declared.fault.Fault.TheVariants.{Memory}
 
 -- its text, and the text cut where its marks change, a line each
 abbrev pub said_document : List Op → ℕ → List ℕ
 said_document list doc = said (Text (rev list doc) (text list doc)) ++ said (Spans (rev list doc) (spans list doc))
+
+-- these bytes are what is told of the operations of a file's image
+pub record TellsImage (told : List Op → List ℕ) (file bytes : List ℕ) : Type 0 where
+  pub replica : ℕ
+  pub version : ℕ
+  pub ops : List Op
+  pub image : IsImage file replica version ops
+  pub tells : bytes ≡ told ops
+
+-- memory was refused, or this is the refusal of an opening of the file
+abbrev pub Refuses : Fault → List ℕ → Type 0
+Refuses fault file = (fault ≡ Memory) ⊎ ((cause : OpenError) × (number_of fault ≡ number_of_open cause) × IsFault cause file)

@@ -1,7 +1,8 @@
 //! What is told of all documents of a replica, and of the room in its file.
-ghost use Rattle.std.specs.Prelude.{◌≡◌, ◌++◌, flat_map, IfOk, OnOk};
+ghost use Rattle.std.specs.Prelude.{◌≡◌, ◌++◌, flat_map, IfOk, IfErr, OnOk};
 ghost use Rattle.op_model.specs.Causality.{documents};
 ghost use Rattle.file_listing.specs.Listing.{document_line, room_of, said_listing};
+ghost use Rattle.store_orders.specs.declared.fault.Fault.TheVariants.{Memory};
 
 use crate::fault::Fault;
 use file_listing::{FileRoom, documents, put_document, put_room};
@@ -10,8 +11,9 @@ use std::alloc::{AllocError, Global};
 
 /// A line for each document that has operations, in rising order, and one for the room in the file.
 /// `Memory` (1) where a growth was refused. Costs what the text of each document does.
-pub fn listing(alloc: Global, replica: &Replica) -> Result<Vec<u8>, Fault>
-    ensures { IfOk result (λ lines. lines.items ≡ said_listing replica.now.list) }
+pub(crate) fn listing(alloc: Global, replica: &Replica) -> Result<Vec<u8>, Fault>
+    ensures ok { IfOk result (λ lines. lines.items ≡ said_listing replica.now.list) }
+    ensures err { IfErr result (λ fault. fault ≡ Memory) }
 {
     let numbers = documents(alloc, &replica.list())?;
     let mut lines = Vec::new(alloc);

@@ -6,7 +6,7 @@ use std::alloc::Global;
 use std::io::Write;
 
 /// The lines of answers, all or none: where one of them is a refusal, there was no memory for it.
-pub fn lines(alloc: Global, answers: &[Answer]) -> Result<Vec<u8>, Fault> {
+pub(crate) fn lines(alloc: Global, answers: &[Answer]) -> Result<Vec<u8>, Fault> {
     let mut text = Vec::new(alloc);
     for answer in answers {
         if let Answer::Refused(_) = answer {

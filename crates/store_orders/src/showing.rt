@@ -1,10 +1,15 @@
 //! What is shown of a file. Its replica alone is opened, without the part of a hub that commits,
 //! which has a copy of the records. The file is let go of before anything is printed: a reader that
 //! takes its time holds up no session.
-ghost use Rattle.std.specs.Prelude.{◌≡◌, IfOk};
+ghost use Rattle.std.specs.Prelude.{◌≡◌, ℕ, IfOk, IfErr, IsErrAnd};
 ghost use Rattle.op_model.specs.Spans.{spans as spans_of};
+ghost use Rattle.file_listing.specs.Listing.{said_listing};
+ghost use Rattle.group_commit.specs.Opening.{IsLookedAt};
+ghost use Rattle.recovery.specs.Faults.{number_of as number_of_open};
 ghost use Rattle.span_export.specs.Exported.{exported};
-ghost use Rattle.store_orders.specs.Shown.{said_document};
+ghost use Rattle.store_orders.specs.Ends.{number_of};
+ghost use Rattle.store_orders.specs.Shown.{said_document, Refuses, TellsImage};
+ghost use Rattle.store_orders.specs.declared.fault.Fault.TheVariants.{Memory};
 
 use crate::fault::Fault;
 use crate::listing::listing;
@@ -27,8 +32,15 @@ pub struct Shown<D: Disk> {
     pub lines: Result<Vec<u8>, Fault>,
 }
 
-/// Shows the text and the spans of a document, a line each.
-pub fn show<D: Disk>(alloc: Global, disk: D, doc: u32) -> Shown<D> {
+/// Shows the text and the spans of a document, a line each: of a disk that tells its content those
+/// of its image, else the file's first fault, the device's, or `Memory` (1). Nothing is written.
+pub fn show<D: Disk>(alloc: Global, disk: D, doc: u32) -> Shown<D>
+    ensures shown { D.tells disk → IfOk result.lines (λ lines.
+        TellsImage (λ list. said_document list doc) (D.content disk) lines.items) }
+    ensures refused { D.tells disk → IfErr result.lines (λ fault.
+        Refuses fault (D.content disk)) }
+    ensures looked { (failures : ℕ) × IsLookedAt D.DiskFacts failures 1 disk result.disk }
+{
     match recovery::open(alloc, disk) {
         Ok(Opened { replica, store }) => Shown {
             disk: store.into_disk(),
@@ -38,8 +50,14 @@ pub fn show<D: Disk>(alloc: Global, disk: D, doc: u32) -> Shown<D> {
     }
 }
 
-/// Shows a line for each document, and one for the room in the file.
-pub fn show_all<D: Disk>(alloc: Global, disk: D) -> Shown<D> {
+/// Shows a line for each document, and one for the room in the file, as `show` does.
+pub fn show_all<D: Disk>(alloc: Global, disk: D) -> Shown<D>
+    ensures shown { D.tells disk → IfOk result.lines (λ lines.
+        TellsImage (said_listing) (D.content disk) lines.items) }
+    ensures refused { D.tells disk → IfErr result.lines (λ fault.
+        Refuses fault (D.content disk)) }
+    ensures looked { (failures : ℕ) × IsLookedAt D.DiskFacts failures 1 disk result.disk }
+{
     match recovery::open(alloc, disk) {
         Ok(Opened { replica, store }) => Shown {
             disk: store.into_disk(),
@@ -49,8 +67,14 @@ pub fn show_all<D: Disk>(alloc: Global, disk: D) -> Shown<D> {
     }
 }
 
-/// Shows a document in a form for other programs.
-pub fn show_in<D: Disk>(alloc: Global, disk: D, doc: u32, form: Form) -> Shown<D> {
+/// Shows a document in a form for other programs, as `show` does.
+pub fn show_in<D: Disk>(alloc: Global, disk: D, doc: u32, form: Form) -> Shown<D>
+    ensures shown { D.tells disk → IfOk result.lines (λ lines.
+        TellsImage (λ list. exported form (spans_of list doc)) (D.content disk) lines.items) }
+    ensures refused { D.tells disk → IfErr result.lines (λ fault.
+        Refuses fault (D.content disk)) }
+    ensures looked { (failures : ℕ) × IsLookedAt D.DiskFacts failures 1 disk result.disk }
+{
     match recovery::open(alloc, disk) {
         Ok(Opened { replica, store }) => Shown {
             disk: store.into_disk(),
@@ -61,7 +85,10 @@ pub fn show_in<D: Disk>(alloc: Global, disk: D, doc: u32, form: Form) -> Shown<D
 }
 
 /// Nothing is shown of a file that can't be opened.
-fn unopened<D: Disk>(fault: OpenFault<D>) -> Shown<D> {
+fn unopened<D: Disk>(fault: OpenFault<D>) -> Shown<D>
+    ensures lines { IsErrAnd result.lines (λ told. number_of told ≡ number_of_open fault.cause) }
+    ensures disk { result.disk ≡ fault.disk }
+{
     Shown {
         disk: fault.disk,
         lines: Err(Fault::from(fault.cause)),
@@ -71,7 +98,8 @@ fn unopened<D: Disk>(fault: OpenFault<D>) -> Shown<D> {
 /// The text of a document, and the text cut where its marks change, a line each. `Memory` (1) where
 /// a growth was refused.
 fn document_lines(alloc: Global, replica: &Replica, doc: u32) -> Result<Vec<u8>, Fault>
-    ensures { IfOk result (λ lines. lines.items ≡ said_document replica.now.list doc) }
+    ensures ok { IfOk result (λ lines. lines.items ≡ said_document replica.now.list doc) }
+    ensures err { IfErr result (λ fault. fault ≡ Memory) }
 {
     let rev = replica.rev(doc) as u64;
     let text = Answer::Text {
@@ -90,8 +118,9 @@ fn document_lines(alloc: Global, replica: &Replica, doc: u32) -> Result<Vec<u8>,
 
 /// A document in a form for other programs. `Memory` (1) where a growth was refused.
 fn document_in(alloc: Global, replica: &Replica, doc: u32, form: Form) -> Result<Vec<u8>, Fault>
-    ensures { IfOk result (λ bytes.
+    ensures ok { IfOk result (λ bytes.
         bytes.items ≡ exported form (spans_of replica.now.list doc)) }
+    ensures err { IfErr result (λ fault. fault ≡ Memory) }
 {
     let spans = replica.spans(doc)?;
     let bytes = export(alloc, form, &spans)?;
