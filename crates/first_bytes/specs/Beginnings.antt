@@ -1,21 +1,16 @@
 -- How no session begins: with a byte that stands in no line, or as an HTTP request does.
-use Rattle.std.specs.Prelude.{ℕ, List, [], ◌∷◌, Bool, true, false, ◌==◌, ◌&&◌, ◌||◌, nat_le, Option, None, Some, if◌then◌else◌}
+use Rattle.std.specs.Prelude.{ℕ, List, [], ◌∷◌, Bool, true, false, not, ◌==◌, ◌&&◌, ◌||◌, codes, Option, None, Some, if◌then◌else◌}
+use Rattle.std.specs.Char.{is_ascii_control, is_ascii_alphanumeric, char_set_contains}
 use Rattle.first_bytes.specs.declared.front.Front.{Front}
 use Rattle.first_bytes.specs.declared.front.Front.TheVariants.{Nothing, Word, Foreign, Other}
 
--- a number from one to another
-abbrev pub is_within : ℕ → ℕ → ℕ → Bool
-is_within first last byte = nat_le first byte && nat_le byte last
-
 -- a control byte (ASCII) other than tab, line feed and carriage return: as TLS, STUN and SOCKS begin, and no JSON text
 abbrev pub is_control : ℕ → Bool
-is_control byte = nat_le byte 8 || is_within 11 12 byte || is_within 14 31 byte || byte == 127
+is_control byte = is_ascii_control byte && not (byte == 9 || byte == 10 || byte == 13)
 
--- a byte of HTTP's words (RFC 9110, section 5.6.2): a letter, a digit, or one of ! # $ % & ' * + - . ^ _ ` | ~
+-- a byte of HTTP's words (RFC 9110, section 5.6.2)
 abbrev pub is_word_byte : ℕ → Bool
-is_word_byte byte =
-    is_within 48 57 byte || is_within 65 90 byte || is_within 94 122 byte || byte == 33 || is_within 35 39 byte
-    || is_within 42 43 byte || is_within 45 46 byte || byte == 124 || byte == 126
+is_word_byte byte = is_ascii_alphanumeric byte || char_set_contains (codes "!#$%&'*+-.^_`|~") byte
 
 -- the rest of a word, and a space
 abbrev pub ends_word : List ℕ → Bool

@@ -62,7 +62,7 @@ impl Front {
 fn is_control(byte: u8) -> bool
     ensures { result ≡ is_control byte }
 {
-    matches!(byte, 0..=8 | 11..=12 | 14..=31 | 127)
+    byte.is_ascii_control() && !matches!(byte, b'\t' | b'\n' | b'\r')
 }
 
 /// Whether it may stand in a method of HTTP.

@@ -1,14 +1,13 @@
 //! What is shown of a file. Its replica alone is opened, without the part of a hub that commits,
 //! which has a copy of the records. The file is let go of before anything is printed: a reader that
 //! takes its time holds up no session.
-ghost use Rattle.std.specs.Prelude.{◌≡◌, ℕ, IfOk, IfErr, IsErrAnd};
+ghost use Rattle.std.specs.Prelude.{◌≡◌, IfOk, IfErr, IsErrAnd};
 ghost use Rattle.op_model.specs.Spans.{spans as spans_of};
 ghost use Rattle.file_listing.specs.Listing.{said_listing};
-ghost use Rattle.group_commit.specs.Opening.{IsLookedAt};
 ghost use Rattle.recovery.specs.Faults.{number_of as number_of_open};
 ghost use Rattle.span_export.specs.Exported.{exported};
 ghost use Rattle.store_orders.specs.Ends.{number_of};
-ghost use Rattle.store_orders.specs.Shown.{said_document, Refuses, TellsImage};
+ghost use Rattle.store_orders.specs.Shown.{said_document, Shows};
 ghost use Rattle.store_orders.specs.declared.fault.Fault.TheVariants.{Memory};
 
 use crate::fault::Fault;
@@ -35,11 +34,7 @@ pub struct Shown<D: Disk> {
 /// Shows the text and the spans of a document, a line each: of a disk that tells its content those
 /// of its image, else the file's first fault, the device's, or `Memory` (1). Nothing is written.
 pub fn show<D: Disk>(alloc: Global, disk: D, doc: u32) -> Shown<D>
-    ensures shown { D.tells disk → IfOk result.lines (λ lines.
-        TellsImage (λ list. said_document list doc) (D.content disk) lines.items) }
-    ensures refused { D.tells disk → IfErr result.lines (λ fault.
-        Refuses fault (D.content disk)) }
-    ensures looked { (failures : ℕ) × IsLookedAt D.DiskFacts failures 1 disk result.disk }
+    ensures { Shows D.DiskFacts (λ list. said_document list doc) disk result.lines result.disk }
 {
     match recovery::open(alloc, disk) {
         Ok(Opened { replica, store }) => Shown {
@@ -52,11 +47,7 @@ pub fn show<D: Disk>(alloc: Global, disk: D, doc: u32) -> Shown<D>
 
 /// Shows a line for each document, and one for the room in the file, as `show` does.
 pub fn show_all<D: Disk>(alloc: Global, disk: D) -> Shown<D>
-    ensures shown { D.tells disk → IfOk result.lines (λ lines.
-        TellsImage (said_listing) (D.content disk) lines.items) }
-    ensures refused { D.tells disk → IfErr result.lines (λ fault.
-        Refuses fault (D.content disk)) }
-    ensures looked { (failures : ℕ) × IsLookedAt D.DiskFacts failures 1 disk result.disk }
+    ensures { Shows D.DiskFacts said_listing disk result.lines result.disk }
 {
     match recovery::open(alloc, disk) {
         Ok(Opened { replica, store }) => Shown {
@@ -69,11 +60,7 @@ pub fn show_all<D: Disk>(alloc: Global, disk: D) -> Shown<D>
 
 /// Shows a document in a form for other programs, as `show` does.
 pub fn show_in<D: Disk>(alloc: Global, disk: D, doc: u32, form: Form) -> Shown<D>
-    ensures shown { D.tells disk → IfOk result.lines (λ lines.
-        TellsImage (λ list. exported form (spans_of list doc)) (D.content disk) lines.items) }
-    ensures refused { D.tells disk → IfErr result.lines (λ fault.
-        Refuses fault (D.content disk)) }
-    ensures looked { (failures : ℕ) × IsLookedAt D.DiskFacts failures 1 disk result.disk }
+    ensures { Shows D.DiskFacts (λ list. exported form (spans_of list doc)) disk result.lines result.disk }
 {
     match recovery::open(alloc, disk) {
         Ok(Opened { replica, store }) => Shown {
