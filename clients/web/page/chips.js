@@ -7,15 +7,18 @@ const LENGTH = 8;
 
 export class Chips {
   #place;
+  #name;
   #acts;
   #ids = "";
 
   /**
    * @param {HTMLElement} place
+   * @param {string} name whose editor it is
    * @param {{show: (id: string) => void, remove: (id: string) => void}} acts
    */
-  constructor(place, acts) {
+  constructor(place, name, acts) {
     this.#place = place;
+    this.#name = name;
     this.#acts = acts;
   }
 
@@ -35,8 +38,8 @@ export class Chips {
     const chip = document.createElement("span");
     chip.className = `chip ${hueOf(id)}`;
     chip.append(
-      button("show", name, `Show the comment ${name}`, () => this.#acts.show(id)),
-      button("remove", "×", `Take the comment ${name} away`, () => this.#acts.remove(id)),
+      button("show", name, `Show the comment ${name} for ${this.#name}`, () => this.#acts.show(id)),
+      button("remove", "×", `Take the comment ${name} away for ${this.#name}`, () => this.#acts.remove(id)),
     );
     return chip;
   }

@@ -32,6 +32,15 @@ export const toggleStrong = toggle(strong);
 export const toggleEm = toggle(em);
 export const toggleLink = (href) => toggle(link, { href });
 
+/** Makes what is selected a link, to another address if it is one already. */
+export function setLink(href) {
+  return ({ tr, selection: { from, to, empty } }, dispatch) => {
+    if (empty) return false;
+    dispatch(tr.addMark(from, to, link.create({ href })));
+    return true;
+  };
+}
+
 /** A new comment on what is selected. Several may stand on one character. */
 export function addComment({ tr, selection: { from, to, empty } }, dispatch) {
   if (empty) return false;

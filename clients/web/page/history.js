@@ -8,7 +8,7 @@ import { Mapping } from "prosemirror-transform";
 
 const key = new PluginKey("history");
 
-/** What is typed with no longer pause than this, in milliseconds, is undone at once. */
+/** What is typed side by side, with no longer pause than this, in milliseconds, is undone at once. */
 const PAUSE = 500;
 
 /** How many steps are kept. */
@@ -24,23 +24,44 @@ export function history() {
   return new Plugin({
     key,
     state: {
-      init: () => ({ done: [], undone: [], time: 0 }),
+      init: () => ({ done: [], undone: [], time: 0, places: [] }),
       apply: (transaction, kept) => transaction.getMeta(key) ?? followed(kept, transaction),
     },
   });
 }
 
-/** What is kept behind a transaction. */
-function followed({ done, undone, time }, transaction) {
+/** What is kept behind a transaction; `places` are those that this editor changed last. */
+function followed(kept, transaction) {
+  const { done, undone, time, places } = kept;
   const { steps, docs, mapping } = transaction;
-  if (steps.length === 0) return { done, undone, time };
+  if (steps.length === 0) return kept;
   if (transaction.getMeta("addToHistory") === false) {
     const others = mapping.maps.map((map) => ({ map }));
-    return { done: longer(done, others), undone: longer(undone, others), time };
+    return { done: longer(done, others), undone: longer(undone, others), time, places: movedPlaces(places, mapping) };
   }
   const made = steps.map((step, index) => ({ map: mapping.maps[index], back: step.invert(docs[index]) }));
-  made[0].first = transaction.time - time > PAUSE || done.length === 0 || undone.length > 0;
-  return { done: longer(done, made).slice(-MOST), undone: [], time: transaction.time };
+  made[0].first = transaction.time - time > PAUSE || !touches(mapping.maps[0], places) || done.length === 0 || undone.length > 0;
+  return { done: longer(done, made).slice(-MOST), undone: [], time: transaction.time, places: placesOf(mapping) };
+}
+
+/** Where a transaction changed the text, in the document behind it. A mark changes none. */
+function placesOf(mapping) {
+  return mapping.maps.flatMap((map, index) => {
+    const places = [];
+    map.forEach((_, __, from, to) => places.push({ from, to }));
+    return movedPlaces(places, mapping.slice(index + 1));
+  });
+}
+
+function movedPlaces(places, mapping) {
+  return places.map(({ from, to }) => ({ from: mapping.map(from, 1), to: mapping.map(to, -1) }));
+}
+
+/** Whether a step changes the text in one of some places, or right beside it. */
+function touches(map, places) {
+  let isBeside = false;
+  map.forEach((start, end) => (isBeside ||= places.some(({ from, to }) => start <= to && end >= from)));
+  return isBeside;
 }
 
 /** Where there is nothing to take back, what others did needn't be kept. */
@@ -52,7 +73,7 @@ export function undo(state, dispatch) {
   const { done, undone } = key.getState(state);
   const taken = takenBack(state, done);
   if (taken === undefined) return false;
-  const kept = { done: taken.rest, undone: [...undone, ...taken.made], time: 0 };
+  const kept = { done: taken.rest, undone: [...undone, ...taken.made], time: 0, places: [] };
   dispatch(taken.tr.setMeta(key, kept).scrollIntoView());
   return true;
 }
@@ -61,7 +82,7 @@ export function redo(state, dispatch) {
   const { done, undone } = key.getState(state);
   const taken = takenBack(state, undone);
   if (taken === undefined) return false;
-  const kept = { done: [...done, ...taken.made], undone: taken.rest, time: 0 };
+  const kept = { done: [...done, ...taken.made], undone: taken.rest, time: 0, places: [] };
   dispatch(taken.tr.setMeta(key, kept).scrollIntoView());
   return true;
 }

@@ -1,6 +1,7 @@
 /** The page: two peers side by side, and the link between them. */
 
 import { Controls } from "./controls.js";
+import { News } from "./news.js";
 import { Peer } from "./peer.js";
 
 const NAMES = ["alice", "bob"];
@@ -14,6 +15,7 @@ function showSameness() {
 }
 
 const peers = [];
+const news = new News(document.querySelector("#news"));
 const byName = new Map();
 const template = document.querySelector("#peer");
 const cards = new Map();
@@ -25,10 +27,10 @@ for (const name of NAMES) {
 }
 
 for (const [name, card] of cards) {
-  byName.set(name, new Peer(name, card, showSameness));
+  byName.set(name, new Peer(name, card, { onChange: showSameness, tell: (text) => news.tell(`${name}: ${text}`) }));
   peers.push(byName.get(name));
 }
-new Controls(cards, (name, port) => (byName.get(name).port = port));
+new Controls(cards, news, (name, port) => (byName.get(name).port = port));
 
 // What waits is in this page alone, and would go with it.
 addEventListener("beforeunload", (event) => {

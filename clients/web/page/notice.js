@@ -2,11 +2,16 @@
 
 export class Notice {
   #place;
+  #tell;
   #kind;
 
-  /** @param {HTMLElement} place */
-  constructor(place) {
+  /**
+   * @param {HTMLElement} place
+   * @param {(text: string) => void} tell is told what a screen reader says
+   */
+  constructor(place, tell) {
     this.#place = place;
+    this.#tell = tell;
   }
 
   /**
@@ -15,8 +20,10 @@ export class Notice {
    */
   say(kind, text) {
     this.#kind = kind;
-    // A screen reader says it once, and not at each try that fails.
-    if (this.#place.textContent !== text) this.#place.textContent = text;
+    // It is told once, and not at each try that fails.
+    if (this.#place.textContent === text) return;
+    this.#place.textContent = text;
+    this.#tell(text);
   }
 
   /** @param {"fault" | "hint"} kind */

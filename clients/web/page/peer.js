@@ -7,11 +7,15 @@ import { EditorView } from "prosemirror-view";
 import { Ended, Refused, Session, Watch } from "peritext";
 import { bind } from "peritext/prosemirror";
 
+import { addressOf } from "./address.js";
 import { Chips } from "./chips.js";
-import { addComment, buttonOf, commandOf, commentsOf, has, removeComment, toggleEm, toggleLink, toggleStrong } from "./commands.js";
+import { clipboardParser } from "./clipboard.js";
+import { addComment, buttonOf, commandOf, commentsOf, has, removeComment, setLink, toggleEm, toggleLink, toggleStrong } from "./commands.js";
+import { showState } from "./drawn_selection.js";
 import { history, redo, undo } from "./history.js";
 import { Notice } from "./notice.js";
 import { schema } from "./schema.js";
+import { showSelection, shownSelection } from "./shown_selection.js";
 import { shownComment, spotlight, toggleShown } from "./spotlight.js";
 import { Wire } from "./wire.js";
 
@@ -39,24 +43,34 @@ export class Peer {
   /**
    * @param {string} name
    * @param {HTMLElement} place its card on the page
-   * @param {() => void} onChange
+   * @param {{onChange: () => void, tell: (text: string) => void}} listeners `tell` is told what a screen reader says
    */
-  constructor(name, place, onChange) {
+  constructor(name, place, { onChange, tell }) {
     this.#name = name;
     this.#place = place;
     this.#onChange = onChange;
-    this.#notice = new Notice(this.#part(".notice"));
-    this.#chips = new Chips(this.#part(".comments"), { show: (id) => this.#showComment(id), remove: (id) => this.#removeComment(id) });
+    this.#notice = new Notice(this.#part(".notice"), tell);
+    this.#chips = new Chips(this.#part(".comments"), name, { show: (id) => this.#showComment(id), remove: (id) => this.#removeComment(id) });
     this.#part("h2").textContent = name;
     this.#part(".tools").setAttribute("aria-label", `Marks and undo for ${name}`);
     this.#part(".comments").setAttribute("aria-label", `Comments that ${name} has`);
-    for (const button of place.querySelectorAll("[data-do]")) {
+    this.#readyTools();
+    this.#show();
+    this.#run();
+  }
+
+  #readyTools() {
+    const tools = this.#part(".tools");
+    for (const tool of tools.children) tool.setAttribute("aria-label", `${tool.getAttribute("aria-label")} for ${this.#name}`);
+    for (const button of tools.querySelectorAll("[data-do]")) {
       // The selection stays where it is.
       button.addEventListener("mousedown", (event) => event.preventDefault());
       button.addEventListener("click", () => this.#do(button.dataset.do));
     }
-    this.#show();
-    this.#run();
+    for (const [event, isShown] of [["focusin", true], ["focusout", false]]) {
+      tools.addEventListener(event, () => this.#dispatched(showSelection(isShown)));
+    }
+    this.#part(".url").addEventListener("keydown", (event) => this.#urlKey(event));
   }
 
   set port(port) {
@@ -139,13 +153,14 @@ export class Peer {
     if (this.#binding !== undefined) return this.#binding.resume(document);
     const modules = { model, state, transform };
     this.#binding = await bind(modules, schema, document, { onError: (error) => this.#fail(error) });
-    const start = state.EditorState.create({ doc: this.#binding.doc, plugins: [this.#binding.plugin, history(), spotlight()] });
+    const start = state.EditorState.create({ doc: this.#binding.doc, plugins: [this.#binding.plugin, history(), spotlight(), shownSelection()] });
     this.#view = new EditorView(this.#part(".editor"), {
       state: start,
       attributes: ({ doc }) => this.#attributes(doc),
       handleKeyDown: (_, event) => this.#key(event),
+      clipboardParser,
       dispatchTransaction: (transaction) => {
-        this.#view.updateState(this.#view.state.apply(transaction));
+        showState(this.#view, this.#view.state.apply(transaction));
         this.#show();
       },
     });
@@ -176,17 +191,29 @@ export class Peer {
     return what !== undefined || (this.#dispatched(commandOf(event)) ?? false);
   }
 
-  #dispatched(command) {
-    return command?.(this.#view.state, this.#view.dispatch);
+  /** A key in the field of the address. Two of them lead back to the text and what is selected there. */
+  #urlKey(event) {
+    if (event.isComposing || (event.key !== "Enter" && event.key !== "Escape")) return;
+    // Else the text, which has the focus by then, would get it too.
+    event.preventDefault();
+    if (event.key === "Enter") this.#do("link", setLink);
+    else this.#view?.focus();
   }
 
-  /** @param {string} what a button's */
-  #do(what) {
+  #dispatched(command) {
+    return this.#view && command?.(this.#view.state, this.#view.dispatch);
+  }
+
+  /**
+   * @param {string} what a button's
+   * @param {typeof toggleLink} linked makes the command of a link
+   */
+  #do(what, linked = toggleLink) {
     if (this.#view === undefined) return;
     const commands = {
       strong: toggleStrong,
       em: toggleEm,
-      link: this.#linkCommand(),
+      link: this.#address && linked(this.#address),
       comment: addComment,
       undo,
       redo,
@@ -196,13 +223,12 @@ export class Peer {
     this.#view.focus();
   }
 
-  #linkCommand() {
-    const field = this.#part(".url");
-    return field.checkValidity() && field.value !== "" ? toggleLink(field.value) : undefined;
+  get #address() {
+    return addressOf(this.#part(".url").value);
   }
 
   #hint(what) {
-    if (what === "link" && this.#linkCommand() === undefined) this.#notice.say("hint", "Give a whole address, as https://example.org/");
+    if (what === "link" && this.#address === undefined) this.#notice.say("hint", "Give a whole address, as https://example.org/");
     else if (what === "link" || what === "comment") this.#notice.say("hint", "Select some text first.");
   }
 

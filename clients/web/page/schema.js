@@ -2,16 +2,13 @@
 
 import { Mark, Schema } from "prosemirror-model";
 
+import { isLink } from "./address.js";
+
 const HUES = 6;
 
 /** The class that colours a comment: equal ids have equal colours. */
 export function hueOf(id) {
   return `hue-${parseInt(id.slice(0, 6), 16) % HUES}`;
-}
-
-/** Only what is meant to be opened is a link; a script isn't. */
-function isLink(href) {
-  return /^(https?|mailto):/i.test(href ?? "") && new TextEncoder().encode(href).length <= 1024;
 }
 
 export const schema = new Schema({
@@ -20,7 +17,7 @@ export const schema = new Schema({
     paragraph: {
       content: "text*",
       marks: "_",
-      parseDOM: [{ tag: "p" }, { tag: "div" }, { tag: "li" }, { tag: "h1, h2, h3, h4, h5, h6" }],
+      parseDOM: [{ tag: "p" }, { tag: "div" }, { tag: "li" }, { tag: "h1, h2, h3, h4, h5, h6" }, { tag: "pre", preserveWhitespace: "full" }],
       toDOM: () => ["p", 0],
     },
     text: {},
@@ -34,7 +31,12 @@ export const schema = new Schema({
     },
     em: { parseDOM: [{ tag: "em" }, { tag: "i" }, { style: "font-style=italic" }], toDOM: () => ["em", 0] },
     strong: {
-      parseDOM: [{ tag: "strong" }, { tag: "b" }, { style: "font-weight", getAttrs: (value) => /^(bold(er)?|[6-9]\d\d)$/.test(value) && null }],
+      parseDOM: [
+        { tag: "strong" },
+        // Google's documents come within a `b` that isn't bold.
+        { tag: "b", getAttrs: (node) => !/font-weight: *normal/.test(node.getAttribute("style")) && null },
+        { style: "font-weight", getAttrs: (value) => /^(bold(er)?|[6-9]\d\d)$/.test(value) && null },
+      ],
       toDOM: () => ["strong", 0],
     },
     comment: {

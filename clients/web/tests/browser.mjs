@@ -1,9 +1,9 @@
 // The page in a real browser: what two people do there.
 
 import assert from "node:assert/strict";
-import { test } from "node:test";
 
 import { pause, withPage } from "./page.mjs";
+import { test } from "./timed.mjs";
 
 /** What the page complained of, beside daemons that weren't there. */
 async function complaints(page) {
@@ -18,6 +18,8 @@ const PASTED =
 const ENTER = "\uE006";
 const BACKSPACE = "\uE003";
 const LEFT = "\uE012";
+const HOME = "\uE011";
+const END = "\uE010";
 
 /** Two comments, whose colours differ. */
 const IDS = ["9f0c0f1b-63a4-4c1e-9d57-2f0b8a6e41c3", "52e6b438-7d15-4b0a-8c2e-90d1f34a7be6"];
@@ -209,6 +211,21 @@ test("undo takes back what one did oneself, and nothing of the other", () =>
     await page.goTo("bob");
     await page.browser.keys("z", { control: true });
     await page.shows("alice", "one two");
+  }));
+
+test("an undo takes back what was typed side by side, and not what was typed elsewhere right before", () =>
+  withPage(async (page) => {
+    await page.type("alice", "middle");
+    await pause(600);
+    await page.browser.keys(`ab${HOME}cd${END}!`);
+    await page.shows("alice", "cdmiddleab!");
+    for (const text of ["cdmiddleab", "middleab", "middle", ""]) {
+      await page.press("alice", "undo");
+      await page.shows("bob", text);
+    }
+    await page.press("alice", "redo");
+    await page.press("alice", "redo");
+    await page.shows("bob", "middleab");
   }));
 
 test("a button that has nothing to do says what is missing", () =>

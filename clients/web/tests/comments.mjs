@@ -1,9 +1,9 @@
 // Comments on the page: how they are drawn, and what their chips do.
 
 import assert from "node:assert/strict";
-import { test } from "node:test";
 
 import { withPage } from "./page.mjs";
+import { test } from "./timed.mjs";
 
 /** Ids in rising order. The first and the last have one colour. */
 const [FIRST, SECOND, THIRD, FOURTH] = ["a", "b", "c", "d"].map((letter) => `${letter}0000000-0000-4000-8000-000000000000`);
@@ -131,8 +131,8 @@ test("the x of a chip takes its comment away, on both sides, and no other", () =
     await page.comment("alice", "one two");
     await page.comment("alice", "two");
     await page.browser.until(() => document.querySelectorAll("#bob .chip").length === 2);
-    assert.equal(await page.browser.label("#bob .chip .show"), "Show the comment a0000000");
-    assert.equal(await page.browser.label("#bob .chip .remove"), "Take the comment a0000000 away");
+    assert.equal(await page.browser.label("#bob .chip .show"), "Show the comment a0000000 for bob");
+    assert.equal(await page.browser.label("#bob .chip .remove"), "Take the comment a0000000 away for bob");
     await page.browser.click("#bob .chip .remove");
     await page.browser.until(() => document.querySelectorAll("#alice .chip").length === 1);
     await page.agrees();

@@ -1,17 +1,14 @@
 // Two bindings over two daemons that are killed, started and parted at random: what was typed is there once, on both sides.
 
 import assert from "node:assert/strict";
-import { mkdtempSync, rmSync } from "node:fs";
-import { tmpdir } from "node:os";
-import { join, resolve } from "node:path";
-import { test } from "node:test";
 
 import { bind } from "../../js/src/prosemirror.js";
 import { connect } from "../../js/src/node.js";
 import { View, plainSchema, prosemirror } from "../../js/tests/support.mjs";
-import { Demo, NAMES } from "../src/demo.js";
+import { NAMES } from "../src/demo.js";
+import { newDemo } from "./support.mjs";
+import { starts, test } from "./timed.mjs";
 
-const PROGRAM = resolve(process.env.PERITEXT || "bin/peritext");
 const modules = prosemirror();
 const schema = plainSchema(modules.model);
 
@@ -57,6 +54,11 @@ class Writer {
     this.view = new View(null, { state });
   }
 
+  end() {
+    this.isOver = true;
+    return this.run;
+  }
+
   type(letter) {
     const { tr, doc } = this.view.state;
     this.view.dispatch(tr.insertText(letter, 1 + Math.floor(Math.random() * (doc.content.size - 1))));
@@ -75,27 +77,19 @@ async function until(isSo) {
 }
 
 test("what is typed is there once, whatever is killed", async () => {
-  const folder = mkdtempSync(join(tmpdir(), "peritext-kills-"));
-  const demo = new Demo(PROGRAM, folder);
-  const writers = [];
-  try {
-    await demo.start();
-    writers.push(...NAMES.map((name) => new Writer(demo.daemon(name))));
-    await until(() => writers.every(({ view }) => view !== undefined));
-    for (let count = 0; count < LETTERS; count += 1) {
-      writers.forEach((writer, index) => writer.type(String.fromCodePoint(0x4e00 + 2 * count + index)));
-      const daemon = demo.daemon(NAMES[Math.floor(Math.random() * 2)]);
-      if (count % EVERY === 0) daemon.kill();
-      if (count % EVERY === EVERY / 2) await Promise.all(NAMES.map((name) => demo.daemon(name).start()));
-      await pause(Math.random() * 30);
-    }
-    await Promise.all(NAMES.map((name) => demo.daemon(name).start()));
-    await until(() => writers.every(({ binding, text }) => binding.waiting === 0 && text === writers[0].text && text.length >= 2 * LETTERS));
-    assert.equal([...writers[0].text].sort().join(""), String.fromCodePoint(...[...Array(2 * LETTERS).keys()].map((n) => 0x4e00 + n)));
-  } finally {
-    for (const writer of writers) writer.isOver = true;
-    await Promise.all(writers.map(({ run }) => run));
-    await demo.stop();
-    rmSync(folder, { recursive: true });
+  const demo = newDemo();
+  await demo.start();
+  const writers = NAMES.map((name) => new Writer(demo.daemon(name)));
+  starts(() => Promise.all(writers.map((writer) => writer.end())));
+  await until(() => writers.every(({ view }) => view !== undefined));
+  for (let count = 0; count < LETTERS; count += 1) {
+    writers.forEach((writer, index) => writer.type(String.fromCodePoint(0x4e00 + 2 * count + index)));
+    const daemon = demo.daemon(NAMES[Math.floor(Math.random() * 2)]);
+    if (count % EVERY === 0) daemon.kill();
+    if (count % EVERY === EVERY / 2) await Promise.all(NAMES.map((name) => demo.daemon(name).start()));
+    await pause(Math.random() * 30);
   }
+  await Promise.all(NAMES.map((name) => demo.daemon(name).start()));
+  await until(() => writers.every(({ binding, text }) => binding.waiting === 0 && text === writers[0].text && text.length >= 2 * LETTERS));
+  assert.equal([...writers[0].text].sort().join(""), String.fromCodePoint(...[...Array(2 * LETTERS).keys()].map((n) => 0x4e00 + n)));
 });

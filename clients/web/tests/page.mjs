@@ -1,39 +1,28 @@
 // The demo and its page in a browser, with what a person does there.
 
-import { mkdirSync, mkdtempSync, rmSync, writeFileSync } from "node:fs";
-import { tmpdir } from "node:os";
-import { join, resolve } from "node:path";
+import { mkdirSync, writeFileSync } from "node:fs";
+import { join } from "node:path";
 
 import { connect } from "../../js/src/node.js";
-import { Demo } from "../src/demo.js";
+import { newDemo } from "./support.mjs";
 import { Browser } from "./webdriver.mjs";
-
-export const PROGRAM = resolve(process.env.PERITEXT || "bin/peritext");
 
 /** Where pictures of the page go, if anywhere. */
 const { PICTURES } = process.env;
 
 /** Runs a test over a new demo, which is gone afterwards. */
 export async function withPage(test) {
-  const folder = mkdtempSync(join(tmpdir(), "peritext-demo-"));
-  const demo = new Demo(PROGRAM, folder);
+  const demo = newDemo();
+  const address = await demo.start();
+  const browser = await Browser.start();
+  const page = new Page(browser, demo, address);
   try {
-    const address = await demo.start();
-    const browser = await Browser.start();
-    const page = new Page(browser, demo, address);
-    try {
-      await browser.open(address);
-      await page.isRead();
-      await test(page);
-    } catch (error) {
-      error.message += `\nThe page: ${await browser.run(() => document.body.innerText).catch(() => "is gone")}`;
-      throw error;
-    } finally {
-      await browser.close();
-    }
-  } finally {
-    await demo.stop();
-    rmSync(folder, { recursive: true });
+    await browser.open(address);
+    await page.isRead();
+    await test(page);
+  } catch (error) {
+    error.message += `\nThe page: ${await browser.run(() => document.body.innerText).catch(() => "is gone")}`;
+    throw error;
   }
 }
 

@@ -4,12 +4,12 @@ import assert from "node:assert/strict";
 import { once } from "node:events";
 import { request } from "node:http";
 import { createConnection, createServer } from "node:net";
-import { test } from "node:test";
 
 import { Files } from "../src/files.js";
 import { webSockets } from "../src/packages.js";
 import { PageServer } from "../src/page_server.js";
 import { Relay } from "../src/relay.js";
+import { test } from "./timed.mjs";
 
 const { WebSocket } = webSockets();
 

@@ -1,27 +1,45 @@
 // The tests of the page and what serves it: node clients/web/tests/run.mjs
-// PERITEXT names the program, PICTURES a folder for pictures of the page. What can't be tested here is said, with what to install.
+// PERITEXT names the program, PICTURES a folder for pictures of the page, TEST_SECONDS how long one test may take. What can't be tested here is said,
+// with what to install.
 
-import { spawnSync } from "node:child_process";
+import { spawn, spawnSync } from "node:child_process";
+import { once } from "node:events";
 import { existsSync } from "node:fs";
 import { fileURLToPath } from "node:url";
 
 import { LIBRARIES, missing } from "../src/packages.js";
-import { missingBrowser } from "./webdriver.mjs";
 
-/** Milliseconds that one file of tests may take, beside the kills that are asked for. */
-const TIME = 240_000 + 1000 * Number(process.env.KILL_SECONDS ?? 0);
+let child;
+let isOver = false;
 
-function run(name, lack) {
+async function run(name, lack) {
+  if (isOver) return;
   if (lack !== undefined) return console.log(`skipped: ${name}, ${lack}`);
   const file = fileURLToPath(new URL(`${name}.mjs`, import.meta.url));
-  const words = ["--test-reporter=spec", "--test", file];
-  const { status } = spawnSync(process.execPath, words, { stdio: "inherit", timeout: TIME, env: { ...process.env, NODE_PATH: LIBRARIES } });
+  child = spawn(process.execPath, ["--test-reporter=spec", file], { stdio: "inherit", env: { ...process.env, NODE_PATH: LIBRARIES } });
+  const [status] = await once(child, "exit");
   if (status !== 0) process.exitCode = 1;
+}
+
+/** What is missing, in words that say what to do; or nothing. */
+function missingBrowser() {
+  const isThere = (program) => spawnSync(program, ["--version"], { stdio: "ignore" }).error === undefined;
+  const names = ["chromium", "chromedriver"].filter((program) => !isThere(program));
+  return names.length === 0 ? undefined : `for there is no ${names.join(" and no ")}: apt-get install chromium chromium-driver`;
+}
+
+// The tests end what they started.
+for (const signal of ["SIGINT", "SIGTERM", "SIGHUP"]) {
+  process.on(signal, () => {
+    isOver = true;
+    child?.kill(signal);
+  });
 }
 
 const program = process.env.PERITEXT || "bin/peritext";
 const noProgram = existsSync(program) ? undefined : `for there is no program ${program}: make peritext`;
-run("page_server", missing());
-run("demo", missing() ?? noProgram);
-run("kills", missing() ?? noProgram);
-for (const name of ["browser", "comments", "tools", "typing", "wire"]) run(name, missing() ?? noProgram ?? missingBrowser());
+await run("address");
+await run("page_server", missing());
+await run("demo", missing() ?? noProgram);
+await run("kills", missing() ?? noProgram);
+for (const name of ["clock", "browser", "comments", "tools", "pasting", "selection", "typing", "wire"]) await run(name, missing() ?? noProgram ?? missingBrowser());

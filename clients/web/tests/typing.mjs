@@ -1,10 +1,10 @@
 // The page in a real browser, while its daemons are killed at random moments: each letter is there once. KILL_SECONDS says for how long.
 
 import assert from "node:assert/strict";
-import { test } from "node:test";
 
 import { NAMES } from "../src/demo.js";
 import { pause, withPage } from "./page.mjs";
+import { test } from "./timed.mjs";
 
 const SECONDS = Number(process.env.KILL_SECONDS ?? 10);
 

@@ -1,9 +1,11 @@
 // A browser without a window, by WebDriver: Debian's chromium and chromium-driver.
 
-import { spawn, spawnSync } from "node:child_process";
+import { spawn } from "node:child_process";
 import { mkdtempSync, rmSync } from "node:fs";
 import { tmpdir } from "node:os";
 import { join } from "node:path";
+
+import { starts } from "./timed.mjs";
 
 const ELEMENT = "element-6066-11e4-a52e-4f735466cecf";
 const CONTROL = "\uE009";
@@ -12,30 +14,42 @@ const COMMAND = "\uE03D";
 /** Milliseconds until something that is due has to have come. */
 const PATIENCE = 20_000;
 
-/** What is missing, in words that say what to do; or nothing. */
-export function missingBrowser() {
-  const isThere = (program) => spawnSync(program, ["--version"], { stdio: "ignore" }).error === undefined;
-  const names = ["chromium", "chromedriver"].filter((program) => !isThere(program));
-  return names.length === 0 ? undefined : `for there is no ${names.join(" and no ")}: apt-get install chromium chromium-driver`;
-}
+/** How often the driver is started again. */
+const TRIES = 5;
+
+/** Milliseconds that a browser has to end by itself. */
+const END = 5_000;
 
 export class Browser {
   #driver;
-  #profile;
+  #profile = mkdtempSync(join(tmpdir(), "peritext-browser-"));
   #base;
+  #isOver = false;
 
-  /** Starts a browser that reaches this machine alone. */
+  /** Starts a browser that reaches this machine alone. It ends with the test. */
   static async start({ width = 1100, height = 700 } = {}) {
     const browser = new Browser();
+    starts(() => browser.#close(), () => browser.#kill());
     await browser.#startDriver();
     await browser.#startSession(width, height);
     return browser;
   }
 
-  async close() {
-    await this.#ask("DELETE", "").catch(() => {});
-    this.#driver.kill();
+  async #close() {
+    await this.#ask("DELETE", "", undefined, AbortSignal.timeout(END)).catch(() => {});
+    this.#kill();
     rmSync(this.#profile, { recursive: true, force: true, maxRetries: 10, retryDelay: 100 });
+  }
+
+  /** Kills the browser with its driver: they are one group. */
+  #kill() {
+    if (this.#isOver) return;
+    this.#isOver = true;
+    try {
+      process.kill(-this.#driver.pid, "SIGKILL");
+    } catch {
+      // All of them have ended.
+    }
   }
 
   open(url) {
@@ -121,8 +135,19 @@ export class Browser {
     return (await this.#ask("POST", "/element", { using: "css selector", value: selector }))[ELEMENT];
   }
 
+  /** It looks for a port by itself, and ends if somebody has that one. */
   async #startDriver() {
-    this.#driver = spawn("chromedriver", ["--port=0"], { stdio: ["ignore", "pipe", "ignore"] });
+    for (let left = TRIES; ; left -= 1) {
+      try {
+        return await this.#startDriverOnce();
+      } catch (error) {
+        if (left === 0) throw error;
+      }
+    }
+  }
+
+  async #startDriverOnce() {
+    this.#driver = spawn("chromedriver", ["--port=0"], { stdio: ["ignore", "pipe", "ignore"], detached: true });
     let said = "";
     const port = await new Promise((resolve, reject) => {
       this.#driver.on("exit", () => reject(new Error(`chromedriver ended: ${said}`)));
@@ -136,7 +161,6 @@ export class Browser {
   }
 
   async #startSession(width, height) {
-    this.#profile = mkdtempSync(join(tmpdir(), "peritext-browser-"));
     const words = [
       "--headless=new",
       `--window-size=${width},${height}`,
@@ -158,8 +182,8 @@ export class Browser {
     this.#base += `/${sessionId}`;
   }
 
-  async #ask(method, path, body) {
-    const response = await fetch(this.#base + path, { method, body: body && JSON.stringify(body) });
+  async #ask(method, path, body, signal) {
+    const response = await fetch(this.#base + path, { method, body: body && JSON.stringify(body), signal });
     const { value } = await response.json();
     if (!response.ok) throw new Error(`${value.error}: ${value.message}`);
     return value;

@@ -2,11 +2,11 @@
 
 import assert from "node:assert/strict";
 import { once } from "node:events";
-import { test } from "node:test";
 
 import { Files } from "../src/files.js";
 import { webSockets } from "../src/packages.js";
 import { PageServer } from "../src/page_server.js";
+import { test } from "./timed.mjs";
 import { Browser } from "./webdriver.mjs";
 
 const ANSWER = '{"applied":0,"ok":true,"settled":0,"state":"open"}';
@@ -26,7 +26,6 @@ async function withSessions(work) {
     await browser.open(server.address);
     await work(browser, sessions.address().port);
   } finally {
-    await browser.close();
     server.close();
     for (const web of sessions.clients) web.terminate();
     sessions.close();
