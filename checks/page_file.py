@@ -1,5 +1,6 @@
 """A plain reader of a page file, written from docs/FORMATS.md alone: what a file stands for, or the number that is due."""
 
+import struct
 from collections import namedtuple
 
 PAGE = 4096
@@ -82,7 +83,7 @@ def format_of(data):
 def stream(data):
     """Replica, the bytes of the stream, number of operations."""
     replica, length, count, tables = root(data)
-    entries = [number(page(data, t)[4 * i : 4 * i + 4]) for t in tables for i in range(1024)]
+    entries = [entry for t in tables for entry in struct.unpack(">1024I", page(data, t))]
     pages = -(-length // PAGE)
     if any(entries[pages:]):
         raise Refused(45)

@@ -1,5 +1,5 @@
 """A daemon goes on when its steps are used up (10): it opens its file anew by itself, and nothing that was answered is lost or there twice.
-First an edit meets the end of the steps, then a peer's operation does.
+First an edit meets the end of the steps, then a peer's operation does. Where there is a compiler its device calls are recorded meanwhile.
 """
 
 import itertools
@@ -7,9 +7,11 @@ import struct
 import threading
 import time
 
+from call_order import anew, short_faults
 from daemon import new_daemon, within
 from frames import HAVE, OPS, Peer, replica
 from program import insert, line, run
+from recorded import SHORT, around, compiled
 
 STATUS = line(op="status")
 # The steps of one opening are 1,048,576, those of commits too. So many operations of a peer leave the others to edits, however often they
@@ -145,7 +147,8 @@ def opening(program, name):
 
 
 def check(checks, program, _until):
-    daemon = new_daemon(program, "renewal")
+    library = compiled()
+    daemon = new_daemon(program, "renewal", env=around(library, "renewal.calls", pause=0, most=SHORT) if library else None)
     try:
         checks.holds("a peer's operations before", tell(daemon, BEFORE))
         process = daemon.run.pid
@@ -158,6 +161,8 @@ def check(checks, program, _until):
         checks.holds(f"a peer's operations behind it, over {links} links", links)
         checks.same("the same process", (daemon.run.pid, daemon.run.poll()), (process, None))
         checks.same("the end", daemon.stop(), ({"ok": True}, (0, b"", b"")))
+        if library:
+            checks.same("its device calls", short_faults(anew("renewal.calls", "renewal"))[:5], [])
         took, _ = opening(program, "renewal")
         longest = max(it.longest for it in editors)
         checks.holds(f"no session waited longer than {longest:.2f} s; an opening takes {took:.2f} s", longest < TIMES * took + SLACK)
