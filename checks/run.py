@@ -9,6 +9,7 @@ import backups
 import crafted
 import damage
 import device_calls
+import documents
 import each_byte
 import ending
 import examples
@@ -48,7 +49,7 @@ from program import Checks
 
 LIMIT = 600
 GROUPS = (
-    words, sentences, terminal, examples, exports, long_texts, streams, locks, lost_files, full_disk, ending, crafted, formats, long_runs,
+    words, sentences, documents, terminal, examples, exports, long_texts, streams, locks, lost_files, full_disk, ending, crafted, formats, long_runs,
     damage, each_byte, kills, device_calls, tokens, typed_memory, memory, serving, served_limits, journal, web_pages, last_place, peers, watching,
     web_sockets, parting, put_back, backups, parted_files, idle_links, rude, noise, worst, session_memory, renewal,
 )
