@@ -1,4 +1,5 @@
 //! A connection whose other end may have a time for what it has to say.
+ghost use Rattle.std.specs.Io.{ReadsAtMost};
 
 use first_bytes::has_to_wait;
 use std::cell::Cell;
@@ -51,7 +52,9 @@ impl<'a, R: Clock> Timed<'a, R> {
     }
 
     /// Reads until something comes or the time is over.
-    fn read_within(&self, limit: Limit, buf: &mut [u8]) -> io::Result<usize> {
+    fn read_within(&self, limit: Limit, buf: &mut [u8]) -> io::Result<usize>
+        ensures { ReadsAtMost result buf.new }
+    {
         let mut reader = self.stream;
         for _ in 0..u64::MAX {
             let passed = limit.began.elapsed(self.rt)?;
