@@ -1,5 +1,5 @@
 //! Lines to the letter, and writers that take nothing.
-use event_journal::{Event, Journal, LinkPlace, Reason, Telling};
+use event_journal::{About, Cause, Event, Journal, LinkPlace, Reason, Telling};
 use op_ids::ReplicaId;
 use std::alloc::Global;
 use std::rt::Clock;
@@ -52,8 +52,14 @@ fn a_daemon_is_a_line(rt: HostRuntime) -> Result<(), Fail> {
     assert!(rt; is_told(&rt, rt.alloc(), &failed, line));
     let line = "event=opened_anew\n";
     assert!(rt; is_told(&rt, rt.alloc(), &Event::OpenedAnew, line));
-    let end = Event::End { reason: FAILED };
-    let line = "event=end code=9 reason=failed\n";
+    let cause = Some(Cause {
+        status: 1,
+        sentence: "it failed",
+        about: About::Port(7_001),
+    });
+    let reason = FAILED;
+    let end = Event::End { reason, cause };
+    let line = "event=end code=9 reason=failed status=1 cause=\"it failed\" port=7001\n";
     assert!(rt; is_told(&rt, rt.alloc(), &end, line));
     Ok(())
 }
@@ -119,7 +125,8 @@ fn in_brief_little_is_told(rt: HostRuntime) -> Result<(), Fail> {
     let alloc = rt.alloc();
     let journal = Journal::new(alloc, Telling::Brief);
     journal.tell(&rt, &Event::OpenedAnew);
-    journal.tell(&rt, &Event::End { reason: FAILED });
+    let (reason, cause) = (FAILED, None);
+    journal.tell(&rt, &Event::End { reason, cause });
     journal.end(&rt);
     let mut written = Vec::new(alloc);
     journal.write_all(&rt, &mut written);
