@@ -76,6 +76,10 @@ fn a_session_is_a_line(rt: HostRuntime) -> Result<(), Fail> {
     let refused = Event::SessionRefused { reason };
     let line = "event=session_refused code=9 reason=failed\n";
     assert!(rt; is_told(&rt, rt.alloc(), &refused, line));
+    let cause = None;
+    let end = Event::End { reason, cause };
+    let line = "event=end code=9 reason=failed\n";
+    assert!(rt; is_told(&rt, rt.alloc(), &end, line));
     Ok(())
 }
 
@@ -97,6 +101,10 @@ fn a_link_is_a_line(rt: HostRuntime) -> Result<(), Fail> {
     let refused = Event::LinkRefused { port: 9, reason };
     let line = "event=link_refused port=9 code=27 reason=\"link closed\"\n";
     assert!(rt; is_told(&rt, rt.alloc(), &refused, line));
+    let cause = None;
+    let end = Event::End { reason, cause };
+    let line = "event=end code=27 reason=\"link closed\"\n";
+    assert!(rt; is_told(&rt, rt.alloc(), &end, line));
     let copy = Event::Copy { place, replica };
     let line =
         "event=copy link=3 way=joined port=7101 replica=00000000-0000-4000-8000-000000000001 note=\"this file is a copy; both ends stop telling\"\n";
@@ -112,10 +120,12 @@ fn lines_without_room_are_counted(rt: HostRuntime) -> Result<(), Fail> {
         let reason = FAILED;
         journal.tell(&rt, &Event::SessionDown { session, reason });
     }
+    let (reason, cause) = (FAILED, None);
+    journal.tell(&rt, &Event::End { reason, cause });
     journal.end(&rt);
     let mut written = Vec::new(alloc);
     journal.write_all(&rt, &mut written);
-    let end = "session=255 code=9 reason=failed\nevent=dropped count=44\n";
+    let end = "session=255 code=9 reason=failed\nevent=dropped count=45\n";
     assert!(rt; written.as_slice().ends_with(end.as_bytes()));
     Ok(())
 }
