@@ -4,7 +4,6 @@ answered, and the same with a client that others wrote, where there is one.
 
 import asyncio
 import json
-import socket
 import threading
 import time
 
@@ -133,32 +132,28 @@ def fill(made, data):
 def check_full(checks, daemon):
     """One that is told of changes, and pings until nothing more is taken: each frame that it then reads is whole."""
     made = daemon.open()
-    made.socket.setsockopt(socket.SOL_SOCKET, socket.SO_RCVBUF, 4_096)
     first = made.ask(line(op="watch", doc=1))["rev"]
-    for turn in range(2):
-        rest = fill(made, frame(PING, b"p" * (100 + turn)) * 10)
-        talk = daemon.talk()
-        talk.ask(insert(0, "w"))
-        talk.close()
-        time.sleep(0.5)
-        pongs, found = 0, (None, b"")
-        sender = threading.Thread(target=made.send, args=(rest,))
-        sender.start()
-        while found and found[0] != TEXT:
-            try:
-                found = made.frame()
-            except ValueError as error:
-                found = None
-                checks.holds(f"a frame that is whole: {error}", False)
-            pongs += found is not None and found[0] == PONG and len(found[1]) in range(100, 103)
-        sender.join()
-        checks.same("the number between pongs", found and json.loads(found[1]), {"ok": True, "rev": first + turn + 1})
+    rest = fill(made, frame(PING, b"p" * 100) * 10)
+    talk = daemon.talk()
+    talk.ask(insert(0, "w"))
+    talk.close()
+    # Long enough for the daemon to tell of it where it would come into the middle of a pong.
+    time.sleep(0.5)
+    sender = threading.Thread(target=made.send, args=(rest,))
+    sender.start()
+    pongs, found = 0, (PONG, b"p" * 100)
+    try:
+        while found == (PONG, b"p" * 100):
+            found, pongs = made.frame(), pongs + 1
+        checks.same("the number between pongs", (found[0], json.loads(found[1])), (TEXT, {"ok": True, "rev": first + 1}))
         checks.holds(f"{pongs} pongs", pongs > 100)
-    made.send(frame(CLOSE, (1000).to_bytes(2, "big")))
-    found = made.frame()
-    while found and found[0] == PONG:
-        found = made.frame()
-    checks.same("its close is answered", found, (CLOSE, (1000).to_bytes(2, "big")))
+        sender.join()
+        made.send(frame(CLOSE, (1000).to_bytes(2, "big")))
+        while (found := made.frame()) and found[0] == PONG:
+            pass
+        checks.same("its close is answered", found, (CLOSE, (1000).to_bytes(2, "big")))
+    except (TypeError, ValueError) as error:
+        checks.holds(f"frames that are whole: {error!r}", False)
     made.close()
 
 
@@ -320,7 +315,7 @@ def until_ended(made, data):
 
 
 def check_pinging(checks, daemon, seated):
-    """One that finds the last place and says what is no line keeps it for a second, and two more in which it may close."""
+    """One that finds the last place and says what is no line keeps it for some seconds alone: PROTOCOL's one, and the waits of its refusal."""
     for what, data in (
         ("pings", frame(PING, b"")), ("pings much", frame(PING, b"p" * 125) * 300), ("pongs", frame(PONG, b"")),
         ("says empty parts of a message", frame(TEXT, b"", fin=False) + frame(0, b"", fin=False) * 99 + frame(0, b"", fin=False)),
@@ -330,7 +325,8 @@ def check_pinging(checks, daemon, seated):
         begun = frame(TEXT, b"", fin=False) if "parts" in what else b""
         made.send(begun)
         took = until_ended(made, data[len(begun) :])
-        checks.holds(f"one that {what} in the last place is ended after {took:.1f} s", 0.8 < took < 3 + SLACK)
+        # It reads nothing: a write to it may have to wait, and then both writes of its refusal.
+        checks.holds(f"one that {what} in the last place is ended after {took:.1f} s", 0.8 < took < 6 + SLACK)
 
 
 def check_places(checks, program):
