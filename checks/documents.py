@@ -38,8 +38,10 @@ def missing(path):
 
 def install(destination):
     """What `make install` does with all but the program and its manual page."""
-    words = ["make", "-n", "-o", "peritext", "install", f"DESTDIR={destination}"]
-    lines = subprocess.run(words, cwd=ROOT, capture_output=True, text=True, check=True).stdout.splitlines()
+    words = ["make", "-n", "--no-print-directory", "-o", "peritext", "install", f"DESTDIR={destination}"]
+    # A make that this one runs below has nothing to say to it.
+    around = {name: value for name, value in os.environ.items() if not name.startswith("MAKE")}
+    lines = subprocess.run(words, cwd=ROOT, capture_output=True, text=True, check=True, env=around).stdout.splitlines()
     for it in lines:
         if "bin/peritext" not in it:
             subprocess.run(it, shell=True, cwd=ROOT, check=True)
