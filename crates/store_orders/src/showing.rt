@@ -60,7 +60,8 @@ pub fn show_all<D: Disk>(alloc: Global, disk: D) -> Shown<D>
 
 /// Shows a document in a form for other programs, as `show` does.
 pub fn show_in<D: Disk>(alloc: Global, disk: D, doc: u32, form: Form) -> Shown<D>
-    ensures { Shows D.DiskFacts (λ list. exported form (spans_of list doc)) disk result.lines result.disk }
+    ensures { Shows D.DiskFacts (λ list. exported form (spans_of list doc)) disk
+        result.lines result.disk }
 {
     match recovery::open(alloc, disk) {
         Ok(Opened { replica, store }) => Shown {
