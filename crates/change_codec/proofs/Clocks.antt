@@ -144,3 +144,21 @@ skipped bytes count rest (Ok end) number read =
     let deps : deps_at bytes ≡ Ok (whole.0, end.now) = rw number whole.1 in
     deps ∙ ap (λ (es : List (ℕ × ℕ)). done (es, end.now)) (sym (deps_are bytes whole.0 end.now deps))
 skipped bytes count rest (Err fault) number read = rw number (from_fault (entries_at count 0 rest) fault read)
+
+-- no entries are no deps
+pub no_deps : (bytes rest : List ℕ) → count_at bytes ≡ Ok (0, rest) → deps_of bytes ≡ []
+unfolding entries_at
+no_deps bytes rest number = collected_deps bytes 0 rest [] number refl
+
+-- and some entries are some
+some_entries : (bytes rest : List ℕ) (count : ℕ) (read : Result (List (ℕ × ℕ) × List ℕ) CodecError) → entries_at count 0 rest ≡ read → IsOk read → 0 < count
+    → found_deps read ≡ [] → ⊥
+some_entries bytes rest count (Ok x) is ok some none =
+    let rise = entries_rise count 0 rest x is in
+    omega (arith, rise.1, ap (λ (es : List (ℕ × ℕ)). length es) none)
+some_entries bytes rest count (Err f) is ok some none = cc
+
+pub some_deps : (bytes : List ℕ) (count : ℕ) (rest : List ℕ) → count_at bytes ≡ Ok (count, rest) → IsOk (deps_at bytes) → 0 < count → deps_of bytes ≡ [] → ⊥
+unfolding deps_of deps_at
+some_deps bytes count rest number ok some none =
+    some_entries bytes rest count (entries_at count 0 rest) refl (rw number at ok) some (rw number at none)

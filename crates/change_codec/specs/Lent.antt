@@ -1,6 +1,7 @@
 -- What is read before any memory is taken.
 use Rattle.std.specs.Prelude.{◌≡◌, ◌⊎◌, ℕ, ◌<◌, ◌≤◌, List, length, [], Result, Ok, Err, IsOk}
 use Rattle.fixed_numbers.specs.declared.limits.TheConstants.{MAX_URL_LENGTH}
+use Rattle.op_model.specs.declared.op.Op.{Op}
 use Rattle.op_model.specs.declared.op.Body.{Body}
 use Rattle.op_model.specs.declared.op.Body.TheVariants.{Insert, Remove, AddMark, RemoveMark}
 use Rattle.op_model.specs.declared.mark.Mark.{Mark}
@@ -38,6 +39,25 @@ HasUrl (AddMark mark start end) = HasUrlOf mark
 HasUrl (Insert origin value) = Unit {0}
 HasUrl (Remove target) = Unit {0}
 HasUrl (RemoveMark key start end) = Unit {0}
+
+-- the mark has no URL
+abbrev pub IsNoLink : Mark → Type 0
+IsNoLink (added.Link url) = ⊥
+IsNoLink added.Strong = Unit {0}
+IsNoLink added.Em = Unit {0}
+IsNoLink (added.Comment id) = Unit {0}
+
+-- no link is added
+abbrev pub AddsNoLink : Body → Type 0
+AddsNoLink (AddMark mark start end) = IsNoLink mark
+AddsNoLink (Insert origin value) = Unit {0}
+AddsNoLink (Remove target) = Unit {0}
+AddsNoLink (RemoveMark key start end) = Unit {0}
+
+-- an operation that keeps nothing in memory of its own: it depends on nothing, and adds no link
+pub record OwnsNothing (op : Op) : Type 0 where
+  pub deps : op.deps ≡ []
+  pub link : AddsNoLink op.body
 
 -- the deps that were read, or none where there was a fault
 abbrev pub found_deps : Result (List (ℕ × ℕ) × List ℕ) CodecError → List (ℕ × ℕ)

@@ -10,7 +10,7 @@ use op_model::{Anchor, End, Start};
 
 /// Puts a start: 0 for the start of the text, else an anchor.
 #[tactic(auto, unfolding(crate::specs::Spelling::start_bytes))]
-pub fn put_start(start: Start, out: &mut Vec<u8>)
+pub(crate) fn put_start(start: Start, out: &mut Vec<u8>)
     requires { HasRoom out.old (start_bytes start) }
     ensures { Appends out.old out.new (start_bytes start) }
 {
@@ -22,7 +22,7 @@ pub fn put_start(start: Start, out: &mut Vec<u8>)
 
 /// Puts an end: 3 for the end of the text, else an anchor.
 #[tactic(auto, unfolding(crate::specs::Spelling::end_bytes))]
-pub fn put_end(end: End, out: &mut Vec<u8>)
+pub(crate) fn put_end(end: End, out: &mut Vec<u8>)
     requires { HasRoom out.old (end_bytes end) }
     ensures { Appends out.old out.new (end_bytes end) }
 {
@@ -51,7 +51,7 @@ fn put_anchor(anchor: Anchor, out: &mut Vec<u8>)
 
 /// Takes a start and an end from the front.
 #[tactic(auto, unfolding(crate::specs::Reading::span_at))]
-pub fn take_span(bytes: &[u8]) -> Result<((Start, End), &[u8]), CodecError>
+pub(crate) fn take_span(bytes: &[u8]) -> Result<((Start, End), &[u8]), CodecError>
     ensures { Reads (λ x. (x.0, x.1.now)) result (span_at bytes.now) }
 {
     match take_start(bytes) {

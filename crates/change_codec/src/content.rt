@@ -1,7 +1,7 @@
 //! What an operation does, by the kind of its record.
-ghost use Rattle.std.specs.Prelude.{◌≡◌, ◌≤◌, Option, IfOk, is_some};
+ghost use Rattle.std.specs.Prelude.{◌≡◌, ◌≤◌, Option, IfOk, IsOk, is_some};
 ghost use Rattle.change_codec.specs.Spelling.{content_bytes, origin_bytes, kind_byte, tagged};
-ghost use Rattle.change_codec.specs.Lent.{body_of, HasUrl};
+ghost use Rattle.change_codec.specs.Lent.{AddsNoLink, body_of, HasUrl};
 ghost use Rattle.change_codec.specs.Reading.{Reads, kind_at, kind_named, body_at, content_at, origin_at, scalar_at};
 ghost use Rattle.change_codec.specs.declared.content.Kind.TheVariants.{Insert, Remove, AddMark, RemoveMark};
 ghost use Rattle.change_codec.specs.Writing.{Appends, HasRoom};
@@ -38,7 +38,7 @@ pub enum LentBody<'a> {
 
 /// The first byte of a record: 1 insert, 2 remove, 3 add mark, 4 remove mark, and 16 more where the
 /// operation has a token.
-pub fn record_byte(op: &Op) -> u8
+pub(crate) fn record_byte(op: &Op) -> u8
     ensures { result ≡ tagged (is_some op.now.token) (kind_byte op.now.body) }
 {
     let kind = body_byte(&op.body);
@@ -59,7 +59,7 @@ fn body_byte(body: &Body) -> u8
 
 /// Puts what an operation does.
 #[tactic(auto, unfolding(crate::specs::Spelling::content_bytes))]
-pub fn put_content(body: &Body, out: &mut Vec<u8>)
+pub(crate) fn put_content(body: &Body, out: &mut Vec<u8>)
     requires { HasRoom out.old (content_bytes body.now) }
     ensures { Appends out.old out.new (content_bytes body.now) }
 {
@@ -100,7 +100,7 @@ pub fn put_origin(origin: Option<OpId>, out: &mut Vec<u8>)
 /// Takes the kind of a record from the front, and whether it has a token. `Kind` (31) for no kind
 /// of the format.
 #[tactic(auto, unfolding(crate::specs::Reading::kind_at))]
-pub fn take_kind(format: Format, bytes: &[u8]) -> Result<((Kind, bool), &[u8]), CodecError>
+pub(crate) fn take_kind(format: Format, bytes: &[u8]) -> Result<((Kind, bool), &[u8]), CodecError>
     ensures { Reads (λ x. (x.0, x.1.now)) result (kind_at format bytes.now) }
 {
     match bytes {
@@ -131,9 +131,10 @@ fn named(byte: u8) -> Result<Kind, CodecError>
 
 impl LentBody<'_> {
     /// The content with a URL of its own. An error is out of memory.
-    pub fn to_body(self, alloc: Global) -> Result<Body, AllocError>
+    pub(crate) fn to_body(self, alloc: Global) -> Result<Body, AllocError>
         requires { HasUrl (body_of self) }
-        ensures { IfOk result (λ body. body ≡ body_of self.entry) }
+        ensures same { IfOk result (λ body. body ≡ body_of self.entry) }
+        ensures small { AddsNoLink (body_of self.entry) → IsOk result }
     {
         match self {
             LentBody::Whole(body) => Ok(body),
@@ -148,7 +149,7 @@ impl LentBody<'_> {
 
 /// Takes all that an operation of this kind does. `Length` (30) where bytes are left behind it.
 #[tactic(auto, unfolding(crate::specs::Reading::body_at))]
-pub fn take_whole_content(kind: Kind, bytes: &[u8]) -> Result<LentBody<'_>, CodecError>
+pub(crate) fn take_whole_content(kind: Kind, bytes: &[u8]) -> Result<LentBody<'_>, CodecError>
     ensures { Reads body_of result (body_at kind bytes.now) }
 {
     match take_content(kind, bytes) {

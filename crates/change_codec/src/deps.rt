@@ -1,5 +1,5 @@
 //! The clock that an operation depends on.
-ghost use Rattle.std.specs.Prelude.{◌≡◌, IfOk, IfErr, IsOk};
+ghost use Rattle.std.specs.Prelude.{◌≡◌, IfOk, IfErr, IsOk, []};
 ghost use Rattle.change_codec.specs.declared.codec_error.CodecError.TheVariants.{Memory};
 ghost use Rattle.change_codec.specs.Lent.{deps_of, Collects};
 ghost use Rattle.change_codec.specs.Reading.{Reads, only_rest, only_value, count_at, entry_at, entries_at, deps_at};
@@ -51,13 +51,17 @@ pub fn skip_deps(bytes: &[u8]) -> Result<&[u8], CodecError>
     skip_entries(count, rest)
 }
 
-/// The clock of deps that were tested. An error is out of memory (1).
-pub fn collect_deps(alloc: Global, bytes: &[u8]) -> Result<Clock, CodecError>
+/// The clock of deps that were tested. An error is out of memory (1), which none of them needs.
+pub(crate) fn collect_deps(alloc: Global, bytes: &[u8]) -> Result<Clock, CodecError>
     requires { IsOk (deps_at bytes.now) }
     ensures ok { IfOk result (λ clock. clock ≡ deps_of bytes.now) }
     ensures err { IfErr result (λ error. error ≡ Memory) }
+    ensures none { deps_of bytes.now ≡ [] → IsOk result }
 {
     let (count, rest) = take_count(bytes)?;
+    if count == 0 {
+        return Ok(Clock::new(alloc));
+    }
     let entries = collect_entries(alloc, count, rest)?;
     Ok(Clock::from_entries(entries).unwrap())
 }

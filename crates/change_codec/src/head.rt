@@ -19,7 +19,7 @@ pub struct Head {
 
 /// Takes a head of a format from the front.
 #[tactic(auto, unfolding(crate::specs::Reading::head_at))]
-pub fn take_head(format: Format, bytes: &[u8]) -> Result<(Head, &[u8]), CodecError>
+pub(crate) fn take_head(format: Format, bytes: &[u8]) -> Result<(Head, &[u8]), CodecError>
     ensures { Reads (λ x. (x.0, x.1.now)) result (head_at format bytes.now) }
 {
     let ((kind, has_token), rest) = take_kind(format, bytes)?;

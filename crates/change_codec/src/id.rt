@@ -13,7 +13,7 @@ use op_ids::{OpId, ReplicaId};
 
 /// Puts the sixteen bytes of a replica.
 #[tactic(auto, unfolding(crate::specs::Spelling::number_bytes))]
-pub fn put_replica(replica: ReplicaId, out: &mut Vec<u8>)
+pub(crate) fn put_replica(replica: ReplicaId, out: &mut Vec<u8>)
     requires { HasRoom out.old (number_bytes w128 replica) }
     ensures { Appends out.old out.new (number_bytes w128 replica) }
 {

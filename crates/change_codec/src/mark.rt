@@ -1,8 +1,8 @@
 //! Marks and their keys.
-ghost use Rattle.std.specs.Prelude.{◌≡◌, IfOk};
+ghost use Rattle.std.specs.Prelude.{◌≡◌, IfOk, IsOk};
 ghost use Rattle.std.specs.Int.{w128};
 ghost use Rattle.change_codec.specs.Spelling.{number_bytes, mark_bytes, key_bytes, url_bytes};
-ghost use Rattle.change_codec.specs.Lent.{mark_of, HasUrlOf};
+ghost use Rattle.change_codec.specs.Lent.{mark_of, HasUrlOf, IsNoLink};
 ghost use Rattle.change_codec.specs.Reading.{Reads, mark_at, key_at, url_at};
 ghost use Rattle.change_codec.specs.Writing.{Appends, HasRoom};
 
@@ -24,9 +24,10 @@ pub enum LentMark<'a> {
 
 impl LentMark<'_> {
     /// The mark with a URL of its own. An error is out of memory.
-    pub fn to_mark(self, alloc: Global) -> Result<Mark, AllocError>
+    pub(crate) fn to_mark(self, alloc: Global) -> Result<Mark, AllocError>
         requires { HasUrlOf (mark_of self) }
-        ensures { IfOk result (λ mark. mark ≡ mark_of self.entry) }
+        ensures same { IfOk result (λ mark. mark ≡ mark_of self.entry) }
+        ensures small { IsNoLink (mark_of self.entry) → IsOk result }
     {
         match self {
             LentMark::Strong => Ok(Mark::Strong),
@@ -42,7 +43,7 @@ impl LentMark<'_> {
 
 /// Puts a mark as it is added: its kind, and the URL of a link or the name of a comment.
 #[tactic(auto, unfolding(crate::specs::Spelling::mark_bytes))]
-pub fn put_mark(mark: &Mark, out: &mut Vec<u8>)
+pub(crate) fn put_mark(mark: &Mark, out: &mut Vec<u8>)
     requires { HasRoom out.old (mark_bytes mark.now) }
     ensures { Appends out.old out.new (mark_bytes mark.now) }
 {
@@ -62,7 +63,7 @@ pub fn put_mark(mark: &Mark, out: &mut Vec<u8>)
 
 /// Puts a mark as it is removed: its kind, and the name of a comment.
 #[tactic(auto, unfolding(crate::specs::Spelling::key_bytes))]
-pub fn put_key(key: MarkKey, out: &mut Vec<u8>)
+pub(crate) fn put_key(key: MarkKey, out: &mut Vec<u8>)
     requires { HasRoom out.old (key_bytes key) }
     ensures { Appends out.old out.new (key_bytes key) }
 {
@@ -98,7 +99,7 @@ fn put_comment(id: CommentId, out: &mut Vec<u8>)
 /// Takes a mark as it is added from the front. `Kind` (31) for no kind of mark; for a link `Number`
 /// (32) where the URL isn't of 1 to 1,024 bytes, and `Utf8` (34) where they aren't UTF-8.
 #[tactic(auto, unfolding(crate::specs::Reading::mark_at))]
-pub fn take_mark(bytes: &[u8]) -> Result<(LentMark<'_>, &[u8]), CodecError>
+pub(crate) fn take_mark(bytes: &[u8]) -> Result<(LentMark<'_>, &[u8]), CodecError>
     ensures { Reads (λ x. (mark_of x.0, x.1.now)) result (mark_at bytes.now) }
 {
     match bytes {
@@ -119,7 +120,7 @@ pub fn take_mark(bytes: &[u8]) -> Result<(LentMark<'_>, &[u8]), CodecError>
 
 /// Takes a mark as it is removed from the front. `Kind` (31) for no kind of mark.
 #[tactic(auto, unfolding(crate::specs::Reading::key_at))]
-pub fn take_key(bytes: &[u8]) -> Result<(MarkKey, &[u8]), CodecError>
+pub(crate) fn take_key(bytes: &[u8]) -> Result<(MarkKey, &[u8]), CodecError>
     ensures { Reads (λ x. (x.0, x.1.now)) result (key_at bytes.now) }
 {
     match bytes {

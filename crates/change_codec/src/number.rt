@@ -45,7 +45,7 @@ pub fn put_u32(number: u32, out: &mut Vec<u8>)
 
 /// Puts a number of eight bytes.
 #[tactic(auto, unfolding(crate::specs::Spelling::number_bytes))]
-pub fn put_u64(number: u64, out: &mut Vec<u8>)
+pub(crate) fn put_u64(number: u64, out: &mut Vec<u8>)
     requires { HasRoom out.old (number_bytes w64 number) }
     ensures { Appends out.old out.new (number_bytes w64 number) }
 {
@@ -54,7 +54,7 @@ pub fn put_u64(number: u64, out: &mut Vec<u8>)
 
 /// Takes one byte from the front.
 #[tactic(auto, unfolding(crate::specs::Reading::byte_at))]
-pub fn take_byte(bytes: &[u8]) -> Result<(u8, &[u8]), CodecError>
+pub(crate) fn take_byte(bytes: &[u8]) -> Result<(u8, &[u8]), CodecError>
     ensures { Reads (λ x. (x.0, x.1.now)) result (byte_at bytes.now) }
 {
     match bytes {
@@ -65,7 +65,7 @@ pub fn take_byte(bytes: &[u8]) -> Result<(u8, &[u8]), CodecError>
 
 /// Takes this many bytes from the front.
 #[tactic(auto, unfolding(crate::specs::Reading::bytes_at))]
-pub fn take_bytes(count: usize, bytes: &[u8]) -> Result<(&[u8], &[u8]), CodecError>
+pub(crate) fn take_bytes(count: usize, bytes: &[u8]) -> Result<(&[u8], &[u8]), CodecError>
     ensures { Reads (λ x. (x.0.now, x.1.now)) result (bytes_at count bytes.now) }
 {
     if bytes.len() < count {
@@ -109,7 +109,7 @@ pub fn take_u64(bytes: &[u8]) -> Result<(u64, &[u8]), CodecError>
 
 /// Takes sixteen bytes from the front, which contracts see as a number.
 #[tactic(auto, unfolding(crate::specs::Reading::number_at))]
-pub fn take_sixteen(bytes: &[u8]) -> Result<([u8; 16], &[u8]), CodecError>
+pub(crate) fn take_sixteen(bytes: &[u8]) -> Result<([u8; 16], &[u8]), CodecError>
     ensures { Reads (λ x. (from_be_bytes w128 x.0, x.1.now)) result (number_at w128 bytes.now) }
 {
     let Some((first, rest)) = bytes.split_first_chunk::<16>() else {

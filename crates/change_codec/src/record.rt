@@ -1,7 +1,7 @@
 //! Whole records.
-ghost use Rattle.std.specs.Prelude.{◌≡◌, ◌≢◌, ◌⊎◌, ◌↔◌, ◌++◌, ℕ, Ok, Err, Some, None, IfSome, IsErrOf, OnOk, OnErr, IfOk, IfErr, IsOk};
+ghost use Rattle.std.specs.Prelude.{◌≡◌, ◌≢◌, ◌⊎◌, ◌↔◌, ◌++◌, ℕ, [], Ok, Err, Some, None, IfSome, IsErrOf, OnOk, OnErr, IfOk, IfErr, IsOk};
 ghost use Rattle.change_codec.specs.declared.codec_error.CodecError.TheVariants.{Memory};
-ghost use Rattle.change_codec.specs.Lent.{Gives, HasUrl, body_of, deps_of};
+ghost use Rattle.change_codec.specs.Lent.{Gives, HasUrl, AddsNoLink, OwnsNothing, body_of, deps_of};
 ghost use Rattle.change_codec.specs.Reading.{deps_at, op_at, rest_at, with_head, Reads};
 ghost use Rattle.change_codec.specs.Record.{framed, found_body, taken, first_fault, whole_body, Answers, IsPartial, BeginsWithOp, BeginsWithOneOf};
 ghost use Rattle.change_codec.specs.Formats.{IsOf};
@@ -60,7 +60,8 @@ fn put_body(op: &Op, out: &mut Vec<u8>)
 /// to 2^24, or a URL that isn't of 1 to 1,024 bytes; `Scalar` (33) for no Unicode scalar value;
 /// `Utf8` (34) for a URL that isn't UTF-8; `Order` (35) where the replicas of the deps don't rise;
 /// `Anchor` (36) for no anchor, a start at the end of the text, or an end at its start. `Memory`
-/// (1) may only stand in place of an operation. Nothing is consumed by a refusal.
+/// (1) may only stand in place of an operation, which depends on some or adds a link. Nothing is
+/// consumed by a refusal.
 ///
 /// One pass over the record; the entries of its deps, and a URL, are then read again as they are
 /// copied, into one allocation each.
@@ -82,6 +83,10 @@ pub fn take_op(
     ensures fault { (e : CodecError) → e ≢ Memory
         → (IsErrOf result e ↔ (first_fault format bytes.now ≡ Some e)) }
     ensures memory { IsErrOf result Memory → BeginsWithOneOf format bytes.now }
+
+    // It needs no memory for an operation that depends on nothing and adds no link.
+    ensures small { (op : Operation) (n : ℕ) → IsOf format op → BeginsWithOp bytes.now op n
+        → OwnsNothing op → result ≡ Ok (Some (op, n)) }
 {
     take_record(alloc, format, bytes)
 }
@@ -93,7 +98,9 @@ fn take_record(
     format: Format,
     bytes: &[u8],
 ) -> Result<Option<(Op, usize)>, CodecError>
-    ensures { Answers result (taken format bytes.now) }
+    ensures answers { Answers result (taken format bytes.now) }
+    ensures small { (op : Operation) (n : ℕ) → taken format bytes.now ≡ Ok (Some (op, n))
+        → OwnsNothing op → IsOk result }
 {
     match whole_body(format, bytes) {
         Ok(Some((body, len))) => {
@@ -128,7 +135,9 @@ pub fn whole_body(format: Format, bytes: &[u8]) -> Result<Option<(&[u8], usize)>
 /// Takes the operation that a whole body gives.
 #[tactic(auto, unfolding(crate::specs::Reading::op_at))]
 fn take_body(alloc: Global, format: Format, bytes: &[u8]) -> Result<Op, CodecError>
-    ensures { Gives (λ op. op) result (op_at format bytes.now) }
+    ensures given { Gives (λ op. op) result (op_at format bytes.now) }
+    ensures small { (op : Operation) → op_at format bytes.now ≡ Ok op → OwnsNothing op
+        → IsOk result }
 {
     match take_head(format, bytes) {
         Ok((head, deps)) => {
@@ -142,8 +151,10 @@ fn take_body(alloc: Global, format: Format, bytes: &[u8]) -> Result<Op, CodecErr
 /// Takes what stands behind the deps of a record.
 fn take_rest(alloc: Global, head: Head, deps: &[u8], bytes: &[u8]) -> Result<Op, CodecError>
     requires tested { IsOk (deps_at deps.now) }
-    ensures { Gives (λ op. op) result (with_head head (deps_of deps.now)
+    ensures given { Gives (λ op. op) result (with_head head (deps_of deps.now)
         (rest_at head.has_token head.kind bytes.now)) }
+    ensures small { (op : Operation) → with_head head (deps_of deps.now)
+        (rest_at head.has_token head.kind bytes.now) ≡ Ok op → OwnsNothing op → IsOk result }
 {
     match take_token(head.has_token, bytes) {
         Ok((token, rest)) => match take_whole_content(head.kind, rest) {
@@ -172,6 +183,7 @@ fn make_op(
       body = body_of body.entry;
     }) }
     ensures err { IfErr result (λ error. error ≡ Memory) }
+    ensures small { deps_of deps.now ≡ [] → AddsNoLink (body_of body.entry) → IsOk result }
 {
     let deps = collect_deps(alloc, deps)?;
     let body = body.to_body(alloc)?;

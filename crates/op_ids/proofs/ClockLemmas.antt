@@ -109,6 +109,18 @@ with_count-missing (e ∷ es) r n (suc p) d at other =
     let rest : p ≡ place_of es r → (p < length es → (get_or es p d).0 ≢ r) → with_count es r n ≡ insert es p (r, n) = with_count-missing es r n p d in
     grind (arith, nat_tests)
 
+-- a replica whose entry isn't at its place isn't counted
+pub missing-at_place : (es : List (ℕ × ℕ)) (low r p : ℕ) (d : ℕ × ℕ) → is_rising_above low es ≡ true → p ≡ place_of es r → (p < length es → (get_or es p d).0 ≢ r) → count_of es r ≡ 0
+missing-at_place [] low r p d h at other = refl
+missing-at_place (e ∷ es) low r zero d h at other =
+    let parts = rising_parts low e es h in
+    let none : r ≤ e.0 → count_of es r ≡ 0 = count_of-low es e.0 r parts.rest in
+    grind (arith, nat_tests)
+missing-at_place (e ∷ es) low r (suc p) d h at other =
+    let parts = rising_parts low e es h in
+    let rest : p ≡ place_of es r → (p < length es → (get_or es p d).0 ≢ r) → count_of es r ≡ 0 = missing-at_place es e.0 r p d parts.rest in
+    grind (arith, nat_tests)
+
 -- the entries of a clock rise, and are at most 16
 pub is_clock_parts : (es : List (ℕ × ℕ)) → is_clock es ≡ true → (is_rising_above 0 es ≡ true) × (length es ≤ 16)
 is_clock_parts es h = (grind (arith, nat_tests), grind (arith, nat_tests))

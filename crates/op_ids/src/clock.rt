@@ -131,13 +131,14 @@ impl Clock {
         count < MAX_COUNT
     }
 
-    /// Counts one more operation of a replica. `Limit` (7) where that would be a seventeenth
-    /// replica or a count above 2^24, `Memory` (1) where a growth was refused.
+    /// Counts one more operation of a replica. `Limit` (7) if that would be a seventeenth replica or
+    /// a count above 2^24, `Memory` (1) if a growth was refused, which only a new replica needs.
     pub fn advance(&mut self, replica: ReplicaId) -> Result<(), ClockError>
         ensures ok { OnOk result (self.new ≡ advanced self.old replica) }
         ensures limit { IsErrOf result ClockError.Limit
             ↔ (is_clock (advanced self.old replica) ≡ false) }
         ensures full { IsErrOf result ClockError.Limit → IsOverfull (advanced self.old replica) }
+        ensures memory { IsErrOf result ClockError.Memory → count_of self.old replica ≡ 0 }
         ensures err { OnErr result (self.new ≡ self.old) }
     {
         if !self.can_advance(replica) {
@@ -209,6 +210,7 @@ impl Clock {
         requires { is_clock (with_count self.old replica count) ≡ true }
         ensures ok { OnOk result (self.new ≡ with_count self.old replica count) }
         ensures err { OnErr result (self.new ≡ self.old) }
+        ensures grows { OnErr result (count_of self.old replica ≡ 0) }
     {
         let place = self.place(replica);
         if place < self.entries.len() && self.entries[place].0 == replica {
