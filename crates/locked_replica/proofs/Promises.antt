@@ -156,6 +156,7 @@ module _ {D : Type 0} (facts : Ghosts D) where
         owner = owner;
         begins = list ∙ ap (λ n. take n new.replica.list) (sym long);
         closed = image.closed;
+        whole = rw long has.whole;
         settled = omega (arith, long, enough);
         promised = rw list (promised old new events k has.count crash.ran.calls has.enough has.within);
         new_ids = makes_new hub.replica;

@@ -16,7 +16,7 @@ use Rattle.locked_replica.proofs.Recovering.{survivor_has_settled, survivor_is_l
 pub has_fewer : (n m : ℕ) (h : ReplicaHeld) (file : List ℕ) → n ≤ m → HasAtLeast m h file → HasAtLeast n h file
 has_fewer n m h file fewer has =
     let enough = has.enough in
-    record { version = has.version; count = has.count; enough = omega arith; within = has.within; image = has.image }
+    record { version = has.version; count = has.count; enough = omega arith; within = has.within; whole = has.whole; image = has.image }
 
 -- a call that leaves the store as it was
 pub counts_same : {D : Type 0} (facts : Ghosts D) (answer : Answer) (s : StoreHeld D) → writes_begun answer s ≡ 0 → syncs_begun answer ≡ 0

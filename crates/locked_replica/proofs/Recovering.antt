@@ -1,8 +1,8 @@
 -- What a crash leaves of a hub, by what the hub keeps.
 use Rattle.std.proofs.Common.{◌≡◌, ℕ, ◌+◌, ◌-◌, ◌≤◌, Bool, true, false, nat_lt, List, length}
 use Rattle.std.proofs.Common.{take, drop, refl, sym, ap, ◌∙◌, arith, inl, inr, Ok, Option, Some}
-use Rattle.std.proofs.Common.{None}
-use Rattle.std.specs.Prelude.{if◌then◌else◌}
+use Rattle.std.proofs.Common.{None, [], ◌∷◌, ◌<◌}
+use Rattle.std.specs.Prelude.{if◌then◌else◌, Contains}
 use Rattle.std.proofs.lemmas.Bool.Decides.{nat_tests}
 use Rattle.std.proofs.lemmas.List.{take-append-drop, length-take-le}
 use Rattle.disk_trait.specs.declared.facts.DiskFacts.{Ghosts}
@@ -12,7 +12,9 @@ use Rattle.op_model.specs.Machine.{Commit, State, CrashLeaves, CrashLeavesOf, op
 use Rattle.model_laws.proofs.Growth.{closed_front}
 use Rattle.root_slots.specs.Root.{version_of, count_of}
 use Rattle.op_model.specs.Held.{ReplicaHeld}
+use Rattle.op_model.specs.Replay.{Kept, edited, merged, settlement, reached, settled_number, Replays}
 use Rattle.replica_core.specs.Held.{IsSound}
+use Rattle.replica_core.proofs.ReachedLemmas.{contains_tail}
 use Rattle.group_commit.specs.Begin.{is_idle}
 use Rattle.group_commit.specs.Commit.{IsRootOf, IsLeft}
 use Rattle.group_commit.specs.Saved.{Saved}
@@ -90,36 +92,62 @@ recovers phase h current next file sound live commit left = by_phase phase commi
     by_phase Sync2 commit is = settled false commit is
     by_phase Gate commit is = settled false commit is
 
--- the operations of a commit are in the list, and all that are settled among them
+-- the operations of a commit are in the list, all that are settled are among them, and a step ended with the last one
 abbrev IsWithin : ReplicaHeld → Option Commit → Type 0
 IsWithin h None = Unit {0}
-IsWithin h (Some c) = (h.settled ≤ c.count) × (c.count ≤ length h.list)
+IsWithin h (Some c) = (h.settled ≤ c.count) × (c.count ≤ length h.list) × Contains (reached h.opened h.steps) c.count
 
 commit_within : (idle : Bool) (h : ReplicaHeld) (current next : Saved) → IsFront h current → CommitFits idle h current next
     → IsWithin h (commit_in idle h.settled (count_of current.body) (count_of next.body))
-commit_within true h current next live commit = by_test (nat_lt h.settled (count_of current.body))
+commit_within true h current next live commit = by_test (nat_lt h.settled (count_of current.body)) refl
   where
-    by_test : (t : Bool) → IsWithin h (if t then Some (record { count = count_of current.body; through = true }) else None)
-    by_test true = (commit.settled, live.within)
-    by_test false = tt
-commit_within false h current next live commit = let more = commit.owed.more in (omega (arith, more), commit.front.within)
+    by_test : (t : Bool) → nat_lt h.settled (count_of current.body) ≡ t
+        → IsWithin h (if t then Some (record { count = count_of current.body; through = true }) else None)
+    by_test true is =
+        let less : h.settled < count_of current.body = grind (arith, nat_tests) in (commit.settled, live.within, (commit.through less).reached)
+    by_test false is = tt
+commit_within false h current next live commit =
+    let more = commit.owed.more in (omega (arith, more), commit.front.within, commit.owed.reached)
+
+-- a step ended with the last settled operation, or the opening
+settled_of_steps : (replica : ℕ) (opened list : List Op) (steps : List Kept) → Replays replica opened steps list
+    → Contains (reached (length opened) steps) (settled_number (length opened) steps)
+settled_of_steps replica opened list [] fits = (0, omega arith, refl)
+settled_of_steps replica opened list (edited session e first count ∷ steps) fits =
+    contains_tail (first + count) (settled_number (length opened) steps) (reached (length opened) steps)
+    (settled_of_steps replica opened (take first list) steps fits.2)
+settled_of_steps replica opened list (merged peer index ∷ steps) fits =
+    contains_tail (index + 1) (settled_number (length opened) steps) (reached (length opened) steps)
+    (settled_of_steps replica opened (take index list) steps fits.4)
+settled_of_steps replica opened list (settlement n ∷ steps) fits = fits.0
+
+settled_is_reached : (h : ReplicaHeld) → IsSound h → Contains (reached h.opened h.steps) h.settled
+settled_is_reached h sound =
+    let long : length (take h.opened h.list) ≡ h.opened = length-take-le h.opened h.list sound.opened in
+    rw sound.number (rw long at (settled_of_steps h.replica (take h.opened h.list) h.list h.steps sound.replays))
 
 settled_within : (idle : Bool) (h : ReplicaHeld) (current next : Saved) → IsFront h current → CommitFits idle h current next → h.settled ≤ length h.list
 settled_within true h current next live commit = let within = live.within in let settled = commit.settled in omega (arith, within, settled)
 settled_within false h current next live commit = let within = live.within in let settled = commit.settled in omega (arith, within, settled)
 
 -- so the image has at least the settled operations
-at_least : (gated : Bool) (h : ReplicaHeld) (version : ℕ) (commit : Option Commit) (file : List ℕ) → h.settled ≤ length h.list → IsWithin h commit
-    → RecoversIn gated h version commit file → HasAtLeast h.settled h file
-at_least gated h version None file settled within image =
-    record { version = version; count = h.settled; enough = omega arith; within = settled; image = image }
-at_least gated h version (Some c) file settled within image = by_kind c.through gated image
+at_least : (gated : Bool) (h : ReplicaHeld) (version : ℕ) (commit : Option Commit) (file : List ℕ) → h.settled ≤ length h.list
+    → Contains (reached h.opened h.steps) h.settled → IsWithin h commit → RecoversIn gated h version commit file → HasAtLeast h.settled h file
+at_least gated h version None file settled ended within image =
+    record { version = version; count = h.settled; enough = omega arith; within = settled; whole = ended; image = image }
+at_least gated h version (Some c) file settled ended within image = by_kind c.through gated image
   where
+    of_commit : (v : ℕ) → HasImageOfFront h v c.count file → HasAtLeast h.settled h file
+    of_commit v image = record { version = v; count = c.count; enough = within.0; within = within.1; whole = within.2; image = image }
+
+    of_settled : HasImageOfFront h version h.settled file → HasAtLeast h.settled h file
+    of_settled image = record { version = version; count = h.settled; enough = omega arith; within = settled; whole = ended; image = image }
+
     by_kind : (through gated : Bool) → RecoversWith through gated h version c.count file → HasAtLeast h.settled h file
-    by_kind true gated image = record { version = version; count = c.count; enough = within.0; within = within.1; image = image }
-    by_kind false true (inl image) = record { version = version; count = h.settled; enough = omega arith; within = settled; image = image }
-    by_kind false true (inr image) = record { version = version + 1; count = c.count; enough = within.0; within = within.1; image = image }
-    by_kind false false image = record { version = version; count = h.settled; enough = omega arith; within = settled; image = image }
+    by_kind true gated image = of_commit version image
+    by_kind false true (inl image) = of_settled image
+    by_kind false true (inr image) = of_commit (version + 1) image
+    by_kind false false image = of_settled image
 
 -- every survivor has them
 pub survivor_has : {D : Type 0} (facts : Ghosts D) (hub : Parts D) (file : List ℕ) → Fits facts hub → facts.tells hub.store.disk → facts.survives hub.store.disk file
@@ -131,6 +159,7 @@ recovered_has : {D : Type 0} (facts : Ghosts D) (hub : Parts D) (file : List ℕ
 recovered_has facts hub file fits recovered =
     at_least (is_gated hub.store.phase) hub.replica (version_of hub.store.current.body) (commit_of hub.replica hub.store) file
     (settled_within (is_idle hub.store.phase) hub.replica hub.store.current hub.store.next fits.live fits.commit)
+    (settled_is_reached hub.replica fits.sound)
     (commit_within (is_idle hub.store.phase) hub.replica hub.store.current hub.store.next fits.live fits.commit) recovered
 
 pub survivor_has_settled : {D : Type 0} (facts : Ghosts D) (hub : Parts D) (file : List ℕ) → Fits facts hub → facts.tells hub.store.disk

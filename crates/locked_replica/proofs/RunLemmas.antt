@@ -44,17 +44,17 @@ fewer (suc k) [] = omega arith
 fewer (suc k) (x ∷ es) = let rest = fewer k es in omega (arith, rest)
 
 -- what is a beginning of the list is one of a longer list
-has_longer : (n : ℕ) (h next : ReplicaHeld) (more : List Op) (file : List ℕ) → next.replica ≡ h.replica → next.list ≡ h.list ++ more → HasAtLeast n h file
-    → HasAtLeast n next file
-has_longer n h next more file owner list has =
+has_longer : (n : ℕ) (h next : ReplicaHeld) (answer : Answer) (file : List ℕ) → Goes answer h next → HasAtLeast n h file → HasAtLeast n next file
+has_longer n h next answer file goes has =
     let within = has.within in
-    let same : take has.count next.list ≡ take has.count h.list = ap (λ ops. take has.count ops) list ∙ take-append-le has.count h.list more within in
+    let same : take has.count next.list ≡ take has.count h.list = ap (λ ops. take has.count ops) goes.grows ∙ take-append-le has.count h.list goes.more within in
     record {
       version = has.version;
       count = has.count;
       enough = has.enough;
-      within = omega (arith, within, ap length list, length-append h.list more);
-      image = rw (same, owner) has.image;
+      within = omega (arith, within, ap length goes.grows, length-append h.list goes.more);
+      whole = goes.reaches has.count has.whole;
+      image = rw (same, goes.owner) has.image;
     }
 
 -- the chain of calls, with one more
@@ -237,7 +237,7 @@ made_more facts old mid new es event answer lawful ran call =
             either : facts.left_since mid.store.disk (facts.time old.store.disk + calls_made (take k es)) file ⊎ IsLeftIn mid new file
                 → HasAtLeast (settled_behind old.replica.settled (take k es)) new.replica file
             either (inl since) =
-                has_longer _ mid.replica new.replica its_step.more file its_step.owner its_step.grows (ran.fronts told k file within since)
+                has_longer _ mid.replica new.replica answer file its_step (ran.fronts told k file within since)
             either (inr left) = has_fewer _ mid.replica.settled new.replica file (ran.rising k within) left.has
 
         by_place : (k ≤ length es) ⊎ (k ≡ length es + 1) → HasAtLeast (settled_behind old.replica.settled (take k (es ++ (event, answer) ∷ []))) new.replica file

@@ -1,5 +1,5 @@
 -- Crash safety in one law: what is opened after a crash has all that was promised before it.
-use Rattle.std.specs.Prelude.{◌≡◌, ◌≢◌, ℕ, ◌+◌, ◌≤◌, true, List, [], ◌∷◌, length, take}
+use Rattle.std.specs.Prelude.{◌≡◌, ◌≢◌, ℕ, ◌+◌, ◌≤◌, true, List, [], ◌∷◌, length, take, Contains}
 use Rattle.disk_trait.specs.declared.facts.DiskFacts.{Ghosts}
 use Rattle.op_ids.specs.Clock.{count_of}
 use Rattle.op_model.specs.declared.op.Op.{Op}
@@ -8,6 +8,7 @@ use Rattle.op_model.specs.Causality.{clock_of, HasOp, IsCausallyClosed}
 use Rattle.op_model.specs.Held.{ReplicaHeld}
 use Rattle.op_model.specs.Machine.{Event, ack, Answer, acknowledged, operations, clock}
 use Rattle.op_model.specs.Made.{made}
+use Rattle.op_model.specs.Replay.{reached}
 use Rattle.locked_replica.specs.Hub.{Parts}
 use Rattle.locked_replica.specs.Run.{Ran, calls_made}
 
@@ -48,6 +49,8 @@ pub record IsRecovered (least : ℕ) (before : List (Event × Answer)) (last ope
   pub begins : opened.list ≡ take (length opened.list) last.list
   -- causally closed
   pub closed : IsCausallyClosed opened.list
+  -- it ends where a step of the last one ended, or where that was opened: an edit is there whole or not at all
+  pub whole : Contains (reached last.opened last.steps) (length opened.list)
   -- with all that was settled
   pub settled : least ≤ length opened.list
   -- and all that was acknowledged and told, so no id that was sent is made again

@@ -1,7 +1,8 @@
 -- What a crash leaves of a hub.
-use Rattle.std.specs.Prelude.{◌⊎◌, ℕ, ◌+◌, ◌≤◌, Bool, true, false, List, length, take, Option, Some, None}
+use Rattle.std.specs.Prelude.{◌⊎◌, ℕ, ◌+◌, ◌≤◌, Bool, true, false, List, length, take, Contains, Option, Some, None}
 use Rattle.op_model.specs.Machine.{Commit, CrashLeaves, opened}
 use Rattle.op_model.specs.Held.{ReplicaHeld}
+use Rattle.op_model.specs.Replay.{reached}
 use Rattle.root_slots.specs.Root.{version_of}
 use Rattle.recovery.specs.Image.{IsImage}
 use Rattle.group_commit.specs.declared.phase.Phase.{Phase}
@@ -41,10 +42,11 @@ pub record IsCrash {D : Type 0} (hub : Parts D) (file : List ℕ) : Type 0 where
   pub image : IsImage file hub.replica.replica version (take count hub.replica.list)
   pub leaves : CrashLeaves (state_of hub) (opened hub.replica.replica (take count hub.replica.list) version)
 
--- the image of the file is a beginning of the list, of at least n operations
+-- the image of the file is a beginning of the list, of at least n operations, at which a step ended: so no edit is in it in part
 pub record HasAtLeast (n : ℕ) (h : ReplicaHeld) (file : List ℕ) : Type 0 where
   pub version : ℕ
   pub count : ℕ
   pub enough : n ≤ count
   pub within : count ≤ length h.list
+  pub whole : Contains (reached h.opened h.steps) count
   pub image : IsImage file h.replica version (take count h.list)

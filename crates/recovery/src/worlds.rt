@@ -1,6 +1,7 @@
 //! The world: any number of replicas that tell one another their operations.
 ghost use Rattle.world_law.specs.Laws.{Always, AnsweredForever, EachFrontIsOne, HoldsOneOperation, KeepsWhatWasTold};
 ghost use Rattle.world_law.specs.Laws.{NeverMadeAgain, ShowsTheSame, TellsOneOperation};
+ghost use Rattle.world_law.specs.Together.{TokensNameOneEdit};
 
 /// No id names two things, anywhere, ever: for any number of replicas with numbers of their own,
 /// and any list of events, losses, repeats, delays and crashes. A replica here is the machine that
@@ -18,6 +19,8 @@ pub fn world()
     ensures settled { Always KeepsWhatWasTold }
     // Once an edit is settled, its token has the same ticket, across all its replica's crashes.
     ensures answered { AnsweredForever }
+    // A replica's operations with one token are those of one edit, one after another.
+    ensures tokens { Always TokensNameOneEdit }
     // So it is at each moment of a history, and not behind it alone.
     ensures moments { EachFrontIsOne }
 {}

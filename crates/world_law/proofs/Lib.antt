@@ -8,3 +8,4 @@ pub mod SmallHistory
 pub mod Answered
 pub mod Known
 pub mod Stays
+pub mod Together

@@ -182,7 +182,7 @@ goes_failure_told bag s next h at =
       kept = λ op k. k;
     })
 
-begun_length : (failed busy nothing full : Bool) (long n : ℕ)
+pub begun_length : (failed busy nothing full : Bool) (long n : ℕ)
     → (if failed then refused 44 else if busy then refused 8 else if nothing then nothing_new else if full then refused 7 else begun long) ≡ begun n
     → long ≡ n
 begun_length true b o f long n e = absurd (cc)

@@ -4,3 +4,4 @@ pub mod Laws
 pub mod Counts
 pub mod Witness
 pub mod Tokens
+pub mod Together

@@ -17,6 +17,6 @@ pub use histories::{
 };
 pub use tokens::{
     answered_edits_act_once, known_edits_are_answered_as_they_were,
-    settled_tokens_are_answered_forever,
+    settled_tokens_are_answered_forever, tokens_name_one_edit,
 };
 pub use witness::an_operation_goes_from_one_replica_to_another;

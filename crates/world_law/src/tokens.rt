@@ -1,5 +1,6 @@
 //! An edit that has a token acts once, and is answered as it was.
-ghost use Rattle.world_law.specs.Laws.{ActsOnce, AnsweredForever};
+ghost use Rattle.world_law.specs.Laws.{ActsOnce, Always, AnsweredForever};
+ghost use Rattle.world_law.specs.Together.{TokensNameOneEdit};
 ghost use Rattle.world_law.specs.Tokens.{IsAnsweredAsItWas, IsAnsweredFromThenOn};
 
 /// An edit that was made before, under its token, is answered its ticket and adds nothing: behind a
@@ -19,4 +20,11 @@ pub fn settled_tokens_are_answered_forever()
 /// crashes, it is answered the same whenever it is sent again, and adds nothing.
 pub fn answered_edits_act_once()
     ensures { ActsOnce }
+{}
+
+/// In every history, over all crashes, a replica's operations with one token are those of one edit,
+/// one after another in its list: an edit that was made, lost its answer in a crash, and was sent
+/// again, is there once, whole or not at all.
+pub fn tokens_name_one_edit()
+    ensures { Always TokensNameOneEdit }
 {}
