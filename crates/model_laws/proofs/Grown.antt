@@ -48,7 +48,7 @@ index_behind (x ∷ first) last id none =
     ]
 
 -- an id that is counted is there
-counted_there : (cs : List Character) (id : Id) → 1 ≤ times id cs → has_id cs id ≡ true
+pub counted_there : (cs : List Character) (id : Id) → 1 ≤ times id cs → has_id cs id ≡ true
 counted_there [] id h = absurd (omega arith)
 counted_there (x ∷ cs) id h =
     elim (cases_Bool (is_same x.id id)) [

@@ -68,7 +68,7 @@ module _ (a b : List Op) (closed : IsCausallyClosed a) (too : IsCausallyClosed b
   same_comment_ids = same_for_closed (λ ops. comment_ids (markings ops doc)) (comments_step doc)
       (λ x xs. comments_more doc x xs) (λ x y z d. comments_swapped doc x y z) a b closed too same
 
-  same_marks : (cs : List Character) (k : ℕ) → marks_of cs (markings a doc) k ≡ marks_of cs (markings b doc) k
+  pub same_marks : (cs : List Character) (k : ℕ) → marks_of cs (markings a doc) k ≡ marks_of cs (markings b doc) k
   same_marks cs k = marks_agree cs (markings a doc) (markings b doc) k (same_deciding cs k) same_comment_ids
 
   pub same_spans : spans a doc ≡ spans b doc

@@ -120,7 +120,7 @@ not_removed_in before (op ∷ ops) doc id h l =
       | inr d ↦ rw d refl
     ]
 
-not_removed : (ops : List Op) (doc : ℕ) (c : Character) → IsOrderly ops doc → greatest_counter ops < c.id.counter
+pub not_removed : (ops : List Op) (doc : ℕ) (c : Character) → IsOrderly ops doc → greatest_counter ops < c.id.counter
     → is_removed ops doc c ≡ false
 not_removed ops doc c h l = not_removed_in [] ops doc c.id h l
 
@@ -142,7 +142,7 @@ pub character_here : (doc : ℕ) (op : Op) → op.doc ≡ doc → character_in d
 character_here doc op e = rw (eq-eqb op.doc doc e) refl
 
 -- a new character stands right behind its origin, where this ends the front
-insert_step : (ops : List Op) (doc : ℕ) (op : Op) (c : Character) (front rest : List Character) → IsOrderly ops doc
+pub insert_step : (ops : List Op) (doc : ℕ) (op : Op) (c : Character) (front rest : List Character) → IsOrderly ops doc
     → (op.doc ≡ doc → Fits ops doc op) → character_in doc op ≡ Some c → greatest_counter ops < c.id.counter
     → walk ops doc ≡ front ++ rest → last_or None front ≡ c.origin
     → walk (ops ++ op ∷ []) doc ≡ (front ++ c ∷ []) ++ rest

@@ -3,3 +3,5 @@ pub mod IsWalk
 pub mod Changed
 pub mod Histories
 pub mod Asking
+pub mod Since
+pub mod Rows

@@ -5,7 +5,10 @@
 //! proves code.
 #![tactic(auto)]
 
+mod changes;
 mod edits;
+mod lasting;
+mod later;
 mod marking_edits;
 mod one_more;
 mod orderly;
@@ -13,10 +16,20 @@ mod same_operations;
 mod shape;
 mod span_shape;
 
+pub use changes::{
+    changes_are_joined, changes_go_by_the_number_of_operations, changes_go_over_the_text,
+    changes_show_what_is_there, same_operations_same_changes, steps_are_made_part_by_part,
+    untouched_characters_stay, what_was_shown_is_known_now, worked_rows_of_changes,
+};
 pub use edits::{
     edits_change_the_text, edits_keep_lists_closed, ended_marks_dont_grow, made_ids_are_greater,
     made_operations_fit,
 };
+pub use lasting::{
+    inserts_pass_places, places_keep_their_order, places_stand_beside_their_character,
+    places_stand_where_they_were_made, places_stay_there,
+};
+pub use later::characters_keep_their_order;
 pub use marking_edits::{edits_mark_what_they_say, marks_grow_at_their_end};
 pub use one_more::{
     closed_lists_grow, ids_are_used_once, orderly_lists_grow, other_documents_stay,

@@ -4,11 +4,13 @@ pub mod Walk
 pub mod Text
 pub mod Places
 pub mod Spans
+pub mod Changes
 pub mod Rising
 pub mod Records
 pub mod Causality
 pub mod Made
 pub mod Placing
+pub mod Lasting
 pub mod Replay
 pub mod Held
 pub mod Telling

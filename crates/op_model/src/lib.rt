@@ -7,10 +7,12 @@
 mod anchor;
 mod asking;
 mod author;
+mod change_step;
 mod character;
 mod comment_id;
 mod comparing;
 mod edit;
+mod lasting;
 mod lengths;
 mod mark;
 mod marking;
@@ -24,9 +26,11 @@ mod url;
 
 pub use anchor::{Anchor, End, Start};
 pub use author::Author;
+pub use change_step::ChangeStep;
 pub use character::Character;
 pub use comment_id::{CommentId, CommentIds};
 pub use edit::{Change, Edit, EditText};
+pub use lasting::{Lasting, Neighbour};
 pub use lengths::{ID_LENGTH, head_length, insert_length, place_length, token_length};
 pub use mark::{Mark, MarkKey, Marks};
 pub use marking::Marking;
