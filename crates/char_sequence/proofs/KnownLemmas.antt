@@ -30,7 +30,7 @@ has_id-walk ops doc id orderly =
     has_id-times (walk ops doc) id
     ∙ (ap (λ n. nat_lt 0 n) (orderly_members ops doc id orderly) ∙ sym (has_id-times (characters ops doc) id))
 
-has_cell-map : (ops : List Op) (doc : ℕ) (id : Id) (cs : List Character) → has_cell (map (cell_of ops doc) cs) id ≡ has_id cs id
+pub has_cell-map : (ops : List Op) (doc : ℕ) (id : Id) (cs : List Character) → has_cell (map (cell_of ops doc) cs) id ≡ has_id cs id
 has_cell-map ops doc id [] = refl
 has_cell-map ops doc id (c ∷ cs) = ap (λ r. is_same c.id id || r) (has_cell-map ops doc id cs)
 

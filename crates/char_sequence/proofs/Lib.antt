@@ -25,6 +25,7 @@ pub mod GroupSearchLemmas
 pub mod CuttingLemmas
 pub mod HoldsLemmas
 pub mod KnownLemmas
+pub mod LastingLemmas
 pub mod LinkLemmas
 pub mod WeaveLemmas
 pub mod WovenLemmas

@@ -22,7 +22,7 @@ pub struct Hints {
 
 impl Hints {
     /// No hints. Constant.
-    pub fn new(alloc: Global) -> Hints {
+    pub(crate) fn new(alloc: Global) -> Hints {
         Hints {
             tracks: Vec::new(alloc),
             serials: Vec::new(alloc),
@@ -33,7 +33,7 @@ impl Hints {
 
     /// The chunk in which a character should be. A binary search among the characters of its
     /// replica at the most.
-    pub fn chunk_of(&self, id: &OpId) -> usize {
+    pub(crate) fn chunk_of(&self, id: &OpId) -> usize {
         match hinted(&self.tracks, id) {
             Some(serial) => position(&self.positions, serial),
             None => 0,
@@ -41,14 +41,14 @@ impl Hints {
     }
 
     /// The place of the character that was put in last.
-    pub fn last(&self) -> Place {
+    pub(crate) fn last(&self) -> Place {
         self.last
     }
 
     /// Notes that `count` characters were put in at a place, and `more` new chunks behind its own.
     /// Where memory is refused, hints are missing. A step for each character that was put in or
     /// moved to another chunk; where chunks came, for each chunk behind them too.
-    pub fn note(&mut self, chunks: &Chunks, place: Place, count: usize, more: usize) {
+    pub(crate) fn note(&mut self, chunks: &Chunks, place: Place, count: usize, more: usize) {
         self.last = nth_from(chunks, &place, count.saturating_sub(1), more);
         match self.noted(chunks, &place, count, more) {
             Ok(()) => {}
@@ -58,7 +58,7 @@ impl Hints {
 
     /// Notes all characters of these chunks, where none are noted. Where memory is refused, hints
     /// are missing. A step for each character, and a sort of those of each replica by counter.
-    pub fn note_all(&mut self, chunks: &Chunks) {
+    pub(crate) fn note_all(&mut self, chunks: &Chunks) {
         match self.gathered(chunks) {
             Ok(()) => {}
             Err(_) => {}

@@ -21,6 +21,7 @@ mod groups;
 mod hidden;
 mod hints;
 mod landing;
+mod lasting;
 mod links;
 mod packed_cell;
 mod place;

@@ -18,7 +18,7 @@ pub struct Stretch {
 
 impl Place {
     /// Whether it stands in a chunk before another place's, or in the same one before it.
-    pub fn is_ahead_of(&self, other: &Place) -> bool
+    pub(crate) fn is_ahead_of(&self, other: &Place) -> bool
         ensures { IsTrue result ↔ IsAhead self.now other.now }
     {
         self.chunk < other.chunk || self.chunk == other.chunk && self.at < other.at

@@ -4,6 +4,7 @@ ghost use Rattle.std.specs.Prelude.{is_some, nat_le, MatchOption, IfOk, IfSome};
 ghost use Rattle.char_sequence.specs.Chunks.{cells_of, cell_at, size_at, AreChunks};
 ghost use Rattle.char_sequence.specs.Content.{empty, is_there, Holds};
 ghost use Rattle.char_sequence.specs.Gaps.{IsGap};
+ghost use Rattle.op_model.specs.Lasting.{at_of};
 ghost use Rattle.op_model.specs.Places.{index_of};
 ghost use Rattle.op_model.specs.Walk.{walk};
 ghost use Rattle.op_model.specs.declared.op.Op.{Op};
@@ -20,10 +21,11 @@ use crate::ends_after::EndsAfter;
 use crate::finding::{index, place};
 use crate::gap::Gap;
 use crate::hints::Hints;
+use crate::lasting::beside;
 use crate::reading::{tombstones, values};
 use crate::shown::{behind, gap, shown, shown_from};
 use op_ids::OpId;
-use op_model::{Text, Ticks};
+use op_model::{Lasting, Text, Ticks};
 use std::alloc::{AllocError, Global};
 use std::marker::Model;
 
@@ -105,6 +107,33 @@ impl Sequence {
     {
         let found = place(&self.chunks, &self.hints, &id)?;
         Some(index(&self.chunks, &found))
+    }
+
+    /// How many characters that a reader sees stand before a place that lasts, or `None` where the
+    /// character that it stays with isn't there; a tombstone is there. Takes no memory. Constant at
+    /// the start and at the end of the text, else costs what `at_in` does.
+    pub fn at(&self, place: &Lasting) -> Option<usize>
+        ensures { (ops : List Op) (doc : ℕ) → Holds self.now ops doc
+            → result ≡ at_of ops doc place.now }
+    {
+        self.at_in(place, &mut Ticks::new())
+    }
+
+    /// The same. The character is looked for in the chunk of its hint, and in all only where the
+    /// hint is wrong; no ticks are counted there. Then among n characters, tombstones counted, at
+    /// most n/16384 + 576 counts and characters are read, since the counts of 64 chunks are kept as
+    /// one: a tick for each.
+    pub fn at_in(&self, place: &Lasting, ticks: &mut Ticks) -> Option<usize>
+        ensures at { (ops : List Op) (doc : ℕ) → Holds self.now ops doc
+            → result ≡ at_of ops doc place.now }
+        ensures ticks { ticks.new ≤ ticks.old
+            + (length (cells_of self.now) / (MIN_CHUNK * GROUP) + (GROUP + MAX_CHUNK)) }
+    {
+        match place {
+            Lasting::StartOfText => Some(0),
+            Lasting::Beside(anchor) => beside(&self.chunks, &self.hints, anchor, ticks),
+            Lasting::EndOfText => Some(self.chunks.shown()),
+        }
     }
 
     /// Whether a reader sees at least `count` characters. Takes no memory. Constant.

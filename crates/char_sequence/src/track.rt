@@ -18,7 +18,7 @@ struct Spot {
 
 /// Notes the chunk of a character. An error is out of memory (1). A step or two where it is its
 /// replica's last one or its replica inserts alone, else a binary search.
-pub fn note(tracks: &mut Vec<Track>, id: OpId, serial: u32) -> Result<(), AllocError> {
+pub(crate) fn note(tracks: &mut Vec<Track>, id: OpId, serial: u32) -> Result<(), AllocError> {
     let i = index_of(tracks, id.replica())?;
     match tracks.get_mut(i) {
         Some(track) => put(&mut track.spots, spot_of(id, serial)),
@@ -28,7 +28,7 @@ pub fn note(tracks: &mut Vec<Track>, id: OpId, serial: u32) -> Result<(), AllocE
 
 /// Notes the chunk of a character that isn't noted, behind all others of its replica: `sort` brings
 /// them in order. An error is out of memory (1).
-pub fn gather(tracks: &mut Vec<Track>, id: OpId, serial: u32) -> Result<(), AllocError> {
+pub(crate) fn gather(tracks: &mut Vec<Track>, id: OpId, serial: u32) -> Result<(), AllocError> {
     let i = index_of(tracks, id.replica())?;
     if let Some(track) = tracks.get_mut(i) {
         track.spots.push(spot_of(id, serial))?;
@@ -37,7 +37,7 @@ pub fn gather(tracks: &mut Vec<Track>, id: OpId, serial: u32) -> Result<(), Allo
 }
 
 /// Brings the characters of each replica in the order of their counters.
-pub fn sort(tracks: &mut [Track]) {
+pub(crate) fn sort(tracks: &mut [Track]) {
     for track in tracks.iter_mut() {
         track.spots.sort_unstable_by_key(|spot| spot.counter);
     }
@@ -63,7 +63,7 @@ fn spot_of(id: OpId, serial: u32) -> Spot {
 }
 
 /// The serial number of the chunk in which a character should be.
-pub fn hinted(tracks: &[Track], id: &OpId) -> Option<u32> {
+pub(crate) fn hinted(tracks: &[Track], id: &OpId) -> Option<u32> {
     for track in tracks {
         if track.replica == id.replica() {
             let i = found(&track.spots, low(id.counter()))?;

@@ -12,7 +12,7 @@ pub struct Trail {
 }
 
 /// Notes that a replica's next character is at a place. An error is out of memory (1).
-pub fn note(
+pub(crate) fn note(
     trails: &mut Vec<Trail>,
     alloc: Global,
     replica: ReplicaId,
@@ -32,7 +32,7 @@ pub fn note(
 
 /// The place where a character should be, counted from 1, or 0. A few steps where its replica
 /// inserts alone, else a binary search among its characters.
-pub fn hinted(trails: &[Trail], cells: &CellList, id: &OpId) -> usize {
+pub(crate) fn hinted(trails: &[Trail], cells: &CellList, id: &OpId) -> usize {
     for trail in trails {
         if trail.replica == id.replica() {
             return searched(&trail.places, cells, id.counter());

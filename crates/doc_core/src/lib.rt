@@ -4,8 +4,10 @@
 #![tactic(auto)]
 
 mod apply;
+mod changed;
 mod doc;
 mod draft;
+mod lasting;
 mod laws;
 mod made;
 mod make;
@@ -19,4 +21,4 @@ pub use draft::Draft;
 pub use laws::{fitting_names_are_there, followers_fit, other_operations_stay};
 pub use made::Made;
 pub use make_error::MakeError;
-pub use span_flatten::SpansError;
+pub use span_flatten::{Since, SpansError};

@@ -12,7 +12,7 @@ use op_model::{Author, Body};
 use std::alloc::{AllocError, Global};
 
 /// Whether the author's next `count` operations keep the limits. Takes no memory.
-pub fn keep_limits(author: &Author<'_>, count: usize) -> bool
+pub(crate) fn keep_limits(author: &Author<'_>, count: usize) -> bool
     ensures value { result ≡ keep_limits_of author.now count }
     ensures rising { is_clock author.now.clock.now ≡ true }
 {
@@ -22,7 +22,7 @@ pub fn keep_limits(author: &Author<'_>, count: usize) -> bool
 }
 
 /// The ids and the characters of a run of inserts from a counter on.
-pub fn run(
+pub(crate) fn run(
     alloc: Global,
     replica: ReplicaId,
     counter: u64,
@@ -42,7 +42,7 @@ pub fn run(
 }
 
 /// Removes of characters.
-pub fn remove_bodies(alloc: Global, targets: &[OpId]) -> Result<Vec<Body>, AllocError>
+pub(crate) fn remove_bodies(alloc: Global, targets: &[OpId]) -> Result<Vec<Body>, AllocError>
     ensures { IfOk result (λ bodies. bodies.items ≡ map Remove targets.now) }
 {
     targets

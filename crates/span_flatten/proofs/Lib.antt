@@ -14,3 +14,7 @@ pub mod CoverLemmas
 pub mod FormatLemmas
 pub mod SpanLemmas
 pub mod StandingLemmas
+pub mod SinceLemmas
+pub mod TellingLemmas
+pub mod PastLemmas
+pub mod ChangeLemmas

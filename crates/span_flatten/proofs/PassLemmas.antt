@@ -132,26 +132,26 @@ cell_more cells k c id there =
     rw (add-one, more cells k c there) (any_append (λ d. is_same d.id id) (take k cells) c ∙ ap (λ b. has_cell (take k cells) id || b) (same_back c.id id))
 
 -- a cell is reached
-begun_reached : (cells : List Cell) (k : ℕ) (c : Cell) (s : Start) → slice_get cells k ≡ Some c
+pub begun_reached : (cells : List Cell) (k : ℕ) (c : Cell) (s : Start) → slice_get cells k ≡ Some c
     → (has_begun cells k k s || starts_at c.id false s) ≡ has_begun cells (k + 1) k s
 begun_reached cells k c start.OfText there = refl
 begun_reached cells k c (start.From (Before id)) there = sym (cell_more cells k c id there)
 begun_reached cells k c (start.From (After id)) there = or_false (has_cell (take k cells) id)
 
-ended_reached : (cells : List Cell) (k : ℕ) (c : Cell) (e : End) → slice_get cells k ≡ Some c
+pub ended_reached : (cells : List Cell) (k : ℕ) (c : Cell) (e : End) → slice_get cells k ≡ Some c
     → (has_ended cells k k e || stops_at c.id false e) ≡ has_ended cells (k + 1) k e
 ended_reached cells k c end.OfText there = refl
 ended_reached cells k c (end.To (Before id)) there = sym (cell_more cells k c id there)
 ended_reached cells k c (end.To (After id)) there = or_false (has_cell (take k cells) id)
 
 -- a cell is passed
-begun_passed : (cells : List Cell) (k : ℕ) (c : Cell) (s : Start) → slice_get cells k ≡ Some c
+pub begun_passed : (cells : List Cell) (k : ℕ) (c : Cell) (s : Start) → slice_get cells k ≡ Some c
     → (has_begun cells (k + 1) k s || starts_at c.id true s) ≡ has_begun cells (k + 1) (k + 1) s
 begun_passed cells k c start.OfText there = refl
 begun_passed cells k c (start.From (Before id)) there = or_false (has_cell (take (k + 1) cells) id)
 begun_passed cells k c (start.From (After id)) there = sym (cell_more cells k c id there)
 
-ended_passed : (cells : List Cell) (k : ℕ) (c : Cell) (e : End) → slice_get cells k ≡ Some c
+pub ended_passed : (cells : List Cell) (k : ℕ) (c : Cell) (e : End) → slice_get cells k ≡ Some c
     → (has_ended cells (k + 1) k e || stops_at c.id true e) ≡ has_ended cells (k + 1) (k + 1) e
 ended_passed cells k c end.OfText there = refl
 ended_passed cells k c (end.To (Before id)) there = or_false (has_cell (take (k + 1) cells) id)
@@ -234,7 +234,7 @@ passes_or p q r same [] i = refl
 passes_or p q r same (m ∷ ms) zero = same m
 passes_or p q r same (m ∷ ms) (suc i) = passes_or p q r same ms i
 
-with_start : (p r : Marking → Bool) (id : Id) (is_after : Bool) → ((m : Marking) → (p m || starts_at id is_after m.start) ≡ r m)
+pub with_start : (p r : Marking → Bool) (id : Id) (is_after : Bool) → ((m : Marking) → (p m || starts_at id is_after m.start) ≡ r m)
     → (ms : List Marking) (es : List Edge) → AreEdges ms es → (i : ℕ)
     → with_edges is_after false (filter (λ e. is_same e.id id) es) (passes p ms) i ≡ passes r ms i
 with_start p r id is_after same ms es are i =
@@ -242,7 +242,7 @@ with_start p r id is_after same ms es are i =
     ∙ edges_pass (λ j. is_at id is_after false j) (λ m. starts_at id is_after m.start) (λ j k m. of_start id is_after j k m) ms es i are)
     ∙ passes_or p (λ m. starts_at id is_after m.start) r same ms i
 
-with_end : (p r : Marking → Bool) (id : Id) (is_after : Bool) → ((m : Marking) → (p m || stops_at id is_after m.end) ≡ r m)
+pub with_end : (p r : Marking → Bool) (id : Id) (is_after : Bool) → ((m : Marking) → (p m || stops_at id is_after m.end) ≡ r m)
     → (ms : List Marking) (es : List Edge) → AreEdges ms es → (i : ℕ)
     → with_edges is_after true (filter (λ e. is_same e.id id) es) (passes p ms) i ≡ passes r ms i
 with_end p r id is_after same ms es are i =
@@ -272,7 +272,7 @@ passed a cells ms es k c there edges are =
     (with_start (λ m. has_begun cells (k + 1) k m.start) (λ m. has_begun cells (k + 1) (k + 1) m.start) c.id true (λ m. begun_passed cells k c m.start there) ms es edges)
     (with_end (λ m. has_ended cells (k + 1) k m.end) (λ m. has_ended cells (k + 1) (k + 1) m.end) c.id true (λ m. ended_passed cells k c m.end there) ms es edges) are
 
-within_cells : (cells : List Cell) (k : ℕ) (c : Cell) → slice_get cells k ≡ Some c → k < length cells
+pub within_cells : (cells : List Cell) (k : ℕ) (c : Cell) → slice_get cells k ≡ Some c → k < length cells
 within_cells [] k c there = absurd (cc)
 within_cells (d ∷ cells) zero c there = omega arith
 within_cells (d ∷ cells) (suc k) c there = let rest = within_cells cells k c there in omega arith

@@ -2,8 +2,11 @@ pub mod Covering
 pub mod Deciding
 pub mod Formatting
 pub mod Listing
+pub mod Passing
 pub mod Picking
 pub mod Ranking
 pub mod Reading
 pub mod Runs
+pub mod Since
 pub mod Sweeping
+pub mod Telling

@@ -33,7 +33,7 @@ pub struct Active {
 impl Active {
     /// Those at the start of the text. An error is out of memory (1). For each mark operation a
     /// search among those of its key.
-    pub fn new(alloc: Global, markings: &[Marking]) -> Result<Active, AllocError>
+    pub(crate) fn new(alloc: Global, markings: &[Marking]) -> Result<Active, AllocError>
         ensures active { IfOk result (λ a. IsActive a (length markings.now)
             (passes is_from_start markings.now) (λ i. false)) }
         ensures noted { IfOk result (λ a. IsNoted a.deciding.comments []) }
@@ -64,7 +64,7 @@ impl Active {
 
     /// Takes the edges on one side of a character. An error is out of memory (1). For each edge a
     /// search among those of its key that have begun and not ended.
-    pub fn take(
+    pub(crate) fn take(
         &mut self,
         alloc: Global,
         edges: &[Edge],
@@ -170,7 +170,7 @@ impl Active {
 
     /// The marks of a character that just the mark operations cover that have begun and not ended.
     /// An error is out of memory (1). A copy of the link, and of the comments that stand.
-    pub fn marks(&self, alloc: Global, markings: &[Marking]) -> Result<Marks, AllocError>
+    pub(crate) fn marks(&self, alloc: Global, markings: &[Marking]) -> Result<Marks, AllocError>
         ensures { IfOk result (λ marks. IsUp (kept self.now)
             → Decides self.now.deciding markings.now (kept self.now)
             → marks ≡ marks_in (picked markings.now (kept self.now))) }
@@ -179,7 +179,7 @@ impl Active {
     }
 
     /// Whether these are those marks, and list the comments that were noted. Takes no memory.
-    pub fn are_marks(&self, marks: &Marks, markings: &[Marking]) -> bool
+    pub(crate) fn are_marks(&self, marks: &Marks, markings: &[Marking]) -> bool
         ensures { IsUp (kept self.now) → Decides self.now.deciding markings.now (kept self.now)
             → IsNoted self.now.deciding.comments marks.now.comments
             → result ≡ is_same_marks marks.now (marks_in (picked markings.now (kept self.now))) }
@@ -188,7 +188,7 @@ impl Active {
     }
 
     /// Notes the comments that stand. Linear in those that differ from those that were noted.
-    pub fn note(&mut self)
+    pub(crate) fn note(&mut self)
         ensures flags { (self.new.ended ≡ self.old.ended)
             × (self.new.in_force ≡ self.old.in_force) }
         ensures noted { (ms : List stored.Marking) → Decides self.old.deciding ms (kept self.old)

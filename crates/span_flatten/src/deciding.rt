@@ -28,7 +28,7 @@ pub struct Deciding {
 
 impl Deciding {
     /// None. Takes no memory.
-    pub fn new(alloc: Global) -> Deciding
+    pub(crate) fn new(alloc: Global) -> Deciding
         ensures none { (ms : List stored.Marking) → Decides result ms [] }
         ensures noted { IsNoted result.comments [] }
     {
@@ -42,7 +42,12 @@ impl Deciding {
 
     /// The i-th mark operation begins. An error is out of memory (1). A search among those of its
     /// key, and among the comments.
-    pub fn begin(&mut self, alloc: Global, i: usize, markings: &[Marking]) -> Result<(), AllocError>
+    pub(crate) fn begin(
+        &mut self,
+        alloc: Global,
+        i: usize,
+        markings: &[Marking],
+    ) -> Result<(), AllocError>
         ensures noted { OnOk result ((ids : List ℕ) → IsNoted self.old.comments ids
             → IsNoted self.new.comments ids) }
         ensures decides { OnOk result ((set : List ℕ) → IsUp set → Decides self.old markings.now set
@@ -62,7 +67,7 @@ impl Deciding {
 
     /// The i-th mark operation ends. An error is out of memory (1). A search among those of its
     /// key, and among the comments.
-    pub fn end(&mut self, i: usize, markings: &[Marking]) -> Result<(), AllocError>
+    pub(crate) fn end(&mut self, i: usize, markings: &[Marking]) -> Result<(), AllocError>
         ensures noted { OnOk result ((ids : List ℕ) → IsNoted self.old.comments ids
             → IsNoted self.new.comments ids) }
         ensures decides { OnOk result ((set : List ℕ) → IsUp set → Decides self.old markings.now set
@@ -83,7 +88,7 @@ impl Deciding {
 
     /// The marks of a character that just the mark operations that have begun and not ended cover.
     /// An error is out of memory (1). A copy of the link, and of the comments that stand.
-    pub fn marks(&self, alloc: Global, markings: &[Marking]) -> Result<Marks, AllocError>
+    pub(crate) fn marks(&self, alloc: Global, markings: &[Marking]) -> Result<Marks, AllocError>
         ensures { IfOk result (λ marks. (set : List ℕ) → IsUp set
             → Decides self.now markings.now set → marks ≡ marks_in (picked markings.now set)) }
     {
@@ -96,7 +101,7 @@ impl Deciding {
     }
 
     /// Whether these are the marks, which list the comments that were noted. Takes no memory.
-    pub fn are_marks(&self, marks: &Marks, markings: &[Marking]) -> bool
+    pub(crate) fn are_marks(&self, marks: &Marks, markings: &[Marking]) -> bool
         ensures { (set : List ℕ) → IsUp set → Decides self.now markings.now set
             → IsNoted self.now.comments marks.now.comments
             → result ≡ is_same_marks marks.now (marks_in (picked markings.now set)) }
@@ -110,7 +115,7 @@ impl Deciding {
     }
 
     /// Notes the comments that stand. Linear in those that differ from those that were noted.
-    pub fn note(&mut self)
+    pub(crate) fn note(&mut self)
         ensures { (ms : List stored.Marking) (set : List ℕ) → Decides self.old ms set
             → Decides self.new ms set × IsNoted self.new.comments (standing (picked ms set)) }
     {

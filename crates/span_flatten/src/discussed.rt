@@ -33,7 +33,7 @@ pub struct Discussed {
 
 impl Discussed {
     /// None. Takes no memory.
-    pub fn new(alloc: Global) -> Discussed
+    pub(crate) fn new(alloc: Global) -> Discussed
         ensures none { (ms : List stored.Marking) → AreDiscussed result ms [] }
         ensures noted { IsNoted result [] }
     {
@@ -46,7 +46,7 @@ impl Discussed {
 
     /// The i-th mark operation, which is about this comment, begins. An error is out of memory
     /// (1). A search among the comments, and one among those about this one.
-    pub fn begin(
+    pub(crate) fn begin(
         &mut self,
         alloc: Global,
         id: CommentId,
@@ -70,7 +70,12 @@ impl Discussed {
 
     /// The i-th mark operation, which is about this comment, ends. An error is out of memory (1).
     /// A search among the comments, and one among those about this one.
-    pub fn end(&mut self, id: CommentId, i: usize, markings: &[Marking]) -> Result<(), AllocError>
+    pub(crate) fn end(
+        &mut self,
+        id: CommentId,
+        i: usize,
+        markings: &[Marking],
+    ) -> Result<(), AllocError>
         ensures noted { OnOk result ((ids : List ℕ) → IsNoted self.old ids
             → IsNoted self.new ids) }
         ensures discussed { OnOk result ((set : List ℕ) → IsUp set
@@ -87,7 +92,7 @@ impl Discussed {
     }
 
     /// Those that stand, in order. An error is out of memory (1). Linear in them.
-    pub fn standing(&self, alloc: Global) -> Result<CommentIds, AllocError>
+    pub(crate) fn standing(&self, alloc: Global) -> Result<CommentIds, AllocError>
         ensures { IfOk result (λ ids. (ms : List stored.Marking) (set : List ℕ)
             → AreDiscussed self.now ms set → ids ≡ standing (picked ms set)) }
     {
@@ -95,7 +100,7 @@ impl Discussed {
     }
 
     /// Notes those that stand. Linear in those that differ from those that were noted.
-    pub fn note(&mut self)
+    pub(crate) fn note(&mut self)
         ensures { (ms : List stored.Marking) (set : List ℕ) → AreDiscussed self.old ms set
             → AreDiscussed self.new ms set × IsNoted self.new (standing (picked ms set)) }
     {
@@ -103,7 +108,7 @@ impl Discussed {
     }
 
     /// Whether those that stand are those that were noted. Constant.
-    pub fn are_noted(&self) -> bool
+    pub(crate) fn are_noted(&self) -> bool
         ensures { (ids : List ℕ) (ms : List stored.Marking) (set : List ℕ) → IsNoted self.now ids
             → AreDiscussed self.now ms set
             → result ≡ is_same_list ids (standing (picked ms set)) }

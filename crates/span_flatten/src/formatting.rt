@@ -8,7 +8,7 @@ use std::alloc::{AllocError, Global};
 
 /// The marks of a character that these mark operations cover. An error is out of memory (1). For
 /// each of them a search among the comments that they name.
-pub fn marks_of(alloc: Global, set: &[&Marking]) -> Result<Marks, AllocError>
+pub(crate) fn marks_of(alloc: Global, set: &[&Marking]) -> Result<Marks, AllocError>
     ensures { IfOk result (λ marks. marks ≡ marks_in (map (λ m. m.now) set.now)) }
 {
     let link = match decided(set, &MarkKey::Link) {

@@ -1,19 +1,27 @@
-//! The spans of a document: the greatest runs of its visible characters with equal marks.
+//! The spans of a document: the greatest runs of its visible characters with equal marks; and what
+//! changed in it.
 //!
 //! One pass over the text and its marks, where the definitions look at all marks of each character.
 #![tactic(auto)]
 
 mod active;
+mod change_sweep;
+mod changing;
 mod deciding;
 mod discussed;
 mod error;
 mod flatten;
 mod formatting;
 mod listing;
+mod marked;
 mod rank;
 mod ranks;
 mod run;
+mod since;
 mod sweep;
+mod telling;
 
+pub use changing::changes;
 pub use error::SpansError;
 pub use flatten::{spans, spans_in, spans_slow};
+pub use since::Since;

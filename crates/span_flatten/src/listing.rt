@@ -4,7 +4,7 @@ ghost use Rattle.std.specs.Prelude.{◌≡◌, ◌+◌, ◌<◌, OnErr, OnOk};
 use crate::error::SpansError;
 
 /// Counts `count` against those that are left. An error is that they are more.
-pub fn count_down(count: usize, left: &mut usize) -> Result<(), SpansError>
+pub(crate) fn count_down(count: usize, left: &mut usize) -> Result<(), SpansError>
     ensures counted { OnOk result (left.new + count ≡ left.old) }
     ensures more { OnErr result (left.old < count) }
 {

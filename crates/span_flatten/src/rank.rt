@@ -15,7 +15,7 @@ pub struct Rank {
 
 impl Rank {
     /// The rank of a mark operation with this many before it.
-    pub fn of(marking: &Marking, before: usize) -> Rank
+    pub(crate) fn of(marking: &Marking, before: usize) -> Rank
         ensures id { result.id ≡ marking.now.id }
         ensures before { result.before.0 ≡ before }
     {

@@ -24,7 +24,7 @@ pub struct Ranks {
 
 impl Ranks {
     /// None. Takes no memory.
-    pub fn new(alloc: Global) -> Ranks
+    pub(crate) fn new(alloc: Global) -> Ranks
         ensures { (q : ranked.Rank) → has_rank result q ≡ false }
     {
         Ranks {
@@ -33,7 +33,7 @@ impl Ranks {
     }
 
     /// One more. An error is out of memory (1). A search among them.
-    pub fn insert(&mut self, rank: Rank) -> Result<(), AllocError>
+    pub(crate) fn insert(&mut self, rank: Rank) -> Result<(), AllocError>
         ensures { OnOk result ((q : ranked.Rank) → has_rank self.new q
             ≡ cond (is_at (rank_cmp rank) q) true (has_rank self.old q)) }
     {
@@ -42,7 +42,7 @@ impl Ranks {
     }
 
     /// One less, if it is there. A search among them.
-    pub fn remove(&mut self, rank: Rank)
+    pub(crate) fn remove(&mut self, rank: Rank)
         ensures { (q : ranked.Rank) → has_rank self.new q
             ≡ cond (is_at (rank_cmp rank) q) false (has_rank self.old q) }
     {
@@ -59,7 +59,7 @@ impl Ranks {
     }
 
     /// The mark for their key, if these are the ranks of the mark operations that are about it.
-    pub fn decided<'a>(&self, markings: &'a [Marking]) -> Option<&'a Mark>
+    pub(crate) fn decided<'a>(&self, markings: &'a [Marking]) -> Option<&'a Mark>
         ensures { (set : List ℕ) (key : MarkKey) → IsUp set
             → AreRanks markings.now set key (has_rank self.now)
             → option_copied result ≡ decided (picked markings.now set) key }

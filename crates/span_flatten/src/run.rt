@@ -15,7 +15,7 @@ pub struct Run {
 
 /// Puts a character before these runs, which are taken from the last one on: it joins the run
 /// behind it, if that has its marks. An error is out of memory (1).
-pub fn put_before(
+pub(crate) fn put_before(
     alloc: Global,
     value: char,
     marks: Marks,
@@ -37,7 +37,7 @@ pub fn put_before(
 }
 
 /// The spans of runs that were taken from the last one on. An error is out of memory (1).
-pub fn spans_of(alloc: Global, runs: Vec<Run>) -> Result<Vec<Span>, AllocError>
+pub(crate) fn spans_of(alloc: Global, runs: Vec<Run>) -> Result<Vec<Span>, AllocError>
     ensures { IfOk result (λ spans. spans.items ≡ spans_of_runs runs.items) }
 {
     let mut runs = runs;

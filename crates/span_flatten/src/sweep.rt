@@ -48,7 +48,7 @@ pub struct Sweep {
 
 impl Sweep {
     /// Before the first character. An error is out of memory (1). Linear in the mark operations.
-    pub fn new(alloc: Global, markings: &[Marking]) -> Result<Sweep, AllocError>
+    pub(crate) fn new(alloc: Global, markings: &[Marking]) -> Result<Sweep, AllocError>
         ensures { IfOk result (λ s. (cells : List stored.Cell) → IsSwept s cells markings.now 0) }
     {
         Ok(Sweep {
@@ -61,7 +61,7 @@ impl Sweep {
 
     /// Passes the characters of one more chunk. An error is out of memory, or that the spans would
     /// list too many comment ids (1). A tick for each.
-    pub fn pass_chunk(
+    pub(crate) fn pass_chunk(
         &mut self,
         sequence: &Sequence,
         anchors: &Anchors,
@@ -167,7 +167,7 @@ impl Sweep {
     }
 
     /// The spans. An error is out of memory (1).
-    pub fn spans(self, alloc: Global) -> Result<Vec<Span>, SpansError>
+    pub(crate) fn spans(self, alloc: Global) -> Result<Vec<Span>, SpansError>
         ensures spans { IfOk result (λ spans. spans.items ≡ map forward_span self.runs.items) }
         ensures memory { IsErrOf result SpansError.Listing → ⊥ }
     {

@@ -141,38 +141,36 @@ fn plays(rt: &(impl Eprint + AllocGlobal), rows: &[Row<'_>]) -> Result<(), Fail>
     Ok(())
 }
 
+static ORDERED: [Row<'static>; 7] = [
+    Row::Behind(1, 1501),
+    Row::Sized(5),
+    Row::Before(1501, 3001),
+    Row::Sized(10),
+    // 471 cells in the first chunk, 257 in each of the next five: so the run cuts the sixth
+    // one, and makes two more.
+    Row::Run(Some(99), 3001, 3701),
+    Row::Sized(12),
+    Row::Counters(&[(3000, 1501), (1, 99), (3001, 3700), (100, 1500)]),
+];
+
 #[test]
 fn cells_keep_their_order_in_chunks_of_256_to_512(rt: HostRuntime) -> Result<(), Fail> {
-    plays(
-        &rt,
-        &[
-            Row::Behind(1, 1501),
-            Row::Sized(5),
-            Row::Before(1501, 3001),
-            Row::Sized(10),
-            // 471 cells in the first chunk, 257 in each of the next five: so the run cuts the sixth
-            // one, and makes two more.
-            Row::Run(Some(99), 3001, 3701),
-            Row::Sized(12),
-            Row::Counters(&[(3000, 1501), (1, 99), (3001, 3700), (100, 1500)]),
-        ],
-    )
+    plays(&rt, &ORDERED)
 }
+
+static COUNTED: [Row<'static>; 9] = [
+    Row::Behind(1, 2),
+    Row::Run(Some(1), 2, 5),
+    Row::Remove(3),
+    Row::Remove(3),
+    Row::Run(None, 0, 0),
+    Row::Chunk(0, Some(ChunkSize { cells: 4, shown: 3 })),
+    Row::Chunk(1, None),
+    Row::Removed(0, 2),
+    Row::Counters(&[(1, 4)]),
+];
 
 #[test]
 fn a_chunk_counts_what_a_reader_sees(rt: HostRuntime) -> Result<(), Fail> {
-    plays(
-        &rt,
-        &[
-            Row::Behind(1, 2),
-            Row::Run(Some(1), 2, 5),
-            Row::Remove(3),
-            Row::Remove(3),
-            Row::Run(None, 0, 0),
-            Row::Chunk(0, Some(ChunkSize { cells: 4, shown: 3 })),
-            Row::Chunk(1, None),
-            Row::Removed(0, 2),
-            Row::Counters(&[(1, 4)]),
-        ],
-    )
+    plays(&rt, &COUNTED)
 }

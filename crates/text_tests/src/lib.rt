@@ -4,6 +4,8 @@
 #[cfg(test)]
 mod anchor_tests;
 #[cfg(test)]
+mod change_tests;
+#[cfg(test)]
 mod chunk_tests;
 #[cfg(test)]
 mod comment_tests;
@@ -11,6 +13,8 @@ mod comment_tests;
 mod document_tests;
 #[cfg(test)]
 mod edge_tests;
+#[cfg(test)]
+mod lasting_tests;
 #[cfg(test)]
 mod plain_tests;
 #[cfg(test)]

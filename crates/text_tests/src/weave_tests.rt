@@ -8,7 +8,7 @@ use std::io::Eprint;
 use std::test::Fail;
 
 /// Inserts, and a remove then, that go to a weave and to a sequence.
-const CALLS: [Row<'static>; 7] = [
+static CALLS: [Row<'static>; 7] = [
     Does(Insert((1, 1), None, 'x')),
     Does(Insert((2, 1), Some((1, 1)), 'y')),
     Does(Insert((2, 2), Some((1, 1)), 'z')),
@@ -73,15 +73,14 @@ fn a_weave_holds_what_a_sequence_does(rt: HostRuntime) -> Result<(), Fail> {
     Ok(())
 }
 
+static UNKNOWN: [Row<'static>; 3] = [
+    Does(Insert((1, 1), None, 'a')),
+    Refuses(60, Insert((3, 1), Some((2, 2)), 'b')),
+    Refuses(60, Remove((2, 1))),
+];
+
 #[test]
 fn a_weave_refuses_an_unknown_id(rt: HostRuntime) -> Result<(), Fail> {
-    let _ = woven(
-        &rt,
-        &[
-            Does(Insert((1, 1), None, 'a')),
-            Refuses(60, Insert((3, 1), Some((2, 2)), 'b')),
-            Refuses(60, Remove((2, 1))),
-        ],
-    )?;
+    let _ = woven(&rt, &UNKNOWN)?;
     Ok(())
 }
