@@ -10,6 +10,8 @@ mod guest_wires;
 #[cfg(test)]
 mod late_wire;
 #[cfg(test)]
+mod place_tests;
+#[cfg(test)]
 mod request_tests;
 #[cfg(test)]
 mod saying_tests;

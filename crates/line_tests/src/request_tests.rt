@@ -9,96 +9,99 @@ use std::num::NonZeroU32;
 use std::process::Abort;
 use std::test::Fail;
 
-/// A line is refused so.
-pub fn refused(rt: &impl Abort, alloc: Global, line: &[u8], refusal: Refusal) {
-    match read_command(alloc, line) {
-        Ok(_) => assert!(rt; false, "served: {line:?}"),
-        Err(found) => assert!(rt; found == refusal, "{found}: {line:?}"),
+/// Each of these lines is refused so.
+pub fn all_refused(rt: &(impl Abort + AllocGlobal), lines: &[&[u8]], refusal: Refusal) {
+    for line in lines {
+        match read_command(rt.alloc(), line) {
+            Ok(_) => assert!(rt; false, "served: {line:?}"),
+            Err(found) => assert!(rt; found == refusal, "{found}: {line:?}"),
+        }
     }
 }
+
+static NO_JSON: [&[u8]; 6] = [
+    b"[",
+    b"",
+    b"  ",
+    b"{\"op\":\"\xff\"}",
+    b"{\"op\":\"status\"} 1",
+    b"{\"op\":\"text\",\"doc\":1E400}",
+];
 
 #[test]
 fn what_is_no_json_is_syntax(rt: HostRuntime) {
-    let alloc = rt.alloc();
-    refused(&rt, alloc, b"[", Refusal::Syntax);
-    refused(&rt, alloc, b"", Refusal::Syntax);
-    refused(&rt, alloc, b"  ", Refusal::Syntax);
-    refused(&rt, alloc, b"{\"op\":\"\xff\"}", Refusal::Syntax);
-    refused(&rt, alloc, b"{\"op\":\"status\"} 1", Refusal::Syntax);
-    refused(
-        &rt,
-        alloc,
-        b"{\"op\":\"text\",\"doc\":1E400}",
-        Refusal::Syntax,
-    );
+    all_refused(&rt, &NO_JSON, Refusal::Syntax);
 }
+
+static NO_REQUESTS: [&[u8]; 6] = [
+    b"7",
+    b"[\"status\"]",
+    b"{}",
+    b"{\"op\":\"fly\"}",
+    b"{\"op\":1}",
+    b"{\"op\":null}",
+];
 
 #[test]
 fn what_asks_for_nothing_is_no_request(rt: HostRuntime) {
-    let alloc = rt.alloc();
-    refused(&rt, alloc, b"7", Refusal::Request);
-    refused(&rt, alloc, b"[\"status\"]", Refusal::Request);
-    refused(&rt, alloc, b"{}", Refusal::Request);
-    refused(&rt, alloc, b"{\"op\":\"fly\"}", Refusal::Request);
-    refused(&rt, alloc, b"{\"op\":1}", Refusal::Request);
-    refused(&rt, alloc, b"{\"op\":null}", Refusal::Request);
+    all_refused(&rt, &NO_REQUESTS, Refusal::Request);
 }
+
+static NO_NUMBERS: [&[u8]; 11] = [
+    b"{\"op\":\"text\",\"doc\":0}",
+    b"{\"op\":\"text\",\"doc\":4294967296}",
+    b"{\"op\":\"text\",\"doc\":-1}",
+    b"{\"op\":\"text\",\"doc\":-0}",
+    b"{\"op\":\"text\",\"doc\":1.0}",
+    b"{\"op\":\"text\",\"doc\":1e0}",
+    b"{\"op\":\"text\",\"doc\":18446744073709551616}",
+    b"{\"op\":\"text\",\"doc\":\"1\"}",
+    b"{\"op\":\"text\",\"doc\":null}",
+    b"{\"op\":\"text\",\"doc\":true}",
+    b"{\"op\":\"text\"}",
+];
 
 #[test]
 fn numbers_are_whole_and_in_range(rt: HostRuntime) {
-    let alloc = rt.alloc();
-    for number in [
-        "0",
-        "4294967296",
-        "-1",
-        "-0",
-        "1.0",
-        "1e0",
-        "18446744073709551616",
-        "\"1\"",
-        "null",
-        "true",
-    ] {
-        let line = format!(in alloc; "{{\"op\":\"text\",\"doc\":{number}}}").expect(&rt, "memory");
-        refused(&rt, alloc, line.as_bytes(), Refusal::Field);
-    }
-    refused(&rt, alloc, b"{\"op\":\"text\"}", Refusal::Field);
+    all_refused(&rt, &NO_NUMBERS, Refusal::Field);
 }
+
+static BAD_FIELDS: [&[u8]; 16] = [
+    b"{\"op\":\"status\",\"doc\":1}",
+    b"{\"op\":\"stop\",\"rev\":0}",
+    b"{\"op\":\"text\",\"doc\":1,\"rev\":0}",
+    b"{\"op\":\"insert\",\"doc\":1,\"at\":0,\"text\":\"\"}",
+    b"{\"op\":\"insert\",\"doc\":0,\"at\":0,\"text\":\"a\"}",
+    b"{\"op\":\"insert\",\"doc\":1,\"at\":1.0,\"text\":\"a\"}",
+    b"{\"op\":\"insert\",\"doc\":1,\"at\":0,\"text\":\"a\",\"rev\":null}",
+    b"{\"op\":\"insert\",\"doc\":1,\"at\":0,\"text\":\"a\",\"count\":1}",
+    b"{\"op\":\"delete\",\"doc\":1,\"at\":0,\"count\":0}",
+    b"{\"op\":\"mark\",\"doc\":1,\"from\":0,\"to\":1,\"kind\":\"bold\"}",
+    b"{\"op\":\"mark\",\"doc\":1,\"from\":0,\"to\":1,\"kind\":\"strong\",\"url\":\"u\"}",
+    b"{\"op\":\"mark\",\"doc\":1,\"from\":0,\"to\":1,\"kind\":\"link\"}",
+    b"{\"op\":\"mark\",\"doc\":1,\"from\":0,\"to\":1,\"kind\":\"link\",\"url\":\"\"}",
+    b"{\"op\":\"unmark\",\"doc\":1,\"from\":0,\"to\":1,\"kind\":\"link\",\"url\":\"u\"}",
+    b"{\"op\":\"mark\",\"doc\":1,\"from\":0,\"to\":1,\"kind\":\"comment\",\"id\":\"c1\"}",
+    b"{\"op\":\"unmark\",\"doc\":1,\"from\":0,\"to\":1,\"kind\":\"comment\"}",
+];
 
 #[test]
 fn fields_keep_their_rules(rt: HostRuntime) {
-    let alloc = rt.alloc();
-    let long = "u".repeat(alloc, 1025).expect(&rt, "memory");
-    let link = format!(in alloc;
+    all_refused(&rt, &BAD_FIELDS, Refusal::Field);
+    let long = "u".repeat(rt.alloc(), 1025).expect(&rt, "memory");
+    let link = format!(in rt.alloc();
         "{{\"op\":\"mark\",\"doc\":1,\"from\":0,\"to\":1,\"kind\":\"link\",\"url\":\"{long}\"}}"
     ).expect(&rt, "memory");
-    refused(&rt, alloc, link.as_bytes(), Refusal::Field);
-    let lines: [&str; 16] = [
-        "{\"op\":\"status\",\"doc\":1}",
-        "{\"op\":\"stop\",\"rev\":0}",
-        "{\"op\":\"text\",\"doc\":1,\"rev\":0}",
-        "{\"op\":\"insert\",\"doc\":1,\"at\":0,\"text\":\"\"}",
-        "{\"op\":\"insert\",\"doc\":0,\"at\":0,\"text\":\"a\"}",
-        "{\"op\":\"insert\",\"doc\":1,\"at\":1.0,\"text\":\"a\"}",
-        "{\"op\":\"insert\",\"doc\":1,\"at\":0,\"text\":\"a\",\"rev\":null}",
-        "{\"op\":\"insert\",\"doc\":1,\"at\":0,\"text\":\"a\",\"count\":1}",
-        "{\"op\":\"delete\",\"doc\":1,\"at\":0,\"count\":0}",
-        "{\"op\":\"mark\",\"doc\":1,\"from\":0,\"to\":1,\"kind\":\"bold\"}",
-        "{\"op\":\"mark\",\"doc\":1,\"from\":0,\"to\":1,\"kind\":\"strong\",\"url\":\"u\"}",
-        "{\"op\":\"mark\",\"doc\":1,\"from\":0,\"to\":1,\"kind\":\"link\"}",
-        "{\"op\":\"mark\",\"doc\":1,\"from\":0,\"to\":1,\"kind\":\"link\",\"url\":\"\"}",
-        "{\"op\":\"unmark\",\"doc\":1,\"from\":0,\"to\":1,\"kind\":\"link\",\"url\":\"u\"}",
-        "{\"op\":\"mark\",\"doc\":1,\"from\":0,\"to\":1,\"kind\":\"comment\",\"id\":\"c1\"}",
-        "{\"op\":\"unmark\",\"doc\":1,\"from\":0,\"to\":1,\"kind\":\"comment\"}",
-    ];
-    for line in lines {
-        refused(&rt, alloc, line.as_bytes(), Refusal::Field);
-    }
+    all_refused(&rt, &[link.as_bytes()], Refusal::Field);
 }
 
 fn served(rt: &impl Abort, alloc: Global, line: &str, command: Command) {
     match read_command(alloc, line.as_bytes()) {
-        Ok(found) => assert!(rt; found == command, "{found:?}: {line}"),
+        Ok(found) => {
+            let found = format!(in alloc; "{found:?}").expect(rt, "memory");
+            let wanted = format!(in alloc; "{command:?}").expect(rt, "memory");
+            assert!(rt; found == wanted, "{found}: {line}");
+        }
         Err(refusal) => assert!(rt; false, "{refusal}: {line}"),
     }
 }

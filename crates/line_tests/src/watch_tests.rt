@@ -49,28 +49,30 @@ impl Write for Taking {
     }
 }
 
+/// What a source gives, and what is said then.
+static TOLD: [(&[Next], &str); 5] = [
+    (&[], ""),
+    (&[Next::Rev(0)], "{\"ok\":true,\"rev\":0}\n"),
+    (
+        &[
+            Next::Rev(3),
+            Next::Quiet,
+            Next::Rev(3),
+            Next::Rev(2),
+            Next::Rev(7),
+        ],
+        "{\"ok\":true,\"rev\":3}\n{\"ok\":true,\"rev\":7}\n",
+    ),
+    (
+        &[Next::Rev(3), Next::Failed, Next::Rev(4)],
+        "{\"ok\":true,\"rev\":3}\n{\"code\":9,\"error\":\"failed\",\"ok\":false}\n",
+    ),
+    (&[Next::Quiet, Next::Closed, Next::Rev(4)], ""),
+];
+
 #[test]
 fn a_number_is_told_once_it_rises(rt: HostRuntime) -> Result<(), Fail> {
-    let cases: [(&[Next], &str); 5] = [
-        (&[], ""),
-        (&[Next::Rev(0)], "{\"ok\":true,\"rev\":0}\n"),
-        (
-            &[
-                Next::Rev(3),
-                Next::Quiet,
-                Next::Rev(3),
-                Next::Rev(2),
-                Next::Rev(7),
-            ],
-            "{\"ok\":true,\"rev\":3}\n{\"ok\":true,\"rev\":7}\n",
-        ),
-        (
-            &[Next::Rev(3), Next::Failed, Next::Rev(4)],
-            "{\"ok\":true,\"rev\":3}\n{\"code\":9,\"error\":\"failed\",\"ok\":false}\n",
-        ),
-        (&[Next::Quiet, Next::Closed, Next::Rev(4)], ""),
-    ];
-    for (rest, said) in cases {
+    for (rest, said) in &TOLD {
         let mut room = LineRoom::new(rt.alloc())?;
         let mut writer = Taking {
             bytes: Vec::new(rt.alloc()),
@@ -82,6 +84,8 @@ fn a_number_is_told_once_it_rises(rt: HostRuntime) -> Result<(), Fail> {
     Ok(())
 }
 
+static RISING: [Next; 3] = [Next::Rev(1), Next::Rev(2), Next::Rev(3)];
+
 #[test]
 fn a_write_that_fails_ends_it(rt: HostRuntime) -> Result<(), Fail> {
     let mut room = LineRoom::new(rt.alloc())?;
@@ -89,26 +93,33 @@ fn a_write_that_fails_ends_it(rt: HostRuntime) -> Result<(), Fail> {
         bytes: Vec::new(rt.alloc()),
         writes: 1,
     };
-    let rest: &[Next] = &[Next::Rev(1), Next::Rev(2), Next::Rev(3)];
+    let rest = RISING.as_slice();
     let done = serve_watch(rt.alloc(), &mut room, &mut writer, &mut Given { rest });
     assert!(rt; done.is_err());
     assert!(rt; writer.bytes.as_slice() == b"{\"ok\":true,\"rev\":1}\n".as_slice());
     Ok(())
 }
 
+/// A line, and the document that it watches or why it is refused.
+static LINES: [(&[u8], Result<u32, Refusal>); 7] = [
+    (b"{\"op\":\"watch\",\"doc\":4294967295}", Ok(4_294_967_295)),
+    (b"{\"op\":\"watch\"", Err(Refusal::Syntax)),
+    (b"{\"op\":\"text\",\"doc\":1}", Err(Refusal::Request)),
+    (b"{\"op\":\"watch\"}", Err(Refusal::Field)),
+    (b"{\"op\":\"watch\",\"doc\":0}", Err(Refusal::Field)),
+    (
+        b"{\"op\":\"watch\",\"doc\":4294967296}",
+        Err(Refusal::Field),
+    ),
+    (
+        b"{\"op\":\"watch\",\"doc\":1,\"at\":0}",
+        Err(Refusal::Field),
+    ),
+];
+
 #[test]
 fn a_line_that_watches_is_just_so(rt: HostRuntime) {
-    let alloc = rt.alloc();
-    assert!(rt; watch_line(alloc, b"{\"op\":\"watch\",\"doc\":4294967295}") == Ok(4_294_967_295));
-    let cases: [(&[u8], Refusal); 6] = [
-        (b"{\"op\":\"watch\"", Refusal::Syntax),
-        (b"{\"op\":\"text\",\"doc\":1}", Refusal::Request),
-        (b"{\"op\":\"watch\"}", Refusal::Field),
-        (b"{\"op\":\"watch\",\"doc\":0}", Refusal::Field),
-        (b"{\"op\":\"watch\",\"doc\":4294967296}", Refusal::Field),
-        (b"{\"op\":\"watch\",\"doc\":1,\"at\":0}", Refusal::Field),
-    ];
-    for (line, refusal) in cases {
-        assert!(rt; watch_line(alloc, line) == Err(refusal), "{line:?}");
+    for (line, found) in &LINES {
+        assert!(rt; watch_line(rt.alloc(), line) == *found, "{line:?}");
     }
 }

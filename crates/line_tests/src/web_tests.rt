@@ -37,10 +37,10 @@ fn hear(alloc: Global, wire: Wire) -> Result<Heard, Fail> {
     })
 }
 
-const SIZES: [usize; 5] = [1, 2, 3, 7, 1_000];
+static SIZES: [usize; 5] = [1, 2, 3, 7, 1_000];
 
 /// Frames of a client, whose mask is zero but for the first; the lines, the end and what is sent.
-const CASES: [(&[u8], &[u8], Ending, &[u8]); 13] = [
+static CASES: [(&[u8], &[u8], Ending, &[u8]); 13] = [
     // "Hello" as RFC 6455 has it, section 5.7.
     (
         b"\x81\x85\x37\xfa\x21\x3d\x7f\x9f\x4d\x51\x58",
@@ -123,24 +123,13 @@ const CASES: [(&[u8], &[u8], Ending, &[u8]); 13] = [
 
 #[test]
 fn lines_are_those_of_the_messages(rt: HostRuntime) -> Result<(), Fail> {
-    for (input, lines, ending, sent) in CASES {
-        for size in SIZES {
-            let heard = hear(rt.alloc(), Wire::new(rt.alloc(), input, size)?)?;
-            assert!(rt;
-                heard.lines.as_slice() == lines,
-                "{input:?} {size}: {:?}",
-                heard.lines
-            );
-            assert!(rt;
-                heard.ending == ending,
-                "{input:?} {size}: {:?}",
-                heard.ending
-            );
-            assert!(rt;
-                heard.sent.as_slice() == sent,
-                "{input:?} {size}: {:?}",
-                heard.sent
-            );
+    for (input, lines, ending, sent) in &CASES {
+        for size in &SIZES {
+            let heard = hear(rt.alloc(), Wire::new(rt.alloc(), input, *size)?)?;
+            let is_heard = heard.lines.as_slice() == *lines
+                && heard.ending == *ending
+                && heard.sent.as_slice() == *sent;
+            assert!(rt; is_heard, "{input:?} {size}");
         }
     }
     Ok(())
@@ -156,20 +145,22 @@ fn frame_of(alloc: Global, first: u8, count: u16) -> Result<Vec<u8>, Fail> {
     Ok(bytes)
 }
 
+/// How many bytes the last fragment has, the bytes of lines that come then, and the end.
+static LAST: [(u8, usize, Ending); 2] = [
+    (1, LONGEST + 1, Ending::StreamEnded),
+    (2, 0, Ending::Refused(CloseCode::Size)),
+];
+
 #[test]
 fn a_message_of_fragments_may_be_as_long_as_one_of_one_frame(rt: HostRuntime) -> Result<(), Fail> {
     let alloc = rt.alloc();
-    let last: [(u8, usize, Ending); 2] = [
-        (1, LONGEST + 1, Ending::StreamEnded),
-        (2, 0, Ending::Refused(CloseCode::Size)),
-    ];
-    for (more, count, ending) in last {
+    for (more, count, ending) in &LAST {
         let mut input = frame_of(alloc, 0x01, u16::MAX)?;
-        input.extend_from_slice(&[0x80, 0x80 | more, 0, 0, 0, 0, b'a', b'a'])?;
-        input.truncate(input.len() - 2 + more as usize);
+        input.extend_from_slice(&[0x80, 0x80 | *more, 0, 0, 0, 0, b'a', b'a'])?;
+        input.truncate(input.len() - 2 + *more as usize);
         let heard = hear(alloc, Wire::new(alloc, input.as_slice(), 100_000)?)?;
-        assert_eq!(rt; heard.lines.len(), count);
-        assert!(rt; heard.ending == ending, "{:?}", heard.ending);
+        assert_eq!(rt; heard.lines.len(), *count);
+        assert!(rt; heard.ending == *ending, "{:?}", heard.ending);
     }
     Ok(())
 }
@@ -194,23 +185,41 @@ fn a_reply_is_whole_before_the_next_line_is_handed_on(rt: HostRuntime) -> Result
     Ok(())
 }
 
+/// What is written, and what is sent of it.
+static WRITES: [(&[&str], &[u8]); 5] = [
+    (&["ab", "", "c", "\n"], b"\x81\x03abc"),
+    (&["x\ny\n"], b"\x81\x01x\x81\x01y"),
+    (&["\n"], b"\x81\x00"),
+    (&["a\nb", "c"], b"\x81\x01a"),
+    (&["\u{e9}\n"], b"\x81\x02\xc3\xa9"),
+];
+
+/// What is sent of these texts, so many bytes at a time. If there is a number of writes after which
+/// the stream has to wait once, each text is flushed.
+fn sent(
+    alloc: Global,
+    texts: &[&str],
+    size: usize,
+    until_wait: Option<usize>,
+) -> Result<Vec<u8>, Fail> {
+    let mut wire = Wire::new(alloc, b"", size)?;
+    wire.writes_until_wait = until_wait;
+    let mut writer = Box::new(alloc, AnswerMessages::new(alloc, wire))?;
+    for text in texts {
+        writer.write_all(text.as_bytes())?;
+        if until_wait.is_some() {
+            writer.flush()?;
+        }
+    }
+    Ok(Box::into_inner(writer).into_inner().sent)
+}
+
 #[test]
 fn each_line_is_one_message(rt: HostRuntime) -> Result<(), Fail> {
-    let cases: [(&[&str], &[u8]); 5] = [
-        (&["ab", "", "c", "\n"], b"\x81\x03abc"),
-        (&["x\ny\n"], b"\x81\x01x\x81\x01y"),
-        (&["\n"], b"\x81\x00"),
-        (&["a\nb", "c"], b"\x81\x01a"),
-        (&["\u{e9}\n"], b"\x81\x02\xc3\xa9"),
-    ];
-    for (writes, sent) in cases {
-        for size in SIZES {
-            let mut writer = AnswerMessages::new(rt.alloc(), Wire::new(rt.alloc(), b"", size)?);
-            for text in writes {
-                writer.write_all(text.as_bytes())?;
-            }
-            let wire = writer.into_inner();
-            assert!(rt; wire.sent.as_slice() == sent, "{:?}", wire.sent);
+    for (texts, due) in &WRITES {
+        for size in &SIZES {
+            let found = sent(rt.alloc(), texts, *size, None)?;
+            assert!(rt; found.as_slice() == *due, "{found:?}");
         }
     }
     Ok(())
@@ -218,18 +227,10 @@ fn each_line_is_one_message(rt: HostRuntime) -> Result<(), Fail> {
 
 #[test]
 fn a_line_that_the_stream_takes_late_goes_out_once(rt: HostRuntime) -> Result<(), Fail> {
-    let mut wire = Wire::new(rt.alloc(), b"", 2)?;
-    wire.writes_until_wait = Some(1);
-    let mut writer = AnswerMessages::new(rt.alloc(), wire);
-    writer.write_all(b"abc\n")?;
-    writer.flush()?;
-    writer.write_all(b"d\n")?;
-    writer.flush()?;
-    let wire = writer.into_inner();
+    let found = sent(rt.alloc(), &["abc\n", "d\n"], 2, Some(1))?;
     assert!(rt;
-        wire.sent.as_slice() == b"\x81\x03abc\x81\x01d".as_slice(),
-        "{:?}",
-        wire.sent
+        found.as_slice() == b"\x81\x03abc\x81\x01d".as_slice(),
+        "{found:?}"
     );
     Ok(())
 }

@@ -1,18 +1,19 @@
 //! What a hub tells of itself.
-ghost use Rattle.std.specs.Prelude.{◌≡◌, IfOk};
+ghost use Rattle.std.specs.Prelude.{◌≡◌, IfOk, IfSome, is_some};
 ghost use Rattle.op_model.specs.Causality.{clock_of};
 ghost use Rattle.op_model.specs.Machine.{known_ticket};
 ghost use Rattle.op_model.specs.Spans.{spans as spans_of};
 ghost use Rattle.op_model.specs.Text.{text as text_of, rev as rev_of};
 ghost use Rattle.replica_core.specs.Held.{IsSound};
+ghost use Rattle.replica_core.specs.Places.{anchors_of, are_within, places_of};
 
 use crate::hub::Hub;
 use disk_trait::Disk;
 use op_ids::{Clock, ReplicaId};
-use op_model::{Edit, Span, Text};
+use op_model::{Edit, Lasting, Neighbour, Span, Text};
 use replica_core::Ticket;
 use run_list::RunSlice;
-use std::alloc::AllocError;
+use std::alloc::{AllocError, Global};
 
 impl<D: Disk> Hub<D> {
     /// The name of the replica.
@@ -95,6 +96,39 @@ impl<D: Disk> Hub<D> {
         ensures { IfOk result (λ found. found.items ≡ spans_of self.now.replica.list doc) }
     {
         self.locked.spans(doc)
+    }
+
+    /// The places behind these numbers of visible characters of a document, unsettled operations
+    /// included, that stay with one of their neighbours from now on; `None` if one of the numbers is
+    /// beyond the end of the text. An error is out of memory (1). Costs what `Replica::anchors` does.
+    pub fn anchors(
+        &self,
+        alloc: Global,
+        doc: u32,
+        at: &[u32],
+        side: Neighbour,
+    ) -> Result<Option<Vec<Lasting>>, AllocError>
+        ensures within { IfOk result
+            (λ found. is_some found ≡ are_within self.now.replica.list doc at.now) }
+        ensures places { IfOk result (λ found. IfSome found
+            (λ v. v.items ≡ anchors_of self.now.replica.list doc at.now side)) }
+    {
+        self.locked.anchors(alloc, doc, at, side)
+    }
+
+    /// How many visible characters of a document, unsettled operations included, stand before each
+    /// of these places, or `None` for a place beside a character that isn't known. An error is out
+    /// of memory (1). Costs what `Replica::places` does.
+    pub fn places(
+        &self,
+        alloc: Global,
+        doc: u32,
+        anchors: &[Lasting],
+    ) -> Result<Vec<Option<usize>>, AllocError>
+        ensures { IfOk result
+            (λ found. found.items ≡ places_of self.now.replica.list doc anchors.now) }
+    {
+        self.locked.places(alloc, doc, anchors)
     }
 
     /// The disk. What a commit under way has written stays there.

@@ -11,3 +11,4 @@ pub mod Indexes
 pub mod Docs
 pub mod Passing
 pub mod Telling
+pub mod Places

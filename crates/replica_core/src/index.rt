@@ -25,7 +25,7 @@ pub struct Index {
 
 impl Index {
     /// The index of the empty list. Takes no memory.
-    pub fn new(alloc: Global) -> Index
+    pub(crate) fn new(alloc: Global) -> Index
         ensures { IsIndexOf result [] }
     {
         Index {
@@ -37,7 +37,7 @@ impl Index {
 
     /// The indexes of a replica's operations, in the order of the list, or `None` where it has
     /// none. At most a step for each replica.
-    pub fn places_of(&self, replica: ReplicaId) -> Option<&[u32]>
+    pub(crate) fn places_of(&self, replica: ReplicaId) -> Option<&[u32]>
         ensures { MatchOption result (places_in self.now.makers.items replica ≡ [])
             (λ places. places.now ≡ places_in self.now.makers.items replica) }
     {
@@ -46,7 +46,7 @@ impl Index {
 
     /// How many operations of a replica stand before an index of the list, which is there for the
     /// proof. At most a step for each replica, and a search by halves.
-    pub fn count_before(&self, ops: &RunSlice<'_>, replica: ReplicaId, end: usize) -> usize
+    pub(crate) fn count_before(&self, ops: &RunSlice<'_>, replica: ReplicaId, end: usize) -> usize
         requires { IsIndexOf self.now ops.now }
         ensures { result ≡ length (made_by replica (take end ops.now)) }
     {
@@ -58,7 +58,7 @@ impl Index {
     }
 
     /// Makes room for `count` more operations of a replica. An error is out of memory (1).
-    pub fn reserve(
+    pub(crate) fn reserve(
         &mut self,
         alloc: Global,
         replica: ReplicaId,
@@ -72,7 +72,7 @@ impl Index {
     }
 
     /// Counts an operation that goes behind `behind` others. There is room for it.
-    pub fn put(&mut self, op: &Op, behind: u32)
+    pub(crate) fn put(&mut self, op: &Op, behind: u32)
         requires room { 0 < room_of self.old.makers.items op.now.id.replica }
         requires small { self.old.stream + length_of op.now < 2 ^ 64 }
         ensures index { (ops : List Op) → IsIndexOf self.old ops → length ops ≡ behind
@@ -87,7 +87,7 @@ impl Index {
     }
 
     /// Counts operations of one replica that go behind `behind` others. There is room for them.
-    pub fn put_all(&mut self, ops: &[Op], replica: ReplicaId, behind: u32)
+    pub(crate) fn put_all(&mut self, ops: &[Op], replica: ReplicaId, behind: u32)
         requires own { made_by replica ops.now ≡ ops.now }
         requires room { length ops.now ≤ room_of self.old.makers.items replica }
         requires few { behind + length ops.now < 2 ^ 32 }

@@ -14,6 +14,7 @@ mod following;
 mod index;
 mod knowledge;
 mod known;
+mod lasting;
 mod lengths;
 mod log;
 mod maker;

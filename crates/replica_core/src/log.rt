@@ -27,7 +27,7 @@ impl Log {
     /// Puts operations of one replica and of one document, which has this place, behind all
     /// others: all of them, or none. `Memory` (1) where a growth is refused, `UnknownId` (60) only
     /// where the document can't take them.
-    pub fn append(
+    pub(crate) fn append(
         &mut self,
         made: &Made,
         replica: ReplicaId,

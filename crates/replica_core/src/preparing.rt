@@ -25,7 +25,7 @@ use std::alloc::{AllocError, Global};
 
 /// The operations of an edit of a document that nothing refuses, and what is kept with them. An
 /// error is out of memory (1). Costs what `Doc::make` does, and a few steps for clocks.
-pub fn prepared(
+pub(crate) fn prepared(
     alloc: Global,
     ops: &RunSlice<'_>,
     known: &Knowledge<'_>,

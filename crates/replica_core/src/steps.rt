@@ -36,7 +36,7 @@ impl fmt::Debug for Steps {
 
 impl Steps {
     /// None so far.
-    pub fn new() -> Steps
+    pub(crate) fn new() -> Steps
         ensures { result ≡ [] }
     {
         Steps {
@@ -46,7 +46,7 @@ impl Steps {
     }
 
     /// One more, for which there is a place. Takes no memory.
-    pub fn push(&mut self, step: Step)
+    pub(crate) fn push(&mut self, step: Step)
         requires { length self.old < MAX_STEPS }
         ensures { self.new ≡ kept_of step ∷ self.old }
     {
@@ -55,7 +55,7 @@ impl Steps {
     }
 
     /// Whether there are places for a step and for two settlements behind it.
-    pub fn has_places(&self) -> bool
+    pub(crate) fn has_places(&self) -> bool
         ensures { result ≡ nat_le (length self.now + 3) MAX_STEPS }
     {
         self.count <= MAX_STEPS - 3

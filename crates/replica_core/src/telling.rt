@@ -19,7 +19,7 @@ use std::alloc::{AllocError, Global};
 /// first ones, at most `MAX_TOLD`, that a peer's clock doesn't count, and how many operations the
 /// last of them needs. An error is out of memory (1). For each that is told a search by halves in
 /// the indexes of each replica, and what `RunSlice::get` costs; no other operation is looked at.
-pub fn untold(
+pub(crate) fn untold(
     alloc: Global,
     peer: &Clock,
     ops: &RunSlice<'_>,

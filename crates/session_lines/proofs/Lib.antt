@@ -1,4 +1,6 @@
+pub mod AnchorLemmas
 pub mod FieldLemmas
 pub mod PutLemmas
 pub mod QuotedLemmas
 pub mod SaidLemmas
+pub mod SeveralLemmas

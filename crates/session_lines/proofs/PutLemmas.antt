@@ -1,5 +1,8 @@
 -- Bytes that are put one after the other.
-use Rattle.std.proofs.Common.{ℕ, List, ◌++◌, Result, Ok, Err, IsErr, append_assoc, ap, ◌∙◌, arith}
+use Rattle.std.proofs.Common.{◌≡◌, ◌≢◌, ℕ, ◌+◌, ◌-◌, ◌≤◌, List, [], ◌∷◌, ◌++◌, length, take, Result, Ok, Err, IsErr, append_assoc, length-append, refl, sym, ap, ◌∙◌, arith, codes}
+use Rattle.std.proofs.Math.Seq.{take-append-add}
+use Rattle.std.specs.Prelude.{vec_capacity}
+use Rattle.session_lines.specs.Saying.{but_last, said_attributes}
 use Rattle.std.proofs.lemmas.Bool.{false≢true}
 use Rattle.std.specs.Global.{Vec}
 use Rattle.session_lines.specs.Putting.{Puts}
@@ -23,3 +26,27 @@ pub puts_err : {T U E : Type 0} {e : E} (r : Result T E) (old new : Vec ℕ) (by
     → Puts {T = U} (Err e) old new bytes → Puts r old new other
 puts_err (Ok x) old new bytes other is p = absurd (false≢true is)
 puts_err (Err y) old new bytes other is p = record { ok = tt; err = p.err; capacity = p.capacity }
+
+-- the last byte goes again
+pub puts_but_last : {T E : Type 0} {x : T} (old mid new : Vec ℕ) (first later : List ℕ) → 1 ≤ length later
+    → Puts {E = E} (Ok x) old mid (first ++ later) → new.items ≡ take (length mid.items - 1) mid.items → vec_capacity mid ≤ vec_capacity new
+    → Puts {E = E} (Ok x) old new (first ++ but_last later)
+puts_but_last old mid new first later some p cut room = record {
+  ok =
+      let parts : mid.items ≡ (old.items ++ first) ++ later = p.ok ∙ sym (append_assoc old.items first later) in
+      let long : length mid.items - 1 ≡ length (old.items ++ first) + (length later - 1) =
+      omega (arith, ap (λ l. length l) parts, length-append (old.items ++ first) later) in
+      cut ∙ ap (λ n. take n mid.items) long ∙ ap (take (length (old.items ++ first) + (length later - 1))) parts
+      ∙ take-append-add (old.items ++ first) later (length later - 1) ∙ append_assoc old.items first (but_last later);
+  err = tt;
+  capacity = let more = p.capacity in omega (arith, more);
+}
+
+-- some members are attributes
+pub some_attributes : (members : List ℕ) → members ≢ [] → said_attributes members ≡ codes "{\"attributes\":{" ++ (but_last members ++ codes "},")
+some_attributes [] some = absurd (some refl)
+some_attributes (b ∷ bs) some = refl
+
+pub some_long : (members : List ℕ) → members ≢ [] → 1 ≤ length members
+some_long [] some = absurd (some refl)
+some_long (b ∷ bs) some = omega arith

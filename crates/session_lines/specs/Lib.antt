@@ -1,4 +1,6 @@
 pub mod Fields
+pub mod Anchors
+pub mod Several
 pub mod Putting
 pub mod Requests
 pub mod Saying

@@ -18,6 +18,7 @@ use Rattle.session_lines.specs.declared.verb.Verb.TheVariants as verb
 use Rattle.session_lines.specs.declared.kind.Kind.{Kind}
 use Rattle.session_lines.specs.declared.kind.Kind.TheVariants as kind
 use Rattle.session_lines.specs.Fields.{◌>>=◌, verb_named, text_at, only, whole, rev_of, token_of, count_of, characters_of, kind_of, url_of, comment_of}
+use Rattle.session_lines.specs.Several.{numbers_of, anchors_of, side_of}
 
 -- what isn't there is no request
 abbrev pub or_request : {A : Type 0} → Option A → Result A Refusal
@@ -108,6 +109,23 @@ edit_with change d =
     token_of d >>= λ token.
     Ok (command.Edit (record { doc = doc; rev = rev; token = token; change = change }))
 
+-- the request for places that last
+abbrev pub anchors_asked : Data → Result Command Refusal
+anchors_asked d =
+    only (codes "op" ∷ codes "doc" ∷ codes "at" ∷ codes "side" ∷ []) d >>= λ _.
+    whole (codes "doc") 1 d >>= λ doc.
+    numbers_of d >>= λ at.
+    side_of d >>= λ side.
+    Ok (command.Anchors doc at side)
+
+-- the request where such places stand
+abbrev pub places_asked : Data → Result Command Refusal
+places_asked d =
+    only (codes "op" ∷ codes "doc" ∷ codes "anchors" ∷ []) d >>= λ _.
+    whole (codes "doc") 1 d >>= λ doc.
+    anchors_of d >>= λ anchors.
+    Ok (command.Places doc anchors)
+
 -- the command of each request
 abbrev pub command_of : Verb → Data → Result Command Refusal
 command_of verb.Insert d = insert_of d >>= λ change. edit_with change d
@@ -116,6 +134,8 @@ command_of verb.Mark d = mark_change d >>= λ change. edit_with change d
 command_of verb.Unmark d = unmark_change d >>= λ change. edit_with change d
 command_of verb.Text d = only doc_fields d >>= λ _. whole (codes "doc") 1 d >>= λ doc. Ok (command.Text doc)
 command_of verb.Spans d = only doc_fields d >>= λ _. whole (codes "doc") 1 d >>= λ doc. Ok (command.Spans doc)
+command_of verb.Anchors d = anchors_asked d
+command_of verb.Places d = places_asked d
 command_of verb.Status d = only (codes "op" ∷ []) d >>= λ _. Ok command.Status
 command_of verb.Peers d = only (codes "op" ∷ []) d >>= λ _. Ok command.Peers
 command_of verb.Stop d = only (codes "op" ∷ []) d >>= λ _. Ok command.Stop

@@ -1,10 +1,14 @@
 -- What a session is answered, as text: compact JSON with the keys in the order of their bytes, and a line feed.
-use Rattle.std.specs.Prelude.{ℕ, List, [], ◌∷◌, ◌++◌, Bool, true, false, Option, Some, None, codes, decimal, encode_utf8_all}
+use Rattle.std.specs.Prelude.{ℕ, ◌-◌, List, [], ◌∷◌, ◌++◌, length, take, Bool, true, false, if◌then◌else◌, Option, Some, None}
+use Rattle.std.specs.Prelude.{slice_get, codes, decimal, encode_utf8_all}
 use Rattle.std.specs.Int.{w128, to_be_bytes}
 use Rattle.uuid.specs.Text.{lower, hyphenated_text}
 use Rattle.serde_json.specs.Data.{string}
 use Rattle.serde_json.specs.Written.{compact_text}
 use Rattle.fixed_numbers.specs.declared.refusals.TheConstants.{BUSY, FAILED, FIELD, LIMIT, LINE, MEMORY, RANGE, REQUEST, STALE, STEPS, STOPPING, SYNTAX}
+use Rattle.op_model.specs.declared.change_step.ChangeStep.{ChangeStep}
+use Rattle.op_model.specs.declared.change_step.ChangeStep.TheVariants as change
+use Rattle.op_model.specs.declared.lasting.Lasting.{Lasting}
 use Rattle.op_model.specs.declared.mark.Marks.{Marks}
 use Rattle.op_model.specs.declared.span.Span.{Span}
 use Rattle.peer_counts.specs.declared.peer_counts.PeerCounts.{PeerCounts}
@@ -14,6 +18,7 @@ use Rattle.session_lines.specs.declared.answer.Answer.{Answer}
 use Rattle.session_lines.specs.declared.answer.Answer.TheVariants as answer
 use Rattle.session_lines.specs.declared.answer.State.{State}
 use Rattle.session_lines.specs.declared.answer.State.TheVariants as state
+use Rattle.session_lines.specs.Anchors.{lasting_text}
 
 -- the number of a refusal
 abbrev pub number_of : Refusal → ℕ
@@ -103,6 +108,99 @@ abbrev pub said_spans : Bool → List Span → List ℕ
 said_spans later [] = codes "]"
 said_spans later (s ∷ ss) = comma_after later ++ (said_span s ++ said_spans true ss)
 
+-- a place that lasts as a JSON string: no character of it wants a backslash
+abbrev pub said_anchor : Lasting → List ℕ
+said_anchor place = codes "\"" ++ (lasting_text place ++ codes "\"")
+
+-- places that last, and the closing bracket
+abbrev pub said_anchors : Bool → List Lasting → List ℕ
+said_anchors later [] = codes "]"
+said_anchors later (p ∷ ps) = comma_after later ++ (said_anchor p ++ said_anchors true ps)
+
+-- where a place stands, or that it isn't known
+abbrev pub said_place : Option ℕ → List ℕ
+said_place None = codes "null"
+said_place (Some at) = decimal at
+
+-- where places stand, and the closing bracket
+abbrev pub said_places : Bool → List (Option ℕ) → List ℕ
+said_places later [] = codes "]"
+said_places later (p ∷ ps) = comma_after later ++ (said_place p ++ said_places true ps)
+
+-- without the last byte
+abbrev pub but_last : List ℕ → List ℕ
+but_last bytes = take (length bytes - 1) bytes
+
+-- the marks that there are as attributes, if there are any
+abbrev pub said_attributes : List ℕ → List ℕ
+said_attributes [] = codes "{"
+said_attributes (b ∷ bs) = codes "{\"attributes\":{" ++ (but_last (b ∷ bs) ++ codes "},")
+
+-- characters that come: their marks, and then the text
+abbrev pub said_put : Span → List ℕ
+said_put s = said_attributes (said_marks s.marks) ++ (codes "\"insert\":" ++ (said_characters s.text ++ codes "}"))
+
+-- the comments that characters have now, or that they have none
+abbrev pub said_comments_now : List ℕ → List ℕ
+said_comments_now [] = codes "{\"comments\":null"
+said_comments_now (id ∷ ids) = codes "{\"comments\":[" ++ said_ids false (id ∷ ids)
+
+-- whether they have a mark now
+abbrev pub said_now : Bool → List ℕ
+said_now true = codes "true"
+said_now false = codes "null"
+
+-- the link that they have now, or that they have none
+abbrev pub said_link_now : Option (List ℕ) → List ℕ
+said_link_now None = codes "null"
+said_link_now (Some url) = quoted url
+
+-- all that characters have and don't have now
+abbrev pub said_marks_now : Marks → List ℕ
+said_marks_now m =
+    said_comments_now m.comments
+    ++ (codes ",\"em\":" ++ (said_now m.em
+    ++ (codes ",\"link\":" ++ (said_link_now m.link ++ (codes ",\"strong\":" ++ (said_now m.strong ++ codes "}"))))))
+
+-- a step over a text
+abbrev pub said_step : ChangeStep → List ℕ
+said_step (change.Keep n) = codes "{\"retain\":" ++ (decimal n ++ codes "}")
+said_step (change.Drop n) = codes "{\"delete\":" ++ (decimal n ++ codes "}")
+said_step (change.Put span) = said_put span
+said_step (change.Mark n marks) = codes "{\"attributes\":" ++ (said_marks_now marks ++ (codes ",\"retain\":" ++ (decimal n ++ codes "}")))
+
+-- steps, and the closing bracket
+abbrev pub said_steps : Bool → List ChangeStep → List ℕ
+said_steps later [] = codes "]"
+said_steps later (s ∷ ss) = comma_after later ++ (said_step s ++ said_steps true ss)
+
+-- a step keeps characters as they are
+abbrev pub is_kept : Option ChangeStep → Bool
+is_kept None = false
+is_kept (Some (change.Keep n)) = true
+is_kept (Some (change.Drop n)) = false
+is_kept (Some (change.Put span)) = false
+is_kept (Some (change.Mark n marks)) = false
+
+-- steps without a last one that keeps characters as they are
+abbrev pub but_last_kept : List ChangeStep → List ChangeStep
+but_last_kept steps = if is_kept (slice_get steps (length steps - 1)) then take (length steps - 1) steps else steps
+
+-- the answer what changed
+abbrev pub said_changed : ℕ → List ChangeStep → List ℕ
+said_changed rev steps =
+    codes "{\"changes\":[" ++ (said_steps false (but_last_kept steps) ++ (codes ",\"ok\":true,\"rev\":" ++ (decimal rev ++ codes "}\n")))
+
+-- the answer that names places
+abbrev pub said_named : ℕ → List Lasting → List ℕ
+said_named rev places =
+    codes "{\"anchors\":[" ++ (said_anchors false places ++ (codes ",\"ok\":true,\"rev\":" ++ (decimal rev ++ codes "}\n")))
+
+-- the answer where places stand
+abbrev pub said_standing : ℕ → List (Option ℕ) → List ℕ
+said_standing rev places =
+    codes "{\"ok\":true,\"places\":[" ++ (said_places false places ++ (codes ",\"rev\":" ++ (decimal rev ++ codes "}\n")))
+
 -- the answer to an edit
 abbrev pub said_edited : ℕ → List ℕ
 said_edited rev = codes "{\"ok\":true,\"rev\":" ++ (decimal rev ++ codes "}\n")
@@ -161,6 +259,9 @@ abbrev pub said : Answer → List ℕ
 said (answer.Edited rev) = said_edited rev
 said (answer.Text rev text) = said_text rev text
 said (answer.Spans rev spans) = said_listed rev spans
+said (answer.Changes rev changes) = said_changed rev changes
+said (answer.Anchors rev anchors) = said_named rev anchors
+said (answer.Places rev places) = said_standing rev places
 said (answer.Status applied settled state) = said_status applied settled state
 said (answer.Peers peers sessions) = said_connected peers sessions
 said answer.Stopped = said_done
@@ -172,6 +273,9 @@ abbrev pub is_long : Answer → Bool
 is_long (answer.Edited rev) = false
 is_long (answer.Text rev text) = true
 is_long (answer.Spans rev spans) = true
+is_long (answer.Changes rev changes) = true
+is_long (answer.Anchors rev anchors) = true
+is_long (answer.Places rev places) = true
 is_long (answer.Status applied settled state) = false
 is_long (answer.Peers peers sessions) = true
 is_long answer.Stopped = false

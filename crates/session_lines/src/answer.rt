@@ -1,6 +1,9 @@
 //! What a session is answered.
 
+use crate::change_list::ChangeList;
+use crate::lasting_list::LastingList;
 use crate::peer_list::PeerList;
+use crate::place_list::PlaceList;
 use crate::refusal::Refusal;
 use crate::span_list::SpanList;
 use op_model::Text;
@@ -21,6 +24,21 @@ pub enum Answer {
     Spans {
         rev: u64,
         spans: SpanList,
+    },
+    /// What changed in a document, and how many operations it has.
+    Changes {
+        rev: u64,
+        changes: ChangeList,
+    },
+    /// Places of a document that last, and how many operations it has.
+    Anchors {
+        rev: u64,
+        anchors: LastingList,
+    },
+    /// Where places of a document stand, and how many operations it has.
+    Places {
+        rev: u64,
+        places: PlaceList,
     },
     /// How many operations are applied, how many of them are settled, and whether edits are taken.
     Status {

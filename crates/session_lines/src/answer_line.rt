@@ -3,10 +3,16 @@ ghost use Rattle.std.specs.Prelude.{◌≡◌, ◌≤◌, ◌+◌, ◌++◌, IsT
 ghost use Rattle.std.specs.Prelude.{vec_len, vec_capacity};
 ghost use Rattle.session_lines.specs.Putting.{Puts};
 ghost use Rattle.session_lines.specs.Saying.{said, is_long, said_text, said_listed, said_connected};
+ghost use Rattle.session_lines.specs.Saying.{said_changed, said_named, said_standing};
 
 use crate::answer::Answer;
+use crate::change_list::ChangeList;
+use crate::changes::put_changes;
+use crate::lasting_list::LastingList;
 use crate::peer_list::PeerList;
 use crate::peers::{put_number, put_peers};
+use crate::place_list::PlaceList;
+use crate::places::{put_anchors, put_places};
 use crate::quoted::{put, put_characters};
 use crate::short_line::{SHORT, put_done, put_edited, put_refused, put_status};
 use crate::span_list::SpanList;
@@ -17,7 +23,7 @@ use std::alloc::{AllocError, Global};
 
 /// Puts an answer as text behind what is there: compact JSON with its keys in the order of their
 /// bytes, and a line feed. An error is out of memory (1), and leaves what is there as it was; where
-/// there is room for 128 bytes, it comes for a text, spans or peers alone. The time is that of the
+/// there is room for 128 bytes, it comes for a text, spans, changes, places or peers alone. The time is that of the
 /// text's length, and nothing but `out` takes memory.
 pub fn say(_alloc: Global, answer: &Answer, out: &mut Vec<u8>) -> Result<(), AllocError>
     ensures ok { OnOk result (out.new.items ≡ out.old.items ++ said answer.now) }
@@ -43,6 +49,9 @@ fn put_answer(answer: &Answer, out: &mut Vec<u8>) -> Result<(), AllocError>
     match answer {
         Answer::Text { rev, text } => put_shown(*rev, text, out),
         Answer::Spans { rev, spans } => put_listed(*rev, spans, out),
+        Answer::Changes { rev, changes } => put_changed(*rev, changes, out),
+        Answer::Anchors { rev, anchors } => put_named(*rev, anchors, out),
+        Answer::Places { rev, places } => put_standing(*rev, places, out),
         Answer::Peers { peers, sessions } => put_connected(peers, *sessions, out),
         Answer::Edited { rev } => {
             out.reserve(SHORT)?;
@@ -101,5 +110,38 @@ fn put_connected(peers: &PeerList, sessions: u64, out: &mut Vec<u8>) -> Result<(
     put_peers(peers.as_slice(), out)?;
     put(b",\"sessions\":", out)?;
     put_number(sessions, out)?;
+    put(b"}\n", out)
+}
+
+/// Puts the answer what changed.
+fn put_changed(rev: u64, changes: &ChangeList, out: &mut Vec<u8>) -> Result<(), AllocError>
+    ensures { Puts result out.old out.new (said_changed rev changes.now) }
+{
+    put(b"{\"changes\":[", out)?;
+    put_changes(changes.as_slice(), out)?;
+    put(b",\"ok\":true,\"rev\":", out)?;
+    put_number(rev, out)?;
+    put(b"}\n", out)
+}
+
+/// Puts the answer that names places.
+fn put_named(rev: u64, anchors: &LastingList, out: &mut Vec<u8>) -> Result<(), AllocError>
+    ensures { Puts result out.old out.new (said_named rev anchors.now) }
+{
+    put(b"{\"anchors\":[", out)?;
+    put_anchors(anchors.as_slice(), out)?;
+    put(b",\"ok\":true,\"rev\":", out)?;
+    put_number(rev, out)?;
+    put(b"}\n", out)
+}
+
+/// Puts the answer where places stand.
+fn put_standing(rev: u64, places: &PlaceList, out: &mut Vec<u8>) -> Result<(), AllocError>
+    ensures { Puts result out.old out.new (said_standing rev places.now) }
+{
+    put(b"{\"ok\":true,\"places\":[", out)?;
+    put_places(places.as_slice(), out)?;
+    put(b",\"rev\":", out)?;
+    put_number(rev, out)?;
     put(b"}\n", out)
 }

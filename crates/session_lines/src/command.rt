@@ -1,15 +1,33 @@
 //! What a line asks for.
-use op_model::Edit;
+use crate::lasting_list::LastingList;
+use crate::numbers::Numbers;
+use op_model::{Edit, Neighbour};
 
 /// What a line of a session asks for.
-#[derive(Debug, Drop, PartialEq, Eq)]
+#[derive(Debug, Drop)]
 pub enum Command {
     /// A change of a document.
     Edit(Edit),
     /// The text of a document, by its number from 1 on.
-    Text { doc: u32 },
+    Text {
+        doc: u32,
+    },
     /// The spans of a document, by its number from 1 on.
-    Spans { doc: u32 },
+    Spans {
+        doc: u32,
+    },
+    /// Places of a document's text that last, for these numbers of visible characters before them,
+    /// each with the neighbour that it stays with.
+    Anchors {
+        doc: u32,
+        at: Numbers,
+        side: Neighbour,
+    },
+    /// Where these places of a document stand now.
+    Places {
+        doc: u32,
+        anchors: LastingList,
+    },
     /// How far the replica is.
     Status,
     /// Who is connected.

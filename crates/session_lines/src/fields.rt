@@ -18,7 +18,7 @@ use std::num::NonZeroU32;
 use uuid::Uuid;
 
 /// Refuses members of other names than these.
-pub fn only(value: &Value, names: &[&str]) -> Result<(), Refusal>
+pub(crate) fn only(value: &Value, names: &[&str]) -> Result<(), Refusal>
     ensures { Reads result (only (map (λ name. name.now) names.now) (view value.now)) }
 {
     match value.as_object() {
@@ -44,7 +44,7 @@ fn is_among(name: &str, names: &[&str]) -> bool
 }
 
 /// A number from this one to 2^32 - 1, written with no sign, fraction or exponent.
-fn as_whole(value: &Value, low: u32) -> Option<u32>
+pub(crate) fn as_whole(value: &Value, low: u32) -> Option<u32>
     ensures { result ≡ as_whole low (view value.now) }
 {
     let number = value.as_u64()?;
@@ -55,7 +55,7 @@ fn as_whole(value: &Value, low: u32) -> Option<u32>
 }
 
 /// The field of this name, a whole number from this one on.
-pub fn whole(value: &Value, key: &str, low: u32) -> Result<u32, Refusal>
+pub(crate) fn whole(value: &Value, key: &str, low: u32) -> Result<u32, Refusal>
     ensures { Reads result (whole key.now low (view value.now)) }
 {
     match value.get(key) {
@@ -65,7 +65,7 @@ pub fn whole(value: &Value, key: &str, low: u32) -> Result<u32, Refusal>
 }
 
 /// The number of operations that the document has to have, if one is asked for.
-pub fn rev(value: &Value) -> Result<Option<u32>, Refusal>
+pub(crate) fn rev(value: &Value) -> Result<Option<u32>, Refusal>
     ensures { Reads result (rev_of (view value.now)) }
 {
     match value.get("rev") {
@@ -88,7 +88,7 @@ fn token_named(text: &str) -> Option<Token>
 }
 
 /// The token of the edit, if it has one.
-pub fn token(value: &Value) -> Result<Option<Token>, Refusal>
+pub(crate) fn token(value: &Value) -> Result<Option<Token>, Refusal>
     ensures { Reads result (token_of (view value.now)) }
 {
     let Some(found) = value.get("token") else {
@@ -99,7 +99,7 @@ pub fn token(value: &Value) -> Result<Option<Token>, Refusal>
 }
 
 /// How many characters are deleted.
-pub fn count(value: &Value) -> Result<NonZeroU32, Refusal>
+pub(crate) fn count(value: &Value) -> Result<NonZeroU32, Refusal>
     ensures { Reads result (count_of (view value.now)) }
 {
     let count = whole(value, "count", 1)?;
@@ -109,7 +109,7 @@ pub fn count(value: &Value) -> Result<NonZeroU32, Refusal>
 /// The characters that are inserted. An error is out of memory, or no text of at least one
 /// character.
 #[tactic(auto, using(std::proofs::lemmas::Str::chars_from_encodes))]
-pub fn characters(alloc: Global, value: &Value) -> Result<EditText, Refusal>
+pub(crate) fn characters(alloc: Global, value: &Value) -> Result<EditText, Refusal>
     ensures { Reads result (characters_of (view value.now)) }
 {
     let Some(text) = value.get("text").and_then(Value::as_str) else {
@@ -120,7 +120,7 @@ pub fn characters(alloc: Global, value: &Value) -> Result<EditText, Refusal>
 }
 
 /// The kind of mark.
-pub fn kind(value: &Value) -> Result<Kind, Refusal>
+pub(crate) fn kind(value: &Value) -> Result<Kind, Refusal>
     ensures { Reads result (kind_of (view value.now)) }
 {
     value
@@ -131,7 +131,7 @@ pub fn kind(value: &Value) -> Result<Kind, Refusal>
 }
 
 /// Where a link leads. An error is out of memory, or no text of 1 to 1,024 bytes.
-pub fn url(alloc: Global, value: &Value) -> Result<Url, Refusal>
+pub(crate) fn url(alloc: Global, value: &Value) -> Result<Url, Refusal>
     ensures { Reads result (url_of (view value.now)) }
 {
     let Some(text) = value.get("url").and_then(Value::as_str) else {
@@ -142,7 +142,7 @@ pub fn url(alloc: Global, value: &Value) -> Result<Url, Refusal>
 }
 
 /// The name of a comment, a UUID in any of its text forms.
-pub fn comment(value: &Value) -> Result<CommentId, Refusal>
+pub(crate) fn comment(value: &Value) -> Result<CommentId, Refusal>
     ensures { Reads result (comment_of (view value.now)) }
 {
     let Some(text) = value.get("id").and_then(Value::as_str) else {

@@ -13,7 +13,7 @@ pub enum Kind {
 
 impl Kind {
     /// The kind with this name, if there is one.
-    pub fn named(name: &str) -> Option<Kind>
+    pub(crate) fn named(name: &str) -> Option<Kind>
         ensures { result ≡ kind_named name.now }
     {
         match name {

@@ -3,17 +3,25 @@
 //! It knows nothing of documents: text comes in, a command goes out, and back.
 #![tactic(auto)]
 
+mod anchor_text;
 mod answer;
 mod answer_line;
+mod change_list;
+mod changes;
 mod command;
 mod fields;
 mod kind;
+mod lasting_list;
 mod line;
+mod numbers;
 mod peer_list;
 mod peers;
+mod place_list;
+mod places;
 mod quoted;
 mod refusal;
 mod request;
+mod several;
 mod short_line;
 mod span_list;
 mod spans;
@@ -22,9 +30,13 @@ mod watch;
 
 pub use answer::{Answer, State};
 pub use answer_line::say;
+pub use change_list::ChangeList;
 pub use command::Command;
+pub use lasting_list::LastingList;
 pub use line::read_command;
+pub use numbers::Numbers;
 pub use peer_list::PeerList;
+pub use place_list::PlaceList;
 pub use refusal::Refusal;
 pub use span_list::SpanList;
 pub use watch::watch_line;

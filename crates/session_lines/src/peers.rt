@@ -22,7 +22,7 @@ fn put_replica(replica: ReplicaId, out: &mut Vec<u8>) -> Result<(), AllocError>
 }
 
 /// Puts the digits of a number.
-pub fn put_number(number: u64, out: &mut Vec<u8>) -> Result<(), AllocError>
+pub(crate) fn put_number(number: u64, out: &mut Vec<u8>) -> Result<(), AllocError>
     ensures { Puts result out.old out.new (decimal number) }
 {
     put(Buffer::new().format(number).as_bytes(), out)
@@ -42,7 +42,7 @@ fn put_peer(peer: &PeerCounts, out: &mut Vec<u8>) -> Result<(), AllocError>
 }
 
 /// Puts peers, and the closing bracket.
-pub fn put_peers(peers: &[PeerCounts], out: &mut Vec<u8>) -> Result<(), AllocError>
+pub(crate) fn put_peers(peers: &[PeerCounts], out: &mut Vec<u8>) -> Result<(), AllocError>
     ensures { Puts result out.old out.new (said_peers false peers.now) }
 {
     let mut later = false;

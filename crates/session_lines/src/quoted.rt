@@ -7,14 +7,14 @@ ghost use Rattle.session_lines.specs.Saying.{comma_after, quoted, said_character
 use std::alloc::AllocError;
 
 /// Puts bytes after what is there.
-pub fn put(bytes: &[u8], out: &mut Vec<u8>) -> Result<(), AllocError>
+pub(crate) fn put(bytes: &[u8], out: &mut Vec<u8>) -> Result<(), AllocError>
     ensures { Puts result out.old out.new bytes.now }
 {
     out.extend_from_slice(bytes)
 }
 
 /// A comma if something stands before.
-pub fn comma(later: bool) -> &'static [u8]
+pub(crate) fn comma(later: bool) -> &'static [u8]
     ensures { result.now ≡ comma_after later }
 {
     if later { b"," } else { b"" }
@@ -60,7 +60,7 @@ fn put_inside(bytes: &[u8], out: &mut Vec<u8>) -> Result<(), AllocError>
 }
 
 /// Puts a text as a JSON string.
-pub fn put_quoted(text: &str, out: &mut Vec<u8>) -> Result<(), AllocError>
+pub(crate) fn put_quoted(text: &str, out: &mut Vec<u8>) -> Result<(), AllocError>
     ensures { Puts result out.old out.new (quoted text.now) }
 {
     put(b"\"", out)?;
@@ -80,7 +80,7 @@ fn put_inside_characters(characters: &[char], out: &mut Vec<u8>) -> Result<(), A
 }
 
 /// Puts characters as a JSON string.
-pub fn put_characters(characters: &[char], out: &mut Vec<u8>) -> Result<(), AllocError>
+pub(crate) fn put_characters(characters: &[char], out: &mut Vec<u8>) -> Result<(), AllocError>
     ensures { Puts result out.old out.new (said_characters characters.now) }
 {
     put(b"\"", out)?;

@@ -3,19 +3,20 @@ ghost use Rattle.serde_json.specs.View.{view};
 ghost use Rattle.session_lines.specs.Fields.{Reads};
 ghost use Rattle.session_lines.specs.Requests.{verb_of, edit_with, request_of};
 ghost use Rattle.session_lines.specs.Requests.{insert_of, delete_of, mark_change, unmark_change};
-ghost use Rattle.session_lines.specs.Requests.{mark_of, key_of};
+ghost use Rattle.session_lines.specs.Requests.{mark_of, key_of, anchors_asked, places_asked};
 
 use crate::command::Command;
 use crate::fields::{characters, comment, count, kind, only, rev, token, url, whole};
 use crate::kind::Kind;
 use crate::refusal::Refusal;
+use crate::several::{self, numbers, side};
 use crate::verb::Verb;
 use op_model::{Change, Edit, Mark, MarkKey};
 use serde_json::Value;
 use std::alloc::Global;
 
 /// The command of a request.
-pub fn request(alloc: Global, value: &Value) -> Result<Command, Refusal>
+pub(crate) fn request(alloc: Global, value: &Value) -> Result<Command, Refusal>
     ensures { Reads result (request_of (view value.now)) }
 {
     match verb(value)? {
@@ -33,6 +34,8 @@ pub fn request(alloc: Global, value: &Value) -> Result<Command, Refusal>
             let doc = whole(value, "doc", 1)?;
             Ok(Command::Spans { doc })
         }
+        Verb::Anchors => anchors(alloc, value),
+        Verb::Places => places(alloc, value),
         Verb::Status => {
             only(value, &["op"])?;
             Ok(Command::Status)
@@ -46,6 +49,27 @@ pub fn request(alloc: Global, value: &Value) -> Result<Command, Refusal>
             Ok(Command::Stop)
         }
     }
+}
+
+/// The request for places that last.
+fn anchors(alloc: Global, value: &Value) -> Result<Command, Refusal>
+    ensures { Reads result (anchors_asked (view value.now)) }
+{
+    only(value, &["op", "doc", "at", "side"])?;
+    let doc = whole(value, "doc", 1)?;
+    let at = numbers(alloc, value)?;
+    let side = side(value)?;
+    Ok(Command::Anchors { doc, at, side })
+}
+
+/// The request where places that last stand now.
+fn places(alloc: Global, value: &Value) -> Result<Command, Refusal>
+    ensures { Reads result (places_asked (view value.now)) }
+{
+    only(value, &["op", "doc", "anchors"])?;
+    let doc = whole(value, "doc", 1)?;
+    let anchors = several::anchors(alloc, value)?;
+    Ok(Command::Places { doc, anchors })
 }
 
 /// Which request is made.

@@ -31,7 +31,7 @@ fn put_number(number: u64, out: &mut Vec<u8>)
 }
 
 /// Puts the answer to an edit.
-pub fn put_edited(rev: u64, out: &mut Vec<u8>)
+pub(crate) fn put_edited(rev: u64, out: &mut Vec<u8>)
     requires { vec_len out.old + SHORT ≤ vec_capacity out.old }
     ensures items { out.new.items ≡ out.old.items ++ said_edited rev }
     ensures capacity { vec_capacity out.old ≤ vec_capacity out.new }
@@ -42,7 +42,7 @@ pub fn put_edited(rev: u64, out: &mut Vec<u8>)
 }
 
 /// Puts the answer that says how far a replica is.
-pub fn put_status(applied: u64, settled: u64, state: State, out: &mut Vec<u8>)
+pub(crate) fn put_status(applied: u64, settled: u64, state: State, out: &mut Vec<u8>)
     requires { vec_len out.old + SHORT ≤ vec_capacity out.old }
     ensures items { out.new.items ≡ out.old.items ++ said_status applied settled state }
     ensures capacity { vec_capacity out.old ≤ vec_capacity out.new }
@@ -57,7 +57,7 @@ pub fn put_status(applied: u64, settled: u64, state: State, out: &mut Vec<u8>)
 }
 
 /// Puts the answer that tells no more than that all is done.
-pub fn put_done(out: &mut Vec<u8>)
+pub(crate) fn put_done(out: &mut Vec<u8>)
     requires { vec_len out.old + SHORT ≤ vec_capacity out.old }
     ensures items { out.new.items ≡ out.old.items ++ said_done }
     ensures capacity { vec_capacity out.old ≤ vec_capacity out.new }
@@ -66,7 +66,7 @@ pub fn put_done(out: &mut Vec<u8>)
 }
 
 /// Puts the answer that says why a request isn't served.
-pub fn put_refused(refusal: Refusal, out: &mut Vec<u8>)
+pub(crate) fn put_refused(refusal: Refusal, out: &mut Vec<u8>)
     requires { vec_len out.old + SHORT ≤ vec_capacity out.old }
     ensures items { out.new.items ≡ out.old.items ++ said_refused refusal }
     ensures capacity { vec_capacity out.old ≤ vec_capacity out.new }

@@ -21,7 +21,7 @@ fn put_id(id: CommentId, out: &mut Vec<u8>) -> Result<(), AllocError>
 }
 
 /// Puts the names of comments, and the closing bracket.
-fn put_ids(ids: &[CommentId], out: &mut Vec<u8>) -> Result<(), AllocError>
+pub(crate) fn put_ids(ids: &[CommentId], out: &mut Vec<u8>) -> Result<(), AllocError>
     ensures { Puts result out.old out.new (said_ids false ids.now) }
 {
     let mut later = false;
@@ -67,7 +67,7 @@ fn put_mark(there: bool, member: &[u8], out: &mut Vec<u8>) -> Result<(), AllocEr
 }
 
 /// Puts the members of the marks that there are.
-fn put_marks(marks: &Marks, out: &mut Vec<u8>) -> Result<(), AllocError>
+pub(crate) fn put_marks(marks: &Marks, out: &mut Vec<u8>) -> Result<(), AllocError>
     ensures { Puts result out.old out.new (said_marks marks.now) }
 {
     put_comments(marks.comments.as_slice(), out)?;
@@ -88,7 +88,7 @@ fn put_span(span: &Span, out: &mut Vec<u8>) -> Result<(), AllocError>
 }
 
 /// Puts spans, and the closing bracket.
-pub fn put_spans(spans: &[Span], out: &mut Vec<u8>) -> Result<(), AllocError>
+pub(crate) fn put_spans(spans: &[Span], out: &mut Vec<u8>) -> Result<(), AllocError>
     ensures { Puts result out.old out.new (said_spans false spans.now) }
 {
     let mut later = false;

@@ -11,6 +11,8 @@ pub enum Verb {
     Unmark,
     Text,
     Spans,
+    Anchors,
+    Places,
     Status,
     Peers,
     Stop,
@@ -18,7 +20,7 @@ pub enum Verb {
 
 impl Verb {
     /// The kind of request with this name, if there is one.
-    pub fn named(name: &str) -> Option<Verb>
+    pub(crate) fn named(name: &str) -> Option<Verb>
         ensures { result ≡ verb_named name.now }
     {
         match name {
@@ -28,6 +30,8 @@ impl Verb {
             "unmark" => Some(Verb::Unmark),
             "text" => Some(Verb::Text),
             "spans" => Some(Verb::Spans),
+            "anchors" => Some(Verb::Anchors),
+            "places" => Some(Verb::Places),
             "status" => Some(Verb::Status),
             "peers" => Some(Verb::Peers),
             "stop" => Some(Verb::Stop),

@@ -11,7 +11,7 @@ use Rattle.locked_replica.specs.Hub.{Parts, state_of}
 use Rattle.locked_replica.specs.Run.{Calls}
 use Rattle.session_lines.specs.Saying.{number_of}
 use Rattle.session_lines.specs.declared.answer.Answer.{Answer}
-use Rattle.session_lines.specs.declared.answer.Answer.TheVariants.{Edited, Text, Spans, Status, Peers, Stopped, Done, Refused}
+use Rattle.session_lines.specs.declared.answer.Answer.TheVariants.{Edited, Text, Spans, Changes, Anchors, Places, Status, Peers, Stopped, Done, Refused}
 use Rattle.session_threads.specs.ActsOnce.{ChangesNothing}
 use Rattle.session_threads.specs.HeldDesk.{HeldDesk}
 use Rattle.session_threads.specs.HubServing.{comes_too_late, Acknowledge, at_once, after_commit, AnswersEdit, ServesEdit}
@@ -72,6 +72,9 @@ module _ {D : Type 0} (facts : Ghosts D) where
       absurd (never_open mid behind.0 it.given (still_settled old mid it.given t known settled) behind.1)
   answered_known session old new e t (Text rev text) found settled never = absurd never
   answered_known session old new e t (Spans rev spans) found settled never = absurd never
+  answered_known session old new e t (Changes rev changes) found settled never = absurd never
+  answered_known session old new e t (Anchors rev anchors) found settled never = absurd never
+  answered_known session old new e t (Places rev places) found settled never = absurd never
   answered_known session old new e t (Status applied n s) found settled never = absurd never
   answered_known session old new e t (Peers peers sessions) found settled never = absurd never
   answered_known session old new e t Stopped found settled never = absurd never

@@ -7,7 +7,7 @@ use Rattle.locked_replica.specs.Calls.{IsCall}
 use Rattle.locked_replica.specs.Hub.{Parts, state_of}
 use Rattle.session_lines.specs.Saying.{number_of}
 use Rattle.session_lines.specs.declared.answer.Answer.{Answer}
-use Rattle.session_lines.specs.declared.answer.Answer.TheVariants.{Edited, Text, Spans, Status, Peers, Stopped, Done, Refused}
+use Rattle.session_lines.specs.declared.answer.Answer.TheVariants.{Edited, Text, Spans, Changes, Anchors, Places, Status, Peers, Stopped, Done, Refused}
 use Rattle.session_lines.specs.declared.refusal.Refusal.{Refusal}
 use Rattle.session_lines.specs.declared.refusal.Refusal.TheVariants.{Failed}
 use Rattle.session_threads.specs.HubCalls.{IsQuiet, Commits, is_edit_refusal}
@@ -26,6 +26,9 @@ module _ {D : Type 0} (facts : Ghosts D) where
       inr (failed, record { given = t; commit = commit; only = only; calls = (between, call, calls); cause = cause })
   answered session old between new e t (Text rev text) call never = absurd never
   answered session old between new e t (Spans rev spans) call never = absurd never
+  answered session old between new e t (Changes rev changes) call never = absurd never
+  answered session old between new e t (Anchors rev anchors) call never = absurd never
+  answered session old between new e t (Places rev places) call never = absurd never
   answered session old between new e t (Status applied settled s) call never = absurd never
   answered session old between new e t (Peers peers sessions) call never = absurd never
   answered session old between new e t Stopped call never = absurd never

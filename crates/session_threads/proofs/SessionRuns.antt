@@ -9,7 +9,7 @@ use Rattle.session_lines.specs.Saying.{number_of}
 use Rattle.session_lines.specs.declared.command.Command.{Command}
 use Rattle.session_lines.specs.declared.command.Command.TheVariants as command
 use Rattle.session_lines.specs.declared.answer.Answer.{Answer}
-use Rattle.session_lines.specs.declared.answer.Answer.TheVariants.{Edited, Text, Spans, Status, Peers, Stopped, Done, Refused}
+use Rattle.session_lines.specs.declared.answer.Answer.TheVariants.{Edited, Text, Spans, Changes, Anchors, Places, Status, Peers, Stopped, Done, Refused}
 use Rattle.session_lines.specs.declared.refusal.Refusal.{Refusal}
 use Rattle.session_threads.specs.Exchanges.{IsAnswered, Exchange, Exchanges}
 use Rattle.session_threads.specs.HeldDesk.{HeldDesk}
@@ -31,6 +31,9 @@ module _ {D : Type 0} (facts : Ghosts D) where
   edit_goes session old new e (Refused refusal) (inr (failed, it)) = ((edit session e, ticket it.given) ∷ (ack it.given, acknowledged false) ∷ it.commit, it.calls)
   edit_goes session old new e (Text rev text) never = absurd never
   edit_goes session old new e (Spans rev spans) never = absurd never
+  edit_goes session old new e (Changes rev changes) never = absurd never
+  edit_goes session old new e (Anchors rev anchors) never = absurd never
+  edit_goes session old new e (Places rev places) never = absurd never
   edit_goes session old new e (Status applied settled s) never = absurd never
   edit_goes session old new e (Peers peers sessions) never = absurd never
   edit_goes session old new e Stopped never = absurd never
@@ -46,6 +49,8 @@ module _ {D : Type 0} (facts : Ghosts D) where
   command_goes old new (command.Edit e) answer it = edit_goes_unless (comes_too_late old e) old new e answer refl it
   command_goes old new (command.Text doc) answer (said, same) = stays old new same
   command_goes old new (command.Spans doc) answer (said, same) = stays old new same
+  command_goes old new (command.Anchors doc at side) answer (said, same) = stays old new same
+  command_goes old new (command.Places doc anchors) answer (said, same) = stays old new same
   command_goes old new command.Status answer (said, same) = stays old new same
   command_goes old new command.Peers answer (said, same) = stays old new same
   command_goes old new command.Stop answer (is_settled, said, commits, stopping) = (commits.calls.events, commits.calls.calls)

@@ -1,20 +1,24 @@
 -- What a desk over a hub answers to a command, and what it makes of the hub.
-use Rattle.std.specs.Prelude.{◌≡◌, ◌⊎◌, ℕ, Bool, true, false, ◌&&◌, List, [], ◌∷◌, ◌++◌, length, is_none}
+use Rattle.std.specs.Prelude.{◌≡◌, ◌⊎◌, ℕ, Bool, true, false, ◌&&◌, List, [], ◌∷◌, ◌++◌, length, is_none, if◌then◌else◌}
 use Rattle.disk_trait.specs.declared.facts.DiskFacts.{Ghosts}
 use Rattle.op_model.specs.declared.edit.Edit.{Edit}
+use Rattle.op_model.specs.declared.lasting.Lasting.{Lasting}
+use Rattle.op_model.specs.declared.lasting.Neighbour.{Neighbour}
+use Rattle.op_model.specs.declared.op.Op.{Op}
 use Rattle.op_model.specs.Text.{text, rev}
 use Rattle.op_model.specs.Spans.{spans}
 use Rattle.op_model.specs.Machine.{Event, Answer as Reply, Ticket, edit, ack, ticket, acknowledged, refused, known_ticket}
 use Rattle.hub_parts.specs.declared.meeting.TheConstants.{BEGIN_TRIES}
 use Rattle.locked_replica.specs.Hub.{Parts, state_of}
+use Rattle.replica_core.specs.Places.{anchors_of, are_within, places_of}
 use Rattle.session_lines.specs.Saying.{number_of}
 use Rattle.session_lines.specs.declared.command.Command.{Command}
 use Rattle.session_lines.specs.declared.command.Command.TheVariants as command
 use Rattle.session_lines.specs.declared.answer.Answer.{Answer}
-use Rattle.session_lines.specs.declared.answer.Answer.TheVariants.{Edited, Text, Spans, Status, Peers, Stopped, Refused}
+use Rattle.session_lines.specs.declared.answer.Answer.TheVariants.{Edited, Text, Spans, Anchors, Places, Status, Peers, Stopped, Refused}
 use Rattle.session_lines.specs.declared.answer.State.{State}
 use Rattle.session_lines.specs.declared.answer.State.TheVariants as state
-use Rattle.session_lines.specs.declared.refusal.Refusal.TheVariants.{Memory, Failed, Stopping}
+use Rattle.session_lines.specs.declared.refusal.Refusal.TheVariants.{Memory, Range, Failed, Stopping}
 use Rattle.session_threads.specs.HeldDesk.{HeldDesk}
 use Rattle.locked_replica.specs.Run.{Calls}
 use Rattle.session_threads.specs.HubCalls.{AreOfCommit, CannotSettle, Commits}
@@ -30,6 +34,21 @@ abbrev pub ServesSpans : {D : Type 0} → HeldDesk D → ℕ → Answer → Type
 ServesSpans desk doc answer =
     let list = desk.hub.replica.list in
     (answer ≡ Spans (rev list doc) (spans list doc)) ⊎ (answer ≡ Refused Memory)
+
+-- places of a document that last, or that a number is beyond the end of its text
+abbrev pub anchors_answer : List Op → ℕ → List ℕ → Neighbour → Answer
+anchors_answer list doc at side = if are_within list doc at then Anchors (rev list doc) (anchors_of list doc at side) else Refused Range
+
+-- so it is answered, or out of memory
+abbrev pub ServesAnchors : {D : Type 0} → HeldDesk D → ℕ → List ℕ → Neighbour → Answer → Type 0
+ServesAnchors desk doc at side answer =
+    (answer ≡ anchors_answer desk.hub.replica.list doc at side) ⊎ (answer ≡ Refused Memory)
+
+-- where places of a document stand, or out of memory
+abbrev pub ServesPlaces : {D : Type 0} → HeldDesk D → ℕ → List Lasting → Answer → Type 0
+ServesPlaces desk doc anchors answer =
+    let list = desk.hub.replica.list in
+    (answer ≡ Places (rev list doc) (places_of list doc anchors)) ⊎ (answer ≡ Refused Memory)
 
 -- whether edits are taken: a failed device is told before a stop
 abbrev pub state_in : Bool → Bool → State
@@ -113,6 +132,8 @@ module _ {D : Type 0} (facts : Ghosts D) where
   Serves old (command.Edit e) answer new = ServesEdit old e answer new
   Serves old (command.Text doc) answer new = ServesText old doc answer × (new ≡ old)
   Serves old (command.Spans doc) answer new = ServesSpans old doc answer × (new ≡ old)
+  Serves old (command.Anchors doc at side) answer new = ServesAnchors old doc at side answer × (new ≡ old)
+  Serves old (command.Places doc anchors) answer new = ServesPlaces old doc anchors answer × (new ≡ old)
   Serves old command.Status answer new = ServesStatus old answer × (new ≡ old)
   Serves old command.Peers answer new = ServesPeers answer × (new ≡ old)
   Serves old command.Stop answer new = ServesStop old answer new

@@ -28,20 +28,20 @@ impl Model for AnswerText {
 
 impl AnswerText {
     /// No text yet, and the room.
-    pub fn new(alloc: Global) -> Result<AnswerText, AllocError> {
+    pub(crate) fn new(alloc: Global) -> Result<AnswerText, AllocError> {
         let text = Vec::with_capacity(alloc, RESERVE)?;
         Ok(AnswerText { text })
     }
 
     /// The text.
-    pub fn as_slice(&self) -> &[u8]
+    pub(crate) fn as_slice(&self) -> &[u8]
         ensures { result.now ≡ self.now }
     {
         self.text.as_slice()
     }
 
     /// Makes this the text of an answer, or of out of memory (1) in place of a long one.
-    pub fn say(&mut self, alloc: Global, answer: &Answer)
+    pub(crate) fn say(&mut self, alloc: Global, answer: &Answer)
         ensures { IsSaid answer.now self.new }
     {
         self.text.clear();
@@ -52,7 +52,7 @@ impl AnswerText {
 
     /// Lets go of the text, and of the room above 64 KiB: else a session would hold its longest
     /// answer until it ends.
-    pub fn let_go(&mut self)
+    pub(crate) fn let_go(&mut self)
         ensures { self.new ≡ [] }
     {
         self.text.clear();

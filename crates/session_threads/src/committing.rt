@@ -15,7 +15,7 @@ use locked_replica::Hub;
 /// Commits all that a hub holds, to the end. Answers whether all is settled then; else the device
 /// failed, or no commit could begin. Takes no memory but for the begin. So many device calls as the
 /// commit has.
-pub fn commit<D: Disk>(hub: &mut Hub<D>) -> bool
+pub(crate) fn commit<D: Disk>(hub: &mut Hub<D>) -> bool
     requires { IsQuiet (state_of hub.old) }
     ensures commits { Commits D.DiskFacts hub.old result hub.new }
     ensures quiet { IsQuiet (state_of hub.new) }

@@ -37,7 +37,7 @@ fn answer<D: Desk>(alloc: Global, line: &HeldLine, desk: &mut D) -> Answer
 }
 
 /// Answers the line that is there, and writes the answer, whose memory is given back then.
-pub fn exchange<W: Write, D: Desk>(
+pub(crate) fn exchange<W: Write, D: Desk>(
     alloc: Global,
     room: &mut Room,
     writer: &mut W,

@@ -30,7 +30,7 @@ impl Model for HeldLine {
 
 impl HeldLine {
     /// An empty line.
-    pub fn new(alloc: Global) -> Result<HeldLine, AllocError>
+    pub(crate) fn new(alloc: Global) -> Result<HeldLine, AllocError>
         ensures { IfOk result (λ line. line ≡ Some []) }
     {
         let bytes = Vec::with_capacity(alloc, MAX_LINE)?;
@@ -41,7 +41,7 @@ impl HeldLine {
     }
 
     /// The bytes that are there, or none where the line is too long.
-    pub fn as_slice(&self) -> Option<&[u8]>
+    pub(crate) fn as_slice(&self) -> Option<&[u8]>
         ensures { option_copied result ≡ self.now }
     {
         if self.is_too_long {
@@ -51,7 +51,7 @@ impl HeldLine {
     }
 
     /// Puts bytes behind what is there.
-    pub fn push(&mut self, bytes: &[u8])
+    pub(crate) fn push(&mut self, bytes: &[u8])
         ensures { self.new ≡ longer self.old bytes.now }
     {
         if self.bytes.len() + bytes.len() > MAX_LINE {
@@ -63,7 +63,7 @@ impl HeldLine {
     }
 
     /// Begins another line.
-    pub fn clear(&mut self)
+    pub(crate) fn clear(&mut self)
         ensures { self.new ≡ Some [] }
     {
         self.bytes.clear();

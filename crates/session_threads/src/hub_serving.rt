@@ -1,15 +1,18 @@
 //! The commands that a desk over a hub serves.
 ghost use Rattle.std.specs.Prelude.{◌≡◌};
 ghost use Rattle.session_threads.specs.HubServing.{comes_too_late, ServesEdit, ServesText, ServesSpans};
-ghost use Rattle.session_threads.specs.HubServing.{ServesStatus, ServesPeers, ServesStop};
+ghost use Rattle.session_threads.specs.HubServing.{ServesAnchors, ServesPlaces, ServesStatus};
+ghost use Rattle.session_threads.specs.HubServing.{ServesPeers, ServesStop};
 
 use crate::committing::commit;
 use crate::desk::Desk;
 use crate::hub_desk::HubDesk;
 use crate::hub_edit::answer_edit;
 use disk_trait::Disk;
-use op_model::Edit;
-use session_lines::{Answer, Command, PeerList, Refusal, SpanList, State};
+use op_model::{Edit, Neighbour};
+use session_lines::{
+    Answer, Command, LastingList, Numbers, PeerList, PlaceList, Refusal, SpanList, State,
+};
 use std::alloc::Global;
 
 impl<D: Disk> Desk for HubDesk<D> {
@@ -24,6 +27,8 @@ impl<D: Disk> Desk for HubDesk<D> {
             Command::Edit(edit) => self.edit(&edit),
             Command::Text { doc } => self.text(doc),
             Command::Spans { doc } => self.spans(doc),
+            Command::Anchors { doc, at, side } => self.anchors(alloc, doc, &at, side),
+            Command::Places { doc, anchors } => self.places(alloc, doc, &anchors),
             Command::Status => self.status(),
             Command::Peers => alone(alloc),
             Command::Stop => self.stop(),
@@ -70,6 +75,33 @@ impl<D: Disk> HubDesk<D> {
             Ok(spans) => Answer::Spans {
                 rev: self.hub.rev(doc) as u64,
                 spans: SpanList::from(spans),
+            },
+            Err(_) => Answer::Refused(Refusal::Memory),
+        }
+    }
+
+    /// Places of a document that last.
+    fn anchors(&self, alloc: Global, doc: u32, at: &Numbers, side: Neighbour) -> Answer
+        ensures { ServesAnchors self.now doc at.now side result }
+    {
+        match self.hub.anchors(alloc, doc, at.as_slice(), side) {
+            Ok(Some(places)) => Answer::Anchors {
+                rev: self.hub.rev(doc) as u64,
+                anchors: LastingList::from(places),
+            },
+            Ok(None) => Answer::Refused(Refusal::Range),
+            Err(_) => Answer::Refused(Refusal::Memory),
+        }
+    }
+
+    /// Where places of a document stand.
+    fn places(&self, alloc: Global, doc: u32, anchors: &LastingList) -> Answer
+        ensures { ServesPlaces self.now doc anchors.now result }
+    {
+        match self.hub.places(alloc, doc, anchors.as_slice()) {
+            Ok(places) => Answer::Places {
+                rev: self.hub.rev(doc) as u64,
+                places: PlaceList::from(places),
             },
             Err(_) => Answer::Refused(Refusal::Memory),
         }

@@ -35,7 +35,7 @@ fn first_line(bytes: &[u8]) -> Option<(&[u8], &[u8])>
 }
 
 /// Answers each line that ends in this piece of the input, and holds what is there of the next one.
-pub fn serve_piece<W: Write, D: Desk>(
+pub(crate) fn serve_piece<W: Write, D: Desk>(
     alloc: Global,
     piece: &[u8],
     room: &mut Room,

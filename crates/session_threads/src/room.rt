@@ -16,7 +16,7 @@ pub struct Room {
 
 impl Room {
     /// An empty line, and no answer yet.
-    pub fn new(alloc: Global) -> Result<Room, AllocError>
+    pub(crate) fn new(alloc: Global) -> Result<Room, AllocError>
         ensures { IfOk result (λ room. room.line ≡ Some []) }
     {
         let line = HeldLine::new(alloc)?;

@@ -1,6 +1,8 @@
 -- What a desk over a shared hub answers to a command, and what it makes of its pass.
 use Rattle.std.specs.Prelude.{◌≡◌, ◌≢◌, ◌⊎◌, ℕ, ◌≤◌, ◌<◌, Bool, true, false, None, List, All, length}
 use Rattle.op_model.specs.declared.edit.Edit.{Edit}
+use Rattle.op_model.specs.declared.lasting.Lasting.{Lasting}
+use Rattle.op_model.specs.declared.lasting.Neighbour.{Neighbour}
 use Rattle.op_model.specs.Text.{text, rev}
 use Rattle.op_model.specs.Spans.{spans}
 use Rattle.op_model.specs.Machine.{Ticket, edit, ack, ticket, acknowledged, refused, known_ticket}
@@ -11,11 +13,13 @@ use Rattle.session_lines.specs.Saying.{number_of}
 use Rattle.session_lines.specs.declared.command.Command.{Command}
 use Rattle.session_lines.specs.declared.command.Command.TheVariants as command
 use Rattle.session_lines.specs.declared.answer.Answer.{Answer}
-use Rattle.session_lines.specs.declared.answer.Answer.TheVariants.{Edited, Text, Spans, Status, Peers, Stopped, Done, Refused}
+use Rattle.session_lines.specs.declared.answer.Answer.TheVariants.{Edited, Text, Spans, Changes, Anchors, Places, Status, Peers, Stopped, Done, Refused}
 use Rattle.session_lines.specs.declared.answer.State.{State}
 use Rattle.session_lines.specs.declared.answer.State.TheVariants as state
 use Rattle.session_lines.specs.declared.refusal.Refusal.{Refusal}
 use Rattle.session_lines.specs.declared.refusal.Refusal.TheVariants.{Memory, Failed, Stopping}
+use Rattle.replica_core.specs.Places.{places_of}
+use Rattle.session_threads.specs.HubServing.{anchors_answer}
 use Rattle.session_threads.specs.HubCalls.{is_edit_refusal as is_hub_refusal}
 use Rattle.shared_hub.specs.Peers.{IsCounted}
 use Rattle.shared_hub.specs.Shared.{HappensTo, Moment, MomentOf}
@@ -53,6 +57,9 @@ ServesEdit old e (Edited rev) new = IsAcknowledged old e rev new
 ServesEdit old e (Refused refusal) new = IsRefusedEdit old e refusal new ⊎ ((refusal ≡ Failed) × IsLeftOpen old e new)
 ServesEdit old e (Text rev t) new = ⊥
 ServesEdit old e (Spans rev s) new = ⊥
+ServesEdit old e (Changes rev changes) new = ⊥
+ServesEdit old e (Anchors rev anchors) new = ⊥
+ServesEdit old e (Places rev places) new = ⊥
 ServesEdit old e (Status applied settled s) new = ⊥
 ServesEdit old e (Peers peers sessions) new = ⊥
 ServesEdit old e Stopped new = ⊥
@@ -71,6 +78,20 @@ ServesSpans old doc answer new =
     (new ≡ old)
     × ((answer ≡ Refused Memory)
     ⊎ MomentOf old (λ l. answer ≡ Spans (rev l.replica.list doc) (spans l.replica.list doc)))
+
+-- places of a document that last, at some moment, or that a number was beyond the end of its text; or out of memory
+abbrev pub ServesAnchors : PassHeld → ℕ → List ℕ → Neighbour → Answer → PassHeld → Type 0
+ServesAnchors old doc at side answer new =
+    (new ≡ old)
+    × ((answer ≡ Refused Memory)
+    ⊎ MomentOf old (λ l. answer ≡ anchors_answer l.replica.list doc at side))
+
+-- where places of a document stood at some moment, or out of memory
+abbrev pub ServesPlaces : PassHeld → ℕ → List Lasting → Answer → PassHeld → Type 0
+ServesPlaces old doc anchors answer new =
+    (new ≡ old)
+    × ((answer ≡ Refused Memory)
+    ⊎ MomentOf old (λ l. answer ≡ Places (rev l.replica.list doc) (places_of l.replica.list doc anchors)))
 
 -- whether edits are taken: a failure that was told goes before a stop
 abbrev pub state_in : Bool → Bool → State
@@ -105,6 +126,8 @@ abbrev pub Serves : PassHeld → Command → Answer → PassHeld → Type 0
 Serves old (command.Edit e) answer new = ServesEdit old e answer new
 Serves old (command.Text doc) answer new = ServesText old doc answer new
 Serves old (command.Spans doc) answer new = ServesSpans old doc answer new
+Serves old (command.Anchors doc at side) answer new = ServesAnchors old doc at side answer new
+Serves old (command.Places doc anchors) answer new = ServesPlaces old doc anchors answer new
 Serves old command.Status answer new = ServesStatus old answer new
 Serves old command.Peers answer new = ServesPeers old answer new
 Serves old command.Stop answer new = ServesStop old answer new

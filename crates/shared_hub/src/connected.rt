@@ -23,7 +23,7 @@ pub(crate) struct Connected {
 
 impl Connected {
     /// Nobody is connected.
-    pub fn new() -> Connected {
+    pub(crate) fn new() -> Connected {
         Connected {
             sessions: 0,
             peers: array::from_fn(|_| None),
@@ -31,12 +31,12 @@ impl Connected {
     }
 
     /// Notes what the peer of a link has said that it has.
-    pub fn note(&mut self, link: usize, peer: Peer) {
+    pub(crate) fn note(&mut self, link: usize, peer: Peer) {
         self.peers[link % ROOMS] = Some(peer);
     }
 
     /// Forgets the peer of a link.
-    pub fn forget(&mut self, link: usize) {
+    pub(crate) fn forget(&mut self, link: usize) {
         self.peers[link % ROOMS] = None;
     }
 }

@@ -1,7 +1,8 @@
 //! What is read under the lock of a shared hub.
-ghost use Rattle.std.specs.Prelude.{◌≡◌, All, IfOk, length};
+ghost use Rattle.std.specs.Prelude.{◌≡◌, All, IfOk, IfSome, is_some, length};
 ghost use Rattle.op_model.specs.Spans.{spans as spans_of};
 ghost use Rattle.op_model.specs.Text.{text as text_of, rev as rev_of};
+ghost use Rattle.replica_core.specs.Places.{anchors_of, are_within, places_of};
 ghost use Rattle.shared_hub.specs.Peers.{IsCounted, rows_of};
 ghost use Rattle.hub_parts.specs.Locked.{IsLocked};
 ghost use Rattle.shared_hub.specs.Watching.{HasNoRev, IsWatched};
@@ -11,7 +12,7 @@ use crate::guarded::Guarded;
 use crate::shown::Shown;
 use crate::status::Status;
 use crate::watched::Watched;
-use op_model::{Span, Text};
+use op_model::{Lasting, Neighbour, Span, Text};
 use pass_books::BookNames;
 use peer_counts::PeerCounts;
 use std::alloc::{AllocError, Global};
@@ -56,6 +57,46 @@ impl<J: BookNames> Guarded<J> {
         Ok(Shown {
             rev: self.locked.rev(doc) as u64,
             content: self.locked.spans(doc)?,
+        })
+    }
+
+    /// The places behind these numbers of visible characters of a document, that stay with one of
+    /// their neighbours; none if one of the numbers is beyond the end of the text. An error is out
+    /// of memory (1). Costs what `Locked::anchors` does.
+    pub fn anchors(
+        &self,
+        alloc: Global,
+        doc: u32,
+        at: &[u32],
+        side: Neighbour,
+    ) -> Result<Shown<Option<Vec<Lasting>>>, AllocError>
+        ensures rev { IfOk result (λ it. it.rev ≡ rev_of self.now.locked.replica.list doc) }
+        ensures within { IfOk result
+            (λ it. is_some it.content ≡ are_within self.now.locked.replica.list doc at.now) }
+        ensures places { IfOk result (λ it. IfSome it.content
+            (λ v. v.items ≡ anchors_of self.now.locked.replica.list doc at.now side)) }
+    {
+        Ok(Shown {
+            rev: self.locked.rev(doc) as u64,
+            content: self.locked.anchors(alloc, doc, at, side)?,
+        })
+    }
+
+    /// How many visible characters of a document stand before each of these places, if it is there.
+    /// An error is out of memory (1). Costs what `Locked::places` does.
+    pub fn places(
+        &self,
+        alloc: Global,
+        doc: u32,
+        anchors: &[Lasting],
+    ) -> Result<Shown<Vec<Option<usize>>>, AllocError>
+        ensures rev { IfOk result (λ it. it.rev ≡ rev_of self.now.locked.replica.list doc) }
+        ensures places { IfOk result
+            (λ it. it.content.items ≡ places_of self.now.locked.replica.list doc anchors.now) }
+    {
+        Ok(Shown {
+            rev: self.locked.rev(doc) as u64,
+            content: self.locked.places(alloc, doc, anchors)?,
         })
     }
 

@@ -15,19 +15,19 @@ pub(crate) struct Rooms {
 
 impl Rooms {
     /// Rooms where nobody waits.
-    pub fn new() -> Rooms {
+    pub(crate) fn new() -> Rooms {
         Rooms {
             rooms: array::from_fn(|_| Condvar::new()),
         }
     }
 
     /// The room for the link of this number.
-    pub fn of(&self, link: usize) -> &Condvar {
+    pub(crate) fn of(&self, link: usize) -> &Condvar {
         &self.rooms[link % ROOMS]
     }
 
     /// Wakes all who wait.
-    pub fn wake_all(&self) {
+    pub(crate) fn wake_all(&self) {
         for room in &self.rooms {
             room.notify_all();
         }

@@ -1,7 +1,8 @@
 //! What is read of a shared hub.
-ghost use Rattle.std.specs.Prelude.{◌≡◌, IfOk, length, All};
+ghost use Rattle.std.specs.Prelude.{◌≡◌, IfOk, IfSome, is_some, length, All};
 ghost use Rattle.op_model.specs.Spans.{spans as spans_of};
 ghost use Rattle.op_model.specs.Text.{text as text_of, rev as rev_of};
+ghost use Rattle.replica_core.specs.Places.{anchors_of, are_within, places_of};
 ghost use Rattle.shared_hub.specs.Shared.{MomentOf};
 ghost use Rattle.shared_hub.specs.Peers.{IsCounted};
 
@@ -10,7 +11,7 @@ use crate::shared::Shared;
 use crate::shown::Shown;
 use crate::status::Status;
 use op_ids::{Clock, ReplicaId};
-use op_model::{Span, Text};
+use op_model::{Lasting, Neighbour, Span, Text};
 use pass_books::{BookNames, Pass};
 use peer_counts::PeerCounts;
 use std::alloc::{AllocError, Global};
@@ -63,6 +64,49 @@ impl<J: BookNames> Shared<J> {
         let mut guard = self.guarded.lock(rt);
         guard.audit(pass);
         guard.spans(doc)
+    }
+
+    /// The places behind these numbers of visible characters of a document, that stay with one of
+    /// their neighbours; none if one of the numbers is beyond the end of the text. An error is out
+    /// of memory (1). Costs what `Locked::anchors` does.
+    pub fn anchors<R: Wait>(
+        &self,
+        rt: &R,
+        alloc: Global,
+        pass: &mut Pass<J>,
+        doc: u32,
+        at: &[u32],
+        side: Neighbour,
+    ) -> Result<Shown<Option<Vec<Lasting>>>, AllocError>
+        ensures same { pass.new ≡ pass.old }
+        ensures moment { IfOk result (λ it. MomentOf pass.old
+            (λ l. (it.rev ≡ rev_of l.replica.list doc)
+            × (is_some it.content ≡ are_within l.replica.list doc at.now)
+            × IfSome it.content (λ v. v.items ≡ anchors_of l.replica.list doc at.now side))) }
+    {
+        let mut guard = self.guarded.lock(rt);
+        guard.audit(pass);
+        guard.anchors(alloc, doc, at, side)
+    }
+
+    /// How many visible characters of a document stand before each of these places, if it is there.
+    /// An error is out of memory (1). Costs what `Locked::places` does.
+    pub fn places<R: Wait>(
+        &self,
+        rt: &R,
+        alloc: Global,
+        pass: &mut Pass<J>,
+        doc: u32,
+        anchors: &[Lasting],
+    ) -> Result<Shown<Vec<Option<usize>>>, AllocError>
+        ensures same { pass.new ≡ pass.old }
+        ensures moment { IfOk result (λ it. MomentOf pass.old
+            (λ l. (it.rev ≡ rev_of l.replica.list doc)
+            × (it.content.items ≡ places_of l.replica.list doc anchors.now))) }
+    {
+        let mut guard = self.guarded.lock(rt);
+        guard.audit(pass);
+        guard.places(alloc, doc, anchors)
     }
 }
 

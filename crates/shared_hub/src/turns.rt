@@ -30,7 +30,7 @@ pub(crate) struct Turns {
 
 impl Turns {
     /// Nobody sleeps, and nothing was given up.
-    pub fn new() -> Turns {
+    pub(crate) fn new() -> Turns {
         Turns {
             tried: 0,
             given_up: 0,

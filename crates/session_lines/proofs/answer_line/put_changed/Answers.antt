@@ -1,0 +1,8 @@
+use Rattle.session_lines.proofs.PutLemmas.{then_puts}
+use Rattle.session_lines.proofs.answer_line.put_changed.Goals as goal
+
+pub returns : goal.returns
+returns c =
+    rw (← c.as_slice.ensures)
+    (then_puts _ _ _ _ _ _ c.in_ok-put.ensures (then_puts _ _ _ _ _ _ c.in_ok-put_changes.ensures
+    (then_puts _ _ _ _ _ _ c.in_ok-put-2.ensures (then_puts _ _ _ _ _ _ c.in_ok-put_number.ensures c.put-3.ensures))))
