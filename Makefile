@@ -12,7 +12,8 @@ run:
 
 # Everything from nothing, but for what an earlier run on this machine passed: each proof, each must-fail edit, each test, the program's stored run. Then the proved program on real files,
 # and the clients over it; that for JavaScript only where there is node.
-# It is kept as bin/peritext with the line of its sources, unless these changed meanwhile. `rt ci` runs below a clock, which ends with what each crate cost, and with its status.
+# It is kept as bin/peritext with the line of its sources, unless these changed meanwhile. `rt ci` runs below a clock, which ends with what each crate cost, and with its status; above
+# a limit of processor seconds it fails.
 test:
 	@mkdir -p bin; rm -f bin/sources; $(SUM) > bin/asked
 	python3 tools/edits.py

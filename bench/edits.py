@@ -2,8 +2,8 @@
 256 characters; edits beside up to 10^6 tombstones; and merges of three replicas that type at once at distant places. Beside each case but
 those with tombstones Yjs in memory on the same edits, where Debian's node-yjs is there.
 
-python3 bench/edits.py PROGRAM [MERGES], where MERGES is the program of crates/merge_bench. Edits go through sessions over files in
-memory (/dev/shm), so that the disk costs little. Merges are made in one process without a disk, the least time of three runs.
+python3 bench/edits.py PROGRAM [MERGES], where MERGES is what `python3 tools/benches.py merge_bench` builds, bin/merge_bench. Edits go through
+sessions over files in memory (/dev/shm), so that the disk costs little. Merges are made in one process without a disk, the least time of three runs.
 """
 
 import os

@@ -1,9 +1,9 @@
 """Operations a second from one hub through two links into another one in memory, for 1,000 and 100,000 operations, beside merges alone
 of the same operations.
 
-python3 bench/links.py LINKS MERGES [--long], where LINKS is the program of crates/link_bench and MERGES that of crates/merge_bench; with
---long a million operations too. A character each, typed at the end of document 1. Each program has three runs, in turn; the middle one
-counts. Merges that are over before this script has read their beginning are left out.
+python3 bench/links.py LINKS MERGES [--long], where LINKS and MERGES are what `python3 tools/benches.py link_bench merge_bench` builds,
+bin/link_bench and bin/merge_bench; with --long a million operations too. A character each, typed at the end of document 1. Each program has
+three runs, in turn; the middle one counts. Merges that are over before this script has read their beginning are left out.
 """
 
 import os

@@ -5,7 +5,7 @@
 The lines of `rt ci` go on as they come. It says when a crate is done, and not what it took, so its processes are looked at twice a second:
 which crate each is for, and the processor seconds that the system counted for it and for what it started. What ends between two looks is
 missing by as much, and what has no crate of its own (running the tests and the programs, copying) is a line by itself.
-The table comes last, and also into bin/gate_times.md. The exit status is that of `rt ci`.
+The table comes last, and also into bin/gate_times.md. The exit status is that of `rt ci`, or 1 if a whole gate passed that took more than MOST_SECONDS.
 """
 
 import collections
@@ -22,6 +22,9 @@ import time
 SECONDS_BETWEEN_LOOKS = 0.5
 TICKS_A_SECOND = os.sysconf("SC_CLK_TCK")
 TABLE = "bin/gate_times.md"
+# What two cores do in the 180 minutes that the judge has. It is raised only with the reason beside it, and lowered once a whole gate from
+# nothing was measured: by sums that is some 16,000 on four cores.
+MOST_SECONDS = 21_600
 
 # What a process of the prover works at: a crate's proof, its tests, what its edits begin with, or one edit, by its name.
 Work = collections.namedtuple("Work", "crate kind edit")
@@ -200,6 +203,16 @@ def report(spent, wall, processor):
     return lines
 
 
+def too_long(names, processor):
+    """What is said of a gate of all crates that took too long, or nothing. What was kept from earlier runs only makes it shorter."""
+    if names or processor <= MOST_SECONDS:
+        return None
+    return (
+        f"FAILED: the gate took {processor:,.0f} processor seconds, and {MOST_SECONDS:,} are the most that MOST_SECONDS in tools/gate_times.py allows"
+        " (a slower machine may need a tenth more)."
+    )
+
+
 def main():
     start = time.monotonic()
     environment = {**os.environ, "PYTHONUNBUFFERED": "1"}
@@ -214,11 +227,15 @@ def main():
     status = gate.wait()
     watch.end()
     counted = resource.getrusage(resource.RUSAGE_CHILDREN)
-    lines = report(watch.spent, time.monotonic() - start, counted.ru_utime + counted.ru_stime)
+    processor = counted.ru_utime + counted.ru_stime
+    lines = report(watch.spent, time.monotonic() - start, processor)
     print("\n".join(lines))
     os.makedirs(os.path.dirname(TABLE), exist_ok=True)
     with open(TABLE, "w", encoding="utf-8") as file:
         file.write("\n".join(lines) + "\n")
+    if why := too_long(sys.argv[1:], processor):
+        print(why)
+        status = status or 1
     return status if status >= 0 else 128 - status
 
 

@@ -1,14 +1,14 @@
 """The picture of the layers, docs/layers.svg, from crates.txt: python3 tools/layers.py > docs/layers.svg, from the project's root.
 
 Each crate of code stands in just one box, and a box stands on boxes below it alone: where crates.txt says otherwise, it says so and draws
-nothing. Crates of tests and measurements aren't drawn.
+nothing. Crates of tests aren't drawn.
 """
 
 import html
 import sys
 
 WIDTH, ROW, GAP, MARGIN, LINE = 900, 26, 14, 16, 15
-LEFT_OUT = ("_tests", "_bench")
+LEFT_OUT = "_tests"
 
 # From the top down: a row of boxes, each with its name, its colour, and its crates, the lowest last.
 ROWS = (

@@ -21,10 +21,10 @@ PROGRAM = "edit_shell"
 BUILT = "bin/quick_program"
 
 
-def crates():
+def crates(path="crates.txt"):
     """The libraries that each crate lists, by its name."""
     found = {}
-    with open("crates.txt", encoding="utf-8") as file:
+    with open(path, encoding="utf-8") as file:
         for line in file:
             name, colon, libraries = line.partition("#")[0].partition(":")
             if colon:

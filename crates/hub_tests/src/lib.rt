@@ -1,5 +1,5 @@
-//! Tests of replicas, alone and among peers, and of hubs that are held alone and the sessions over
-//! them.
+//! Tests of replicas, alone and among peers, and of hubs that are held alone, the sessions over them
+//! and links between two.
 #![tactic(auto)]
 
 #[cfg(test)]
@@ -8,6 +8,14 @@ mod asks;
 mod edit_tests;
 #[cfg(test)]
 mod failing_tests;
+#[cfg(test)]
+mod meeting_edits;
+#[cfg(test)]
+mod meeting_peer;
+#[cfg(test)]
+mod meeting_run;
+#[cfg(test)]
+mod meeting_tests;
 #[cfg(test)]
 mod merge_tests;
 #[cfg(test)]
