@@ -49,7 +49,11 @@ def mark(op, first, last, kind, **more):
     return op, 1, {"from": first, "to": last, "kind": kind, **more}
 
 
-READS = [line(op="text", doc=1), line(op="spans", doc=1)]
+# The places are such as have the same names however many operations of a peer came before: an own id counts on from those.
+READS = [
+    line(op="text", doc=1), line(op="spans", doc=1), line(op="anchors", doc=1, at=[0] * 100, side="previous"),
+    line(op="places", doc=1, anchors=["end", f"a2@{REPLICA[:-1]}9"] * 50),
+]
 SHORT = edits(
     ("insert", 3, {"at": 0, "text": "abc"}), mark("mark", 0, 2, "comment", id=comment("c1")), mark("mark", 1, 3, "comment", id=comment("c2")),
     mark("unmark", 1, 2, "comment", id=comment("c1")),

@@ -29,6 +29,7 @@ import noise
 import parted_files
 import parting
 import peers
+import places
 import put_back
 import renewal
 import rude
@@ -50,7 +51,7 @@ from program import Checks
 LIMIT = 600
 GROUPS = (
     words, sentences, documents, terminal, examples, exports, long_texts, streams, locks, lost_files, full_disk, ending, crafted, formats, long_runs,
-    damage, each_byte, kills, device_calls, tokens, typed_memory, memory, serving, served_limits, journal, web_pages, last_place, peers, watching,
+    damage, each_byte, kills, device_calls, tokens, typed_memory, memory, serving, served_limits, journal, web_pages, last_place, peers, places, watching,
     web_sockets, parting, put_back, backups, parted_files, idle_links, rude, noise, worst, session_memory, renewal,
 )
 

@@ -1,4 +1,5 @@
-"""The sentences that explain a refusal: the program's, and the same ones in both clients and in docs/OPERATING.md."""
+"""The sentences that explain a refusal: the program's, and the same ones in both clients and in docs/OPERATING.md. The fields of requests, as
+docs/FORMATS.md has them."""
 
 import os
 import re
@@ -12,6 +13,10 @@ NAMED = re.compile(r'^(?:const )?(\w+) = "([^"]*)";?$', re.MULTILINE)
 # A client's table of words, and its rows.
 TABLE = re.compile(r"^(?:const )?([A-Z]+) = \{\n(.*?)^\}", re.MULTILINE | re.DOTALL)
 ROW = re.compile(r'^ +"?([a-z ]+)"?: "([^"]*)",$', re.MULTILINE)
+
+# A request, or several, and its fields.
+REQUEST = re.compile(r"^\| ([^|]+) \| ([^|]+) \|$", re.MULTILINE)
+CODE = re.compile(r"`(\w+)`")
 
 
 def text(*path):
@@ -44,6 +49,23 @@ def of_requests(folder, end):
     return named, {name: rows for name, rows in tables.items() if rows}
 
 
+def fields_of_page():
+    """The fields of each request that has some: those that it needs, and those that it may have."""
+    _, _, table = text("docs", "FORMATS.md").partition("\n| `op` | Fields |\n|---|---|\n")
+    found = {}
+    for ops, fields in REQUEST.findall(table.partition("\n\n")[0]):
+        needed, _, optional = fields.partition("optional")
+        found.update({op: (sorted(CODE.findall(needed)), sorted(CODE.findall(optional))) for op in CODE.findall(ops) if fields != "none"})
+    return found
+
+
+def fields_of(tables):
+    """The same, by a client's tables."""
+    beside = lambda op: " ".join(fields for marked, fields in tables["BESIDE"].items() if marked.split()[0] == op)
+    optional = lambda op: tables["OPTIONAL"].get(op, "")
+    return {op: (sorted(f"{fields} {beside(op)}".split()), sorted(optional(op).split())) for op, fields in tables["NEEDED"].items()}
+
+
 def check(checks, _program, _until):
     said = of_numbers()
     python = advice("clients", "python", "src", "peritext", "refusals.py")
@@ -52,6 +74,7 @@ def check(checks, _program, _until):
     script, python_rules = of_requests(("clients", "js", "src"), "js"), of_requests(("clients", "python", "src", "peritext"), "py")
     checks.same("what both clients say of a request's fields", script, python_rules)
     checks.same("their tables", sorted(python_rules[1]), ["BESIDE", "NEEDED", "OPTIONAL", "RULES"])
+    checks.same("the fields of requests", fields_of(python_rules[1]), fields_of_page())
     checks.same("the sentences of the Python client", {number: python.get(number) for number in said}, said)
     shown = re.findall(r"^\| ([\d, ]+) \| (.*) \|$", text("docs", "OPERATING.md").partition("## What a terminal shows")[2].partition("\n## ")[0], re.MULTILINE)
     wanted = [(", ".join(map(str, numbers)), words) for numbers, _, words in sentences().values()]

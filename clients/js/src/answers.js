@@ -77,6 +77,11 @@ function areSpans(value) {
 }
 
 /** @param {unknown} value */
+function arePlaces(value) {
+  return Array.isArray(value) && value.every((place) => place === null || isNumber(place));
+}
+
+/** @param {unknown} value */
 function arePeers(value) {
   return Array.isArray(value) && value.every(isPeer);
 }
@@ -107,6 +112,8 @@ const FIELDS = new Map(
     unmark: EDITED,
     text: { rev: isNumber, text: isText },
     spans: { rev: isNumber, spans: areSpans },
+    anchors: { rev: isNumber, anchors: areTexts },
+    places: { rev: isNumber, places: arePlaces },
     status: { applied: isNumber, settled: isNumber, state: isText },
     peers: { peers: arePeers, sessions: isNumber },
     watch: EDITED,

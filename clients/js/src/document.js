@@ -4,12 +4,22 @@ import { needDigest, tokenAfter } from "./again.js";
 import { keyOf } from "./marks.js";
 import { Reading } from "./reading.js";
 import { Stale } from "./refusals.js";
-import { LONGEST, isWhole } from "./rules.js";
+import { LONGEST, MOST, isWhole } from "./rules.js";
+
+/** How often places of several requests are asked for, until all are answered at one `rev`. */
+const ROUNDS = 8;
 
 /**
  * @typedef {import("./again.js").Request} Request
  * @typedef {import("./marks.js").Mark} Mark
  * @typedef {import("./marks.js").Span} Span
+ * @typedef {import("./session.js").Answer} Answer
+ */
+
+/**
+ * The neighbour that a place stays with: the character before it, so that what is typed there comes after it, or the next
+ * one.
+ * @typedef {"previous" | "next"} Side
  */
 
 /**
@@ -87,10 +97,18 @@ export class Document {
    * @returns {Promise<number>}
    */
   async edit(fields, rev, token) {
-    // The number is another session's. After a crash, or at a peer, it may name another text, and would be taken for this one.
-    if (rev !== undefined && !this.session.knowsRev(this.number)) throw new Stale(6, "stale");
+    this.#needKnown(rev);
     const answer = await this.session.send({ doc: this.number, token, ...fields, rev });
     return answer.rev;
+  }
+
+  /**
+   * Refuses the number of another session. After a crash, or at a peer, it may name another text, and would be taken for
+   * this one.
+   * @param {number} [rev]
+   */
+  #needKnown(rev) {
+    if (rev !== undefined && !this.session.knowsRev(this.number)) throw new Stale(6, "stale");
   }
 
   /**
@@ -155,10 +173,86 @@ export class Document {
     return { spans, rev };
   }
 
+  /**
+   * A name for a place between characters, which lasts: it stays with its neighbour at every peer and in every session.
+   * `place` tells where it is by then. With the `rev` of a text that was read it is of just this text, or `Stale`.
+   * @param {number} at
+   * @param {Side} [side]
+   * @param {number} [rev]
+   */
+  async anchor(at, side, rev) {
+    const [anchor] = await this.anchors([at], side, rev);
+    return anchor;
+  }
+
+  /**
+   * Such names for any number of places. More than 256 go as several requests, which may be answered at different moments:
+   * unless all of them are answered at one `rev`, they are sent anew, and are `Stale` after eight times.
+   * @param {number[]} at
+   * @param {Side} [side]
+   * @param {number} [rev]
+   * @returns {Promise<string[]>}
+   */
+  async anchors(at, side = "previous", rev) {
+    const answers = await this.#askAll(parts(at).map((part) => ({ op: "anchors", at: part, side })), rev);
+    return answers.flatMap(({ anchors }) => anchors);
+  }
+
+  /**
+   * Where a place that lasts is now, or null if it is beside a character that this file doesn't have, or doesn't have yet.
+   * Beside one that was removed it stays where that was. With the `rev` of a text that was read it is a place of just this
+   * text, or `Stale`.
+   * @param {string} anchor
+   * @param {number} [rev]
+   */
+  async place(anchor, rev) {
+    const [place] = await this.places([anchor], rev);
+    return place;
+  }
+
+  /**
+   * Where any number of such places are now. More than 256 go as several requests, as those of `anchors` do.
+   * @param {string[]} anchors
+   * @param {number} [rev]
+   * @returns {Promise<(number | null)[]>}
+   */
+  async places(anchors, rev) {
+    const answers = await this.#askAll(parts(anchors).map((part) => ({ op: "places", anchors: part })), rev);
+    return answers.flatMap(({ places }) => places);
+  }
+
+  /**
+   * The answers to several requests, which are sent at once: at this `rev`, or else at any one.
+   * @param {Request[]} requests
+   * @param {number} [rev]
+   * @returns {Promise<Answer[]>}
+   */
+  async #askAll(requests, rev) {
+    for (let left = rev === undefined ? ROUNDS : 1; left > 0; left -= 1) {
+      const { parted } = this.session;
+      this.#needKnown(rev);
+      const answers = await Promise.all(requests.map((request) => this.session.send({ doc: this.number, ...request })));
+      const wanted = rev ?? answers[0]?.rev;
+      // After a lost connection the same number can name another text.
+      if (parted === this.session.parted && answers.every((answer) => answer.rev === wanted)) return answers;
+    }
+    throw new Stale(6, "stale");
+  }
+
   /** How many operations the document has. */
   async rev() {
     return (await this.read()).rev;
   }
+}
+
+/**
+ * The lists of at most 256 that make up a list. What is no list is refused as it is.
+ * @template T
+ * @param {T[]} all
+ */
+function parts(all) {
+  if (!Array.isArray(all)) return [all];
+  return Array.from({ length: Math.ceil(all.length / MOST) }, (_, number) => all.slice(number * MOST, (number + 1) * MOST));
 }
 
 /**

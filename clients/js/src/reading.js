@@ -1,10 +1,10 @@
 /** A text that was read. */
 
-import { toPlace } from "./places.js";
+import { toIndex, toPlace } from "./places.js";
 
 /**
  * A text and the `rev` that it has. Its edits count as JavaScript's strings do, are made in just this text or are
- * `Stale`, and answer the next reading. An index within a pair of surrogates is a `RangeError`.
+ * `Stale`, and answer the next reading; so are places that last. An index within a pair of surrogates is a `RangeError`.
  */
 export class Reading {
   /**
@@ -59,6 +59,25 @@ export class Reading {
   async unmark(from, to, mark) {
     const rev = await this.document.unmark(toPlace(this.text, from), toPlace(this.text, to), mark, this.rev);
     return this.#next(this.text, rev);
+  }
+
+  /**
+   * A name for the place at an index, which lasts, or `Stale` if the document has moved on from this text.
+   * @param {number} index
+   * @param {import("./document.js").Side} [side]
+   */
+  async anchor(index, side) {
+    return this.document.anchor(toPlace(this.text, index), side, this.rev);
+  }
+
+  /**
+   * The index of a place that lasts in this text, or null if it is beside a character that the file doesn't have; `Stale` if
+   * the document has moved on.
+   * @param {string} anchor
+   */
+  async index(anchor) {
+    const place = await this.document.place(anchor, this.rev);
+    return place === null ? null : toIndex(this.text, place);
   }
 
   /**

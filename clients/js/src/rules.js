@@ -5,6 +5,9 @@
 /** How many characters one edit may put in, or take away. */
 export const LONGEST = 256;
 
+/** How many places one request may ask for. */
+export const MOST = 256;
+
 /**
  * The fields that a request needs, and those that a mark needs beside them.
  * @type {Record<string, string>}
@@ -16,6 +19,8 @@ const NEEDED = {
   unmark: "doc from to kind",
   text: "doc",
   spans: "doc",
+  anchors: "doc at side",
+  places: "doc anchors",
   watch: "doc",
 };
 /** @type {Record<string, string>} */
@@ -37,7 +42,7 @@ const OPTIONAL = {
 };
 
 /**
- * What each field has to be.
+ * What each field has to be, of any request, or of one in particular.
  * @type {Record<string, string>}
  */
 const RULES = {
@@ -52,10 +57,14 @@ const RULES = {
   url: "a text of 1 to 1024 bytes",
   id: "a UUID",
   token: "a UUID other than the nil one",
+  "anchors at": "a list of 1 to 256 whole numbers from 0 to 4294967295",
+  side: "previous or next",
+  anchors: "a list of 1 to 256 places that last, each a text as the request `anchors` gives it",
 };
 const KINDS = new Set(["strong", "em", "link", "comment"]);
 const UUID = /^(urn:uuid:|\{)?[0-9a-f]{8}(-?[0-9a-f]{4}){3}-?[0-9a-f]{12}\}?$/i;
 const NIL = /^(urn:uuid:)?[0{}-]*$/;
+const BESIDE_CHARACTER = /^[ab]([1-9][0-9]{0,14})@([0-9a-fA-F]{8}(?:-[0-9a-fA-F]{4}){3}-[0-9a-fA-F]{12})$/;
 
 /**
  * Which rules the fields of a request break, in words.
@@ -100,7 +109,17 @@ function wordsOf(table, key) {
  * @param {string[]} names
  */
 function wrong(request, names) {
-  return names.filter((name) => !HOLDS[name](request[name])).map((name) => `\`${name}\` has to be ${RULES[name]}`);
+  const ruled = names.map((name) => ({ name, rule: ruleOf(String(request.op), name) }));
+  return ruled.filter(({ name, rule }) => !HOLDS[rule](request[name])).map(({ name, rule }) => `\`${name}\` has to be ${RULES[rule]}`);
+}
+
+/**
+ * The rule of a field: that of this request, if it has one of its own.
+ * @param {string} op
+ * @param {string} name
+ */
+function ruleOf(op, name) {
+  return Object.hasOwn(RULES, `${op} ${name}`) ? `${op} ${name}` : name;
 }
 
 /** @param {number} least */
@@ -128,6 +147,17 @@ function isToken(value) {
   return isUuid(value) && !NIL.test(value);
 }
 
+/** @param {any} value */
+function isLasting(value) {
+  const [, counter, replica] = (typeof value === "string" && BESIDE_CHARACTER.exec(value)) || [];
+  return counter === undefined ? value === "start" || value === "end" : Number(counter) < 2 ** 48 && isToken(replica);
+}
+
+/** @param {(value: unknown) => boolean} holds */
+function some(holds) {
+  return (/** @type {any} */ value) => Array.isArray(value) && value.length >= 1 && value.length <= MOST && value.every(holds);
+}
+
 /** @type {Record<string, (value: unknown) => boolean>} */
 const HOLDS = {
   doc: from(1),
@@ -141,4 +171,7 @@ const HOLDS = {
   url: isUrl,
   id: isUuid,
   token: isToken,
+  "anchors at": some(from(0)),
+  side: (value) => value === "previous" || value === "next",
+  anchors: some(isLasting),
 };

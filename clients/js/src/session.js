@@ -28,7 +28,8 @@ const STEPS = 10;
  * An answer has those of these fields that its request asks for.
  * @typedef {import("./marks.js").Span} Span
  * @typedef {{has: number, lacks: number, replica: string}} Peer
- * @typedef {{ok: true, rev: number, text: string, spans: Span[], applied: number, settled: number, state: string, peers: Peer[], sessions: number}} Answer
+ * @typedef {{ok: true, rev: number, text: string, spans: Span[], anchors: string[], places: (number | null)[],
+ *   applied: number, settled: number, state: string, peers: Peer[], sessions: number}} Answer
  */
 
 /**
@@ -60,6 +61,8 @@ export class Session {
   #putOff = [];
   /** The documents whose `rev` was told in this session. */
   #told = new Set();
+  /** How many transports have ended: a `rev` is none of the next one. */
+  #parted = 0;
   #isOpen = true;
   /** Whether this session asked for the end of the program. */
   #stops = false;
@@ -128,6 +131,11 @@ export class Session {
    */
   knowsRev(document) {
     return this.#told.has(document);
+  }
+
+  /** How many transports of this session have ended. */
+  get parted() {
+    return this.#parted;
   }
 
   /** Whether all that was edited is settled on the disk. */
@@ -203,6 +211,7 @@ export class Session {
     Object.assign(this.#transport, { onLine() {}, onPart() {}, onEnd() {} });
     // What was read needn't be there again.
     this.#told.clear();
+    this.#parted += 1;
     if (this.#isDue()) this.#goOn(this.#finder);
   }
 

@@ -166,6 +166,76 @@ test("a refusal says what it is about", async () => {
   assert.match(new Refused(4, "field", { op: "mark", doc: 1, from: 0, to: 1, ...link("") }).message, /`url` has to be a text of 1 to 1024 bytes; mend/);
 });
 
+const UNKNOWN = "00000000-0000-4000-8000-0000000000ff";
+
+test("a refusal of places that last says what it is about", () => {
+  const words = (fields) => new Refused(4, "field", { doc: 1, ...fields }).message;
+  const numbers = "4 field: `at` has to be a list of 1 to 256 whole numbers from 0 to 4294967295; mend what wrote it";
+  const names = "4 field: `anchors` has to be a list of 1 to 256 places that last, each a text as the request `anchors` gives it; mend what wrote it";
+  const sides = "4 field: `side` has to be previous or next; mend what wrote it";
+  for (const at of [[], Array(257).fill(0), 0, "0", null, [-1], [1.5], [true], ["1"], [null], [2 ** 32]]) {
+    assert.equal(words({ op: "anchors", at, side: "next" }), numbers, String(at));
+  }
+  for (const side of ["left", "", null, undefined]) assert.equal(words({ op: "anchors", at: [0], side }), sides);
+  for (const anchors of [[], Array(257).fill("end"), "end", null, undefined]) assert.equal(words({ op: "places", anchors }), names);
+  for (const counter of ["", "0", "01", "+1", 2 ** 48]) assert.equal(words({ op: "places", anchors: ["start", `a${counter}@${UNKNOWN}`] }), names);
+  for (const replica of ["", "00000000-0000-0000-0000-000000000000", UNKNOWN.replaceAll("-", ""), `{${UNKNOWN}}`, `${UNKNOWN}\n`]) {
+    assert.equal(words({ op: "places", anchors: [`b1@${replica}`, "end"] }), names, replica);
+  }
+  for (const anchor of ["", "START", "a1", `A1@${UNKNOWN}`, `c1@${UNKNOWN}`, `1@${UNKNOWN}`, ` a1@${UNKNOWN}`, 7, null]) {
+    assert.equal(words({ op: "places", anchors: [anchor] }), names, String(anchor));
+  }
+  for (const anchor of ["start", "end", `a1@${UNKNOWN}`, `b${2 ** 48 - 1}@${UNKNOWN.toUpperCase()}`]) {
+    assert.match(words({ op: "places", anchors: Array(256).fill(anchor) }), /^4 field: a value breaks its rule/);
+  }
+  // At an edit it is a number.
+  assert.match(words({ op: "insert", at: [0], text: "x" }), /^4 field: `at` has to be a whole number from 0 to 4294967295; mend/);
+});
+
+/** A document whose answers have these revs, one after the other, and the requests for it. In place of null the transport ends. */
+function documentAt(revs) {
+  const sent = [];
+  const left = [...revs];
+  const over = () => {
+    const lines = [];
+    const transport = { send: (line) => lines.push(line) && setImmediate(answer), close() {} };
+    const answer = () => {
+      if (lines.length === 0) return;
+      const { anchors } = JSON.parse(lines.shift());
+      const rev = left.shift();
+      if (rev === null) return lines.splice(0) && transport.onEnd();
+      sent.push(anchors.length);
+      transport.onLine(JSON.stringify({ ok: true, rev, places: anchors.map(() => rev) }));
+    };
+    return transport;
+  };
+  return { document: new Session(over(), { again: async () => over() }).document(1), sent };
+}
+
+test("places of several requests are all of one rev", async () => {
+  const many = Array(300).fill("end");
+  const moving = documentAt([5, 6, 6, 7, 7, 7]);
+  assert.deepEqual(await moving.document.places(many), Array(300).fill(7));
+  assert.deepEqual(moving.sent, [256, 44, 256, 44, 256, 44]);
+  const restless = documentAt([...Array(100).keys()]);
+  await assert.rejects(restless.document.places(many), Stale);
+  assert.equal(restless.sent.length, 16);
+  const read = documentAt([5, 5, 6]);
+  await assert.rejects(read.document.places(["end"], 5), Stale);
+  assert.equal(await read.document.place("end"), 5);
+  await assert.rejects(read.document.places(many, 5), Stale);
+  assert.equal(read.sent.length, 3);
+  assert.deepEqual(await documentAt([]).document.places([]), []);
+  // Over another connection the same number is another one.
+  const parted = documentAt([5, null, 5, 6, 6]);
+  assert.deepEqual(await parted.document.places(many), Array(300).fill(6));
+  assert.deepEqual(parted.sent, [256, 44, 256, 44]);
+  const lost = documentAt([5, null, 5, 5, 5]);
+  await lost.document.place("end");
+  await assert.rejects(lost.document.place("end", 5), Stale);
+  assert.deepEqual([await lost.document.place("end"), await lost.document.place("end", 5)], [5, 5]);
+});
+
 test("requests under way are answered in order", async () => {
   const document = new Session(new Store().session()).document(1);
   const under_way = [...Array(500).keys()].map((place) => document.insert(place, "x"));

@@ -26,6 +26,7 @@ run("cuts");
 run("limits");
 run("again");
 run("file", noProgram);
+run("places", noProgram);
 run("daemon", noProgram);
 run("watch", noProgram);
 run("web", noProgram ?? noWebSocket);

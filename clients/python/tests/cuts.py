@@ -13,6 +13,8 @@ from support import PATIENCE
 EXCHANGES = {
     "text": ({"op": "text", "doc": 1}, '{"ok":true,"rev":12,"text":"The \\"quick\\" ä🦊\\n"}'),
     "spans": ({"op": "spans", "doc": 1}, '{"ok":true,"rev":12,"spans":[{"link":"u","text":"ä"},{"strong":true,"text":"b"}]}'),
+    "anchors": ({"op": "anchors", "doc": 1, "at": [0, 3], "side": "previous"}, '{"anchors":["start","a3@UUID"],"ok":true,"rev":12}'),
+    "places": ({"op": "places", "doc": 1, "anchors": ["start", "end"]}, '{"ok":true,"places":[0,null],"rev":12}'),
     "edit": ({"op": "insert", "doc": 1, "at": 0, "text": "x"}, '{"ok":true,"rev":12}'),
     "refusal": ({"op": "insert", "doc": 1, "at": 9, "text": "x"}, '{"code":5,"error":"range","ok":false}'),
     "status": ({"op": "status"}, '{"applied":12,"ok":true,"settled":12,"state":"open"}'),
@@ -98,6 +100,10 @@ class Cut(Answered):
 
     def test_spans(self):
         self.check_each_byte("spans")
+
+    def test_places(self):
+        self.check_each_byte("anchors")
+        self.check_each_byte("places")
 
     def test_an_edit(self):
         self.check_each_byte("edit")

@@ -71,6 +71,10 @@ def _are_texts(value: Any) -> bool:
     return isinstance(value, list) and all(map(_is_text, value))
 
 
+def _are_places(value: Any) -> bool:
+    return isinstance(value, list) and all(place is None or _is_number(place) for place in value)
+
+
 def _are_peers(value: Any) -> bool:
     return isinstance(value, list) and all(map(_is_peer, value))
 
@@ -91,6 +95,8 @@ _FIELDS: dict[str, dict[str, Callable[[Any], bool]]] = {
     "unmark": _EDITED,
     "text": {"rev": _is_number, "text": _is_text},
     "spans": {"rev": _is_number, "spans": _are_spans},
+    "anchors": {"rev": _is_number, "anchors": _are_texts},
+    "places": {"rev": _is_number, "places": _are_places},
     "status": {"applied": _is_number, "settled": _is_number, "state": _is_text},
     "peers": {"peers": _are_peers, "sessions": _is_number},
     "watch": _EDITED,

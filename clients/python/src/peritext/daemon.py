@@ -137,6 +137,7 @@ class SocketSession(Session):
         with self._listing:
             # What was read may be of another file soon.
             self._told.clear()
+            self.parted += 1
             self._listing.wait_for(lambda: self._waiting or self._put_off or self._closes or self._end is not None)
             return bool(self._waiting or self._put_off) and self._end is None and not self._stops
 

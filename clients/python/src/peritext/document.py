@@ -2,17 +2,20 @@
 
 from __future__ import annotations
 
-from typing import TYPE_CHECKING, Any, Iterator, NamedTuple
+from typing import TYPE_CHECKING, Any, Iterable, Iterator, NamedTuple
 from uuid import UUID, uuid5
 
 from .marks import Mark, Span
 from .refusals import Stale
-from .rules import LONGEST, is_whole
+from .rules import LONGEST, MOST, is_whole
 
 if TYPE_CHECKING:
     from concurrent.futures import Future
 
     from .session import Session
+
+# How often places of several requests are asked for, until all are answered at one `rev`.
+ROUNDS = 8
 
 
 class Reading(NamedTuple):
@@ -74,9 +77,52 @@ class Document:
         """The text in runs of equal marks."""
         return [Span.of(span) for span in self.session.ask(op="spans", doc=self.number)["spans"]]
 
+    def anchor(self, at: int, side: str = "previous", rev: int | None = None) -> str:
+        """A name for a place between characters, which lasts: it stays with the character before it (`previous`, so that what is typed there
+        comes after it) or with the one after it (`next`), at every peer and in every session. `places` tells where it is by then. With the
+        `rev` of a text that was read it is of just this text, or `Stale`.
+
+        >>> _ = document.insert(0, "fox")
+        >>> caret = document.anchor(3)
+        >>> _ = document.insert(0, "The ")
+        >>> document.place(caret)
+        7
+        """
+        return self.anchors([at], side, rev)[0]
+
+    def anchors(self, at: Iterable[int], side: str = "previous", rev: int | None = None) -> list[str]:
+        """Such names for any number of places. More than 256 go as several requests, which may be answered at different moments: unless all of
+        them are answered at one `rev`, they are sent anew, and are `Stale` after eight times."""
+        return self._ask_all("anchors", {"side": side}, "at", list(at), rev)
+
+    def place(self, anchor: str, rev: int | None = None) -> int | None:
+        """Where a place that lasts is now, or None if it is beside a character that this file doesn't have, or doesn't have yet. Beside one that
+        was removed it stays where that was. With the `rev` of a text that was read it is a place of just this text, or `Stale`."""
+        return self.places([anchor], rev)[0]
+
+    def places(self, anchors: Iterable[str], rev: int | None = None) -> list[int | None]:
+        """Where any number of such places are now. More than 256 go as several requests, as those of `anchors` do."""
+        return self._ask_all("places", {}, "anchors", list(anchors), rev)
+
     def rev(self) -> int:
         """How many operations the document has."""
         return self.read().rev
+
+    def _ask_all(self, op: str, fields: dict[str, Any], name: str, values: list[Any], rev: int | None) -> list[Any]:
+        """What is answered for all of these values, by requests for some of them each: at this `rev`, or else at any one."""
+        parts = [values[first : first + MOST] for first in range(0, len(values), MOST)]
+        for _ in range(ROUNDS if rev is None else 1):
+            parted = self.session.parted
+            if rev is not None and not self.session.knows_rev(self.number):
+                break
+            under_way = [self.session.send(op=op, doc=self.number, **fields, **{name: part}) for part in parts]
+            answers = [each.result() for each in under_way]
+            revs = {answer["rev"] for answer in answers}
+            # After a lost connection the same number can name another text.
+            is_one = parted == self.session.parted and len(revs) <= 1
+            if is_one and (rev is None or revs <= {rev}):
+                return [value for answer in answers for value in answer[op]]
+        raise Stale(6, "stale")
 
     def _edit_all(self, edits: Iterator[dict[str, Any]], rev: int | None, token: UUID | None) -> int:
         """Makes edits one after the other, and gives the last answer."""

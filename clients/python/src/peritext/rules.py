@@ -7,6 +7,8 @@ from typing import Any, Callable, Mapping
 
 # How many characters one edit may put in, or take away.
 LONGEST = 256
+# How many places one request may ask for.
+MOST = 256
 # The fields that a request needs, and those that a mark needs beside them.
 NEEDED = {
     "insert": "doc at text",
@@ -15,6 +17,8 @@ NEEDED = {
     "unmark": "doc from to kind",
     "text": "doc",
     "spans": "doc",
+    "anchors": "doc at side",
+    "places": "doc anchors",
     "watch": "doc",
 }
 BESIDE = {
@@ -29,7 +33,7 @@ OPTIONAL = {
     "mark": "rev token",
     "unmark": "rev token",
 }
-# What each field has to be.
+# What each field has to be, of any request, or of one in particular.
 RULES = {
     "doc": "a whole number from 1 to 4294967295",
     "count": "a whole number from 1 to 4294967295",
@@ -42,10 +46,14 @@ RULES = {
     "url": "a text of 1 to 1024 bytes",
     "id": "a UUID",
     "token": "a UUID other than the nil one",
+    "anchors at": "a list of 1 to 256 whole numbers from 0 to 4294967295",
+    "side": "previous or next",
+    "anchors": "a list of 1 to 256 places that last, each a text as the request `anchors` gives it",
 }
 _KINDS = ("strong", "em", "link", "comment")
 _UUID = re.compile(r"(urn:uuid:|\{)?[0-9a-f]{8}(-?[0-9a-f]{4}){3}-?[0-9a-f]{12}\}?", re.IGNORECASE)
 _NIL = re.compile(r"[0{}-]*")
+_BESIDE_CHARACTER = re.compile(r"[ab]([1-9][0-9]{0,14})@([0-9a-fA-F]{8}(?:-[0-9a-fA-F]{4}){3}-[0-9a-fA-F]{12})")
 
 
 def broken(request: Mapping[str, Any]) -> list[str]:
@@ -55,6 +63,8 @@ def broken(request: Mapping[str, Any]) -> list[str]:
     ['`doc` has to be a whole number from 1 to 4294967295']
     >>> broken({"op": "text", "doc": 1, "rev": 3})
     ['`rev` is no field of this request']
+    >>> broken({"op": "anchors", "doc": 1, "at": 7, "side": "previous"})
+    ['`at` has to be a list of 1 to 256 whole numbers from 0 to 4294967295']
     """
     op = f"{request.get('op')}"
     marked = f"{op} {request.get('kind')}"
@@ -79,7 +89,13 @@ def is_whole(value: Any, least: int) -> bool:
 
 
 def _wrong(request: Mapping[str, Any], names: list[str]) -> list[str]:
-    return [f"`{name}` has to be {RULES[name]}" for name in names if not _HOLDS[name](request.get(name))]
+    ruled = [(name, _rule(f"{request.get('op')}", name)) for name in names]
+    return [f"`{name}` has to be {RULES[rule]}" for name, rule in ruled if not _HOLDS[rule](request.get(name))]
+
+
+def _rule(op: str, name: str) -> str:
+    """The rule of a field: that of this request, if it has one of its own."""
+    return f"{op} {name}" if f"{op} {name}" in RULES else name
 
 
 def _strange(op: str, names: list[str]) -> list[str]:
@@ -106,6 +122,15 @@ def _is_token(value: Any) -> bool:
     return _is_uuid(value) and _NIL.fullmatch(value.removeprefix("urn:uuid:")) is None
 
 
+def _is_lasting(value: Any) -> bool:
+    beside = _BESIDE_CHARACTER.fullmatch(value) if isinstance(value, str) else None
+    return value in ("start", "end") if beside is None else int(beside[1]) < 2**48 and _is_token(beside[2])
+
+
+def _is_some(value: Any, holds: Callable[[Any], bool]) -> bool:
+    return isinstance(value, (list, tuple)) and 1 <= len(value) <= MOST and all(map(holds, value))
+
+
 def _from(least: int) -> Callable[[Any], bool]:
     return lambda value: is_whole(value, least)
 
@@ -122,4 +147,7 @@ _HOLDS: dict[str, Callable[[Any], bool]] = {
     "url": _is_url,
     "id": _is_uuid,
     "token": _is_token,
+    "anchors at": lambda value: _is_some(value, _from(0)),
+    "side": lambda value: value in ("previous", "next"),
+    "anchors": lambda value: _is_some(value, _is_lasting),
 }

@@ -45,6 +45,8 @@ class Session:
         self._put_off: deque[Owed] = deque()
         # The documents whose `rev` was told in this session.
         self._told: set[int] = set()
+        # How many connections have ended: a `rev` is none of the next one.
+        self.parted = 0
         self._closes = False
         # Why it ended, once it has.
         self._end: str | None = None
@@ -69,6 +71,11 @@ class Session:
         """The `rev` behind an edit. `Stale` if it names one and this session was told none of its document: before, the number of another
         session, or of the connection before, could name another text."""
         return int(self._sent(fields, needs_rev="rev" in fields).result()["rev"])
+
+    def knows_rev(self, document: int) -> bool:
+        """Whether this session was told a `rev` of a document. Before, the number of another session could name another text."""
+        with self._listing:
+            return document in self._told
 
     def send(self, **fields: Any) -> Future[dict[str, Any]]:
         """Sends a request and doesn't wait for its answer."""
