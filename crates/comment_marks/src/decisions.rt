@@ -29,7 +29,7 @@ impl Decision {
 
 /// What a set of mark operations decides about each comment that it names. An error is out of
 /// memory (1). For each of them a search among the comments.
-pub fn decisions(
+pub(crate) fn decisions(
     alloc: Global,
     set: &[&Marking],
 ) -> Result<BTreeMap<CommentId, Decision>, AllocError>

@@ -27,7 +27,7 @@ impl Model for Sorted {
 
 impl Sorted {
     /// No tokens. Takes no memory.
-    pub fn new(alloc: Global) -> Sorted
+    pub(crate) fn new(alloc: Global) -> Sorted
         ensures { result ≡ [] }
     {
         Sorted {
@@ -37,7 +37,7 @@ impl Sorted {
 
     /// These, sorted. Of equal ones the first counts. An error is out of memory (1): the sort takes
     /// as much again. As many steps as a sort takes.
-    pub fn of(mut places: Vec<(Token, Place)>) -> Result<Sorted, AllocError>
+    pub(crate) fn of(mut places: Vec<(Token, Place)>) -> Result<Sorted, AllocError>
         ensures { IfOk result (FindsAlike places.items) }
     {
         places.sort_by_key(|entry| entry.0)?;
@@ -56,7 +56,7 @@ impl Sorted {
     }
 
     /// The place of a token, if it is there. A search by halves.
-    pub fn find(&self, token: Token) -> Option<Place>
+    pub(crate) fn find(&self, token: Token) -> Option<Place>
         ensures { result ≡ place_of self.now token }
     {
         let index = self.index_of(token)?;
@@ -65,7 +65,7 @@ impl Sorted {
 
     /// Gives a token that is there another place, and returns the one that it had. Another token
     /// changes nothing. Takes no memory. A search by halves.
-    pub fn replace(&mut self, token: Token, place: Place) -> Option<Place>
+    pub(crate) fn replace(&mut self, token: Token, place: Place) -> Option<Place>
         ensures before { result ≡ place_of self.old token }
         ensures put { IfSome result (λ _. Puts (Some token) (Some place) self.old self.new) }
         ensures none { result ≡ None → self.new ≡ self.old }
@@ -78,7 +78,7 @@ impl Sorted {
 
     /// Takes a token out, if it is there. Takes no memory. A search by halves, and linear in all
     /// where it is there.
-    pub fn remove(&mut self, token: Token)
+    pub(crate) fn remove(&mut self, token: Token)
         ensures { Puts (Some token) None self.old self.new }
     {
         match self.index_of(token) {

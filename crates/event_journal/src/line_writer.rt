@@ -27,7 +27,7 @@ pub(crate) struct LineWriter<'a, R: Wait + Clock, W: Write> {
 
 impl<'a, R: Wait + Clock, W: Write> LineWriter<'a, R, W> {
     /// One that has written nothing yet.
-    pub fn new(rt: &'a R, journal: &'a Journal, output: &'a mut W) -> LineWriter<'a, R, W> {
+    pub(crate) fn new(rt: &'a R, journal: &'a Journal, output: &'a mut W) -> LineWriter<'a, R, W> {
         LineWriter {
             rt,
             journal,
@@ -38,7 +38,7 @@ impl<'a, R: Wait + Clock, W: Write> LineWriter<'a, R, W> {
     }
 
     /// Writes a line, unless nothing can be written any more.
-    pub fn write(&mut self, line: &[u8]) {
+    pub(crate) fn write(&mut self, line: &[u8]) {
         let mut at = 0;
         for _ in self.rt.forever() {
             if self.is_broken || line.len() <= at {

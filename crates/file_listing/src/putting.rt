@@ -6,7 +6,7 @@ use itoa::Buffer;
 use std::alloc::AllocError;
 
 /// Puts bytes after what is there.
-pub fn put(bytes: &[u8], out: &mut Vec<u8>) -> Result<(), AllocError>
+pub(crate) fn put(bytes: &[u8], out: &mut Vec<u8>) -> Result<(), AllocError>
     ensures { Puts result out.old out.new bytes.now }
 {
     out.extend_from_slice(bytes)
@@ -20,7 +20,7 @@ fn put_number(number: u64, out: &mut Vec<u8>) -> Result<(), AllocError>
 }
 
 /// Puts what stands before a number, and the number.
-pub fn put_member(before: &[u8], number: u64, out: &mut Vec<u8>) -> Result<(), AllocError>
+pub(crate) fn put_member(before: &[u8], number: u64, out: &mut Vec<u8>) -> Result<(), AllocError>
     ensures { Puts result out.old out.new (member before.now number) }
 {
     put(before, out)?;

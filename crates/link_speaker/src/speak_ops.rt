@@ -9,7 +9,7 @@ use std::alloc::Global;
 
 /// Says the operations that the peer tells for the line's base, all in one frame. Answers whether
 /// there were any.
-pub fn speak_ops<P: Peer, L: Line>(
+pub(crate) fn speak_ops<P: Peer, L: Line>(
     alloc: Global,
     peer: &mut P,
     line: &mut L,

@@ -40,7 +40,7 @@ fn first_chunk(edges: &[Edge]) -> usize
 }
 
 /// Chunks of edges in order. An error is out of memory (1). A step for each edge.
-pub fn chunks_of(alloc: Global, edges: &[Edge]) -> Result<Vec<EdgeChunk>, AllocError>
+pub(crate) fn chunks_of(alloc: Global, edges: &[Edge]) -> Result<Vec<EdgeChunk>, AllocError>
     requires { AreInOrder edges.now }
     ensures edges { IfOk result (λ chunks. edges_in chunks.items ≡ edges.now) }
     ensures chunks { IfOk result (λ chunks. AreChunks chunks.items) }
@@ -58,7 +58,7 @@ pub fn chunks_of(alloc: Global, edges: &[Edge]) -> Result<Vec<EdgeChunk>, AllocE
 
 /// Cuts a chunk in two near its middle, if it is full and has edges of several characters. An error
 /// is out of memory (1). The edges stay, also after an error.
-pub fn cut(chunks: &mut Vec<EdgeChunk>, i: usize) -> Result<(), AllocError>
+pub(crate) fn cut(chunks: &mut Vec<EdgeChunk>, i: usize) -> Result<(), AllocError>
     requires chunks { AreChunks chunks.old.items }
     requires inside { i < length chunks.old.items }
     ensures chunks { AreChunks chunks.new.items }

@@ -27,7 +27,7 @@ impl Edge {
 }
 
 /// Where a mark operation begins, unless that is the start of the text.
-pub fn start_edge(start: &Start, marking: usize) -> Option<Edge>
+pub(crate) fn start_edge(start: &Start, marking: usize) -> Option<Edge>
     ensures { option_to_list result ≡ start_edges marking start.now }
 {
     match start {
@@ -37,7 +37,7 @@ pub fn start_edge(start: &Start, marking: usize) -> Option<Edge>
 }
 
 /// Where a mark operation ends, unless that is the end of the text.
-pub fn end_edge(end: &End, marking: usize) -> Option<Edge>
+pub(crate) fn end_edge(end: &End, marking: usize) -> Option<Edge>
     ensures { option_to_list result ≡ end_edges marking end.now }
 {
     match end {

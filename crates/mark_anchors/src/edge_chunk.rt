@@ -29,7 +29,7 @@ impl Model for EdgeChunk {
 
 impl EdgeChunk {
     /// A chunk of these edges. An error is out of memory (1).
-    pub fn of(alloc: Global, edges: &[Edge]) -> Result<EdgeChunk, AllocError>
+    pub(crate) fn of(alloc: Global, edges: &[Edge]) -> Result<EdgeChunk, AllocError>
         ensures { IfOk result (λ chunk. chunk ≡ edges.now) }
     {
         Ok(EdgeChunk {
@@ -38,19 +38,19 @@ impl EdgeChunk {
     }
 
     /// All its edges. Constant.
-    pub fn edges(&self) -> &[Edge]
+    pub(crate) fn edges(&self) -> &[Edge]
         ensures { result.now ≡ self.now }
     {
         &self.edges
     }
 
     /// Whether it can take an edge of any character. Constant.
-    pub fn has_room(&self) -> bool {
+    pub(crate) fn has_room(&self) -> bool {
         self.edges.len() < MAX_CHUNK
     }
 
     /// Whether it begins at a character above this one. Constant.
-    pub fn starts_above(&self, id: OpId) -> bool
+    pub(crate) fn starts_above(&self, id: OpId) -> bool
         ensures { result ≡ starts_above id self.now }
     {
         match self.edges.first() {
@@ -60,7 +60,7 @@ impl EdgeChunk {
     }
 
     /// Whether it ends at a character below this one. Constant.
-    pub fn ends_below(&self, id: OpId) -> bool
+    pub(crate) fn ends_below(&self, id: OpId) -> bool
         requires { AreInOrder self.now }
         ensures { result ≡ true → AreBelow self.now id }
     {
@@ -72,7 +72,7 @@ impl EdgeChunk {
 
     /// Puts an edge at its place. An error is out of memory (1), and leaves it as it was. The
     /// edges behind move.
-    pub fn put(&mut self, edge: Edge) -> Result<(), AllocError>
+    pub(crate) fn put(&mut self, edge: Edge) -> Result<(), AllocError>
         requires { AreInOrder self.old }
         ensures put { OnOk result (self.new ≡ put_in edge self.old) }
         ensures order { OnOk result (AreInOrder self.new) }
@@ -85,7 +85,7 @@ impl EdgeChunk {
 
     /// Takes the last edge away that doesn't stand at a character above this one. The edges behind
     /// move.
-    pub fn take_last(&mut self, id: OpId)
+    pub(crate) fn take_last(&mut self, id: OpId)
         requires order { AreInOrder self.old }
         requires some { 0 < length self.old }
         requires begins { starts_above id self.old ≡ false }
@@ -96,7 +96,7 @@ impl EdgeChunk {
     }
 
     /// Keeps as many of its first edges. Constant.
-    pub fn truncate(&mut self, len: usize)
+    pub(crate) fn truncate(&mut self, len: usize)
         ensures { self.new ≡ take len self.old }
     {
         self.edges.truncate(len);

@@ -38,7 +38,7 @@ impl Model for EdgeChunks {
 
 impl EdgeChunks {
     /// No edges. Takes no memory.
-    pub fn new(alloc: Global) -> EdgeChunks
+    pub(crate) fn new(alloc: Global) -> EdgeChunks
         ensures { result ≡ [] }
     {
         EdgeChunks {
@@ -47,7 +47,7 @@ impl EdgeChunks {
     }
 
     /// These edges, which are in order. An error is out of memory (1). A step for each.
-    pub fn of(alloc: Global, edges: &[Edge]) -> Result<EdgeChunks, AllocError>
+    pub(crate) fn of(alloc: Global, edges: &[Edge]) -> Result<EdgeChunks, AllocError>
         requires { AreInOrder edges.now }
         ensures { IfOk result (λ all. all ≡ edges.now) }
     {
@@ -57,7 +57,7 @@ impl EdgeChunks {
     }
 
     /// Those of a character. A search by halves among the chunks, and two in one of them.
-    pub fn at(&self, id: OpId) -> &[Edge]
+    pub(crate) fn at(&self, id: OpId) -> &[Edge]
         ensures { result.now ≡ filter (λ e. is_same e.id id) self.now }
     {
         let n = chunks_to(&self.chunks, id);
@@ -70,7 +70,11 @@ impl EdgeChunks {
     /// Puts the edges of a mark operation among them. An error is out of memory (1), and leaves
     /// them as they were. Each moves at most the edges of one chunk, and if that is cut, the places
     /// of the chunks behind.
-    pub fn put_both(&mut self, start: Option<Edge>, end: Option<Edge>) -> Result<(), AllocError>
+    pub(crate) fn put_both(
+        &mut self,
+        start: Option<Edge>,
+        end: Option<Edge>,
+    ) -> Result<(), AllocError>
         ensures put { OnOk result (IsPermutation
             (option_to_list end ++ (option_to_list start ++ self.old)) self.new) }
         ensures err { OnErr result (self.new ≡ self.old) }

@@ -15,7 +15,7 @@ use std::alloc::{AllocError, Global};
 use std::cmp::Ordering;
 
 /// Of edges in order those of a character. Two searches by halves.
-pub fn at(edges: &[Edge], id: OpId) -> &[Edge]
+pub(crate) fn at(edges: &[Edge], id: OpId) -> &[Edge]
     requires { AreInOrder edges.now }
     ensures { result.now ≡ filter (λ e. is_same e.id id) edges.now }
 {
@@ -24,7 +24,7 @@ pub fn at(edges: &[Edge], id: OpId) -> &[Edge]
 }
 
 /// Whether one of these edges is an end just after its character.
-pub fn has_end_after(edges: &[Edge]) -> bool
+pub(crate) fn has_end_after(edges: &[Edge]) -> bool
     ensures { result ≡ list_any (λ e. e.is_end && e.is_after) edges.now }
 {
     edges.iter().any(|edge| edge.is_end_after())
@@ -44,7 +44,7 @@ fn bounds(edges: &[Edge], id: OpId) -> (usize, usize)
 }
 
 /// How many edges stand at characters below this one.
-pub fn below(edges: &[Edge], id: OpId) -> usize
+pub(crate) fn below(edges: &[Edge], id: OpId) -> usize
     requires { AreInOrder edges.now }
     ensures bound { result ≤ length edges.now }
     ensures place { IsPartitionPoint (λ e. is_below e.id id ≡ true)
@@ -54,7 +54,7 @@ pub fn below(edges: &[Edge], id: OpId) -> usize
 }
 
 /// How many edges don't stand at characters above this one.
-pub fn not_above(edges: &[Edge], id: OpId) -> usize
+pub(crate) fn not_above(edges: &[Edge], id: OpId) -> usize
     requires { AreInOrder edges.now }
     ensures bound { result ≤ length edges.now }
     ensures place { IsPartitionPoint (λ e. is_below id e.id ≡ false)
@@ -65,7 +65,7 @@ pub fn not_above(edges: &[Edge], id: OpId) -> usize
 
 /// The edges of these mark operations, in order and in chunks. An error is out of memory (1).
 /// Sorts them.
-pub fn edges_of(alloc: Global, markings: &[Marking]) -> Result<EdgeChunks, AllocError>
+pub(crate) fn edges_of(alloc: Global, markings: &[Marking]) -> Result<EdgeChunks, AllocError>
     ensures { IfOk result (λ edges. AreEdges markings.now edges) }
 {
     let mut edges = listed(alloc, markings)?;

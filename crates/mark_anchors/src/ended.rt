@@ -8,7 +8,7 @@ use std::alloc::{AllocError, Global};
 
 /// The characters that these mark operations end just after, in their order. An error is out of
 /// memory (1).
-pub fn listed(alloc: Global, markings: &[Marking]) -> Result<Vec<OpId>, AllocError>
+pub(crate) fn listed(alloc: Global, markings: &[Marking]) -> Result<Vec<OpId>, AllocError>
     ensures { IfOk result (λ ids. ids.items ≡ ended_of markings.now) }
 {
     let mut ids = Vec::new(alloc);
@@ -20,7 +20,7 @@ pub fn listed(alloc: Global, markings: &[Marking]) -> Result<Vec<OpId>, AllocErr
 }
 
 /// Puts the character that a mark operation ends just after behind others, where there is room.
-pub fn note(ids: &mut Vec<OpId>, end: &End)
+pub(crate) fn note(ids: &mut Vec<OpId>, end: &End)
     requires { vec_len ids.old < vec_capacity ids.old }
     ensures { ids.new.items ≡ ids.old.items ++ ended_by end.now }
 {

@@ -17,7 +17,7 @@ use std::alloc::{AllocError, Global};
 
 /// Of these mark operations those that are in force at a place. An error is out of memory (1). A
 /// search for each character that they name, as `Sequence::find` does it.
-pub fn in_force<'a>(
+pub(crate) fn in_force<'a>(
     alloc: Global,
     markings: &'a [Marking],
     place: &Place,

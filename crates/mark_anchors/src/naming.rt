@@ -47,7 +47,7 @@ impl Characters for Weave {
 }
 
 /// Refuses a mark operation that names a character that isn't there. Takes no memory.
-pub fn check_names<C: Characters>(text: &C, body: &Body) -> Result<(), SequenceError>
+pub(crate) fn check_names<C: Characters>(text: &C, body: &Body) -> Result<(), SequenceError>
     ensures unknown { (ops : List Op) (doc : ℕ) → C.are_of text.now ops doc
         → (IsErrOf result SequenceError.UnknownId ↔ NamesUnknown ops doc body.now) }
     ensures memory { IsErrOf result SequenceError.Memory → ⊥ }

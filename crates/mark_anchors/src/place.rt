@@ -39,7 +39,7 @@ pub struct Interval {
 
 impl Interval {
     /// Whether a place is one of them.
-    pub fn holds(&self, place: &Place) -> bool
+    pub(crate) fn holds(&self, place: &Place) -> bool
         ensures { result ≡ is_within self.now (number place.now) }
     {
         self.from.is_at_most(place) && !self.to.is_at_most(place)

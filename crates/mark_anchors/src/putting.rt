@@ -12,7 +12,7 @@ use std::alloc::AllocError;
 
 /// Cuts the chunk that an edge of this character goes into, if it is full. An error is out of
 /// memory (1). The edges stay, also after an error.
-pub fn make_room(chunks: &mut Vec<EdgeChunk>, id: OpId) -> Result<(), AllocError>
+pub(crate) fn make_room(chunks: &mut Vec<EdgeChunk>, id: OpId) -> Result<(), AllocError>
     requires { AreChunks chunks.old.items }
     ensures chunks { AreChunks chunks.new.items }
     ensures edges { edges_in chunks.new.items ≡ edges_in chunks.old.items }
@@ -25,7 +25,7 @@ pub fn make_room(chunks: &mut Vec<EdgeChunk>, id: OpId) -> Result<(), AllocError
 }
 
 /// Puts an edge at its spot. An error is out of memory (1), and leaves all as it was.
-pub fn put_at(chunks: &mut Vec<EdgeChunk>, spot: Spot, edge: Edge) -> Result<(), AllocError>
+pub(crate) fn put_at(chunks: &mut Vec<EdgeChunk>, spot: Spot, edge: Edge) -> Result<(), AllocError>
     requires chunks { AreChunks chunks.old.items }
     requires spot { IsSpot chunks.old.items edge.id spot }
     ensures chunks { AreChunks chunks.new.items }
@@ -47,7 +47,7 @@ pub fn put_at(chunks: &mut Vec<EdgeChunk>, spot: Spot, edge: Edge) -> Result<(),
 }
 
 /// Takes the last edge away that doesn't stand at a character above this one.
-pub fn take_last(chunks: &mut Vec<EdgeChunk>, id: OpId)
+pub(crate) fn take_last(chunks: &mut Vec<EdgeChunk>, id: OpId)
     requires { AreChunks chunks.old.items }
     ensures chunks { AreChunks chunks.new.items }
     ensures back { (e : edge.Edge) (es : List edge.Edge) → e.id ≡ id

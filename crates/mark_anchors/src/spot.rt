@@ -19,7 +19,7 @@ pub enum Spot {
 
 /// How many chunks don't begin at a character above this one: its edges are in the last of these. A
 /// search by halves.
-pub fn chunks_to(chunks: &[EdgeChunk], id: OpId) -> usize
+pub(crate) fn chunks_to(chunks: &[EdgeChunk], id: OpId) -> usize
     requires { AreChunks chunks.now }
     ensures bound { result ≤ length chunks.now }
     ensures above { AreAbove id (edges_in (drop result chunks.now)) }
@@ -32,7 +32,7 @@ pub fn chunks_to(chunks: &[EdgeChunk], id: OpId) -> usize
 /// Where an edge of a character goes: into the chunk of this character; if there is none, into one
 /// beside its place that has room, or else into a new one. So a full chunk that wasn't cut takes
 /// edges of its one character alone.
-pub fn find_spot(chunks: &[EdgeChunk], id: OpId) -> Spot
+pub(crate) fn find_spot(chunks: &[EdgeChunk], id: OpId) -> Spot
     requires { AreChunks chunks.now }
     ensures { IsSpot chunks.now id result }
 {

@@ -6,7 +6,7 @@ use op_ids::{Clock, ReplicaId};
 
 /// Whether this clock is the other one with one more operation of a replica. At most 16 steps;
 /// takes no memory.
-pub fn is_one_more(clock: &Clock, other: &Clock, replica: ReplicaId) -> bool
+pub(crate) fn is_one_more(clock: &Clock, other: &Clock, replica: ReplicaId) -> bool
     ensures { result ≡ is_same_clock clock.now (advanced other.now replica) }
 {
     are_advanced(clock.entries(), other.entries(), replica)

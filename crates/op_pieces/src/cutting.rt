@@ -34,7 +34,7 @@ pub fn cut(alloc: Global, ops: &[Op]) -> Result<Vec<Piece>, AllocError>
 }
 
 /// Whether a piece, whose last operation is this one, can have one more.
-pub fn goes_on(piece: &Piece, last: &Op, op: &Op) -> bool
+pub(crate) fn goes_on(piece: &Piece, last: &Op, op: &Op) -> bool
     requires { end_of piece.now ≡ last.now }
     ensures test { result ≡ goes_on_of piece.now last.now op.now }
     ensures valid { IsTrue result

@@ -6,7 +6,7 @@ ghost use Rattle.peer_counts.specs.Counts.{lacking};
 use op_ids::Clock;
 
 /// How many operations a clock counts in all.
-pub fn total(clock: &Clock) -> u64
+pub(crate) fn total(clock: &Clock) -> u64
     ensures { result ≡ total_of clock.now }
 {
     let mut total = 0;
@@ -17,7 +17,7 @@ pub fn total(clock: &Clock) -> u64
 }
 
 /// How many of the operations that are here a clock doesn't count.
-pub fn lacking(clock: &Clock, here: &Clock) -> u64
+pub(crate) fn lacking(clock: &Clock, here: &Clock) -> u64
     ensures { result ≡ lacking clock.now here.now }
 {
     let mut lacks = 0;

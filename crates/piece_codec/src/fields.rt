@@ -36,7 +36,7 @@ pub struct RunFront<'a> {
 }
 
 /// The origin and the character of an insert; none and NUL of another operation.
-pub fn insert_of(body: &Body) -> (Option<OpId>, char)
+pub(crate) fn insert_of(body: &Body) -> (Option<OpId>, char)
     ensures { result ≡ (origin_of body.now, value_of body.now) }
 {
     match body {
@@ -48,7 +48,7 @@ pub fn insert_of(body: &Body) -> (Option<OpId>, char)
 /// Takes what stands before the deps. `Number` (32) where the counter isn't from 1 to 2^48 - 1, or
 /// for the nil replica.
 #[tactic(auto, unfolding(crate::specs::Reading::run_head_at))]
-pub fn take_run_head(bytes: &[u8]) -> Result<(RunHead, &[u8]), CodecError>
+pub(crate) fn take_run_head(bytes: &[u8]) -> Result<(RunHead, &[u8]), CodecError>
     ensures { Reads (λ x. (x.0, x.1.now)) result (run_head_at bytes.now) }
 {
     let (doc, rest) = take_u32(bytes)?;
@@ -61,7 +61,7 @@ pub fn take_run_head(bytes: &[u8]) -> Result<(RunHead, &[u8]), CodecError>
 /// Takes what stands between the deps and the characters. `Number` (32) for the nil token, `Kind`
 /// (31) for no kind of origin.
 #[tactic(auto, unfolding(crate::specs::Reading::run_tail_at))]
-pub fn take_run_tail(has_token: bool, bytes: &[u8]) -> Result<(RunTail, &[u8]), CodecError>
+pub(crate) fn take_run_tail(has_token: bool, bytes: &[u8]) -> Result<(RunTail, &[u8]), CodecError>
     ensures { Reads (λ x. (x.0, x.1.now)) result (run_tail_at has_token bytes.now) }
 {
     match take_token(has_token, bytes) {

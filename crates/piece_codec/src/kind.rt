@@ -6,7 +6,7 @@ ghost use Rattle.piece_codec.specs.Formats.{has_runs as has_runs_of, run_named a
 use change_codec::Format;
 
 /// The first byte of a run's record: 5, and 16 more where it has a token.
-pub fn run_byte(has_token: bool) -> u8
+pub(crate) fn run_byte(has_token: bool) -> u8
     ensures { result ≡ tagged has_token 5 }
 {
     if has_token { 21 } else { 5 }
@@ -14,7 +14,7 @@ pub fn run_byte(has_token: bool) -> u8
 
 /// Whether a kind of the format is a run's: then whether that has a token.
 #[tactic(auto, unfolding(crate::specs::Formats::run_named))]
-pub fn run_named(format: Format, kind: u8) -> Option<bool>
+pub(crate) fn run_named(format: Format, kind: u8) -> Option<bool>
     ensures { result ≡ run_named_in format kind }
 {
     if kind == 5 && has_runs(format) {

@@ -15,7 +15,7 @@ use op_ids::laws::replica_is_not_nil;
 /// Whether a run can have the number of characters that its tail says, where its deps were tested:
 /// from 2 to 256, and the last operation's counter, own count and deps are in their ranges. At most
 /// 16 steps; takes no memory.
-pub fn is_count(head: &RunHead, deps: &[u8], tail: &RunTail) -> bool
+pub(crate) fn is_count(head: &RunHead, deps: &[u8], tail: &RunTail) -> bool
     requires { IsOk (deps_at deps.now) }
     ensures { result ≡ is_count_of (first_of head.now (deps_of deps.now) tail.now 0)
         tail.now.count }

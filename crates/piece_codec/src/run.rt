@@ -17,7 +17,7 @@ use std::alloc::Global;
 /// Takes the run that the fields behind the kind of its record give. All of them are tested before
 /// any memory is taken.
 #[tactic(auto, unfolding(crate::specs::Reading::run_at))]
-pub fn take_run(alloc: Global, has_token: bool, bytes: &[u8]) -> Result<Piece, CodecError>
+pub(crate) fn take_run(alloc: Global, has_token: bool, bytes: &[u8]) -> Result<Piece, CodecError>
     ensures { Gives (λ p. p) result (run_at has_token bytes.now) }
 {
     match take_run_head(bytes) {

@@ -11,7 +11,7 @@ use std::alloc::Global;
 
 /// Puts the number of characters, a first one and others, and each of them.
 #[tactic(auto, unfolding(crate::specs::Spelling::text_bytes))]
-pub fn put_text(first: char, others: &[char], out: &mut Vec<u8>)
+pub(crate) fn put_text(first: char, others: &[char], out: &mut Vec<u8>)
     requires few { length others.now < 256 }
     requires room { HasRoom out.old (text_bytes (first ∷ others.now)) }
     ensures { Appends out.old out.new (text_bytes (first ∷ others.now)) }
@@ -42,7 +42,11 @@ fn put_scalars(values: &[char], out: &mut Vec<u8>)
 /// Unicode scalar value; `Length` (30) where the bytes end before the last one, and where bytes are
 /// left behind it; the first fault decides. `Memory` (1) may only stand in place of characters. Two
 /// passes; memory for all of them is reserved once.
-pub fn take_text(alloc: Global, others: u16, bytes: &[u8]) -> Result<(char, Vec<char>), CodecError>
+pub(crate) fn take_text(
+    alloc: Global,
+    others: u16,
+    bytes: &[u8],
+) -> Result<(char, Vec<char>), CodecError>
     ensures { Gives (λ x. (x.0, x.1.items)) result (text_at others bytes.now) }
 {
     test_text(others, bytes)?;

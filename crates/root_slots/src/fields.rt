@@ -21,7 +21,7 @@ const THIRD: u64 = 0x5054_5854_5047_3033;
 
 /// What a body begins with whose stream is of this format: `PTXTPG01` to `PTXTPG03`, read as a
 /// number.
-pub fn magic(format: Format) -> u64
+pub(crate) fn magic(format: Format) -> u64
     ensures { result ≡ magic format }
 {
     match format {
@@ -62,7 +62,7 @@ pub fn tables_for(stream_length: u64) -> u64
 /// Whether the numbers before those of the table pages lie in their ranges, and there are as many
 /// table pages as the stream needs. Takes no memory.
 #[tactic(auto, unfolding(crate::specs::Head::is_head))]
-pub fn is_head(body: &[u8]) -> bool
+pub(crate) fn is_head(body: &[u8]) -> bool
     ensures { result ≡ is_head body.now }
 {
     body.len() == BODY_LENGTH
@@ -93,7 +93,7 @@ fn are_counts(stream_length: u64, operations: u64, tables: u32, gap: u32) -> boo
 }
 
 /// The format of the stream, as the magic of a body says.
-pub fn format_at(body: &[u8]) -> Format
+pub(crate) fn format_at(body: &[u8]) -> Format
     requires { 8 ≤ length body.now }
     ensures { result ≡ format_of body.now }
 {
@@ -101,7 +101,7 @@ pub fn format_at(body: &[u8]) -> Format
 }
 
 /// The replica of a body whose replica isn't nil.
-pub fn replica_at(body: &[u8]) -> ReplicaId
+pub(crate) fn replica_at(body: &[u8]) -> ReplicaId
     requires long { 32 ≤ length body.now }
     requires not_nil { 1 ≤ replica_of body.now }
     ensures { result ≡ replica_of body.now }
@@ -112,7 +112,7 @@ pub fn replica_at(body: &[u8]) -> ReplicaId
 }
 
 /// The number of four bytes at this place.
-pub fn u32_at(body: &[u8], at: usize) -> u32
+pub(crate) fn u32_at(body: &[u8], at: usize) -> u32
     requires { at + 4 ≤ length body.now }
     ensures { result ≡ from_be_bytes w32 (part body.now at 4) }
 {
@@ -122,7 +122,7 @@ pub fn u32_at(body: &[u8], at: usize) -> u32
 }
 
 /// The number of eight bytes at this place.
-pub fn u64_at(body: &[u8], at: usize) -> u64
+pub(crate) fn u64_at(body: &[u8], at: usize) -> u64
     requires { at + 8 ≤ length body.now }
     ensures { result ≡ from_be_bytes w64 (part body.now at 8) }
 {
@@ -132,7 +132,7 @@ pub fn u64_at(body: &[u8], at: usize) -> u64
 }
 
 /// The number of sixteen bytes at this place.
-pub fn u128_at(body: &[u8], at: usize) -> u128
+pub(crate) fn u128_at(body: &[u8], at: usize) -> u128
     requires { at + 16 ≤ length body.now }
     ensures { result ≡ from_be_bytes w128 (part body.now at 16) }
 {

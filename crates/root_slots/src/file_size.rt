@@ -8,7 +8,7 @@ use crate::error::RootsError;
 use disk_trait::Disk;
 
 /// The size of the file. It is refused only where the device failed (50).
-pub fn size_of<D: Disk>(disk: &mut D) -> Result<u64, RootsError>
+pub(crate) fn size_of<D: Disk>(disk: &mut D) -> Result<u64, RootsError>
     ensures size { D.tells disk.old → IfOk result (λ n. n ≡ length (D.content disk.old)) }
     ensures looks { IsLookedAt D.DiskFacts (failed_in result) 0 disk.old disk.new }
     ensures refused { IfErr result (λ e. e ≡ ReadFailed) }

@@ -107,7 +107,7 @@ fn root_of(alloc: Global, body: &[u8]) -> Result<RootBody, RootsError>
 
 /// The live slot and what it says, of the bytes of both slots. 42 where none is open; 43 where two
 /// are with equal versions, or the live one holds no root body; 1 when out of memory.
-pub fn live_root(alloc: Global, slots: &[u8]) -> Result<Live, RootsError>
+pub(crate) fn live_root(alloc: Global, slots: &[u8]) -> Result<Live, RootsError>
     requires { length slots.now ≡ SLOTS_SIZE }
     ensures found { IfOk result (λ it. IsLive slots.now it.slot it.stale_open it.root) }
     ensures valid { IfOk result (λ it. IsRoot it.root) }

@@ -11,7 +11,7 @@ use std::alloc::{AllocError, Global};
 
 /// The 4,088 bytes of a root with this head and these table pages. One allocation; an error is out
 /// of memory (1).
-pub fn spelled(alloc: Global, head: &RootHead, tables: &[u32]) -> Result<Vec<u8>, AllocError>
+pub(crate) fn spelled(alloc: Global, head: &RootHead, tables: &[u32]) -> Result<Vec<u8>, AllocError>
     requires { IsRoot (root_with head.now tables.now) }
     ensures bytes { IfOk result (λ body. body.items
         ≡ body_bytes (root_with head.now tables.now)) }

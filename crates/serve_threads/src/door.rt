@@ -27,7 +27,7 @@ pub(crate) struct Door {
 
 impl Door {
     /// A door with this listener.
-    pub fn new(listener: TcpListener) -> io::Result<Door> {
+    pub(crate) fn new(listener: TcpListener) -> io::Result<Door> {
         let copy = TcpStream::from(OwnedFd::from(listener.try_clone()?));
         Ok(Door {
             listener,
@@ -37,23 +37,23 @@ impl Door {
     }
 
     /// The listener.
-    pub fn listener(&self) -> &TcpListener {
+    pub(crate) fn listener(&self) -> &TcpListener {
         &self.listener
     }
 
     /// Notes that nobody accepts connections here any more.
-    pub fn note_left<R: Wait>(&self, rt: &R) {
+    pub(crate) fn note_left<R: Wait>(&self, rt: &R) {
         *self.is_left.lock(rt) = true;
     }
 
     /// Ends the wait of the one who accepts connections here, and refuses all further ones.
-    pub fn shut(&self) {
+    pub(crate) fn shut(&self) {
         let _ = self.copy.shutdown(Shutdown::Both);
     }
 
     /// Ends the wait of the one who accepts connections here: for a renewal by connections that
     /// say nothing, until one is noticed, so that the socket goes on listening; else for good.
-    pub fn leave<R: Wait + Clock + Net<Listener = TcpListener, Stream = TcpStream>>(
+    pub(crate) fn leave<R: Wait + Clock + Net<Listener = TcpListener, Stream = TcpStream>>(
         &self,
         rt: &R,
         ending: &Ending,
@@ -80,7 +80,7 @@ impl Door {
     }
 
     /// The listener alone.
-    pub fn into_listener(self) -> TcpListener {
+    pub(crate) fn into_listener(self) -> TcpListener {
         let Door { listener, .. } = self;
         listener
     }

@@ -18,7 +18,7 @@ pub(crate) struct Doors {
 impl Doors {
     /// The doors with these listeners. An error where the system has no more descriptors for a
     /// connection: nobody could ever be let in.
-    pub fn new(
+    pub(crate) fn new(
         sessions: TcpListener,
         peers: TcpListener,
         web: Option<TcpListener>,
@@ -40,7 +40,7 @@ impl Doors {
     }
 
     /// Ends the waits of those who accept connections, and refuses all further ones.
-    pub fn shut(&self) {
+    pub(crate) fn shut(&self) {
         self.sessions.shut();
         self.peers.shut();
         if let Some(web) = &self.web {
@@ -50,7 +50,7 @@ impl Doors {
 
     /// Ends the waits of those who accept connections. For a renewal the sockets go on listening,
     /// so whoever comes meanwhile waits there for the next turn.
-    pub fn leave<R: Wait + Clock + Net<Listener = TcpListener, Stream = TcpStream>>(
+    pub(crate) fn leave<R: Wait + Clock + Net<Listener = TcpListener, Stream = TcpStream>>(
         &self,
         rt: &R,
         ending: &Ending,
@@ -63,7 +63,7 @@ impl Doors {
     }
 
     /// The listeners, for sessions, for peers and for WebSockets.
-    pub fn into_listeners(self) -> (TcpListener, TcpListener, Option<TcpListener>) {
+    pub(crate) fn into_listeners(self) -> (TcpListener, TcpListener, Option<TcpListener>) {
         let Doors {
             sessions,
             peers,

@@ -57,7 +57,7 @@ pub(crate) struct Hall<'a, R: Wait, J: BookNames, C: Checkpoint> {
 impl<'a, R: Wait, J: BookNames, C: Checkpoint> Hall<'a, R, J, C> {
     /// Nobody is connected yet. A place is kept for the link that the daemon joins, where it joins
     /// one. An error is out of memory (1).
-    pub fn new(
+    pub(crate) fn new(
         base: Base<'a, R, C>,
         own: ReplicaId,
         named: Named<J>,
@@ -94,7 +94,7 @@ impl<'a, R: Wait, J: BookNames, C: Checkpoint> Hall<'a, R, J, C> {
     }
 
     /// What the desks of sessions share of this.
-    pub fn daemon(&'a self) -> Daemon<'a, R, J, C> {
+    pub(crate) fn daemon(&'a self) -> Daemon<'a, R, J, C> {
         Daemon {
             rt: self.rt,
             shared: &self.shared,
@@ -105,7 +105,7 @@ impl<'a, R: Wait, J: BookNames, C: Checkpoint> Hall<'a, R, J, C> {
     }
 
     /// What a link at this place is served with.
-    pub fn link_host(&'a self, place: LinkPlace) -> LinkHost<'a, R, J, C> {
+    pub(crate) fn link_host(&'a self, place: LinkPlace) -> LinkHost<'a, R, J, C> {
         LinkHost {
             rt: self.rt,
             alloc: self.alloc,
@@ -120,7 +120,7 @@ impl<'a, R: Wait, J: BookNames, C: Checkpoint> Hall<'a, R, J, C> {
     }
 
     /// Tells of an event, if anybody is to be told.
-    pub fn tell(&self, event: &Event<'_>) {
+    pub(crate) fn tell(&self, event: &Event<'_>) {
         if let Some(journal) = self.manner.journal {
             journal.tell(self.rt, event);
         }
@@ -128,19 +128,19 @@ impl<'a, R: Wait, J: BookNames, C: Checkpoint> Hall<'a, R, J, C> {
 
     /// Whether the file is to be opened anew. One that was put back isn't: it takes no edit in this
     /// process any more.
-    pub fn is_renewed(&self) -> bool {
+    pub(crate) fn is_renewed(&self) -> bool {
         self.ending.asked(self.rt) == Some(End::Renewal) && !self.shared.are_links_over(self.rt)
     }
 
     /// The locked part of the hub, once no thread shares it.
-    pub fn into_locked(self) -> Locked {
+    pub(crate) fn into_locked(self) -> Locked {
         let Hall { shared, .. } = self;
         shared.end().into_locked()
     }
 
     /// Lets a connection in, and gives its lobby and its entry; not where all places are taken. A
     /// WebSocket can be told that only once its request was read and answered.
-    pub fn enter(&self, kind: Kind, stream: &TcpStream) -> Option<(&Lobby<J>, Entry)> {
+    pub(crate) fn enter(&self, kind: Kind, stream: &TcpStream) -> Option<(&Lobby<J>, Entry)> {
         let lobby = match kind {
             Kind::Session | Kind::Web => &self.sessions,
             Kind::Link => &self.links,

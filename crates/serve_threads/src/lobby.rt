@@ -39,13 +39,13 @@ struct Connected {
 
 impl<J: BookNames> Lobby<J> {
     /// Nobody is connected. An error is out of memory (1).
-    pub fn new(alloc: Global, passes: Vec<Pass<J>>) -> Result<Lobby<J>, AllocError> {
+    pub(crate) fn new(alloc: Global, passes: Vec<Pass<J>>) -> Result<Lobby<J>, AllocError> {
         let places = passes.len();
         Lobby::with_places(alloc, passes, places)
     }
 
     /// Nobody is connected, and nobody will get a pass: so many are told that at once.
-    pub fn without_passes(alloc: Global, places: usize) -> Result<Lobby<J>, AllocError> {
+    pub(crate) fn without_passes(alloc: Global, places: usize) -> Result<Lobby<J>, AllocError> {
         Lobby::with_places(alloc, Vec::new(alloc), places)
     }
 
@@ -68,59 +68,59 @@ impl<J: BookNames> Lobby<J> {
     }
 
     /// Lets a connection in, and gives its entry; not where all places are taken.
-    pub fn enter<R: Wait>(&self, rt: &R, socket: &TcpStream) -> Option<Entry> {
+    pub(crate) fn enter<R: Wait>(&self, rt: &R, socket: &TcpStream) -> Option<Entry> {
         let socket = socket.try_clone().ok()?;
         self.inside.lock(rt).enter(socket)
     }
 
     /// A pass, for a connection that is in.
-    pub fn take_pass<R: Wait>(&self, rt: &R) -> Option<Pass<J>> {
+    pub(crate) fn take_pass<R: Wait>(&self, rt: &R) -> Option<Pass<J>> {
         self.inside.lock(rt).passes.pop()
     }
 
     /// Shuts a connection, and gives its place and its pass back.
-    pub fn leave<R: Wait>(&self, rt: &R, entry: Entry, pass: Option<Pass<J>>) {
+    pub(crate) fn leave<R: Wait>(&self, rt: &R, entry: Entry, pass: Option<Pass<J>>) {
         self.inside.lock(rt).leave(entry, pass);
         self.left.notify_all();
     }
 
     /// Shuts a connection for which there is no thread, a session with the answer 8, and gives its
     /// place back.
-    pub fn turn_away<R: Wait>(&self, rt: &R, entry: Entry, kind: Kind) {
+    pub(crate) fn turn_away<R: Wait>(&self, rt: &R, entry: Entry, kind: Kind) {
         self.inside.lock(rt).refuse(entry, kind);
         self.leave(rt, entry, None);
     }
 
     /// Notes that a thread reads from a connection, unless nobody is served any more: answers
     /// whether it may.
-    pub fn begin_reading<R: Wait>(&self, rt: &R, entry: Entry) -> bool {
+    pub(crate) fn begin_reading<R: Wait>(&self, rt: &R, entry: Entry) -> bool {
         let mut inside = self.inside.lock(rt);
         inside.note_reading(entry, true);
         !inside.is_closed
     }
 
     /// Notes that a thread has read from a connection.
-    pub fn end_reading<R: Wait>(&self, rt: &R, entry: Entry) {
+    pub(crate) fn end_reading<R: Wait>(&self, rt: &R, entry: Entry) {
         self.inside.lock(rt).note_reading(entry, false);
     }
 
     /// Lets nobody in any more, and ends the waits of those who read. Others find out when they
     /// read next: of them something may be unread, which is to be dropped before they are shut.
-    pub fn close<R: Wait>(&self, rt: &R) {
+    pub(crate) fn close<R: Wait>(&self, rt: &R) {
         let mut inside = self.inside.lock(rt);
         inside.is_closed = true;
         inside.end_waits();
     }
 
     /// Lets nobody in any more, and ends all that is read.
-    pub fn close_at_once<R: Wait>(&self, rt: &R) {
+    pub(crate) fn close_at_once<R: Wait>(&self, rt: &R) {
         let mut inside = self.inside.lock(rt);
         inside.is_closed = true;
         inside.shut(Shutdown::Read);
     }
 
     /// Waits until nobody is connected, at most so long, and then shuts what is left.
-    pub fn clear<R: Wait + Clock>(&self, rt: &R, time: Duration) {
+    pub(crate) fn clear<R: Wait + Clock>(&self, rt: &R, time: Duration) {
         let guard = self.inside.lock(rt);
         let (guard, _) = self
             .left

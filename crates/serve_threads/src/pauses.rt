@@ -35,7 +35,7 @@ pub(crate) struct Pauses {
 
 impl Pauses {
     /// No pause so far.
-    pub fn new() -> Pauses {
+    pub(crate) fn new() -> Pauses {
         Pauses {
             absence: 0,
             no_use: 0,
@@ -43,7 +43,7 @@ impl Pauses {
     }
 
     /// The pause behind this outcome, in milliseconds.
-    pub fn behind(&mut self, outcome: Outcome) -> u64 {
+    pub(crate) fn behind(&mut self, outcome: Outcome) -> u64 {
         match outcome {
             Outcome::OfUse => {
                 self.absence = 0;

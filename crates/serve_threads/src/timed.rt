@@ -27,7 +27,7 @@ struct Limit {
 
 impl<'a, R: Clock> Timed<'a, R> {
     /// A connection whose reads take as long as the other end does.
-    pub fn new(rt: &'a R, stream: &'a TcpStream) -> Timed<'a, R> {
+    pub(crate) fn new(rt: &'a R, stream: &'a TcpStream) -> Timed<'a, R> {
         Timed {
             rt,
             stream,
@@ -37,7 +37,7 @@ impl<'a, R: Clock> Timed<'a, R> {
 
     /// From now on reads have so much time in all, and then fail (`TimedOut`); a write that is made
     /// meanwhile waits so long at most.
-    pub fn begin(&self, time: Duration) {
+    pub(crate) fn begin(&self, time: Duration) {
         if let Ok(began) = Instant::now(self.rt) {
             self.limit.set(Some(Limit { began, time }));
         }
@@ -45,7 +45,7 @@ impl<'a, R: Clock> Timed<'a, R> {
     }
 
     /// Reads and writes take as long as the other end does.
-    pub fn end(&self) {
+    pub(crate) fn end(&self) {
         self.limit.set(None);
         let _ = self.stream.set_read_timeout(None);
         let _ = self.stream.set_write_timeout(None);

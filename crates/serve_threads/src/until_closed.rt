@@ -18,7 +18,7 @@ pub(crate) struct UntilClosed<'a, R: Wait, J: BookNames, S: Read> {
 
 impl<'a, R: Wait, J: BookNames, S: Read> UntilClosed<'a, R, J, S> {
     /// A reader of the connection with this entry.
-    pub fn new(
+    pub(crate) fn new(
         rt: &'a R,
         lobby: &'a Lobby<J>,
         entry: Entry,

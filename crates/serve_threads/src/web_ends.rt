@@ -21,7 +21,7 @@ pub(crate) struct WebLines<'a, S> {
 
 impl<'a, S: Read + Write + Drop> WebLines<'a, S> {
     /// The lines that come over a stream of which nothing was read since its handshake.
-    pub fn new(alloc: Global, stream: S, is_closed: &'a Cell<bool>) -> WebLines<'a, S> {
+    pub(crate) fn new(alloc: Global, stream: S, is_closed: &'a Cell<bool>) -> WebLines<'a, S> {
         WebLines {
             lines: MessageLines::new(alloc, stream),
             is_closed,
@@ -48,7 +48,7 @@ pub(crate) struct WebAnswers<'a, S> {
 
 impl<'a, S: Read + Write + Drop> WebAnswers<'a, S> {
     /// Answers over the stream from which the lines come.
-    pub fn new(alloc: Global, stream: S, is_closed: &'a Cell<bool>) -> WebAnswers<'a, S> {
+    pub(crate) fn new(alloc: Global, stream: S, is_closed: &'a Cell<bool>) -> WebAnswers<'a, S> {
         WebAnswers {
             answers: AnswerMessages::new(alloc, stream),
             is_closed,

@@ -14,7 +14,7 @@ use std::alloc::{AllocError, Global};
 /// Whether the operations, and then those made, keep the limits of a store. The clock counts all of
 /// them. An error is out of memory (1).
 #[tactic(auto, using(model_laws::proofs::Limits::parts))]
-pub fn is_within_limits(
+pub(crate) fn is_within_limits(
     alloc: Global,
     ops: &[Op],
     made: &[Op],

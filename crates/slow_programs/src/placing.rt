@@ -10,7 +10,7 @@ use op_ids::OpId;
 use op_model::{Anchor, Body, Character, End, Op};
 
 /// Whether some mark operation of the document ends just after this character.
-pub fn ends_after(ops: &[Op], doc: u32, id: &OpId) -> bool
+pub(crate) fn ends_after(ops: &[Op], doc: u32, id: &OpId) -> bool
     ensures { result ≡ ends_after_in ops.now doc id.now }
 {
     ops.iter()
@@ -37,7 +37,7 @@ fn is_just_after(end: &End, id: &OpId) -> bool
 }
 
 /// The id of the character at an index.
-pub fn id_at(characters: &[Character], index: usize) -> Option<OpId>
+pub(crate) fn id_at(characters: &[Character], index: usize) -> Option<OpId>
     ensures { result ≡ id_at_in characters.now index }
 {
     match characters.get(index) {
@@ -47,7 +47,7 @@ pub fn id_at(characters: &[Character], index: usize) -> Option<OpId>
 }
 
 /// The id of the last of the first `count` characters.
-pub fn id_before(characters: &[Character], count: usize) -> Option<OpId>
+pub(crate) fn id_before(characters: &[Character], count: usize) -> Option<OpId>
     ensures { result ≡ id_before_in characters.now count }
 {
     if count == 0 {
@@ -58,7 +58,7 @@ pub fn id_before(characters: &[Character], count: usize) -> Option<OpId>
 
 /// How many characters are up to and with `count` visible ones: what stands behind them begins
 /// there.
-pub fn behind(ops: &[Op], doc: u32, walked: &[Character], count: usize) -> usize
+pub(crate) fn behind(ops: &[Op], doc: u32, walked: &[Character], count: usize) -> usize
     ensures within { result ≤ length walked.now }
     ensures rest { drop result walked.now
         ≡ behind_visible (is_removed_in ops.now doc) count walked.now }

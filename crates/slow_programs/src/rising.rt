@@ -6,7 +6,7 @@ use op_model::CommentId;
 use std::alloc::AllocError;
 
 /// Puts a comment into a rising list, if it isn't there. An error is out of memory (1). Linear.
-pub fn insert_rising(ids: &mut Vec<CommentId>, id: CommentId) -> Result<(), AllocError>
+pub(crate) fn insert_rising(ids: &mut Vec<CommentId>, id: CommentId) -> Result<(), AllocError>
     ensures { OnOk result (ids.new.items ≡ with_number id ids.old.items) }
 {
     if let Some(at) = place(ids, id) {

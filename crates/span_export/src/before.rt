@@ -24,42 +24,42 @@ pub enum Before {
 
 impl Before {
     /// Whether nothing of the line stands there.
-    pub fn is_line_start(self) -> bool
+    pub(crate) fn is_line_start(self) -> bool
         ensures { result ≡ is_line_start self }
     {
         matches!(self, Before::LineStart)
     }
 
     /// Whether digits stand there, and nothing else of the line.
-    pub fn is_digits(self) -> bool
+    pub(crate) fn is_digits(self) -> bool
         ensures { result ≡ is_digits self }
     {
         matches!(self, Before::Digits)
     }
 
     /// Whether emphasis ended there after a character that is no letter.
-    pub fn is_sign_end(self) -> bool
+    pub(crate) fn is_sign_end(self) -> bool
         ensures { result ≡ is_sign_end self }
     {
         matches!(self, Before::SignEnd)
     }
 
     /// Whether emphasis ended there.
-    pub fn is_end(self) -> bool
+    pub(crate) fn is_end(self) -> bool
         ensures { result ≡ is_end self }
     {
         matches!(self, Before::LetterEnd | Before::SignEnd)
     }
 
     /// Whether text stands there that is no space.
-    pub fn is_text(self) -> bool
+    pub(crate) fn is_text(self) -> bool
         ensures { result ≡ is_text self }
     {
         matches!(self, Before::Digits | Before::Word)
     }
 
     /// Whether white space stands there, which would be lost at the end.
-    pub fn is_loose(self) -> bool
+    pub(crate) fn is_loose(self) -> bool
         ensures { result ≡ is_loose self }
     {
         matches!(self, Before::LineStart | Before::Space)

@@ -31,7 +31,7 @@ fn put_open_comment(id: CommentId, out: &mut Vec<u8>) -> Result<(), AllocError>
 }
 
 /// Puts the tags that begin comments.
-pub fn put_open_comments(ids: &[CommentId], out: &mut Vec<u8>) -> Result<(), AllocError>
+pub(crate) fn put_open_comments(ids: &[CommentId], out: &mut Vec<u8>) -> Result<(), AllocError>
     ensures { Puts result out.old out.new (flat_map open_comment ids.now) }
 {
     for id in ids {
@@ -41,7 +41,7 @@ pub fn put_open_comments(ids: &[CommentId], out: &mut Vec<u8>) -> Result<(), All
 }
 
 /// Puts the tags that end comments.
-pub fn put_close_comments(ids: &[CommentId], out: &mut Vec<u8>) -> Result<(), AllocError>
+pub(crate) fn put_close_comments(ids: &[CommentId], out: &mut Vec<u8>) -> Result<(), AllocError>
     ensures { Puts result out.old out.new (flat_map close_comment ids.now) }
 {
     for _id in ids {

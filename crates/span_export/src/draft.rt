@@ -30,7 +30,7 @@ impl Model for Draft {
 
 impl Draft {
     /// Nothing written yet.
-    pub fn new(alloc: Global) -> Draft
+    pub(crate) fn new(alloc: Global) -> Draft
         ensures { result ≡ blank }
     {
         Draft {
@@ -40,14 +40,14 @@ impl Draft {
     }
 
     /// What stands before the next byte.
-    pub fn before(&self) -> Before
+    pub(crate) fn before(&self) -> Before
         ensures { result ≡ self.now.before }
     {
         self.before
     }
 
     /// Writes bytes, after which this stands before the next one.
-    pub fn write(&mut self, bytes: &[u8], before: Before) -> Result<(), AllocError>
+    pub(crate) fn write(&mut self, bytes: &[u8], before: Before) -> Result<(), AllocError>
         ensures { OnOk result (self.new ≡ wrote bytes.now before self.old) }
     {
         self.out.extend_from_slice(bytes)?;
@@ -56,7 +56,7 @@ impl Draft {
     }
 
     /// Writes bytes, where it is wanted after the separator.
-    pub fn write_apart(
+    pub(crate) fn write_apart(
         &mut self,
         apart: bool,
         bytes: &[u8],
@@ -74,7 +74,7 @@ impl Draft {
     }
 
     /// The text with its end.
-    pub fn finish(self) -> Result<Vec<u8>, AllocError>
+    pub(crate) fn finish(self) -> Result<Vec<u8>, AllocError>
         ensures { IfOk result (λ page. page.items ≡ finished self) }
     {
         let Draft { mut out, before } = self;

@@ -96,7 +96,7 @@ fn add_body(marks: &[u8], body: &[char], draft: &mut Draft) -> Result<(), AllocE
 
 /// Writes text between stars, outside of which stands the white space at its ends: stars beside
 /// white space would begin and end no emphasis.
-pub fn add_starred(marks: &[u8], text: &[char], draft: &mut Draft) -> Result<(), AllocError>
+pub(crate) fn add_starred(marks: &[u8], text: &[char], draft: &mut Draft) -> Result<(), AllocError>
     ensures { OnOk result (draft.new ≡ add_starred marks.now text.now draft.old) }
 {
     let (body, trailing) = text.split_at(end_of(text));

@@ -16,7 +16,7 @@ use std::alloc::{AllocError, Global};
 /// scheme, `http`, `https` or `mailto`; any other is shown as text alone), and for each comment a
 /// `<span data-comment>` with its UUID. White space is shown as it stands. An error is out of
 /// memory (1). The time is that of the page's length.
-pub fn html(alloc: Global, spans: &[Span]) -> Result<Vec<u8>, AllocError>
+pub(crate) fn html(alloc: Global, spans: &[Span]) -> Result<Vec<u8>, AllocError>
     ensures page { IfOk result (λ page. page.items ≡ html_page spans.now) }
     ensures shows { IfOk result (λ page.
         read_html text page.items ≡ text_of spans.now ++ codes "\n") }

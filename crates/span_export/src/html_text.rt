@@ -23,7 +23,7 @@ fn put_html_byte(byte: u8, out: &mut Vec<u8>) -> Result<(), AllocError>
 }
 
 /// Puts bytes of UTF-8 as they stand in HTML.
-pub fn put_html_text(bytes: &[u8], out: &mut Vec<u8>) -> Result<(), AllocError>
+pub(crate) fn put_html_text(bytes: &[u8], out: &mut Vec<u8>) -> Result<(), AllocError>
     ensures { Puts result out.old out.new (html_text bytes.now) }
 {
     for byte in bytes {
@@ -33,7 +33,7 @@ pub fn put_html_text(bytes: &[u8], out: &mut Vec<u8>) -> Result<(), AllocError>
 }
 
 /// Puts characters as they stand in HTML.
-pub fn put_html_characters(characters: &[char], out: &mut Vec<u8>) -> Result<(), AllocError>
+pub(crate) fn put_html_characters(characters: &[char], out: &mut Vec<u8>) -> Result<(), AllocError>
     ensures { Puts result out.old out.new (html_text (encode_utf8_all characters.now)) }
 {
     let mut bytes = [0; 4];

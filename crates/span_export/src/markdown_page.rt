@@ -24,7 +24,7 @@ use std::alloc::{AllocError, Global};
 /// line. White space at the ends of a span stands outside of its stars, and an empty tag keeps
 /// apart stars that would run together. An error is out of memory (1). The time is that of the
 /// page's length.
-pub fn markdown(alloc: Global, spans: &[Span]) -> Result<Vec<u8>, AllocError>
+pub(crate) fn markdown(alloc: Global, spans: &[Span]) -> Result<Vec<u8>, AllocError>
     ensures page { IfOk result (λ page. page.items ≡ markdown_page spans.now) }
     ensures shows { IfOk result (λ page.
         read_markdown plain page.items ≡ text_of spans.now ++ codes "\n") }

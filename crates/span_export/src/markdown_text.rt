@@ -93,7 +93,7 @@ fn add_bytes(bytes: &[u8], draft: &mut Draft) -> Result<(), AllocError>
 }
 
 /// Writes characters as they stand in Markdown.
-pub fn add_characters(characters: &[char], draft: &mut Draft) -> Result<(), AllocError>
+pub(crate) fn add_characters(characters: &[char], draft: &mut Draft) -> Result<(), AllocError>
     ensures { OnOk result (draft.new ≡ add_characters characters.now draft.old) }
 {
     let mut bytes = [0; 4];

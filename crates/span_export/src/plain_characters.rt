@@ -9,7 +9,7 @@ use std::alloc::{AllocError, Global};
 
 /// The characters of spans, as UTF-8, and nothing else. An error is out of memory (1). The time is
 /// that of the text's length.
-pub fn plain_text(alloc: Global, spans: &[Span]) -> Result<Vec<u8>, AllocError>
+pub(crate) fn plain_text(alloc: Global, spans: &[Span]) -> Result<Vec<u8>, AllocError>
     ensures { IfOk result (λ text. text.items ≡ text_of spans.now) }
 {
     let mut out = Vec::new(alloc);

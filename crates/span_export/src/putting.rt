@@ -4,14 +4,14 @@ ghost use Rattle.span_export.specs.Putting.{Puts, if_wanted};
 use std::alloc::AllocError;
 
 /// Puts bytes after what is there.
-pub fn put(bytes: &[u8], out: &mut Vec<u8>) -> Result<(), AllocError>
+pub(crate) fn put(bytes: &[u8], out: &mut Vec<u8>) -> Result<(), AllocError>
     ensures { Puts result out.old out.new bytes.now }
 {
     out.extend_from_slice(bytes)
 }
 
 /// Puts bytes after what is there, where they are wanted.
-pub fn put_if(wanted: bool, bytes: &[u8], out: &mut Vec<u8>) -> Result<(), AllocError>
+pub(crate) fn put_if(wanted: bool, bytes: &[u8], out: &mut Vec<u8>) -> Result<(), AllocError>
     ensures { Puts result out.old out.new (if_wanted wanted bytes.now) }
 {
     if wanted { put(bytes, out) } else { Ok(()) }

@@ -39,7 +39,7 @@ fn is_name(name: &[u8], other: &[u8]) -> bool
 
 /// Whether a link may lead to this address: it has no scheme, or `http`, `https` or `mailto`.
 /// Others, `javascript` among them, could be run as a program by whoever opens them.
-pub fn is_tame(address: &str) -> bool
+pub(crate) fn is_tame(address: &str) -> bool
     ensures { result ≡ is_tame address.now }
 {
     match scheme(address.as_bytes()) {
