@@ -49,9 +49,10 @@ def mark(op, first, last, kind, **more):
     return op, 1, {"from": first, "to": last, "kind": kind, **more}
 
 
-# The places are such as have the same names however many operations of a peer came before: an own id counts on from those.
+# The places are such as have the same names however many operations of a peer came before: an own id counts on from those. What changed is told
+# from the beginning, which a program that is started again can tell too.
 READS = [
-    line(op="text", doc=1), line(op="spans", doc=1), line(op="anchors", doc=1, at=[0] * 100, side="previous"),
+    line(op="text", doc=1), line(op="spans", doc=1), line(op="changes", doc=1, since=0), line(op="anchors", doc=1, at=[0] * 100, side="previous"),
     line(op="places", doc=1, anchors=["end", f"a2@{REPLICA[:-1]}9"] * 50),
 ]
 SHORT = edits(

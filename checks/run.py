@@ -6,6 +6,7 @@ import tempfile
 import time
 
 import backups
+import changes
 import crafted
 import damage
 import device_calls
@@ -51,8 +52,8 @@ from program import Checks
 LIMIT = 600
 GROUPS = (
     words, sentences, documents, terminal, examples, exports, long_texts, streams, locks, lost_files, full_disk, ending, crafted, formats, long_runs,
-    damage, each_byte, kills, device_calls, tokens, typed_memory, memory, serving, served_limits, journal, web_pages, last_place, peers, places, watching,
-    web_sockets, parting, put_back, backups, parted_files, idle_links, rude, noise, worst, session_memory, renewal,
+    damage, each_byte, kills, device_calls, tokens, typed_memory, memory, serving, served_limits, journal, web_pages, last_place, peers, places, changes,
+    watching, web_sockets, parting, put_back, backups, parted_files, idle_links, rude, noise, worst, session_memory, renewal,
 )
 
 

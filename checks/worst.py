@@ -89,7 +89,7 @@ def check_marks(checks, daemon, talk):
 
 
 def check_bound(checks, daemon, talk):
-    """Comments that spans would list more than 1,048,576 times: the spans are refused, and all else goes on."""
+    """Comments that spans and changes would list more than 1,048,576 times: these are refused, and all else goes on."""
     first = 3 * OVER + 1
     records = typed(MARKS, BEYOND, BOUNDED, first=first, known=first - 1)
     for k in range(BEYOND):
@@ -98,6 +98,11 @@ def check_bound(checks, daemon, talk):
         records.append(record(ADD_MARK, MARKS, known + 1, mark, [(MARKS, known)], BOUNDED))
     tell(daemon, talk, MARKS, records, BOUNDED, 2 * BEYOND)
     checks.same("spans beyond their bound", talk.ask(line(op="spans", doc=BOUNDED)), {"code": 1, "error": "memory", "ok": False})
+    for since in (0, BEYOND):
+        changes = talk.ask(line(op="changes", doc=BOUNDED, since=since))
+        checks.same(f"changes beyond it since {since}", changes, {"code": 1, "error": "memory", "ok": False})
+    few = talk.ask(line(op="changes", doc=BOUNDED, since=2 * BEYOND - 1))
+    checks.holds("changes by the last comment alone", few["ok"] and len(few["changes"]) <= 2)
     checks.same("the text of that document", text(talk, BOUNDED), letters(BEYOND))
     checks.same("an edit of that document", talk.ask(insert(0, "x", BOUNDED)), {"ok": True, "rev": 2 * BEYOND + 1})
 

@@ -57,6 +57,11 @@ function isNumber(value) {
 }
 
 /** @param {unknown} value */
+function isCount(value) {
+  return isNumber(value) && /** @type {number} */ (value) > 0;
+}
+
+/** @param {unknown} value */
 function isText(value) {
   return typeof value === "string";
 }
@@ -93,10 +98,51 @@ function isPeer(value) {
 
 /** @param {any} value */
 function isSpan(value) {
-  return isObject(value) && isText(value.text) && MARKS.every(([key, isRight]) => value[key] === undefined || isRight(value[key]));
+  return areMarks(value) && isText(value.text);
+}
+
+/** @param {any} value */
+function areMarks(value) {
+  return isObject(value) && MARKS.every(([key, isRight]) => value[key] === undefined || isRight(value[key]));
+}
+
+/**
+ * Whether it says of each kind of mark what holds, or null.
+ * @param {any} value
+ */
+function areAllMarks(value) {
+  return isObject(value) && MARKS.every(([key, isRight]) => value[key] === null || isRight(value[key]));
+}
+
+/** @param {unknown} value */
+function areSteps(value) {
+  return Array.isArray(value) && value.every(isStep);
+}
+
+/**
+ * Whether it has the fields of a step, and no others, and they are right.
+ * @param {any} value
+ */
+function isStep(value) {
+  const fields = isObject(value) ? STEPS.get(Object.keys(value).sort().join()) : undefined;
+  return fields !== undefined && Object.entries(fields).every(([name, isRight]) => isRight(value[name]));
 }
 
 const MARKS = Object.entries({ strong: isFlag, em: isFlag, link: isText, comments: areTexts });
+
+/**
+ * The fields of a step, for each of its forms.
+ * @type {Map<string, Record<string, (value: unknown) => boolean>>}
+ */
+const STEPS = new Map(
+  Object.entries({
+    retain: { retain: isCount },
+    delete: { delete: isCount },
+    insert: { insert: isText },
+    "attributes,insert": { insert: isText, attributes: areMarks },
+    "attributes,retain": { retain: isCount, attributes: areAllMarks },
+  }),
+);
 const REFUSAL = { code: isNumber, error: isText };
 const EDITED = { rev: isNumber };
 
@@ -112,6 +158,7 @@ const FIELDS = new Map(
     unmark: EDITED,
     text: { rev: isNumber, text: isText },
     spans: { rev: isNumber, spans: areSpans },
+    changes: { rev: isNumber, changes: areSteps },
     anchors: { rev: isNumber, anchors: areTexts },
     places: { rev: isNumber, places: arePlaces },
     status: { applied: isNumber, settled: isNumber, state: isText },

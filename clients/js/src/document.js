@@ -11,6 +11,7 @@ const ROUNDS = 8;
 
 /**
  * @typedef {import("./again.js").Request} Request
+ * @typedef {import("./changing.js").Changes} Changes
  * @typedef {import("./marks.js").Mark} Mark
  * @typedef {import("./marks.js").Span} Span
  * @typedef {import("./session.js").Answer} Answer
@@ -171,6 +172,28 @@ export class Document {
   async readSpans() {
     const { spans, rev } = await this.session.send({ op: "spans", doc: this.number });
     return { spans, rev };
+  }
+
+  /**
+   * What changed since a `rev`, for whoever has the text of then: steps that make the text of now of it, from its start on,
+   * and the `rev` of now. They count characters (Unicode scalar values). A character that stayed is the one that it was,
+   * whatever equal ones stand beside it. From 0 on there is an `insert` for each span. `applied` makes the spans of now of
+   * those of then.
+   *
+   * It is `Stale` if the document doesn't have so many operations, and if they are too old to be told: from before the file
+   * was opened. The `rev` of another session, or of the connection before, could name another text: so it is `Stale` too,
+   * and isn't asked for, before this session was told one of this document over its connection. Then go on from 0.
+   * @param {number} since
+   * @returns {Promise<Changes>}
+   */
+  async changes(since) {
+    const { parted } = this.session;
+    // The text at 0 is empty everywhere. What is no number is refused as it is.
+    if (isWhole(since, 1)) this.#needKnown(since);
+    const { changes, rev } = await this.session.send({ op: "changes", doc: this.number, since });
+    // It was asked for again over another connection.
+    if (since !== 0 && parted !== this.session.parted) throw new Stale(6, "stale");
+    return { steps: changes, rev };
   }
 
   /**

@@ -1,5 +1,6 @@
 /** Documents of the peritext program, over any transport of lines: what runs in browsers too. */
 
+export { applied, delta } from "./changing.js";
 export { Document } from "./document.js";
 export { Lines } from "./lines.js";
 export { EM, STRONG, comment, link } from "./marks.js";

@@ -27,14 +27,24 @@ export function toPlace(text, index) {
  * @returns {number}
  */
 export function toIndex(text, place) {
+  const { index, left } = indexAfter(text, place);
+  if (left !== 0) throw new RangeError(`${place} is no place of the text`);
+  return index;
+}
+
+/**
+ * The index behind the first characters of a text, and how many of them the text hasn't.
+ * @param {string} text
+ * @param {number} count
+ */
+export function indexAfter(text, count) {
   let index = 0;
-  let left = place;
+  let left = count;
   while (left > 0 && index < text.length) {
     index += unitsAt(text, index);
     left -= 1;
   }
-  if (left !== 0) throw new RangeError(`${place} is no place of the text`);
-  return index;
+  return { index, left };
 }
 
 /**

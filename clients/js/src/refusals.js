@@ -80,8 +80,8 @@ export class Refused extends Error {
 }
 
 /**
- * The document isn't at the `rev` that the edit was made for (6), or this session hasn't read it yet: read it anew, and
- * make the edit for what is there.
+ * The document isn't at the `rev` that the edit was made for (6), what changed since one can't be told, or this session
+ * hasn't read it yet: read it anew, and make the edit for what is there.
  */
 export class Stale extends Refused {}
 

@@ -27,8 +27,9 @@ const STEPS = 10;
 /**
  * An answer has those of these fields that its request asks for.
  * @typedef {import("./marks.js").Span} Span
+ * @typedef {import("./changing.js").Step} Step
  * @typedef {{has: number, lacks: number, replica: string}} Peer
- * @typedef {{ok: true, rev: number, text: string, spans: Span[], anchors: string[], places: (number | null)[],
+ * @typedef {{ok: true, rev: number, text: string, spans: Span[], changes: Step[], anchors: string[], places: (number | null)[],
  *   applied: number, settled: number, state: string, peers: Peer[], sessions: number}} Answer
  */
 

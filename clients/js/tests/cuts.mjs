@@ -15,6 +15,7 @@ import { STATUS, asked, programOf, soon, withTalk } from "./talk.mjs";
 const EXCHANGES = {
   "a text": [{ op: "text", doc: 1 }, '{"ok":true,"rev":12,"text":"The \\"quick\\" ä🦊\\n"}'],
   spans: [{ op: "spans", doc: 1 }, '{"ok":true,"rev":12,"spans":[{"link":"u","text":"ä"},{"strong":true,"text":"b"}]}'],
+  changes: [{ op: "changes", doc: 1, since: 3 }, '{"changes":[{"retain":3},{"attributes":{"em":true},"insert":"ä"}],"ok":true,"rev":12}'],
   anchors: [{ op: "anchors", doc: 1, at: [0, 3], side: "previous" }, '{"anchors":["start","a3@UUID"],"ok":true,"rev":12}'],
   places: [{ op: "places", doc: 1, anchors: ["start", "end"] }, '{"ok":true,"places":[0,null],"rev":12}'],
   "an edit": [{ op: "insert", doc: 1, at: 0, text: "x" }, '{"ok":true,"rev":12}'],

@@ -13,6 +13,7 @@ from support import PATIENCE
 EXCHANGES = {
     "text": ({"op": "text", "doc": 1}, '{"ok":true,"rev":12,"text":"The \\"quick\\" ä🦊\\n"}'),
     "spans": ({"op": "spans", "doc": 1}, '{"ok":true,"rev":12,"spans":[{"link":"u","text":"ä"},{"strong":true,"text":"b"}]}'),
+    "changes": ({"op": "changes", "doc": 1, "since": 3}, '{"changes":[{"retain":3},{"attributes":{"em":true},"insert":"ä"}],"ok":true,"rev":12}'),
     "anchors": ({"op": "anchors", "doc": 1, "at": [0, 3], "side": "previous"}, '{"anchors":["start","a3@UUID"],"ok":true,"rev":12}'),
     "places": ({"op": "places", "doc": 1, "anchors": ["start", "end"]}, '{"ok":true,"places":[0,null],"rev":12}'),
     "edit": ({"op": "insert", "doc": 1, "at": 0, "text": "x"}, '{"ok":true,"rev":12}'),
@@ -100,6 +101,9 @@ class Cut(Answered):
 
     def test_spans(self):
         self.check_each_byte("spans")
+
+    def test_changes(self):
+        self.check_each_byte("changes")
 
     def test_places(self):
         self.check_each_byte("anchors")

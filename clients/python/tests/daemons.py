@@ -183,7 +183,7 @@ class Examples(WithDaemon):
     def test_the_examples_of_the_docs_are_so(self):
         result = doctest.testmod(daemon, extraglobs={"port": self.daemon.port})
         self.assertEqual((result.failed, result.attempted > 0), (0, True))
-        for module in (peritext.answers, peritext.refusals, peritext.rules, peritext.seconds):
+        for module in (peritext.answers, peritext.changing, peritext.refusals, peritext.rules, peritext.seconds):
             result = doctest.testmod(module)
             self.assertEqual((result.failed, result.attempted > 0), (0, True))
 

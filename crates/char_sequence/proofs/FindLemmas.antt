@@ -5,13 +5,14 @@ use Rattle.std.specs.List.{list_all, slice_get}
 use Rattle.std.proofs.Math.ListN.{drop_of_length-le}
 use Rattle.std.proofs.lemmas.List.{drop_more}
 use Rattle.std.proofs.lemmas.List.Folds.{list_any-append}
+use Rattle.std.proofs.lemmas.Bool.{or_left, or_right}
 use Rattle.std.proofs.lemmas.Bool.Decides.{nat_tests}
 use Rattle.op_ids.specs.Id.{Id, is_same}
 use Rattle.char_sequence.specs.declared.cell.Cell.{Cell}
 use Rattle.char_sequence.specs.Cells.{has_cell, is_known}
 use Rattle.char_sequence.specs.Chunks.{ChunkCells, IsPlaceOf, before, cell_at, cells_of, from}
 use Rattle.char_sequence.specs.Finding.{has_id_at}
-use Rattle.char_sequence.proofs.PlaceLemmas.{from_cell, joined}
+use Rattle.char_sequence.proofs.PlaceLemmas.{from_cell, in_its_chunk, joined}
 
 -- the cell that has an id is there
 pub cell_there : (found : Option Cell) (id : Id) → has_id_at found id ≡ true → (c : Cell) × (found ≡ Some c) × (is_same c.id id ≡ true)
@@ -51,3 +52,13 @@ pub pass_known : (held : ChunkCells) (ids : List Id) (k i j : ℕ) (id : Id) →
     → list_all (λ n. has_cell (cells_of held) n) ids ≡ list_all (λ n. has_cell (cells_of held) n) (drop (k + 1) ids)
 pass_known held ids k i j id within is_it there so =
     so ∙ rw (drop_more ids k id within, ← is_it, has_there held id i j there) refl
+
+-- a cell that is at a place is in its chunk
+pub in_that_chunk : (held : ChunkCells) (id : Id) (i j : ℕ) → IsPlaceOf held id i j → (i < length held) × (has_cell (get_or held i []) id ≡ true)
+in_that_chunk held id i j there =
+    let at = in_its_chunk held i j there.c there.cell in (at.0, found (get_or held i []) j at.1)
+  where
+    found : (cs : List Cell) (n : ℕ) → slice_get cs n ≡ Some there.c → has_cell cs id ≡ true
+    found [] n e = absurd (cc)
+    found (c ∷ cs) zero e = let same : c ≡ there.c = cc in or_left (is_same c.id id) (has_cell cs id) (ap (λ (x : Cell). is_same x.id id) same ∙ there.same)
+    found (c ∷ cs) (suc n) e = or_right (is_same c.id id) (has_cell cs id) (found cs n e)

@@ -125,7 +125,7 @@ at_before held ops doc id i j n there is holds =
     let known : has_id (walk ops doc) id ≡ true = walk_has held ops doc id holds ∙ has_there held id i j there in
     rw known (ap Some (is ∙ seen_at held ops doc i j (index_of id (walk ops doc)) holds (index_is held ops doc id i j holds there)))
 
--- and behind it
+-- and after it
 pub at_after : (held : ChunkCells) (ops : List Op) (doc : ℕ) (id : Id) (i j n : ℕ) → IsPlaceOf held id i j
     → n ≡ length (shown (before held i (j + 1))) → Holds held ops doc → Some n ≡ at_of ops doc (Beside (After id))
 at_after held ops doc id i j n there is holds =

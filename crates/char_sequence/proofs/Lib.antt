@@ -26,6 +26,7 @@ pub mod CuttingLemmas
 pub mod HoldsLemmas
 pub mod KnownLemmas
 pub mod LastingLemmas
+pub mod RemovalLemmas
 pub mod LinkLemmas
 pub mod WeaveLemmas
 pub mod WovenLemmas

@@ -26,6 +26,7 @@ mod links;
 mod packed_cell;
 mod place;
 mod reading;
+mod removal;
 mod search;
 mod sequence;
 mod shown;

@@ -1,5 +1,5 @@
 //! Places of a document that last.
-ghost use Rattle.std.specs.Prelude.{◌≡◌, ℕ, List, length, nat_le, Some, None, if◌then◌else◌};
+ghost use Rattle.std.specs.Prelude.{◌≡◌, List, length, nat_le, Some, None, if◌then◌else◌};
 ghost use Rattle.op_model.specs.declared.op.Op.{Op};
 ghost use Rattle.op_model.specs.Lasting.{at_of, place_of};
 ghost use Rattle.op_model.specs.Text.{visible};
@@ -9,7 +9,7 @@ use crate::doc::Doc;
 use op_model::{Lasting, Neighbour};
 
 impl Doc {
-    /// The place behind `at` visible characters, that stays with one of its neighbours from now on;
+    /// The place after `at` visible characters, that stays with one of its neighbours from now on;
     /// `None` where there are fewer. Takes no memory. Costs what `Sequence::visible` does: of n
     /// characters, tombstones counted, at most n/16384 + 578 are read or counted.
     pub fn place(&self, at: usize, side: Neighbour) -> Option<Lasting>

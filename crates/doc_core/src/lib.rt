@@ -14,6 +14,7 @@ mod make;
 mod make_error;
 mod make_mark;
 mod numbering;
+mod removal;
 
 pub use char_sequence::SequenceError;
 pub use doc::Doc;

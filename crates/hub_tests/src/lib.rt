@@ -1,9 +1,11 @@
-//! Tests of replicas, alone and among peers, and of hubs that are held alone, the sessions over them
-//! and links between two.
+//! Tests of replicas, alone and among peers, and of hubs that are held alone, the sessions over
+//! them and links between two.
 #![tactic(auto)]
 
 #[cfg(test)]
 mod asks;
+#[cfg(test)]
+mod change_tests;
 #[cfg(test)]
 mod edit_tests;
 #[cfg(test)]
@@ -38,6 +40,8 @@ mod session_tests;
 mod tell_tests;
 #[cfg(test)]
 mod test_asks;
+#[cfg(test)]
+mod test_changes;
 #[cfg(test)]
 mod test_edits;
 #[cfg(test)]

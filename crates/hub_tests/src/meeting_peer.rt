@@ -29,7 +29,7 @@ pub(crate) struct Peer {
     link: Link,
     // The clock of the last HAVE that was said over this link.
     said: Option<Clock>,
-    /// The operations that were heard and put behind the list.
+    /// The operations that were heard and put after the list.
     pub(crate) merged: usize,
     /// The operations that were heard and there already.
     pub(crate) known: usize,

@@ -18,6 +18,16 @@ pub enum Wish {
     Unmark(u32, u32),
 }
 
+/// A step over a text: what is kept, dropped or marked, by the number of characters, and what is
+/// put.
+#[derive(Clone, Copy)]
+pub enum Turn {
+    Keep(usize),
+    Drop(usize),
+    Put(&'static str),
+    Mark(usize),
+}
+
 /// What is asked of a peer. Other peers are named by their places.
 #[derive(Clone, Copy)]
 pub enum Ask {
@@ -57,6 +67,9 @@ pub enum Ask {
     Rev(u32),
     /// How many spans document 1 has.
     Spans,
+    /// What changed in document 1 since it had so many operations: 1 if it is these steps, 0 if
+    /// not, 2 if it isn't told.
+    Changes(usize, &'static [Turn]),
     /// How many operations are told to a peer that has nothing.
     Tell,
     /// How many operations are told to a peer with these counts of replicas 1, 2 and 3, if they are

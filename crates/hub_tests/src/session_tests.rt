@@ -25,7 +25,10 @@ impl Desk for Counter {
         match command {
             Command::Edit(_) => Answer::Refused(Refusal::Stopping),
             Command::Text { doc } => Answer::Edited { rev: doc as u64 },
-            Command::Spans { .. } | Command::Anchors { .. } | Command::Places { .. } => Answer::Done,
+            Command::Spans { .. }
+            | Command::Changes { .. }
+            | Command::Anchors { .. }
+            | Command::Places { .. } => Answer::Done,
             Command::Status | Command::Peers => Answer::Edited { rev: self.asked },
             Command::Stop => Answer::Stopped,
         }

@@ -2,6 +2,7 @@
 //! way out past one is what the proof of a test costs. Where something is missing there is no
 //! answer, which is never the one that a row wants.
 use crate::replica_asks::{Ask, Row};
+use crate::test_changes::changes;
 use crate::test_edits::{
     edit, edits_until_refused, put_length, refusal, settled_after, ticket_rev,
 };
@@ -68,6 +69,7 @@ fn answer_alone(alloc: Global, replica: &mut Replica, ask: &Ask) -> Option<usize
         Ask::Len => Some(replica.list().len()),
         Ask::Rev(doc) => Some(replica.rev(*doc)),
         Ask::Spans => spans_of(replica),
+        Ask::Changes(since, turns) => changes(alloc, replica, *since, turns),
         Ask::Tell => told_to_none(alloc, replica),
         Ask::TellBehind(counts) => told(alloc, replica, counts),
         Ask::Ack(end) => Some(acks(replica, *end) as usize),

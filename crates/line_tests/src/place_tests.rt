@@ -1,5 +1,5 @@
 //! How places that last are read and said, and what changed in a text.
-use crate::request_tests::all_refused;
+use crate::request_tests::{all_refused, served};
 use crate::saying_tests::{said, text_of};
 use op_model::{ChangeStep, CommentId, CommentIds, Marks, Neighbour, Span, Url};
 use session_lines::{Answer, ChangeList, Command, PlaceList, Refusal, read_command};
@@ -28,6 +28,23 @@ static NO_PLACES: [&[u8]; 20] = [
     b"{\"op\":\"places\",\"doc\":1,\"anchors\":[\"a1@00000000-0000-0000-0000-000000000000\"]}",
     b"{\"op\":\"places\",\"doc\":1,\"anchors\":[\"a1@00000000000000000000000000000001\"]}",
 ];
+
+static NO_CHANGES: [&[u8]; 3] = [
+    b"{\"op\":\"changes\",\"doc\":1}",
+    b"{\"op\":\"changes\",\"doc\":1,\"since\":null}",
+    b"{\"op\":\"changes\",\"doc\":1,\"since\":4294967296}",
+];
+
+#[test]
+fn changes_are_asked_since_a_number(rt: HostRuntime) {
+    all_refused(&rt, &NO_CHANGES, Refusal::Field);
+    served(
+        &rt,
+        rt.alloc(),
+        "{\"op\":\"changes\",\"doc\":2,\"since\":0}",
+        Command::Changes { doc: 2, since: 0 },
+    );
+}
 
 #[test]
 fn broken_places_are_refused(rt: HostRuntime) {
@@ -91,11 +108,12 @@ fn all_marks(alloc: Global) -> Result<Marks, Fail> {
 
 /// No marks.
 fn no_marks(alloc: Global) -> Marks {
+    let comments = CommentIds::from(Vec::new(alloc));
     Marks {
         strong: false,
         em: false,
         link: None,
-        comments: CommentIds::from(Vec::new(alloc)),
+        comments,
     }
 }
 

@@ -95,7 +95,8 @@ fn fields_keep_their_rules(rt: HostRuntime) {
     all_refused(&rt, &[link.as_bytes()], Refusal::Field);
 }
 
-fn served(rt: &impl Abort, alloc: Global, line: &str, command: Command) {
+/// This line is read as this command.
+pub fn served(rt: &impl Abort, alloc: Global, line: &str, command: Command) {
     match read_command(alloc, line.as_bytes()) {
         Ok(found) => {
             let found = format!(in alloc; "{found:?}").expect(rt, "memory");

@@ -5,15 +5,16 @@ ghost use Rattle.op_model.specs.Machine.{known_ticket};
 ghost use Rattle.op_model.specs.Spans.{spans as spans_of};
 ghost use Rattle.op_model.specs.Text.{text as text_of, rev as rev_of};
 ghost use Rattle.replica_core.specs.Held.{IsSound};
+ghost use Rattle.replica_core.specs.Changed.{TellsChanges};
 ghost use Rattle.replica_core.specs.Places.{anchors_of, are_within, places_of};
 
 use crate::hub::Hub;
 use disk_trait::Disk;
 use op_ids::{Clock, ReplicaId};
-use op_model::{Edit, Lasting, Neighbour, Span, Text};
+use op_model::{ChangeStep, Edit, Lasting, Neighbour, Span, Text};
 use replica_core::Ticket;
 use run_list::RunSlice;
-use std::alloc::{AllocError, Global};
+use std::alloc::AllocError;
 
 impl<D: Disk> Hub<D> {
     /// The name of the replica.
@@ -98,12 +99,21 @@ impl<D: Disk> Hub<D> {
         self.locked.spans(doc)
     }
 
-    /// The places behind these numbers of visible characters of a document, unsettled operations
-    /// included, that stay with one of their neighbours from now on; `None` if one of the numbers is
-    /// beyond the end of the text. An error is out of memory (1). Costs what `Replica::anchors` does.
+    /// What changed in a document, unsettled operations included, since it had so many operations,
+    /// as steps over the text that a reader has from then; `None` if it has fewer, or that was too
+    /// long ago to be told. An error is out of memory (1). Costs what `Replica::changes` does.
+    pub fn changes(&self, doc: u32, since: usize) -> Result<Option<Vec<ChangeStep>>, AllocError>
+        ensures { IfOk result (λ found. TellsChanges self.now.replica.list doc since found) }
+    {
+        self.locked.changes(doc, since)
+    }
+
+    /// The places after these numbers of visible characters of a document, unsettled operations
+    /// included, that stay with one of their neighbours from now on; `None` if one of the numbers
+    /// is beyond the end of the text. An error is out of memory (1). Costs what `Replica::anchors`
+    /// does.
     pub fn anchors(
         &self,
-        alloc: Global,
         doc: u32,
         at: &[u32],
         side: Neighbour,
@@ -113,22 +123,17 @@ impl<D: Disk> Hub<D> {
         ensures places { IfOk result (λ found. IfSome found
             (λ v. v.items ≡ anchors_of self.now.replica.list doc at.now side)) }
     {
-        self.locked.anchors(alloc, doc, at, side)
+        self.locked.anchors(doc, at, side)
     }
 
     /// How many visible characters of a document, unsettled operations included, stand before each
     /// of these places, or `None` for a place beside a character that isn't known. An error is out
     /// of memory (1). Costs what `Replica::places` does.
-    pub fn places(
-        &self,
-        alloc: Global,
-        doc: u32,
-        anchors: &[Lasting],
-    ) -> Result<Vec<Option<usize>>, AllocError>
+    pub fn places(&self, doc: u32, anchors: &[Lasting]) -> Result<Vec<Option<usize>>, AllocError>
         ensures { IfOk result
             (λ found. found.items ≡ places_of self.now.replica.list doc anchors.now) }
     {
-        self.locked.places(alloc, doc, anchors)
+        self.locked.places(doc, anchors)
     }
 
     /// The disk. What a commit under way has written stays there.

@@ -48,6 +48,8 @@ pub mod Followed
 pub mod PushedStep
 pub mod KnownNow
 pub mod SameChanges
+pub mod PutSince
+pub mod Again
 pub mod LastingPlaces
 pub mod LastingOrder
 pub mod TypedPlaces

@@ -172,7 +172,7 @@ around_one s a t = by (neighbours s a) (neighbours a t)
         ∙ ap (λ ss. s ∷ ss) (sym (last_two a t f))
         ∙ ap (λ ss. with_last ss t) (sym (with_two s a [] e))
 
--- one step put in front and one behind: in either order
+-- one step put in front and one after: in either order
 around : (s t : ChangeStep) (ss : List ChangeStep) → with_step s (with_last ss t) ≡ with_last (with_step s ss) t
 around s t [] = refl
 around s t (a ∷ []) = around_one s a t

@@ -16,7 +16,7 @@ use Rattle.model_laws.proofs.Runs.{marks_equal}
 drop-add : (a b : ℕ) (xs : List Seen) → drop (a + b) xs ≡ drop b (drop a xs)
 drop-add a b xs = sym (drop-drop b a xs)
 
--- a step before the steps behind it, where the two first ones can be one, and where they can't
+-- a step before the steps after it, where the two first ones can be one, and where they can't
 pub with_one : (s t u : ChangeStep) (ss : List ChangeStep) → in_one s t ≡ Some u → with_step s (t ∷ ss) ≡ u ∷ ss
 with_one s t u ss e = ap (λ o. elim o as (λ _. List ChangeStep) [ Some v ↦ v ∷ ss | None ↦ s ∷ t ∷ ss ]) e
 

@@ -132,7 +132,7 @@ module _ (ops : List Op) (replica : ℕ) (edit : Edit) (at : ℕ) (added : List 
           ap (λ o. at_of (ops ++ made ops replica edit) edit.doc (beside_previous o)) found
           ∙ (at_after (ops ++ made ops replica edit) edit.doc i id orderly_after still ∙ ap Some up)
 
-  -- one that stays with the character behind it stands behind what was inserted
+  -- one that stays with the character after it stands after what was inserted
   pub stays_behind : at_of (ops ++ made ops replica edit) edit.doc (place_of ops edit.doc at Next) ≡ Some (at + length added)
   stays_behind =
       let (new, many, put) = inserted in

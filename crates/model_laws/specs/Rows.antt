@@ -66,7 +66,7 @@ put text marks = Put (record { text = text; marks = marks })
 abbrev pub typed_and_removed : List Op
 typed_and_removed = op (id 4) (Insert (Some (id 1)) x) ∷ op (id 5) (Remove (id 3)) ∷ []
 
--- b and all behind it are made strong, and d is typed at the end
+-- b and all after it are made strong, and d is typed at the end
 abbrev pub marked_and_typed : List Op
 marked_and_typed =
     op (id 4) (AddMark mark.Strong (start.From (Before (id 2))) end.OfText) ∷ op (id 5) (Insert (Some (id 3)) d) ∷ []
@@ -91,7 +91,7 @@ typed_elsewhere = op (other_id 4) (Insert (Some (id 1)) y) ∷ op (other_id 5) (
 abbrev pub all_strong : List Op
 all_strong = op (id 4) (AddMark mark.Strong start.OfText end.OfText) ∷ []
 
--- x comes after a and goes, b goes, y comes behind b, and c isn't strong any more
+-- x comes after a and goes, b goes, y comes after b, and c isn't strong any more
 abbrev pub all_at_once : List Op
 all_at_once =
     op (id 5) (Insert (Some (id 1)) x) ∷ op (id 6) (Remove (id 5)) ∷ op (id 7) (Remove (id 2))

@@ -50,7 +50,7 @@ abbrev pub AreSome : List ChangeStep → Type 0
 AreSome [] = Unit {0}
 AreSome (s ∷ ss) = (0 < size_of_step s) × AreSome ss
 
--- steps with one behind them: joined with the last one, if it can be
+-- steps with one after them: joined with the last one, if it can be
 abbrev pub with_last : List ChangeStep → ChangeStep → List ChangeStep
 with_last [] s = s ∷ []
 with_last (t ∷ []) s = elim (in_one t s) [ Some u ↦ u ∷ [] | None ↦ t ∷ s ∷ [] ]
@@ -61,7 +61,7 @@ abbrev pub with_any_last : List ChangeStep → Option ChangeStep → List Change
 with_any_last ss None = ss
 with_any_last ss (Some s) = with_last ss s
 
--- steps with others behind them: the last one joined with the first one of those, if it can be
+-- steps with others after them: the last one joined with the first one of those, if it can be
 abbrev pub followed_by : List ChangeStep → List ChangeStep → List ChangeStep
 followed_by ss [] = ss
 followed_by ss (t ∷ ts) = with_last ss t ++ ts
@@ -109,3 +109,9 @@ pub record IsUntouched (before more : List Op) (doc : ℕ) (c : Character) : Typ
   pub there : has_id (walk before doc) c.id ≡ true
   pub stays : is_removed more doc c ≡ false
   pub uncovered : IsUncovered before more doc c.id
+
+-- none of these operations, which come one by one after those before, removes a character that was removed before
+abbrev pub RemoveNothingAgain : List Op → List Op → Type 0
+RemoveNothingAgain before [] = Unit {0}
+RemoveNothingAgain before (op ∷ more) =
+    ((c : Character) → is_removal_of c.id op.body ≡ true → is_removed before op.doc c ≡ false) × RemoveNothingAgain (before ++ op ∷ []) more

@@ -1,11 +1,11 @@
 //! Laws of what changed in a text since a beginning of the operations.
-ghost use Rattle.std.specs.Prelude.{◌≡◌, ℕ, true, false, not, ◌&&◌, List, [], ◌∷◌, ◌++◌};
-ghost use Rattle.std.specs.Prelude.{length, filter, All, Option};
+ghost use Rattle.std.specs.Prelude.{◌≡◌, ℕ, true, not, ◌&&◌, List, [], ◌∷◌, ◌++◌};
+ghost use Rattle.std.specs.Prelude.{length, map, filter, All, Option};
 ghost use Rattle.op_ids.specs.Id.{Id};
 ghost use Rattle.op_model.specs.declared.op.Op.{Op};
 ghost use Rattle.op_model.specs.declared.character.Character.{Character};
 ghost use Rattle.op_model.specs.declared.change_step.ChangeStep.{ChangeStep};
-ghost use Rattle.op_model.specs.declared.change_step.ChangeStep.TheVariants.{Keep, Drop, Mark};
+ghost use Rattle.op_model.specs.declared.change_step.ChangeStep.TheVariants.{Keep, Drop, Put, Mark};
 ghost use Rattle.op_model.specs.Walk.{walk};
 ghost use Rattle.op_model.specs.Text.{is_removed, visible, rev};
 ghost use Rattle.op_model.specs.Marks.{markings};
@@ -65,6 +65,12 @@ pub fn changes_go_by_the_number_of_operations()
         → changes before after doc ≡ changes other after doc }
     ensures none { (before more : List Op) (doc : ℕ) → rev before doc ≡ rev (before ++ more) doc
         → changes before (before ++ more) doc ≡ all_kept (length (visible (before ++ more) doc)) }
+{}
+
+/// Since the beginning just each span of now was put: whoever has nothing yet can read the spans.
+pub fn changes_since_the_beginning_are_the_spans()
+    ensures { (ops : List Op) (doc : ℕ) → IsOrderly ops doc
+        → changes [] ops doc ≡ map Put (spans ops doc) }
 {}
 
 /// Peers that had the same operations before, and have the same now, tell the same changes, in

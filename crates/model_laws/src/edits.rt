@@ -16,6 +16,7 @@ ghost use Rattle.op_model.specs.Marks.{markings};
 ghost use Rattle.op_model.specs.Places.{covers};
 ghost use Rattle.op_model.specs.Placing.{has_id, FitInTurn, IsOrderly};
 ghost use Rattle.op_model.specs.Walk.{walk};
+ghost use Rattle.model_laws.specs.Since.{RemoveNothingAgain};
 ghost use Rattle.model_laws.specs.Changed.{changed, EndedMarksStay, IsJustBefore};
 
 /// The operations that an edit makes may follow the list one after another, wherever they keep the
@@ -70,4 +71,10 @@ pub fn made_ids_are_greater()
     ensures { (ops : List Op) (replica : ℕ) (edit : Edit)
         → list_all (λ op. list_all (λ earlier. is_below earlier.id op.id) ops)
         (made ops replica edit) ≡ true }
+{}
+
+/// An edit removes nothing again: what it removes a reader sees, and each character once.
+pub fn edits_remove_nothing_again()
+    ensures { (ops : List Op) (replica : ℕ) (edit : Edit) → IsCausallyClosed ops
+        → RemoveNothingAgain ops (made ops replica edit) }
 {}

@@ -30,8 +30,8 @@ pub fn places_stand_beside_their_character()
         → id_at (visible ops doc) i ≡ Some id → at_of ops doc (Beside (After id)) ≡ Some (i + 1) }
 {}
 
-/// What an insert at a place puts there comes behind the place if that stays with the character
-/// before it, and before the place if it stays with the one behind it.
+/// What an insert at a place puts there comes after the place if that stays with the character
+/// before it, and before the place if it stays with the one after it.
 pub fn inserts_pass_places()
     ensures previous { (ops : List Op) (replica : ℕ) (edit : Edit) (at : ℕ) (added : List ℕ)
         → IsOrderly ops edit.doc → edit.change ≡ Insert at added

@@ -18,12 +18,13 @@ mod span_shape;
 
 pub use changes::{
     changes_are_joined, changes_go_by_the_number_of_operations, changes_go_over_the_text,
-    changes_show_what_is_there, same_operations_same_changes, steps_are_made_part_by_part,
-    untouched_characters_stay, what_was_shown_is_known_now, worked_rows_of_changes,
+    changes_show_what_is_there, changes_since_the_beginning_are_the_spans,
+    same_operations_same_changes, steps_are_made_part_by_part, untouched_characters_stay,
+    what_was_shown_is_known_now, worked_rows_of_changes,
 };
 pub use edits::{
-    edits_change_the_text, edits_keep_lists_closed, ended_marks_dont_grow, made_ids_are_greater,
-    made_operations_fit,
+    edits_change_the_text, edits_keep_lists_closed, edits_remove_nothing_again,
+    ended_marks_dont_grow, made_ids_are_greater, made_operations_fit,
 };
 pub use lasting::{
     inserts_pass_places, places_keep_their_order, places_stand_beside_their_character,

@@ -131,8 +131,8 @@ impl Clock {
         count < MAX_COUNT
     }
 
-    /// Counts one more operation of a replica. `Limit` (7) if that would be a seventeenth replica or
-    /// a count above 2^24, `Memory` (1) if a growth was refused, which only a new replica needs.
+    /// Counts one more operation of a replica. `Limit` (7) if that would be a seventeenth replica
+    /// or a count above 2^24, `Memory` (1) if a growth was refused, which only a new replica needs.
     pub fn advance(&mut self, replica: ReplicaId) -> Result<(), ClockError>
         ensures ok { OnOk result (self.new ≡ advanced self.old replica) }
         ensures limit { IsErrOf result ClockError.Limit

@@ -28,8 +28,8 @@ impl Clock {
     }
 
     /// Counts `count` more operations of a replica. `Limit` (7) if that would be a seventeenth
-    /// replica or a count above 2^24, `Memory` (1) if a growth was refused, which only a new replica
-    /// needs; both leave the clock as it was. At most 16 steps.
+    /// replica or a count above 2^24, `Memory` (1) if a growth was refused, which only a new
+    /// replica needs; both leave the clock as it was. At most 16 steps.
     pub fn advance_by(&mut self, replica: ReplicaId, count: u64) -> Result<(), ClockError>
         ensures ok { OnOk result (self.new ≡ advanced_by self.old replica count) }
         ensures limit { IsErrOf result ClockError.Limit

@@ -23,3 +23,5 @@ pub mod EditLemmas
 pub mod RevLemmas
 pub mod TokenLemmas
 pub mod WaitingLemmas
+pub mod RepeatLemmas
+pub mod CameLemmas

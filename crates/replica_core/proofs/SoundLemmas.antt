@@ -31,6 +31,10 @@ use Rattle.edit_tokens.proofs.PlaceLemmas.{tokens_foreign}
 use Rattle.model_laws.proofs.Closed.{follows_fits}
 use Rattle.doc_core.proofs.FittingLemmas.{made_fit}
 use Rattle.replica_core.specs.declared.index.Index.{Index}
+use Rattle.replica_core.specs.declared.repeats.Repeats.{Repeats}
+use Rattle.replica_core.specs.Repeats.{AreRepeats}
+use Rattle.model_laws.proofs.Again.{made_removes_nothing_again}
+use Rattle.replica_core.proofs.RepeatLemmas.{put_others}
 use Rattle.replica_core.specs.Docs.{numbers, AllStand, AreDocs}
 use Rattle.replica_core.specs.declared.log.Log.{Log}
 use Rattle.replica_core.specs.Indexes.{IsIndexOf}
@@ -154,12 +158,13 @@ IsSound-with_edit h session e sound can =
 
 -- so are its fields
 pub AreFields-with_edit : (h : ReplicaHeld) (session : ℕ) (e : Edit) (counts_before counts : List (ℕ × ℕ)) (docs_before docs : List Doc) (before after : Index)
-    → (places_before places : List (ℕ × Place)) → AreFields h counts_before docs_before before places_before → CanEdit h e → 0 < size_of e.change
+    → (places_before places : List (ℕ × Place)) (repeats : Repeats)
+    → AreFields h counts_before docs_before before places_before repeats → CanEdit h e → 0 < size_of e.change
     → counts ≡ clock_of (h.list ++ made h.list h.replica e) → numbers docs ≡ with_number e.doc (numbers docs_before)
     → (AreDocs docs_before h.list → FitAfter h.list e.doc (made h.list h.replica e) → AllStand docs (h.list ++ made h.list h.replica e))
     → (IsIndexOf before h.list → IsIndexOf after (h.list ++ made h.list h.replica e))
-    → AreTokens places h.replica (h.list ++ made h.list h.replica e) → AreFields (with_edit h session e) counts docs after places
-AreFields-with_edit h session e counts_before counts docs_before docs before after places_before places fields can some is_clock are_numbers stand indexed are_tokens =
+    → AreTokens places h.replica (h.list ++ made h.list h.replica e) → AreFields (with_edit h session e) counts docs after places repeats
+AreFields-with_edit h session e counts_before counts docs_before docs before after places_before places repeats fields can some is_clock are_numbers stand indexed are_tokens =
     record {
       sound = IsSound-with_edit h session e fields.sound can;
       clock = is_clock;
@@ -169,6 +174,7 @@ AreFields-with_edit h session e counts_before counts docs_before docs before aft
       };
       index = indexed fields.index;
       tokens = are_tokens;
+      repeats = put_others repeats h.list (made h.list h.replica e) fields.repeats (made_removes_nothing_again h.list h.replica e fields.sound.closed);
     }
 
 -- what a replica holds behind an edit's operations and its step
@@ -183,18 +189,18 @@ held_of-edit id opened settled acked told session first count steps old new adde
 
 -- and that its fields are those
 pub AreFields-edit : (id opened settled acked told session first count : ℕ) (steps : List Kept) (old new : Log) (added : List Op) (e : Edit)
-    → (counts_before counts : List (ℕ × ℕ)) (places_before places : List (ℕ × Place))
-    → AreFields (held_of id old.list opened settled acked told steps) counts_before old.docs.items old.index places_before
+    → (counts_before counts : List (ℕ × ℕ)) (places_before places : List (ℕ × Place)) (repeats : Repeats)
+    → AreFields (held_of id old.list opened settled acked told steps) counts_before old.docs.items old.index places_before repeats
     → CanEdit (held_of id old.list opened settled acked told steps) e → 0 < size_of e.change
     → counts ≡ clock_of (old.list ++ made old.list id e)
     → IsAppended old new added e.doc → added ≡ made old.list id e
     → first ≡ length old.list → count ≡ size_of e.change → AreTokens places id (old.list ++ made old.list id e)
-    → AreFields (held_of id new.list opened settled acked told (edited session e first count ∷ steps)) counts new.docs.items new.index places
-AreFields-edit id opened settled acked told session first count steps old new added e counts_before counts places_before places fields can some is_clock is are at many are_tokens =
+    → AreFields (held_of id new.list opened settled acked told (edited session e first count ∷ steps)) counts new.docs.items new.index places repeats
+AreFields-edit id opened settled acked told session first count steps old new added e counts_before counts places_before places repeats fields can some is_clock is are at many are_tokens =
     let h : ReplicaHeld = held_of id old.list opened settled acked told steps in
     let held = held_of-edit id opened settled acked told session first count steps old new added e is are at many (due_asks_right old.list id e can.due) in
     rw held
-    (AreFields-with_edit h session e counts_before counts old.docs.items new.docs.items old.index new.index places_before places
+    (AreFields-with_edit h session e counts_before counts old.docs.items new.docs.items old.index new.index places_before places repeats
     fields can some is_clock is.numbers (λ docs come. rw are at (is.stand docs (rw are come))) (λ was. rw (← are, ← is.list) (is.index was)) are_tokens)
 
 -- what a replica keeps is kept by a merge
@@ -227,12 +233,12 @@ held_of-merge id opened settled acked told peer index steps old new added op is 
 
 -- and that its fields are those
 pub AreFields-merge : (id opened settled acked told peer index : ℕ) (steps : List Kept) (old new : Log) (added : List Op) (op : Op)
-    → (counts_before counts : List (ℕ × ℕ)) (places : List (ℕ × Place))
-    → AreFields (held_of id old.list opened settled acked told steps) counts_before old.docs.items old.index places
+    → (counts_before counts : List (ℕ × ℕ)) (places : List (ℕ × Place)) (repeats_before repeats : Repeats)
+    → AreFields (held_of id old.list opened settled acked told steps) counts_before old.docs.items old.index places repeats_before
     → CanMerge (held_of id old.list opened settled acked told steps) op → counts ≡ advanced counts_before op.id.replica
-    → IsAppended old new added op.doc → added ≡ op ∷ [] → index ≡ length old.list
-    → AreFields (held_of id new.list opened settled acked told (merged peer index ∷ steps)) counts new.docs.items new.index places
-AreFields-merge id opened settled acked told peer index steps old new added op counts_before counts places fields can is_clock is are at =
+    → IsAppended old new added op.doc → added ≡ op ∷ [] → index ≡ length old.list → AreRepeats repeats (old.list ++ op ∷ [])
+    → AreFields (held_of id new.list opened settled acked told (merged peer index ∷ steps)) counts new.docs.items new.index places repeats
+AreFields-merge id opened settled acked told peer index steps old new added op counts_before counts places repeats_before repeats fields can is_clock is are at noted =
     let h : ReplicaHeld = held_of id old.list opened settled acked told steps in
     let held = held_of-merge id opened settled acked told peer index steps old new added op is are at in
     rw held (record {
@@ -244,6 +250,7 @@ AreFields-merge id opened settled acked told peer index steps old new added op c
       };
       index = rw (← are, ← is.list) (is.index fields.index);
       tokens = tokens_foreign places id old.list op can.joins.foreign fields.tokens;
+      repeats = noted;
     })
 
 differs : (a b : ℕ) → (a == b) ≡ false → a ≢ b
@@ -266,10 +273,10 @@ merge_alone-applied h op new ready other passed places =
     rw (new, other, ready, passed, fits) refl
 
 -- what a replica keeps is kept where it told of settled operations
-pub AreFields-told : (h : ReplicaHeld) (n now : ℕ) (counts : List (ℕ × ℕ)) (docs : List Doc) (known : Index) (places : List (ℕ × Place))
-    → AreFields h counts docs known places → n ≤ h.settled
-    → now ≡ max h.told n → AreFields (record h { told = now }) counts docs known places
-AreFields-told h n now counts docs known places fields within is_it = record {
+pub AreFields-told : (h : ReplicaHeld) (n now : ℕ) (counts : List (ℕ × ℕ)) (docs : List Doc) (known : Index) (places : List (ℕ × Place)) (repeats : Repeats)
+    → AreFields h counts docs known places repeats → n ≤ h.settled
+    → now ≡ max h.told n → AreFields (record h { told = now }) counts docs known places repeats
+AreFields-told h n now counts docs known places repeats fields within is_it = record {
   sound = record {
     closed = fields.sound.closed;
     opened = fields.sound.opened;
@@ -284,4 +291,5 @@ AreFields-told h n now counts docs known places fields within is_it = record {
   docs = fields.docs;
   index = fields.index;
   tokens = fields.tokens;
+  repeats = fields.repeats;
 }

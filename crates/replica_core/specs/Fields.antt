@@ -9,8 +9,10 @@ use Rattle.doc_core.specs.declared.doc.Doc.{Doc}
 use Rattle.edit_tokens.specs.declared.place.Place.{Place}
 use Rattle.edit_tokens.specs.Places.{AreTokens}
 use Rattle.replica_core.specs.declared.index.Index.{Index}
+use Rattle.replica_core.specs.declared.repeats.Repeats.{Repeats}
 use Rattle.replica_core.specs.Docs.{AreDocs}
 use Rattle.replica_core.specs.Indexes.{IsIndexOf}
+use Rattle.replica_core.specs.Repeats.{AreRepeats}
 use Rattle.op_model.specs.Held.{ReplicaHeld}
 use Rattle.replica_core.specs.Held.{IsSound}
 
@@ -26,10 +28,12 @@ held_of replica list opened settled acked told steps = record {
   steps = steps;
 }
 
--- what a replica holds is sound, its clock, its documents and its index are those of the list, and its tokens those of its own edits
-pub record AreFields (h : ReplicaHeld) (counts : List (ℕ × ℕ)) (kept_docs : List Doc) (known : Index) (places : List (ℕ × Place)) : Type 0 where
+-- what a replica holds is sound, its clock, its documents and its index are those of the list, and its tokens those of its own edits, and what was
+-- removed again is noted
+pub record AreFields (h : ReplicaHeld) (counts : List (ℕ × ℕ)) (kept_docs : List Doc) (known : Index) (places : List (ℕ × Place)) (noted : Repeats) : Type 0 where
   pub sound : IsSound h
   pub clock : counts ≡ clock_of h.list
   pub docs : AreDocs kept_docs h.list
   pub index : IsIndexOf known h.list
   pub tokens : AreTokens places h.replica h.list
+  pub repeats : AreRepeats noted h.list

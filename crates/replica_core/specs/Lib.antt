@@ -12,3 +12,6 @@ pub mod Docs
 pub mod Passing
 pub mod Telling
 pub mod Places
+pub mod Repeats
+pub mod Came
+pub mod Changed

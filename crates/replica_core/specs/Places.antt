@@ -11,7 +11,7 @@ use Rattle.op_model.specs.Text.{visible}
 abbrev pub are_within : List Op → ℕ → List ℕ → Bool
 are_within ops doc at = list_all (λ n. nat_le n (length (visible ops doc))) at
 
--- the places behind so many visible characters each, that stay with this neighbour
+-- the places after so many visible characters each, that stay with this neighbour
 abbrev pub anchors_of : List Op → ℕ → List ℕ → Neighbour → List Lasting
 anchors_of ops doc at side = map (λ n. place_of ops doc n side) at
 

@@ -9,10 +9,10 @@ use crate::docs::find;
 use crate::replica::Replica;
 use doc_core::Doc;
 use op_model::{Anchor, Lasting, Neighbour};
-use std::alloc::{AllocError, Global};
+use std::alloc::AllocError;
 
 impl Replica {
-    /// The place behind `at` visible characters of a document, unsettled operations included, that
+    /// The place after `at` visible characters of a document, unsettled operations included, that
     /// stays with one of its neighbours from now on; `None` where there are fewer. Takes no memory.
     /// A search by halves for the document, and what `Doc::place` costs.
     pub fn place(&self, doc: u32, at: usize, side: Neighbour) -> Option<Lasting>
@@ -34,12 +34,11 @@ impl Replica {
         find(&self.log.docs, &empty).at(place)
     }
 
-    /// The places behind these numbers of visible characters of a document, unsettled operations
-    /// included, that stay with one of their neighbours from now on; `None` if one of the numbers is
-    /// beyond the end of the text. An error is out of memory (1). Costs a `place` for each.
+    /// The places after these numbers of visible characters of a document, unsettled operations
+    /// included, that stay with one of their neighbours from now on; `None` if one of the numbers
+    /// is beyond the end of the text. An error is out of memory (1). Costs a `place` for each.
     pub fn anchors(
         &self,
-        alloc: Global,
         doc: u32,
         at: &[u32],
         side: Neighbour,
@@ -49,9 +48,10 @@ impl Replica {
         ensures places { IfOk result
             (λ found. IfSome found (λ v. v.items ≡ anchors_of self.now.list doc at.now side)) }
     {
-        // The kit's borrow checker looks up the types that a place holds by the names in a function.
+        // The kit's borrow checker looks up the types that a place holds by the names in a
+        // function.
         let _: Option<Anchor> = None;
-        let mut found = Vec::with_capacity(alloc, at.len())?;
+        let mut found = Vec::with_capacity(self.log.list.allocator(), at.len())?;
         for number in at {
             let Some(place) = self.place(doc, *number as usize, side) else {
                 return Ok(None);
@@ -64,16 +64,11 @@ impl Replica {
     /// How many visible characters of a document, unsettled operations included, stand before each
     /// of these places, or `None` for a place beside a character that isn't known. An error is out
     /// of memory (1). Costs an `at` for each.
-    pub fn places(
-        &self,
-        alloc: Global,
-        doc: u32,
-        anchors: &[Lasting],
-    ) -> Result<Vec<Option<usize>>, AllocError>
+    pub fn places(&self, doc: u32, anchors: &[Lasting]) -> Result<Vec<Option<usize>>, AllocError>
         ensures { IfOk result
             (λ found. found.items ≡ places_of self.now.list doc anchors.now) }
     {
-        let mut found = Vec::with_capacity(alloc, anchors.len())?;
+        let mut found = Vec::with_capacity(self.log.list.allocator(), anchors.len())?;
         for anchor in anchors {
             found.push(self.at(doc, anchor))?;
         }

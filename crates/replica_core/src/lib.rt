@@ -4,6 +4,7 @@
 //! invariant.
 #![tactic(auto)]
 
+mod changed;
 mod counting;
 mod decided;
 mod deciding;
@@ -26,6 +27,7 @@ mod opening;
 mod prepared;
 mod preparing;
 mod refusal;
+mod repeats;
 mod replica;
 mod step;
 mod steps;

@@ -1,10 +1,14 @@
 //! A replica takes what peers made.
-ghost use Rattle.std.specs.Prelude.{◌≡◌, ◌≤◌, ◌+◌, length, None, Ok};
+ghost use Rattle.std.specs.Prelude.{◌≡◌, ◌≤◌, ◌+◌, List, length, None, Ok};
 ghost use Rattle.std.specs.Prelude.{IfOk, IfErr, OnOk, OnErr, MatchOption};
 ghost use Rattle.fixed_numbers.specs.declared.limits.TheConstants.{MAX_STEPS};
 ghost use Rattle.op_model.specs.Machine.{merge_alone, merge_answer_unless, IsRefusal, refused};
-ghost use Rattle.op_model.specs.Causality.{first_failed as first_failed_of};
+ghost use Rattle.doc_core.specs.Standing.{StandsFor};
+ghost use Rattle.op_model.specs.declared.op.Op.{Op as Operation};
+ghost use Rattle.op_model.specs.Causality.{first_failed as first_failed_of, MayFollow};
 ghost use Rattle.op_model.specs.Held.{with_merge};
+ghost use Rattle.span_flatten.specs.Since.{removes_again as removes_again_of};
+ghost use Rattle.replica_core.specs.Docs.{doc_number};
 ghost use Rattle.replica_core.specs.Merging.{after_merge, answer_of, CanMerge};
 ghost use Rattle.replica_core.specs.Refusal.{number_of};
 ghost use Rattle.replica_core.specs.declared.merged.Merged.TheVariants.{Applied};
@@ -16,8 +20,8 @@ use crate::merged::Merged;
 use crate::refusal::Refusal;
 use crate::replica::Replica;
 use crate::step::Step;
-use doc_core::{Made, SequenceError};
-use op_model::Op;
+use doc_core::{Doc, Made, SequenceError};
+use op_model::{Body, Op};
 
 impl Replica {
     /// Puts a peer's operation behind the list, or says that it is there already, or that it comes
@@ -90,7 +94,9 @@ impl Replica {
 
     /// Puts an operation behind the list that nothing refuses, as `decide_merge` tells. An error is
     /// out of memory (1), and changes nothing. A few steps for clocks, a search by halves for the
-    /// document, and what that takes for it.
+    /// document, and what that takes for it. For a remove `Doc::is_removed` too: if the character
+    /// was removed before, that is noted; where there is no memory for the note, the remove still
+    /// stands, and `changes` tells nothing from before it.
     pub fn put_merge(&mut self, peer: u64, op: Op) -> Result<(), Refusal>
         requires { CanMerge self.old op }
         ensures merged { OnOk result (self.new ≡ with_merge self.old peer op) }
@@ -104,6 +110,8 @@ impl Replica {
         let doc = op.doc;
         let index = self.log.list.len();
         let place = docs::place(&self.log.docs, doc);
+        let empty = Doc::new(alloc, doc);
+        let is_repeat = removes_again(docs::at(&self.log.docs, place, &empty), &op);
         let made = Made::one(alloc, op)?;
         match self.log.append(&made, replica, doc, place) {
             Ok(()) => {}
@@ -111,7 +119,20 @@ impl Replica {
             Err(SequenceError::UnknownId) => unreachable!(),
         }
         self.clock = clock;
+        self.repeats.put(index, is_repeat);
         self.steps.push(Step::Merge { peer, index });
         Ok(())
+    }
+}
+
+/// Whether an operation that may come behind all others of its document removes a character that
+/// was removed before. Takes no memory. What `Doc::is_removed` costs, for a remove.
+fn removes_again(doc: &Doc, op: &Op) -> bool
+    ensures { (ops : List Operation) → StandsFor doc.now ops → doc_number doc.now ≡ op.now.doc
+        → MayFollow ops op.now → result ≡ removes_again_of ops op.now.doc op.now.body }
+{
+    match &op.body {
+        Body::Remove { target } => doc.is_removed(*target),
+        _ => false,
     }
 }

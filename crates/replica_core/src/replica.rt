@@ -22,6 +22,7 @@ use crate::knowledge::Knowledge;
 use crate::log::Log;
 use crate::opening::counted;
 use crate::refusal::Refusal;
+use crate::repeats::Repeats;
 use crate::step::Step;
 use crate::steps::Steps;
 use crate::telling::untold;
@@ -44,6 +45,8 @@ pub struct Replica {
     pub(crate) clock: Clock,
     /// Where the replica's own edits that had a token stand in the list.
     pub(crate) tokens: Tokens,
+    /// Which operations of the list remove what was removed before.
+    pub(crate) repeats: Repeats,
     /// The steps since opening.
     pub(crate) steps: Steps,
     /// The length of the list at opening.
@@ -63,7 +66,7 @@ impl Model for Replica {
 
     ghost invariant = { λ r. AreFields
         (held_of r.id r.log.list r.opened r.settled r.acked r.told r.steps)
-        r.clock r.log.docs.items r.log.index r.tokens };
+        r.clock r.log.docs.items r.log.index r.tokens r.repeats };
 }
 
 impl Replica {
@@ -80,6 +83,7 @@ impl Replica {
             },
             clock: Clock::new(alloc),
             tokens: Tokens::new(alloc),
+            repeats: Repeats::new(alloc, 0),
             steps: Steps::new(),
             opened: 0,
             settled: 0,
@@ -114,6 +118,7 @@ impl Replica {
             },
             clock: found.clock,
             tokens: found.tokens,
+            repeats: Repeats::new(alloc, opened),
             steps: Steps::new(),
             opened,
             settled: opened,

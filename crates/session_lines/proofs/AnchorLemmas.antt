@@ -19,7 +19,7 @@ counted_more bs i n b whole within is low high few so_far =
     let test : (is_digit b && nat_le n 281474976710655) ≡ true = grind (arith, nat_tests) in
     rw (split bs i b within is, test) at so_far
 
--- what is no digit, or comes behind too much
+-- what is no digit, or comes after too much
 pub counted_stops : (bs : List ℕ) (i n b : ℕ) (whole : Option ℕ) → i < length bs → b ≡ get_or bs i b → (is_digit b && nat_le n 281474976710655) ≡ false
     → counted n (drop i bs) ≡ whole → whole ≡ None
 counted_stops bs i n b whole within is test so_far = sym (rw (split bs i b within is, test) at so_far)

@@ -1,6 +1,6 @@
 -- The text of a place that lasts: `start`, `end`, or a side, a counter and a replica, as `a7@` and a UUID. Each has one text, but for the
 -- case of the UUID's letters.
-use Rattle.std.specs.Prelude.{ℕ, ◌+◌, ◌*◌, ◌-◌, Bool, true, false, ◌&&◌, ◌==◌, nat_le, nat_lt, if◌then◌else◌, List, [], ◌∷◌, ◌++◌, length, take, drop}
+use Rattle.std.specs.Prelude.{ℕ, ◌+◌, ◌*◌, ◌-◌, Bool, ◌&&◌, ◌==◌, nat_le, nat_lt, if◌then◌else◌, List, [], ◌∷◌, ◌++◌, length, take, drop}
 use Rattle.std.specs.Prelude.{Option, Some, None, option_map, option_and_then, codes, decimal}
 use Rattle.std.proofs.Common.{get_or}
 use Rattle.std.specs.Int.{w128, from_be_bytes, to_be_bytes}
@@ -17,7 +17,7 @@ use Rattle.session_lines.specs.Fields.{not_nil}
 abbrev pub is_digit : ℕ → Bool
 is_digit b = nat_le 48 b && nat_le b 57
 
--- the number of these digits behind others of which the number is n, as long as that is no greater than a counter
+-- the number of these digits after others of which the number is n, as long as that is no greater than a counter
 abbrev pub counted : ℕ → List ℕ → Option ℕ
 counted n [] = Some n
 counted n (b ∷ bs) = if is_digit b && nat_le n MAX_COUNTER then counted (10 * n + (b - 48)) bs else None

@@ -43,6 +43,7 @@ verb_named name =
     else if bytes_eq name (codes "unmark") then Some verb.Unmark
     else if bytes_eq name (codes "text") then Some verb.Text
     else if bytes_eq name (codes "spans") then Some verb.Spans
+    else if bytes_eq name (codes "changes") then Some verb.Changes
     else if bytes_eq name (codes "anchors") then Some verb.Anchors
     else if bytes_eq name (codes "places") then Some verb.Places
     else if bytes_eq name (codes "status") then Some verb.Status

@@ -109,6 +109,18 @@ edit_with change d =
     token_of d >>= λ token.
     Ok (command.Edit (record { doc = doc; rev = rev; token = token; change = change }))
 
+-- the request for a text
+abbrev pub text_asked : Data → Result Command Refusal
+text_asked d = only doc_fields d >>= λ _. whole (codes "doc") 1 d >>= λ doc. Ok (command.Text doc)
+
+-- the request what changed
+abbrev pub changes_asked : Data → Result Command Refusal
+changes_asked d =
+    only (codes "op" ∷ codes "doc" ∷ codes "since" ∷ []) d >>= λ _.
+    whole (codes "doc") 1 d >>= λ doc.
+    whole (codes "since") 0 d >>= λ since.
+    Ok (command.Changes doc since)
+
 -- the request for places that last
 abbrev pub anchors_asked : Data → Result Command Refusal
 anchors_asked d =
@@ -132,8 +144,9 @@ command_of verb.Insert d = insert_of d >>= λ change. edit_with change d
 command_of verb.Delete d = delete_of d >>= λ change. edit_with change d
 command_of verb.Mark d = mark_change d >>= λ change. edit_with change d
 command_of verb.Unmark d = unmark_change d >>= λ change. edit_with change d
-command_of verb.Text d = only doc_fields d >>= λ _. whole (codes "doc") 1 d >>= λ doc. Ok (command.Text doc)
+command_of verb.Text d = text_asked d
 command_of verb.Spans d = only doc_fields d >>= λ _. whole (codes "doc") 1 d >>= λ doc. Ok (command.Spans doc)
+command_of verb.Changes d = changes_asked d
 command_of verb.Anchors d = anchors_asked d
 command_of verb.Places d = places_asked d
 command_of verb.Status d = only (codes "op" ∷ []) d >>= λ _. Ok command.Status

@@ -9,7 +9,7 @@ use op_ids::{OpId, ReplicaId};
 use op_model::{Anchor, Lasting};
 use uuid::Uuid;
 
-/// How many bytes stand behind a counter: an `@`, and a hyphenated UUID.
+/// How many bytes stand after a counter: an `@`, and a hyphenated UUID.
 const NAME: usize = 37;
 
 /// The place of this text, if it is one's.

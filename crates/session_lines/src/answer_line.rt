@@ -23,8 +23,8 @@ use std::alloc::{AllocError, Global};
 
 /// Puts an answer as text behind what is there: compact JSON with its keys in the order of their
 /// bytes, and a line feed. An error is out of memory (1), and leaves what is there as it was; where
-/// there is room for 128 bytes, it comes for a text, spans, changes, places or peers alone. The time is that of the
-/// text's length, and nothing but `out` takes memory.
+/// there is room for 128 bytes, it comes for a text, spans, changes, places or peers alone. The
+/// time is that of the text's length, and nothing but `out` takes memory.
 pub fn say(_alloc: Global, answer: &Answer, out: &mut Vec<u8>) -> Result<(), AllocError>
     ensures ok { OnOk result (out.new.items ≡ out.old.items ++ said answer.now) }
     ensures err { OnErr result (out.new.items ≡ out.old.items) }
@@ -46,38 +46,24 @@ fn put_answer(answer: &Answer, out: &mut Vec<u8>) -> Result<(), AllocError>
     ensures room { OnErr result (vec_len out.old + SHORT ≤ vec_capacity out.old
         → IsTrue (is_long answer.now)) }
 {
+    out.reserve(SHORT)?;
     match answer {
-        Answer::Text { rev, text } => put_shown(*rev, text, out),
-        Answer::Spans { rev, spans } => put_listed(*rev, spans, out),
-        Answer::Changes { rev, changes } => put_changed(*rev, changes, out),
-        Answer::Anchors { rev, anchors } => put_named(*rev, anchors, out),
-        Answer::Places { rev, places } => put_standing(*rev, places, out),
-        Answer::Peers { peers, sessions } => put_connected(peers, *sessions, out),
-        Answer::Edited { rev } => {
-            out.reserve(SHORT)?;
-            put_edited(*rev, out);
-            Ok(())
-        }
+        Answer::Text { rev, text } => put_shown(*rev, text, out)?,
+        Answer::Spans { rev, spans } => put_listed(*rev, spans, out)?,
+        Answer::Changes { rev, changes } => put_changed(*rev, changes, out)?,
+        Answer::Anchors { rev, anchors } => put_named(*rev, anchors, out)?,
+        Answer::Places { rev, places } => put_standing(*rev, places, out)?,
+        Answer::Peers { peers, sessions } => put_connected(peers, *sessions, out)?,
+        Answer::Edited { rev } => put_edited(*rev, out),
         Answer::Status {
             applied,
             settled,
             state,
-        } => {
-            out.reserve(SHORT)?;
-            put_status(*applied, *settled, *state, out);
-            Ok(())
-        }
-        Answer::Stopped | Answer::Done => {
-            out.reserve(SHORT)?;
-            put_done(out);
-            Ok(())
-        }
-        Answer::Refused(refusal) => {
-            out.reserve(SHORT)?;
-            put_refused(*refusal, out);
-            Ok(())
-        }
+        } => put_status(*applied, *settled, *state, out),
+        Answer::Stopped | Answer::Done => put_done(out),
+        Answer::Refused(refusal) => put_refused(*refusal, out),
     }
+    Ok(())
 }
 
 /// Puts the answer that shows a text.

@@ -16,6 +16,11 @@ pub enum Command {
     Spans {
         doc: u32,
     },
+    /// What changed in a document, by its number from 1 on, since it had so many operations.
+    Changes {
+        doc: u32,
+        since: u32,
+    },
     /// Places of a document's text that last, for these numbers of visible characters before them,
     /// each with the neighbour that it stays with.
     Anchors {

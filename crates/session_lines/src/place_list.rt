@@ -3,7 +3,8 @@ ghost use Rattle.std.specs.Prelude.{◌≡◌};
 
 use std::marker::Model;
 
-/// For each of some places how many visible characters stand before it, if it is known. Contracts see the list of them.
+/// For each of some places how many visible characters stand before it, if it is known. Contracts
+/// see the list of them.
 #[derive(Debug, Drop)]
 pub struct PlaceList {
     places: Vec<Option<usize>>,

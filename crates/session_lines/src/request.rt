@@ -3,7 +3,7 @@ ghost use Rattle.serde_json.specs.View.{view};
 ghost use Rattle.session_lines.specs.Fields.{Reads};
 ghost use Rattle.session_lines.specs.Requests.{verb_of, edit_with, request_of};
 ghost use Rattle.session_lines.specs.Requests.{insert_of, delete_of, mark_change, unmark_change};
-ghost use Rattle.session_lines.specs.Requests.{mark_of, key_of, anchors_asked, places_asked};
+ghost use Rattle.session_lines.specs.Requests.{mark_of, key_of, text_asked, anchors_asked, changes_asked, places_asked};
 
 use crate::command::Command;
 use crate::fields::{characters, comment, count, kind, only, rev, token, url, whole};
@@ -24,16 +24,13 @@ pub(crate) fn request(alloc: Global, value: &Value) -> Result<Command, Refusal>
         Verb::Delete => edit(value, delete(value)?),
         Verb::Mark => edit(value, mark(alloc, value)?),
         Verb::Unmark => edit(value, unmark(value)?),
-        Verb::Text => {
-            only(value, &["op", "doc"])?;
-            let doc = whole(value, "doc", 1)?;
-            Ok(Command::Text { doc })
-        }
+        Verb::Text => text(value),
         Verb::Spans => {
             only(value, &["op", "doc"])?;
             let doc = whole(value, "doc", 1)?;
             Ok(Command::Spans { doc })
         }
+        Verb::Changes => changes(value),
         Verb::Anchors => anchors(alloc, value),
         Verb::Places => places(alloc, value),
         Verb::Status => {
@@ -49,6 +46,25 @@ pub(crate) fn request(alloc: Global, value: &Value) -> Result<Command, Refusal>
             Ok(Command::Stop)
         }
     }
+}
+
+/// The request for a text.
+fn text(value: &Value) -> Result<Command, Refusal>
+    ensures { Reads result (text_asked (view value.now)) }
+{
+    only(value, &["op", "doc"])?;
+    let doc = whole(value, "doc", 1)?;
+    Ok(Command::Text { doc })
+}
+
+/// The request what changed.
+fn changes(value: &Value) -> Result<Command, Refusal>
+    ensures { Reads result (changes_asked (view value.now)) }
+{
+    only(value, &["op", "doc", "since"])?;
+    let doc = whole(value, "doc", 1)?;
+    let since = whole(value, "since", 0)?;
+    Ok(Command::Changes { doc, since })
 }
 
 /// The request for places that last.

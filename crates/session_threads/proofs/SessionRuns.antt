@@ -49,6 +49,7 @@ module _ {D : Type 0} (facts : Ghosts D) where
   command_goes old new (command.Edit e) answer it = edit_goes_unless (comes_too_late old e) old new e answer refl it
   command_goes old new (command.Text doc) answer (said, same) = stays old new same
   command_goes old new (command.Spans doc) answer (said, same) = stays old new same
+  command_goes old new (command.Changes doc since) answer (said, same) = stays old new same
   command_goes old new (command.Anchors doc at side) answer (said, same) = stays old new same
   command_goes old new (command.Places doc anchors) answer (said, same) = stays old new same
   command_goes old new command.Status answer (said, same) = stays old new same

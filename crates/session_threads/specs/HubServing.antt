@@ -1,7 +1,8 @@
 -- What a desk over a hub answers to a command, and what it makes of the hub.
-use Rattle.std.specs.Prelude.{◌≡◌, ◌⊎◌, ℕ, Bool, true, false, ◌&&◌, List, [], ◌∷◌, ◌++◌, length, is_none, if◌then◌else◌}
+use Rattle.std.specs.Prelude.{◌≡◌, ◌≢◌, ◌⊎◌, ℕ, Bool, true, false, ◌&&◌, List, [], ◌∷◌, ◌++◌, length, is_none, if◌then◌else◌}
 use Rattle.disk_trait.specs.declared.facts.DiskFacts.{Ghosts}
 use Rattle.op_model.specs.declared.edit.Edit.{Edit}
+use Rattle.op_model.specs.declared.change_step.ChangeStep.{ChangeStep}
 use Rattle.op_model.specs.declared.lasting.Lasting.{Lasting}
 use Rattle.op_model.specs.declared.lasting.Neighbour.{Neighbour}
 use Rattle.op_model.specs.declared.op.Op.{Op}
@@ -10,15 +11,16 @@ use Rattle.op_model.specs.Spans.{spans}
 use Rattle.op_model.specs.Machine.{Event, Answer as Reply, Ticket, edit, ack, ticket, acknowledged, refused, known_ticket}
 use Rattle.hub_parts.specs.declared.meeting.TheConstants.{BEGIN_TRIES}
 use Rattle.locked_replica.specs.Hub.{Parts, state_of}
+use Rattle.replica_core.specs.Changed.{AreChangesSince}
 use Rattle.replica_core.specs.Places.{anchors_of, are_within, places_of}
 use Rattle.session_lines.specs.Saying.{number_of}
 use Rattle.session_lines.specs.declared.command.Command.{Command}
 use Rattle.session_lines.specs.declared.command.Command.TheVariants as command
 use Rattle.session_lines.specs.declared.answer.Answer.{Answer}
-use Rattle.session_lines.specs.declared.answer.Answer.TheVariants.{Edited, Text, Spans, Anchors, Places, Status, Peers, Stopped, Refused}
+use Rattle.session_lines.specs.declared.answer.Answer.TheVariants.{Edited, Text, Spans, Changes, Anchors, Places, Status, Peers, Stopped, Refused}
 use Rattle.session_lines.specs.declared.answer.State.{State}
 use Rattle.session_lines.specs.declared.answer.State.TheVariants as state
-use Rattle.session_lines.specs.declared.refusal.Refusal.TheVariants.{Memory, Range, Failed, Stopping}
+use Rattle.session_lines.specs.declared.refusal.Refusal.TheVariants.{Memory, Range, Stale, Failed, Stopping}
 use Rattle.session_threads.specs.HeldDesk.{HeldDesk}
 use Rattle.locked_replica.specs.Run.{Calls}
 use Rattle.session_threads.specs.HubCalls.{AreOfCommit, CannotSettle, Commits}
@@ -34,6 +36,15 @@ abbrev pub ServesSpans : {D : Type 0} → HeldDesk D → ℕ → Answer → Type
 ServesSpans desk doc answer =
     let list = desk.hub.replica.list in
     (answer ≡ Spans (rev list doc) (spans list doc)) ⊎ (answer ≡ Refused Memory)
+
+-- what changed in a document; or that its number of then, which is neither 0 nor that of now, isn't known any more or not yet; or out of memory
+abbrev pub AnswersChanges : List Op → ℕ → ℕ → Answer → Type 0
+AnswersChanges list doc since answer =
+    (answer ≡ Refused Memory) ⊎ (((answer ≡ Refused Stale) × (since ≢ 0) × (since ≢ rev list doc))
+    ⊎ ((steps : List ChangeStep) × (answer ≡ Changes (rev list doc) steps) × AreChangesSince list doc since steps))
+
+abbrev pub ServesChanges : {D : Type 0} → HeldDesk D → ℕ → ℕ → Answer → Type 0
+ServesChanges desk doc since answer = AnswersChanges desk.hub.replica.list doc since answer
 
 -- places of a document that last, or that a number is beyond the end of its text
 abbrev pub anchors_answer : List Op → ℕ → List ℕ → Neighbour → Answer
@@ -132,6 +143,7 @@ module _ {D : Type 0} (facts : Ghosts D) where
   Serves old (command.Edit e) answer new = ServesEdit old e answer new
   Serves old (command.Text doc) answer new = ServesText old doc answer × (new ≡ old)
   Serves old (command.Spans doc) answer new = ServesSpans old doc answer × (new ≡ old)
+  Serves old (command.Changes doc since) answer new = ServesChanges old doc since answer × (new ≡ old)
   Serves old (command.Anchors doc at side) answer new = ServesAnchors old doc at side answer × (new ≡ old)
   Serves old (command.Places doc anchors) answer new = ServesPlaces old doc anchors answer × (new ≡ old)
   Serves old command.Status answer new = ServesStatus old answer × (new ≡ old)

@@ -1,7 +1,7 @@
 //! The commands that a desk over a hub serves.
 ghost use Rattle.std.specs.Prelude.{◌≡◌};
 ghost use Rattle.session_threads.specs.HubServing.{comes_too_late, ServesEdit, ServesText, ServesSpans};
-ghost use Rattle.session_threads.specs.HubServing.{ServesAnchors, ServesPlaces, ServesStatus};
+ghost use Rattle.session_threads.specs.HubServing.{ServesChanges, ServesAnchors, ServesPlaces, ServesStatus};
 ghost use Rattle.session_threads.specs.HubServing.{ServesPeers, ServesStop};
 
 use crate::committing::commit;
@@ -11,7 +11,8 @@ use crate::hub_edit::answer_edit;
 use disk_trait::Disk;
 use op_model::{Edit, Neighbour};
 use session_lines::{
-    Answer, Command, LastingList, Numbers, PeerList, PlaceList, Refusal, SpanList, State,
+    Answer, ChangeList, Command, LastingList, Numbers, PeerList, PlaceList, Refusal, SpanList,
+    State,
 };
 use std::alloc::Global;
 
@@ -27,8 +28,9 @@ impl<D: Disk> Desk for HubDesk<D> {
             Command::Edit(edit) => self.edit(&edit),
             Command::Text { doc } => self.text(doc),
             Command::Spans { doc } => self.spans(doc),
-            Command::Anchors { doc, at, side } => self.anchors(alloc, doc, &at, side),
-            Command::Places { doc, anchors } => self.places(alloc, doc, &anchors),
+            Command::Changes { doc, since } => self.changes(doc, since),
+            Command::Anchors { doc, at, side } => self.anchors(doc, &at, side),
+            Command::Places { doc, anchors } => self.places(doc, &anchors),
             Command::Status => self.status(),
             Command::Peers => alone(alloc),
             Command::Stop => self.stop(),
@@ -80,11 +82,25 @@ impl<D: Disk> HubDesk<D> {
         }
     }
 
+    /// What changed in a document.
+    fn changes(&self, doc: u32, since: u32) -> Answer
+        ensures { ServesChanges self.now doc since result }
+    {
+        match self.hub.changes(doc, since as usize) {
+            Ok(Some(steps)) => Answer::Changes {
+                rev: self.hub.rev(doc) as u64,
+                changes: ChangeList::from(steps),
+            },
+            Ok(None) => Answer::Refused(Refusal::Stale),
+            Err(_) => Answer::Refused(Refusal::Memory),
+        }
+    }
+
     /// Places of a document that last.
-    fn anchors(&self, alloc: Global, doc: u32, at: &Numbers, side: Neighbour) -> Answer
+    fn anchors(&self, doc: u32, at: &Numbers, side: Neighbour) -> Answer
         ensures { ServesAnchors self.now doc at.now side result }
     {
-        match self.hub.anchors(alloc, doc, at.as_slice(), side) {
+        match self.hub.anchors(doc, at.as_slice(), side) {
             Ok(Some(places)) => Answer::Anchors {
                 rev: self.hub.rev(doc) as u64,
                 anchors: LastingList::from(places),
@@ -95,10 +111,10 @@ impl<D: Disk> HubDesk<D> {
     }
 
     /// Where places of a document stand.
-    fn places(&self, alloc: Global, doc: u32, anchors: &LastingList) -> Answer
+    fn places(&self, doc: u32, anchors: &LastingList) -> Answer
         ensures { ServesPlaces self.now doc anchors.now result }
     {
-        match self.hub.places(alloc, doc, anchors.as_slice()) {
+        match self.hub.places(doc, anchors.as_slice()) {
             Ok(places) => Answer::Places {
                 rev: self.hub.rev(doc) as u64,
                 places: PlaceList::from(places),

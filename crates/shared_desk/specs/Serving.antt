@@ -19,7 +19,7 @@ use Rattle.session_lines.specs.declared.answer.State.TheVariants as state
 use Rattle.session_lines.specs.declared.refusal.Refusal.{Refusal}
 use Rattle.session_lines.specs.declared.refusal.Refusal.TheVariants.{Memory, Failed, Stopping}
 use Rattle.replica_core.specs.Places.{places_of}
-use Rattle.session_threads.specs.HubServing.{anchors_answer}
+use Rattle.session_threads.specs.HubServing.{anchors_answer, AnswersChanges}
 use Rattle.session_threads.specs.HubCalls.{is_edit_refusal as is_hub_refusal}
 use Rattle.shared_hub.specs.Peers.{IsCounted}
 use Rattle.shared_hub.specs.Shared.{HappensTo, Moment, MomentOf}
@@ -79,6 +79,13 @@ ServesSpans old doc answer new =
     × ((answer ≡ Refused Memory)
     ⊎ MomentOf old (λ l. answer ≡ Spans (rev l.replica.list doc) (spans l.replica.list doc)))
 
+-- what changed in a document at some moment, or that its number of then isn't known any more or not yet; or out of memory
+abbrev pub ServesChanges : PassHeld → ℕ → ℕ → Answer → PassHeld → Type 0
+ServesChanges old doc since answer new =
+    (new ≡ old)
+    × ((answer ≡ Refused Memory)
+    ⊎ MomentOf old (λ l. AnswersChanges l.replica.list doc since answer))
+
 -- places of a document that last, at some moment, or that a number was beyond the end of its text; or out of memory
 abbrev pub ServesAnchors : PassHeld → ℕ → List ℕ → Neighbour → Answer → PassHeld → Type 0
 ServesAnchors old doc at side answer new =
@@ -126,6 +133,7 @@ abbrev pub Serves : PassHeld → Command → Answer → PassHeld → Type 0
 Serves old (command.Edit e) answer new = ServesEdit old e answer new
 Serves old (command.Text doc) answer new = ServesText old doc answer new
 Serves old (command.Spans doc) answer new = ServesSpans old doc answer new
+Serves old (command.Changes doc since) answer new = ServesChanges old doc since answer new
 Serves old (command.Anchors doc at side) answer new = ServesAnchors old doc at side answer new
 Serves old (command.Places doc anchors) answer new = ServesPlaces old doc anchors answer new
 Serves old command.Status answer new = ServesStatus old answer new

@@ -6,7 +6,7 @@ ghost use Rattle.session_lines.specs.declared.refusal.Refusal.TheVariants.{Stopp
 ghost use Rattle.session_threads.specs.HubCalls.{is_edit_refusal as is_hub_refusal};
 ghost use Rattle.shared_hub.specs.Refusal.{number_of as number_of_shared};
 ghost use Rattle.shared_hub.specs.declared.refusal.SharedRefusal.TheVariants.{Stopping as AskedToStop};
-ghost use Rattle.shared_desk.specs.Serving.{is_edit_refusal, ServesEdit, ServesText, ServesSpans, ServesAnchors, ServesPlaces};
+ghost use Rattle.shared_desk.specs.Serving.{is_edit_refusal, ServesEdit, ServesText, ServesSpans, ServesChanges, ServesAnchors, ServesPlaces};
 ghost use Rattle.shared_desk.specs.Serving.{ServesStatus, ServesPeers, ServesStop};
 
 use crate::desk::SharedDesk;
@@ -15,7 +15,8 @@ use hub_parts::LockedRefusal;
 use op_model::{Edit, Neighbour};
 use pass_books::BookNames;
 use session_lines::{
-    Answer, Command, LastingList, Numbers, PeerList, PlaceList, Refusal, SpanList, State,
+    Answer, ChangeList, Command, LastingList, Numbers, PeerList, PlaceList, Refusal, SpanList,
+    State,
 };
 use session_threads::{Desk, edit_refusal};
 use shared_hub::{Checkpoint, Point, SharedRefusal, Shown};
@@ -36,8 +37,9 @@ impl<'a, R: Wait, J: BookNames, C: Checkpoint> Desk for SharedDesk<'a, R, J, C> 
             Command::Edit(edit) => self.edit(&edit),
             Command::Text { doc } => self.text(doc),
             Command::Spans { doc } => self.spans(doc),
-            Command::Anchors { doc, at, side } => self.anchors(alloc, doc, &at, side),
-            Command::Places { doc, anchors } => self.places(alloc, doc, &anchors),
+            Command::Changes { doc, since } => self.changes(doc, since),
+            Command::Anchors { doc, at, side } => self.anchors(doc, &at, side),
+            Command::Places { doc, anchors } => self.places(doc, &anchors),
             Command::Status => self.status(),
             Command::Peers => self.peers(alloc),
             Command::Stop => self.stop(),
@@ -111,13 +113,31 @@ impl<'a, R: Wait, J: BookNames, C: Checkpoint> SharedDesk<'a, R, J, C> {
         }
     }
 
+    /// What changed in a document, in turn with others who read.
+    fn changes(&mut self, doc: u32, since: u32) -> Answer
+        ensures { ServesChanges self.old doc since result self.new }
+    {
+        let (rt, shared) = (self.daemon.rt, self.daemon.shared);
+        let _turn = self.daemon.read_turn.lock(rt);
+        match shared.changes(rt, &mut self.pass, doc, since as usize) {
+            Ok(Shown { rev, content }) => match content {
+                Some(steps) => Answer::Changes {
+                    rev,
+                    changes: ChangeList::from(steps),
+                },
+                None => Answer::Refused(Refusal::Stale),
+            },
+            Err(_) => Answer::Refused(Refusal::Memory),
+        }
+    }
+
     /// Places of a document that last. At most 256 of them are looked up, so no turn is taken: the
     /// lock is held no longer than for an edit of as many characters.
-    fn anchors(&mut self, alloc: Global, doc: u32, at: &Numbers, side: Neighbour) -> Answer
+    fn anchors(&mut self, doc: u32, at: &Numbers, side: Neighbour) -> Answer
         ensures { ServesAnchors self.old doc at.now side result self.new }
     {
         let (rt, shared) = (self.daemon.rt, self.daemon.shared);
-        match shared.anchors(rt, alloc, &mut self.pass, doc, at.as_slice(), side) {
+        match shared.anchors(rt, &mut self.pass, doc, at.as_slice(), side) {
             Ok(Shown { rev, content }) => match content {
                 Some(places) => Answer::Anchors {
                     rev,
@@ -130,11 +150,11 @@ impl<'a, R: Wait, J: BookNames, C: Checkpoint> SharedDesk<'a, R, J, C> {
     }
 
     /// Where places of a document stand. Takes no turn, as `anchors` doesn't.
-    fn places(&mut self, alloc: Global, doc: u32, anchors: &LastingList) -> Answer
+    fn places(&mut self, doc: u32, anchors: &LastingList) -> Answer
         ensures { ServesPlaces self.old doc anchors.now result self.new }
     {
         let (rt, shared) = (self.daemon.rt, self.daemon.shared);
-        match shared.places(rt, alloc, &mut self.pass, doc, anchors.as_slice()) {
+        match shared.places(rt, &mut self.pass, doc, anchors.as_slice()) {
             Ok(Shown { rev, content }) => Answer::Places {
                 rev,
                 places: PlaceList::from(content),

@@ -2,6 +2,7 @@
 ghost use Rattle.std.specs.Prelude.{◌≡◌, All, IfOk, IfSome, is_some, length};
 ghost use Rattle.op_model.specs.Spans.{spans as spans_of};
 ghost use Rattle.op_model.specs.Text.{text as text_of, rev as rev_of};
+ghost use Rattle.replica_core.specs.Changed.{TellsChanges};
 ghost use Rattle.replica_core.specs.Places.{anchors_of, are_within, places_of};
 ghost use Rattle.shared_hub.specs.Peers.{IsCounted, rows_of};
 ghost use Rattle.hub_parts.specs.Locked.{IsLocked};
@@ -12,7 +13,7 @@ use crate::guarded::Guarded;
 use crate::shown::Shown;
 use crate::status::Status;
 use crate::watched::Watched;
-use op_model::{Lasting, Neighbour, Span, Text};
+use op_model::{ChangeStep, Lasting, Neighbour, Span, Text};
 use pass_books::BookNames;
 use peer_counts::PeerCounts;
 use std::alloc::{AllocError, Global};
@@ -60,12 +61,29 @@ impl<J: BookNames> Guarded<J> {
         })
     }
 
-    /// The places behind these numbers of visible characters of a document, that stay with one of
+    /// What changed in a document since it had so many operations; none if it has fewer, or that
+    /// was too long ago to be told. An error is out of memory (1). Costs what `Locked::changes`
+    /// does.
+    pub fn changes(
+        &self,
+        doc: u32,
+        since: usize,
+    ) -> Result<Shown<Option<Vec<ChangeStep>>>, AllocError>
+        ensures rev { IfOk result (λ it. it.rev ≡ rev_of self.now.locked.replica.list doc) }
+        ensures changes { IfOk result
+            (λ it. TellsChanges self.now.locked.replica.list doc since it.content) }
+    {
+        Ok(Shown {
+            rev: self.locked.rev(doc) as u64,
+            content: self.locked.changes(doc, since)?,
+        })
+    }
+
+    /// The places after these numbers of visible characters of a document, that stay with one of
     /// their neighbours; none if one of the numbers is beyond the end of the text. An error is out
     /// of memory (1). Costs what `Locked::anchors` does.
     pub fn anchors(
         &self,
-        alloc: Global,
         doc: u32,
         at: &[u32],
         side: Neighbour,
@@ -78,7 +96,7 @@ impl<J: BookNames> Guarded<J> {
     {
         Ok(Shown {
             rev: self.locked.rev(doc) as u64,
-            content: self.locked.anchors(alloc, doc, at, side)?,
+            content: self.locked.anchors(doc, at, side)?,
         })
     }
 
@@ -86,7 +104,6 @@ impl<J: BookNames> Guarded<J> {
     /// An error is out of memory (1). Costs what `Locked::places` does.
     pub fn places(
         &self,
-        alloc: Global,
         doc: u32,
         anchors: &[Lasting],
     ) -> Result<Shown<Vec<Option<usize>>>, AllocError>
@@ -96,7 +113,7 @@ impl<J: BookNames> Guarded<J> {
     {
         Ok(Shown {
             rev: self.locked.rev(doc) as u64,
-            content: self.locked.places(alloc, doc, anchors)?,
+            content: self.locked.places(doc, anchors)?,
         })
     }
 

@@ -2,6 +2,7 @@
 ghost use Rattle.std.specs.Prelude.{◌≡◌, IfOk, IfSome, is_some, length, All};
 ghost use Rattle.op_model.specs.Spans.{spans as spans_of};
 ghost use Rattle.op_model.specs.Text.{text as text_of, rev as rev_of};
+ghost use Rattle.replica_core.specs.Changed.{TellsChanges};
 ghost use Rattle.replica_core.specs.Places.{anchors_of, are_within, places_of};
 ghost use Rattle.shared_hub.specs.Shared.{MomentOf};
 ghost use Rattle.shared_hub.specs.Peers.{IsCounted};
@@ -11,7 +12,7 @@ use crate::shared::Shared;
 use crate::shown::Shown;
 use crate::status::Status;
 use op_ids::{Clock, ReplicaId};
-use op_model::{Lasting, Neighbour, Span, Text};
+use op_model::{ChangeStep, Lasting, Neighbour, Span, Text};
 use pass_books::{BookNames, Pass};
 use peer_counts::PeerCounts;
 use std::alloc::{AllocError, Global};
@@ -66,13 +67,32 @@ impl<J: BookNames> Shared<J> {
         guard.spans(doc)
     }
 
-    /// The places behind these numbers of visible characters of a document, that stay with one of
+    /// What changed in a document since it had so many operations; none if it has fewer, or that
+    /// was too long ago to be told. An error is out of memory (1). Costs what `Locked::changes`
+    /// does.
+    pub fn changes<R: Wait>(
+        &self,
+        rt: &R,
+        pass: &mut Pass<J>,
+        doc: u32,
+        since: usize,
+    ) -> Result<Shown<Option<Vec<ChangeStep>>>, AllocError>
+        ensures same { pass.new ≡ pass.old }
+        ensures moment { IfOk result (λ it. MomentOf pass.old
+            (λ l. (it.rev ≡ rev_of l.replica.list doc)
+            × TellsChanges l.replica.list doc since it.content)) }
+    {
+        let mut guard = self.guarded.lock(rt);
+        guard.audit(pass);
+        guard.changes(doc, since)
+    }
+
+    /// The places after these numbers of visible characters of a document, that stay with one of
     /// their neighbours; none if one of the numbers is beyond the end of the text. An error is out
     /// of memory (1). Costs what `Locked::anchors` does.
     pub fn anchors<R: Wait>(
         &self,
         rt: &R,
-        alloc: Global,
         pass: &mut Pass<J>,
         doc: u32,
         at: &[u32],
@@ -86,7 +106,7 @@ impl<J: BookNames> Shared<J> {
     {
         let mut guard = self.guarded.lock(rt);
         guard.audit(pass);
-        guard.anchors(alloc, doc, at, side)
+        guard.anchors(doc, at, side)
     }
 
     /// How many visible characters of a document stand before each of these places, if it is there.
@@ -94,7 +114,6 @@ impl<J: BookNames> Shared<J> {
     pub fn places<R: Wait>(
         &self,
         rt: &R,
-        alloc: Global,
         pass: &mut Pass<J>,
         doc: u32,
         anchors: &[Lasting],
@@ -106,7 +125,7 @@ impl<J: BookNames> Shared<J> {
     {
         let mut guard = self.guarded.lock(rt);
         guard.audit(pass);
-        guard.places(alloc, doc, anchors)
+        guard.places(doc, anchors)
     }
 }
 

@@ -41,7 +41,7 @@ character_at ops doc (c ∷ cs) zero cell there = record { c = c; there = refl; 
 character_at ops doc (c ∷ cs) (suc k) cell there =
     let rest = character_at ops doc cs k cell there in record { c = rest.c; there = rest.there; same = rest.same }
 
--- what stands before the k-th character, and behind it
+-- what stands before the k-th character, and after it
 split_at : (cs : List Character) (k : ℕ) (c : Character) → slice_get cs k ≡ Some c → cs ≡ take k cs ++ c ∷ drop (suc k) cs
 split_at [] k c there = absurd (cc)
 split_at (d ∷ cs) zero c there = let same : d ≡ c = cc in ap (λ x. x ∷ cs) same

@@ -141,7 +141,7 @@ passes_more p (n ∷ ms) m zero = rw (ne_eqb (suc (length ms)) 0 (omega arith)) 
 passes_more p (n ∷ ms) m (suc j) = passes_more p ms m j ∙ ap (λ b. passes p ms j || (p m && b)) (sym (suc_same (length ms) j))
 
 -- one more of those so far
-passes_taken : {X : Type 0} → (p : X → Bool) (ms : List X) (k : ℕ) (m : X) (j : ℕ) → k < length ms → m ≡ get_or ms k m
+pub passes_taken : {X : Type 0} → (p : X → Bool) (ms : List X) (k : ℕ) (m : X) (j : ℕ) → k < length ms → m ≡ get_or ms k m
     → passes p (take (k + 1) ms) j ≡ (passes p (take k ms) j || (p m && k == j))
 passes_taken p ms k m j within is_it =
     ap (λ ns. passes p ns j) (take_more ms k m within ∙ ap (λ n. take k ms ++ n ∷ []) (sym is_it))

@@ -16,5 +16,8 @@ pub mod SpanLemmas
 pub mod StandingLemmas
 pub mod SinceLemmas
 pub mod TellingLemmas
+pub mod SpotLemmas
+pub mod AcrossLemmas
+pub mod QuietLemmas
 pub mod PastLemmas
 pub mod ChangeLemmas

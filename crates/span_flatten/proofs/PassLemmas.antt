@@ -84,12 +84,12 @@ lt_more a b =
       | inr past ↦ lt-ltb a (b + 1) (omega arith) ∙ ap not (sym (le-ltb b a past))
     ]
 
-start_covers : (cells : List Cell) (k : ℕ) (s : Start) → k < length cells → nat_le (covered_from cells s) k ≡ has_begun cells (k + 1) k s
+pub start_covers : (cells : List Cell) (k : ℕ) (s : Start) → k < length cells → nat_le (covered_from cells s) k ≡ has_begun cells (k + 1) k s
 start_covers cells k start.OfText within = le-leb 0 k (omega arith)
 start_covers cells k (start.From (Before id)) within = le_lt (index_in id cells) k ∙ index_below id cells (k + 1) (omega arith)
 start_covers cells k (start.From (After id)) within = le_more (index_in id cells) k ∙ index_below id cells k (omega arith)
 
-end_covers : (cells : List Cell) (k : ℕ) (e : End) → k < length cells → nat_lt k (covered_to cells e) ≡ not (has_ended cells (k + 1) k e)
+pub end_covers : (cells : List Cell) (k : ℕ) (e : End) → k < length cells → nat_lt k (covered_to cells e) ≡ not (has_ended cells (k + 1) k e)
 end_covers cells k end.OfText within = lt-ltb k (length cells) within
 end_covers cells k (end.To (Before id)) within = lt_not k (index_in id cells) ∙ ap not (index_below id cells (k + 1) (omega arith))
 end_covers cells k (end.To (After id)) within = lt_more k (index_in id cells) ∙ ap not (index_below id cells k (omega arith))

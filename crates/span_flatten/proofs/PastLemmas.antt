@@ -60,7 +60,7 @@ module _ (a : Active) (cells : List Cell) (olds news : List Marking) (es : List 
       (with_end (λ m. has_ended cells k k m.end) (λ m. has_ended cells (k + 1) k m.end) c.id false (λ m. ended_reached cells k c m.end there) (olds ++ news) es edges))
       are
 
-  -- and with those behind it, it is passed
+  -- and with those after it, it is passed
   pub past_passed : IsActive a (length olds) (with_edges true false (filter (λ e. is_same e.id c.id) es) (begun_at cells olds (k + 1) k))
       (with_edges true true (filter (λ e. is_same e.id c.id) es) (ended_at cells olds (k + 1) k))
       → IsActive a (length olds) (begun_at cells olds (k + 1) (k + 1)) (ended_at cells olds (k + 1) (k + 1))

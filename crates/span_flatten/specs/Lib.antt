@@ -8,5 +8,6 @@ pub mod Ranking
 pub mod Reading
 pub mod Runs
 pub mod Since
+pub mod Spots
 pub mod Sweeping
 pub mod Telling

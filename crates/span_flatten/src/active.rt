@@ -11,9 +11,11 @@ ghost use Rattle.span_flatten.specs.Deciding.{Decides, IsNoted};
 ghost use Rattle.span_flatten.specs.Formatting.{marks_in};
 ghost use Rattle.span_flatten.specs.Picking.{picked};
 ghost use Rattle.span_flatten.specs.Sweeping.{has_begun, is_edge, is_from_start, kept};
+ghost use Rattle.span_flatten.specs.Spots.{is_across, is_over};
 ghost use Rattle.span_flatten.specs.Sweeping.{passes, with_edges, IsActive};
 
 use crate::deciding::Deciding;
+use crate::spot::Spot;
 use mark_anchors::Edge;
 use op_model::{Marking, Marks, Start};
 use std::alloc::{AllocError, Global};
@@ -46,6 +48,41 @@ impl Active {
             }
         }
         Ok(active)
+    }
+
+    /// Those at the beginning of a chunk, by their spots. An error is out of memory (1). A step for
+    /// each mark operation, and a search among those of its key for each one that has begun and
+    /// not ended.
+    pub(crate) fn at(
+        alloc: Global,
+        spots: &[Spot],
+        markings: &[Marking],
+        chunk: usize,
+    ) -> Result<Active, AllocError>
+        ensures active { IfOk result (λ a. IsActive a (length markings.now)
+            (passes (is_across chunk) spots.now) (passes (is_over chunk) spots.now)) }
+        ensures deciding { IfOk result (λ a. Decides a.deciding markings.now (kept a)) }
+    {
+        let mut active = Active::none(alloc, markings.len())?;
+        for (i, spot) in spots.iter().enumerate() {
+            if spot.to <= chunk {
+                active.skip(i);
+            } else if spot.from <= chunk {
+                active.begin(alloc, i, markings)?;
+            }
+        }
+        Ok(active)
+    }
+
+    /// A mark operation ends that hasn't begun.
+    fn skip(&mut self, i: usize)
+        ensures active { (n : ℕ) (begun ended : ℕ → Bool) → begun i ≡ false
+            → IsActive self.old n begun ended
+            → IsActive self.new n begun (λ j. ended j || i == j) }
+        ensures deciding { (ms : List stored.Marking) → Decides self.old.deciding ms (kept self.old)
+            → Decides self.new.deciding ms (kept self.new) }
+    {
+        put_flag(&mut self.ended, i, true);
     }
 
     /// Of `count` mark operations that none has begun. An error is out of memory (1).

@@ -76,12 +76,12 @@ impl Discussed {
         i: usize,
         markings: &[Marking],
     ) -> Result<(), AllocError>
-        ensures noted { OnOk result ((ids : List ℕ) → IsNoted self.old ids
-            → IsNoted self.new ids) }
         ensures discussed { OnOk result ((set : List ℕ) → IsUp set
             → is_key_at markings.now i (key.Comment id) ≡ true
             → AreDiscussed self.old markings.now set
             → AreDiscussed self.new markings.now (filter (λ j. not (j == i)) set)) }
+        ensures noted { OnOk result ((ids : List ℕ) → IsNoted self.old ids
+            → IsNoted self.new ids) }
     {
         if let Some(marking) = markings.get(i) {
             remove(&mut self.ranks, id, Rank::of(marking, i));

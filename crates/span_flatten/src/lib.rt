@@ -14,12 +14,15 @@ mod flatten;
 mod formatting;
 mod listing;
 mod marked;
+mod plan;
 mod rank;
 mod ranks;
 mod run;
 mod since;
+mod spot;
 mod sweep;
 mod telling;
+mod touched;
 
 pub use changing::changes;
 pub use error::SpansError;

@@ -1,10 +1,15 @@
 //! The marks of a character, before and now, while one after another is passed.
-ghost use Rattle.std.specs.Prelude.{◌≡◌, ℕ, Bool, List, [], true, false, IfOk, OnOk};
+ghost use Rattle.std.specs.Prelude.{◌≡◌, ◌≤◌, ◌++◌, ℕ, Bool, List, length, true, false, IfOk, OnOk};
 ghost use Rattle.char_sequence.specs.declared.cell.Cell as stored;
+ghost use Rattle.char_sequence.specs.Chunks.{cells_of, ChunkCells};
+ghost use Rattle.op_model.specs.declared.marking.Marking as marking;
+ghost use Rattle.span_flatten.specs.Reading.{offset};
+ghost use Rattle.span_flatten.specs.Spots.{AreSpots, IsBorder};
 ghost use Rattle.span_flatten.specs.Passing.{IsDecided, IsLooked, IsMarked};
 ghost use Rattle.span_flatten.specs.Sweeping.{with_edges, IsActive};
 
 use crate::active::Active;
+use crate::spot::Spot;
 use mark_anchors::Edge;
 use op_model::{CommentIds, Marking, Marks};
 use std::alloc::{AllocError, Global};
@@ -38,6 +43,31 @@ impl Marked {
         Ok(Marked {
             past: Active::new(alloc, past)?,
             present: Active::new(alloc, markings)?,
+            is_changed: true,
+            marks: no_marks(alloc),
+            are_same: true,
+        })
+    }
+
+    /// At the beginning of a chunk, by the spots of all mark operations. An error is out of memory
+    /// (1). A step for each, and a search among those of its key for each one that has begun and
+    /// not ended.
+    pub(crate) fn at(
+        alloc: Global,
+        spots: &[Spot],
+        past: &[Marking],
+        markings: &[Marking],
+        chunk: usize,
+    ) -> Result<Marked, AllocError>
+        requires { length past.now ≤ length spots.now }
+        ensures { IfOk result (λ m. (held : ChunkCells) (news : List marking.Marking)
+            → markings.now ≡ past.now ++ news → AreSpots held spots.now markings.now
+            → IsBorder held chunk → IsMarked m (cells_of held) past.now markings.now
+            (offset held chunk) (offset held chunk)) }
+    {
+        Ok(Marked {
+            past: Active::at(alloc, &spots[..past.len()], past, chunk)?,
+            present: Active::at(alloc, spots, markings, chunk)?,
             is_changed: true,
             marks: no_marks(alloc),
             are_same: true,

@@ -111,5 +111,12 @@ impl Since {
 pub(crate) fn one_more(count: usize) -> Result<usize, AllocError>
     ensures { IfOk result (λ more. more ≡ count + 1) }
 {
-    count.checked_add(1).ok_or(AllocError)
+    sum(count, 1)
+}
+
+/// Both together. An error is out of memory (1): that ends long before so many are counted.
+pub(crate) fn sum(count: usize, more: usize) -> Result<usize, AllocError>
+    ensures { IfOk result (λ sum. sum ≡ count + more) }
+{
+    count.checked_add(more).ok_or(AllocError)
 }

@@ -1,10 +1,11 @@
 //! Steps that are told from left to right: each joins the last one, if it can.
-ghost use Rattle.std.specs.Prelude.{◌≡◌, [], ◌∷◌, ◌++◌, IfOk, OnOk};
+ghost use Rattle.std.specs.Prelude.{◌≡◌, ℕ, [], ◌∷◌, ◌++◌, IfOk, OnOk};
 ghost use Rattle.op_model.specs.declared.change_step.ChangeStep.TheVariants as step;
 ghost use Rattle.model_laws.specs.Since.{with_any_last, with_last};
-ghost use Rattle.span_flatten.specs.Telling.{brought, turned};
+ghost use Rattle.span_flatten.specs.Listing.{listed_any};
+ghost use Rattle.span_flatten.specs.Telling.{brought, keeping, turned};
 
-use crate::since::one_more;
+use crate::since::{one_more, sum};
 use op_model::{ChangeStep, Marks, Span, Text};
 use std::alloc::{AllocError, Global};
 
@@ -29,7 +30,7 @@ pub(crate) fn tell(
         (turned known.was_seen known.is_seen known.are_same marks.now value)) }
 {
     match (known.was_seen, known.is_seen) {
-        (true, true) if known.are_same => keep(steps),
+        (true, true) if known.are_same => keep(1, steps),
         (true, true) => mark(marks, steps),
         (true, false) => drop_one(steps),
         (false, true) => put(alloc, value, marks, steps),
@@ -37,24 +38,50 @@ pub(crate) fn tell(
     }
 }
 
-/// One more character stays as it is. An error is out of memory (1).
-fn keep(steps: &mut Vec<ChangeStep>) -> Result<(), AllocError>
-    ensures { OnOk result (steps.new.items ≡ with_last steps.old.items (step.Keep 1)) }
+/// How many comment ids the step of one character lists.
+pub(crate) fn listed(known: Known, marks: &Marks) -> usize
+    ensures { (value : ℕ) → result ≡ listed_any
+        (turned known.was_seen known.is_seen known.are_same marks.now value) }
 {
-    match steps.pop() {
-        Some(last) => keep_behind(last, steps),
-        None => Ok(steps.push(ChangeStep::Keep(1))?),
+    match (known.was_seen, known.is_seen) {
+        (true, true) if known.are_same => 0,
+        (true, false) | (false, false) => 0,
+        _ => marks.comments.as_slice().len(),
     }
 }
 
-/// The same, behind a last step that was taken from the others.
-fn keep_behind(last: ChangeStep, steps: &mut Vec<ChangeStep>) -> Result<(), AllocError>
+/// So many more characters stay as they are. An error is out of memory (1).
+pub(crate) fn keep_all(count: usize, steps: &mut Vec<ChangeStep>) -> Result<(), AllocError>
+    ensures { OnOk result (steps.new.items ≡ keeping steps.old.items count) }
+{
+    if count == 0 {
+        return Ok(());
+    }
+    keep(count, steps)
+}
+
+/// The same, for at least one.
+fn keep(count: usize, steps: &mut Vec<ChangeStep>) -> Result<(), AllocError>
+    ensures { OnOk result (steps.new.items ≡ with_last steps.old.items (step.Keep count)) }
+{
+    match steps.pop() {
+        Some(last) => keep_behind(count, last, steps),
+        None => Ok(steps.push(ChangeStep::Keep(count))?),
+    }
+}
+
+/// The same, after a last step that was taken from the others.
+fn keep_behind(
+    count: usize,
+    last: ChangeStep,
+    steps: &mut Vec<ChangeStep>,
+) -> Result<(), AllocError>
     ensures { OnOk result (steps.new.items
-        ≡ steps.old.items ++ with_last (last ∷ []) (step.Keep 1)) }
+        ≡ steps.old.items ++ with_last (last ∷ []) (step.Keep count)) }
 {
     match last {
-        ChangeStep::Keep(count) => Ok(steps.push(ChangeStep::Keep(one_more(count)?))?),
-        last => push_both(steps, last, ChangeStep::Keep(1)),
+        ChangeStep::Keep(kept) => Ok(steps.push(ChangeStep::Keep(sum(kept, count)?))?),
+        last => push_both(steps, last, ChangeStep::Keep(count)),
     }
 }
 
@@ -68,7 +95,7 @@ fn drop_one(steps: &mut Vec<ChangeStep>) -> Result<(), AllocError>
     }
 }
 
-/// The same, behind a last step that was taken from the others.
+/// The same, after a last step that was taken from the others.
 fn drop_one_behind(last: ChangeStep, steps: &mut Vec<ChangeStep>) -> Result<(), AllocError>
     ensures { OnOk result (steps.new.items
         ≡ steps.old.items ++ with_last (last ∷ []) (step.Drop 1)) }
@@ -89,7 +116,7 @@ fn mark(marks: &Marks, steps: &mut Vec<ChangeStep>) -> Result<(), AllocError>
     }
 }
 
-/// The same, behind a last step that was taken from the others.
+/// The same, after a last step that was taken from the others.
 fn mark_behind(
     marks: &Marks,
     last: ChangeStep,
@@ -128,7 +155,7 @@ fn put(
     }
 }
 
-/// The same, behind a last step that was taken from the others.
+/// The same, after a last step that was taken from the others.
 fn put_behind(
     alloc: Global,
     value: char,
@@ -150,7 +177,7 @@ fn put_behind(
     }
 }
 
-/// Puts two steps behind others. An error is out of memory (1).
+/// Puts two steps after others. An error is out of memory (1).
 fn push_both(
     steps: &mut Vec<ChangeStep>,
     last: ChangeStep,
@@ -174,7 +201,7 @@ fn first(alloc: Global, value: char, marks: &Marks) -> Result<ChangeStep, AllocE
     }))
 }
 
-/// A span with one character more behind. An error is out of memory (1).
+/// A span with one character more after. An error is out of memory (1).
 fn with_character(span: Span, value: char) -> Result<Span, AllocError>
     ensures { IfOk result (λ longer.
         longer ≡ record { text = span.text ++ value ∷ []; marks = span.marks }) }

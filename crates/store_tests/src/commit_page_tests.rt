@@ -2,22 +2,6 @@
 use crate::test_bench::plays;
 use std::test::Fail;
 
-#[test]
-fn a_commit_writes_the_pages_that_change(rt: HostRuntime) -> Result<(), Fail> {
-    plays(
-        &rt,
-        "new 16
-        inserts 1 256 : 256
-        finish : 9 writes, 3 syncs
-        inserts 257 257 : 257
-        finish : 5 writes, 3 syncs
-        inserts 258 258 : 258
-        finish : 5 writes, 3 syncs
-        stop
-        size : 45056",
-    )
-}
-
 /// After one commit, after two and after three: the size, the numbers of the pages in the live slot
 /// (0 or 1), and those in its table page (8 or 10).
 const NUMBERS: &str = "

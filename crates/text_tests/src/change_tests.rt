@@ -1,148 +1,11 @@
 //! What changed in a document, as steps over the text that a reader has.
-use crate::test_acts::Act::{Delete, Insert, Mark, Unmark};
+use crate::test_acts::Act;
+use crate::test_acts::Act::{Delete, Insert, InsertMany, Mark, Unmark};
 use crate::test_acts::Look::{Commented, Em, Plain, Strong};
-use crate::test_acts::{Act, Look, span_marks};
+use crate::test_changes::{Due, after, are_same, changes, characters, follows, steps_of};
 use crate::test_documents::Peer;
-use crate::test_names::text_of;
-use doc_core::Since;
-use op_model::{Body, ChangeStep, Marks, Op, Span};
-use slow_programs::spans;
 use std::alloc::Global;
 use std::test::Fail;
-
-/// A step as it stands in a row.
-#[derive(Clone, Copy)]
-enum Due<'a> {
-    Keep(usize),
-    Drop(usize),
-    Put(&'a str, Look<'a>),
-    Mark(usize, Look<'a>),
-}
-
-/// A character as a reader has it.
-#[derive(Drop)]
-struct Seen {
-    value: char,
-    marks: Marks,
-}
-
-/// The steps of a row.
-fn steps_of(alloc: Global, due: &[Due<'_>]) -> Result<Vec<ChangeStep>, Fail> {
-    let mut steps = Vec::new(alloc);
-    for step in due {
-        let step = match step {
-            Due::Keep(count) => ChangeStep::Keep(*count),
-            Due::Drop(count) => ChangeStep::Drop(*count),
-            Due::Put(text, look) => ChangeStep::Put(Span {
-                text: text_of(alloc, text)?,
-                marks: span_marks(alloc, *look)?,
-            }),
-            Due::Mark(count, look) => ChangeStep::Mark(*count, span_marks(alloc, *look)?),
-        };
-        steps.push(step)?;
-    }
-    Ok(steps)
-}
-
-/// Whether an operation removes a character that some of these removed before.
-fn is_repeat(before: &[Op], op: &Op) -> bool {
-    let Body::Remove { target } = &op.body else {
-        return false;
-    };
-    for other in before {
-        if matches!(&other.body, Body::Remove { target: old } if *old == *target) {
-            return true;
-        }
-    }
-    false
-}
-
-/// What came since the first so many operations.
-fn since(alloc: Global, ops: &[Op], from: usize) -> Result<Since, Fail> {
-    let mut since = Since::new(alloc, 1);
-    for (index, op) in ops.iter().enumerate().skip(from).rev() {
-        let before = ops.get(..index).ok_or("no operation")?;
-        since.take_before(op, is_repeat(before, op))?;
-    }
-    Ok(since)
-}
-
-/// What changed in a peer's document since its list had so many operations.
-fn changes(peer: &Peer, from: usize) -> Result<Vec<ChangeStep>, Fail> {
-    let since = since(peer.alloc, &peer.ops, from)?;
-    Ok(peer.doc.changes(&since)?)
-}
-
-/// The characters of spans.
-fn seen(alloc: Global, spans: &[Span]) -> Result<Vec<Seen>, Fail> {
-    let mut seen = Vec::new(alloc);
-    for span in spans {
-        for value in span.text.as_slice() {
-            let marks = span.marks.copy()?;
-            seen.push(Seen {
-                value: *value,
-                marks,
-            })?;
-        }
-    }
-    Ok(seen)
-}
-
-/// What a reader has after these steps; those that no step speaks of stay.
-fn after(alloc: Global, steps: &[ChangeStep], had: Vec<Seen>) -> Result<Vec<Seen>, Fail> {
-    let mut rest = had.into_iter();
-    let mut now = Vec::new(alloc);
-    for step in steps {
-        match step {
-            ChangeStep::Keep(count) => {
-                for _ in 0..*count {
-                    now.push(rest.next().ok_or("kept too many")?)?;
-                }
-            }
-            ChangeStep::Drop(count) => {
-                for _ in 0..*count {
-                    let _ = rest.next().ok_or("dropped too many")?;
-                }
-            }
-            ChangeStep::Put(span) => {
-                for value in span.text.as_slice() {
-                    let marks = span.marks.copy()?;
-                    now.push(Seen {
-                        value: *value,
-                        marks,
-                    })?;
-                }
-            }
-            ChangeStep::Mark(count, marks) => {
-                for _ in 0..*count {
-                    let value = rest.next().ok_or("marked too many")?.value;
-                    let marks = marks.copy()?;
-                    now.push(Seen { value, marks })?;
-                }
-            }
-        }
-    }
-    for left in rest {
-        now.push(left)?;
-    }
-    Ok(now)
-}
-
-fn are_same(a: &[Seen], b: &[Seen]) -> bool {
-    a.len() == b.len()
-        && a.iter()
-            .zip(b)
-            .all(|(x, y)| x.value == y.value && x.marks.are_same(&y.marks))
-}
-
-/// Whether one who takes the steps has what the plain programs make of the list.
-fn follows(peer: &Peer, from: usize) -> Result<bool, Fail> {
-    let alloc = peer.alloc;
-    let before = peer.ops.get(..from).ok_or("no operation")?;
-    let had = seen(alloc, &spans(alloc, before, 1)?)?;
-    let now = seen(alloc, &spans(alloc, &peer.ops, 1)?)?;
-    Ok(are_same(&after(alloc, &changes(peer, from)?, had)?, &now))
-}
 
 /// The replicas of a row: of both the first one's changes are told.
 fn abc(alloc: Global) -> Result<(Box<Peer>, Box<Peer>), Fail> {
@@ -154,7 +17,8 @@ fn abc(alloc: Global) -> Result<(Box<Peer>, Box<Peer>), Fail> {
 }
 
 fn told(peer: &Peer, from: usize, due: &[Due<'_>]) -> Result<bool, Fail> {
-    Ok(changes(peer, from)? == steps_of(peer.alloc, due)? && follows(peer, from)?)
+    let are_due = changes(peer, from)? == steps_of(peer.alloc, due)?;
+    Ok(are_due && follows(peer, from)?)
 }
 
 #[test]
@@ -242,7 +106,7 @@ fn somewhere(state: &mut u64, size: u32) -> Act<'static> {
     let to = from.wrapping_add(1).wrapping_add(below(state, most));
     match below(state, 8) {
         0 => Delete(from, 1),
-        1 => Delete(from, to.wrapping_sub(from)),
+        1 => Delete(from, to.wrapping_sub(from).min(200)),
         2 => Mark(from, to, Strong),
         3 => Unmark(from, to, Strong),
         4 => Mark(from, to, Commented(1)),
@@ -281,6 +145,67 @@ fn one_who_takes_the_steps_has_what_the_plain_programs_make(rt: HostRuntime) -> 
     let mut state = 7;
     for _ in 0..40 {
         assert!(rt; can_follow(rt.alloc(), &mut state)?);
+    }
+    Ok(())
+}
+
+/// A text of many chunks, which both have.
+fn long(alloc: Global) -> Result<(Box<Peer>, Box<Peer>), Fail> {
+    let mut a = Peer::new(alloc, 1)?;
+    let mut b = Peer::new(alloc, 2)?;
+    for _ in 0..12 {
+        a.edit(InsertMany(0, 256))?;
+    }
+    b.take_from(&a, 0)?;
+    Ok((a, b))
+}
+
+#[test]
+fn far_parts_of_a_long_text_stay(rt: HostRuntime) -> Result<(), Fail> {
+    let (mut a, _) = long(rt.alloc())?;
+    let from = a.ops.len();
+    a.edit(Insert(1000, "z"))?;
+    a.edit(Delete(2500, 2))?;
+    let mut due = [
+        Due::Keep(1000),
+        Due::Put("z", Plain),
+        Due::Keep(1499),
+        Due::Drop(2),
+        Due::Keep(571),
+    ];
+    assert!(rt; changes(&a, from)? == steps_of(rt.alloc(), &due)?);
+    a.edit(Mark(10, 2400, Strong))?;
+    due[0] = Due::Keep(3071);
+    assert!(rt; changes(&a, a.ops.len())? == steps_of(rt.alloc(), &due[..1])?);
+    let marked = [Due::Keep(10), Due::Mark(2390, Strong), Due::Keep(671)];
+    let last = a.ops.len().wrapping_sub(1);
+    assert!(rt; changes(&a, last)? == steps_of(rt.alloc(), &marked)?);
+    Ok(())
+}
+
+/// Some edits of a long text that two have: whether the second one can follow the first.
+fn can_follow_far(alloc: Global, state: &mut u64) -> Result<bool, Fail> {
+    let (mut a, mut b) = long(alloc)?;
+    for _ in 0..4 {
+        let known = a.ops.len();
+        let had = characters(alloc, &b.doc.spans()?)?;
+        for _ in 0..3 {
+            edit_somewhere(&mut a, state)?;
+        }
+        let now = characters(alloc, &a.doc.spans()?)?;
+        if !are_same(&after(alloc, &changes(&a, known)?, had)?, &now) {
+            return Ok(false);
+        }
+        b.take_from(&a, known)?;
+    }
+    Ok(true)
+}
+
+#[test]
+fn one_who_has_a_long_text_can_follow(rt: HostRuntime) -> Result<(), Fail> {
+    let mut state = 11;
+    for _ in 0..2 {
+        assert!(rt; can_follow_far(rt.alloc(), &mut state)?);
     }
     Ok(())
 }

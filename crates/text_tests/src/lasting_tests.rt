@@ -4,7 +4,7 @@ use crate::test_documents::Peer;
 use op_model::{Lasting, Neighbour};
 use std::test::Fail;
 
-/// The place behind `at` visible characters.
+/// The place after `at` visible characters.
 fn place(peer: &Peer, at: usize, side: Neighbour) -> Result<Lasting, Fail> {
     Ok(peer.doc.place(at, side).ok_or("no place")?)
 }

@@ -26,6 +26,8 @@ mod span_tests;
 #[cfg(test)]
 mod test_acts;
 #[cfg(test)]
+mod test_changes;
+#[cfg(test)]
 mod test_documents;
 #[cfg(test)]
 mod test_names;

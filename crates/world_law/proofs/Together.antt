@@ -15,7 +15,8 @@ use Rattle.op_model.specs.Made.{made, greatest_counter, bodies_of}
 use Rattle.op_model.specs.Records.{record_length}
 use Rattle.op_model.specs.Replay.{reached}
 use Rattle.op_model.specs.Tokens.{carries, is_token, last_of}
-use Rattle.op_model.specs.Machine.{Commit, State, Ticket, Event, edit, merge, begin, device_step, settle, ack, tell, have, Answer, ticket, applied, known, early}
+use Rattle.op_model.specs.Machine.{Commit, State, Ticket, Event, edit, merge, begin, device_step, settle, ack, tell}
+use Rattle.op_model.specs.Machine.{have, Answer, ticket, applied, known, early}
 use Rattle.op_model.specs.Machine.{begun, nothing_new, idle, goes_on, goes_through, settled_to, acknowledged, operations, clock, refused, holding}
 use Rattle.op_model.specs.Machine.{through, through_of, has_record_room, ticket_behind, token_ticket, known_ticket, merge_alone, merge_answer_unless}
 use Rattle.op_model.specs.Machine.{EditStep, MergeStep, BeginStep, DeviceStep, SettleStep, AckStep, TellStep, HaveStep, Step}

@@ -13,32 +13,40 @@
 [Span(text='The '), Span(text='quick', strong=True), Span(text=' fox')]
 """
 
+from .changing import Changes, Delete, Insert, Retain, Step, applied
 from .daemon import connect
 from .document import Document, Reading
 from .file import init, open
-from .marks import EM, STRONG, Comment, Link, Mark, Span
+from .marks import EM, STRONG, Comment, Link, Mark, Marks, Span
 from .peers import Connected, Peer
 from .refusals import Ended, NoDaemon, Refused, Stale
 from .session import Session
 from .watching import Watch
 
 __all__ = [
+    "Changes",
     "Comment",
     "Connected",
+    "Delete",
     "Document",
     "EM",
     "Ended",
+    "Insert",
     "Link",
     "Mark",
+    "Marks",
     "NoDaemon",
     "Peer",
     "Reading",
     "Refused",
+    "Retain",
     "STRONG",
     "Session",
     "Span",
     "Stale",
+    "Step",
     "Watch",
+    "applied",
     "connect",
     "init",
     "open",

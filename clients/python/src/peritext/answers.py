@@ -51,6 +51,10 @@ def _is_number(value: Any) -> bool:
     return type(value) is int and value >= 0
 
 
+def _is_count(value: Any) -> bool:
+    return _is_number(value) and value > 0
+
+
 def _is_text(value: Any) -> bool:
     return isinstance(value, str)
 
@@ -60,7 +64,30 @@ def _are_spans(value: Any) -> bool:
 
 
 def _is_span(value: Any) -> bool:
-    return isinstance(value, dict) and _is_text(value.get("text")) and all(_MARKS[key](value[key]) for key in _MARKS if key in value)
+    return _are_marks(value) and _is_text(value.get("text"))
+
+
+def _are_marks(value: Any) -> bool:
+    return isinstance(value, dict) and all(_MARKS[key](value[key]) for key in _MARKS if key in value)
+
+
+def _are_steps(value: Any) -> bool:
+    return isinstance(value, list) and all(map(_is_step, value))
+
+
+def _is_step(value: Any) -> bool:
+    """Whether it has the fields of a step, and no others, and they are right."""
+    fields = _STEPS.get(frozenset(value), {}) if isinstance(value, dict) else {}
+    return bool(fields) and all(is_right(value[name]) for name, is_right in fields.items())
+
+
+def _are_all_marks(value: Any) -> bool:
+    """Whether it says of each kind of mark what holds, or None."""
+    return isinstance(value, dict) and all(key in value for key in _MARKS) and _are_marks(_held(value))
+
+
+def _held(marks: Mapping[str, Any]) -> dict[str, Any]:
+    return {key: value for key, value in marks.items() if value is not None}
 
 
 def _is_flag(value: Any) -> bool:
@@ -85,6 +112,14 @@ def _is_peer(value: Any) -> bool:
 
 _PEER = {"has": _is_number, "lacks": _is_number, "replica": _is_text}
 _MARKS = {"strong": _is_flag, "em": _is_flag, "link": _is_text, "comments": _are_texts}
+# The fields of a step, for each of its forms.
+_STEPS: dict[frozenset[str], dict[str, Callable[[Any], bool]]] = {
+    frozenset(("retain",)): {"retain": _is_count},
+    frozenset(("delete",)): {"delete": _is_count},
+    frozenset(("insert",)): {"insert": _is_text},
+    frozenset(("attributes", "insert")): {"insert": _is_text, "attributes": _are_marks},
+    frozenset(("attributes", "retain")): {"retain": _is_count, "attributes": _are_all_marks},
+}
 _REFUSAL = {"code": _is_number, "error": _is_text}
 _EDITED = {"rev": _is_number}
 # The fields of an answer, by the request.
@@ -95,6 +130,7 @@ _FIELDS: dict[str, dict[str, Callable[[Any], bool]]] = {
     "unmark": _EDITED,
     "text": {"rev": _is_number, "text": _is_text},
     "spans": {"rev": _is_number, "spans": _are_spans},
+    "changes": {"rev": _is_number, "changes": _are_steps},
     "anchors": {"rev": _is_number, "anchors": _are_texts},
     "places": {"rev": _is_number, "places": _are_places},
     "status": {"applied": _is_number, "settled": _is_number, "state": _is_text},

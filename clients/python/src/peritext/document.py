@@ -5,6 +5,7 @@ from __future__ import annotations
 from typing import TYPE_CHECKING, Any, Iterable, Iterator, NamedTuple
 from uuid import UUID, uuid5
 
+from .changing import Changes, step_of
 from .marks import Mark, Span
 from .refusals import Stale
 from .rules import LONGEST, MOST, is_whole
@@ -76,6 +77,31 @@ class Document:
     def spans(self) -> list[Span]:
         """The text in runs of equal marks."""
         return [Span.of(span) for span in self.session.ask(op="spans", doc=self.number)["spans"]]
+
+    def changes(self, since: int) -> Changes:
+        """What changed since a `rev`, for whoever has the text of then: steps that make the text of now of it, from its start on, each over so
+        many characters, and the `rev` of now. A character that stayed is the one that it was, whatever equal ones stand beside it. From 0 on
+        there is an `Insert` for each span. `applied` makes the spans of now of those of then.
+
+        >>> since = document.insert(0, "red fox")
+        >>> _ = document.delete(0, 3)
+        >>> steps, rev = document.changes(since)
+        >>> steps
+        [Delete(count=3)]
+
+        It is `Stale` if the document doesn't have so many operations, and if they are too old to be told: from before the file was opened.
+        The `rev` of another session, or of the connection before, could name another text: so it is `Stale` too, and isn't asked for, before
+        this session was told one of this document over its connection. Then go on from 0.
+        """
+        parted = self.session.parted
+        # The text at 0 is empty everywhere. What is no number is refused as it is.
+        if is_whole(since, 1) and not self.session.knows_rev(self.number):
+            raise Stale(6, "stale")
+        answer = self.session.ask(op="changes", doc=self.number, since=since)
+        # It was asked for again over another connection.
+        if since != 0 and parted != self.session.parted:
+            raise Stale(6, "stale")
+        return Changes([step_of(step) for step in answer["changes"]], answer["rev"])
 
     def anchor(self, at: int, side: str = "previous", rev: int | None = None) -> str:
         """A name for a place between characters, which lasts: it stays with the character before it (`previous`, so that what is typed there

@@ -2,7 +2,7 @@
 
 from __future__ import annotations
 
-from dataclasses import dataclass, field, fields
+from dataclasses import dataclass, field
 from typing import Any, Mapping, Union
 from uuid import UUID
 
@@ -54,6 +54,34 @@ Mark = Union[Plain, Link, Comment]
 
 
 @dataclass(frozen=True, repr=False)
+class Marks:
+    """All marks of a character."""
+
+    strong: bool = False
+    em: bool = False
+    link: str | None = None
+    comments: tuple[UUID, ...] = field(default=())
+
+    def __repr__(self) -> str:
+        """Those marks that are there."""
+        return f"Marks({', '.join(_shown(self))})"
+
+    def on(self, text: str) -> Span:
+        """A text with these marks."""
+        return Span(text, self.strong, self.em, self.link, self.comments)
+
+    @staticmethod
+    def of(answer: Mapping[str, Any]) -> Marks:
+        """Those that an answer names: one that isn't there is left out there, or None."""
+        return Marks(
+            answer.get("strong") or False,
+            answer.get("em") or False,
+            answer.get("link"),
+            tuple(UUID(comment) for comment in answer.get("comments") or ()),
+        )
+
+
+@dataclass(frozen=True, repr=False)
 class Span:
     """Text whose characters all have the same marks, as long as it can be."""
 
@@ -65,16 +93,14 @@ class Span:
 
     def __repr__(self) -> str:
         """The text, and those marks that are there."""
-        shown = [f"text={self.text!r}"]
-        shown += [f"{f.name}={getattr(self, f.name)!r}" for f in fields(self)[1:] if getattr(self, f.name) not in (False, None, ())]
-        return f"Span({', '.join(shown)})"
+        return f"Span({', '.join([f'text={self.text!r}', *_shown(self)])})"
 
     @staticmethod
     def of(answer: Mapping[str, Any]) -> Span:
-        return Span(
-            answer["text"],
-            answer.get("strong", False),
-            answer.get("em", False),
-            answer.get("link"),
-            tuple(UUID(comment) for comment in answer.get("comments", ())),
-        )
+        return Marks.of(answer).on(answer["text"])
+
+
+def _shown(marked: Marks | Span) -> list[str]:
+    """Those marks that are there, as a call names them."""
+    there = {name: getattr(marked, name) for name in ("strong", "em", "link", "comments")}
+    return [f"{name}={value!r}" for name, value in there.items() if value not in (False, None, ())]

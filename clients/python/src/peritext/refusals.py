@@ -79,8 +79,8 @@ class Refused(Exception):
 
 
 class Stale(Refused):
-    """The document isn't at the `rev` that the edit was made for (6), or this session hasn't read it yet: read it anew, and make the edit for
-    what is there now."""
+    """The document isn't at the `rev` that the edit was made for (6), what changed since one can't be told, or this session hasn't read it yet:
+    read it anew, and make the edit for what is there now."""
 
 
 class Ended(Exception):

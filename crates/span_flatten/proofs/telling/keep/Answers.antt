@@ -7,5 +7,5 @@ use Rattle.span_flatten.proofs.telling.keep.Goals as goal
 
 pub returns-in-Some : goal.returns-in-Some
 returns-in-Some c =
-    on_ok_weaker c.keep_behind.result (λ is. is ∙ behind c.pop.new.self.items c.in-Some.last (Keep 1)
-    ∙ ap (λ ss. with_last ss (Keep 1)) (sym c.in-Some.ensures.items)) c.keep_behind.ensures
+    on_ok_weaker c.keep_behind.result (λ is. is ∙ behind c.pop.new.self.items c.in-Some.last (Keep c.args.count)
+    ∙ ap (λ ss. with_last ss (Keep c.args.count)) (sym c.in-Some.ensures.items)) c.keep_behind.ensures

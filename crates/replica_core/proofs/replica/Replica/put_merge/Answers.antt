@@ -1,4 +1,4 @@
-use Rattle.std.proofs.Common.{◌≡◌, [], ◌∷◌, ◌∙◌, length, ap, Err, refl, rules, arith}
+use Rattle.std.proofs.Common.{sym, ◌≡◌, [], ◌∷◌, ◌∙◌, length, ap, Err, refl, rules, arith}
 use Rattle.std.proofs.lemmas.Bool.{eq-eqb}
 use Rattle.model_laws.proofs.Closed.{follows_fits}
 use Rattle.op_ids.specs.Clock.{advanced}
@@ -34,10 +34,14 @@ invariant_of-self-2 c =
     let can = rw (← c.self.view_is) at c.requires in
     let at : c.len-index.result ≡ length c.self.inside.log.list = search rules in
     let counts : c.advance.new.clock ≡ advanced c.self.inside.clock c.args.op.id.replica = rw (c.in_ok-clock.ensures, c.replica.ensures) at c.in_ok-advance.ensures in
+    let docs = rw c.deref-2.ensures.value at c.at.ensures.stands in
+    let again = c.removes_again-is_repeat.ensures c.self.inside.log.list (docs c.self.inside.log.list c.self.invariant.docs)
+    (c.at.ensures.number ∙ c.new-empty.ensures.number) can.joins.follows in
     rw c.push.ensures
     (AreFields-merge c.self.inside.id c.self.inside.opened c.self.inside.settled c.self.inside.acked c.self.inside.told c.args.peer c.len-index.result
     c.self.inside.steps c.self.inside.log c.append.new.self c.in_ok-made.made c.args.op c.self.inside.clock c.advance.new.clock c.self.inside.tokens
-    c.self.invariant can counts c.in-Ok.ensures.ok c.in_ok-made.ensures at)
+    c.self.inside.repeats c.put.new.self c.self.invariant can counts c.in-Ok.ensures.ok c.in_ok-made.ensures at
+    (c.put.ensures c.self.inside.log.list c.args.op c.self.invariant.repeats (sym at) again))
 
 pub unreachable-requires : goal.unreachable-requires
 unreachable-requires c =
@@ -49,4 +53,11 @@ pub push-requires : goal.push-requires
 push-requires c =
     let can = rw (← c.self.view_is) at c.requires in
     let places = can.places in
+    omega arith
+
+pub put-requires : goal.put-requires
+put-requires c =
+    let can = rw (← c.self.view_is) at c.requires in
+    let at : c.len-index.result ≡ length c.self.inside.log.list = search rules in
+    let few = list_fits c.self.inside.log.list (c.args.op ∷ []) can.joins.follows.limits in
     omega arith

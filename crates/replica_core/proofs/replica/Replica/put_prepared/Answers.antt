@@ -42,7 +42,7 @@ invariant_of-self-2 c =
     rw (c.push.ensures, c.of.ensures)
     (AreFields-edit c.self.inside.id c.self.inside.opened c.self.inside.settled c.self.inside.acked c.self.inside.told c.args.session c.len-first.result c.size-count.result
     c.self.inside.steps c.self.inside.log c.append.new.self c.args.prepared.made c.args.edit.now _ c.args.prepared.clock c.self.inside.tokens c.keep.new.self
-    c.self.invariant can some is.clock c.in-Ok.ensures.ok is.operations first c.size-count.ensures.value tokens)
+    c.self.inside.repeats c.self.invariant can some is.clock c.in-Ok.ensures.ok is.operations first c.size-count.ensures.value tokens)
 
 pub returns-clause-made : goal.returns-clause-made
 returns-clause-made c =

@@ -12,7 +12,7 @@ untold-requires-clause-counted c = rw c.as_slice-list.ensures (record {
 
 pub invariant_of-self : goal.invariant_of-self
 invariant_of-self c =
-    AreFields-told _ c.in_ok-ops.reached c.max-self-inside.result _ _ _ _ c.self.invariant c.in_ok-ops.ensures.within c.max-self-inside.ensures
+    AreFields-told _ c.in_ok-ops.reached c.max-self-inside.result _ _ _ _ _ c.self.invariant c.in_ok-ops.ensures.within c.max-self-inside.ensures
 
 pub returns-clause-told : goal.returns-clause-told
 returns-clause-told c =

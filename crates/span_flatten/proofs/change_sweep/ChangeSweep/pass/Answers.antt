@@ -5,6 +5,8 @@ use Rattle.op_model.specs.Spans.{is_same_marks}
 use Rattle.model_laws.specs.Since.{with_any_last}
 use Rattle.mark_anchors.specs.Edges.{AreEdges}
 use Rattle.mark_anchors.specs.Keeping.{in_order}
+use Rattle.char_sequence.specs.Weave.{AreOnce}
+use Rattle.char_sequence.proofs.OnceLemmas.{once_content}
 use Rattle.span_flatten.specs.Covering.{covering}
 use Rattle.span_flatten.specs.Formatting.{marks_in}
 use Rattle.span_flatten.specs.Passing.{marks_by, IsDecided}
@@ -28,30 +30,34 @@ returns c = λ cells k there was.
     let edges : AreEdges (olds ++ news) es = rw (take-append-drop (length ms - since.marked) ms) c.are_edges.ensures in
     let are_all : c.in_order-markings.result.now ≡ ms = c.in_order-markings.ensures in
     let are_old : c.older-past.result.now ≡ olds = c.older-past.ensures ∙ ap (older since) are_all in
-    let past = past_reached c.take.new.self.past cells olds news es k cell there edges
-    (rw c.edges_at-edges.ensures at (c.in_ok-take.ensures.past (length olds) (begun_at cells olds k k) (ended_at cells olds k k) was.marked.past)) in
-    let present = has_reached c.take.new.self.present cells ms es k cell there c.are_edges.ensures
-    (rw c.edges_at-edges.ensures at (c.in_ok-take.ensures.present (length ms) (begun_at cells ms k k) (ended_at cells ms k k) was.marked.present)) in
-    let decided : IsDecided c.take.new.self c.older-past.result.now c.in_order-markings.result.now =
-    c.in_ok-take.ensures.decided (rw (are_old, are_all) was.marked.decided) in
-    let old : marks_by c.take.new.self.past c.older-past.result.now ≡ marks_in (covering cells olds k) =
-    ap (λ ns. marks_in (picked ns (kept c.take.new.self.past))) are_old ∙ ap marks_in (picked_covering c.take.new.self.past cells olds k cell there past) in
-    let new : marks_by c.take.new.self.present c.in_order-markings.result.now ≡ marks_in (covering cells ms k) =
-    ap (λ ns. marks_in (picked ns (kept c.take.new.self.present))) are_all ∙ ap marks_in (picked_covering c.take.new.self.present cells ms k cell there present) in
-    let past_still : IsActive c.see.new.self.marked.past (length olds) (begun_at cells olds (k + 1) k) (ended_at cells olds (k + 1) k) =
-    rw c.see.ensures.past past in
-    let present_still : IsActive c.see.new.self.marked.present (length ms) (begun_at cells ms (k + 1) k) (ended_at cells ms (k + 1) k) =
-    rw c.see.ensures.present present in
+    let past : AreOnce cells → IsActive c.take.new.self.past (length olds) (begun_at cells olds (k + 1) k) (ended_at cells olds (k + 1) k) =
+    λ once. past_reached c.take.new.self.past cells olds news es k cell there edges
+    (rw c.edges_at-edges.ensures at (c.in_ok-take.ensures.past (length olds) (begun_at cells olds k k) (ended_at cells olds k k) (was.marked once).past)) in
+    let present : AreOnce cells → IsActive c.take.new.self.present (length ms) (begun_at cells ms (k + 1) k) (ended_at cells ms (k + 1) k) =
+    λ once. has_reached c.take.new.self.present cells ms es k cell there c.are_edges.ensures
+    (rw c.edges_at-edges.ensures at (c.in_ok-take.ensures.present (length ms) (begun_at cells ms k k) (ended_at cells ms k k) (was.marked once).present)) in
+    let decided : AreOnce cells → IsDecided c.take.new.self c.older-past.result.now c.in_order-markings.result.now =
+    λ once. c.in_ok-take.ensures.decided (rw (are_old, are_all) (was.marked once).decided) in
     record {
-      marked = record {
-        past = past_passed c.take-2.new.self.past cells olds news es k cell there edges
-            (rw c.edges_at-edges.ensures at (c.in_ok-take-2.ensures.past (length olds) (begun_at cells olds (k + 1) k) (ended_at cells olds (k + 1) k) past_still));
-        present = passed c.take-2.new.self.present cells ms es k cell there c.are_edges.ensures
-            (rw c.edges_at-edges.ensures at (c.in_ok-take-2.ensures.present (length ms) (begun_at cells ms (k + 1) k) (ended_at cells ms (k + 1) k) present_still));
-        decided = rw (are_old, are_all) at (c.in_ok-take-2.ensures.decided (c.in_ok-see.ensures.decided decided));
-      };
+      marked = λ once.
+          let past_still : IsActive c.see.new.self.marked.past (length olds) (begun_at cells olds (k + 1) k) (ended_at cells olds (k + 1) k) =
+          rw c.see.ensures.past (past once) in
+          let present_still : IsActive c.see.new.self.marked.present (length ms) (begun_at cells ms (k + 1) k) (ended_at cells ms (k + 1) k) =
+          rw c.see.ensures.present (present once) in
+          record {
+            past = past_passed c.take-2.new.self.past cells olds news es k cell there edges
+                (rw c.edges_at-edges.ensures at (c.in_ok-take-2.ensures.past (length olds) (begun_at cells olds (k + 1) k) (ended_at cells olds (k + 1) k) past_still));
+            present = passed c.take-2.new.self.present cells ms es k cell there c.are_edges.ensures
+                (rw c.edges_at-edges.ensures at (c.in_ok-take-2.ensures.present (length ms) (begun_at cells ms (k + 1) k) (ended_at cells ms (k + 1) k) present_still));
+            decided = rw (are_old, are_all) at (c.in_ok-take-2.ensures.decided (c.in_ok-see.ensures.decided (decided once)));
+          };
       told = λ before more doc are all noted.
-          c.in_ok-see.ensures.told decided
+          let once = once_content cells (before ++ more) doc are in
+          let old : marks_by c.take.new.self.past c.older-past.result.now ≡ marks_in (covering cells olds k) =
+          ap (λ ns. marks_in (picked ns (kept c.take.new.self.past))) are_old ∙ ap marks_in (picked_covering c.take.new.self.past cells olds k cell there (past once)) in
+          let new : marks_by c.take.new.self.present c.in_order-markings.result.now ≡ marks_in (covering cells ms k) =
+          ap (λ ns. marks_in (picked ns (kept c.take.new.self.present))) are_all ∙ ap marks_in (picked_covering c.take.new.self.present cells ms k cell there (present once)) in
+          c.in_ok-see.ensures.told (decided once)
           ∙ ap (λ o. with_any_last c.args.self.now.steps.items (turned (was_seen since cell) (not cell.is_removed)
           (is_same_marks o (marks_by c.take.new.self.present c.in_order-markings.result.now)) (marks_by c.take.new.self.present c.in_order-markings.result.now) cell.value)) old
           ∙ ap (λ n. with_any_last c.args.self.now.steps.items (turned (was_seen since cell) (not cell.is_removed)
@@ -59,4 +65,5 @@ returns c = λ cells k there was.
           ∙ ap (λ ss. with_any_last ss (turned (was_seen since cell) (not cell.is_removed)
           (is_same_marks (marks_in (covering cells olds k)) (marks_in (covering cells ms k))) (marks_in (covering cells ms k)) cell.value)) (was.told before more doc are all noted)
           ∙ told_next before more doc since noted cells ms k cell there are all;
+      few = c.in_ok-see.ensures.few ∙ was.few;
     }
