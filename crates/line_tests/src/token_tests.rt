@@ -10,7 +10,8 @@ fn all_have(rt: &(impl Abort + AllocGlobal), lines: &[&str], token: Token) {
     for line in lines {
         match read_command(rt.alloc(), line.as_bytes()) {
             Ok(Command::Edit(edit)) => assert!(rt; edit.token == Some(token), "{line}"),
-            _ => assert!(rt; false, "no edit: {line}"),
+            Ok(other) => assert!(rt; false, "no edit: {other:?}"),
+            Err(found) => assert!(rt; false, "{found}: {line}"),
         }
     }
 }

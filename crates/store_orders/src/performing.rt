@@ -1,6 +1,4 @@
 //! What an order over one disk does, over any disk, reader and writers: a session has a `Desk`.
-ghost use Rattle.std.specs.Prelude.{◌⊎◌};
-ghost use Rattle.store_orders.specs.Performed.{IsServed, IsServedAndStopped, IsRefused};
 
 use crate::ended::Ended;
 use crate::fault::Fault;
@@ -75,11 +73,7 @@ fn edit<D: Disk, R: Read + Drop, W: Write>(
     disk: D,
     input: R,
     output: &mut W,
-) -> Ended<D>
-    ensures { IsServed D.DiskFacts (R.remaining input.entry) (W.contents output.old)
-        (W.contents output.new) disk result.disk
-        ⊎ IsRefused D.DiskFacts (W.contents output.old) (W.contents output.new) result.end disk }
-{
+) -> Ended<D> {
     match Hub::open(alloc, disk) {
         Ok(hub) => {
             let mut desk = HubDesk::new(hub, SESSION);
@@ -109,10 +103,7 @@ fn serve<D: Disk, R: Read + Drop, W: Write>(
     desk: &mut HubDesk<D>,
     input: R,
     output: &mut W,
-) -> Result<(), Fault>
-    ensures { IsServedAndStopped D.DiskFacts (R.remaining input.entry) (W.contents output.old)
-        (W.contents output.new) desk.old desk.new }
-{
+) -> Result<(), Fault> {
     let served = Session::new(input, output).serve(alloc, desk);
     let _ = desk.serve(alloc, Command::Stop);
     served.map_err(Fault::from)
