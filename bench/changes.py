@@ -16,30 +16,23 @@ from spans import COUNTS, MARKS, mark
 READS, TEXTS = 100, 5
 
 
-def answered(session, **fields):
-    answer, took = session.ask(**fields)
-    if not answer["ok"]:
-        raise SystemExit(f"{fields} was refused: {answer}")
-    return answer, took
-
-
 def typed(session, count, chance, places):
     """Types a character at each of so many random places, and gives the number of operations before."""
     answer = None
     for _ in range(places):
-        answer, _ = answered(session, op="insert", doc=1, at=chance.randrange(count), text="y")
+        answer, _ = session.answered(op="insert", doc=1, at=chance.randrange(count), text="y")
     return answer["rev"] - places
 
 
 def marked(session, count, chance):
     start = chance.randrange(count - 50)
-    answer, _ = answered(session, op="mark", doc=1, **{"from": start}, to=start + 50, kind="strong")
+    answer, _ = session.answered(op="mark", doc=1, **{"from": start}, to=start + 50, kind="strong")
     return answer["rev"] - 1
 
 
 def changed(session, since):
     """How long `changes` took, and whether they are few steps."""
-    answer, took = answered(session, op="changes", doc=1, since=since)
+    answer, took = session.answered(op="changes", doc=1, since=since)
     if len(answer["changes"]) > 60:
         raise SystemExit(f"many steps since {since}: {answer}")
     return took
@@ -49,10 +42,10 @@ def measure(program, room, count):
     name = os.path.join(room, "store")
     store_file.make(name, count)
     session, chance, made = Session(program, name), random.Random(17), 0
-    answered(session, op="text", doc=1)
+    session.answered(op="text", doc=1)
     for marks in MARKS:
         while made < marks:
-            answered(session, **mark(made, count, chance))
+            session.answered(**mark(made, count, chance))
             made += 1
         cases = (
             ("a character", lambda: typed(session, count, chance, 1)),
@@ -63,7 +56,7 @@ def measure(program, room, count):
         for what, change in cases:
             times = [changed(session, change()) for _ in range(READS)]
             said.append(f"{what} p50 {quantile(times, 0.5) * 1e6:6.0f} us p99 {quantile(times, 0.99) * 1e6:6.0f} us,")
-        texts = [answered(session, op="text", doc=1)[1] for _ in range(TEXTS)]
+        texts = [session.answered(op="text", doc=1)[1] for _ in range(TEXTS)]
         print(*said, f"the text {quantile(texts, 0.5) * 1e6:6.0f} us", flush=True)
     session.end()
 

@@ -18,13 +18,6 @@ PLACES = 256
 READS = 200
 
 
-def answered(session, **fields):
-    answer, took = session.ask(**fields)
-    if not answer["ok"]:
-        raise SystemExit(f"{fields} was refused: {answer}")
-    return answer, took
-
-
 def measure(program, room, count, shape):
     name = os.path.join(room, "store")
     store_file.make(name, count, shape)
@@ -32,10 +25,10 @@ def measure(program, room, count, shape):
     for number in range(READS):
         # So many characters were typed before.
         at = [number + chance.randrange(count + 1) for _ in range(PLACES)]
-        answer, took = answered(session, op="anchors", doc=1, at=at, side=("previous", "next")[number % 2])
+        answer, took = session.answered(op="anchors", doc=1, at=at, side=("previous", "next")[number % 2])
         named.append(took)
         session.insert(0, "x")
-        where, took = answered(session, op="places", doc=1, anchors=answer["anchors"])
+        where, took = session.answered(op="places", doc=1, anchors=answer["anchors"])
         told.append(took)
         if where["places"] != [place + 1 if place or number % 2 else 0 for place in at]:
             raise SystemExit(f"{at} came to be {where['places']}")

@@ -31,6 +31,13 @@ class Session:
             raise SystemExit(f"a delete was refused: {answer}")
         return took
 
+    def answered(self, **fields):
+        """The same; the bench ends where the line is refused."""
+        answer, took = self.ask(**fields)
+        if not answer["ok"]:
+            raise SystemExit(f"{fields} was refused: {answer}")
+        return answer, took
+
     def end(self):
         self.run.stdin.close()
         self.run.stdout.read()

@@ -25,23 +25,16 @@ def mark(number, count, chance):
     return {"op": "mark", "doc": 1, "from": first, "to": behind, "kind": kind, **more}
 
 
-def answered(session, **fields):
-    answer, took = session.ask(**fields)
-    if not answer["ok"]:
-        raise SystemExit(f"{fields} was refused: {answer}")
-    return took
-
-
 def measure(program, room, count):
     name = os.path.join(room, "store")
     store_file.make(name, count)
     session, chance, made = Session(program, name), random.Random(5), 0
     for marks in MARKS:
         while made < marks:
-            answered(session, **mark(made, count, chance))
+            session.answered(**mark(made, count, chance))
             made += 1
-        text = [answered(session, op="text", doc=1) for _ in range(READS)]
-        spans = [answered(session, op="spans", doc=1) for _ in range(READS)]
+        text = [session.answered(op="text", doc=1)[1] for _ in range(READS)]
+        spans = [session.answered(op="spans", doc=1)[1] for _ in range(READS)]
         print(f"{count:7} characters, {marks:5} marks: text {quantile(text, 0.5) * 1e3:8.2f} ms, spans {quantile(spans, 0.5) * 1e3:8.2f} ms")
     session.end()
 

@@ -4,7 +4,7 @@ import random
 import time
 
 from daemon import new_daemon, within
-from places import ABC, END, FIELD, OTHER, anchors, answers_of, done
+from places import ABC, END, FIELD, OTHER, anchors, answers_of, check_all, done
 from program import REPLICA, delete, insert, line, new_file, run
 
 STALE = {"code": 6, "error": "stale", "ok": False}
@@ -118,18 +118,7 @@ ROWS = {
 
 
 def check_rows(checks, program):
-    for what, rows in ROWS.items():
-        new_file(program, "rows")
-        found = answers_of(program, "rows", [request for request, _ in rows])
-        checks.same(f"{what}: number of answers", len(found), len(rows))
-        daemon = new_daemon(program, "served")
-        talks = daemon.talk(), daemon.talk()
-        for number, ((request, wanted), answer) in enumerate(zip(rows, found)):
-            checks.same(f"{what}: {request[:90]}", answer, wanted)
-            checks.same(f"{what}, at a daemon: {request[:90]}", talks[number % 2].ask(request), wanted)
-        for talk in talks:
-            talk.close()
-        checks.same(f"{what}: the end", daemon.stop(), END)
+    check_all(checks, program, ROWS)
 
 
 def check_bytes(checks, program):

@@ -113,9 +113,9 @@ def answers_of(program, name, requests):
     return [json.loads(answer) for answer in run(program, "edit", name, lines=b"".join(requests))[1].splitlines()]
 
 
-def check_rows(checks, program):
-    broken = [ABC, *[(places(["end", it, "start"]), FIELD) for it in BROKEN], *[(places(it), FIELD) for it in ["end", *BROKEN[-5:-2], BROKEN[-1]]]]
-    for what, rows in {**ROWS, "no places": broken}.items():
+def check_all(checks, program, tables):
+    """Rows of a request and its answer each, by tables: in a session over a file, and by turns in two of a daemon."""
+    for what, rows in tables.items():
         new_file(program, "rows")
         found = answers_of(program, "rows", [request for request, _ in rows])
         checks.same(f"{what}: number of answers", len(found), len(rows))
@@ -127,6 +127,11 @@ def check_rows(checks, program):
         for talk in talks:
             talk.close()
         checks.same(f"{what}: the end", daemon.stop(), END)
+
+
+def check_rows(checks, program):
+    broken = [ABC, *[(places(["end", it, "start"]), FIELD) for it in BROKEN], *[(places(it), FIELD) for it in ["end", *BROKEN[-5:-2], BROKEN[-1]]]]
+    check_all(checks, program, {**ROWS, "no places": broken})
 
 
 def check_end(checks, program):
