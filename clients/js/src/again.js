@@ -71,16 +71,25 @@ export function repeated(request) {
 }
 
 /**
+ * What the file of a session answers to an edit that it has, under its token, or nothing if it doesn't have it. To ask makes
+ * nothing.
+ * @param {import("./session.js").Session} session
+ * @param {Request} edit
+ */
+export async function answerOnce(session, edit) {
+  try {
+    return await session.send({ ...edit, rev: NEVER });
+  } catch (error) {
+    if (error instanceof Stale) return undefined;
+    throw error;
+  }
+}
+
+/**
  * Whether the file of a session has an edit, under its token. To ask makes nothing.
  * @param {import("./session.js").Session} session
  * @param {Request} edit
  */
 export async function hasMade(session, edit) {
-  try {
-    await session.send({ ...edit, rev: NEVER });
-    return true;
-  } catch (error) {
-    if (error instanceof Stale) return false;
-    throw error;
-  }
+  return (await answerOnce(session, edit)) !== undefined;
 }

@@ -3,6 +3,8 @@
  * them before it; JavaScript's strings count UTF-16 units, so a character such as "😀" has two.
  */
 
+const PAIRS = /[\ud800-\udbff][\udc00-\udfff]/g;
+
 /**
  * The place of an index of a text.
  * @param {string} text
@@ -54,4 +56,12 @@ export function indexAfter(text, count) {
  */
 function unitsAt(text, index) {
   return /** @type {number} */ (text.codePointAt(index)) > 0xffff ? 2 : 1;
+}
+
+/**
+ * How many characters a text has.
+ * @param {string} text
+ */
+export function lengthOf(text) {
+  return text.length - (text.match(PAIRS)?.length ?? 0);
 }

@@ -2,30 +2,41 @@
  * One ProseMirror document of plain paragraphs as one document of peritext. The break between two paragraphs is the
  * character "\n" of the text; the marks are `strong`, `em`, `link` with an `href`, and `comment` with an `id`.
  *
- * Each step of a transaction becomes edits, one at a time, each with a token, and with the `rev` that it is made at.
- * Behind each edit the spans are read: they tell what others did meanwhile, and which marks a character that was put in
- * came to have. After a lost answer the file is asked for the edit by its token, so that it is made once.
+ * Each step of a transaction becomes edits, which are sent one at a time, each with a token, and with the `rev` that it is
+ * made at. With each goes a question for what changed since: that tells what others did, character by character, and which
+ * marks the characters that were put in came to have. No two texts are compared. After a lost answer the file is asked for
+ * the edit by its token, so that it is made once.
  */
 
-import { hasMade, newToken } from "./again.js";
-import { charactersOfSpans, documentOf, isHeld } from "./paragraphs/characters.js";
-import { corrected, moved } from "./paragraphs/moved.js";
-import { behind, pendingOf } from "./paragraphs/pending.js";
-import { editsOf, requestOf, stepsBetween } from "./paragraphs/steps.js";
+import { answerOnce, hasMade, newToken } from "./again.js";
+import { charactersOf, requestOf } from "./editing/edits.js";
+import { corrections } from "./editing/made.js";
+import { behindOthers, pendingOf, reachOf, withEdits } from "./editing/pending.js";
+import { Teller } from "./editing/teller.js";
+import { documentOf, isHeld, runsOf } from "./paragraphs/characters.js";
+import { editsOf } from "./paragraphs/local.js";
+import { behind, behindSteps, show } from "./paragraphs/shown.js";
 import { Ended, Stale } from "./refusals.js";
 
 /**
  * @typedef {import("./document.js").Document} Document
- * @typedef {import("./paragraphs/pending.js").Pending} Pending
- * @typedef {import("./paragraphs/steps.js").Modules} Modules
+ * @typedef {import("./editing/pending.js").Pending} Pending
+ * @typedef {import("./editing/steps.js").Step} Step
+ * @typedef {import("./editing/teller.js").Told} Told
+ * @typedef {import("./paragraphs/local.js").Modules} Modules
  * @typedef {import("./paragraphs/characters.js").Node} Node
  * @typedef {import("prosemirror-state").Transaction} Transaction
  * @typedef {import("prosemirror-view").EditorView} EditorView
  */
 
 /**
+ * A document that the program has or had, with the number of its operations.
+ * @typedef {{base: Node, rev: number}} Based
+ */
+
+/**
  * What the program has, as far as is known, and the local edits behind it that it doesn't have yet.
- * @typedef {{base: Node, rev: number, pending: Pending[]}} Known
+ * @typedef {Based & {pending: readonly Pending[]}} Known
  */
 
 /**
@@ -36,14 +47,14 @@ import { Ended, Stale } from "./refusals.js";
  * @param {{onError?: (error: Error) => void}} options
  */
 export async function bind(modules, schema, document, { onError = () => {} } = {}) {
-  const { spans, rev } = await document.readSpans();
-  return new Binding(modules, schema, document, documentOf(schema, charactersOfSpans(schema, spans)), rev, onError);
+  const teller = tellerOf(schema, document);
+  const { runs, rev } = await teller.all();
+  return new Binding(modules, teller, documentOf(schema, runs), rev, onError);
 }
 
 class Binding {
   #modules;
-  #schema;
-  #document;
+  #teller;
   #onError;
   #key;
   /** @type {EditorView | undefined} */
@@ -66,16 +77,14 @@ class Binding {
 
   /**
    * @param {Modules} modules
-   * @param {import("prosemirror-model").Schema} schema
-   * @param {Document} document
+   * @param {Teller} teller
    * @param {Node} doc
    * @param {number} rev
    * @param {(error: Error) => void} onError
    */
-  constructor(modules, schema, document, doc, rev, onError) {
+  constructor(modules, teller, doc, rev, onError) {
     this.#modules = modules;
-    this.#schema = schema;
-    this.#document = document;
+    this.#teller = teller;
     this.#onError = onError;
     this.#key = new modules.state.PluginKey("peritext");
     /** The document as it was read. */
@@ -149,7 +158,7 @@ class Binding {
    */
   #isTaken(transaction) {
     if (!transaction.docChanged || transaction.getMeta(this.#key)) return true;
-    return [...transaction.docs.slice(1), transaction.doc].every(isHeld);
+    return docsBehind(transaction).every((doc, index) => isHeld(doc, transaction.docs[index]));
   }
 
   /**
@@ -158,10 +167,11 @@ class Binding {
    * @param {Transaction} transaction
    * @returns {Known}
    */
-  #followed(known, { steps, docs, doc }) {
-    const after = [...docs.slice(1), doc];
+  #followed(known, transaction) {
+    const { steps, docs } = transaction;
+    const after = docsBehind(transaction);
     const edits = steps.flatMap((step, index) => editsOf(this.#modules, step, docs[index], after[index]));
-    return edits.length === 0 ? known : { ...known, pending: [...known.pending, ...pendingOf(edits)] };
+    return edits.length === 0 ? known : { ...known, pending: withEdits(known.pending, edits) };
   }
 
   /** Begins to send what is pending, unless that is under way. */
@@ -181,7 +191,7 @@ class Binding {
       while (this.#view !== undefined) {
         if (this.#next !== undefined) await this.#goOver(this.#next);
         else if (this.#known().pending.length > 0) await this.#sendFirst();
-        else if (this.#pulls) await this.#read();
+        else if (this.#pulls) await this.#pull();
         else break;
       }
     } finally {
@@ -194,15 +204,19 @@ class Binding {
     const { document, retry } = next;
     const lost = this.#unsure ? this.#fieldsOfFirst(document) : undefined;
     const isSame = retry && (await this.#isFileOf(document));
-    const isThere = isSame && lost !== undefined && (await hasMade(document.session, lost));
-    const reading = await document.readSpans();
+    const answer = isSame && lost !== undefined ? await answerOnce(document.session, lost) : undefined;
+    if (this.#view === undefined) return;
+    const reached = answer === undefined ? this.#known() : { base: this.#behindFirst(), rev: answer.rev };
+    const teller = tellerOf(reached.base.type.schema, document);
+    const told = await readAnew(teller, reached, isSame);
     if (this.#view === undefined || this.#next !== next) return;
     this.#next = undefined;
-    this.#document = document;
+    this.#teller = teller;
     this.#unsure = false;
     if (!isSame) this.#forget();
-    if (isThere) this.#confirm(lost, reading.rev, reading);
-    this.#take(reading);
+    if (answer === undefined) return this.#take(told);
+    this.#made = lost;
+    this.#confirm(reached.base, told);
   }
 
   /**
@@ -224,89 +238,117 @@ class Binding {
   /**
    * The fields of the first pending edit, as it is sent.
    * @param {Document} document
-   * @returns {Record<string, unknown> | undefined}
+   * @returns {Record<string, unknown>}
    */
   #fieldsOfFirst({ number }) {
+    const [{ edit, token }] = this.#known().pending;
+    return { doc: number, ...requestOf(edit), token };
+  }
+
+  /** The document behind the first pending edit. */
+  #behindFirst() {
     const { base, pending } = this.#known();
-    const [{ step, token }] = pending;
-    const request = requestOf(this.#modules, base, step);
-    return request && { doc: number, ...request, token };
+    return behind(this.#modules, base, pending.slice(0, 1));
   }
 
-  async #read() {
+  async #pull() {
     this.#pulls = false;
-    this.#take(await this.#document.readSpans());
+    const known = this.#known();
+    this.#take(await this.#toldOr(known, this.#teller.since(known.rev)));
   }
 
+  /** Sends the first pending edit, and asks what changed since the text that it is for. */
   async #sendFirst() {
-    const { base, rev, pending } = this.#known();
-    const fields = this.#fieldsOfFirst(this.#document);
-    if (fields === undefined) this.#tell({ base: behind(base, pending.slice(0, 1)), rev, pending: pending.slice(1) });
-    else await this.#exchange(fields, rev);
-  }
-
-  /**
-   * Sends the first pending edit, and reads the spans behind it.
-   * @param {Record<string, unknown>} fields
-   * @param {number} rev
-   */
-  async #exchange(fields, rev) {
-    const [edit, reading] = await Promise.allSettled([this.#document.edit(fields, rev), this.#document.readSpans()]);
+    const known = this.#known();
+    const { document } = this.#teller;
+    const fields = this.#fieldsOfFirst(document);
+    const [edit, asked] = await Promise.allSettled([document.edit(fields, known.rev), this.#teller.since(known.rev)]);
     if (this.#view === undefined) return;
-    if (edit.status === "fulfilled") this.#unsure = false;
+    if (edit.status === "fulfilled") return this.#finish(fields, edit.value, asked);
     // One that couldn't be sent leaves open what became of the one before.
-    else if (!(edit.reason instanceof Ended)) this.#unsure = edit.reason.number === 9;
+    if (!(edit.reason instanceof Ended)) this.#unsure = edit.reason.number === 9;
     else if (edit.reason.wasSent) this.#unsure = true;
-    if (edit.status === "fulfilled") this.#confirm(fields, edit.value, reading.status === "fulfilled" ? reading.value : undefined);
-    else if (!(edit.reason instanceof Stale)) throw edit.reason;
-    if (reading.status === "rejected") throw reading.reason;
-    this.#take(reading.value);
+    if (!(edit.reason instanceof Stale)) throw edit.reason;
+    this.#take(await this.#toldOr(known, asked.status === "fulfilled" ? asked.value : Promise.reject(asked.reason)));
   }
 
   /**
-   * The first pending edit is made. What the program shows is the wish of others; but characters that were just put in
-   * get the editor's marks, where the program gave them those of their surroundings.
+   * The first pending edit is made. Until it is known which marks its characters have, it may be asked for again.
    * @param {Record<string, unknown>} fields its own
    * @param {number} rev
-   * @param {{spans: import("./marks.js").Span[]} | undefined} reading
+   * @param {PromiseSettledResult<Told>} asked what changed since the text before it
    */
-  #confirm(fields, rev, reading) {
+  async #finish(fields, rev, asked) {
     this.#made = fields;
-    const { base, pending } = this.#known();
-    const [{ step }, ...rest] = pending;
-    const made = behind(base, pending.slice(0, 1));
-    const isInsert = step instanceof this.#modules.transform.ReplaceStep && step.slice.size > 0;
-    const marks = reading && isInsert ? corrected(this.#modules, made, step, this.#shown(reading.spans)) : [];
-    this.#tell({ base: made, rev, pending: [...pendingOf(marks), ...rest] });
-  }
-
-  /**
-   * Takes over what the program shows, and moves what is pending over what others did.
-   * @param {{spans: import("./marks.js").Span[], rev: number}} reading
-   */
-  #take({ spans, rev }) {
-    if (this.#view === undefined) return;
+    this.#unsure = true;
     const known = this.#known();
-    const base = this.#shown(spans);
-    if (rev === known.rev && base.eq(known.base)) return;
-    const pending = moved(this.#modules, known.pending, base, stepsBetween(this.#modules, known.base, base));
-    this.#tell({ base, rev, pending });
-  }
-
-  /** @param {import("./marks.js").Span[]} spans */
-  #shown(spans) {
-    return documentOf(this.#schema, charactersOfSpans(this.#schema, spans));
+    const base = this.#behindFirst();
+    const told = (await this.#teller.behind(known.pending[0].edit, known.rev, rev, asked)) ?? (await readAnew(this.#teller, { base, rev }, true));
+    this.#unsure = false;
+    this.#confirm(base, told);
   }
 
   /**
-   * Tells the editor what is known now. Its document is what the program has with what is pending; only what differs is
-   * changed, so the caret and the undo history stay with their text.
-   * @param {Known} known
+   * What is told, or what leads from a document to what is read anew if that is stale.
+   * @param {Based} reached
+   * @param {Told | Promise<Told>} telling
+   * @returns {Promise<Told>}
    */
-  #tell(known) {
+  async #toldOr(reached, telling) {
+    try {
+      return await telling;
+    } catch (error) {
+      if (error instanceof Stale) return readAnew(this.#teller, reached, true);
+      throw error;
+    }
+  }
+
+  /**
+   * The first pending edit is made, and what others did behind it is taken over. What the program shows is the wish of
+   * others; but characters that were just put in get the editor's marks, if the program gave them those of their
+   * surroundings.
+   * @param {Node} made the document behind that edit
+   * @param {Told} told
+   */
+  #confirm(made, told) {
+    if (this.#view === undefined) return;
+    const [first, ...rest] = this.#known().pending;
+    const { edits, steps } = corrections(first.edit, told.steps);
+    this.#goOn(behindSteps(this.#modules, made, told.steps), { ...told, steps }, pendingOf(edits), rest);
+  }
+
+  /**
+   * Takes over what others did.
+   * @param {Told} told
+   */
+  #take(told) {
+    if (this.#view === undefined) return;
+    const { base, pending } = this.#known();
+    this.#goOn(behindSteps(this.#modules, base, told.steps), told, [], pending);
+  }
+
+  /**
+   * @param {Node} base what the program has now
+   * @param {Told} told what led there
+   * @param {readonly Pending[]} first what is to be sent before anything else
+   * @param {readonly Pending[]} pending behind the document before
+   */
+  #goOn(base, { steps, rev, isTold }, first, pending) {
+    const moved = behindOthers(pending, steps);
+    this.#tell({ base, rev, pending: [...first, ...moved.pending] }, moved.steps);
+    if (!isTold && reachOf(moved.pending) < reachOf(pending)) this.#onError(new Error(LOST));
+  }
+
+  /**
+   * Tells the editor what is known now, and what others did. Only that is changed, so the caret and the undo history stay
+   * with their text.
+   * @param {Known} known
+   * @param {readonly Step[]} steps over the editor's document
+   */
+  #tell(known, steps = []) {
     const view = /** @type {EditorView} */ (this.#view);
     const { tr, selection, storedMarks } = view.state;
-    for (const step of stepsBetween(this.#modules, tr.doc, behind(known.base, known.pending))) tr.step(step);
+    show(this.#modules, tr, steps);
     if (tr.docChanged) this.#keepCaret(tr, selection).setStoredMarks(storedMarks).setMeta("addToHistory", false);
     view.dispatch(tr.setMeta(this.#key, known));
     if (this.#known() !== known) throw new Error("the editor didn't take what the program has");
@@ -320,9 +362,39 @@ class Binding {
   #keepCaret(transaction, selection) {
     const { TextSelection } = this.#modules.state;
     if (!(selection instanceof TextSelection)) return transaction;
-    const { anchor, head } = selection;
-    const from = transaction.mapping.map(anchor, anchor < head ? 1 : -1);
-    const to = transaction.mapping.map(head, head < anchor ? 1 : -1);
-    return transaction.setSelection(TextSelection.create(transaction.doc, from, to));
+    const { from, to, anchor, empty } = selection;
+    const end = transaction.mapping.map(to, -1);
+    // All that was selected may be gone, and something else be there.
+    const start = Math.min(transaction.mapping.map(from, empty ? -1 : 1), end);
+    const ends = anchor === from ? [start, end] : [end, start];
+    return transaction.setSelection(TextSelection.create(transaction.doc, ...ends));
   }
+}
+
+const LOST = "the file was opened anew and edited meanwhile: some of what was removed or marked here may be there, or unmarked, again";
+
+/**
+ * The documents behind each step of a transaction.
+ * @param {Transaction} transaction
+ */
+function docsBehind({ docs, doc }) {
+  return [...docs.slice(1), doc];
+}
+
+/**
+ * @param {import("prosemirror-model").Schema} schema
+ * @param {Document} document
+ */
+function tellerOf(schema, document) {
+  return new Teller(document, (kind) => kind in schema.marks);
+}
+
+/**
+ * What leads from a document to what is read anew.
+ * @param {Teller} teller
+ * @param {Based} reached
+ * @param {boolean} isSame whether it is the same file
+ */
+function readAnew(teller, { base, rev }, isSame) {
+  return teller.anew(charactersOf(runsOf(base)), rev, isSame);
 }

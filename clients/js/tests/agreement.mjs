@@ -3,35 +3,14 @@
 import assert from "node:assert/strict";
 import { test } from "node:test";
 
-import { Ended, Session } from "peritext";
-
-import { charactersOf } from "../src/paragraphs/characters.js";
-import { behind } from "../src/paragraphs/pending.js";
+import { behind } from "../src/paragraphs/shown.js";
 import { Store } from "./fake.mjs";
-import { editorOver, plainSchema, prosemirror } from "./support.mjs";
+import { cut, editorOver, editorsOver, goOn, isEnded, numbers, plainSchema, prosemirror, seen, someMarks } from "./support.mjs";
 
 const modules = prosemirror();
 const { TextSelection } = modules.state;
 const schema = plainSchema(modules.model);
-const COMMENTS = ["00000000-0000-0000-0000-000000000007", "00000000-0000-0000-0000-000000000008"];
-const MARKS = [
-  schema.mark("strong"),
-  schema.mark("em"),
-  schema.mark("link", { href: "u" }),
-  schema.mark("link", { href: "v" }),
-  ...COMMENTS.map((id) => schema.mark("comment", { id })),
-];
-
-/** Numbers below a limit, the same for a seed (xorshift). */
-function numbers(seed) {
-  let state = seed * 2_654_435_761 + 1;
-  return (limit) => {
-    state ^= state << 13;
-    state ^= state >>> 17;
-    state ^= state << 5;
-    return (state >>> 0) % limit;
-  };
-}
+const MARKS = someMarks(schema);
 
 /** One thing that somebody does in an editor. Each letter that is typed is a new one. */
 function act(state, below, letter) {
@@ -55,37 +34,11 @@ function act(state, below, letter) {
   }
 }
 
-/** Each character with its marks. ProseMirror has comments on one character in the order in which they came. */
-function seen(doc) {
-  return charactersOf(doc).map(({ text, marks }) => [text, ...marks.map((mark) => JSON.stringify(mark)).sort()]);
-}
-
-/** Three editors of a store. Where they are cut, the session of the first one goes on by itself, and the bindings of the others do. */
-function editorsOver(store) {
-  return Promise.all([true, false, false].map(async (goesOn) => {
-    const editor = { goesOn };
-    const options = goesOn ? { again: async () => editor.transport } : {};
-    return Object.assign(editor, await editorOver(store, modules, schema, {}, options));
-  }));
-}
-
-/** Ends an editor's session, and gives it another one. Nothing that was under way is answered, and so many lines of it are made. */
-function cut(editor, store, made) {
-  const { transport } = editor;
-  editor.transport = store.session();
-  transport.cut(made);
-  if (!editor.goesOn) editor.binding.resume(new Session(editor.transport).document(1)).catch(isEnded);
-}
-
-function isEnded(error) {
-  assert(error instanceof Ended, error);
-}
-
 /** One run: what editors do, in an order by the seed. Each letter is there once at the end, unless it was taken away. */
 async function agree(seed, { isCut = false } = {}) {
   const below = numbers(seed);
   const store = new Store();
-  const editors = await editorsOver(store);
+  const editors = await editorsOver(store, modules, schema, [true, false, false]);
   const typed = new Set();
   const removed = new Set();
   for (let turn = 0; turn < 120; turn += 1) {
@@ -95,7 +48,7 @@ async function agree(seed, { isCut = false } = {}) {
     const before = [...view.state.doc.textContent];
     view.dispatch(act(view.state, below, letter));
     const { base, pending } = binding.plugin.getState(view.state);
-    assert.deepEqual(seen(behind(base, pending)), seen(view.state.doc));
+    assert.deepEqual(seen(behind(modules, base, pending)), seen(view.state.doc));
     const after = new Set(view.state.doc.textContent);
     if (after.has(letter)) typed.add(letter);
     for (const gone of before) if (!after.has(gone)) removed.add(gone);
@@ -103,7 +56,10 @@ async function agree(seed, { isCut = false } = {}) {
     if (below(3) === 0) transport.release();
     if (below(6) === 0) await new Promise(setImmediate);
     if (below(10) === 0 && !transport.held) await binding.pull().catch(isEnded);
-    if (isCut && below(8) === 0) cut(editor, store, below(3));
+    if (isCut && below(8) === 0) {
+      cut(editor, store, below(3));
+      goOn(editor);
+    }
   }
   for (const { transport } of editors) transport.release();
   // What was under way over a session that was cut ends on its own.

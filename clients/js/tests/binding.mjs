@@ -6,7 +6,7 @@ import { test } from "node:test";
 import { EM, Ended, STRONG, comment, link } from "peritext";
 
 import { Store } from "./fake.mjs";
-import { editorOver, plainSchema, prosemirror } from "./support.mjs";
+import { editorOver, plainSchema, prosemirror, shown } from "./support.mjs";
 
 const modules = prosemirror();
 const { TextSelection } = modules.state;
@@ -24,13 +24,6 @@ function change(view, make) {
 
 function putCaret(view, anchor, head = anchor) {
   change(view, (tr) => tr.setSelection(TextSelection.create(tr.doc, anchor, head)));
-}
-
-/** The text with the caret, or both ends of the selection, shown in it. */
-function shown({ state: { doc, selection } }) {
-  const text = (from, to) => doc.textBetween(from, to, "\n");
-  const { from, to, empty } = selection;
-  return `${text(0, from)}|${empty ? "" : `${text(from, to)}|`}${text(to, doc.content.size)}`;
 }
 
 test("the document is read, and typing is sent", async () => {
@@ -52,7 +45,7 @@ test("each edit has the rev that it was made at, and a token of its own", async 
   const sent = [];
   const send = transport.send.bind(transport);
   transport.send = (line) => {
-    if (!line.includes('"spans"')) sent.push(JSON.parse(line));
+    if (line.includes('"token"')) sent.push(JSON.parse(line));
     send(line);
   };
   change(view, (tr) => tr.insertText("abc", 1));
@@ -112,7 +105,7 @@ test("a stale edit keeps its token, and each part into which it came has one", a
   const sent = [];
   const send = transport.send.bind(transport);
   transport.send = (line) => {
-    if (!line.includes('"spans"')) sent.push(JSON.parse(line));
+    if (line.includes('"token"')) sent.push(JSON.parse(line));
     send(line);
   };
   transport.held = true;
@@ -171,8 +164,8 @@ test("what others put into a text that is taken away stays", async () => {
   await other.insert(3, "X");
   transport.release();
   await binding.settled();
-  assert.equal(await document.text(), "aXY!d");
-  assert.equal(view.state.doc.toString(), 'doc(paragraph("aXY!d"))');
+  assert.equal(await document.text(), "a!XYd");
+  assert.equal(view.state.doc.toString(), 'doc(paragraph("a!XYd"))');
 });
 
 test("what was typed and is taken away again goes, wherever it came to stand", async () => {

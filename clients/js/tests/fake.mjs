@@ -1,9 +1,11 @@
-// A small peritext in memory, for tests: a list of characters with their marks. What a character that is put in comes
-// to have of marks is near what the program does, not the same.
+// A small peritext in memory, for tests: what it answers, and transports to it. `model.mjs` is a document of it.
 
-const KINDS = ["strong", "em", "link", "comment"];
+import { Model } from "./model.mjs";
+
 const TOKEN = /^(?!0{8}-0{4}-0{4}-0{4}-0{12}$)[0-9a-f]{8}(-[0-9a-f]{4}){3}-[0-9a-f]{12}$/;
 const WORDS = { 2: "syntax", 3: "request", 4: "field", 5: "range", 6: "stale", 7: "limit", 12: "stopping" };
+const READS = new Set(["text", "spans", "changes"]);
+const EDITS = new Set(["insert", "delete", "mark", "unmark"]);
 
 export class Store {
   #documents = new Map();
@@ -13,6 +15,18 @@ export class Store {
   /** A transport of a session of its own over this store. While it is `held`, nothing is answered. */
   session() {
     return new FakeTransport((line) => this.answer(line));
+  }
+
+  /** The document of a number. */
+  document(number) {
+    const document = this.#documents.get(number) ?? new Model();
+    this.#documents.set(number, document);
+    return document;
+  }
+
+  /** The file is opened anew: changes are told from now on, or from 0. Whoever does so cuts the sessions. */
+  openAnew() {
+    for (const document of this.#documents.values()) document.forget();
   }
 
   /** The answer to a line. */
@@ -28,28 +42,27 @@ export class Store {
   }
 
   #done(request) {
-    if (request.op === "status") return { applied: 0, settled: 0, state: "open" };
-    if (request.op === "stop") return {};
-    const does = { insert, delete: remove, mark, unmark: mark, text, spans }[request.op];
-    if (does === undefined) return 3;
-    if (!Number.isInteger(request.doc) || request.doc < 1) return 4;
-    const before = this.#documents.get(request.doc) ?? { rev: 0, characters: [] };
-    const { rev, token } = request;
-    if (does === text || does === spans) return token === undefined ? { rev: before.rev, ...does(before.characters) } : 4;
-    if (token !== undefined && !TOKEN.test(token)) return 4;
+    const { op, doc, rev, token } = request;
+    if (op === "status") return { applied: 0, settled: 0, state: "open" };
+    if (op === "stop") return {};
+    if (!READS.has(op) && !EDITS.has(op)) return 3;
+    if (!Number.isInteger(doc) || doc < 1) return 4;
+    if (token !== undefined && (READS.has(op) || !TOKEN.test(token))) return 4;
     if (this.#tokens.has(token)) return { rev: this.#tokens.get(token) };
-    if (rev !== undefined && rev !== before.rev) return 6;
-    const after = does(before, request);
-    if (typeof after === "number") return after;
-    this.#documents.set(request.doc, after);
-    if (token !== undefined) this.#tokens.set(token, after.rev);
-    return { rev: after.rev };
+    const document = this.document(doc);
+    if (EDITS.has(op) && rev !== undefined && rev !== document.rev) return 6;
+    const told = document[op](request);
+    if (typeof told === "number") return told;
+    if (token !== undefined) this.#tokens.set(token, document.rev);
+    return { rev: document.rev, ...told };
   }
 }
 
 class FakeTransport {
   /** Set to keep answers back. */
   held = false;
+  /** How many lines were answered. */
+  answered = 0;
   #answer;
   #lines = [];
   #closed = false;
@@ -74,6 +87,11 @@ class FakeTransport {
     this.#go();
   }
 
+  /** Answers so many of the lines that it holds, and holds on. */
+  pass(count) {
+    for (let left = count; left > 0 && this.#answer !== undefined && this.#lines.length > 0; left -= 1) this.#give();
+  }
+
   /** Ends a little later, without an answer to what it holds, of which so many lines are made. */
   cut(made) {
     for (const line of this.#lines.splice(0).slice(0, made)) this.#answer(line);
@@ -81,9 +99,14 @@ class FakeTransport {
     setImmediate(() => this.#go());
   }
 
+  #give() {
+    this.answered += 1;
+    this.onLine(this.#answer(this.#lines.shift()));
+  }
+
   #go() {
     if (this.onEnd === undefined || this.#hasEnded) return;
-    while (this.#answer !== undefined && !this.held && this.#lines.length > 0) this.onLine(this.#answer(this.#lines.shift()));
+    while (this.#answer !== undefined && !this.held && this.#lines.length > 0) this.#give();
     if (this.#answer !== undefined && !(this.#closed && this.#lines.length === 0)) return;
     this.#hasEnded = true;
     this.onEnd();
@@ -92,70 +115,4 @@ class FakeTransport {
 
 function refusal(code) {
   return JSON.stringify({ code, error: WORDS[code], ok: false });
-}
-
-function insert({ rev, characters }, { at, text: inserted }) {
-  if (typeof inserted !== "string" || inserted === "" || !isPlace(at)) return 4;
-  const added = [...inserted];
-  if (added.some((character) => /\p{Surrogate}/u.test(character))) return 2;
-  if (at > characters.length) return 5;
-  if (added.length > 256) return 7;
-  const marks = between(characters[at - 1]?.marks ?? {}, characters[at]?.marks ?? {});
-  const run = added.map((character) => ({ text: character, marks }));
-  return { rev: rev + run.length, characters: [...characters.slice(0, at), ...run, ...characters.slice(at)] };
-}
-
-/** What a character between two others has: strong and em go on, links and comments only where both have them. */
-function between(before, after) {
-  const { strong, em } = before;
-  const marks = { ...(strong && { strong }), ...(em && { em }) };
-  for (const key of Object.keys(before)) {
-    if (key !== "strong" && key !== "em" && after[key] === before[key]) marks[key] = before[key];
-  }
-  return marks;
-}
-
-function remove({ rev, characters }, { at, count }) {
-  if (!isPlace(at) || !isPlace(count) || count === 0) return 4;
-  if (at + count > characters.length) return 5;
-  if (count > 256) return 7;
-  return { rev: rev + count, characters: [...characters.slice(0, at), ...characters.slice(at + count)] };
-}
-
-function mark({ rev, characters }, { op, from, to, kind, url, id }) {
-  if (!isPlace(from) || !isPlace(to) || !KINDS.includes(kind)) return 4;
-  if ((kind === "comment") !== (id !== undefined)) return 4;
-  if ((kind === "link" && op === "mark") !== (url !== undefined)) return 4;
-  if (from >= to || to > characters.length) return 5;
-  const key = id ?? kind;
-  const marked = characters.map((character, place) => {
-    if (place < from || place >= to) return character;
-    const { [key]: _, ...marks } = character.marks;
-    return { ...character, marks: op === "mark" ? { ...marks, [key]: url ?? true } : marks };
-  });
-  return { rev: rev + 1, characters: marked };
-}
-
-function text(characters) {
-  return { text: characters.map((character) => character.text).join("") };
-}
-
-function spans(characters) {
-  const runs = [];
-  for (const { text: character, marks } of characters) {
-    const shown = span(marks);
-    const last = runs[runs.length - 1];
-    if (last !== undefined && JSON.stringify(shown) === JSON.stringify({ ...last, text: "" })) last.text += character;
-    else runs.push({ ...shown, text: character });
-  }
-  return { spans: runs };
-}
-
-function span({ strong, em, link, ...others }) {
-  const comments = Object.keys(others).sort();
-  return { ...(comments.length > 0 && { comments }), ...(em && { em }), ...(link && { link }), ...(strong && { strong }), text: "" };
-}
-
-function isPlace(number) {
-  return Number.isInteger(number) && number >= 0;
 }

@@ -1,68 +1,75 @@
-// Documents as characters, differences, and steps as edits.
+// Documents as texts, and an editor's steps as edits.
 
 import assert from "node:assert/strict";
 import { test } from "node:test";
 
-import { charactersOf, charactersOfSpans, documentOf, isHeld, placeOf, positionOf } from "../src/paragraphs/characters.js";
-import { difference } from "../src/paragraphs/difference.js";
-import { applied, editsOf, requestOf, stepsBetween } from "../src/paragraphs/steps.js";
+import { requestOf } from "../src/editing/edits.js";
+import { documentOf, isHeld, runsOf } from "../src/paragraphs/characters.js";
+import { editsOf } from "../src/paragraphs/local.js";
+import { placeOf, positionOf, runsBetween, sizeOf } from "../src/paragraphs/positions.js";
+import { behind, behindSteps } from "../src/paragraphs/shown.js";
 import { plainSchema, prosemirror } from "./support.mjs";
 
 const modules = prosemirror();
 const schema = plainSchema(modules.model);
 const { strong, em, link, comment, code } = schema.marks;
+const ID = "00000000-0000-0000-0000-000000000007";
 
-function documentOfSpans(spans) {
-  return documentOf(schema, charactersOfSpans(schema, spans));
+/** The document of texts, each with its marks behind it. */
+function documentOfTexts(...runs) {
+  return documentOf(schema, runs.map(([text, marks = {}]) => ({ text, marks })));
 }
 
 function plain(text) {
-  return documentOfSpans([{ text }]);
+  return documentOfTexts([text]);
 }
 
 /** The requests of a change of a document. */
 function requests(doc, change) {
   const transform = new modules.transform.Transform(doc);
   change(transform);
-  const sent = [];
-  transform.steps.forEach((step, index) => {
-    let before = transform.docs[index];
+  return transform.steps.flatMap((step, index) => {
+    const before = transform.docs[index];
     const after = transform.docs[index + 1] ?? transform.doc;
-    for (const edit of editsOf(modules, step, before, after)) {
-      sent.push(JSON.parse(JSON.stringify(requestOf(modules, before, edit))));
-      before = applied(before, [edit]);
-    }
-    assert(before.eq(after));
+    const edits = editsOf(modules, step, before, after);
+    assert(behind(modules, before, edits.map((edit) => ({ edit }))).eq(after));
+    return edits.map((edit) => JSON.parse(JSON.stringify(requestOf(edit))));
   });
-  return sent;
 }
 
 test("a break between paragraphs is one character", () => {
   for (const text of ["", "a", "\n", "ab\n\nc\n", "😀\n😀"]) {
     const doc = plain(text);
     assert.equal(doc.childCount, text.split("\n").length);
-    assert.equal(charactersOf(doc).map((character) => character.text).join(""), text);
+    assert.equal(runsOf(doc).map((run) => run.text).join(""), text);
+    assert.equal(sizeOf(doc), [...text].length);
   }
 });
 
 test("each place has its position", () => {
-  const characters = charactersOf(plain("a😀\n\nb"));
+  const doc = plain("a😀\n\nb");
   const positions = [1, 2, 4, 6, 8, 9];
-  assert.deepEqual(positions.map((_, place) => positionOf(characters, place)), positions);
-  assert.deepEqual(positions.map((position) => placeOf(characters, position)), [0, 1, 2, 3, 4, 5]);
-  assert.deepEqual([0, 3, 5, 7, 10].map((position) => placeOf(characters, position)), [0, 1, 2, 3, 5]);
+  assert.deepEqual(positions.map((_, place) => positionOf(doc, place)), positions);
+  assert.deepEqual(positions.map((position) => placeOf(doc, position)), [0, 1, 2, 3, 4, 5]);
+  assert.deepEqual([0, 3, 5, 7, 10].map((position) => placeOf(doc, position)), [0, 1, 2, 3, 5]);
 });
 
-test("spans become marks, and marks on a break aren't shown", () => {
-  const id = "00000000-0000-0000-0000-000000000007";
-  const doc = documentOfSpans([{ text: "a\nb", strong: true, em: true }, { text: "c", link: "u", comments: [id] }]);
+test("the text between two places", () => {
+  const doc = documentOfTexts(["a😀\n\nb"], ["c", { strong: true }]);
+  const text = (from, to) => runsBetween(doc, from, to).map((run) => run.text).join("");
+  for (let from = 0; from <= 6; from += 1) {
+    for (let to = from; to <= 6; to += 1) assert.equal(text(from, to), ["a", "😀", "\n", "\n", "b", "c"].slice(from, to).join(""));
+  }
+});
+
+test("marks are shown, and those on a break aren't", () => {
+  const doc = documentOfTexts(["a\nb", { strong: true, em: true }], ["c", { link: "u", comments: [ID] }]);
   assert.equal(doc.toString(), 'doc(paragraph(em(strong("a"))), paragraph(em(strong("b")), link(comment("c"))))');
 });
 
 test("what peritext has is held, and nothing else", () => {
-  const id = "00000000-0000-0000-0000-000000000007";
-  const text = (content, ...marks) => documentOf(schema, [{ text: content, marks }]);
-  const held = [strong.create(), em.create(), link.create({ href: "u" }), comment.create({ id })];
+  const text = (content, ...marks) => schema.node("doc", null, [schema.node("paragraph", null, [schema.text(content, marks)])]);
+  const held = [strong.create(), em.create(), link.create({ href: "u" }), comment.create({ id: ID })];
   for (const mark of held) assert(isHeld(text("x", mark)));
   const others = [
     code.create(),
@@ -79,32 +86,21 @@ test("what peritext has is held, and nothing else", () => {
   assert(!isHeld(schema.node("doc", null, [schema.node("paragraph", null, [schema.node("image")])])));
 });
 
-test("differences are as few as can be", () => {
-  const spliced = (before, after) => {
-    const splices = difference([...before], [...after]);
-    let text = [...before];
-    for (const { from, to, start, end } of [...splices].reverse()) text.splice(from, to - from, ...[...after].slice(start, end));
-    assert.equal(text.join(""), after);
-    return splices.reduce((sum, { from, to, start, end }) => sum + to - from + end - start, 0);
-  };
-  assert.equal(spliced("", ""), 0);
-  assert.equal(spliced("", "abc"), 3);
-  assert.equal(spliced("abc", ""), 3);
-  assert.equal(spliced("abcabba", "cbabac"), 5);
-  assert.equal(spliced("the quick fox", "a quick red fox"), 8);
-  assert.equal(spliced("x".repeat(2_000), "y".repeat(2_000)), 4_000);
-  for (let seed = 0; seed < 300; seed += 1) {
-    const word = (salt) => [...Array((seed * salt) % 13).keys()].map((place) => "abc"[(seed * salt + place * place * salt) % 3]).join("");
-    spliced(word(7), word(11));
-  }
-});
-
 test("steps lead from a document to another", () => {
-  const before = documentOfSpans([{ text: "ab\ncd" }, { text: "ef\ng", strong: true }, { text: "h", link: "u" }]);
-  const after = documentOfSpans([{ text: "ab\ncd", em: true }, { text: "f\nx\ng", strong: true }, { text: "h", link: "v" }]);
-  for (const [one, other] of [[before, after], [after, before], [before, plain("")], [plain(""), after]]) {
-    assert(applied(one, stepsBetween(modules, one, other)).eq(other));
-  }
+  const before = documentOfTexts(["ab\ncd"], ["ef\ng", { strong: true }], ["h", { link: "u" }]);
+  const strongly = { strong: true };
+  const steps = [
+    { retain: 1, attributes: { em: true } },
+    { insert: "x\n😀", attributes: strongly },
+    { delete: 2 },
+    { retain: 3, attributes: { comments: [ID] } },
+    { retain: 3 },
+    { insert: "!", attributes: {} },
+    { retain: 1, attributes: { link: "v" } },
+  ];
+  const after = documentOfTexts(["a", { em: true }], ["x\n😀", strongly], ["cde", { comments: [ID] }], ["f\ng", strongly], ["!"], ["h", { link: "v" }]);
+  assert.equal(behindSteps(modules, before, steps).toString(), after.toString());
+  assert(behindSteps(modules, before, steps).eq(after));
 });
 
 test("typing, splitting and joining are inserts and deletes", () => {
@@ -126,11 +122,20 @@ test("whole paragraphs come and go with one break", () => {
   assert.deepEqual(requests(doc, (it) => it.delete(3, 6)), [{ op: "delete", at: 1, count: 2 }]);
 });
 
-test("a replaced text is a delete and an insert of what differs", () => {
-  assert.deepEqual(requests(plain("ab\ncd"), (it) => it.replaceWith(0, 8, schema.node("paragraph", null, [schema.text("axd")]))), [
-    { op: "delete", at: 1, count: 3 },
-    { op: "insert", at: 1, text: "x" },
+test("what is replaced goes, and comes, whatever letters are the same", () => {
+  const doc = plain("ab\ncd");
+  assert.deepEqual(requests(doc, (it) => it.replaceWith(1, 2, schema.text("a"))), [
+    { op: "delete", at: 0, count: 1 },
+    { op: "insert", at: 0, text: "a" },
   ]);
+  assert.deepEqual(requests(doc, (it) => it.replaceWith(0, 8, schema.node("paragraph", null, [schema.text("axd")]))), [
+    { op: "delete", at: 0, count: 5 },
+    { op: "insert", at: 0, text: "axd" },
+  ]);
+});
+
+test("what a step only puts into another frame stays", () => {
+  assert.deepEqual(requests(plain("ab\ncd"), (it) => it.setNodeMarkup(0, schema.nodes.paragraph)), []);
 });
 
 test("halves of characters that come together are a new one", () => {
@@ -151,7 +156,7 @@ test("long edits are made in parts of 256 characters", () => {
 });
 
 test("marks are sent as the editor's steps have them, a paragraph each", () => {
-  const doc = documentOfSpans([{ text: "ab\ncd" }, { text: "ef", link: "u" }]);
+  const doc = documentOfTexts(["ab\ncd"], ["ef", { link: "u" }]);
   assert.deepEqual(requests(doc, (it) => it.addMark(2, 7, strong.create())), [
     { op: "mark", from: 1, to: 2, kind: "strong" },
     { op: "mark", from: 3, to: 5, kind: "strong" },

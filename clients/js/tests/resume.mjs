@@ -129,7 +129,7 @@ test("an edit is asked for by its token, before any other one, and names no rev 
     const { document, sent } = listened(cut.store);
     await cut.binding.resume(document);
     assert.deepEqual(sent[0], { ...cut.lost, rev: NEVER });
-    assert.equal(sent[1].op, "spans");
+    assert.deepEqual(sent.slice(1, 3).map(({ op }) => op), ["changes", "spans"]);
     assert.equal(await document.text(), "axyb");
   }
 });
@@ -162,7 +162,7 @@ async function elsewhere(cut, options) {
   await other.document.insert(0, "cd");
   other.sent.length = 0;
   await cut.binding.resume(other.document, options);
-  const edits = other.sent.filter(({ op, rev }) => op !== "spans" && rev !== NEVER);
+  const edits = other.sent.filter(({ op, rev }) => op !== "spans" && op !== "changes" && rev !== NEVER);
   assert.equal(cut.binding.waiting, 0);
   return { ...other, edits, text: await other.document.text() };
 }

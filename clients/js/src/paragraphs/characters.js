@@ -1,15 +1,17 @@
 /**
  * A ProseMirror document of plain paragraphs as a list of characters, as the program has it: one for each
- * character of a paragraph and one for each break between two. Positions are ProseMirror's, places are the program's.
+ * character of a paragraph and one for each break between two.
  */
 
+import { NONE } from "../editing/marks.js";
 import { EM, STRONG, comment, link } from "../marks.js";
 
 /**
  * @typedef {import("prosemirror-model").Node} Node
  * @typedef {import("prosemirror-model").Mark} EditorMark
  * @typedef {import("prosemirror-model").Schema} Schema
- * @typedef {{text: string, marks: readonly EditorMark[]}} Character
+ * @typedef {import("../editing/marks.js").Held} Held
+ * @typedef {import("../editing/edits.js").Run} Run
  */
 
 /** Half of a pair of surrogates, which is no character. */
@@ -19,102 +21,49 @@ const HALF = /\p{Surrogate}/u;
 const UUID = /^[0-9a-f]{8}(-[0-9a-f]{4}){3}-[0-9a-f]{12}$/;
 
 /** The break between two paragraphs. Its marks aren't shown, so it has none here. */
-export const BREAK = Object.freeze({ text: "\n", marks: Object.freeze([]) });
+const BREAK = Object.freeze({ text: "\n", marks: NONE });
 
 /**
- * The characters of a document, or of the paragraphs of a slice.
+ * The texts of paragraphs, each with its marks.
  * @param {Node | import("prosemirror-model").Fragment} paragraphs
  */
-export function charactersOf(paragraphs) {
-  /** @type {Character[]} */
-  const characters = [];
+export function runsOf(paragraphs) {
+  /** @type {Run[]} */
+  const runs = [];
   paragraphs.forEach((paragraph, _, index) => {
-    if (index > 0) characters.push(BREAK);
+    if (index > 0) runs.push(BREAK);
     paragraph.forEach((node) => {
-      for (const text of node.text ?? "") characters.push({ text, marks: node.marks });
+      runs.push({ text: node.text ?? "", marks: heldBy(node) });
     });
   });
-  return characters;
+  return runs;
 }
 
 /**
- * The characters of spans. Marks that the schema doesn't have are left out.
+ * The paragraphs of texts with their marks, of which there is always one.
  * @param {Schema} schema
- * @param {import("../marks.js").Span[]} spans
+ * @param {readonly Run[]} runs
  */
-export function charactersOfSpans(schema, spans) {
-  /** @type {Character[]} */
-  const characters = [];
-  for (const span of spans) {
-    const marks = marksOf(schema, span);
-    for (const text of span.text) characters.push(text === "\n" ? BREAK : { text, marks });
-  }
-  return characters;
-}
-
-/**
- * The paragraphs of characters, of which there is always one.
- * @param {Schema} schema
- * @param {readonly Character[]} characters
- */
-export function paragraphsOf(schema, characters) {
+export function paragraphsOf(schema, runs) {
   /** @type {Node[][]} */
   const paragraphs = [[]];
-  let at = 0;
-  while (at < characters.length) {
-    const { marks } = characters[at];
-    const start = at;
-    while (at < characters.length && characters[at] !== BREAK && characters[at].marks === marks) at += 1;
-    const text = characters.slice(start, at).map((character) => character.text).join("");
-    if (text !== "") paragraphs[paragraphs.length - 1].push(schema.text(text, marks));
-    if (characters[at] === BREAK) {
-      paragraphs.push([]);
-      at += 1;
-    }
+  for (const { text, marks } of runs) {
+    const shown = marksOf(schema, marks);
+    text.split("\n").forEach((line, index) => {
+      if (index > 0) paragraphs.push([]);
+      if (line !== "") paragraphs[paragraphs.length - 1].push(schema.text(line, shown));
+    });
   }
   return paragraphs.map((nodes) => schema.nodes.paragraph.create(null, nodes));
 }
 
 /**
- * The document of characters.
+ * The document of texts with their marks.
  * @param {Schema} schema
- * @param {readonly Character[]} characters
+ * @param {readonly Run[]} runs
  */
-export function documentOf(schema, characters) {
-  return schema.topNodeType.create(null, paragraphsOf(schema, characters));
-}
-
-/**
- * How many positions a list of characters takes: a break ends a paragraph and begins one.
- * @param {readonly Character[]} characters
- */
-export function widthOf(characters) {
-  return characters.reduce((width, character) => width + (character === BREAK ? 2 : character.text.length), 0);
-}
-
-/**
- * The position of a place.
- * @param {readonly Character[]} characters
- * @param {number} place
- */
-export function positionOf(characters, place) {
-  return 1 + widthOf(characters.slice(0, place));
-}
-
-/**
- * The place of a position; one between two paragraphs counts as the end of the first.
- * @param {readonly Character[]} characters
- * @param {number} position
- */
-export function placeOf(characters, position) {
-  let place = 0;
-  let after = 1;
-  while (place < characters.length) {
-    after += characters[place] === BREAK ? 2 : characters[place].text.length;
-    if (after > position) break;
-    place += 1;
-  }
-  return place;
+export function documentOf(schema, runs) {
+  return schema.topNodeType.create(null, paragraphsOf(schema, runs));
 }
 
 /**
@@ -141,33 +90,76 @@ export function sentMark(mark) {
  * @param {{kind: string, url?: string, id?: string}} mark
  * @returns {EditorMark | undefined}
  */
-function shownMark(schema, { kind, url, id }) {
+export function shownMark(schema, { kind, url, id }) {
   return schema.marks[kind]?.create({ href: url, id });
 }
 
 /**
- * The marks of a span, in the schema's order.
+ * The editor's marks, in the schema's order.
  * @param {Schema} schema
- * @param {import("../marks.js").Span} span
+ * @param {Held} marks
  */
-function marksOf(schema, span) {
-  const marks = (span.comments ?? []).map((id) => shownMark(schema, comment(id)));
-  if (span.strong) marks.push(shownMark(schema, STRONG));
-  if (span.em) marks.push(shownMark(schema, EM));
-  if (span.link !== undefined) marks.push(shownMark(schema, link(span.link)));
+export function marksOf(schema, { strong, em, link: url, comments = [] }) {
+  const marks = comments.map((id) => shownMark(schema, comment(id)));
+  if (strong) marks.push(shownMark(schema, STRONG));
+  if (em) marks.push(shownMark(schema, EM));
+  if (url !== undefined) marks.push(shownMark(schema, link(url)));
   return marks.reduce((set, mark) => mark?.addToSet(set) ?? set, /** @type {readonly EditorMark[]} */ ([]));
+}
+
+/**
+ * The marks of an editor's text.
+ * @param {Node} node
+ * @returns {Held}
+ */
+function heldBy({ marks }) {
+  if (marks.length === 0) return NONE;
+  /** @type {Held} */
+  const found = {};
+  for (const mark of marks.map(sentMark)) {
+    if (mark?.kind === "strong" || mark?.kind === "em") found[mark.kind] = true;
+    if (mark?.kind === "link") found.link = mark.url;
+    if (mark?.kind === "comment") found.comments = [...(found.comments ?? []), mark.id].sort();
+  }
+  return found;
 }
 
 /**
  * Whether the program can hold a document: plain paragraphs, of text with marks that it has.
  * @param {Node} doc
+ * @param {Node} [before] one that it can hold: what both have isn't looked at
  */
-export function isHeld(doc) {
+export function isHeld(doc, before) {
   const plain = doc.type.schema.nodes.paragraph.create();
+  const { first, end } = changedIn(doc, before);
+  for (let index = first; index < end; index += 1) {
+    const node = doc.child(index);
+    if (!node.sameMarkup(plain) || !isHeldInside(node)) return false;
+  }
+  return true;
+}
+
+/**
+ * The children of a document that it doesn't share with one before, at the same place from its start or from its end; and how
+ * many more it has.
+ * @param {Node} doc
+ * @param {Node} [before]
+ */
+export function changedIn(doc, before) {
+  if (before === undefined) return { first: 0, end: doc.childCount, shift: doc.childCount };
+  const shift = doc.childCount - before.childCount;
+  let first = 0;
+  while (first < Math.min(doc.childCount, before.childCount) && doc.child(first) === before.child(first)) first += 1;
+  let end = doc.childCount;
+  while (end > Math.max(first, first + shift) && doc.child(end - 1) === before.child(end - 1 - shift)) end -= 1;
+  return { first, end, shift };
+}
+
+/** @param {Node} paragraph */
+function isHeldInside(paragraph) {
   let held = true;
-  doc.descendants((node) => {
-    held &&= node.isText ? isHeldText(node) : node.sameMarkup(plain);
-    return held;
+  paragraph.forEach((node) => {
+    held &&= node.isText && isHeldText(node);
   });
   return held;
 }
