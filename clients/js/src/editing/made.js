@@ -10,6 +10,7 @@ import { addTo, cutAt, leftBy } from "./steps.js";
  * @typedef {import("./steps.js").Placed} Placed
  * @typedef {import("./steps.js").Retain} Retain
  * @typedef {import("./steps.js").Step} Step
+ * @typedef {{step: Retain, old: number, now: number}} PlacedRetain
  */
 
 /**
@@ -26,9 +27,8 @@ export function withGiven(edit, others, all) {
   /** @type {Step[]} */
   const result = [];
   for (const placed of cutAt(others, [edit.at, end])) {
-    const { step } = placed;
-    if (isWithin(placed, edit.at, end) && step.attributes === undefined) for (const part of given(placed, came)) addTo(result, part);
-    else addTo(result, step);
+    if (isWithin(placed, edit.at, end) && placed.step.attributes === undefined) for (const part of given(placed, came)) addTo(result, part);
+    else addTo(result, placed.step);
   }
   return result;
 }
@@ -42,13 +42,15 @@ export function withGiven(edit, others, all) {
 export function corrections(edit, steps) {
   if (edit.op !== "insert") return { edits: [], steps };
   const end = edit.at + sizeOf(edit);
+  /** @type {PlacedRetain[]} */
   const own = [];
   /** @type {Step[]} */
   const others = [];
   for (const placed of cutAt(steps, [edit.at, end])) {
-    const isOwn = isWithin(placed, edit.at, end) && placed.step.attributes !== undefined;
-    if (isOwn) own.push(placed);
-    addTo(others, isOwn ? { retain: placed.step.retain } : placed.step);
+    if (isWithin(placed, edit.at, end) && placed.step.attributes !== undefined) {
+      own.push(placed);
+      addTo(others, { retain: placed.step.retain });
+    } else addTo(others, placed.step);
   }
   return { edits: own.every(({ step }) => isMeant(edit, step)) ? [] : markingsOf(own.flatMap((placed) => wrong(edit, placed))), steps: others };
 }
@@ -65,7 +67,7 @@ function isMeant({ runs }, { attributes = NONE }) {
 /**
  * Characters of an insert, each with the marks that it was given, and those that it is meant to have.
  * @param {Insert} edit
- * @param {Placed & {step: Retain}} placed
+ * @param {PlacedRetain} placed
  */
 function wrong(edit, { step: { retain, attributes = NONE }, old, now }) {
   const first = old - edit.at;
@@ -78,15 +80,15 @@ function wrong(edit, { step: { retain, attributes = NONE }, old, now }) {
  * @param {Placed} placed
  * @param {number} from
  * @param {number} to
- * @returns {placed is Placed & {step: Retain}}
+ * @returns {placed is PlacedRetain}
  */
-function isWithin({ step, old }, from, to) {
-  return "retain" in step && old >= from && old < to;
+function isWithin(placed, from, to) {
+  return "retain" in placed.step && placed.old >= from && placed.old < to;
 }
 
 /**
  * Characters with the marks with which they came.
- * @param {Placed & {step: Retain}} placed
+ * @param {PlacedRetain} placed
  * @param {readonly Placed[]} came
  * @returns {Step[]}
  */

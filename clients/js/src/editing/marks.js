@@ -13,11 +13,11 @@ export const NONE = Object.freeze({});
 
 /**
  * What holds of the marks of a step or a span.
- * @param {import("../changing.js").Marks} [marks]
+ * @param {import("../changing.js").Marks} marks
  * @param {(kind: string) => boolean} knows the kinds that are shown; the others are left out
  * @returns {Held}
  */
-export function held({ strong, em, link: url, comments } = {}, knows) {
+export function held({ strong, em, link: url, comments }, knows) {
   /** @type {Held} */
   const found = {};
   if (strong && knows("strong")) found.strong = true;

@@ -4,7 +4,7 @@ import { Refused, Stale } from "../refusals.js";
 import { charactersOf } from "./edits.js";
 import { fitted } from "./fitting.js";
 import { withGiven } from "./made.js";
-import { held } from "./marks.js";
+import { NONE, held } from "./marks.js";
 
 /**
  * @typedef {import("./edits.js").Edit} Edit
@@ -95,8 +95,9 @@ export class Teller {
    */
   #stepsOf(steps) {
     return steps.map((step) => {
-      if ("delete" in step || ("retain" in step && step.attributes === undefined)) return step;
-      return { ...step, attributes: held(step.attributes, this.knows) };
+      if ("delete" in step) return step;
+      if ("insert" in step) return { insert: step.insert, attributes: held(step.attributes ?? NONE, this.knows) };
+      return step.attributes === undefined ? { retain: step.retain } : { retain: step.retain, attributes: held(step.attributes, this.knows) };
     });
   }
 }
@@ -116,5 +117,6 @@ function valueOf(result) {
  * @returns {undefined}
  */
 function nothingIfRefused(error) {
-  if (!(error instanceof Refused)) throw error;
+  if (error instanceof Refused) return undefined;
+  throw error;
 }

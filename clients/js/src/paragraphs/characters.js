@@ -117,7 +117,8 @@ function heldBy({ marks }) {
   /** @type {Held} */
   const found = {};
   for (const mark of marks.map(sentMark)) {
-    if (mark?.kind === "strong" || mark?.kind === "em") found[mark.kind] = true;
+    if (mark?.kind === "strong") found.strong = true;
+    if (mark?.kind === "em") found.em = true;
     if (mark?.kind === "link") found.link = mark.url;
     if (mark?.kind === "comment") found.comments = [...(found.comments ?? []), mark.id].sort();
   }
