@@ -1,7 +1,8 @@
 """How long a session takes to tell what changed in a document of 10^3 to 10^6 characters with 0 to 10,000 marks, beside its text.
 
 python3 bench/changes.py PROGRAM [--most CHARACTERS]. Files are in memory (/dev/shm), characters typed at the end. Changed have since one typed
-character, ten at ten places, and a mark over 50; then the text is read. The aims are 100 us for one character and 300 us for ten.
+character, ten at ten places, and a mark over 50; then the text is read. The aims are 100 us for one character and 300 us for ten. Where
+Debian's node-yjs is there, Yjs in memory applies such updates of another replica, and tells the delta of each.
 """
 
 import argparse
@@ -10,6 +11,7 @@ import random
 import tempfile
 
 import store_file
+import yjs
 from session import Session, quantile
 from spans import COUNTS, MARKS, mark
 
@@ -57,6 +59,9 @@ def measure(program, room, count):
             times = [changed(session, change()) for _ in range(READS)]
             said.append(f"{what} p50 {quantile(times, 0.5) * 1e6:6.0f} us p99 {quantile(times, 0.99) * 1e6:6.0f} us,")
         texts = [session.answered(op="text", doc=1)[1] for _ in range(TEXTS)]
+        for what, places in (("a character", 1), ("ten places", 10)):
+            if yjs.is_there():
+                said.append(f"Yjs for {what} {yjs.run('changes', count, marks, places, READS)[0] / READS * 1e6:6.0f} us,")
         print(*said, f"the text {quantile(texts, 0.5) * 1e6:6.0f} us", flush=True)
     session.end()
 

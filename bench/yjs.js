@@ -1,4 +1,4 @@
-// The same edits in Yjs, in memory: for bench/edits.py and bench/typed.py. Prints seconds, and the length of the text at the end.
+// The same edits in Yjs, in memory: for bench/edits.py, bench/typed.py and bench/changes.py. Prints seconds, and the length of the text at the end.
 //
 // Debian's node-yjs is found with NODE_PATH=/usr/share/nodejs.
 //
@@ -6,6 +6,8 @@
 // node bench/yjs.js pastes COUNT PLACE EDITS    inserts of 256 characters, each deleted again
 // node bench/yjs.js merges COUNT PLACE EDITS    the first case's updates, applied one by one by another replica; PLACE may be `three`
 // node bench/yjs.js lines FILE                  edits as session lines
+// node bench/yjs.js changes COUNT MARKS PLACES EDITS    updates of a character at each of so many places of a text with so many marks
+//                                                       over 50 characters each, applied, and the delta of each asked for
 "use strict";
 
 const fs = require("fs");
@@ -90,6 +92,32 @@ function merges(count, place, many) {
   }), base.text);
 }
 
+// A text with marks over 50 characters each, at random places.
+function marked(count, marks) {
+  const made = typed(count);
+  for (let n = 0; n < marks; n++) made.text.format(where("random", n, count - 50), 50, { strong: true });
+  return made;
+}
+
+function changes(count, marks, places, many) {
+  const base = marked(count, marks);
+  const other = replica(Y.encodeStateAsUpdate(base.doc));
+  for (let n = 0; n < many; n++) {
+    other.doc.transact(() => {
+      for (let place = 0; place < places; place++) other.text.insert(where("random", n * places + place, count), "y");
+    });
+  }
+  let steps = 0;
+  base.text.observe((event) => {
+    steps += event.delta.length;
+  });
+  const seconds = timed(() => {
+    for (const update of other.updates) Y.applyUpdate(base.doc, update);
+  });
+  if (steps < many) throw new Error("no deltas");
+  tell(seconds, base.text);
+}
+
 function lines(file) {
   const asked = fs.readFileSync(file, "utf8").trim().split("\n").map((line) => JSON.parse(line));
   const { text } = replica();
@@ -103,4 +131,5 @@ function lines(file) {
 
 const [what, ...words] = process.argv.slice(2);
 if (what === "lines") lines(words[0]);
+else if (what === "changes") changes(...words.map(Number));
 else ({ edits, pastes, merges })[what](Number(words[0]), words[1], Number(words[2]));

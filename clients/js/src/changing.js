@@ -54,6 +54,22 @@ export function delta(text, steps) {
 }
 
 /**
+ * Whether steps make of some spans just these ones.
+ * @param {Span[]} spans
+ * @param {Step[]} steps
+ * @param {Span[]} wanted
+ */
+export function leadTo(spans, steps, wanted) {
+  try {
+    const made = applied(spans, steps);
+    return made.length === wanted.length && made.every((span, index) => isSame(span, wanted[index]));
+  } catch (error) {
+    if (error instanceof RangeError) return false;
+    throw error;
+  }
+}
+
+/**
  * The spans that a step makes of those that are left.
  * @param {Step} step
  * @param {Span[]} left
@@ -107,6 +123,14 @@ function joined(spans) {
     else found.push(span);
   }
   return found;
+}
+
+/**
+ * @param {Span} span
+ * @param {Span} other
+ */
+function isSame(span, other) {
+  return span.text === other.text && marksOf(span) === marksOf(other);
 }
 
 /** @param {Span} span */

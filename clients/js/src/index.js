@@ -2,6 +2,7 @@
 
 export { applied, delta } from "./changing.js";
 export { Document } from "./document.js";
+export { Following } from "./following.js";
 export { Lines } from "./lines.js";
 export { EM, STRONG, comment, link } from "./marks.js";
 export { toIndex, toPlace } from "./places.js";
@@ -9,4 +10,4 @@ export { Reading } from "./reading.js";
 export { Ended, NoDaemon, Refused, Stale } from "./refusals.js";
 export { Session } from "./session.js";
 export { Watch } from "./watch.js";
-export { WebConnection, connectWeb, watchWeb } from "./web.js";
+export { WebConnection, connectWeb, followWeb, watchWeb } from "./web.js";

@@ -43,21 +43,36 @@ const LONG = "at most 256 characters in one edit; send it in parts";
 const TOKEN = "an older program knows no `token`; start one that is as new as this client";
 
 /**
+ * The requests that an older program doesn't know.
+ * @type {Set<unknown>}
+ */
+const LATER = new Set(["watch", "changes", "anchors", "places"]);
+
+/**
  * Why, and what to do, after a refusal of a request, if that is known.
  * @param {number} number
  * @param {import("./rules.js").Request} [request]
  */
 function sentence(number, request) {
-  if (number === 4 && request !== undefined) return ofFields(request);
+  if (number === 3 && request !== undefined && LATER.has(request.op)) return ofFields(request, older(request));
+  if (number === 4 && request !== undefined) return ofFields(request, request.token === undefined ? ADVICE[4] : TOKEN);
   if (number === 7 && request !== undefined) return isLong(request) ? LONG : FULL;
   return ADVICE[number];
 }
 
-/** @param {import("./rules.js").Request} request */
-function ofFields(request) {
+/**
+ * Which rules the fields of a request break, or what else is the cause.
+ * @param {import("./rules.js").Request} request
+ * @param {string} otherwise
+ */
+function ofFields(request, otherwise) {
   const faults = broken(request);
-  if (faults.length > 0) return `${faults.join(", ")}; ${MEND}`;
-  return request.token === undefined ? ADVICE[4] : TOKEN;
+  return faults.length > 0 ? `${faults.join(", ")}; ${MEND}` : otherwise;
+}
+
+/** @param {import("./rules.js").Request} request */
+function older({ op }) {
+  return `an older program knows no \`${op}\`; start one that is as new as this client`;
 }
 
 /**

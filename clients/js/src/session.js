@@ -172,6 +172,12 @@ export class Session {
     await this.#end;
   }
 
+  /** Ends the session at once. What waits is `Ended`, and an edit of that may be made or not. */
+  abandon() {
+    this.#finish("it was abandoned");
+    cut(this.#transport);
+  }
+
   /**
    * A transport whose lines are this session's.
    * @param {Transport} transport

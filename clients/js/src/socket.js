@@ -3,6 +3,7 @@
 import { createConnection } from "node:net";
 
 import { connectBy } from "./connecting.js";
+import { Following } from "./following.js";
 import { Lines } from "./lines.js";
 import { Watch } from "./watch.js";
 
@@ -74,6 +75,17 @@ export function connect(port, options = {}) {
  */
 export function watch(port, document, options = {}) {
   return new Watch(() => new Connection(port), document, options);
+}
+
+/**
+ * Shows a document of the daemon whose `--sessions` port this is, and each change of it. It has a session and a watch, which
+ * take two places.
+ * @param {number} port
+ * @param {number} document
+ * @param {import("./following.js").Options} options
+ */
+export function follow(port, document, options = {}) {
+  return new Following(() => connect(port, options), () => new Connection(port), document, options);
 }
 
 /**

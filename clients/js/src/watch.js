@@ -27,6 +27,9 @@ export class Watch {
   #begin;
   #request;
   #retry;
+  #repeats;
+  /** Whether the next number is given though it may be that of before. */
+  #isRepeated = false;
   #newest = -1;
   #given = -1;
   #isClosed = false;
@@ -46,14 +49,16 @@ export class Watch {
   /**
    * @param {() => Transport | Promise<Transport>} begin a transport over which nothing was asked so far
    * @param {number} document
-   * @param {{retry?: number | null}} options `retry`: milliseconds for which a daemon that went is looked for, 10,000 unless
-   *   it is given, or null not to look
+   * @param {{retry?: number | null, repeats?: boolean}} options `retry`: milliseconds for which a daemon that went is looked
+   *   for, 10,000 unless it is given, or null not to look; `repeats`: whether the first number over each transport is given,
+   *   also if it is that of before: it may name another text there
    */
-  constructor(begin, document, { retry = RETRY } = {}) {
+  constructor(begin, document, { retry = RETRY, repeats = false } = {}) {
     check({ retry });
     this.#begin = begin;
     this.#request = { op: "watch", doc: document };
     this.#retry = retry ?? 0;
+    this.#repeats = repeats;
     this.#run().catch((error) => this.#finish(error));
   }
 
@@ -115,6 +120,7 @@ export class Watch {
       return false;
     }
     this.#transport = transport;
+    this.#isRepeated = this.#repeats;
     if (this.#isClosed) cut(transport);
     return this.#all(transport);
   }
@@ -174,6 +180,8 @@ export class Watch {
       this.#finish(new Ended("another file is served there now"));
       return false;
     }
+    if (this.#isRepeated) this.#given = -1;
+    this.#isRepeated = false;
     this.#newest = rev;
     this.#wake();
     return true;

@@ -1,6 +1,7 @@
 /** Sessions of a daemon by WebSockets, for browsers, and for Node from version 22 on: `peritext serve --web PORT`. */
 
 import { connectBy } from "./connecting.js";
+import { Following } from "./following.js";
 import { Watch } from "./watch.js";
 
 /** A daemon listens on this machine alone. */
@@ -106,6 +107,16 @@ export function connectWeb(port, options = {}) {
  */
 export function watchWeb(port, document, options = {}) {
   return new Watch(() => new WebConnection(port), document, options);
+}
+
+/**
+ * As `follow` has it, over two WebSockets of the daemon whose `--web` port this is.
+ * @param {number} port
+ * @param {number} document
+ * @param {import("./following.js").Options} options
+ */
+export function followWeb(port, document, options = {}) {
+  return new Following(() => connectWeb(port, options), () => new WebConnection(port), document, options);
 }
 
 /**

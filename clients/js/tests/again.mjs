@@ -6,7 +6,7 @@ import { test } from "node:test";
 import { Ended, Session, Stale, connect } from "peritext";
 
 import { Store } from "./fake.mjs";
-import { asked, soon, withTalk } from "./talk.mjs";
+import { asked, pause, soon, withTalk } from "./talk.mjs";
 
 const NEVER = 2 ** 32 - 1;
 const TOKEN = "00000000-0000-4000-8000-0000000000d1";
@@ -253,4 +253,25 @@ test("it goes on over any transport that the caller finds again", async () => {
   assert.equal(await soon(edit), 1);
   assert.equal(found.length, 2);
   await session.close();
+});
+
+test("a session that is abandoned ends at once, also while another connection is looked for", async () => {
+  const transport = new Store().session();
+  transport.held = true;
+  let tries = 0;
+  const again = async () => {
+    tries += 1;
+    throw new Error("nobody is there");
+  };
+  const session = new Session(transport, { again, retry: Infinity });
+  const answer = session.document(1).text();
+  transport.cut(0);
+  while (tries === 0) await pause(5);
+  session.abandon();
+  await assert.rejects(soon(answer), { name: "Ended", message: /it was abandoned/, wasSent: true });
+  await assert.rejects(session.document(1).text(), Ended);
+  await soon(session.close());
+  const made = tries;
+  await pause(150);
+  assert.equal(tries, made);
 });

@@ -59,6 +59,10 @@ test("a refusal says what it is about", () => {
   }
   assert.equal(words({ since: 0, rev: 3 }), "4 field: `rev` is no field of this request; mend what wrote it");
   for (const since of [0, 2 ** 32 - 1]) assert.match(words({ since }), /^4 field: a value breaks its rule/);
+  const sentence = (request) => new Refused(3, "request", request).message;
+  assert.equal(sentence({ op: "changes", doc: 1, since: 0 }), "3 request: an older program knows no `changes`; start one that is as new as this client");
+  assert.equal(sentence({ op: "watch", doc: 0 }), "3 request: `doc` has to be a whole number from 1 to 4294967295; mend what wrote it");
+  assert.match(sentence({ op: "text", doc: 1 }), /^3 request: the line is no request/);
 });
 
 /** Runs a test over a document whose answers have these revs, and the requests for it. In place of null the connection ends. */

@@ -11,10 +11,18 @@ export class Store {
   #documents = new Map();
   /** What each edit with a token was answered. */
   #tokens = new Map();
+  #watchers = new Set();
 
   /** A transport of a session of its own over this store. While it is `held`, nothing is answered. */
   session() {
     return new FakeTransport((line) => this.answer(line));
+  }
+
+  /** A transport of a watch over this store. While it is `held`, it tells nothing. */
+  watcher() {
+    const watcher = new FakeWatcher((number) => this.document(number).rev);
+    this.#watchers.add(watcher);
+    return watcher;
   }
 
   /** The document of a number. */
@@ -38,6 +46,7 @@ export class Store {
       return refusal(2);
     }
     const answer = this.#done(request);
+    setImmediate(() => this.#watchers.forEach((watcher) => watcher.tell()));
     return typeof answer === "number" ? refusal(answer) : JSON.stringify({ ok: true, ...answer });
   }
 
@@ -66,7 +75,8 @@ class FakeTransport {
   #answer;
   #lines = [];
   #closed = false;
-  #hasEnded = false;
+  /** Whether it has told its end. */
+  hasEnded = false;
 
   constructor(answer) {
     this.#answer = answer;
@@ -105,11 +115,54 @@ class FakeTransport {
   }
 
   #go() {
-    if (this.onEnd === undefined || this.#hasEnded) return;
+    if (this.onEnd === undefined || this.hasEnded) return;
     while (this.#answer !== undefined && !this.held && this.#lines.length > 0) this.#give();
     if (this.#answer !== undefined && !(this.#closed && this.#lines.length === 0)) return;
-    this.#hasEnded = true;
+    this.hasEnded = true;
     this.onEnd();
+  }
+}
+
+class FakeWatcher {
+  /** Set to keep numbers back. */
+  held = false;
+  /** How many numbers were told. */
+  count = 0;
+  #revOf;
+  #number;
+  #told = -1;
+  /** Whether it has ended. */
+  isOver = false;
+
+  constructor(revOf) {
+    this.#revOf = revOf;
+  }
+
+  send(line) {
+    this.#number = JSON.parse(line).doc;
+    setImmediate(() => this.tell());
+  }
+
+  /** Says how many operations there are, if that wasn't said. */
+  tell() {
+    if (this.isOver || this.held || this.#number === undefined) return;
+    const rev = this.#revOf(this.#number);
+    if (rev === this.#told) return;
+    this.#told = rev;
+    this.count += 1;
+    this.onLine(JSON.stringify({ ok: true, rev }));
+  }
+
+  release() {
+    this.held = false;
+    this.tell();
+  }
+
+  /** Ends a little later. */
+  close() {
+    if (this.isOver) return;
+    this.isOver = true;
+    setImmediate(() => this.onEnd());
   }
 }
 

@@ -6,11 +6,11 @@ import { test } from "node:test";
 import { applied } from "peritext";
 
 import { answerOf } from "../src/answers.js";
+import { chanceEdit } from "./chance.mjs";
 import { Store } from "./fake.mjs";
 import { numbers } from "./support.mjs";
 
 const [FIRST, SECOND] = [1, 2].map((number) => `00000000-0000-4000-8000-0000000000c${number}`);
-const MARKS = [{ kind: "strong" }, { kind: "em" }, { kind: "link", url: "x:y" }, { kind: "comment", id: FIRST }, { kind: "comment", id: SECOND }];
 const BARE = { comments: null, em: null, link: null, strong: null };
 
 /** What a store answers, as a client takes it. */
@@ -21,17 +21,6 @@ function asked(store, fields) {
 
 function changes(store, since) {
   return asked(store, { op: "changes", since }).changes;
-}
-
-/** A random edit of a text of so many characters. */
-function edit(below, length) {
-  const [from, to] = [below(length + 1), below(length + 1)].sort((one, other) => one - other);
-  const { url, ...mark } = MARKS[below(MARKS.length)];
-  const kind = from < to ? below(5) : 0;
-  if (kind === 1) return { op: "delete", at: from, count: Math.min(to - from, 4) };
-  if (kind === 2) return { op: "unmark", from, to, ...mark };
-  if (kind === 3) return { op: "mark", from, to, ...mark, url };
-  return { op: "insert", at: from, text: "aaa😀".slice(below(3)) };
 }
 
 /** Each character that stays is the one that it was, each one that comes is new, and the others go. */
@@ -56,7 +45,7 @@ test("since each rev they make the spans of now, of the same characters", () => 
     const shown = new Map([[0, []]]);
     for (let turn = 0; turn < 25; turn += 1) {
       const document = store.document(1);
-      const { rev } = asked(store, edit(below, document.at(document.rev).length));
+      const { rev } = asked(store, chanceEdit(below, document.at(document.rev).length, "aaa😀".slice(below(3))));
       const { spans } = asked(store, { op: "spans" });
       shown.set(rev, spans);
       for (const [since, before] of shown) {

@@ -39,11 +39,15 @@ async function isHeard(port) {
   return heard;
 }
 
-/** A daemon over a file, on a port for sessions that may be given, and one for WebSockets if there is to be one. */
-export async function start(file, given, web) {
+/**
+ * A daemon over a file, on a port for sessions that may be given, and one for WebSockets if there is to be one. It links to a
+ * peer if it is given its port.
+ */
+export async function start(file, given, web, peer) {
   const [port, peers] = [given ?? (await freePort()), await freePort()];
   const pages = web === undefined ? [] : ["--web", web];
-  const child = spawn(program, ["serve", file, "--sessions", port, "--peers", peers, ...pages], { stdio: "ignore" });
+  const links = peer === undefined ? [] : ["--link", peer];
+  const child = spawn(program, ["serve", file, "--sessions", port, "--peers", peers, ...pages, ...links], { stdio: "ignore" });
   const ended = once(child, "exit");
   while (!(await isHeard(port))) await new Promise((done) => setTimeout(done, 20));
   const kill = async () => {

@@ -95,6 +95,12 @@ test("the same number isn't told again, and a lower one is of another file", asy
   await assert.rejects(revs.next(), { name: "Ended", message: "another file is served there now" });
 });
 
+test("the first number over each connection is given if that is wanted", async () => {
+  const revs = new Watch(answering([rev(7)], [rev(7), rev(7)], [rev(9)], [rev(8)]), 1, { repeats: true });
+  for (const number of [7, 7, 9]) assert.equal(await next(revs), number);
+  await assert.rejects(revs.next(), Ended);
+});
+
 test("a refusal ends it, but a place that is taken for a while", async () => {
   const refusal = (number, word) => `{"code":${number},"error":"${word}","ok":false}`;
   await assert.rejects(new Watch(answering([refusal(3, "request")]), 1).next(), { number: 3 });

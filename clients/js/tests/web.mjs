@@ -4,7 +4,7 @@ import assert from "node:assert/strict";
 import { createRequire } from "node:module";
 import { test } from "node:test";
 
-import { Ended, NoDaemon, connect, connectWeb, watchWeb } from "peritext";
+import { Ended, NoDaemon, connect, connectWeb, followWeb, watchWeb } from "peritext";
 
 import { freePort, seeEachOther, start, withDaemon } from "./served.mjs";
 import { LIBRARIES } from "./support.mjs";
@@ -57,7 +57,24 @@ test("told of changes", () =>
     await session.close();
   }));
 
+test("a document is followed, also by a daemon that is started again", () =>
+  withWeb(async ({ port, web, kill }, file) => {
+    const session = await connect(port);
+    await session.document(1).insert(0, "🦊");
+    const told = followWeb(web, 1);
+    assert.deepEqual((await told.next()).value, { reset: [{ text: "🦊" }], text: "🦊", rev: 1 });
+    await kill();
+    const daemon = await start(file, port, web);
+    await session.document(1).insert(1, "abc");
+    assert.deepEqual((await told.next()).value, { steps: [{ retain: 2 }, { insert: "abc" }], rev: 4 });
+    told.close();
+    assert.deepEqual(await told.next(), { done: true, value: undefined });
+    await session.close();
+    await daemon.kill();
+  }));
+
 test("where nobody takes WebSockets", async () => {
   await assert.rejects(connectWeb(await freePort()), NoDaemon);
+  await assert.rejects(followWeb(await freePort(), 1).next(), NoDaemon);
   await withWeb(async ({ port }) => assert.rejects(connectWeb(port), NoDaemon));
 });

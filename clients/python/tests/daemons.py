@@ -187,13 +187,15 @@ class Examples(WithDaemon):
             result = doctest.testmod(module)
             self.assertEqual((result.failed, result.attempted > 0), (0, True))
 
-    def test_the_example_of_the_page_is_so(self):
+    def test_the_examples_of_the_page_are_so(self):
         with open(os.path.join(CLIENT, "README.md"), encoding="utf-8") as page:
             examples = re.findall(r"^```py\n(.*?)^```$", page.read(), re.MULTILINE | re.DOTALL)
-        self.assertEqual(len(examples), 1)
-        with contextlib.redirect_stdout(io.StringIO()) as printed:
-            exec(examples[0].replace("7001", str(self.daemon.port)), {})
-        self.assertEqual(printed.getvalue(), "The quick fox\n")
+        printed = []
+        for example in examples:
+            with contextlib.redirect_stdout(io.StringIO()) as said:
+                exec(example.replace("7001", str(self.daemon.port)), {})
+            printed.append(said.getvalue())
+        self.assertEqual(printed, ["The quick fox\n", "The quick fox\nThe quick fox!\n"])
 
 
 def text_over(port):

@@ -36,6 +36,16 @@ fn an_edit_is_seen_and_settled(rt: HostRuntime) -> Result<(), Fail> {
 }
 
 #[test]
+fn what_changed_and_places_are_told(rt: HostRuntime) -> Result<(), Fail> {
+    session(
+        &rt,
+        "{\"op\":\"insert\",\"doc\":1,\"at\":0,\"text\":\"abc\"}\n{\"op\":\"changes\",\"doc\":1,\"since\":3}\n{\"op\":\"delete\",\"doc\":1,\"at\":1,\"count\":1}\n{\"op\":\"changes\",\"doc\":1,\"since\":3}\n{\"op\":\"changes\",\"doc\":1,\"since\":0}\n{\"op\":\"changes\",\"doc\":1,\"since\":5}\n{\"op\":\"anchors\",\"doc\":1,\"at\":[0],\"side\":\"previous\"}\n{\"op\":\"places\",\"doc\":1,\"anchors\":[\"start\",\"end\"]}\n{\"op\":\"anchors\",\"doc\":1,\"at\":[3],\"side\":\"next\"}\n",
+        "{\"ok\":true,\"rev\":3}\n{\"changes\":[],\"ok\":true,\"rev\":3}\n{\"ok\":true,\"rev\":4}\n{\"changes\":[{\"retain\":1},{\"delete\":1}],\"ok\":true,\"rev\":4}\n{\"changes\":[{\"insert\":\"ac\"}],\"ok\":true,\"rev\":4}\n{\"code\":6,\"error\":\"stale\",\"ok\":false}\n{\"anchors\":[\"start\"],\"ok\":true,\"rev\":4}\n{\"ok\":true,\"places\":[0,2],\"rev\":4}\n{\"code\":5,\"error\":\"range\",\"ok\":false}\n",
+    )?;
+    Ok(())
+}
+
+#[test]
 fn an_edit_is_refused_by_its_first_cause(rt: HostRuntime) -> Result<(), Fail> {
     session(
         &rt,

@@ -1,6 +1,7 @@
 /** What the program tells of a document: its text, and the steps that led from one text of it to another. */
 
-import { Refused, Stale } from "../refusals.js";
+import { readAnew } from "../anew.js";
+import { Stale } from "../refusals.js";
 import { charactersOf } from "./edits.js";
 import { fitted } from "./fitting.js";
 import { withGiven } from "./made.js";
@@ -34,7 +35,7 @@ export class Teller {
    */
   async all() {
     const { spans, rev } = await this.document.readSpans();
-    return { runs: spans.map((span) => ({ text: span.text, marks: held(span, this.knows) })), rev };
+    return { runs: this.#runsOf(spans), rev };
   }
 
   /**
@@ -81,12 +82,16 @@ export class Teller {
    * @returns {Promise<Told>}
    */
   async anew(characters, rev, isSame) {
-    const { session, number } = this.document;
-    for (;;) {
-      const asked = isSame ? session.send({ op: "changes", doc: number, since: rev }).catch(nothingIfRefused) : undefined;
-      const [told, { runs, rev: now }] = await Promise.all([asked, this.all()]);
-      if (told === undefined || told.rev === now) return { ...fitted(characters, charactersOf(runs), told && this.#stepsOf(told.changes)), rev: now };
-    }
+    const { told, spans, rev: now } = await readAnew(this.document, isSame ? rev : undefined);
+    return { ...fitted(characters, charactersOf(this.#runsOf(spans)), told && this.#stepsOf(told)), rev: now };
+  }
+
+  /**
+   * @param {readonly import("../marks.js").Span[]} spans
+   * @returns {Run[]}
+   */
+  #runsOf(spans) {
+    return spans.map((span) => ({ text: span.text, marks: held(span, this.knows) }));
   }
 
   /**
@@ -110,13 +115,4 @@ export class Teller {
 function valueOf(result) {
   if (result.status === "rejected") throw result.reason;
   return result.value;
-}
-
-/**
- * @param {unknown} error
- * @returns {undefined}
- */
-function nothingIfRefused(error) {
-  if (error instanceof Refused) return undefined;
-  throw error;
 }

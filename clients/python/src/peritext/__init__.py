@@ -17,6 +17,7 @@ from .changing import Changes, Delete, Insert, Retain, Step, applied
 from .daemon import connect
 from .document import Document, Reading
 from .file import init, open
+from .following import Delta, Follow, Followed, Reset
 from .marks import EM, STRONG, Comment, Link, Mark, Marks, Span
 from .peers import Connected, Peer
 from .refusals import Ended, NoDaemon, Refused, Stale
@@ -28,9 +29,12 @@ __all__ = [
     "Comment",
     "Connected",
     "Delete",
+    "Delta",
     "Document",
     "EM",
     "Ended",
+    "Follow",
+    "Followed",
     "Insert",
     "Link",
     "Mark",
@@ -39,6 +43,7 @@ __all__ = [
     "Peer",
     "Reading",
     "Refused",
+    "Reset",
     "Retain",
     "STRONG",
     "Session",

@@ -7,6 +7,9 @@ from typing import Any, Callable, Mapping
 
 from .refusals import Refused, refused
 
+# What each field has to be.
+Fields = Mapping[str, Callable[[Any], bool]]
+
 
 class NoAnswer(Exception):
     """A line that is no answer to its request, and why."""
@@ -40,7 +43,7 @@ def _object(line: bytes) -> dict[str, Any]:
     return told
 
 
-def _need(told: Mapping[str, Any], fields: Mapping[str, Callable[[Any], bool]]) -> None:
+def _need(told: Mapping[str, Any], fields: Fields) -> None:
     for name, is_right in fields.items():
         if not is_right(told.get(name)):
             raise NoAnswer(f"an answer came without a right `{name}`")
@@ -110,20 +113,20 @@ def _is_peer(value: Any) -> bool:
     return isinstance(value, dict) and all(is_right(value.get(key)) for key, is_right in _PEER.items())
 
 
-_PEER = {"has": _is_number, "lacks": _is_number, "replica": _is_text}
-_MARKS = {"strong": _is_flag, "em": _is_flag, "link": _is_text, "comments": _are_texts}
+_PEER: Fields = {"has": _is_number, "lacks": _is_number, "replica": _is_text}
+_MARKS: Fields = {"strong": _is_flag, "em": _is_flag, "link": _is_text, "comments": _are_texts}
 # The fields of a step, for each of its forms.
-_STEPS: dict[frozenset[str], dict[str, Callable[[Any], bool]]] = {
+_STEPS: dict[frozenset[str], Fields] = {
     frozenset(("retain",)): {"retain": _is_count},
     frozenset(("delete",)): {"delete": _is_count},
     frozenset(("insert",)): {"insert": _is_text},
     frozenset(("attributes", "insert")): {"insert": _is_text, "attributes": _are_marks},
     frozenset(("attributes", "retain")): {"retain": _is_count, "attributes": _are_all_marks},
 }
-_REFUSAL = {"code": _is_number, "error": _is_text}
-_EDITED = {"rev": _is_number}
+_REFUSAL: Fields = {"code": _is_number, "error": _is_text}
+_EDITED: Fields = {"rev": _is_number}
 # The fields of an answer, by the request.
-_FIELDS: dict[str, dict[str, Callable[[Any], bool]]] = {
+_FIELDS: dict[str, Fields] = {
     "insert": _EDITED,
     "delete": _EDITED,
     "mark": _EDITED,

@@ -5,6 +5,7 @@ from __future__ import annotations
 from collections import deque
 from dataclasses import dataclass, replace
 from itertools import groupby
+from operator import attrgetter
 from typing import Any, Iterable, Mapping, NamedTuple, Union
 
 from .marks import Marks, Span
@@ -91,5 +92,5 @@ def _taken(left: deque[Span], count: int) -> list[Span]:
 
 def _joined(spans: list[Span]) -> list[Span]:
     """The same text, in spans that are as long as they can be."""
-    alike = groupby(spans, lambda span: replace(span, text=""))
-    return [replace(marked, text="".join(span.text for span in same)) for marked, same in alike]
+    alike = [list(same) for _, same in groupby(spans, attrgetter("strong", "em", "link", "comments"))]
+    return [same[0] if len(same) == 1 else replace(same[0], text="".join(span.text for span in same)) for same in alike]

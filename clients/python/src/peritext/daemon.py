@@ -11,6 +11,7 @@ from typing import Any
 
 from .again import is_edit, is_known, repeated, with_token
 from .answers import NoAnswer, answer_of
+from .following import Follow
 from .lines import line_of
 from .ports import HOST, PATIENCE, PAUSE
 from .refusals import NoDaemon, Refused
@@ -62,10 +63,36 @@ class SocketSession(Session):
         """
         return Watch(self._port, document, self._retry)
 
+    def follow(self, document: int) -> Follow:
+        """Tells a document as it changes, over a session and a watch of its own, and takes two places more: a `Reset` with the whole text at first,
+        then a `Delta` for each change. It goes on over a lost connection as this session does, and fails as `watch` does.
+
+        >>> with connect(port) as session, session.follow(8) as deltas:
+        ...     next(deltas)
+        ...     rev = session.document(8).insert(0, "fox")
+        ...     next(deltas)
+        Reset(spans=[], rev=0)
+        Delta(steps=[Insert(text='fox', marks=Marks())], rev=3)
+        """
+        watch = Watch(self._port, document, self._retry, tells_again=True)
+        try:
+            # After the watch, which can't have the last place.
+            return Follow(connect(self._port, self._timeout, self._retry), document, watch)
+        except BaseException:
+            watch.close()
+            raise
+
     def close(self) -> None:
         """Ends this session, once all that was sent is answered. The daemon goes on."""
         super().close()
         self._connection.close()
+
+    def cut(self) -> None:
+        """Ends this session at once, from any thread. What waits is `Ended`."""
+        self._over("it was cut off")
+        self._abandon()
+        # Who looks for the daemon just then sees it a little later.
+        threading.Thread(target=self.close, daemon=True).start()
 
     def _end_requests(self) -> None:
         try:

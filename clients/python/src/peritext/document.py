@@ -13,9 +13,10 @@ from .rules import LONGEST, MOST, is_whole
 if TYPE_CHECKING:
     from concurrent.futures import Future
 
+    from .following import Follow
     from .session import Session
 
-# How often places of several requests are asked for, until all are answered at one `rev`.
+# How often several requests are made, until all are answered at one `rev`.
 ROUNDS = 8
 
 
@@ -102,6 +103,18 @@ class Document:
         if since != 0 and parted != self.session.parted:
             raise Stale(6, "stale")
         return Changes([step_of(step) for step in answer["changes"]], answer["rev"])
+
+    def follow(self) -> Follow:
+        """The document as it changes, whoever edits: a `Reset` with its whole text at first, then a `Delta` for each change as soon as a daemon tells
+        of it, until it is closed. It has a session and a watch of its own, which are two places of the daemon.
+
+            shown = []
+            for delta in document.follow():
+                shown = delta.on(shown)
+
+        `io.UnsupportedOperation` in a session over a file, which nobody else edits.
+        """
+        return self.session.follow(self.number)
 
     def anchor(self, at: int, side: str = "previous", rev: int | None = None) -> str:
         """A name for a place between characters, which lasts: it stays with the character before it (`previous`, so that what is typed there

@@ -81,7 +81,7 @@ def is_long(request: Mapping[str, Any]) -> bool:
     >>> is_long({"op": "delete", "doc": 1, "at": 0, "count": 257})
     True
     """
-    text, count = request.get("text"), request.get("count")
+    text, count = request.get("text"), request.get("count", 0)
     return (isinstance(text, str) and len(text) > LONGEST) or (is_whole(count, 0) and count > LONGEST)
 
 

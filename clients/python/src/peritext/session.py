@@ -5,9 +5,9 @@ from __future__ import annotations
 import threading
 from collections import deque
 from concurrent.futures import Future
-from io import BufferedReader
+from io import BufferedReader, UnsupportedOperation
 from types import TracebackType
-from typing import IO, Any, NamedTuple
+from typing import IO, TYPE_CHECKING, Any, NamedTuple, TypeVar
 
 from .answers import NoAnswer, answer_of
 from .document import Document
@@ -17,6 +17,11 @@ from .refusals import Ended, Refused, Stale
 from .seconds import timeout_of
 from .silence import TIMEOUT, Silence
 
+if TYPE_CHECKING:
+    from .following import Follow
+
+# The kind of a session: over a file, or of a daemon.
+Kind = TypeVar("Kind", bound="Session")
 # Bytes that are read at once.
 PART = 65_536
 
@@ -63,12 +68,16 @@ class Session:
         """The document of a number from 1 to 2^32 - 1. One that nobody edited is empty."""
         return Document(self, number)
 
+    def follow(self, document: int) -> Follow:
+        """Tells a document as it changes. Only a session of a daemon does."""
+        raise UnsupportedOperation("nobody tells of changes where a session has its file alone: connect to a daemon (`peritext serve`)")
+
     def ask(self, **fields: Any) -> dict[str, Any]:
         """The answer to a request, as it comes. `Refused` if it is refused, `Ended` if none comes."""
         return self.send(**fields).result()
 
     def edit(self, **fields: Any) -> int:
-        """The `rev` behind an edit. `Stale` if it names one and this session was told none of its document: before, the number of another
+        """The `rev` after an edit. `Stale` if it names one and this session was told none of its document: before, the number of another
         session, or of the connection before, could name another text."""
         return int(self._sent(fields, needs_rev="rev" in fields).result()["rev"])
 
@@ -146,7 +155,7 @@ class Session:
     def _abandon(self) -> None:
         """Cuts off both directions, so that nobody waits to read or to write."""
 
-    def __enter__(self) -> Session:
+    def __enter__(self: Kind) -> Kind:
         return self
 
     def __exit__(self, kind: type[BaseException] | None, error: BaseException | None, trace: TracebackType | None) -> None:

@@ -31,13 +31,17 @@ class Watch:
     `Ended` if there is nobody; `Refused` if the device failed (9).
     """
 
-    def __init__(self, port: int, number: int, retry: float | None) -> None:
+    def __init__(self, port: int, number: int, retry: float | None, tells_again: bool = False) -> None:
+        """With `tells_again` the first number of each connection is given, also if it isn't above the one before."""
         self._port = port
         self._request = {"op": "watch", "doc": number}
         self._retry = retry_of(retry)
-        # The newest number, and the last one that was given.
+        self._tells_again = tells_again
+        # The newest number, and whether it is to be given.
         self._newest = -1
-        self._given = -1
+        self._is_news = False
+        # Over how many connections there was a number.
+        self.connections = 0
         # Why there is nothing more.
         self._end: Exception | None = None
         self._is_closed = False
@@ -101,15 +105,15 @@ class Watch:
         self.close()
 
     def _is_due(self) -> bool:
-        return self._is_closed or self._newest > self._given or self._end is not None
+        return self._is_closed or self._is_news or self._end is not None
 
     def _taken(self) -> int | None:
         """What is due: the newest number, or nothing if it was closed."""
         if self._is_closed:
             return None
-        if self._newest > self._given:
-            self._given = self._newest
-            return self._given
+        if self._is_news:
+            self._is_news = False
+            return self._newest
         assert self._end is not None
         raise self._end
 
@@ -134,10 +138,12 @@ class Watch:
         finally:
             self._connection.close()
 
-    def _note(self, rev: int) -> None:
+    def _note(self, rev: int, is_first: bool = False) -> None:
         with self._change:
-            self._newest = max(self._newest, rev)
-            self._tell()
+            self.connections += is_first
+            if rev > self._newest or (is_first and self._tells_again):
+                self._newest, self._is_news = rev, True
+                self._tell()
 
     def _connect_again(self) -> None:
         self._connection.close()
@@ -185,7 +191,7 @@ class Watch:
         if first < self._newest:
             connection.close()
             raise Ended(f"another file is served on port {self._port} now")
-        self._note(first)
+        self._note(first, is_first=True)
         return connection
 
     def _rev(self, connection: socket.socket) -> int:
