@@ -49,26 +49,11 @@ const SPANS_BA: &str = "{\"ok\":true,\"rev\":2,\"spans\":[{\"text\":\"ba\"}]}";
 
 const TEXT_BA: &str = "{\"ok\":true,\"rev\":2,\"text\":\"ba\"}";
 
-const CHANGES: &str = "{\"op\":\"changes\",\"doc\":1,\"since\":1}";
-
-const B_CAME: &str = "{\"changes\":[{\"insert\":\"b\"}],\"ok\":true,\"rev\":2}";
-
-const ANCHORS: &str = "{\"op\":\"anchors\",\"doc\":1,\"at\":[0],\"side\":\"previous\"}";
-
-const AT_START: &str = "{\"anchors\":[\"start\"],\"ok\":true,\"rev\":2}";
-
-const PLACES: &str = "{\"op\":\"places\",\"doc\":1,\"anchors\":[\"start\",\"end\"]}";
-
-const ENDS: &str = "{\"ok\":true,\"places\":[0,2],\"rev\":2}";
-
 /// What is answered to the session that edits while the other one's commit is under way.
-const OF_THE_SECOND: [(&str, &str); 7] = [
+const OF_THE_SECOND: [(&str, &str); 4] = [
     (INSERT_B, REV_2),
     (TEXT, TEXT_BA),
     (SPANS, SPANS_BA),
-    (CHANGES, B_CAME),
-    (ANCHORS, AT_START),
-    (PLACES, ENDS),
     (STOP, STOPPED),
 ];
 
