@@ -23,8 +23,8 @@ SECONDS_BETWEEN_LOOKS = 0.5
 TICKS_A_SECOND = os.sysconf("SC_CLK_TCK")
 TABLE = "bin/gate_times.md"
 # What four cores do in the 180 minutes that the judge has. It is raised only with the reason beside it: 21,600 was too low by the machine
-# alone. The same sources cost some 16,000 by sums on one, and half a gate 19,119 on another (2026-11-29, four cores, beside other work), where
-# a check of an edit took 60 to 90 seconds in place of 25. Lower it once a whole gate from nothing was measured on a machine that is known.
+# alone. A gate cost 16,005 on one before `changes` came, and one that was ended half way 19,119 on another (2026-11-29, four cores, beside
+# other work), where a check of an edit took 60 to 90 seconds in place of 25. Lower it once a whole gate was measured on a machine that is known.
 MOST_SECONDS = 43_200
 
 # What a process of the prover works at: a crate's proof, its tests, what its edits begin with, or one edit, by its name.

@@ -30,7 +30,7 @@ async function cutOff(text, act, { made, first }) {
   transport.onEnd();
   await turn();
   assert(errors[0] instanceof Ended);
-  return { store, document, view, binding, lost: JSON.parse(sent[0]) };
+  return { store, document, view, binding, errors, lost: JSON.parse(sent[0]) };
 }
 
 /** A session of a store, and the lines that it sends. */
@@ -212,4 +212,20 @@ test("what was never sent isn't taken for what another typed", async () => {
   await turn();
   await document.insert(1, "x");
   assert.equal(await resumed({ store, document, view, binding }), "axxb");
+});
+
+test("if nobody tells what changed, it is said that a removal or a mark may be lost, and what was typed isn't", async () => {
+  for (const [act, text, says] of [
+    [(tr) => tr.delete(2, 4), "aYZd", true],
+    [(tr) => tr.addMark(2, 4, schema.mark("strong")), "aYZd", true],
+    [(tr) => tr.insertText("x", 3), "axYZd", false],
+    [(tr) => tr.delete(4, 5), "aYZ", false],
+  ]) {
+    const cut = await cutOff("abcd", act, { made: false });
+    await cut.document.delete(1, 2);
+    await cut.document.insert(1, "YZ");
+    cut.store.openAnew();
+    assert.equal(await resumed(cut), text);
+    assert.equal(cut.errors.some(({ message }) => message.startsWith("the file was opened anew")), says);
+  }
 });

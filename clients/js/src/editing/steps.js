@@ -49,7 +49,7 @@ export function isPlain(step) {
  * @param {number} count
  * @returns {Retain | Delete}
  */
-export function ofWidth(step, count) {
+function ofWidth(step, count) {
   return "delete" in step ? { delete: count } : { ...step, retain: count };
 }
 
