@@ -2,7 +2,7 @@
 // FOLDER is a tree with clients/js, this one unless it is given; PERITEXT names the program. It takes Debian's node-prosemirror-* packages.
 //
 // Over one daemon: keys in the middle of a text of so many characters, each until it shows and until it is answered; keys of somebody else
-// until they show; and a paste of 50,000. Prints milliseconds of node's processor time, and of the clock.
+// until they show; a paste of 50,000, and an insert of as many without an editor. Prints milliseconds of node's processor time, and of the clock.
 
 import { dirname, join, resolve } from "node:path";
 import { fileURLToPath } from "node:url";
@@ -70,8 +70,7 @@ async function others({ binding }, { document }) {
   return rev;
 }
 
-async function paste({ view, binding }) {
-  const text = LINE.repeat(PASTED / LINE.length + 1).slice(0, PASTED);
+async function paste({ view, binding }, text) {
   const { model } = modules;
   const slice = new model.Slice(model.Fragment.from(text.split("\n").map((line) => schema.node("paragraph", null, line === "" ? [] : [schema.text(line)]))), 1, 1);
   tell(`a paste of ${PASTED} characters`, await timed(async () => {
@@ -87,7 +86,9 @@ await withDaemon(async ({ port }) => {
   const [one, other] = [await editor(port), await editor(port)];
   await keys(one);
   await others(one, other);
-  await paste(one);
+  const text = LINE.repeat(PASTED / LINE.length + 1).slice(0, PASTED);
+  await paste(one, text);
+  tell(`an insert of ${PASTED} characters`, await timed(() => other.document.insert(0, text)));
   process.exitCode = 0;
 });
 process.exit();

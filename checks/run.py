@@ -12,6 +12,7 @@ import damage
 import device_calls
 import documents
 import each_byte
+import edits
 import ending
 import examples
 import exports
@@ -52,7 +53,7 @@ from program import Checks
 LIMIT = 600
 GROUPS = (
     words, sentences, documents, terminal, examples, exports, long_texts, streams, locks, lost_files, full_disk, ending, crafted, formats, long_runs,
-    damage, each_byte, kills, device_calls, tokens, typed_memory, memory, serving, served_limits, journal, web_pages, last_place, peers, places, changes,
+    damage, each_byte, kills, device_calls, tokens, typed_memory, memory, serving, served_limits, journal, web_pages, last_place, peers, places, changes, edits,
     watching, web_sockets, parting, put_back, backups, parted_files, idle_links, rude, noise, worst, session_memory, renewal,
 )
 

@@ -2,10 +2,10 @@
 
 import { Stale } from "./refusals.js";
 
-const EDITS = new Set(["insert", "delete", "mark", "unmark"]);
+const EDITS = new Set(["insert", "delete", "mark", "unmark", "edits"]);
 
 /** No document has so many operations: an edit that names this `rev` is never made, and answered only if it was made before. */
-const NEVER = 2 ** 32 - 1;
+export const NEVER = 2 ** 32 - 1;
 
 /**
  * The fields of a request.
@@ -21,11 +21,11 @@ export function newToken() {
 /** Refuses a call that needs `tokenAfter` where there is none. */
 export function needDigest() {
   if (crypto.subtle !== undefined) return;
-  throw new TypeError("a page has tokens for more than 256 characters only over HTTPS or from localhost: make several calls, with a token each");
+  throw new TypeError("a page has tokens for calls of several lines only over HTTPS or from localhost: make several calls, with a token each");
 }
 
 /**
- * The token of a further edit of a call that was given one: the same for the same words (RFC 9562, version 5).
+ * The token of a further line of a call that was given one: the same for the same words (RFC 9562, version 5).
  * @param {string} token
  * @param {string} words
  */

@@ -19,9 +19,20 @@ export function answerOf(line, request) {
   }
   if (told.ok === false) {
     need(told, REFUSAL);
-    return refused(told.code, told.error, request);
+    return refused(told.code, told.error, request, atOf(told, request));
   }
   throw new NoAnswer("a line came that doesn't say `ok`");
+}
+
+/**
+ * Which one of several edits was refused, if that is told.
+ * @param {Record<string, any>} told
+ * @param {Record<string, unknown>} request
+ */
+function atOf({ at }, { edits }) {
+  if (at === undefined || !Array.isArray(edits)) return undefined;
+  if (!(isNumber(at) && at < edits.length)) throw new NoAnswer("an answer came without a right `at`");
+  return at;
 }
 
 /** @param {string} line */
@@ -156,6 +167,7 @@ const FIELDS = new Map(
     delete: EDITED,
     mark: EDITED,
     unmark: EDITED,
+    edits: EDITED,
     text: { rev: isNumber, text: isText },
     spans: { rev: isNumber, spans: areSpans },
     changes: { rev: isNumber, changes: areSteps },

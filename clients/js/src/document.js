@@ -1,20 +1,28 @@
 /** A document of a session. */
 
+import { cut, linesOf, piecesOf } from "./action.js";
 import { needDigest, tokenAfter } from "./again.js";
 import { keyOf } from "./marks.js";
 import { Reading } from "./reading.js";
-import { Stale } from "./refusals.js";
+import { Refused, Stale, refused } from "./refusals.js";
 import { LONGEST, MOST, isWhole } from "./rules.js";
 
 /** How often places of several requests are asked for, until all are answered at one `rev`. */
 const ROUNDS = 8;
 
 /**
+ * @typedef {import("./action.js").Edit} Edit
+ * @typedef {import("./action.js").Piece} Piece
  * @typedef {import("./again.js").Request} Request
  * @typedef {import("./changing.js").Changes} Changes
  * @typedef {import("./marks.js").Mark} Mark
  * @typedef {import("./marks.js").Span} Span
  * @typedef {import("./session.js").Answer} Answer
+ */
+
+/**
+ * The fields of a request that makes a part of a call, how much was made before, and which edits of the caller's it has.
+ * @typedef {{fields: Request, made: number, numbers?: (number | undefined)[]}} Part
  */
 
 /**
@@ -30,9 +38,10 @@ const ROUNDS = 8;
  *
  * Each edit answers the document's new `rev` once it is settled on the disk: it then outlives a power cut.
  *
- * An edit is of at most 256 characters. A longer `insert` or `delete` goes as several edits, each of which is answered
- * before the next one is sent. If anybody edits the document in between, the next one is `Stale`, and those before it are
- * made. The tokens of all but the first follow from the one that is given.
+ * An edit is of at most 256 characters. An `insert` of more is made at once too, as far as one line takes it, which are 64
+ * KiB. A longer one goes as several lines, each of which is answered before the next one is sent, and a `delete` of more
+ * than 256 characters as several edits. If anybody edits the document in between, the next one is `Stale`, and those before
+ * it are made. The tokens of all but the first follow from the one that is given.
  */
 export class Document {
   /**
@@ -52,7 +61,9 @@ export class Document {
    * @param {string} [token]
    */
   insert(at, text, rev, token) {
-    return this.#editAll(pieces(at, text), rev, token);
+    const [first, ...others] = cut({ op: "insert", at, text });
+    if (others.length === 0) return this.edit(first, rev, token);
+    return this.#editAll(lines([first, ...others].map((edit) => ({ edit })), true), rev, token);
   }
 
   /**
@@ -91,6 +102,24 @@ export class Document {
   }
 
   /**
+   * Makes edits at once: all of them or none, and nothing comes between them. Each is at the places that those before it
+   * leave: `[{ op: "delete", at: 4, count: 3 }, { op: "insert", at: 4, text: "TWO" }, { op: "mark", from: 4, to: 7, ...STRONG }]`.
+   *
+   * One line takes 1,024 edits of at most 256 characters (a longer one is several of them), and 65,536 bytes. More is a
+   * `RangeError`, and nothing is sent; with `parted` it goes as several lines, each of them all or nothing, as a long
+   * `insert` does.
+   * @param {readonly Edit[]} edits
+   * @param {number} [rev]
+   * @param {string} [token]
+   * @param {{parted?: boolean}} options
+   */
+  action(edits, rev, token, { parted = false } = {}) {
+    // What is no list of edits is refused as it is.
+    if (!Array.isArray(edits) || edits.length === 0) return this.edit({ op: "edits", edits }, rev, token);
+    return this.#editAll(lines(piecesOf(edits), parted), rev, token);
+  }
+
+  /**
    * Sends the fields of an edit.
    * @param {Record<string, unknown>} fields
    * @param {number} [rev]
@@ -113,21 +142,22 @@ export class Document {
   }
 
   /**
-   * Makes edits one after the other, and gives the last answer.
-   * @param {Generator<Request, void>} edits
+   * Makes parts of a call one after the other, and gives the last answer.
+   * @param {Generator<Part, void>} parts
    * @param {number} [rev]
    * @param {string} [token]
    * @returns {Promise<number>}
    */
-  async #editAll(edits, rev, token) {
-    const first = /** @type {Request} */ (edits.next().value);
-    let next = edits.next();
+  async #editAll(parts, rev, token) {
+    const first = /** @type {Part} */ (parts.next().value);
+    let next = parts.next();
     if (!next.done && token !== undefined) needDigest();
     // This one is sent at once, in its order among other calls.
-    let last = await this.edit(first, rev, token);
-    for (let made = LONGEST; !next.done; made += LONGEST) {
-      last = await this.#editNext(next.value, last, token && (await tokenAfter(token, String(made))));
-      next = edits.next();
+    let last = await this.edit(first.fields, rev, token).catch(naming(first));
+    while (!next.done) {
+      const part = next.value;
+      last = await this.#editNext(part.fields, last, token && (await tokenAfter(token, String(part.made)))).catch(naming(part));
+      next = parts.next();
     }
     return last;
   }
@@ -279,29 +309,40 @@ function parts(all) {
 }
 
 /**
- * The edits that put a text in. What can't be put in is refused as it is.
+ * The edits that take a stretch away.
  * @param {number} at
- * @param {string} text
+ * @param {number} count
+ * @returns {Generator<Part, void>}
  */
-function* pieces(at, text) {
-  const isCut = isWhole(at, 0) && typeof text === "string" && text !== "" && !/\p{Surrogate}/u.test(text);
-  const characters = isCut ? [...text] : [];
-  if (!isCut) yield { op: "insert", at, text };
-  for (let first = 0; first < characters.length; first += LONGEST) {
-    yield { op: "insert", at: at + first, text: characters.slice(first, first + LONGEST).join("") };
+function* stretches(at, count) {
+  let made = 0;
+  for (const fields of cut({ op: "delete", at, count })) {
+    yield { fields, made };
+    made += LONGEST;
   }
 }
 
 /**
- * The edits that take a stretch away, from its end on: if that is past the end of the text, nothing is taken away.
- * @param {number} at
- * @param {number} count
+ * The lines that make edits at once.
+ * @param {Iterable<Piece>} pieces
+ * @param {boolean} parted
+ * @returns {Generator<Part, void>}
  */
-function* stretches(at, count) {
-  const isCut = isWhole(at, 0) && isWhole(count, 1);
-  if (!isCut) yield { op: "delete", at, count };
-  for (let end = isCut ? count : 0; end > 0; end -= LONGEST) {
-    const first = Math.max(end - LONGEST, 0);
-    yield { op: "delete", at: at + first, count: end - first };
+function* lines(pieces, parted) {
+  let made = 0;
+  for (const line of linesOf(pieces, parted)) {
+    yield { fields: { op: "edits", edits: line.map(({ edit }) => edit) }, made, numbers: line.map(({ number }) => number) };
+    made += line.length;
   }
+}
+
+/**
+ * Has a refusal of a line tell which edit of the caller's it is about.
+ * @param {Part} part
+ */
+function naming({ fields, numbers }) {
+  return (/** @type {unknown} */ error) => {
+    if (!(error instanceof Refused) || error.at === undefined) throw error;
+    throw refused(error.number, error.word, fields, numbers?.[error.at]);
+  };
 }

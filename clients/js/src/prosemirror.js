@@ -2,19 +2,20 @@
  * One ProseMirror document of plain paragraphs as one document of peritext. The break between two paragraphs is the
  * character "\n" of the text; the marks are `strong`, `em`, `link` with an `href`, and `comment` with an `id`.
  *
- * Each step of a transaction becomes edits, which are sent one at a time, each with a token, and with the `rev` that it is
- * made at. With each goes a question for what changed since: that tells what others did, character by character, and which
- * marks the characters that were put in came to have. No two texts are compared. After a lost answer the file is asked for
- * the edit by its token, so that it is made once.
+ * Each step of a transaction becomes edits. All that wait go in one line, as far as it takes them, and are made at once: with
+ * a token, and with the `rev` that they are made at. With the line goes a question for what changed since: that tells what
+ * others did, character by character, and which marks the characters that were put in came to have. No two texts are
+ * compared. After a lost answer the file is asked for the line by its token, so that it is made once.
  */
 
 import { answerOnce, hasMade, newToken } from "./again.js";
-import { charactersOf, requestOf } from "./editing/edits.js";
+import { charactersOf } from "./editing/edits.js";
 import { corrections } from "./editing/made.js";
-import { behindOthers, pendingOf, reachOf, withEdits } from "./editing/pending.js";
+import { behindOthers, fitting, lineOf, pendingOf, reachOf, withEdits } from "./editing/pending.js";
 import { Teller } from "./editing/teller.js";
 import { documentOf, isHeld, runsOf } from "./paragraphs/characters.js";
 import { editsOf } from "./paragraphs/local.js";
+import { runsBetween } from "./paragraphs/positions.js";
 import { behind, behindSteps, show } from "./paragraphs/shown.js";
 import { Ended, Stale } from "./refusals.js";
 
@@ -67,10 +68,12 @@ class Binding {
    * @type {{document: Document, retry: boolean} | undefined}
    */
   #next;
-  /** Whether the first pending edit may be made already, though nothing was answered. */
+  /** How many of the first pending edits are in the line that is on its way, or was sent last. */
+  #sent = 0;
+  /** Whether they may be made already, though nothing was answered. */
   #unsure = false;
   /**
-   * The fields of an edit that was answered: the same file has it.
+   * The fields of a line that was answered: the same file has it.
    * @type {Record<string, unknown> | undefined}
    */
   #made;
@@ -171,7 +174,7 @@ class Binding {
     const { steps, docs } = transaction;
     const after = docsBehind(transaction);
     const edits = steps.flatMap((step, index) => editsOf(this.#modules, step, docs[index], after[index]));
-    return edits.length === 0 ? known : { ...known, pending: withEdits(known.pending, edits) };
+    return edits.length === 0 ? known : { ...known, pending: withEdits(known.pending, edits, Math.max(this.#sent, 1)) };
   }
 
   /** Begins to send what is pending, unless that is under way. */
@@ -202,11 +205,11 @@ class Binding {
   /** @param {{document: Document, retry: boolean}} next */
   async #goOver(next) {
     const { document, retry } = next;
-    const lost = this.#unsure ? this.#fieldsOfFirst(document) : undefined;
+    const lost = this.#unsure ? this.#fieldsOfLine(document) : undefined;
     const isSame = retry && (await this.#isFileOf(document));
     const answer = isSame && lost !== undefined ? await answerOnce(document.session, lost) : undefined;
     if (this.#view === undefined) return;
-    const reached = answer === undefined ? this.#known() : { base: this.#behindFirst(), rev: answer.rev };
+    const reached = answer === undefined ? this.#known() : { base: this.#behindLine(), rev: answer.rev };
     const teller = tellerOf(reached.base.type.schema, document);
     const told = await readAnew(teller, reached, isSame);
     if (this.#view === undefined || this.#next !== next) return;
@@ -235,20 +238,23 @@ class Binding {
     if (first !== undefined) this.#tell({ ...known, pending: [{ ...first, token: newToken() }, ...rest] });
   }
 
+  /** The pending edits of the line. */
+  #line() {
+    return this.#known().pending.slice(0, this.#sent);
+  }
+
   /**
-   * The fields of the first pending edit, as it is sent.
+   * The fields of the line.
    * @param {Document} document
    * @returns {Record<string, unknown>}
    */
-  #fieldsOfFirst({ number }) {
-    const [{ edit, token }] = this.#known().pending;
-    return { doc: number, ...requestOf(edit), token };
+  #fieldsOfLine({ number }) {
+    return { doc: number, ...lineOf(this.#line()) };
   }
 
-  /** The document behind the first pending edit. */
-  #behindFirst() {
-    const { base, pending } = this.#known();
-    return behind(this.#modules, base, pending.slice(0, 1));
+  /** The document behind the line. */
+  #behindLine() {
+    return behind(this.#modules, this.#known().base, this.#line());
   }
 
   async #pull() {
@@ -257,11 +263,13 @@ class Binding {
     this.#take(await this.#toldOr(known, this.#teller.since(known.rev)));
   }
 
-  /** Sends the first pending edit, and asks what changed since the text that it is for. */
+  /** Sends the first pending edits, and asks what changed since the text that they are for. */
   async #sendFirst() {
     const known = this.#known();
     const { document } = this.#teller;
-    const fields = this.#fieldsOfFirst(document);
+    // What may be made goes again as it is.
+    if (!this.#unsure) this.#sent = fitting(known.pending);
+    const fields = this.#fieldsOfLine(document);
     const [edit, asked] = await Promise.allSettled([document.edit(fields, known.rev), this.#teller.since(known.rev)]);
     if (this.#view === undefined) return;
     if (edit.status === "fulfilled") return this.#finish(fields, edit.value, asked);
@@ -273,7 +281,7 @@ class Binding {
   }
 
   /**
-   * The first pending edit is made. Until it is known which marks its characters have, it may be asked for again.
+   * The line is made. Until it is known which marks its characters have, it may be asked for again.
    * @param {Record<string, unknown>} fields its own
    * @param {number} rev
    * @param {PromiseSettledResult<Told>} asked what changed since the text before it
@@ -282,8 +290,9 @@ class Binding {
     this.#made = fields;
     this.#unsure = true;
     const known = this.#known();
-    const base = this.#behindFirst();
-    const told = (await this.#teller.behind(known.pending[0].edit, known.rev, rev, asked)) ?? (await readAnew(this.#teller, { base, rev }, true));
+    const base = this.#behindLine();
+    const edits = this.#line().map(({ edit }) => edit);
+    const told = (await this.#teller.behind(edits, known.rev, rev, asked)) ?? (await readAnew(this.#teller, { base, rev }, true));
     this.#unsure = false;
     this.#confirm(base, told);
   }
@@ -304,16 +313,16 @@ class Binding {
   }
 
   /**
-   * The first pending edit is made, and what others did behind it is taken over. What the program shows is the wish of
-   * others; but characters that were just put in get the editor's marks, if the program gave them those of their
-   * surroundings.
-   * @param {Node} made the document behind that edit
+   * The line is made, and what others did behind it is taken over. What the program shows is the wish of others; but
+   * characters that were just put in get the editor's marks, if the program gave them those of their surroundings.
+   * @param {Node} made the document behind the line
    * @param {Told} told
    */
   #confirm(made, told) {
     if (this.#view === undefined) return;
-    const [first, ...rest] = this.#known().pending;
-    const { edits, steps } = corrections(first.edit, told.steps);
+    const line = this.#line().map(({ edit }) => edit);
+    const rest = this.#known().pending.slice(this.#sent);
+    const { edits, steps } = corrections(line, (from, to) => runsBetween(made, from, to), told.steps);
     this.#goOn(behindSteps(this.#modules, made, told.steps), { ...told, steps }, pendingOf(edits), rest);
   }
 
@@ -334,6 +343,7 @@ class Binding {
    * @param {readonly Pending[]} pending behind the document before
    */
   #goOn(base, { steps, rev, isTold }, first, pending) {
+    this.#sent = 0;
     const moved = behindOthers(pending, steps);
     this.#tell({ base, rev, pending: [...first, ...moved.pending] }, moved.steps);
     if (!isTold && reachOf(moved.pending) < reachOf(pending)) this.#onError(new Error(LOST));

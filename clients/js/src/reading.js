@@ -3,6 +3,10 @@
 import { toIndex, toPlace } from "./places.js";
 
 /**
+ * @typedef {import("./action.js").Edit} Edit
+ */
+
+/**
  * A text and the `rev` that it has. Its edits count as JavaScript's strings do, are made in just this text or are
  * `Stale`, and answer the next reading; so are places that last. An index within a pair of surrogates is a `RangeError`.
  */
@@ -62,6 +66,22 @@ export class Reading {
   }
 
   /**
+   * Makes edits at once, as a document's `action` does. Each is at the indexes of the text that those before it leave, and a
+   * `count` is one of UTF-16 units.
+   * @param {readonly Edit[]} edits
+   * @param {{parted?: boolean}} options
+   */
+  async action(edits, options) {
+    let { text } = this;
+    const placed = edits.map((edit) => {
+      const before = text;
+      text = behind(before, edit);
+      return inPlaces(before, edit);
+    });
+    return this.#next(text, await this.document.action(placed, this.rev, undefined, options));
+  }
+
+  /**
    * A name for the place at an index, which lasts, or `Stale` if the document has moved on from this text.
    * @param {number} index
    * @param {import("./document.js").Side} [side]
@@ -87,4 +107,27 @@ export class Reading {
   #next(text, rev) {
     return new Reading(this.document, text, rev);
   }
+}
+
+/**
+ * The text behind an edit, which counts as strings do.
+ * @param {string} text
+ * @param {Edit} edit
+ */
+function behind(text, edit) {
+  if (edit.op === "insert") return text.slice(0, edit.at) + edit.text + text.slice(edit.at);
+  return edit.op === "delete" ? text.slice(0, edit.at) + text.slice(edit.at + edit.count) : text;
+}
+
+/**
+ * The edit of a text that counts as strings do, as the program counts.
+ * @param {string} text
+ * @param {Edit} edit
+ * @returns {Edit}
+ */
+function inPlaces(text, edit) {
+  if (edit.op === "insert") return { ...edit, at: toPlace(text, edit.at) };
+  if (edit.op !== "delete") return { ...edit, from: toPlace(text, edit.from), to: toPlace(text, edit.to) };
+  const at = toPlace(text, edit.at);
+  return { ...edit, at, count: toPlace(text, edit.at + edit.count) - at };
 }

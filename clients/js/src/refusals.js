@@ -1,6 +1,6 @@
 /** What the program answers in place of a result. */
 
-import { broken, isLong } from "./rules.js";
+import { areEdits, broken, isLong } from "./rules.js";
 
 const LINE = "the line is no request of docs/PROTOCOL.md; mend what made it";
 const BYTES = "the file isn't what this program wrote; keep a copy, and go on from a peer with a new replica";
@@ -40,13 +40,14 @@ const ADVICE = {
 const MEND = "mend what wrote it";
 const FULL = "the file has all the operations, records, documents or replicas that it may have (docs/OPERATING.md, Limits), and can still be read";
 const LONG = "at most 256 characters in one edit; send it in parts";
+const MUCH = `what one action takes away waits together for the disk, 2,048 characters in any file: make several, or let it be parted; else ${FULL}`;
 const TOKEN = "an older program knows no `token`; start one that is as new as this client";
 
 /**
  * The requests that an older program doesn't know.
  * @type {Set<unknown>}
  */
-const LATER = new Set(["watch", "changes", "anchors", "places"]);
+const LATER = new Set(["watch", "changes", "anchors", "places", "edits"]);
 
 /**
  * Why, and what to do, after a refusal of a request, if that is known.
@@ -56,8 +57,14 @@ const LATER = new Set(["watch", "changes", "anchors", "places"]);
 function sentence(number, request) {
   if (number === 3 && request !== undefined && LATER.has(request.op)) return ofFields(request, older(request));
   if (number === 4 && request !== undefined) return ofFields(request, request.token === undefined ? ADVICE[4] : TOKEN);
-  if (number === 7 && request !== undefined) return isLong(request) ? LONG : FULL;
+  if (number === 7 && request !== undefined) return ofLimit(request);
   return ADVICE[number];
+}
+
+/** @param {import("./rules.js").Request} request */
+function ofLimit(request) {
+  if (isLong(request)) return LONG;
+  return areEdits(request.edits) && request.edits.some(({ op }) => op === "delete") ? MUCH : FULL;
 }
 
 /**
@@ -77,20 +84,24 @@ function older({ op }) {
 
 /**
  * A request that was refused: its number and its word. Nothing was changed, except where the number is 9: then the
- * device failed, and whether the edit is there is known once the file is opened again.
+ * device failed, and whether the edit is there is known once the file is opened again. `at` is which edit of an action was
+ * refused, from 0 on, if that is told.
  */
 export class Refused extends Error {
   /**
    * @param {number} number
    * @param {string} word
    * @param {import("./rules.js").Request} [request]
+   * @param {number} [at]
    */
-  constructor(number, word, request) {
+  constructor(number, word, request, at) {
     const advice = sentence(number, request);
-    super(advice === undefined ? `${number} ${word}` : `${number} ${word}: ${advice}`);
+    const which = at === undefined ? "" : ` (edit ${at} of the action, from 0 on)`;
+    super(advice === undefined ? `${number} ${word}${which}` : `${number} ${word}: ${advice}${which}`);
     this.name = new.target.name;
     this.number = number;
     this.word = word;
+    this.at = at;
   }
 }
 
@@ -127,7 +138,8 @@ export class NoDaemon extends Error {
  * @param {number} number
  * @param {string} word
  * @param {import("./rules.js").Request} [request]
+ * @param {number} [at]
  */
-export function refused(number, word, request) {
-  return number === 6 ? new Stale(number, word, request) : new Refused(number, word, request);
+export function refused(number, word, request, at) {
+  return number === 6 ? new Stale(number, word, request, at) : new Refused(number, word, request, at);
 }

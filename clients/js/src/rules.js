@@ -8,6 +8,9 @@ export const LONGEST = 256;
 /** How many places one request may ask for. */
 export const MOST = 256;
 
+/** How many edits one request may make. */
+export const MANY = 1_024;
+
 /**
  * The fields that a request needs, and those that a mark needs beside them.
  * @type {Record<string, string>}
@@ -17,6 +20,7 @@ const NEEDED = {
   delete: "doc at count",
   mark: "doc from to kind",
   unmark: "doc from to kind",
+  edits: "doc edits",
   text: "doc",
   spans: "doc",
   changes: "doc since",
@@ -40,7 +44,12 @@ const OPTIONAL = {
   delete: "rev token",
   mark: "rev token",
   unmark: "rev token",
+  edits: "rev token",
 };
+
+/** The requests that may be made by one of `edits`, and the fields that stand beside the list. */
+const ONE = new Set(["insert", "delete", "mark", "unmark"]);
+const ALL = ["doc", "rev", "token"];
 
 /**
  * What each field has to be, of any request, or of one in particular.
@@ -62,6 +71,7 @@ const RULES = {
   "anchors at": "a list of 1 to 256 whole numbers from 0 to 4294967295",
   side: "previous or next",
   anchors: "a list of 1 to 256 places that last, each a text as the request `anchors` gives it",
+  edits: "a list of 1 to 1024 edits, each an insert, delete, mark or unmark without `doc`, `rev` and `token`",
 };
 const KINDS = new Set(["strong", "em", "link", "comment"]);
 const UUID = /^(urn:uuid:|\{)?[0-9a-f]{8}(-?[0-9a-f]{4}){3}-?[0-9a-f]{12}\}?$/i;
@@ -71,6 +81,7 @@ const BESIDE_CHARACTER = /^[ab]([1-9][0-9]{0,14})@([0-9a-fA-F]{8}(?:-[0-9a-fA-F]
 /**
  * Which rules the fields of a request break, in words.
  * @param {Request} request
+ * @returns {string[]}
  */
 export function broken(request) {
   const op = String(request.op);
@@ -79,14 +90,30 @@ export function broken(request) {
   // What is undefined isn't sent.
   const others = Object.keys(request).filter((name) => name !== "op" && request[name] !== undefined && !needed.includes(name));
   const strange = others.filter((name) => !optional.includes(name)).map((name) => `\`${name}\` is no field of this request`);
-  return [...wrong(request, needed), ...strange, ...wrong(request, others.filter((name) => optional.includes(name)))];
+  const ofOne = op === "edits" && areEdits(request.edits) ? brokenByOne(request.edits) : [];
+  return [...wrong(request, needed), ...strange, ...wrong(request, others.filter((name) => optional.includes(name))), ...ofOne];
 }
 
 /**
- * Whether an edit is about more characters than one may be.
- * @param {Request} request
+ * Which rules the first of several edits breaks that breaks any.
+ * @param {Request[]} edits
+ * @returns {string[]}
  */
-export function isLong({ text, count }) {
+function brokenByOne(edits) {
+  for (const edit of edits) {
+    const faults = broken({ ...edit, doc: 1 });
+    if (faults.length > 0) return faults.map((fault) => fault.replace("` ", "` of one of the `edits` "));
+  }
+  return [];
+}
+
+/**
+ * Whether an edit, or one of several, is about more characters than one may be.
+ * @param {Request} request
+ * @returns {boolean}
+ */
+export function isLong({ text, count, edits }) {
+  if (areEdits(edits)) return edits.some(isLong);
   return (typeof text === "string" && [...text].length > LONGEST) || (isWhole(count, 0) && Number(count) > LONGEST);
 }
 
@@ -155,9 +182,25 @@ function isLasting(value) {
   return counter === undefined ? value === "start" || value === "end" : Number(counter) < 2 ** 48 && isToken(replica);
 }
 
-/** @param {(value: unknown) => boolean} holds */
-function some(holds) {
-  return (/** @type {any} */ value) => Array.isArray(value) && value.length >= 1 && value.length <= MOST && value.every(holds);
+/** @param {any} value */
+function isEdit(value) {
+  return typeof value === "object" && value !== null && ONE.has(value.op) && ALL.every((name) => value[name] === undefined);
+}
+
+/**
+ * @param {unknown} value
+ * @returns {value is Request[]}
+ */
+export function areEdits(value) {
+  return HOLDS.edits(value);
+}
+
+/**
+ * @param {(value: unknown) => boolean} holds
+ * @param {number} most
+ */
+function some(holds, most = MOST) {
+  return (/** @type {any} */ value) => Array.isArray(value) && value.length >= 1 && value.length <= most && value.every(holds);
 }
 
 /** @type {Record<string, (value: unknown) => boolean>} */
@@ -177,4 +220,5 @@ const HOLDS = {
   "anchors at": some(from(0)),
   side: (value) => value === "previous" || value === "next",
   anchors: some(isLasting),
+  edits: some(isEdit, MANY),
 };

@@ -40,25 +40,71 @@ test("the document is read, and typing is sent", async () => {
   assert.equal(await document.text(), "e \nquick fox\nruns😀!");
 });
 
-test("each edit has the rev that it was made at, and a token of its own", async () => {
-  const { view, binding, transport } = await editor(new Store());
+/** The requests with a token that a transport sends from now on. */
+function edits(transport) {
   const sent = [];
   const send = transport.send.bind(transport);
   transport.send = (line) => {
     if (line.includes('"token"')) sent.push(JSON.parse(line));
     send(line);
   };
+  return sent;
+}
+
+test("what waits goes in one line, with the rev that it was made at, and each line has a token of its own", async () => {
+  const { view, binding, transport } = await editor(new Store());
+  const sent = edits(transport);
   change(view, (tr) => tr.insertText("abc", 1));
-  change(view, (tr) => tr.addMark(2, 4, strong.create()));
-  change(view, (tr) => tr.delete(1, 2));
   await binding.settled();
-  const tokens = new Set(sent.map(({ token }) => token));
-  assert.deepEqual([tokens.size, tokens.has(undefined)], [3, false]);
+  transport.held = true;
+  change(view, (tr) => tr.addMark(2, 4, strong.create()));
+  await new Promise(setImmediate);
+  change(view, (tr) => tr.delete(1, 2).insertText("d", 3));
+  change(view, (tr) => tr.insertText("e", 4));
+  transport.release();
+  await binding.settled();
+  assert.equal(new Set(sent.map(({ token }) => token)).size, 3);
   assert.deepEqual(sent.map(({ token, ...fields }) => fields), [
     { doc: 1, op: "insert", at: 0, text: "abc", rev: 0 },
     { doc: 1, op: "mark", from: 1, to: 3, kind: "strong", rev: 3 },
-    { doc: 1, op: "delete", at: 0, count: 1, rev: 4 },
+    { doc: 1, op: "edits", edits: [{ op: "delete", at: 0, count: 1 }, { op: "insert", at: 2, text: "de" }], rev: 4 },
   ]);
+});
+
+test("others see all of a transaction, or nothing", async () => {
+  const store = new Store();
+  const { view, binding, document, transport } = await editor(store);
+  change(view, (tr) => tr.insertText("abcd".repeat(200), 1));
+  await binding.settled();
+  const sent = edits(transport);
+  transport.held = true;
+  change(view, (tr) => tr.insert(1, schema.text("xy".repeat(400), [strong.create()])).delete(3, 1_201));
+  await new Promise(setImmediate);
+  transport.pass(1);
+  assert.deepEqual(store.document(1).spans(), { spans: [{ text: `xy${"abcd".repeat(100)}` }] });
+  transport.release();
+  await binding.settled();
+  assert.deepEqual(sent.map(({ op }) => op), ["edits", "mark"]);
+  assert.deepEqual(await document.spans(), [{ strong: true, text: "xy" }, { text: "abcd".repeat(100) }]);
+});
+
+test("what may be made goes again as it is, whatever is typed on", async () => {
+  const store = new Store();
+  const { view, binding, document, transport } = await editor(store, { onError() {} });
+  const { send } = transport;
+  transport.send = (line) => {
+    if (!line.includes('"token"')) return send.call(transport, line);
+    store.answer(line);
+    setImmediate(() => transport.onLine('{"code":9,"error":"failed","ok":false}'));
+  };
+  change(view, (tr) => tr.insertText("ab", 1).addMark(1, 3, strong.create()));
+  await assert.rejects(binding.settled(), { number: 9 });
+  transport.send = send;
+  const sent = edits(transport);
+  change(view, (tr) => tr.insertText("c", 3));
+  await binding.settled();
+  assert.deepEqual(sent.map((request) => request.edits?.length), [2, undefined]);
+  assert.equal(await document.text(), "abc");
 });
 
 test("marks are given and taken away", async () => {
@@ -96,28 +142,23 @@ test("what is typed has the editor's marks, whatever it came to have", async () 
   ]);
 });
 
-test("a stale edit keeps its token, and each part into which it came has one", async () => {
+test("a stale edit keeps its token, and the parts into which it came go in one line", async () => {
   const store = new Store();
   const { view, binding, transport } = await editor(store);
   change(view, (tr) => tr.insertText("abcd", 1));
   await binding.settled();
   const other = (await editor(store)).document;
-  const sent = [];
-  const send = transport.send.bind(transport);
-  transport.send = (line) => {
-    if (line.includes('"token"')) sent.push(JSON.parse(line));
-    send(line);
-  };
+  const sent = edits(transport);
   transport.held = true;
   change(view, (tr) => tr.delete(1, 5));
   await other.insert(2, "xy");
   transport.release();
   await binding.settled();
   assert.equal(await other.text(), "xy");
-  assert.deepEqual(sent.map(({ at, count }) => [at, count]), [[0, 4], [4, 2], [0, 2]]);
-  const [stale, first, second] = sent.map(({ token }) => token);
-  assert.equal(first, stale);
-  assert.notEqual(second, stale);
+  const [stale, moved] = sent;
+  assert.deepEqual([stale.at, stale.count], [0, 4]);
+  assert.deepEqual(moved.edits.map(({ at, count }) => [at, count]), [[4, 2], [0, 2]]);
+  assert.deepEqual([sent.length, moved.token], [2, stale.token]);
 });
 
 test("a stale edit is moved and sent again", async () => {

@@ -45,15 +45,15 @@ function documentOver(store = new Store()) {
   return { document: new Session(transport).document(1), sent };
 }
 
-test("a long text and a long stretch go as several edits", async () => {
+test("a long text goes in one line, and a long stretch as several edits", async () => {
   const { document, sent } = documentOver();
   const long = "a😀".repeat(400);
   assert.equal(await document.insert(0, "()"), 2);
   assert.equal(await document.insert(1, long, 2), 802);
   assert.equal(await document.text(), `(${long})`);
-  assert.deepEqual(sent.slice(1, 5).map(({ at, rev }) => [at, rev]), [[1, 2], [257, 258], [513, 514], [769, 770]]);
+  assert.deepEqual([sent[1].op, sent[1].rev, sent[1].edits.map(({ at }) => at)], ["edits", 2, [1, 257, 513, 769]]);
   assert.equal(await document.delete(1, 800), 1602);
-  assert.deepEqual(sent.slice(6).map(({ at, count, rev }) => [at, count, rev]), [[545, 256, undefined], [289, 256, 1058], [33, 256, 1314], [1, 32, 1570]]);
+  assert.deepEqual(sent.slice(3).map(({ at, count, rev }) => [at, count, rev]), [[545, 256, undefined], [289, 256, 1058], [33, 256, 1314], [1, 32, 1570]]);
   assert.equal(await document.text(), "()");
   let reading = await document.read();
   reading = await reading.insert(1, long);
@@ -79,41 +79,50 @@ test("what can't be made whole is refused whole", async () => {
 
 test("an edit in the middle of a long call makes it stale", async () => {
   const { document } = documentOver();
-  const long = document.insert(0, "x".repeat(300));
+  // In one line nothing comes between.
+  const whole = document.insert(0, "x".repeat(300));
   const other = document.insert(0, "y");
+  assert.deepEqual(await Promise.all([whole, other]), [300, 301]);
+  const long = document.insert(0, "\0".repeat(12_000));
+  const another = document.insert(0, "z");
   await assert.rejects(long, Stale);
-  assert.equal(await other, 257);
-  assert.equal(await document.text(), `y${"x".repeat(256)}`);
+  const text = await document.text();
+  assert(text.startsWith("z\0") && text.endsWith("\0yx".padEnd(302, "x")) && text.length < 12_000);
+  assert.equal(await another, text.length);
   const stretch = document.delete(0, 257);
-  await document.insert(0, "z");
+  await document.insert(0, "w");
   await assert.rejects(stretch, Stale);
-  assert.equal(await document.text(), "zy");
+  assert.equal(await document.text(), `wz${text.slice(257)}`);
 });
 
+const TOKEN = "00000000-0000-4000-8000-0000000000d1";
+
 test("the tokens of a long call follow from the one that is given", async () => {
-  const tokens = ["00000000-0000-4000-8000-0000000000d1", "aea89127-c0ba-58bc-b97e-f85132f6a51d"];
-  const calls = [(document, token) => document.insert(0, "x".repeat(300), undefined, token), (document, token) => document.delete(0, 300, undefined, token)];
-  const store = new Store();
-  new Session(store.session()).document(1).insert(0, "x".repeat(256));
-  for (const [place, call] of calls.entries()) {
-    const { document, sent } = documentOver(place === 0 ? new Store() : store);
-    if (place === 1) await document.insert(0, "x".repeat(44));
-    const rev = await call(document, tokens[0]);
-    assert.deepEqual(sent.slice(-2).map(({ token }) => token), tokens);
+  const calls = [
+    [(document) => document.delete(0, 300, undefined, TOKEN), "aea89127-c0ba-58bc-b97e-f85132f6a51d"],
+    [(document) => document.action(Array(1_025).fill({ op: "delete", at: 0, count: 1 }), undefined, TOKEN, { parted: true }), "3be52f26-e60d-5fce-bb82-c74c5fc921d3"],
+  ];
+  for (const [call, token] of calls) {
+    const { document, sent } = documentOver();
+    await document.insert(0, "x".repeat(1_025));
+    const rev = await call(document);
+    assert.deepEqual(sent.slice(-2).map((request) => request.token), [TOKEN, token]);
     // The whole call may be sent again, and makes nothing then.
-    assert.equal(await call(document, tokens[0]), rev);
+    assert.equal(await call(document), rev);
     assert.equal(await document.rev(), rev);
   }
 });
 
-test("without digests a long call with a token is refused", async (context) => {
+test("without digests a call of several lines with a token is refused", async (context) => {
   context.mock.getter(crypto, "subtle", () => undefined);
   const { document, sent } = documentOver();
-  const token = "00000000-0000-4000-8000-0000000000d1";
-  await assert.rejects(document.insert(0, "x".repeat(300), undefined, token), { name: "TypeError", message: /only over HTTPS or from localhost/ });
+  const long = "\0".repeat(12_000);
+  const fault = { name: "TypeError", message: /only over HTTPS or from localhost/ };
+  await assert.rejects(document.insert(0, long, undefined, TOKEN), fault);
+  await assert.rejects(document.delete(0, 257, undefined, TOKEN), fault);
   assert.deepEqual(sent, []);
-  assert.equal(await document.insert(0, "x".repeat(256), undefined, token), 256);
-  assert.equal(await document.insert(0, "x".repeat(300)), 556);
+  assert.equal(await document.insert(0, "x".repeat(300), undefined, TOKEN), 300);
+  assert.equal(await document.insert(0, long), 12_300);
 });
 
 test("a reading of a text that has moved on is stale", async () => {

@@ -122,13 +122,46 @@ test("characters that were put in come to have the marks that they are meant to 
   const all = [{ retain: 1 }, { insert: "xy", attributes: { em: true } }];
   const others = [{ delete: 1 }, { retain: 1 }, { insert: "o", attributes: NONE }];
   const now = [{ delete: 1 }, { insert: "x", attributes: { em: true } }, { insert: "o", attributes: NONE }, { insert: "y", attributes: { em: true } }];
-  assert.deepEqual(corrections(edit, withGiven(edit, [], all)).edits, [
+  const meant = (from, to) => [{ text: "xy".slice(from - 1, to - 1), marks: BOLD }];
+  assert.deepEqual(corrections([edit], meant, withGiven([edit], [], all)).edits, [
     { op: "mark", from: 1, to: 3, mark: EM, isOn: false },
     { op: "mark", from: 1, to: 3, mark: STRONG, isOn: true },
   ]);
-  const left = corrections(edit, withGiven(edit, others, now));
+  const left = corrections([edit], meant, withGiven([edit], others, now));
   assert.deepEqual(left.edits.map(({ from, to, isOn }) => [from, to, isOn]), [[0, 1, false], [2, 3, false], [0, 1, true], [2, 3, true]]);
   assert.deepEqual(left.steps, [{ delete: 1 }, { retain: 1 }, { insert: "o", attributes: NONE }, { retain: 1 }]);
+});
+
+/** The steps that lead from characters to others. Those of these that are `own` come with marks that they aren't meant to have. */
+function leading(before, after, marks) {
+  const steps = [];
+  let old = 0;
+  for (const { id, own, text } of after) {
+    if (id === undefined) steps.push({ insert: text, attributes: own ? marks : NONE });
+    else steps.push({ delete: id - old }, { retain: 1 });
+    if (id !== undefined) old = id + 1;
+  }
+  return [...steps, { delete: before.length - old }];
+}
+
+test("so do those of several edits that were made at once, and only those", () => {
+  const chance = new Chance(2);
+  for (let round = 0; round < 3_000; round += 1) {
+    const before = Array.from({ length: chance.below(9) }, (_, id) => ({ id, text: "a", marks: NONE }));
+    let pending = [];
+    for (let left = 1 + chance.below(6); left > 0; left -= 1) pending = withEdits(pending, [chance.edit(behind(before, pending).length)]);
+    const edits = pending.map(({ edit }) => edit);
+    const made = behind(before, pending).map((it) => (it.id === undefined ? { ...it, own: true } : it));
+    const others = chance.steps(made.length).map((step) => (step.insert === undefined ? { ...step, attributes: undefined } : { ...step, attributes: NONE }));
+    const now = behindSteps(made, others);
+    const marks = chance.marks();
+    const steps = withGiven(edits, others, leading(before, now, marks));
+    const given = behindSteps(made, steps);
+    assert.deepEqual(given, now.map((it) => (it.own ? { ...it, marks } : it)));
+    const left = corrections(edits, (from, to) => made.slice(from, to), steps);
+    assert.deepEqual(behind(given, pendingOf(left.edits)), now);
+    assert.deepEqual(behindSteps(made, left.steps), now);
+  }
 });
 
 test("what is told is taken only if it leads to what is read", () => {

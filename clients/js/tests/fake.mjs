@@ -6,6 +6,8 @@ const TOKEN = /^(?!0{8}-0{4}-0{4}-0{4}-0{12}$)[0-9a-f]{8}(-[0-9a-f]{4}){3}-[0-9a
 const WORDS = { 2: "syntax", 3: "request", 4: "field", 5: "range", 6: "stale", 7: "limit", 12: "stopping" };
 const READS = new Set(["text", "spans", "changes"]);
 const EDITS = new Set(["insert", "delete", "mark", "unmark"]);
+/** How many edits are made at once. */
+const MANY = 1_024;
 
 export class Store {
   #documents = new Map();
@@ -47,21 +49,23 @@ export class Store {
     }
     const answer = this.#done(request);
     setImmediate(() => this.#watchers.forEach((watcher) => watcher.tell()));
-    return typeof answer === "number" ? refusal(answer) : JSON.stringify({ ok: true, ...answer });
+    if (typeof answer === "number" || answer.code !== undefined) return refusal(answer.code ?? answer, answer.at);
+    return JSON.stringify({ ok: true, ...answer });
   }
 
   #done(request) {
     const { op, doc, rev, token } = request;
     if (op === "status") return { applied: 0, settled: 0, state: "open" };
     if (op === "stop") return {};
-    if (!READS.has(op) && !EDITS.has(op)) return 3;
+    if (!READS.has(op) && !EDITS.has(op) && op !== "edits") return 3;
     if (!Number.isInteger(doc) || doc < 1) return 4;
+    if (op === "edits" && !areEdits(request.edits)) return 4;
     if (token !== undefined && (READS.has(op) || !TOKEN.test(token))) return 4;
     if (this.#tokens.has(token)) return { rev: this.#tokens.get(token) };
     const document = this.document(doc);
-    if (EDITS.has(op) && rev !== undefined && rev !== document.rev) return 6;
-    const told = document[op](request);
-    if (typeof told === "number") return told;
+    if (!READS.has(op) && rev !== undefined && rev !== document.rev) return 6;
+    const told = op === "edits" ? made(document, request) : document[op](request);
+    if (typeof told === "number" || told?.code !== undefined) return told;
     if (token !== undefined) this.#tokens.set(token, document.rev);
     return { rev: document.rev, ...told };
   }
@@ -166,6 +170,21 @@ class FakeWatcher {
   }
 }
 
-function refusal(code) {
-  return JSON.stringify({ code, error: WORDS[code], ok: false });
+function areEdits(edits) {
+  const isOne = (edit) => EDITS.has(edit?.op) && ["doc", "rev", "token"].every((name) => edit[name] === undefined);
+  return Array.isArray(edits) && edits.length >= 1 && edits.length <= MANY && edits.every(isOne);
+}
+
+/** Makes several edits of a document, or none, and gives the refusal. */
+function made(document, { edits }) {
+  const before = document.kept();
+  const codes = edits.map((edit) => document[edit.op](edit));
+  const at = codes.findIndex((code) => code !== undefined);
+  if (at < 0) return undefined;
+  document.putBack(before);
+  return codes.find((code) => code === 2) ?? codes.find((code) => code === 4) ?? { code: codes[at], at };
+}
+
+function refusal(code, at) {
+  return JSON.stringify({ at, code, error: WORDS[code], ok: false });
 }

@@ -55,6 +55,22 @@ test("a reading converts places", () =>
     await assert.rejects(reading.insert(0, "y"), Stale);
   }));
 
+test("several edits are made at once, or none, and once under a token", () =>
+  withSession(async (session) => {
+    const text = session.document(1);
+    const rev = await text.insert(0, "one two");
+    const edits = [{ op: "delete", at: 4, count: 3 }, { op: "insert", at: 4, text: "T🦊O" }, { op: "mark", from: 4, to: 7, ...STRONG }];
+    const token = "00000000-0000-4000-8000-0000000000d1";
+    for (const made of [14, 14]) assert.equal(await text.action(edits, undefined, token), made);
+    await assert.rejects(text.action([...edits, { op: "delete", at: 7, count: 1 }]), ({ number, at }) => number === 5 && (at === 3 || at === undefined));
+    await assert.rejects(text.action(edits, rev), Stale);
+    await assert.rejects(text.action([{ ...edits[0], doc: 1 }]), { number: 4 });
+    assert.deepEqual(await text.spans(), [{ text: "one " }, { strong: true, text: "T🦊O" }]);
+    const reading = await (await text.read()).action([{ op: "delete", at: 4, count: 3 }, { op: "insert", at: 5, text: "!" }]);
+    assert.deepEqual([reading.text, reading.rev], ["one O!", 17]);
+    assert.equal(await text.text(), reading.text);
+  }));
+
 test("a long text and a long stretch go as several edits, once under a token", () =>
   withSession(async (session) => {
     const text = session.document(1);

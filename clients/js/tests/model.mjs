@@ -22,6 +22,15 @@ export class Model {
     this.#oldest = this.rev;
   }
 
+  /** What `putBack` takes, to undo what was made since. */
+  kept() {
+    return { rev: this.rev, characters: this.characters.map((character) => ({ ...character, marks: [...character.marks] })) };
+  }
+
+  putBack(kept) {
+    Object.assign(this, kept);
+  }
+
   /** The characters that are shown at a number of operations. */
   at(rev) {
     return this.characters.filter((character) => isShown(character, rev));

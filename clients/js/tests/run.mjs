@@ -22,6 +22,7 @@ const noProgram = program === undefined ? "for PERITEXT names no program" : unde
 const noWebSocket = globalThis.WebSocket || existsSync(`${LIBRARIES}/ws`) ? undefined : "for there is no WebSocket before Node 22, and node-ws isn't installed";
 const noEditor = hasEditor ? undefined : "for node-prosemirror-state isn't installed";
 run("client");
+run("actions");
 run("cuts");
 run("limits");
 run("again");

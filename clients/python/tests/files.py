@@ -43,7 +43,7 @@ class Edits(WithFile):
             text.delete(1, 1)
             self.assertEqual(text.text(), "ä\n\"\\ü")
 
-    def test_a_long_text_goes_in_as_several_edits(self):
+    def test_a_long_text_goes_in_at_once(self):
         with self.open() as opened:
             text = opened.document(1)
             text.insert(0, "()")
@@ -177,7 +177,7 @@ class ManyAtOnce(WithFile):
 class Examples(WithFile):
     def test_the_examples_of_the_docs_are_so(self):
         with self.open() as opened:
-            names = {"document": opened.document(9)}
+            names = {"document": opened.document(9), "STRONG": peritext.STRONG}
             results = [doctest.testmod(module, extraglobs=names) for module in (document, session)]
         results.append(doctest.testmod(peritext, extraglobs={"a_file": self.name, "the_program": PROGRAM}))
         self.assertEqual([result.failed for result in results], [0, 0, 0])

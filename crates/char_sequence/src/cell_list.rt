@@ -65,6 +65,18 @@ impl CellList {
         Ok(list)
     }
 
+    /// The same cells again, with room for no more. An error is out of memory (1). The cells are
+    /// copied as memory, and so are their replicas.
+    pub(crate) fn copy(&self) -> Result<CellList, AllocError>
+        ensures { IfOk result (λ copied. copied ≡ self.now) }
+    {
+        let alloc = *self.cells.allocator();
+        Ok(CellList {
+            cells: Vec::from_slice(alloc, &self.cells)?,
+            makers: Vec::from_slice(alloc, &self.makers)?,
+        })
+    }
+
     /// How many cells. Constant.
     pub(crate) fn len(&self) -> usize
         ensures { result ≡ length self.now }

@@ -51,9 +51,19 @@ impl Chunk {
         })
     }
 
+    /// The same chunk again. An error is out of memory (1). Its cells are copied as memory.
+    pub(crate) fn copy(&self) -> Result<Chunk, AllocError>
+        ensures { IfOk result (λ copied. copied ≡ self.now) }
+    {
+        Ok(Chunk {
+            cells: self.cells.copy()?,
+            shown: self.shown,
+        })
+    }
+
     /// Puts its cells from one on and before another one behind others. An error is out of memory
     /// (1). A step for each.
-    pub(crate) fn copy(
+    pub(crate) fn put_range(
         &self,
         from: usize,
         end: usize,

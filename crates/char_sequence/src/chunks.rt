@@ -1,6 +1,6 @@
 //! The cells of a sequence, cut into chunks.
 ghost use Rattle.std.specs.Prelude.{◌≤◌, ◌≡◌, ◌++◌, ◌∷◌, [], ◌<◌, ◌+◌, ◌*◌, ◌^◌, length};
-ghost use Rattle.std.specs.Prelude.{Some, true, false, OnOk, OnErr, MatchOption};
+ghost use Rattle.std.specs.Prelude.{Some, true, false, IfOk, OnOk, OnErr, MatchOption};
 ghost use Rattle.std.proofs.Common.{get_or};
 ghost use Rattle.char_sequence.specs.Chunks.{size_at, cell_at, cells_of, before, from, AreChunks};
 ghost use Rattle.char_sequence.specs.Chunks.{IsPlace, AreSized};
@@ -60,6 +60,19 @@ impl Chunks {
             shown: 0,
             groups: Vec::new(alloc),
         }
+    }
+
+    /// The same chunks again. An error is out of memory (1). A step for each chunk, whose cells are
+    /// copied as memory.
+    pub(crate) fn copy(&self) -> Result<Chunks, AllocError>
+        ensures { IfOk result (λ copied. copied ≡ self.now) }
+    {
+        let alloc = *self.chunks.allocator();
+        Ok(Chunks {
+            chunks: copied(alloc, &self.chunks)?,
+            shown: self.shown,
+            groups: Vec::from_slice(alloc, &self.groups)?,
+        })
     }
 
     /// The allocator that it keeps.
@@ -251,4 +264,15 @@ impl Chunks {
         self.shown = self.shown - before + after;
         recount(&mut self.groups, i, before, after);
     }
+}
+
+/// The same chunks again. An error is out of memory (1).
+fn copied(alloc: Global, chunks: &[Chunk]) -> Result<Vec<Chunk>, AllocError>
+    ensures { IfOk result (λ copied. copied.items ≡ chunks.now) }
+{
+    let mut copied = Vec::with_capacity(alloc, chunks.len())?;
+    for chunk in chunks {
+        copied.push(chunk.copy()?)?;
+    }
+    Ok(copied)
 }

@@ -25,9 +25,9 @@ pub(crate) fn joined(
         None => Vec::from_slice(alloc, run),
         Some(chunk) => {
             let mut all = Vec::with_capacity(alloc, chunk.len().saturating_add(run.len()))?;
-            chunk.copy(0, j, &mut all)?;
+            chunk.put_range(0, j, &mut all)?;
             all.extend_from_slice(run)?;
-            chunk.copy(j, chunk.len(), &mut all)?;
+            chunk.put_range(j, chunk.len(), &mut all)?;
             Ok(all)
         }
     }

@@ -1,7 +1,7 @@
 //! Where a character should be, by its id.
 use crate::chunks::Chunks;
 use crate::place::Place;
-use crate::track::{Track, gather, hinted, note, sort};
+use crate::track::{Track, copied, gather, hinted, note, sort};
 use op_ids::OpId;
 use op_model::Ticks;
 use std::alloc::{AllocError, Global};
@@ -29,6 +29,17 @@ impl Hints {
             positions: Vec::new(alloc),
             last: Place { chunk: 0, at: 0 },
         }
+    }
+
+    /// The same hints again. An error is out of memory (1). All is copied as memory.
+    pub(crate) fn copy(&self) -> Result<Hints, AllocError> {
+        let alloc = *self.serials.allocator();
+        Ok(Hints {
+            tracks: copied(&self.tracks)?,
+            serials: Vec::from_slice(alloc, &self.serials)?,
+            positions: Vec::from_slice(alloc, &self.positions)?,
+            last: self.last,
+        })
     }
 
     /// The chunk in which a character should be. A binary search among the characters of its

@@ -58,6 +58,17 @@ impl Sequence {
         }
     }
 
+    /// The same characters again, each found as fast. An error is out of memory (1). A step for
+    /// each chunk; the characters and their hints are copied as memory, some twenty bytes for each.
+    pub fn copy(&self) -> Result<Sequence, AllocError>
+        ensures { IfOk result (λ copied. copied ≡ self.now) }
+    {
+        Ok(Sequence {
+            chunks: self.chunks.copy()?,
+            hints: self.hints.copy()?,
+        })
+    }
+
     /// The allocator that it keeps.
     pub fn allocator(&self) -> Global {
         self.chunks.allocator()
@@ -145,6 +156,16 @@ impl Sequence {
             Lasting::Beside(anchor) => beside(&self.chunks, &self.hints, anchor, ticks),
             Lasting::EndOfText => Some(self.chunks.shown()),
         }
+    }
+
+    /// How many characters a reader sees. Takes no memory. Constant.
+    pub fn shown(&self) -> usize
+        ensures shown { (ops : List Op) (doc : ℕ) → Holds self.now ops doc
+            → result ≡ length (seen ops doc) }
+        ensures few { result ≤ 2 ^ 63 }
+    {
+        self.chunks.are_sized();
+        self.chunks.shown()
     }
 
     /// Whether a reader sees at least `count` characters. Takes no memory. Constant.

@@ -16,6 +16,20 @@ struct Spot {
     serial: u32,
 }
 
+/// The same tracks again. An error is out of memory (1). A step for each, whose characters are
+/// copied as memory.
+pub(crate) fn copied(tracks: &Vec<Track>) -> Result<Vec<Track>, AllocError> {
+    let alloc = *tracks.allocator();
+    let mut copied = Vec::with_capacity(alloc, tracks.len())?;
+    for track in tracks {
+        copied.push(Track {
+            replica: track.replica,
+            spots: Vec::from_slice(alloc, &track.spots)?,
+        })?;
+    }
+    Ok(copied)
+}
+
 /// Notes the chunk of a character. An error is out of memory (1). A step or two where it is its
 /// replica's last one or its replica inserts alone, else a binary search.
 pub(crate) fn note(tracks: &mut Vec<Track>, id: OpId, serial: u32) -> Result<(), AllocError> {

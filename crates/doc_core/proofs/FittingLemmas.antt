@@ -19,7 +19,7 @@ use Rattle.doc_core.specs.Drafting.{Drafted, IsDraftOf}
 use Rattle.doc_core.specs.Standing.{counted, Document, StandsFor}
 
 -- what was numbered fits in turn
-numbered_fit : (ops : List Op) (replica doc : ℕ) (token : Option ℕ) (counter : ℕ) (clock : List (ℕ × ℕ)) (bodies : List Body)
+pub numbered_fit : (ops : List Op) (replica doc : ℕ) (token : Option ℕ) (counter : ℕ) (clock : List (ℕ × ℕ)) (bodies : List Body)
     → FollowInTurn ops (numbered replica doc token counter clock bodies) → FitAfter ops doc (numbered replica doc token counter clock bodies)
 numbered_fit ops replica doc token counter clock [] follow = tt
 numbered_fit ops replica doc token counter clock (b ∷ bs) follow =

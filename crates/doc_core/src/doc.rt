@@ -56,6 +56,20 @@ impl Doc {
         }
     }
 
+    /// The same document again, on which changes can be made while this one stays. An error is out
+    /// of memory (1). A step for each 256 characters and for each mark operation; the rest is
+    /// copied as memory.
+    pub fn copy(&self) -> Result<Doc, AllocError>
+        ensures { IfOk result (λ copied. copied ≡ self.now) }
+    {
+        Ok(Doc {
+            doc: self.doc,
+            sequence: self.sequence.copy()?,
+            anchors: self.anchors.copy()?,
+            rev: self.rev,
+        })
+    }
+
     /// Its number. Constant.
     pub fn number(&self) -> u32
         ensures { result ≡ self.now.number }
@@ -92,6 +106,15 @@ impl Doc {
             → rev_of ops self.now.number < 2 ^ 64 → result ≡ rev_of ops self.now.number }
     {
         self.rev
+    }
+
+    /// How many characters are visible. Takes no memory. Constant.
+    pub fn shown(&self) -> usize
+        ensures shown { (ops : List Op) → StandsFor self.now ops
+            → result ≡ length (visible ops self.now.number) }
+        ensures few { result ≤ 2 ^ 63 }
+    {
+        self.sequence.shown()
     }
 
     /// Whether at least `count` characters are visible. Takes no memory. Constant.

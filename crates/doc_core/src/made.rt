@@ -63,4 +63,10 @@ impl Made {
     {
         &self.ops
     }
+    /// The operations, in order, without what they are. Constant.
+    pub fn into_ops(self) -> Vec<Op>
+        ensures { result.items ≡ self }
+    {
+        self.ops
+    }
 }

@@ -6,9 +6,7 @@ use Rattle.std.proofs.lemmas.Bool.{cases_Bool, eq-eqb}
 use Rattle.op_ids.specs.Clock.{advanced}
 use Rattle.op_model.specs.declared.op.Op.{Op}
 use Rattle.op_model.specs.declared.op.Body.{Body}
-use Rattle.op_model.specs.declared.edit.Edit.{Edit}
-use Rattle.op_model.specs.Causality.{clock_of}
-use Rattle.op_model.specs.Made.{numbered, made, bodies_of, greatest_counter}
+use Rattle.op_model.specs.Made.{numbered}
 use Rattle.op_model.specs.Text.{rev}
 use Rattle.op_model.specs.Tokens.{or_here, last_of, is_token, carries}
 use Rattle.model_laws.proofs.LastOf.{last_of-behind, numbered_other}
@@ -59,7 +57,8 @@ place_last replica token doc ops more place last end revs =
     ap (λ all. rev all last.op.doc) whole ∙ ap (rev (ops ++ more)) last.of_doc ∙ sym revs in
     rw (last_of-append (carries replica token) ops more (last.front, last.op) last.found) (rw (long, counted) refl)
 
-tokens_numbered : (old new : List (ℕ × Place)) (replica doc : ℕ) (given : Option ℕ) (counter : ℕ) (clock : List (ℕ × ℕ)) (bs : List Body) (ops : List Op) (place : Place)
+-- what is numbered with a token has its place kept for it
+pub tokens_numbered : (old new : List (ℕ × Place)) (replica doc : ℕ) (given : Option ℕ) (counter : ℕ) (clock : List (ℕ × ℕ)) (bs : List Body) (ops : List Op) (place : Place)
     → 0 < length (numbered replica doc given counter clock bs) → place.end ≡ length (ops ++ numbered replica doc given counter clock bs)
     → place.rev ≡ rev (ops ++ numbered replica doc given counter clock bs) doc → Puts given (Some place) old new → AreTokens old replica ops
     → AreTokens new replica (ops ++ numbered replica doc given counter clock bs)
@@ -75,10 +74,3 @@ tokens_numbered old new replica doc given counter clock (b ∷ bs) ops place som
             puts q ∙ rw other (are.kept q ∙ ap (option_map place_at) (sym (last_of-behind (carries replica q) ops more none)))
       ];
     }
-
--- an edit has its place kept for its token
-pub tokens_made : (old new : List (ℕ × Place)) (replica : ℕ) (ops : List Op) (e : Edit) (place : Place) → 0 < length (made ops replica e)
-    → place.end ≡ length (ops ++ made ops replica e) → place.rev ≡ rev (ops ++ made ops replica e) e.doc → Puts e.token (Some place) old new
-    → AreTokens old replica ops → AreTokens new replica (ops ++ made ops replica e)
-tokens_made old new replica ops e place some end revs puts are =
-    tokens_numbered old new replica e.doc e.token (greatest_counter ops + 1) (clock_of ops) (bodies_of ops replica e.doc e.change) ops place some end revs puts are

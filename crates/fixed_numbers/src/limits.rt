@@ -32,8 +32,11 @@ pub const MAX_PENDING_RECORDS: usize = 87_031_808;
 /// The most steps that are kept in one opening: 2^20.
 pub const MAX_STEPS: usize = 1_048_576;
 
-/// The most characters that an edit inserts or removes.
+/// The most characters that a change inserts or removes.
 pub const MAX_EDIT: usize = 256;
+
+/// The most changes that are made at once.
+pub const MAX_CHANGES: usize = 1024;
 
 /// The most bytes of a link's URL, which has at least one.
 pub const MAX_URL_LENGTH: usize = 1024;

@@ -4,8 +4,7 @@ use Rattle.std.specs.Prelude.{if◌then◌else◌, Contains}
 use Rattle.std.proofs.lemmas.Bool.{lt-ltb, le-ltb}
 use Rattle.std.proofs.lemmas.List.{take-append-le}
 use Rattle.op_model.specs.declared.op.Op.{Op}
-use Rattle.op_model.specs.declared.edit.Edit.{Edit}
-use Rattle.op_model.specs.Made.{made}
+use Rattle.op_model.specs.Actions.{made_by_action, Asked}
 use Rattle.op_model.specs.Replay.{reached}
 use Rattle.op_model.specs.Held.{ReplicaHeld, with_edit, with_merge}
 use Rattle.replica_core.specs.Steps.{places_left}
@@ -40,15 +39,15 @@ pub due_behind_some : (h : ReplicaHeld) (n : ℕ) → n < length h.list → due_
 due_behind_some h n less = rw (lt-ltb n (length h.list) less) refl
 
 -- an edit makes the list longer
-pub grows_edit : (h : ReplicaHeld) (session : ℕ) (e : Edit) → Grows h (with_edit h session e)
+pub grows_edit : (h : ReplicaHeld) (session : ℕ) (e : Asked) → Grows h (with_edit h session e)
 grows_edit h session e =
     record {
       owner = refl;
       opened = refl;
       settled = refl;
-      more = made h.list h.replica e;
+      more = made_by_action h.list h.replica e;
       list = refl;
-      reaches = λ n has. contains_tail (length h.list + length (made h.list h.replica e)) n (reached h.opened h.steps) has;
+      reaches = λ n has. contains_tail (length h.list + length (made_by_action h.list h.replica e)) n (reached h.opened h.steps) has;
       places = λ n k small was. let one = due_few (with_edit h session e) n in omega (arith, one, small);
     }
 

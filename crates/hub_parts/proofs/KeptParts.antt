@@ -5,7 +5,8 @@ use Rattle.std.specs.Prelude.{if◌then◌else◌, Some, None}
 use Rattle.std.proofs.lemmas.Bool.{leb-true}
 use Rattle.std.proofs.lemmas.Bool.Decides.{nat_tests}
 use Rattle.op_model.specs.declared.op.Op.{Op}
-use Rattle.op_model.specs.declared.edit.Edit.{Edit}
+use Rattle.op_model.specs.Actions.{refusal_of, Asked}
+use Rattle.op_model.specs.Causality.{IsCausallyClosed}
 use Rattle.op_model.specs.Machine.{taken_in, has_record_room, edit_length}
 use Rattle.op_model.specs.Records.{record_length}
 use Rattle.op_model.specs.Held.{with_edit, with_merge, ReplicaHeld}
@@ -15,6 +16,7 @@ use Rattle.replica_core.specs.Steps.{places_left}
 use Rattle.replica_core.proofs.ReachedLemmas.{length_is_reached}
 use Rattle.hub_parts.specs.Locked.{commit_of, state_of, Keeps, LockedHeld}
 use Rattle.hub_parts.proofs.Growing.{Grows, grows_edit, grows_merge, owed_grown, due_behind_all, due_behind_some}
+use Rattle.hub_parts.proofs.PuttingLemmas.{action_within}
 use Rattle.hub_parts.proofs.WaitingLengths.{none_waiting, waits_edit, waits_merge}
 
 -- what is kept is kept where the list grows, if there is room
@@ -53,13 +55,15 @@ room_says : (l : LockedHeld) (bytes : ℕ) → Keeps l → has_record_room (stat
 room_says l bytes k room = leb-true _ _ (sym (room_is l bytes k) ∙ room)
 
 -- an edit that has room
-pub keeps_edit : (l : LockedHeld) (next : ReplicaHeld) (session : ℕ) (e : Edit) → Keeps l
+pub keeps_edit : (l : LockedHeld) (next : ReplicaHeld) (session : ℕ) (e : Asked) → Keeps l
+    → IsCausallyClosed l.replica.list → refusal_of l.replica.list l.replica.replica e ≡ None
     → has_record_room (state_of l) (edit_length l.replica e) ≡ true → next ≡ with_edit l.replica session e
     → Keeps (record l { replica = next })
-keeps_edit l next session e k room is =
+keeps_edit l next session e k closed due room is =
     let room_for = room_says l (edit_length l.replica e) k room in
+    let most = action_within l.replica.list l.replica.replica e closed due in
     rw is (keeps_grown l (with_edit l.replica session e) (grows_edit l.replica session e) k
-    (omega (arith, room_for, waits_edit l.replica session e l.begun k.within)))
+    (omega (arith, room_for, most, waits_edit l.replica session e l.begun k.within)))
 
 -- a merge that has room
 pub keeps_merge : (l : LockedHeld) (next : ReplicaHeld) (peer : ℕ) (op : Op) → Keeps l

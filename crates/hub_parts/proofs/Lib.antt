@@ -12,5 +12,6 @@ pub mod SettledRevs
 pub mod OpenedParts
 pub mod TicketEnds
 pub mod WaitLemmas
+pub mod PuttingLemmas
 pub mod WaitingLengths
 pub mod TypedWaits

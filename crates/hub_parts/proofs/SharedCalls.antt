@@ -1,7 +1,7 @@
 -- What an edit and a merge of a locked part are to the machine.
 use Rattle.std.proofs.Common.{◌≡◌, ℕ, true, false, Some, None, refl}
 use Rattle.op_model.specs.declared.op.Op.{Op}
-use Rattle.op_model.specs.declared.edit.Edit.{Edit}
+use Rattle.op_model.specs.Actions.{Asked}
 use Rattle.op_model.specs.Machine.{Ticket, ticket, applied, known, early, refused, known_ticket, new_edit_alone, merge_alone, has_record_room}
 use Rattle.op_model.specs.Machine.{EditStep, MergeStep}
 use Rattle.model_laws.proofs.Tickets.{known_is}
@@ -11,12 +11,12 @@ use Rattle.hub_parts.specs.Locked.{state_of, LockedHeld}
 use Rattle.hub_parts.proofs.RoomAnswers.{refused_alone, known_alone, early_alone, full_merge, wanting_merge}
 
 -- an edit that was made before
-pub edit_known : (l : LockedHeld) (session : ℕ) (e : Edit) (t : Ticket) → known_ticket l.replica e ≡ Some t
+pub edit_known : (l : LockedHeld) (session : ℕ) (e : Asked) (t : Ticket) → known_ticket l.replica e ≡ Some t
     → EditStep (state_of l) session e (ticket t) (state_of l)
 edit_known l session e t k = let flag = (known_is l.replica e t k).known in (rw k refl, rw flag refl)
 
 -- a new edit that the replica refuses
-pub edit_refused : (l : LockedHeld) (session : ℕ) (e : Edit) (n : ℕ) → known_ticket l.replica e ≡ None → l.failure_told ≡ false
+pub edit_refused : (l : LockedHeld) (session : ℕ) (e : Asked) (n : ℕ) → known_ticket l.replica e ≡ None → l.failure_told ≡ false
     → new_edit_alone l.replica e ≡ refused n
     → EditStep (state_of l) session e (refused n) (state_of l)
 edit_refused l session e n new works answer =

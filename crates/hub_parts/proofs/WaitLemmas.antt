@@ -4,12 +4,10 @@ use Rattle.std.proofs.lemmas.List.{drop_all, drop-append-le, take_all, take-appe
 use Rattle.group_commit.specs.Plan.{newest}
 use Rattle.model_laws.proofs.Limits.{stream_length-append}
 use Rattle.op_model.specs.declared.op.Op.{Op}
-use Rattle.op_model.specs.declared.edit.Edit.{Edit}
+use Rattle.op_model.specs.Actions.{made_by_action, Asked}
 use Rattle.op_model.specs.Held.{ReplicaHeld}
-use Rattle.op_model.specs.Machine.{edit_length}
-use Rattle.op_model.specs.Made.{made}
 use Rattle.op_model.specs.Records.{stream_length}
-use Rattle.op_model.specs.Waiting.{change_length, waiting_length}
+use Rattle.op_model.specs.Waiting.{changes_length, waiting_length}
 use Rattle.piece_codec.proofs.StreamLaws.{both_join, nothing}
 use Rattle.hub_parts.specs.Adding.{Adds}
 use Rattle.hub_parts.specs.Locked.{Counts, Waits}
@@ -44,10 +42,11 @@ pub counts_grown : (h next : ReplicaHeld) (begun bytes : ℕ) (more : List Op) �
     → Counts next begun bytes
 counts_grown h next begun bytes more counts within grown = rw (grown, take-append-le begun h.list more within) counts
 
--- what was put are the edit's bytes
-pub edit_adds : (h : ReplicaHeld) (e : Edit) (was now : List ℕ) (ops : List Op) → ops ≡ made h.list h.replica e
-    → Adds was now ops (change_length e.change ops) → Adds was now (made h.list h.replica e) (edit_length h e)
-edit_adds h e was now ops is adds = subst (λ (made_ops : List Op). Adds was now made_ops (change_length e.change made_ops)) is adds
+-- what was put are the action's bytes
+pub edit_adds : (h : ReplicaHeld) (e : Asked) (was now : List ℕ) (ops : List Op) → ops ≡ made_by_action h.list h.replica e
+    → Adds was now ops (changes_length e.changes ops)
+    → Adds was now (made_by_action h.list h.replica e) (changes_length e.changes (made_by_action h.list h.replica e))
+edit_adds h e was now ops is adds = subst (λ (made_ops : List Op). Adds was now made_ops (changes_length e.changes made_ops)) is adds
 
 -- the taken operations and the others have the bytes of all
 pub bytes_of_both : (n : ℕ) (list : List Op) → stream_length (take n list) + stream_length (drop n list) ≡ stream_length list

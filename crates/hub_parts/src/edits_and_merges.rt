@@ -9,7 +9,7 @@ ghost use Rattle.hub_parts.specs.Refusal.{edited, merged};
 use crate::locked::Locked;
 use crate::refusal::LockedRefusal;
 use fixed_numbers::limits::MAX_PENDING;
-use op_model::{Edit, Op};
+use op_model::{Action, Op};
 use replica_core::{Merged, Ticket};
 
 impl Locked {
@@ -20,7 +20,7 @@ impl Locked {
     /// no room behind those that wait for a commit (1,048,576 bytes), and with 1 when out of
     /// memory. A refused edit changes nothing. Costs what `Replica::edit` does, and a copy of the
     /// records of what it makes.
-    pub fn edit(&mut self, session: u64, edit: &Edit) -> Result<Ticket, LockedRefusal>
+    pub fn edit(&mut self, session: u64, edit: &Action) -> Result<Ticket, LockedRefusal>
         ensures call { EditStep (state_of self.old) session edit.now (edited result)
             (state_of self.new) }
         ensures made { IfOk result (λ t. self.new

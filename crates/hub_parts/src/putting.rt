@@ -11,7 +11,7 @@ ghost use Rattle.hub_parts.specs.Locked.{state_of};
 use crate::locked::Locked;
 use crate::waiting::put_made;
 use change_codec::{every_op_has_a_spelling, put_op};
-use op_model::{Edit, Op};
+use op_model::{Action, Op};
 use replica_core::{Decided, Refusal, Ticket};
 
 impl Locked {
@@ -20,7 +20,7 @@ impl Locked {
     pub(crate) fn put_edit(
         &mut self,
         session: u64,
-        edit: &Edit,
+        edit: &Action,
         decided: Decided,
     ) -> Result<Ticket, Refusal>
         requires decided { IsDecided self.old.replica edit.now decided }
@@ -33,6 +33,8 @@ impl Locked {
         ensures memory { IfErr result (λ e. e ≡ Refusal.Memory) }
         ensures err { OnErr result (self.new ≡ self.old) }
     {
+        // From this the proof has that the list is causally closed.
+        let _list = self.replica.list();
         let before = self.waiting.len();
         let prepared = self.replica.prepare(edit, decided)?;
         put_made(prepared.ops(), edit, &mut self.waiting)?;

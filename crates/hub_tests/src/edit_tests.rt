@@ -26,6 +26,45 @@ fn a_text_is_marked(rt: HostRuntime) {
     plays(&rt, &[1], &MARKED);
 }
 
+/// Each change is at the places that those before it leave; where one isn't possible, none is made.
+static TOGETHER: [Row; 10] = [
+    (0, Ask::Edit(Wish::Insert(0, "one two")), 7),
+    (
+        0,
+        Ask::Together(&[
+            Wish::Delete(4, 3),
+            Wish::Insert(4, "TWO"),
+            Wish::Mark(4, 7),
+        ]),
+        14,
+    ),
+    (0, Ask::HasText("one TWO"), 1),
+    (0, Ask::Spans, 2),
+    (
+        0,
+        Ask::Together(&[Wish::Delete(0, 4), Wish::Insert(4, "x")]),
+        0,
+    ),
+    (
+        0,
+        Ask::Together(&[Wish::Insert(0, "x"), Wish::InsertMany(0, 257)]),
+        0,
+    ),
+    (0, Ask::HasText("one TWO"), 1),
+    (0, Ask::Len, 14),
+    (
+        0,
+        Ask::Together(&[Wish::Insert(7, "!"), Wish::Delete(0, 8)]),
+        23,
+    ),
+    (0, Ask::HasText(""), 1),
+];
+
+#[test]
+fn several_changes_are_made_at_once(rt: HostRuntime) {
+    plays(&rt, &[1], &TOGETHER);
+}
+
 static STALE: [Row; 4] = [
     (0, Ask::Edit(Wish::Insert(0, "ab")), 2),
     (0, Ask::Refusal(1, Some(1), Wish::Delete(2, 1)), 6),

@@ -4,11 +4,11 @@ use crate::play::plays_failing;
 use crate::test_hubs::{Failing, edit_of, failing_disk, make_calls, open, reopened};
 use disk_trait::Fate;
 use locked_replica::Hub;
-use op_model::Edit;
+use op_model::Action;
 use std::alloc::Global;
 
 /// Makes an edit and commits it. Tells whether no device call failed.
-fn commit(hub: &mut Failing, edit: Option<Edit>) -> Option<bool> {
+fn commit(hub: &mut Failing, edit: Option<Action>) -> Option<bool> {
     if hub.edit(1, &edit?).is_err() || !matches!(hub.begin(), Ok(Some(1..=3))) {
         return None;
     }

@@ -5,7 +5,7 @@ use causal_sync::{Heard, Link, Ops};
 use disk_trait::FaultDisk;
 use fixed_numbers::limits::MAX_TOLD;
 use op_ids::Clock;
-use op_model::{Change, Edit};
+use op_model::{Action, Change, Edit};
 use replica_core::Merged;
 use std::alloc::Global;
 
@@ -50,14 +50,14 @@ impl Peer {
     }
 
     /// Changes document 1.
-    fn edit(&mut self, change: Change) -> Option<()> {
+    fn edit(&mut self, alloc: Global, change: Change) -> Option<()> {
         let edit = Edit {
             doc: 1,
             rev: None,
             token: None,
             change,
         };
-        self.hub.edit(SESSION, &edit).ok()?;
+        self.hub.edit(SESSION, &Action::one(alloc, edit)).ok()?;
         Some(())
     }
 
@@ -72,7 +72,7 @@ impl Peer {
         for number in first..first.saturating_add(count) {
             let long = self.hub.text(1).ok()?.as_slice().len();
             let long = u32::try_from(long).ok()?;
-            self.edit(change(alloc, word, number, long)?)?;
+            self.edit(alloc, change(alloc, word, number, long)?)?;
         }
         Some(())
     }

@@ -1,11 +1,11 @@
 //! What a hub answers to what takes no other one.
 use crate::asks::Ask;
 use crate::play_run::count_replies;
-use crate::test_hubs::{Failing, commit, insert, new_disk, number_of, open, replica};
+use crate::test_hubs::{Failing, commit, insert, insert_under, new_disk, number_of, open, replica};
 use disk_trait::{Disk, MemDisk};
 use locked_replica::Hub;
 use op_ids::{Clock, OpId, Token};
-use op_model::{Body, Edit, Op};
+use op_model::{Action, Body, Op};
 use replica_core::{Merged, Ticket};
 use std::alloc::Global;
 
@@ -46,7 +46,7 @@ fn told(hub: &mut Failing, ask: &Ask) -> usize {
 }
 
 /// The number of the refusal of an edit, or 0.
-fn refusal<D: Disk>(hub: &mut Hub<D>, edit: Option<Edit>) -> Option<usize> {
+fn refusal<D: Disk>(hub: &mut Hub<D>, edit: Option<Action>) -> Option<usize> {
     Some(number_of(hub.edit(1, &edit?)))
 }
 
@@ -62,14 +62,13 @@ fn fill(alloc: Global, hub: &mut Failing, count: u32) -> Option<usize> {
 }
 
 /// The insert of a character at the beginning, under a token that ends with this byte.
-fn under(alloc: Global, last: u8, value: char) -> Option<Edit> {
-    let mut edit = insert(alloc, 0, value, 1)?;
-    edit.token = Token::read([0, 0, 0, 0, 0, 0, 0, 0, 0, 0, 0, 0, 0, 0, 0, last]);
-    Some(edit)
+fn under(alloc: Global, last: u8, value: char) -> Option<Action> {
+    let token = Token::read([0, 0, 0, 0, 0, 0, 0, 0, 0, 0, 0, 0, 0, 0, 0, last]);
+    insert_under(alloc, token, 0, value, 1)
 }
 
 /// The end of the ticket of an edit that is made now.
-fn end_of_new(hub: &mut Failing, edit: Option<Edit>) -> Option<usize> {
+fn end_of_new(hub: &mut Failing, edit: Option<Action>) -> Option<usize> {
     match hub.edit(1, &edit?) {
         Ok(ticket) if !ticket.known => Some(ticket.end),
         _ => None,
@@ -77,7 +76,7 @@ fn end_of_new(hub: &mut Failing, edit: Option<Edit>) -> Option<usize> {
 }
 
 /// Whether an edit has the ticket of one that was made before, with this end and this rev.
-fn is_known(hub: &mut Failing, edit: Option<Edit>, end: usize, rev: usize) -> Option<usize> {
+fn is_known(hub: &mut Failing, edit: Option<Action>, end: usize, rev: usize) -> Option<usize> {
     let wanted = Ticket {
         end,
         rev,

@@ -35,6 +35,8 @@ pub enum Ask {
     Edit(Wish),
     /// The same under a token that ends with this byte.
     EditUnder(u8, Wish),
+    /// Several changes of document 1 at once: the rev of their ticket, or 0.
+    Together(&'static [Wish]),
     /// An edit of a document at a rev: the number of its refusal, or 0.
     Refusal(u32, Option<u32>, Wish),
     /// Edits of document 1, each the same and settled twice: how many are made before one is

@@ -4,7 +4,7 @@
 use crate::replica_asks::{Ask, Row};
 use crate::test_changes::changes;
 use crate::test_edits::{
-    edit, edits_until_refused, put_length, refusal, settled_after, ticket_rev,
+    edit, edit_of, edits_until_refused, put_length, refusal, settled_after, ticket_rev, together,
 };
 use crate::test_merges::{brought, has_clock_of, is_same, merge_all, merge_into, open_from};
 use crate::test_peers::{acks, has_text, replica_id, spans_of, told, told_to_none};
@@ -61,7 +61,8 @@ fn answer_alone(alloc: Global, replica: &mut Replica, ask: &Ask) -> Option<usize
     match ask {
         Ask::Edit(wish) => ticket_rev(replica, edit(alloc, None, wish)),
         Ask::EditUnder(token, wish) => ticket_rev(replica, edit(alloc, Some(*token), wish)),
-        Ask::Refusal(doc, rev, wish) => refusal(replica, *doc, *rev, edit(alloc, None, wish)),
+        Ask::Together(wishes) => ticket_rev(replica, together(alloc, wishes)),
+        Ask::Refusal(doc, rev, wish) => refusal(replica, edit_of(alloc, *doc, *rev, wish)),
         Ask::EditsUntilRefused(wish) => edits_until_refused(replica, edit(alloc, None, wish)),
         Ask::Put(wish) => put_length(replica, edit(alloc, None, wish)),
         Ask::Settle(wish) => settled_after(replica, edit(alloc, None, wish)),

@@ -2,7 +2,7 @@
 use crate::replica_asks::Wish;
 use crate::test_peers::bytes_ending;
 use op_ids::Token;
-use op_model::{Change, Edit, EditText, Mark, MarkKey};
+use op_model::{Action, Change, Edit, EditText, Mark, MarkKey};
 use replica_core::Replica;
 use std::alloc::Global;
 use std::num::NonZeroU32;
@@ -12,17 +12,44 @@ const MANY: usize = 1_000_000;
 
 /// An edit of document 1, whatever its number of operations, under a token that ends with this
 /// byte if there is one.
-pub fn edit(alloc: Global, token: Option<u8>, wish: &Wish) -> Option<Edit> {
+pub fn edit(alloc: Global, token: Option<u8>, wish: &Wish) -> Option<Action> {
     let token = match token {
         Some(last) => Token::read(bytes_ending(last)),
         None => None,
     };
-    Some(Edit {
+    let edit = Edit {
         doc: 1,
         rev: None,
         token,
         change: change(alloc, wish)?,
-    })
+    };
+    Some(Action::one(alloc, edit))
+}
+
+/// Several changes of document 1, whatever its number of operations.
+pub fn together(alloc: Global, wishes: &[Wish]) -> Option<Action> {
+    let mut others = Vec::new(alloc);
+    for wish in wishes.get(1..)? {
+        others.push(change(alloc, wish)?).ok()?;
+    }
+    let first = Edit {
+        doc: 1,
+        rev: None,
+        token: None,
+        change: change(alloc, wishes.get(0)?)?,
+    };
+    Action::new(first, others)
+}
+
+/// An edit of this document at this rev.
+pub fn edit_of(alloc: Global, doc: u32, rev: Option<u32>, wish: &Wish) -> Option<Action> {
+    let edit = Edit {
+        doc,
+        rev,
+        token: None,
+        change: change(alloc, wish)?,
+    };
+    Some(Action::one(alloc, edit))
 }
 
 fn change(alloc: Global, wish: &Wish) -> Option<Change> {
@@ -52,24 +79,16 @@ fn change(alloc: Global, wish: &Wish) -> Option<Change> {
     })
 }
 
-/// The number of the refusal of an edit, of this document at this rev, or 0.
-pub fn refusal(
-    replica: &mut Replica,
-    doc: u32,
-    rev: Option<u32>,
-    edit: Option<Edit>,
-) -> Option<usize> {
-    let mut edit = edit?;
-    edit.doc = doc;
-    edit.rev = rev;
-    match replica.edit(1, &edit) {
+/// The number of the refusal of an edit, or 0.
+pub fn refusal(replica: &mut Replica, edit: Option<Action>) -> Option<usize> {
+    match replica.edit(1, &edit?) {
         Ok(_) => Some(0),
         Err(refusal) => Some(refusal.number() as usize),
     }
 }
 
 /// The rev of the ticket of an edit, or 0 where it is refused.
-pub fn ticket_rev(replica: &mut Replica, edit: Option<Edit>) -> Option<usize> {
+pub fn ticket_rev(replica: &mut Replica, edit: Option<Action>) -> Option<usize> {
     match replica.edit(1, &edit?) {
         Ok(ticket) => Some(ticket.rev),
         Err(_) => Some(0),
@@ -77,7 +96,7 @@ pub fn ticket_rev(replica: &mut Replica, edit: Option<Edit>) -> Option<usize> {
 }
 
 /// How many such edits are made, each of which is settled twice, before one is refused.
-pub fn edits_until_refused(replica: &mut Replica, edit: Option<Edit>) -> Option<usize> {
+pub fn edits_until_refused(replica: &mut Replica, edit: Option<Action>) -> Option<usize> {
     let edit = edit?;
     for count in 0..MANY {
         let Ok(decided) = replica.decide_edit(&edit) else {
@@ -94,7 +113,7 @@ pub fn edits_until_refused(replica: &mut Replica, edit: Option<Edit>) -> Option<
 }
 
 /// How many bytes an edit that is made in two calls adds to what waits.
-pub fn put_length(replica: &mut Replica, edit: Option<Edit>) -> Option<usize> {
+pub fn put_length(replica: &mut Replica, edit: Option<Action>) -> Option<usize> {
     let edit = edit?;
     let Ok(decided) = replica.decide_edit(&edit) else {
         return None;
@@ -106,7 +125,7 @@ pub fn put_length(replica: &mut Replica, edit: Option<Edit>) -> Option<usize> {
 }
 
 /// Makes an edit and settles it: the settled number.
-pub fn settled_after(replica: &mut Replica, edit: Option<Edit>) -> Option<usize> {
+pub fn settled_after(replica: &mut Replica, edit: Option<Action>) -> Option<usize> {
     let edit = edit?;
     let Ok(decided) = replica.decide_edit(&edit) else {
         return None;

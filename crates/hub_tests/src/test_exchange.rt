@@ -1,7 +1,7 @@
 //! Three peers that exchange edits of two documents.
 use crate::replica_asks::{Row, Wish};
 use crate::test_asks::{count_right, peers};
-use crate::test_edits::{edit, refusal};
+use crate::test_edits::{edit_of, refusal};
 use crate::test_merges::merge_all;
 use replica_core::Replica;
 use std::alloc::Global;
@@ -53,7 +53,7 @@ fn edit_at(alloc: Global, peers: &mut Vec<Replica>, peer: usize, doc: u32, at: u
 
 /// Makes an edit that isn't refused.
 fn make(alloc: Global, peers: &mut Vec<Replica>, peer: usize, doc: u32, wish: Wish) -> Option<()> {
-    match refusal(peers.get_mut(peer)?, doc, None, edit(alloc, None, &wish))? {
+    match refusal(peers.get_mut(peer)?, edit_of(alloc, doc, None, &wish))? {
         0 => Some(()),
         _ => None,
     }

@@ -3,8 +3,8 @@
 use disk_trait::{Disk, FaultDisk, MemDisk};
 use group_commit::{Phase, Store};
 use locked_replica::{Hub, HubRefusal};
-use op_ids::ReplicaId;
-use op_model::{Change, Edit, EditText};
+use op_ids::{ReplicaId, Token};
+use op_model::{Action, Change, Edit, EditText};
 use std::alloc::Global;
 use std::num::NonZeroU32;
 
@@ -55,31 +55,46 @@ pub(crate) fn reopened(alloc: Global, hub: Box<Failing>) -> Option<Box<Failing>>
 }
 
 /// The insert of a character into document 1, so many times.
-pub(crate) fn insert(alloc: Global, at: u32, value: char, count: usize) -> Option<Edit> {
+pub(crate) fn insert(alloc: Global, at: u32, value: char, count: usize) -> Option<Action> {
+    insert_under(alloc, None, at, value, count)
+}
+
+/// The same under a token, if there is one.
+pub(crate) fn insert_under(
+    alloc: Global,
+    token: Option<Token>,
+    at: u32,
+    value: char,
+    count: usize,
+) -> Option<Action> {
     let text = vec![in alloc; value; count].ok()?;
     let text = EditText::new(text)?;
-    Some(Edit {
+    let edit = Edit {
         doc: 1,
         rev: None,
-        token: None,
+        token,
         change: Change::Insert { at, text },
-    })
+    };
+    Some(Action::one(alloc, edit))
 }
 
 /// Three edits that are made one after the other, each of one operation: "a", then "ab", then "b".
-pub(crate) fn edit_of(alloc: Global, number: usize) -> Option<Edit> {
+pub(crate) fn edit_of(alloc: Global, number: usize) -> Option<Action> {
     match number {
         0 => insert(alloc, 0, 'a', 1),
         1 => insert(alloc, 1, 'b', 1),
-        _ => Some(Edit {
-            doc: 1,
-            rev: None,
-            token: None,
-            change: Change::Delete {
-                at: 0,
-                count: NonZeroU32::MIN,
-            },
-        }),
+        _ => {
+            let edit = Edit {
+                doc: 1,
+                rev: None,
+                token: None,
+                change: Change::Delete {
+                    at: 0,
+                    count: NonZeroU32::MIN,
+                },
+            };
+            Some(Action::one(alloc, edit))
+        }
     }
 }
 

@@ -1,10 +1,10 @@
 //! Edits under a token, through a `Desk`: each acts once, whatever ends or fails before it is sent
 //! again.
-use crate::test_hubs::{NEVER, failing_disk, insert};
+use crate::test_hubs::{NEVER, failing_disk, insert, insert_under};
 use disk_trait::{Disk, FaultDisk, MemDisk};
 use locked_replica::Hub;
 use op_ids::Token;
-use op_model::Edit;
+use op_model::Action;
 use session_lines::{Answer, Command};
 use session_threads::{Desk, HubDesk};
 use std::alloc::Global;
@@ -35,10 +35,9 @@ enum Ask {
 type Row = (Ask, Result<u64, u8>);
 
 /// The insert of "a" under the token.
-fn with_token(alloc: Global, at: u32) -> Option<Edit> {
-    let mut edit = insert(alloc, at, 'a', 1)?;
-    edit.token = Token::read([0, 0, 0, 0, 0, 0, 0x40, 0, 0x80, 0, 0, 0, 0, 0, 0, 0xd1]);
-    Some(edit)
+fn with_token(alloc: Global, at: u32) -> Option<Action> {
+    let token = Token::read([0, 0, 0, 0, 0, 0, 0x40, 0, 0x80, 0, 0, 0, 0, 0, 0, 0xd1]);
+    insert_under(alloc, token, at, 'a', 1)
 }
 
 /// A desk over the hub of a disk.
@@ -55,7 +54,7 @@ fn disk_of(desk: Box<Failing>) -> FaultDisk<MemDisk> {
 }
 
 /// The rev that an edit is answered with, or the number of its refusal.
-fn edited(alloc: Global, desk: &mut Failing, edit: Option<Edit>) -> Result<u64, u8> {
+fn edited(alloc: Global, desk: &mut Failing, edit: Option<Action>) -> Result<u64, u8> {
     let Some(edit) = edit else {
         return Err(0);
     };

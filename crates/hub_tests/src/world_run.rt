@@ -3,7 +3,7 @@
 use crate::play::renew;
 use crate::test_hubs::{Failing, NEVER, new_disk, open};
 use disk_trait::{Fate, FaultDisk};
-use op_model::{Change, Edit, EditText, Mark, Op, Url};
+use op_model::{Action, Change, Edit, EditText, Mark, Op, Url};
 use std::alloc::Global;
 use std::num::NonZeroU32;
 
@@ -136,7 +136,7 @@ fn edit(alloc: Global, hub: &mut Failing, event: Event, number: u32) -> Option<(
         token: None,
         change: change(alloc, event, number, long)?,
     };
-    let _answer = hub.edit(1, &edit);
+    let _answer = hub.edit(1, &Action::one(alloc, edit));
     Some(())
 }
 

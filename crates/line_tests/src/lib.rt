@@ -2,6 +2,8 @@
 #![tactic(auto)]
 
 #[cfg(test)]
+mod edits_tests;
+#[cfg(test)]
 mod first_line_tests;
 #[cfg(test)]
 mod first_watch_tests;

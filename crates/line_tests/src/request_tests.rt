@@ -1,7 +1,7 @@
 //! How lines are read into commands, and how answers are said.
 use crate::saying_tests::{said, text_of};
 use op_model::{
-    Change, CommentId, CommentIds, Edit, EditText, Mark, MarkKey, Marks, Span, Text, Url,
+    Action, Change, CommentId, CommentIds, Edit, EditText, Mark, MarkKey, Marks, Span, Text, Url,
 };
 use session_lines::{Answer, Command, Refusal, SpanList, State, read_command};
 use std::alloc::Global;
@@ -127,6 +127,17 @@ fn readings_and_the_stop_are_served(rt: HostRuntime) {
     served(&rt, alloc, "{\"op\":\"stop\"}", Command::Stop);
 }
 
+/// The command that makes this change alone, without a token.
+fn alone(alloc: Global, doc: u32, rev: Option<u32>, change: Change) -> Command {
+    let edit = Edit {
+        doc,
+        rev,
+        token: None,
+        change,
+    };
+    Command::Edit(Action::one(alloc, edit))
+}
+
 #[test]
 fn inserts_and_deletes_are_served(rt: HostRuntime) -> Result<(), Fail> {
     let alloc = rt.alloc();
@@ -136,12 +147,7 @@ fn inserts_and_deletes_are_served(rt: HostRuntime) -> Result<(), Fail> {
         &rt,
         alloc,
         "{\"op\":\"insert\",\"doc\":1,\"at\":0,\"text\":\"a\\u00e9😀\",\"rev\":7}",
-        Command::Edit(Edit {
-            doc: 1,
-            rev: Some(7),
-            token: None,
-            change,
-        }),
+        alone(alloc, 1, Some(7), change),
     );
     let count = NonZeroU32::new(2).ok_or("zero")?;
     let change = Change::Delete { at: 3, count };
@@ -149,12 +155,7 @@ fn inserts_and_deletes_are_served(rt: HostRuntime) -> Result<(), Fail> {
         &rt,
         alloc,
         "{\"op\":\"delete\",\"doc\":9,\"at\":3,\"count\":2}",
-        Command::Edit(Edit {
-            doc: 9,
-            rev: None,
-            token: None,
-            change,
-        }),
+        alone(alloc, 9, None, change),
     );
     Ok(())
 }
@@ -172,12 +173,7 @@ fn marks_are_served(rt: HostRuntime) -> Result<(), Fail> {
         &rt,
         alloc,
         "{\"op\":\"mark\",\"doc\":1,\"from\":0,\"to\":3,\"kind\":\"link\",\"url\":\"u\"}",
-        Command::Edit(Edit {
-            doc: 1,
-            rev: None,
-            token: None,
-            change,
-        }),
+        alone(alloc, 1, None, change),
     );
     let change = Change::Unmark {
         from: 1,
@@ -188,12 +184,7 @@ fn marks_are_served(rt: HostRuntime) -> Result<(), Fail> {
         &rt,
         alloc,
         "{\"op\":\"unmark\",\"doc\":1,\"from\":1,\"to\":2,\"kind\":\"comment\",\"id\":\"00000000000000000000000000000000\"}",
-        Command::Edit(Edit {
-            doc: 1,
-            rev: None,
-            token: None,
-            change,
-        }),
+        alone(alloc, 1, None, change),
     );
     Ok(())
 }

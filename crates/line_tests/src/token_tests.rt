@@ -9,14 +9,16 @@ use std::test::Fail;
 fn all_have(rt: &(impl Abort + AllocGlobal), lines: &[&str], token: Token) {
     for line in lines {
         match read_command(rt.alloc(), line.as_bytes()) {
-            Ok(Command::Edit(edit)) => assert!(rt; edit.token == Some(token), "{line}"),
+            Ok(Command::Edit(action)) => {
+                assert!(rt; action.first().token == Some(token), "{line}");
+            }
             Ok(other) => assert!(rt; false, "no edit: {other:?}"),
             Err(found) => assert!(rt; false, "{found}: {line}"),
         }
     }
 }
 
-static EDITS: [&str; 4] = [
+static EDITS: [&str; 5] = [
     "{\"token\":\"d1d1d1d1-d1d1-d1d1-d1d1-d1d1d1d1d1d1\",\
         \"doc\":1,\"op\":\"insert\",\"at\":0,\"text\":\"a\"}",
     "{\"token\":\"d1d1d1d1-d1d1-d1d1-d1d1-d1d1d1d1d1d1\",\
@@ -25,6 +27,8 @@ static EDITS: [&str; 4] = [
         \"doc\":1,\"op\":\"mark\",\"from\":0,\"to\":1,\"kind\":\"link\",\"url\":\"u\"}",
     "{\"token\":\"d1d1d1d1-d1d1-d1d1-d1d1-d1d1d1d1d1d1\",\
         \"doc\":1,\"op\":\"unmark\",\"from\":0,\"to\":1,\"kind\":\"em\"}",
+    "{\"token\":\"d1d1d1d1-d1d1-d1d1-d1d1-d1d1d1d1d1d1\",\
+        \"doc\":1,\"op\":\"edits\",\"edits\":[{\"op\":\"delete\",\"at\":0,\"count\":1}]}",
 ];
 
 #[test]

@@ -5,10 +5,9 @@ use Rattle.std.specs.Prelude.{Contains}
 use Rattle.std.proofs.lemmas.Bool.{cases_Bool}
 use Rattle.std.proofs.lemmas.Bool.Decides.{nat_tests}
 use Rattle.op_model.specs.declared.op.Op.{Op}
-use Rattle.op_model.specs.declared.edit.Edit.{Edit}
+use Rattle.op_model.specs.Actions.{made_by_action, Asked}
 use Rattle.op_model.specs.Held.{ReplicaHeld, with_edit, with_merge}
 use Rattle.op_model.specs.Replay.{reached}
-use Rattle.op_model.specs.Made.{made}
 use Rattle.op_model.specs.Machine.{State, Ticket, Event, edit, merge, begin, device_step, settle, ack, tell, have, Answer, ticket, applied, known, early}
 use Rattle.op_model.specs.Machine.{begun, nothing_new, idle, goes_on, goes_through, settled_to, acknowledged, operations, clock, refused}
 use Rattle.op_model.specs.Machine.{holding, through_of, EditStep, MergeStep, BeginStep, DeviceStep, SettleStep, AckStep, TellStep, HaveStep, Step}
@@ -48,13 +47,13 @@ made_goes end old new answer more owner list ends settled = record {
   settled = settled;
 }
 
-edit_goes : (s : State) (session : ℕ) (e : Edit) (answer : Answer) (next : State) → EditStep s session e answer next → Goes answer s.held next.held
+edit_goes : (s : State) (session : ℕ) (e : Asked) (answer : Answer) (next : State) → EditStep s session e answer next → Goes answer s.held next.held
 edit_goes s session e (ticket t) next (due, is) =
     elim (cases_Bool t.known) [
       | inl before ↦ let same : next ≡ s = rw before at is in rw same (goes_alike (ticket t) s.held s.held refl refl refl refl)
       | inr new ↦
           let made_is : next ≡ holding s (with_edit s.held session e) = rw new at is in
-          rw made_is (made_goes (length s.held.list + length (made s.held.list s.held.replica e)) s.held (with_edit s.held session e) (ticket t) (made s.held.list s.held.replica e) refl refl refl refl)
+          rw made_is (made_goes (length s.held.list + length (made_by_action s.held.list s.held.replica e)) s.held (with_edit s.held session e) (ticket t) (made_by_action s.held.list s.held.replica e) refl refl refl refl)
     ]
 edit_goes s session e (refused n) next (due, is) = rw is (goes_alike (refused n) s.held s.held refl refl refl refl)
 edit_goes s session e _ next step = absurd step

@@ -9,13 +9,13 @@ use Rattle.disk_trait.specs.declared.facts.DiskFacts.{Ghosts}
 use Rattle.op_ids.specs.Id.{is_below, is_same}
 use Rattle.op_ids.specs.Clock.{count_of}
 use Rattle.op_model.specs.declared.op.Op.{Op}
-use Rattle.op_model.specs.declared.edit.Edit.{Edit}
+use Rattle.op_model.specs.Actions.{made_by_action, Asked}
+use Rattle.model_laws.proofs.InTurn.{in_turn_above}
 use Rattle.op_model.specs.Causality.{clock_of, made_by, HasOp}
 use Rattle.op_model.specs.Held.{ReplicaHeld}
 use Rattle.op_model.specs.Machine.{State, Event, edit, merge, begin, device_step, settle, ack, tell, have, Answer, Step}
 use Rattle.op_model.specs.Machine.{ticket, applied, known, early, begun, nothing_new, idle, goes_on, goes_through, settled_to}
 use Rattle.op_model.specs.Machine.{acknowledged, operations, clock, refused}
-use Rattle.op_model.specs.Made.{greatest_counter, bodies_of, made}
 use Rattle.model_laws.proofs.Above.{numbered_above}
 use Rattle.model_laws.proofs.Ids.{below_differs, equal_same}
 use Rattle.model_laws.proofs.Ready.{count_made}
@@ -83,9 +83,8 @@ promised_by s event answer next list rest step is enough = absurd step
 -- an edit's ids are above all in the list
 makes_new : (h : ReplicaHeld) → MakesNewIds h
 makes_new h e op there made_now held same =
-    let greater = numbered_above h.list h.replica e.doc e.token (greatest_counter h.list + 1) (clock_of h.list)
-    (bodies_of h.list h.replica e.doc e.change) (omega arith) in
-    let above = all_at (λ o. list_all (λ earlier. is_below earlier.id o.id) h.list) (made h.list h.replica e) op greater made_now in
+    let greater = in_turn_above h.list h.replica e.doc e.token e.changes in
+    let above = all_at (λ o. list_all (λ earlier. is_below earlier.id o.id) h.list) (made_by_action h.list h.replica e) op greater made_now in
     let below = all_at (λ earlier. is_below earlier.id op.id) h.list there above held in
     both_ways (is_same there.id op.id) (below_differs there.id op.id below) (equal_same there.id op.id (sym same))
 

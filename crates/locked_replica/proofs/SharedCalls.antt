@@ -5,7 +5,7 @@ use Rattle.std.proofs.lemmas.Bool.{cases_Bool}
 use Rattle.disk_trait.specs.Calls.{IsLawful}
 use Rattle.disk_trait.specs.declared.facts.DiskFacts.{Ghosts}
 use Rattle.op_model.specs.declared.op.Op.{Op}
-use Rattle.op_model.specs.declared.edit.Edit.{Edit}
+use Rattle.op_model.specs.Actions.{Asked}
 use Rattle.op_model.specs.Machine.{Commit, State, edit, merge, ack, tell, have, Ticket, ticket, applied, known, early, acknowledged, operations, clock}
 use Rattle.op_model.specs.Telling.{reach}
 use Rattle.op_model.specs.Machine.{refused, has_record_room, edit_length, with_room, edit_answer, new_edit_alone, known_ticket, unless_known, after_edit}
@@ -43,7 +43,7 @@ same_room : (h : ReplicaHeld) (told f f' : Bool) (v v' : ℕ) (c c' : Option Com
 same_room h told f f' v v' c c' bytes same = ap (λ n. nat_le (waiting_length n h.steps h.list + bytes) 1048576) same
 
 -- and so do the answers to an edit and to a merge
-same_edit : (h : ReplicaHeld) (told f f' : Bool) (v v' : ℕ) (c c' : Option Commit) (e : Edit) → taken_in c h.settled ≡ taken_in c' h.settled
+same_edit : (h : ReplicaHeld) (told f f' : Bool) (v v' : ℕ) (c c' : Option Commit) (e : Asked) → taken_in c h.settled ≡ taken_in c' h.settled
     → edit_answer (at h told f v c) e ≡ edit_answer (at h told f' v' c') e
 same_edit h told f f' v v' c c' e same =
     ap (λ room. unless_known (known_ticket h e) (if told then refused 9 else with_room room (new_edit_alone h e)))
@@ -61,7 +61,7 @@ module _ {D : Type 0} (facts : Ghosts D) (l : LockedHeld) (f : FlusherHeld D) (l
   taken = taken_begun facts l f locked flusher meet ∙ sym (locked_taken l locked)
 
   -- so the answers to an edit and to a merge are the locked part's
-  edit_due : (e : Edit) → edit_answer (state_of (hub_of l f)) e ≡ edit_answer (locked_state l) e
+  edit_due : (e : Asked) → edit_answer (state_of (hub_of l f)) e ≡ edit_answer (locked_state l) e
   edit_due e =
       same_edit l.replica l.failure_told f.store.failed false (version_of f.store.current.body) 0 (commit_of l.replica f.store) (locked_commit l) e taken
 
@@ -70,7 +70,7 @@ module _ {D : Type 0} (facts : Ghosts D) (l : LockedHeld) (f : FlusherHeld D) (l
       same_merge l.replica l.failure_told f.store.failed false (version_of f.store.current.body) 0 (commit_of l.replica f.store) (locked_commit l) op taken
 
   -- an edit that is answered with a ticket
-  pub call_edit : (session : ℕ) (e : Edit) (t : Ticket) (next : LockedHeld) → IsLocked next → FitTogether next (side_of f)
+  pub call_edit : (session : ℕ) (e : Asked) (t : Ticket) (next : LockedHeld) → IsLocked next → FitTogether next (side_of f)
       → EditStep (locked_state l) session e (ticket t) (locked_state next)
       → next ≡ record l { replica = after_edit t l.replica session e } → IsCall facts (edit session e) (ticket t) (hub_of l f) (hub_of next f)
   call_edit session e t next locked' meet' (answer, left) is =
@@ -89,7 +89,7 @@ module _ {D : Type 0} (facts : Ghosts D) (l : LockedHeld) (f : FlusherHeld D) (l
       ]
 
   -- an edit that is refused
-  pub call_edit_refused : (session : ℕ) (e : Edit) (n : ℕ) (next : LockedHeld) → EditStep (locked_state l) session e (refused n) (locked_state next)
+  pub call_edit_refused : (session : ℕ) (e : Asked) (n : ℕ) (next : LockedHeld) → EditStep (locked_state l) session e (refused n) (locked_state next)
       → next ≡ l → IsCall facts (edit session e) (refused n) (hub_of l f) (hub_of next f)
   call_edit_refused session e n next (answer, left) is =
       let due : IsRefusal n (edit_answer (state_of (hub_of l f)) e) = rw (edit_due e) answer in

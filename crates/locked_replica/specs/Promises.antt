@@ -3,11 +3,10 @@ use Rattle.std.specs.Prelude.{◌≡◌, ◌≢◌, ℕ, ◌+◌, ◌≤◌, tru
 use Rattle.disk_trait.specs.declared.facts.DiskFacts.{Ghosts}
 use Rattle.op_ids.specs.Clock.{count_of}
 use Rattle.op_model.specs.declared.op.Op.{Op}
-use Rattle.op_model.specs.declared.edit.Edit.{Edit}
+use Rattle.op_model.specs.Actions.{made_by_action, Asked}
 use Rattle.op_model.specs.Causality.{clock_of, HasOp, IsCausallyClosed}
 use Rattle.op_model.specs.Held.{ReplicaHeld}
 use Rattle.op_model.specs.Machine.{Event, ack, Answer, acknowledged, operations, clock}
-use Rattle.op_model.specs.Made.{made}
 use Rattle.op_model.specs.Replay.{reached}
 use Rattle.locked_replica.specs.Hub.{Parts}
 use Rattle.locked_replica.specs.Run.{Ran, calls_made}
@@ -39,7 +38,7 @@ HasAllPromised list (e ∷ es) = HasPromised list e.0 e.1 × HasAllPromised list
 
 -- no edit makes an id anew that is in its replica's list
 abbrev pub MakesNewIds : ReplicaHeld → Type 0
-MakesNewIds h = (edit : Edit) (op there : Op) → HasOp (made h.list h.replica edit) op → HasOp h.list there → op.id ≢ there.id
+MakesNewIds h = (edit : Asked) (op there : Op) → HasOp (made_by_action h.list h.replica edit) op → HasOp h.list there → op.id ≢ there.id
 
 -- What a replica is that was opened after a crash, and held `last` at the end: it has what was settled and promised until the crash.
 pub record IsRecovered (least : ℕ) (before : List (Event × Answer)) (last opened : ReplicaHeld) : Type 0 where

@@ -11,7 +11,7 @@ ghost use Rattle.replica_core.specs.Places.{anchors_of, are_within, places_of};
 use crate::hub::Hub;
 use disk_trait::Disk;
 use op_ids::{Clock, ReplicaId};
-use op_model::{ChangeStep, Edit, Lasting, Neighbour, Span, Text};
+use op_model::{Action, ChangeStep, Lasting, Neighbour, Span, Text};
 use replica_core::Ticket;
 use run_list::RunSlice;
 use std::alloc::AllocError;
@@ -70,7 +70,7 @@ impl<D: Disk> Hub<D> {
 
     /// The ticket that an edit had when it was made, if it has a token under which one was made.
     /// Takes no memory. Costs what `Replica::known` does.
-    pub fn known(&self, edit: &Edit) -> Option<Ticket>
+    pub fn known(&self, edit: &Action) -> Option<Ticket>
         ensures { result ≡ known_ticket self.now.replica edit.now }
     {
         self.locked.known(edit)

@@ -10,7 +10,7 @@ use crate::hub::Hub;
 use crate::refusal::HubRefusal;
 use disk_trait::Disk;
 use op_ids::Clock;
-use op_model::{Edit, Op};
+use op_model::{Action, Op};
 use replica_core::{Merged, Ticket};
 
 impl<D: Disk> Hub<D> {
@@ -20,7 +20,7 @@ impl<D: Disk> Hub<D> {
     /// `settle` has told that the device failed, as `Replica::edit` does (6, 5, 7, 10), with 8
     /// where the records have no room behind those that wait for a commit (1,048,576 bytes), and
     /// with 1 when out of memory. A refused edit changes nothing. Costs what `Replica::edit` does.
-    pub fn edit(&mut self, session: u64, edit: &Edit) -> Result<Ticket, HubRefusal>
+    pub fn edit(&mut self, session: u64, edit: &Action) -> Result<Ticket, HubRefusal>
         ensures call { IsCall D.DiskFacts (edit_event session edit.now) (edited result)
             self.old self.new }
         ensures kind { IfErr result IsNotOfStore }

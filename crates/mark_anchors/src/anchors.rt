@@ -75,6 +75,19 @@ impl Anchors {
         })
     }
 
+    /// The same mark operations again, and where they end. An error is out of memory (1). A step
+    /// for each mark operation; their edges are copied as memory.
+    pub fn copy(&self) -> Result<Anchors, AllocError>
+        ensures { IfOk result (λ copied. copied ≡ self.now) }
+    {
+        let alloc = *self.markings.allocator();
+        Ok(Anchors {
+            markings: copied(alloc, &self.markings)?,
+            edges: self.edges.copy()?,
+            ended: Vec::from_slice(alloc, &self.ended)?,
+        })
+    }
+
     /// Takes an operation of the document, whose characters are given: a mark operation is kept,
     /// another one adds nothing. `UnknownId` (60) exactly where a mark operation names a character
     /// that isn't there, `Memory` (1) where a growth for a mark operation was refused; both leave
@@ -199,4 +212,15 @@ fn add(
         Ok(()) => Ok(()),
         Err(_) => unreachable!(),
     }
+}
+
+/// The same mark operations again. An error is out of memory (1).
+fn copied(alloc: Global, markings: &[Marking]) -> Result<Vec<Marking>, AllocError>
+    ensures { IfOk result (λ copied. copied.items ≡ markings.now) }
+{
+    let mut copied = Vec::with_capacity(alloc, markings.len())?;
+    for marking in markings {
+        copied.push(marking.copy()?)?;
+    }
+    Ok(copied)
 }

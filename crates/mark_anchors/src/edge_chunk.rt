@@ -37,6 +37,13 @@ impl EdgeChunk {
         })
     }
 
+    /// The same chunk again. An error is out of memory (1). Its edges are copied as memory.
+    pub(crate) fn copy(&self) -> Result<EdgeChunk, AllocError>
+        ensures { IfOk result (λ copied. copied ≡ self.now) }
+    {
+        EdgeChunk::of(*self.edges.allocator(), &self.edges)
+    }
+
     /// All its edges. Constant.
     pub(crate) fn edges(&self) -> &[Edge]
         ensures { result.now ≡ self.now }

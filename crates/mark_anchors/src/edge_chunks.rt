@@ -56,6 +56,16 @@ impl EdgeChunks {
         })
     }
 
+    /// The same edges again. An error is out of memory (1). A step for each chunk, whose edges are
+    /// copied as memory.
+    pub(crate) fn copy(&self) -> Result<EdgeChunks, AllocError>
+        ensures { IfOk result (λ copied. copied ≡ self.now) }
+    {
+        Ok(EdgeChunks {
+            chunks: copied(*self.chunks.allocator(), &self.chunks)?,
+        })
+    }
+
     /// Those of a character. A search by halves among the chunks, and two in one of them.
     pub(crate) fn at(&self, id: OpId) -> &[Edge]
         ensures { result.now ≡ filter (λ e. is_same e.id id) self.now }
@@ -123,4 +133,15 @@ impl EdgeChunks {
     {
         take_last(&mut self.chunks, id);
     }
+}
+
+/// The same chunks again. An error is out of memory (1).
+fn copied(alloc: Global, chunks: &[EdgeChunk]) -> Result<Vec<EdgeChunk>, AllocError>
+    ensures { IfOk result (λ copied. copied.items ≡ chunks.now) }
+{
+    let mut copied = Vec::with_capacity(alloc, chunks.len())?;
+    for chunk in chunks {
+        copied.push(chunk.copy()?)?;
+    }
+    Ok(copied)
 }

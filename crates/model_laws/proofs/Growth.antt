@@ -24,7 +24,7 @@ follow_rest : (before ops more : List Op) → FollowInTurn before (ops ++ more) 
 follow_rest before [] more h = rw append-nil h
 follow_rest before (op ∷ ops) more h = rw append_assoc at (follow_rest (before ++ op ∷ []) ops more h.1)
 
-follow_both : (before ops more : List Op) → FollowInTurn before ops → FollowInTurn (before ++ ops) more
+pub follow_both : (before ops more : List Op) → FollowInTurn before ops → FollowInTurn (before ++ ops) more
     → FollowInTurn before (ops ++ more)
 follow_both before [] more h k = rw append-nil at k
 follow_both before (op ∷ ops) more h k = (h.0, follow_both (before ++ op ∷ []) ops more h.1 (rw append_assoc k))

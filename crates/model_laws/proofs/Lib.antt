@@ -53,3 +53,11 @@ pub mod Again
 pub mod LastingPlaces
 pub mod LastingOrder
 pub mod TypedPlaces
+pub mod LimitsMade
+pub mod OneChange
+pub mod ChangeBytes
+pub mod RoomInTurn
+pub mod InTurn
+pub mod InTurnText
+pub mod TurnFolds
+pub mod WaitsInTurn

@@ -5,6 +5,7 @@
 //! proves code.
 #![tactic(auto)]
 
+mod actions;
 mod changes;
 mod edits;
 mod lasting;
@@ -16,6 +17,10 @@ mod same_operations;
 mod shape;
 mod span_shape;
 
+pub use actions::{
+    actions_add_their_size, actions_change_the_text, actions_keep_lists_closed,
+    actions_remove_nothing_again, an_action_is_its_edits_in_turn, made_by_actions_fit,
+};
 pub use changes::{
     changes_are_joined, changes_go_by_the_number_of_operations, changes_go_over_the_text,
     changes_show_what_is_there, changes_since_the_beginning_are_the_spans,

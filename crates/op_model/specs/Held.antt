@@ -1,8 +1,7 @@
 -- What a replica holds, and what its calls make of it.
 use Rattle.std.specs.Prelude.{ℕ, List, [], ◌∷◌, ◌++◌, length, take, max}
 use Rattle.op_model.specs.declared.op.Op.{Op}
-use Rattle.op_model.specs.declared.edit.Edit.{Edit}
-use Rattle.op_model.specs.Made.{made}
+use Rattle.op_model.specs.Actions.{Asked, made_by_action}
 use Rattle.op_model.specs.Replay.{Kept, edited, merged, settlement}
 
 -- its name, its list, how long that was at opening, its three numbers, and the steps since then, newest first
@@ -31,11 +30,11 @@ opened_with replica list = record {
 abbrev pub settled_list : ReplicaHeld → List Op
 settled_list h = take h.settled h.list
 
--- with all operations of a session's edit
-abbrev pub with_edit : ReplicaHeld → ℕ → Edit → ReplicaHeld
+-- with all operations of a session's action
+abbrev pub with_edit : ReplicaHeld → ℕ → Asked → ReplicaHeld
 with_edit h session e = record h {
-  list = h.list ++ made h.list h.replica e;
-  steps = edited session e (length h.list) (length (made h.list h.replica e)) ∷ h.steps;
+  list = h.list ++ made_by_action h.list h.replica e;
+  steps = edited session e (length h.list) (length (made_by_action h.list h.replica e)) ∷ h.steps;
 }
 
 -- with one operation of a peer

@@ -9,6 +9,7 @@ pub mod Rising
 pub mod Records
 pub mod Causality
 pub mod Made
+pub mod Actions
 pub mod Placing
 pub mod Lasting
 pub mod Replay

@@ -7,15 +7,14 @@ use Rattle.fixed_numbers.specs.declared.limits.TheConstants.{MAX_PENDING, MAX_ST
 use Rattle.fixed_numbers.specs.declared.refusals.TheConstants.{BUSY, FAILED, LIMIT, MEMORY, OWN_UNKNOWN, STEPS, STORE_FAILED}
 use Rattle.fixed_numbers.specs.declared.refusals.TheConstants.{SYNC_FAILED, WRITE_FAILED}
 use Rattle.op_model.specs.declared.op.Op.{Op}
-use Rattle.op_model.specs.declared.edit.Edit.{Edit}
 use Rattle.op_ids.specs.Clock.{is_ready}
 use Rattle.op_model.specs.Causality.{clock_of, is_known, first_failed}
-use Rattle.op_model.specs.Made.{made, edit_refusal}
+use Rattle.op_model.specs.Actions.{made_by_action, refusal_of, Asked}
 use Rattle.op_model.specs.Records.{record_length}
 use Rattle.op_model.specs.Held.{ReplicaHeld, opened_with, settled_list, with_edit, with_merge, with_settled, with_acked, with_told}
 use Rattle.op_model.specs.Telling.{untold, reach}
 use Rattle.op_model.specs.Tokens.{carries, last_of}
-use Rattle.op_model.specs.Waiting.{change_length, waiting_length}
+use Rattle.op_model.specs.Waiting.{action_length, waiting_length}
 pub use Rattle.op_model.specs.Tickets.{Ticket, ticket_of, ticket_behind}
 
 -- a commit: of the first count operations of the list, and whether it is through
@@ -33,7 +32,7 @@ pub record State : Type 0 where
   pub commit : Option Commit
 
 pub data Event : Type 0 where
-  edit : ℕ → Edit → Event
+  edit : ℕ → Asked → Event
   merge : ℕ → Op → Event
   begin : Event
   device_step : Event
@@ -87,9 +86,9 @@ pending s = waiting_length (taken_in s.commit s.held.settled) s.held.steps s.hel
 abbrev pub has_record_room : State → ℕ → Bool
 has_record_room s more = nat_le (pending s + more) MAX_PENDING
 
--- the bytes that an edit adds to what waits
-abbrev pub edit_length : ReplicaHeld → Edit → ℕ
-edit_length h e = change_length e.change (made h.list h.replica e)
+-- the bytes for which there has to be room where an edit is made
+abbrev pub edit_length : ReplicaHeld → Asked → ℕ
+edit_length h e = action_length h.list h.replica e
 
 -- what would be appended is refused with 8 where its records have no room
 abbrev pub with_room : Bool → Answer → Answer
@@ -99,17 +98,17 @@ with_room false applied = refused BUSY
 with_room false a = a
 
 -- the answer to an edit that nothing but the kept steps may refuse: steps 10
-abbrev pub edit_answer_unless : ReplicaHeld → Edit → Option ℕ → Answer
+abbrev pub edit_answer_unless : ReplicaHeld → Asked → Option ℕ → Answer
 edit_answer_unless h e (Some n) = refused n
 edit_answer_unless h e None =
-    if has_places h then ticket (ticket_of (h.list ++ made h.list h.replica e) e.doc) else refused STEPS
+    if has_places h then ticket (ticket_of (h.list ++ made_by_action h.list h.replica e) e.doc) else refused STEPS
 
 -- the ticket of the edit that was made with this token, if one was
 abbrev pub token_ticket : ReplicaHeld → ℕ → Option Ticket
 token_ticket h token = option_map ticket_behind (last_of (carries h.replica token) h.list)
 
 -- the ticket that an edit had when it was made, if it has a token and was made
-abbrev pub known_ticket : ReplicaHeld → Edit → Option Ticket
+abbrev pub known_ticket : ReplicaHeld → Asked → Option Ticket
 known_ticket h e = option_and_then (token_ticket h) e.token
 
 -- an edit that was made is answered as it was
@@ -118,21 +117,21 @@ unless_known None a = a
 unless_known (Some t) a = ticket t
 
 -- the answer to a new edit of a replica without a store: its own refusals, steps 10
-abbrev pub new_edit_alone : ReplicaHeld → Edit → Answer
-new_edit_alone h e = edit_answer_unless h e (edit_refusal h.list h.replica e)
+abbrev pub new_edit_alone : ReplicaHeld → Asked → Answer
+new_edit_alone h e = edit_answer_unless h e (refusal_of h.list h.replica e)
 
 -- the answer to an edit of a replica without a store
-abbrev pub edit_alone : ReplicaHeld → Edit → Answer
+abbrev pub edit_alone : ReplicaHeld → Asked → Answer
 edit_alone h e = unless_known (known_ticket h e) (new_edit_alone h e)
 
 -- the answers to a new edit, in the order of test: a failure that is told 9, those of the replica alone, no room for the records 8
-abbrev pub new_edit_answer : State → Edit → Answer
+abbrev pub new_edit_answer : State → Asked → Answer
 new_edit_answer s e =
     if s.failure_told then refused FAILED
     else with_room (has_record_room s (edit_length s.held e)) (new_edit_alone s.held e)
 
 -- the answers to an edit: where it was made before, its ticket, even behind a failure
-abbrev pub edit_answer : State → Edit → Answer
+abbrev pub edit_answer : State → Asked → Answer
 edit_answer s e = unless_known (known_ticket s.held e) (new_edit_answer s e)
 
 -- the answer to a merge that a check may refuse: steps 10
@@ -194,10 +193,10 @@ abbrev pub holding : State → ReplicaHeld → State
 holding s h = record s { held = h }
 
 -- what the replica holds behind an edit with this ticket: one that was made before adds nothing
-abbrev pub after_edit : Ticket → ReplicaHeld → ℕ → Edit → ReplicaHeld
+abbrev pub after_edit : Ticket → ReplicaHeld → ℕ → Asked → ReplicaHeld
 after_edit t h session e = if t.known then h else with_edit h session e
 
-abbrev pub EditStep : State → ℕ → Edit → Answer → State → Type 0
+abbrev pub EditStep : State → ℕ → Asked → Answer → State → Type 0
 EditStep s session e (ticket t) next = (edit_answer s e ≡ ticket t) × (next ≡ holding s (after_edit t s.held session e))
 EditStep s session e (refused n) next = IsRefusal n (edit_answer s e) × (next ≡ s)
 EditStep s session e _ next = ⊥

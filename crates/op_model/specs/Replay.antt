@@ -1,14 +1,13 @@
 -- What the steps that a replica kept since it was opened say of its list. Steps are listed newest first.
 use Rattle.std.specs.Prelude.{◌≡◌, ◌≢◌, ℕ, ◌+◌, ◌≤◌, List, [], ◌∷◌, ◌++◌, length, take, Contains}
 use Rattle.op_model.specs.declared.op.Op.{Op}
-use Rattle.op_model.specs.declared.edit.Edit.{Edit}
 use Rattle.op_model.specs.Causality.{MayFollow}
-use Rattle.op_model.specs.Made.{made}
+use Rattle.op_model.specs.Actions.{Asked, made_by_action}
 
--- an edit of a session, with the index of its first operation and how many it made; a peer's operation at an index; a
+-- an action of a session, with the index of its first operation and how many it made; a peer's operation at an index; a
 -- settlement of a given number of operations
 pub data Kept : Type 0 where
-  edited : ℕ → Edit → ℕ → ℕ → Kept
+  edited : ℕ → Asked → ℕ → ℕ → Kept
   merged : ℕ → ℕ → Kept
   settlement : ℕ → Kept
 
@@ -34,9 +33,9 @@ pub record Joins (replica : ℕ) (list : List Op) (op : Op) : Type 0 where
 -- replaying the steps from the opened list gives this list
 abbrev pub Replays : ℕ → List Op → List Kept → List Op → Type 0
 Replays replica opened [] list = list ≡ opened
--- an edit's operations are those that it makes after all before it
+-- an action's operations are those that it makes after all before it
 Replays replica opened (edited session edit first count ∷ steps) list =
-    (list ≡ take first list ++ made (take first list) replica edit) × (length list ≡ first + count)
+    (list ≡ take first list ++ made_by_action (take first list) replica edit) × (length list ≡ first + count)
     × Replays replica opened steps (take first list)
 -- a merged operation may follow all before it
 Replays replica opened (merged peer index ∷ steps) list =

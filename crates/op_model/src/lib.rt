@@ -4,9 +4,11 @@
 //! It is the one place that says what a document shows; code above is proved to show just that.
 #![tactic(auto)]
 
+mod action;
 mod anchor;
 mod asking;
 mod author;
+mod bounds;
 mod change_step;
 mod character;
 mod comment_id;
@@ -24,6 +26,7 @@ mod text;
 mod ticks;
 mod url;
 
+pub use action::Action;
 pub use anchor::{Anchor, End, Start};
 pub use author::Author;
 pub use change_step::ChangeStep;

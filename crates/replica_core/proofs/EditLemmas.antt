@@ -57,29 +57,33 @@ never_uncounted ops replica e due full =
 all_four : (a b c d : Bool) → a ≡ true → b ≡ true → c ≡ true → d ≡ true → (a && b && c && d) ≡ true
 all_four a b c d one two three four = rw (one, two, three, four) refl
 
--- so they keep the limits
-pub keeps : (ops : List Op) (author : Author) (e : Edit) → IsCausallyClosed ops → edit_refusal ops author.replica e ≡ None
-    → author.counter ≡ greatest_counter ops + 1 → author.clock.now ≡ clock_of ops → is_clock author.clock.now ≡ true → 0 < author.replica
-    → keep_limits author (size_of e.change) ≡ true
-keeps ops author e closed due is_counter same valid positive =
-    let replica = author.replica in
-    let counter = author.counter in
-    let clock = author.clock.now in
+-- so the next ones keep the limits, whoever makes them
+pub keeps_all : (ops : List Op) (replica counter : ℕ) (clock : List (ℕ × ℕ)) (e : Edit) → IsCausallyClosed ops → edit_refusal ops replica e ≡ None
+    → counter ≡ greatest_counter ops + 1 → clock ≡ clock_of ops → is_clock clock ≡ true → 0 < replica
+    → (nat_le (size_of e.change) 256 && nat_lt 0 counter && nat_le (counter + size_of e.change) 281474976710656 && is_clock (advanced_by clock replica (size_of e.change))) ≡ true
+keeps_all ops replica counter clock e closed due is_counter same valid positive =
     let right = due_asks_right ops replica e due in
     let n = size_of e.change in
     all_four (nat_le n 256) (nat_lt 0 counter) (nat_le (counter + n) 281474976710656) (is_clock (advanced_by clock replica n))
     (le-leb n 256 (small_size e.change right.small)) (lt-ltb 0 counter (omega arith)) in_range counted
   where
-    in_range : nat_le (author.counter + size_of e.change) 281474976710656 ≡ true
-    in_range = elim (cases_Bool (nat_le (author.counter + size_of e.change) 281474976710656)) [
+    in_range : nat_le (counter + size_of e.change) 281474976710656 ≡ true
+    in_range = elim (cases_Bool (nat_le (counter + size_of e.change) 281474976710656)) [
       | inl few ↦ few
-      | inr many ↦ let over : 281474976710656 < author.counter + size_of e.change = grind (arith, nat_tests) in
-          absurd (never_over ops author.replica e closed due (rw is_counter at over))
+      | inr many ↦ let over : 281474976710656 < counter + size_of e.change = grind (arith, nat_tests) in
+          absurd (never_over ops replica e closed due (rw is_counter at over))
     ]
 
-    counted : is_clock (advanced_by author.clock.now author.replica (size_of e.change)) ≡ true
-    counted = elim (cases_Bool (is_clock (advanced_by author.clock.now author.replica (size_of e.change)))) [
+    counted : is_clock (advanced_by clock replica (size_of e.change)) ≡ true
+    counted = elim (cases_Bool (is_clock (advanced_by clock replica (size_of e.change)))) [
       | inl fits ↦ fits
-      | inr full ↦ absurd (never_uncounted ops author.replica e due
-          (rw same at (overfull_from author.clock.now author.replica (size_of e.change) valid positive full)))
+      | inr full ↦ absurd (never_uncounted ops replica e due
+          (rw same at (overfull_from clock replica (size_of e.change) valid positive full)))
     ]
+
+-- an author's operations
+pub keeps : (ops : List Op) (author : Author) (e : Edit) → IsCausallyClosed ops → edit_refusal ops author.replica e ≡ None
+    → author.counter ≡ greatest_counter ops + 1 → author.clock.now ≡ clock_of ops → is_clock author.clock.now ≡ true → 0 < author.replica
+    → keep_limits author (size_of e.change) ≡ true
+keeps ops author e closed due is_counter same valid positive =
+    keeps_all ops author.replica author.counter author.clock.now e closed due is_counter same valid positive

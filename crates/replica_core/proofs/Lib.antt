@@ -22,6 +22,11 @@ pub mod CountLemmas
 pub mod EditLemmas
 pub mod RevLemmas
 pub mod TokenLemmas
+pub mod ActionLemmas
+pub mod SingleLemmas
+pub mod MakingLemmas
+pub mod SeveralLemmas
+pub mod EditedLemmas
 pub mod WaitingLemmas
 pub mod RepeatLemmas
 pub mod CameLemmas

@@ -95,7 +95,8 @@ number_twice : (n : ℕ) (ns : List ℕ) → with_number n (with_number n ns) �
 number_twice n [] = grind (arith, nat_tests)
 number_twice n (x ∷ ns) = let rest = number_twice n ns in grind (arith, nat_tests)
 
-documents-numbered : (ops : List Op) (replica doc : ℕ) (token : Option ℕ) (counter : ℕ) (clock : List (ℕ × ℕ)) (bs : List Body) → 0 < length bs
+-- the documents with that of operations that are numbered
+pub documents-numbered : (ops : List Op) (replica doc : ℕ) (token : Option ℕ) (counter : ℕ) (clock : List (ℕ × ℕ)) (bs : List Body) → 0 < length bs
     → documents (ops ++ numbered replica doc token counter clock bs) ≡ with_number doc (documents ops)
 documents-numbered ops replica doc token counter clock [] some = absurd (omega arith)
 documents-numbered ops replica doc token counter clock (b ∷ []) some = documents-push ops _

@@ -1,16 +1,15 @@
 -- What every replica keeps, and when nothing refuses an edit.
 use Rattle.std.specs.Prelude.{◌≡◌, ◌+◌, ◌≤◌, length, take, None}
 use Rattle.fixed_numbers.specs.declared.limits.TheConstants.{MAX_STEPS}
-use Rattle.op_model.specs.declared.edit.Edit.{Edit}
+use Rattle.op_model.specs.Actions.{refusal_of, Asked}
 use Rattle.op_model.specs.Causality.{IsCausallyClosed}
 use Rattle.op_model.specs.Held.{ReplicaHeld}
-use Rattle.op_model.specs.Made.{edit_refusal}
 use Rattle.op_model.specs.Replay.{Replays, settled_number}
 use Rattle.replica_core.specs.Steps.{places_left}
 
 -- nothing refuses an edit: its own causes don't, and there are places for its step and for two settlements
-pub record CanEdit (h : ReplicaHeld) (e : Edit) : Type 0 where
-  pub due : edit_refusal h.list h.replica e ≡ None
+pub record CanEdit (h : ReplicaHeld) (e : Asked) : Type 0 where
+  pub due : refusal_of h.list h.replica e ≡ None
   pub places : length h.steps + 3 ≤ MAX_STEPS
 
 -- what every replica keeps

@@ -2,6 +2,8 @@ pub mod Merging
 pub mod Decided
 pub mod Deciding
 pub mod Log
+pub mod Edited
+pub mod Turns
 pub mod Held
 pub mod Steps
 pub mod Refusal

@@ -4,7 +4,8 @@
 /// `Replica::put_edit` takes it.
 #[derive(Clone, Copy, Debug)]
 pub struct Decided {
-    /// How many bytes its operations add to what waits for a commit.
+    /// For how many bytes there has to be room among those that wait for a commit: those that the
+    /// operations of one change add, and of several the most that they may add.
     pub bytes: u64,
     /// The place of its document among those that have operations: its index, or where it goes.
     pub(crate) place: Result<usize, usize>,

@@ -1,4 +1,4 @@
-//! Whether an edit keeps the limits of a store.
+//! Whether an action keeps the limits of a store.
 ghost use Rattle.std.specs.Prelude.{◌≡◌, ◌+◌, ◌++◌, ◌&&◌, nat_le, length, IfOk, IfErr, Some, None};
 ghost use Rattle.fixed_numbers.specs.declared.limits.TheConstants.{MAX_COUNTER, MAX_DOCUMENTS};
 ghost use Rattle.doc_core.specs.Standing.{StandsFor};
@@ -7,7 +7,8 @@ ghost use Rattle.op_model.specs.Causality.{documents, is_within_limits as is_wit
 ghost use Rattle.op_model.specs.Made.{edit_refusal as edit_refusal_of, made as made_of};
 ghost use Rattle.op_model.specs.Records.{stream_length};
 ghost use Rattle.op_model.specs.Spans.{with_number};
-ghost use Rattle.op_model.specs.Waiting.{change_length};
+ghost use Rattle.op_model.specs.Actions.{refusal_of};
+ghost use Rattle.op_model.specs.Waiting.{action_length as action_length_of, change_length};
 ghost use Rattle.replica_core.specs.Deciding.{AreCounted};
 ghost use Rattle.replica_core.specs.Refusal.{number_of};
 ghost use Rattle.model_laws.specs.Asking.{IsAskedRight};
@@ -16,16 +17,44 @@ use crate::docs::count;
 use crate::knowledge::Knowledge;
 use crate::lengths::{made_length, waiting_length};
 use crate::refusal::Refusal;
+use crate::several::several_length;
 use doc_core::Doc;
 use fixed_numbers::limits::{MAX_COUNTER, MAX_OPERATIONS, MAX_STREAM_LENGTH};
-use op_model::Edit;
+use op_model::{Action, Edit};
 use run_list::RunSlice;
 
-/// How many bytes the operations that an edit of a document makes add to what waits for a commit,
-/// or why it is refused, by the first cause: `Stale` (6), `Range` (5), `Limit` (7). There is room
-/// for its document or not. Takes no memory. Constant, but for an insert at the beginning, which
-/// costs what `Doc::origin` does.
-pub(crate) fn edit_length(
+/// For how many bytes there has to be room among those that wait for a commit where an action of a
+/// document is made, or why it is refused, by the first cause: `Stale` (6), then `Range` (5) and
+/// `Limit` (7) in turn. There is room for its document or not. Takes no memory. A few steps for
+/// each change, and what `Doc::origin` costs for one insert alone at the beginning.
+pub(crate) fn action_length(
+    ops: &RunSlice<'_>,
+    known: &Knowledge<'_>,
+    doc: &Doc,
+    has_place: bool,
+    action: &Action,
+) -> Result<u64, Refusal>
+    requires counted { AreCounted ops.now known.now.clock.now known.now.index.now }
+    requires stands { StandsFor doc.now ops.now }
+    requires number { doc_number doc.now ≡ action.now.doc }
+    requires place { has_place
+        ≡ nat_le (length (with_number action.now.doc (documents ops.now))) MAX_DOCUMENTS }
+    ensures due { IfOk result (λ bytes.
+        refusal_of ops.now known.now.replica action.now ≡ None) }
+    ensures length { IfOk result (λ bytes. bytes
+        ≡ action_length_of ops.now known.now.replica action.now) }
+    ensures refused { IfErr result (λ e.
+        refusal_of ops.now known.now.replica action.now ≡ Some (number_of e)) }
+{
+    if action.others().is_empty() {
+        return edit_length(ops, known, doc, has_place, action.first());
+    }
+    several_length(ops, known, doc, has_place, action)
+}
+
+/// The same for one change. Constant, but for an insert at the beginning, which costs what
+/// `Doc::origin` does.
+fn edit_length(
     ops: &RunSlice<'_>,
     known: &Knowledge<'_>,
     doc: &Doc,

@@ -14,7 +14,7 @@ ghost use Rattle.replica_core.specs.Docs.{numbers, AllStand, AreDocs};
 use doc_core::{Doc, Made, SequenceError};
 use fixed_numbers::limits::MAX_DOCUMENTS;
 use run_list::RunSlice;
-use std::alloc::Global;
+use std::alloc::{AllocError, Global};
 
 /// Of the documents of a list the one with the number of this empty document, or else the empty
 /// one. Takes no memory. A search by halves.
@@ -102,6 +102,40 @@ pub(crate) fn apply(
                 Ok(()) => {}
                 Err(e) => return Err(e),
             }
+            match docs.insert(at, it) {
+                Ok(()) => {}
+                Err(_) => unreachable!(),
+            }
+            Ok(())
+        }
+    }
+}
+
+/// Puts a document that stands for a list and what was made after it in the place of the one with
+/// its number, or among the others, where it is new. An error is out of memory (1), and
+/// changes nothing. A step for each greater document where it is new.
+pub(crate) fn put(
+    docs: &mut Vec<Doc>,
+    doc: u32,
+    place: Result<usize, usize>,
+    it: Doc,
+) -> Result<(), AllocError>
+    requires place { IsPlace (numbers docs.old.items) doc place }
+    requires number { doc_number it ≡ doc }
+    ensures numbers { OnOk result
+        (numbers docs.new.items ≡ with_number doc (numbers docs.old.items)) }
+    ensures stand { OnOk result ((list made : List Op) → AreDocs docs.old.items list
+        → FitAfter list doc made → StandsFor it (list ++ made)
+        → AllStand docs.new.items (list ++ made)) }
+    ensures err { OnErr result (docs.new.items ≡ docs.old.items) }
+{
+    match place {
+        Ok(at) => {
+            docs[at] = it;
+            Ok(())
+        }
+        Err(at) => {
+            docs.reserve(1)?;
             match docs.insert(at, it) {
                 Ok(()) => {}
                 Err(_) => unreachable!(),

@@ -6,7 +6,7 @@ ghost use Rattle.replica_core.specs.Decided.{IsDecided, IsPrepared};
 ghost use Rattle.replica_core.specs.Refusal.{number_of};
 
 use crate::decided::Decided;
-use crate::deciding::edit_length;
+use crate::deciding::action_length;
 use crate::docs;
 use crate::knowledge::Knowledge;
 use crate::prepared::Prepared;
@@ -17,7 +17,7 @@ use crate::step::Step;
 use crate::ticket::Ticket;
 use doc_core::{Doc, SequenceError};
 use ghost_lists::Seen;
-use op_model::Edit;
+use op_model::{Action, Edit};
 
 impl Replica {
     /// Makes the operations of a session's edit and puts them behind the list. An edit that was
@@ -25,7 +25,7 @@ impl Replica {
     /// one is refused by the first cause, in this order: `Stale` (6), `Range` (5), `Limit` (7),
     /// `Steps` (10); `Memory` (1) stands only in place of success. A refused edit changes nothing.
     /// Costs what `known`, `decide_edit` and `put_edit` do.
-    pub fn edit(&mut self, session: u64, edit: &Edit) -> Result<Ticket, Refusal>
+    pub fn edit(&mut self, session: u64, edit: &Action) -> Result<Ticket, Refusal>
         ensures made { IfOk result (λ t.
             self.new ≡ after_edit t self.old session edit.now) }
         ensures ticket { IfOk result (λ t.
@@ -41,19 +41,20 @@ impl Replica {
         self.put_edit(session, edit, decided)
     }
 
-    /// How many bytes a new edit would add to what waits for a commit, and the place of its
-    /// document, or why it is refused, by the first cause: `Stale` (6), `Range` (5), `Limit` (7),
-    /// `Steps` (10). Takes no memory. A few steps for clocks, a search by halves for the document,
-    /// and for an insert at its beginning what `Doc::origin` costs.
-    pub fn decide_edit(&self, edit: &Edit) -> Result<Decided, Refusal>
+    /// For how many bytes of a new edit there has to be room among those that wait for a commit,
+    /// and the place of its document, or why it is refused, by the first cause: `Stale` (6), then
+    /// `Range` (5) and `Limit` (7) of its changes in turn, `Steps` (10). Takes no memory. A few steps
+    /// for clocks and for each change, a search by halves for the document, and for one insert
+    /// alone at its beginning what `Doc::origin` costs.
+    pub fn decide_edit(&self, edit: &Action) -> Result<Decided, Refusal>
         ensures decided { IfOk result (IsDecided self.now edit.now) }
         ensures refused { IfErr result (λ e.
             new_edit_alone self.now edit.now ≡ refused (number_of e)) }
     {
         let log = &self.log;
         let ops = log.list.as_slice();
-        let empty = Doc::new(log.list.allocator(), edit.doc);
-        let place = docs::place(&log.docs, edit.doc);
+        let empty = Doc::new(log.list.allocator(), edit.first().doc);
+        let place = docs::place(&log.docs, edit.first().doc);
         let doc = docs::at(&log.docs, place, &empty);
         let has_place = docs::has_room(&log.docs, place);
         let known = Knowledge {
@@ -61,7 +62,7 @@ impl Replica {
             clock: &self.clock,
             index: &log.index,
         };
-        let bytes = edit_length(&ops, &known, doc, has_place, edit)?;
+        let bytes = action_length(&ops, &known, doc, has_place, edit)?;
         if !self.steps.has_places() {
             return Err(Refusal::Steps);
         }
@@ -74,7 +75,7 @@ impl Replica {
     pub fn put_edit(
         &mut self,
         session: u64,
-        edit: &Edit,
+        edit: &Action,
         decided: Decided,
     ) -> Result<Ticket, Refusal>
         requires { IsDecided self.old edit.now decided }
@@ -91,8 +92,8 @@ impl Replica {
     /// Makes the operations of a new edit that nothing refuses, as `decide_edit` tells, and what
     /// the clock and the edit's place are with them; the replica stays as it is. An error is out of
     /// memory (1). A few steps for clocks, and what the document takes to make them, which isn't
-    /// searched again.
-    pub fn prepare(&self, edit: &Edit, decided: Decided) -> Result<Prepared, Refusal>
+    /// searched again; several changes are made on a copy of it, which is linear in the document.
+    pub fn prepare(&self, edit: &Action, decided: Decided) -> Result<Prepared, Refusal>
         requires { IsDecided self.now edit.now decided }
         ensures prepared { IfOk result (IsPrepared self.now edit.now) }
         ensures memory { IfErr result (λ e. e ≡ Refusal.Memory) }
@@ -100,7 +101,7 @@ impl Replica {
         let log = &self.log;
         let alloc = log.list.allocator();
         let ops = log.list.as_slice();
-        let empty = Doc::new(alloc, edit.doc);
+        let empty = Doc::new(alloc, edit.first().doc);
         let doc = docs::at(&log.docs, decided.place, &empty);
         let known = Knowledge {
             replica: self.id,
@@ -117,7 +118,7 @@ impl Replica {
     pub fn put_prepared(
         &mut self,
         session: u64,
-        edit: &Edit,
+        edit: &Action,
         decided: Decided,
         prepared: Prepared,
     ) -> Result<Ticket, Refusal>
@@ -128,22 +129,25 @@ impl Replica {
         ensures memory { IfErr result (λ e. e ≡ Refusal.Memory) }
         ensures err { OnErr result (self.new ≡ self.old) }
     {
+        let Prepared {
+            edited,
+            clock,
+            place,
+        } = prepared;
+        let Edit { doc, token, .. } = edit.first();
         let first = self.log.list.len();
-        let count = edit.change.size();
-        let before = self.tokens.keep(edit.token, prepared.place)?;
-        match self
-            .log
-            .append(&prepared.made, self.id, edit.doc, decided.place)
-        {
+        let count = edited.as_slice().len();
+        let before = self.tokens.keep(*token, place)?;
+        match self.log.append_edited(edited, self.id, *doc, decided.place) {
             Ok(()) => {}
             Err(SequenceError::Memory) => {
                 // A refused edit may be sent again, and is made then.
-                self.tokens.take_back(edit.token, before);
+                self.tokens.take_back(*token, before);
                 return Err(Refusal::Memory);
             }
             Err(SequenceError::UnknownId) => unreachable!(),
         }
-        self.clock = prepared.clock;
+        self.clock = clock;
         self.steps.push(Step::Edit {
             session,
             edit: Seen::of(edit),
@@ -151,8 +155,8 @@ impl Replica {
             count,
         });
         Ok(Ticket {
-            end: prepared.place.end as usize,
-            rev: prepared.place.rev as usize,
+            end: place.end as usize,
+            rev: place.rev as usize,
             known: false,
         })
     }

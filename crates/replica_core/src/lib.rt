@@ -5,11 +5,13 @@
 #![tactic(auto)]
 
 mod changed;
+mod copying;
 mod counting;
 mod decided;
 mod deciding;
 mod docs;
 mod drafts;
+mod edited;
 mod editing;
 mod following;
 mod index;
@@ -29,10 +31,12 @@ mod preparing;
 mod refusal;
 mod repeats;
 mod replica;
+mod several;
 mod step;
 mod steps;
 mod telling;
 mod ticket;
+mod turn;
 
 pub use decided::Decided;
 pub use merged::Merged;

@@ -1,15 +1,16 @@
 //! A step that a replica made, for contracts alone.
 use ghost_lists::Seen;
-use op_model::Edit;
+use op_model::Action;
 
 /// A step that a replica made since it was opened. It is made for contracts alone, and let go at
-/// once: it takes no memory, and the edit isn't copied.
+/// once: it takes no memory, and the action isn't copied.
 #[derive(Drop)]
 pub enum Step {
-    /// An edit of a session made `count` operations, the first of them with this index in the list.
+    /// An action of a session made `count` operations, the first of them with this index in the
+    /// list.
     Edit {
         session: u64,
-        edit: Seen<Edit>,
+        edit: Seen<Action>,
         first: usize,
         count: usize,
     },

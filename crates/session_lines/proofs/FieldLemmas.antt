@@ -1,9 +1,10 @@
 -- What the tests of fields say of the definitions.
-use Rattle.std.proofs.Common.{◌≡◌, ◌↔◌, ℕ, zero, suc, ◌<◌, List, [], ◌∷◌, map, Bool, true, false}
+use Rattle.std.proofs.Common.{◌≡◌, ◌↔◌, ℕ, zero, suc, ◌<◌, List, [], ◌∷◌, ◌++◌, map, Bool, true, false}
 use Rattle.std.proofs.Common.{true≢false, ◌||◌, ◌==◌, if◌then◌else◌, Option, Some, None, IsNone, IfSome}
 use Rattle.std.proofs.Common.{MatchOption, Err}
 use Rattle.std.proofs.Common.{refl, sym, ap, subst, arith, String, string_bytes, Bor}
 use Rattle.std.proofs.Math.Bridge.{le_prop}
+use Rattle.std.proofs.lemmas.List.Folds.{list_any-append}
 use Rattle.std.proofs.lemmas.Bool.Decides.{nat_tests}
 use Rattle.std.specs.Option.{ok_or}
 use Rattle.std.specs.List.{list_any, list_all}
@@ -69,9 +70,17 @@ among_lent : (name : List ℕ) (names : List (Bor (List ℕ)))
 among_lent name [] = refl
 among_lent name (n ∷ ns) = ap (λ rest. bytes_eq n.now name || rest) (among_lent name ns)
 
+-- a name is among these or those
+among_both : (name : List ℕ) (outer own : List (Bor (List ℕ)))
+    → (list_any (λ other. bytes_eq other.now name) outer || list_any (λ other. bytes_eq other.now name) own)
+    ≡ is_among name (map (λ other. other.now) outer ++ map (λ other. other.now) own)
+among_both name outer own =
+    rw (list_any-append (λ n. bytes_eq n name) (map (λ other. other.now) outer) (map (λ other. other.now) own), among_lent name outer, among_lent name own) refl
+
 -- the keys of a map are the names of its members
-pub among_keys : (members : List (String Global × Value)) (names : List (Bor (List ℕ)))
-    → list_all (λ key. list_any (λ other. bytes_eq other.now (string_bytes key)) names) (keys_of members)
-    ≡ are_among (members_view members) (map (λ other. other.now) names)
-among_keys [] names = refl
-among_keys (m ∷ ms) names = rw (among_lent (string_bytes m.0) names, among_keys ms names) refl
+pub among_keys : (members : List (String Global × Value)) (outer own : List (Bor (List ℕ)))
+    → list_all (λ key. list_any (λ other. bytes_eq other.now (string_bytes key)) outer || list_any (λ other. bytes_eq other.now (string_bytes key)) own)
+    (keys_of members)
+    ≡ are_among (members_view members) (map (λ other. other.now) outer ++ map (λ other. other.now) own)
+among_keys [] outer own = refl
+among_keys (m ∷ ms) outer own = rw (among_both (string_bytes m.0) outer own, among_keys ms outer own) refl

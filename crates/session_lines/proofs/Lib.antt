@@ -1,4 +1,5 @@
 pub mod AnchorLemmas
+pub mod EditLemmas
 pub mod FieldLemmas
 pub mod PutLemmas
 pub mod QuotedLemmas

@@ -41,6 +41,7 @@ verb_named name =
     else if bytes_eq name (codes "delete") then Some verb.Delete
     else if bytes_eq name (codes "mark") then Some verb.Mark
     else if bytes_eq name (codes "unmark") then Some verb.Unmark
+    else if bytes_eq name (codes "edits") then Some verb.Edits
     else if bytes_eq name (codes "text") then Some verb.Text
     else if bytes_eq name (codes "spans") then Some verb.Spans
     else if bytes_eq name (codes "changes") then Some verb.Changes

@@ -3,21 +3,14 @@ use Rattle.std.specs.Prelude.{ℕ, List, [], ◌∷◌, Option, Some, None, opti
 use Rattle.std.specs.Str.{is_utf8, bytes_eq}
 use Rattle.serde_json.specs.Data.{Data}
 use Rattle.serde_json.specs.Read.{read}
-use Rattle.op_model.specs.declared.edit.Change.{Change}
-use Rattle.op_model.specs.declared.edit.Change.TheVariants as change
-use Rattle.op_model.specs.declared.mark.Mark.{Mark}
-use Rattle.op_model.specs.declared.mark.Mark.TheVariants as added
-use Rattle.op_model.specs.declared.mark.MarkKey.{MarkKey}
-use Rattle.op_model.specs.declared.mark.MarkKey.TheVariants as key
 use Rattle.session_lines.specs.declared.command.Command.{Command}
 use Rattle.session_lines.specs.declared.command.Command.TheVariants as command
 use Rattle.session_lines.specs.declared.refusal.Refusal.{Refusal}
 use Rattle.session_lines.specs.declared.refusal.Refusal.TheVariants.{Syntax, Request}
 use Rattle.session_lines.specs.declared.verb.Verb.{Verb}
 use Rattle.session_lines.specs.declared.verb.Verb.TheVariants as verb
-use Rattle.session_lines.specs.declared.kind.Kind.{Kind}
-use Rattle.session_lines.specs.declared.kind.Kind.TheVariants as kind
-use Rattle.session_lines.specs.Fields.{◌>>=◌, verb_named, text_at, only, whole, rev_of, token_of, count_of, characters_of, kind_of, url_of, comment_of}
+use Rattle.session_lines.specs.Edits.{edit_asked, edits_asked}
+use Rattle.session_lines.specs.Fields.{◌>>=◌, verb_named, text_at, only, whole}
 use Rattle.session_lines.specs.Several.{numbers_of, anchors_of, side_of}
 
 -- what isn't there is no request
@@ -29,85 +22,9 @@ or_request (Some x) = Ok x
 abbrev pub verb_of : Data → Result Verb Refusal
 verb_of d = or_request (option_and_then verb_named (text_at (codes "op") d))
 
--- the fields of an insert
-abbrev pub insert_fields : List (List ℕ)
-insert_fields = codes "op" ∷ codes "doc" ∷ codes "rev" ∷ codes "token" ∷ codes "at" ∷ codes "text" ∷ []
-
--- the fields of a delete
-abbrev pub delete_fields : List (List ℕ)
-delete_fields = codes "op" ∷ codes "doc" ∷ codes "rev" ∷ codes "token" ∷ codes "at" ∷ codes "count" ∷ []
-
--- the fields of a mark or an unmark, with these besides
-abbrev pub mark_fields : List (List ℕ) → List (List ℕ)
-mark_fields more = codes "op" ∷ codes "doc" ∷ codes "rev" ∷ codes "token" ∷ codes "from" ∷ codes "to" ∷ codes "kind" ∷ more
-
 -- the field that names a document
 abbrev pub doc_fields : List (List ℕ)
 doc_fields = codes "op" ∷ codes "doc" ∷ []
-
--- the change of an insert
-abbrev pub insert_of : Data → Result Change Refusal
-insert_of d =
-    only insert_fields d >>= λ _.
-    whole (codes "at") 0 d >>= λ at.
-    characters_of d >>= λ text.
-    Ok (change.Insert at text)
-
--- the change of a delete
-abbrev pub delete_of : Data → Result Change Refusal
-delete_of d =
-    only delete_fields d >>= λ _.
-    whole (codes "at") 0 d >>= λ at.
-    count_of d >>= λ count.
-    Ok (change.Delete at count)
-
--- the mark of this kind: a URL comes with a link alone, an id with a comment alone
-abbrev pub mark_of_kind : Kind → Data → Result Mark Refusal
-mark_of_kind kind.Strong d = only (mark_fields []) d >>= λ _. Ok added.Strong
-mark_of_kind kind.Em d = only (mark_fields []) d >>= λ _. Ok added.Em
-mark_of_kind kind.Link d = only (mark_fields (codes "url" ∷ [])) d >>= λ _. url_of d >>= λ url. Ok (added.Link url)
-mark_of_kind kind.Comment d =
-    only (mark_fields (codes "id" ∷ [])) d >>= λ _. comment_of d >>= λ id. Ok (added.Comment id)
-
--- the mark that is put on
-abbrev pub mark_of : Data → Result Mark Refusal
-mark_of d = kind_of d >>= λ kind. mark_of_kind kind d
-
--- the key of this kind: an id comes with a comment alone
-abbrev pub key_of_kind : Kind → Data → Result MarkKey Refusal
-key_of_kind kind.Strong d = only (mark_fields []) d >>= λ _. Ok key.Strong
-key_of_kind kind.Em d = only (mark_fields []) d >>= λ _. Ok key.Em
-key_of_kind kind.Link d = only (mark_fields []) d >>= λ _. Ok key.Link
-key_of_kind kind.Comment d =
-    only (mark_fields (codes "id" ∷ [])) d >>= λ _. comment_of d >>= λ id. Ok (key.Comment id)
-
--- what is taken off
-abbrev pub key_of : Data → Result MarkKey Refusal
-key_of d = kind_of d >>= λ kind. key_of_kind kind d
-
--- the change of a mark
-abbrev pub mark_change : Data → Result Change Refusal
-mark_change d =
-    mark_of d >>= λ mark.
-    whole (codes "from") 0 d >>= λ from.
-    whole (codes "to") 0 d >>= λ to.
-    Ok (change.Mark from to mark)
-
--- the change of an unmark
-abbrev pub unmark_change : Data → Result Change Refusal
-unmark_change d =
-    key_of d >>= λ key.
-    whole (codes "from") 0 d >>= λ from.
-    whole (codes "to") 0 d >>= λ to.
-    Ok (change.Unmark from to key)
-
--- the edit with this change
-abbrev pub edit_with : Change → Data → Result Command Refusal
-edit_with change d =
-    whole (codes "doc") 1 d >>= λ doc.
-    rev_of d >>= λ rev.
-    token_of d >>= λ token.
-    Ok (command.Edit (record { doc = doc; rev = rev; token = token; change = change }))
 
 -- the request for a text
 abbrev pub text_asked : Data → Result Command Refusal
@@ -140,10 +57,11 @@ places_asked d =
 
 -- the command of each request
 abbrev pub command_of : Verb → Data → Result Command Refusal
-command_of verb.Insert d = insert_of d >>= λ change. edit_with change d
-command_of verb.Delete d = delete_of d >>= λ change. edit_with change d
-command_of verb.Mark d = mark_change d >>= λ change. edit_with change d
-command_of verb.Unmark d = unmark_change d >>= λ change. edit_with change d
+command_of verb.Insert d = edit_asked verb.Insert d
+command_of verb.Delete d = edit_asked verb.Delete d
+command_of verb.Mark d = edit_asked verb.Mark d
+command_of verb.Unmark d = edit_asked verb.Unmark d
+command_of verb.Edits d = edits_asked d
 command_of verb.Text d = text_asked d
 command_of verb.Spans d = only doc_fields d >>= λ _. whole (codes "doc") 1 d >>= λ doc. Ok (command.Spans doc)
 command_of verb.Changes d = changes_asked d

@@ -250,6 +250,13 @@ said_refused r =
     codes "{\"code\":" ++ (decimal (number_of r)
     ++ (codes ",\"error\":\"" ++ (word_of r ++ codes "\",\"ok\":false}\n")))
 
+-- the answer that says which of several edits isn't made, counted from 0, and why
+abbrev pub said_refused_at : Refusal → ℕ → List ℕ
+said_refused_at r at =
+    codes "{\"at\":" ++ (decimal at
+    ++ (codes ",\"code\":" ++ (decimal (number_of r)
+    ++ (codes ",\"error\":\"" ++ (word_of r ++ codes "\",\"ok\":false}\n")))))
+
 -- the answer that tells no more than that all is done
 abbrev pub said_done : List ℕ
 said_done = codes "{\"ok\":true}\n"
@@ -267,6 +274,7 @@ said (answer.Peers peers sessions) = said_connected peers sessions
 said answer.Stopped = said_done
 said answer.Done = said_done
 said (answer.Refused r) = said_refused r
+said (answer.RefusedAt r at) = said_refused_at r at
 
 -- an answer that shows what a document has, or who is linked, is as long as that: it needs memory to be said
 abbrev pub is_long : Answer → Bool
@@ -281,3 +289,4 @@ is_long (answer.Peers peers sessions) = true
 is_long answer.Stopped = false
 is_long answer.Done = false
 is_long (answer.Refused r) = false
+is_long (answer.RefusedAt r at) = false

@@ -57,6 +57,11 @@ pub enum Answer {
     Done,
     /// The request isn't served.
     Refused(Refusal),
+    /// Several edits at once aren't made, because of this one of them, counted from 0.
+    RefusedAt {
+        refusal: Refusal,
+        at: u64,
+    },
 }
 
 /// Whether a replica takes edits.

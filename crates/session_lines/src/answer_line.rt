@@ -14,7 +14,7 @@ use crate::peers::{put_number, put_peers};
 use crate::place_list::PlaceList;
 use crate::places::{put_anchors, put_places};
 use crate::quoted::{put, put_characters};
-use crate::short_line::{SHORT, put_done, put_edited, put_refused, put_status};
+use crate::short_line::{SHORT, put_done, put_edited, put_refused, put_refused_at, put_status};
 use crate::span_list::SpanList;
 use crate::spans::put_spans;
 use itoa::Buffer;
@@ -62,6 +62,7 @@ fn put_answer(answer: &Answer, out: &mut Vec<u8>) -> Result<(), AllocError>
         } => put_status(*applied, *settled, *state, out),
         Answer::Stopped | Answer::Done => put_done(out),
         Answer::Refused(refusal) => put_refused(*refusal, out),
+        Answer::RefusedAt { refusal, at } => put_refused_at(*refusal, *at, out),
     }
     Ok(())
 }

@@ -1,13 +1,13 @@
 //! What a line asks for.
 use crate::lasting_list::LastingList;
 use crate::numbers::Numbers;
-use op_model::{Edit, Neighbour};
+use op_model::{Action, Neighbour};
 
 /// What a line of a session asks for.
 #[derive(Debug, Drop)]
 pub enum Command {
-    /// A change of a document.
-    Edit(Edit),
+    /// A change of a document, or several at once.
+    Edit(Action),
     /// The text of a document, by its number from 1 on.
     Text {
         doc: u32,

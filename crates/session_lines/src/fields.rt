@@ -1,5 +1,5 @@
 //! The fields of a request.
-ghost use Rattle.std.specs.Prelude.{◌≡◌, map, string_bytes};
+ghost use Rattle.std.specs.Prelude.{◌≡◌, ◌||◌, ◌++◌, map, string_bytes};
 ghost use Rattle.std.specs.List.{list_any, list_all};
 ghost use Rattle.std.specs.Str.{bytes_eq};
 ghost use Rattle.std.specs.BTreeMap.{keys};
@@ -21,19 +21,39 @@ use uuid::Uuid;
 pub(crate) fn only(value: &Value, names: &[&str]) -> Result<(), Refusal>
     ensures { Reads result (only (map (λ name. name.now) names.now) (view value.now)) }
 {
+    only_both(value, &[], names)
+}
+
+/// Refuses members of other names than these and those.
+pub(crate) fn only_both(value: &Value, outer: &[&str], own: &[&str]) -> Result<(), Refusal>
+    ensures { Reads result
+        (only (map (λ name. name.now) outer.now ++ map (λ name. name.now) own.now)
+        (view value.now)) }
+{
     match value.as_object() {
-        Some(members) if are_among(members, names) => Ok(()),
+        Some(members) if are_among(members, outer, own) => Ok(()),
         _ => Err(Refusal::Field),
     }
 }
 
-/// Whether each member has one of these names.
-fn are_among(members: &Map<String, Value>, names: &[&str]) -> bool
+/// Whether each member has one of these names, or one of those.
+fn are_among(members: &Map<String, Value>, outer: &[&str], own: &[&str]) -> bool
     ensures { result ≡ list_all
-        (λ key. list_any (λ other. bytes_eq other.now (string_bytes key)) names.now)
+        (λ key. list_any (λ other. bytes_eq other.now (string_bytes key)) outer.now
+        || list_any (λ other. bytes_eq other.now (string_bytes key)) own.now)
         (keys members.now) }
 {
-    members.keys().all(|key| is_among(key.as_str(), names))
+    members
+        .keys()
+        .all(|key| is_among_both(key.as_str(), outer, own))
+}
+
+/// Whether a name is one of these, or one of those.
+fn is_among_both(name: &str, outer: &[&str], own: &[&str]) -> bool
+    ensures { result ≡ (list_any (λ other. bytes_eq other.now name.now) outer.now
+        || list_any (λ other. bytes_eq other.now name.now) own.now) }
+{
+    is_among(name, outer) || is_among(name, own)
 }
 
 /// Whether a name is one of these.

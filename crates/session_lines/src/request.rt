@@ -1,17 +1,18 @@
 //! What a request asks for, by its fields.
 ghost use Rattle.serde_json.specs.View.{view};
+ghost use Rattle.session_lines.specs.Edits.{edit_asked};
 ghost use Rattle.session_lines.specs.Fields.{Reads};
-ghost use Rattle.session_lines.specs.Requests.{verb_of, edit_with, request_of};
-ghost use Rattle.session_lines.specs.Requests.{insert_of, delete_of, mark_change, unmark_change};
-ghost use Rattle.session_lines.specs.Requests.{mark_of, key_of, text_asked, anchors_asked, changes_asked, places_asked};
+ghost use Rattle.session_lines.specs.Requests.{verb_of, request_of};
+ghost use Rattle.session_lines.specs.Requests.{text_asked, anchors_asked, changes_asked, places_asked};
 
 use crate::command::Command;
-use crate::fields::{characters, comment, count, kind, only, rev, token, url, whole};
-use crate::kind::Kind;
+use crate::edits::edits;
+use crate::fields::{only, rev, token, whole};
+use crate::one_change::change;
 use crate::refusal::Refusal;
 use crate::several::{self, numbers, side};
 use crate::verb::Verb;
-use op_model::{Change, Edit, Mark, MarkKey};
+use op_model::{Action, Edit};
 use serde_json::Value;
 use std::alloc::Global;
 
@@ -19,11 +20,10 @@ use std::alloc::Global;
 pub(crate) fn request(alloc: Global, value: &Value) -> Result<Command, Refusal>
     ensures { Reads result (request_of (view value.now)) }
 {
-    match verb(value)? {
-        Verb::Insert => edit(value, insert(alloc, value)?),
-        Verb::Delete => edit(value, delete(value)?),
-        Verb::Mark => edit(value, mark(alloc, value)?),
-        Verb::Unmark => edit(value, unmark(value)?),
+    let verb = verb(value)?;
+    match verb {
+        Verb::Insert | Verb::Delete | Verb::Mark | Verb::Unmark => edit(alloc, value, verb),
+        Verb::Edits => edits(alloc, value),
         Verb::Text => text(value),
         Verb::Spans => {
             only(value, &["op", "doc"])?;
@@ -99,114 +99,19 @@ fn verb(value: &Value) -> Result<Verb, Refusal>
         .ok_or(Refusal::Request)
 }
 
-/// The edit with this change.
-fn edit(value: &Value, change: Change) -> Result<Command, Refusal>
-    ensures { Reads result (edit_with change (view value.now)) }
+/// The request for a change alone.
+fn edit(alloc: Global, value: &Value, verb: Verb) -> Result<Command, Refusal>
+    ensures { Reads result (edit_asked verb (view value.now)) }
 {
+    let change = change(alloc, value, verb, &["op", "doc", "rev", "token"])?;
     let doc = whole(value, "doc", 1)?;
     let rev = rev(value)?;
     let token = token(value)?;
-    Ok(Command::Edit(Edit {
+    let edit = Edit {
         doc,
         rev,
         token,
         change,
-    }))
-}
-
-/// The change of an insert.
-fn insert(alloc: Global, value: &Value) -> Result<Change, Refusal>
-    ensures { Reads result (insert_of (view value.now)) }
-{
-    only(value, &["op", "doc", "rev", "token", "at", "text"])?;
-    let at = whole(value, "at", 0)?;
-    let text = characters(alloc, value)?;
-    Ok(Change::Insert { at, text })
-}
-
-/// The change of a delete.
-fn delete(value: &Value) -> Result<Change, Refusal>
-    ensures { Reads result (delete_of (view value.now)) }
-{
-    only(value, &["op", "doc", "rev", "token", "at", "count"])?;
-    let at = whole(value, "at", 0)?;
-    let count = count(value)?;
-    Ok(Change::Delete { at, count })
-}
-
-/// The change of a mark.
-fn mark(alloc: Global, value: &Value) -> Result<Change, Refusal>
-    ensures { Reads result (mark_change (view value.now)) }
-{
-    let mark = added(alloc, value)?;
-    let from = whole(value, "from", 0)?;
-    let to = whole(value, "to", 0)?;
-    Ok(Change::Mark { from, to, mark })
-}
-
-/// The change of an unmark.
-fn unmark(value: &Value) -> Result<Change, Refusal>
-    ensures { Reads result (unmark_change (view value.now)) }
-{
-    let key = removed(value)?;
-    let from = whole(value, "from", 0)?;
-    let to = whole(value, "to", 0)?;
-    Ok(Change::Unmark { from, to, key })
-}
-
-/// The mark that is put on: a URL comes with a link alone, an id with a comment alone.
-fn added(alloc: Global, value: &Value) -> Result<Mark, Refusal>
-    ensures { Reads result (mark_of (view value.now)) }
-{
-    match kind(value)? {
-        Kind::Strong => {
-            only(value, &["op", "doc", "rev", "token", "from", "to", "kind"])?;
-            Ok(Mark::Strong)
-        }
-        Kind::Em => {
-            only(value, &["op", "doc", "rev", "token", "from", "to", "kind"])?;
-            Ok(Mark::Em)
-        }
-        Kind::Link => {
-            only(
-                value,
-                &["op", "doc", "rev", "token", "from", "to", "kind", "url"],
-            )?;
-            Ok(Mark::Link(url(alloc, value)?))
-        }
-        Kind::Comment => {
-            only(
-                value,
-                &["op", "doc", "rev", "token", "from", "to", "kind", "id"],
-            )?;
-            Ok(Mark::Comment(comment(value)?))
-        }
-    }
-}
-
-/// What is taken off: an id comes with a comment alone.
-fn removed(value: &Value) -> Result<MarkKey, Refusal>
-    ensures { Reads result (key_of (view value.now)) }
-{
-    match kind(value)? {
-        Kind::Strong => {
-            only(value, &["op", "doc", "rev", "token", "from", "to", "kind"])?;
-            Ok(MarkKey::Strong)
-        }
-        Kind::Em => {
-            only(value, &["op", "doc", "rev", "token", "from", "to", "kind"])?;
-            Ok(MarkKey::Em)
-        }
-        Kind::Link => {
-            only(value, &["op", "doc", "rev", "token", "from", "to", "kind"])?;
-            Ok(MarkKey::Link)
-        }
-        Kind::Comment => {
-            only(
-                value,
-                &["op", "doc", "rev", "token", "from", "to", "kind", "id"],
-            )?;
-            Ok(MarkKey::Comment(comment(value)?))
-        }
-    }
+    };
+    Ok(Command::Edit(Action::one(alloc, edit)))
 }

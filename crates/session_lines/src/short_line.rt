@@ -1,7 +1,7 @@
 //! The answers that need no memory of their own, put where there is room for them.
 ghost use Rattle.std.specs.Prelude.{◌≡◌, ◌++◌, ◌+◌, ◌≤◌, length, decimal, vec_len, vec_capacity};
 ghost use Rattle.session_lines.specs.Saying.{said_edited, said_status, said_refused, said_done};
-ghost use Rattle.session_lines.specs.Saying.{state_word};
+ghost use Rattle.session_lines.specs.Saying.{said_refused_at, state_word};
 
 use crate::answer::State;
 use crate::refusal::Refusal;
@@ -72,6 +72,21 @@ pub(crate) fn put_refused(refusal: Refusal, out: &mut Vec<u8>)
     ensures capacity { vec_capacity out.old ≤ vec_capacity out.new }
 {
     put(b"{\"code\":", out);
+    put_number(refusal.number() as u64, out);
+    put(b",\"error\":\"", out);
+    put(refusal.word().as_bytes(), out);
+    put(b"\",\"ok\":false}\n", out);
+}
+
+/// Puts the answer that says which of several edits isn't made, and why.
+pub(crate) fn put_refused_at(refusal: Refusal, at: u64, out: &mut Vec<u8>)
+    requires { vec_len out.old + SHORT ≤ vec_capacity out.old }
+    ensures items { out.new.items ≡ out.old.items ++ said_refused_at refusal at }
+    ensures capacity { vec_capacity out.old ≤ vec_capacity out.new }
+{
+    put(b"{\"at\":", out);
+    put_number(at, out);
+    put(b",\"code\":", out);
     put_number(refusal.number() as u64, out);
     put(b",\"error\":\"", out);
     put(refusal.word().as_bytes(), out);

@@ -3,9 +3,8 @@ use Rattle.std.proofs.Common.{◌≡◌, ℕ, zero, ◌+◌, ◌≤◌, ◌<◌,
 use Rattle.std.proofs.Common.{refl, sym, ap, ◌∙◌, subst, inl, inr, arith}
 use Rattle.disk_trait.specs.Calls.{IsLawful}
 use Rattle.disk_trait.specs.declared.facts.DiskFacts.{Ghosts}
-use Rattle.op_model.specs.declared.edit.Edit.{Edit}
+use Rattle.op_model.specs.Actions.{Asked}
 use Rattle.op_model.specs.Machine.{State, Event, Answer as Reply, Ticket, edit, ack, ticket, acknowledged, token_ticket, known_ticket, Run}
-use Rattle.op_model.specs.Made.{size_of}
 use Rattle.op_model.specs.Tokens.{carries, last_of}
 use Rattle.world_law.proofs.Answered.{in_front}
 use Rattle.world_law.proofs.Stays.{run_stays}
@@ -17,6 +16,7 @@ use Rattle.locked_replica.proofs.MachineSteps.{step_goes, step_rises}
 use Rattle.locked_replica.proofs.RunLemmas.{ran_none}
 use Rattle.session_lines.specs.declared.answer.Answer.TheVariants.{Edited, Refused}
 use Rattle.session_lines.specs.declared.refusal.Refusal.TheVariants.{Stopping}
+use Rattle.session_threads.specs.ActsOnce.{first_size}
 use Rattle.session_threads.specs.ActsOnce.{Passage, session, crash, Survives, Holds, HasSession, OpensAfter}
 use Rattle.session_threads.specs.ActsOnce.{Passes, HoldsOnceAnswered, HoldsForever, AnswersAgain, ActsOnce}
 use Rattle.session_threads.specs.HeldDesk.{HeldDesk}
@@ -87,8 +87,8 @@ module _ {D : Type 0} (facts : Ghosts D) where
   acks_settle old new t acks (after_commit commit only is) calls =
       ends_settled ((ack t, acknowledged false) ∷ commit) old new t (subst (λ k. Calls facts old k new) is calls)
 
-  acknowledged_holds : (number token rev : ℕ) (old new : Parts D) (e : Edit) → e.token ≡ Some token
-      → 0 < size_of e.change → Survives facts old → IsAcknowledged facts number old new e rev
+  acknowledged_holds : (number token rev : ℕ) (old new : Parts D) (e : Asked) → e.token ≡ Some token
+      → 0 < first_size e.changes → Survives facts old → IsAcknowledged facts number old new e rev
       → Holds facts token rev new
   acknowledged_holds number token rev old new e named some safe it =
       let (mid, one, acks) = it.calls in
@@ -104,8 +104,8 @@ module _ {D : Type 0} (facts : Ghosts D) where
       }
 
   -- an edit that comes too late isn't answered a rev
-  edit_holds : (late : Bool) (token rev : ℕ) (old new : HeldDesk D) (e : Edit) → comes_too_late old e ≡ late → e.token ≡ Some token
-      → 0 < size_of e.change → Survives facts old.hub → ServesEdit facts old e (Edited rev) new
+  edit_holds : (late : Bool) (token rev : ℕ) (old new : HeldDesk D) (e : Asked) → comes_too_late old e ≡ late → e.token ≡ Some token
+      → 0 < first_size e.changes → Survives facts old.hub → ServesEdit facts old e (Edited rev) new
       → Holds facts token rev new.hub
   edit_holds true token rev old new e is named some safe it =
       let served = rw (is, ServesEdit) at it in let other : Edited rev ≡ Refused Stopping = served.0 in absurd (cc)

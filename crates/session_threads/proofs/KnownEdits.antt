@@ -2,7 +2,7 @@
 use Rattle.std.proofs.Common.{◌≡◌, ℕ, ◌≤◌, ◌&&◌, Bool, true, false, List, [], ◌∷◌, Option, Some, refl, sym, ap, ◌∙◌, subst, inl, inr, arith}
 use Rattle.std.specs.Prelude.{is_none}
 use Rattle.disk_trait.specs.declared.facts.DiskFacts.{Ghosts}
-use Rattle.op_model.specs.declared.edit.Edit.{Edit}
+use Rattle.op_model.specs.Actions.{Asked}
 use Rattle.op_model.specs.Machine.{Event, Answer as Reply, Ticket, ack, ticket, acknowledged, refused}
 use Rattle.op_model.specs.Machine.{State, known_ticket, EditStep}
 use Rattle.model_laws.proofs.Tickets.{known_is}
@@ -11,7 +11,8 @@ use Rattle.locked_replica.specs.Hub.{Parts, state_of}
 use Rattle.locked_replica.specs.Run.{Calls}
 use Rattle.session_lines.specs.Saying.{number_of}
 use Rattle.session_lines.specs.declared.answer.Answer.{Answer}
-use Rattle.session_lines.specs.declared.answer.Answer.TheVariants.{Edited, Text, Spans, Changes, Anchors, Places, Status, Peers, Stopped, Done, Refused}
+use Rattle.session_lines.specs.declared.answer.Answer.TheVariants.{Edited, Text, Spans, Changes, Anchors, Places}
+use Rattle.session_lines.specs.declared.answer.Answer.TheVariants.{Status, Peers, Stopped, Done, Refused, RefusedAt}
 use Rattle.session_threads.specs.ActsOnce.{ChangesNothing}
 use Rattle.session_threads.specs.HeldDesk.{HeldDesk}
 use Rattle.session_threads.specs.HubServing.{comes_too_late, Acknowledge, at_once, after_commit, AnswersEdit, ServesEdit}
@@ -21,7 +22,7 @@ pub record StaysKnown (s next : State) (given t : Ticket) : Type 0 where
   pub same : given ≡ t
   pub stays : next ≡ s
 
-known_stays : (s next : State) (session : ℕ) (e : Edit) (given t : Ticket) → known_ticket s.held e ≡ Some t → EditStep s session e (ticket given) next
+known_stays : (s next : State) (session : ℕ) (e : Asked) (given t : Ticket) → known_ticket s.held e ≡ Some t → EditStep s session e (ticket given) next
     → StaysKnown s next given t
 known_stays s next session e given t found (answer, is) =
     let due : ticket t ≡ ticket given = rw found at answer in
@@ -30,7 +31,7 @@ known_stays s next session e given t found (answer, is) =
     record { same = same; stays = rw known at is }
 
 -- and it isn't refused
-never_refused : (s next : State) (session : ℕ) (e : Edit) (n : ℕ) (t : Ticket) → known_ticket s.held e ≡ Some t → EditStep s session e (refused n) next → ⊥
+never_refused : (s next : State) (session : ℕ) (e : Asked) (n : ℕ) (t : Ticket) → known_ticket s.held e ≡ Some t → EditStep s session e (refused n) next → ⊥
 never_refused s next session e n t found (due, is) =
     let new = rw found at due in let known = (known_is s.held e t found).known in cc
 
@@ -53,7 +54,7 @@ module _ {D : Type 0} (facts : Ghosts D) where
   acknowledged_at_once mid new given acks settled (after_commit commit only is) calls =
       let (behind, one, more) = subst (λ k. Calls facts mid k new) is calls in absurd (never_open mid behind given settled one)
 
-  answered_known : (session : ℕ) (old new : Parts D) (e : Edit) (t : Ticket) (answer : Answer) → known_ticket old.replica e ≡ Some t
+  answered_known : (session : ℕ) (old new : Parts D) (e : Asked) (t : Ticket) (answer : Answer) → known_ticket old.replica e ≡ Some t
       → t.end ≤ old.replica.settled → AnswersEdit facts session old e answer new
       → (answer ≡ Edited t.rev) × (new.store ≡ old.store) × (new.replica.list ≡ old.replica.list)
   answered_known session old new e t (Edited rev) found settled it =
@@ -79,13 +80,14 @@ module _ {D : Type 0} (facts : Ghosts D) where
   answered_known session old new e t (Peers peers sessions) found settled never = absurd never
   answered_known session old new e t Stopped found settled never = absurd never
   answered_known session old new e t Done found settled never = absurd never
+  answered_known session old new e t (RefusedAt refusal at) found settled never = absurd never
 
   -- what was made before doesn't come too late
   in_time : (stopping : Bool) (found : Option Ticket) (t : Ticket) → found ≡ Some t → (stopping && is_none found) ≡ false
   in_time true found t is = rw is refl
   in_time false found t is = refl
 
-  pub settled_answered : (old new : HeldDesk D) (e : Edit) (t : Ticket) (answer : Answer) → known_ticket old.hub.replica e ≡ Some t
+  pub settled_answered : (old new : HeldDesk D) (e : Asked) (t : Ticket) (answer : Answer) → known_ticket old.hub.replica e ≡ Some t
       → t.end ≤ old.hub.replica.settled → ServesEdit facts old e answer new → (answer ≡ Edited t.rev) × ChangesNothing old new
   settled_answered old new e t answer found settled it =
       let late : comes_too_late old e ≡ false = in_time old.stopping (known_ticket old.hub.replica e) t found in

@@ -1,13 +1,14 @@
 -- What is answered to an edit.
 use Rattle.std.proofs.Common.{◌≡◌, ℕ, ◌≤◌, Bool, true, false, ◌∷◌, [], ◌++◌, length, IsTrue, refl, sym, ap, subst, inl, inr, arith}
 use Rattle.disk_trait.specs.declared.facts.DiskFacts.{Ghosts}
-use Rattle.op_model.specs.declared.edit.Edit.{Edit}
+use Rattle.op_model.specs.Actions.{Asked}
 use Rattle.op_model.specs.Machine.{Ticket, edit, ack, ticket, acknowledged, refused}
 use Rattle.locked_replica.specs.Calls.{IsCall}
 use Rattle.locked_replica.specs.Hub.{Parts, state_of}
 use Rattle.session_lines.specs.Saying.{number_of}
 use Rattle.session_lines.specs.declared.answer.Answer.{Answer}
-use Rattle.session_lines.specs.declared.answer.Answer.TheVariants.{Edited, Text, Spans, Changes, Anchors, Places, Status, Peers, Stopped, Done, Refused}
+use Rattle.session_lines.specs.declared.answer.Answer.TheVariants.{Edited, Text, Spans, Changes, Anchors, Places}
+use Rattle.session_lines.specs.declared.answer.Answer.TheVariants.{Status, Peers, Stopped, Done, Refused, RefusedAt}
 use Rattle.session_lines.specs.declared.refusal.Refusal.{Refusal}
 use Rattle.session_lines.specs.declared.refusal.Refusal.TheVariants.{Failed}
 use Rattle.session_threads.specs.HubCalls.{IsQuiet, Commits, is_edit_refusal}
@@ -18,7 +19,7 @@ use Rattle.session_threads.proofs.EditLemmas.{edit_refusals, edit_is_quiet, refu
 
 module _ {D : Type 0} (facts : Ghosts D) where
   -- a ticket's answer is the edit's
-  pub answered : (session : ℕ) (old between new : Parts D) (e : Edit) (t : Ticket) (answer : Answer) → IsCall facts (edit session e) (ticket t) old between
+  pub answered : (session : ℕ) (old between new : Parts D) (e : Asked) (t : Ticket) (answer : Answer) → IsCall facts (edit session e) (ticket t) old between
       → AnswersTicket facts between t answer new → AnswersEdit facts session old e answer new
   answered session old between new e t (Edited rev) call (acks, how, calls, same) =
       record { given = t; acks = acks; how = how; calls = (between, call, calls); same = same }
@@ -33,26 +34,27 @@ module _ {D : Type 0} (facts : Ghosts D) where
   answered session old between new e t (Peers peers sessions) call never = absurd never
   answered session old between new e t Stopped call never = absurd never
   answered session old between new e t Done call never = absurd never
+  answered session old between new e t (RefusedAt refusal at) call never = absurd never
 
   -- a refusal of the hub is answered by its number
-  pub answered_refusal : (session : ℕ) (old new : Parts D) (e : Edit) (refusal : Refusal) (n : ℕ) → number_of refusal ≡ n
+  pub answered_refusal : (session : ℕ) (old new : Parts D) (e : Asked) (refusal : Refusal) (n : ℕ) → number_of refusal ≡ n
       → IsCall facts (edit session e) (refused n) old new → AnswersEdit facts session old e (Refused refusal) new
   answered_refusal session old new e refusal n same call =
       inl (one_call facts old new (edit session e) (refused (number_of refusal))
       (subst (λ k. IsCall facts (edit session e) (refused k) old new) (sym same) call))
 
-  pub can_be_refused : (session : ℕ) (old new : Parts D) (e : Edit) (n : ℕ) → IsCall facts (edit session e) (refused n) old new → IsTrue (is_edit_refusal n)
+  pub can_be_refused : (session : ℕ) (old new : Parts D) (e : Asked) (n : ℕ) → IsCall facts (edit session e) (refused n) old new → IsTrue (is_edit_refusal n)
   can_be_refused session old new e n call = edit_refusals (state_of old) (state_of new) session e n call.step
 
-  pub ends_within : (session : ℕ) (old new : Parts D) (e : Edit) (t : Ticket) → IsCall facts (edit session e) (ticket t) old new → t.end ≤ length new.replica.list
+  pub ends_within : (session : ℕ) (old new : Parts D) (e : Asked) (t : Ticket) → IsCall facts (edit session e) (ticket t) old new → t.end ≤ length new.replica.list
   ends_within session old new e t call =
       ticket_within (state_of old) (state_of new) session e t call.step
 
-  pub quiet_after : (session : ℕ) (old new : Parts D) (e : Edit) (t : Ticket) → IsQuiet (state_of old) → IsCall facts (edit session e) (ticket t) old new
+  pub quiet_after : (session : ℕ) (old new : Parts D) (e : Asked) (t : Ticket) → IsQuiet (state_of old) → IsCall facts (edit session e) (ticket t) old new
       → IsQuiet (state_of new)
   quiet_after session old new e t quiet call = edit_is_quiet (state_of old) (state_of new) session e t quiet call.step
 
-  pub quiet_refused : (session : ℕ) (old new : Parts D) (e : Edit) (n : ℕ) → IsQuiet (state_of old) → IsCall facts (edit session e) (refused n) old new
+  pub quiet_refused : (session : ℕ) (old new : Parts D) (e : Asked) (n : ℕ) → IsQuiet (state_of old) → IsCall facts (edit session e) (refused n) old new
       → IsQuiet (state_of new)
   quiet_refused session old new e n quiet call = refused_is_quiet (state_of old) (state_of new) session e n quiet call.step
 

@@ -1,7 +1,7 @@
 -- What a desk over a hub makes of the lines of a session is one list of calls.
 use Rattle.std.proofs.Common.{◌≡◌, ℕ, Bool, true, false, List, [], ◌∷◌, ◌++◌, ap, refl, inl, inr, Option, Result, Ok, Err}
 use Rattle.disk_trait.specs.declared.facts.DiskFacts.{Ghosts}
-use Rattle.op_model.specs.declared.edit.Edit.{Edit}
+use Rattle.op_model.specs.Actions.{Asked}
 use Rattle.op_model.specs.Machine.{Event, Answer as Reply, edit, ack, ticket, acknowledged, refused}
 use Rattle.locked_replica.specs.Hub.{Parts}
 use Rattle.locked_replica.specs.Run.{Calls}
@@ -9,7 +9,8 @@ use Rattle.session_lines.specs.Saying.{number_of}
 use Rattle.session_lines.specs.declared.command.Command.{Command}
 use Rattle.session_lines.specs.declared.command.Command.TheVariants as command
 use Rattle.session_lines.specs.declared.answer.Answer.{Answer}
-use Rattle.session_lines.specs.declared.answer.Answer.TheVariants.{Edited, Text, Spans, Changes, Anchors, Places, Status, Peers, Stopped, Done, Refused}
+use Rattle.session_lines.specs.declared.answer.Answer.TheVariants.{Edited, Text, Spans, Changes, Anchors, Places}
+use Rattle.session_lines.specs.declared.answer.Answer.TheVariants.{Status, Peers, Stopped, Done, Refused, RefusedAt}
 use Rattle.session_lines.specs.declared.refusal.Refusal.{Refusal}
 use Rattle.session_threads.specs.Exchanges.{IsAnswered, Exchange, Exchanges}
 use Rattle.session_threads.specs.HeldDesk.{HeldDesk}
@@ -25,7 +26,7 @@ module _ {D : Type 0} (facts : Ghosts D) where
   stays : (old new : HeldDesk D) → new ≡ old → Goes old.hub new.hub
   stays old new same = ([], ap (λ (d : HeldDesk D). d.hub) same)
 
-  edit_goes : (session : ℕ) (old new : Parts D) (e : Edit) (answer : Answer) → AnswersEdit facts session old e answer new → Goes old new
+  edit_goes : (session : ℕ) (old new : Parts D) (e : Asked) (answer : Answer) → AnswersEdit facts session old e answer new → Goes old new
   edit_goes session old new e (Edited rev) it = ((edit session e, ticket it.given) ∷ it.acks, it.calls)
   edit_goes session old new e (Refused refusal) (inl calls) = ((edit session e, refused (number_of refusal)) ∷ [], calls)
   edit_goes session old new e (Refused refusal) (inr (failed, it)) = ((edit session e, ticket it.given) ∷ (ack it.given, acknowledged false) ∷ it.commit, it.calls)
@@ -38,9 +39,10 @@ module _ {D : Type 0} (facts : Ghosts D) where
   edit_goes session old new e (Peers peers sessions) never = absurd never
   edit_goes session old new e Stopped never = absurd never
   edit_goes session old new e Done never = absurd never
+  edit_goes session old new e (RefusedAt refusal at) never = absurd never
 
   -- an edit that comes too late changes nothing
-  edit_goes_unless : (late : Bool) (old new : HeldDesk D) (e : Edit) (answer : Answer) → comes_too_late old e ≡ late
+  edit_goes_unless : (late : Bool) (old new : HeldDesk D) (e : Asked) (answer : Answer) → comes_too_late old e ≡ late
       → ServesEdit facts old e answer new → Goes old.hub new.hub
   edit_goes_unless true old new e answer is it = stays old new (rw (is, ServesEdit) at it).1
   edit_goes_unless false old new e answer is it = edit_goes old.session old.hub new.hub e answer (rw (is, ServesEdit) at it).0

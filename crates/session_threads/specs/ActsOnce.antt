@@ -1,7 +1,8 @@
 -- An edit with a token acts once: over the lines of any sessions, and over all crashes between them.
 use Rattle.std.specs.Prelude.{◌≡◌, ◌⊎◌, ℕ, ◌<◌, List, [], ◌∷◌, Option, Some}
 use Rattle.disk_trait.specs.declared.facts.DiskFacts.{Ghosts}
-use Rattle.op_model.specs.declared.edit.Edit.{Edit}
+use Rattle.op_model.specs.Actions.{Asked}
+use Rattle.op_model.specs.declared.edit.Change.{Change}
 use Rattle.op_model.specs.Made.{size_of}
 use Rattle.op_model.specs.Machine.{Ticket, opened}
 use Rattle.world_law.specs.Laws.{Answers}
@@ -19,6 +20,11 @@ use Rattle.session_threads.specs.Outcomes.{CutOff}
 -- nothing is written, and the list has no operation more
 abbrev pub ChangesNothing : {D : Type 0} → HeldDesk D → HeldDesk D → Type 0
 ChangesNothing old new = (new.hub.store ≡ old.hub.store) × (new.hub.replica.list ≡ old.hub.replica.list)
+
+-- how many operations the first change makes
+abbrev pub first_size : List Change → ℕ
+first_size [] = 0
+first_size (c ∷ cs) = size_of c
 
 -- one thing that a hub may go through
 pub data Passage : Type 0 where
@@ -45,13 +51,13 @@ module _ {D : Type 0} (facts : Ghosts D) where
       (lines : List (Option (List ℕ))) × (text : List ℕ)
       × (Exchanges (Serves facts) old lines text new ⊎ CutOff (Serves facts) old lines text new)
 
-  -- after some lines, an edit with this token, which isn't an insert of no text, is answered this rev
+  -- after some lines, an edit with this token, which doesn't begin with an insert of no text, is answered this rev
   pub record AnswersFirst (token rev : ℕ) (old new : HeldDesk D) : Type 0 where
     pub before : HeldDesk D
     pub lines : HasSession old before
-    pub edit : Edit
+    pub edit : Asked
     pub named : edit.token ≡ Some token
-    pub some : 0 < size_of edit.change
+    pub some : 0 < first_size edit.changes
     pub served : ServesEdit facts before edit (Edited rev) new
 
   -- A file that a crash left, at some moment of a session or right after it, was opened as this hub (`Hub::open`). The last line of
@@ -89,13 +95,13 @@ module _ {D : Type 0} (facts : Ghosts D) where
   -- and whenever it is sent again it is answered that rev, and changes nothing
   abbrev pub AnswersAgain : Type 0
   AnswersAgain =
-      (token rev : ℕ) (old new : HeldDesk D) (e : Edit) (answer : Answer) → Holds token rev old.hub → e.token ≡ Some token
+      (token rev : ℕ) (old new : HeldDesk D) (e : Asked) (answer : Answer) → Holds token rev old.hub → e.token ≡ Some token
       → ServesEdit facts old e answer new → (answer ≡ Edited rev) × ChangesNothing old new
 
   -- So an edit with a token that was answered once is answered the same whenever it is sent again, and changes nothing, whatever
   -- sessions and crashes lie between.
   abbrev pub ActsOnce : HeldDesk D → Type 0
   ActsOnce old =
-      (token rev : ℕ) (first later last : HeldDesk D) (passages : List Passage) (e : Edit) (answer : Answer)
+      (token rev : ℕ) (first later last : HeldDesk D) (passages : List Passage) (e : Asked) (answer : Answer)
       → AnswersFirst token rev old first → Lives first.hub passages later.hub → e.token ≡ Some token
       → ServesEdit facts later e answer last → (answer ≡ Edited rev) × ChangesNothing later last

@@ -1,7 +1,7 @@
 -- What a desk over a hub answers to a command, and what it makes of the hub.
 use Rattle.std.specs.Prelude.{◌≡◌, ◌≢◌, ◌⊎◌, ℕ, Bool, true, false, ◌&&◌, List, [], ◌∷◌, ◌++◌, length, is_none, if◌then◌else◌}
 use Rattle.disk_trait.specs.declared.facts.DiskFacts.{Ghosts}
-use Rattle.op_model.specs.declared.edit.Edit.{Edit}
+use Rattle.op_model.specs.Actions.{Asked}
 use Rattle.op_model.specs.declared.change_step.ChangeStep.{ChangeStep}
 use Rattle.op_model.specs.declared.lasting.Lasting.{Lasting}
 use Rattle.op_model.specs.declared.lasting.Neighbour.{Neighbour}
@@ -78,7 +78,7 @@ abbrev pub ServesPeers : Answer → Type 0
 ServesPeers answer = answer ≡ Peers [] 1
 
 -- an edit comes too late: after a stop, and it wasn't made before, under its token
-abbrev pub comes_too_late : {D : Type 0} → HeldDesk D → Edit → Bool
+abbrev pub comes_too_late : {D : Type 0} → HeldDesk D → Asked → Bool
 comes_too_late desk e = desk.stopping && is_none (known_ticket desk.hub.replica e)
 
 -- these calls acknowledge a ticket: at once, since it is settled already; or it isn't, all is committed, and then it is
@@ -89,7 +89,7 @@ pub data Acknowledge (t : Ticket) (calls : List (Event × Reply)) : Type 0 where
 
 module _ {D : Type 0} (facts : Ghosts D) where
   -- the hub gave a ticket for the session's edit, and then the ticket was acknowledged: only so an edit is answered
-  pub record IsAcknowledged (session : ℕ) (old new : Parts D) (e : Edit) (rev : ℕ) : Type 0 where
+  pub record IsAcknowledged (session : ℕ) (old new : Parts D) (e : Asked) (rev : ℕ) : Type 0 where
     pub given : Ticket
     pub acks : List (Event × Reply)
     pub how : Acknowledge given acks
@@ -97,7 +97,7 @@ module _ {D : Type 0} (facts : Ghosts D) where
     pub same : given.rev ≡ rev
 
   -- the hub gave a ticket, which wasn't settled, and then not all could be settled
-  pub record IsLeftOpen (session : ℕ) (old new : Parts D) (e : Edit) : Type 0 where
+  pub record IsLeftOpen (session : ℕ) (old new : Parts D) (e : Asked) : Type 0 where
     pub given : Ticket
     pub commit : List (Event × Reply)
     pub only : AreOfCommit BEGIN_TRIES commit
@@ -105,7 +105,7 @@ module _ {D : Type 0} (facts : Ghosts D) where
     pub cause : CannotSettle (state_of new) commit
 
   -- a session's edit is acknowledged; or the hub refused it so; or it is answered as failed
-  abbrev pub AnswersEdit : ℕ → Parts D → Edit → Answer → Parts D → Type 0
+  abbrev pub AnswersEdit : ℕ → Parts D → Asked → Answer → Parts D → Type 0
   AnswersEdit session old e (Edited rev) new = IsAcknowledged session old new e rev
   AnswersEdit session old e (Refused refusal) new =
       Calls facts old ((edit session e, refused (number_of refusal)) ∷ []) new
@@ -122,7 +122,7 @@ module _ {D : Type 0} (facts : Ghosts D) where
   AnswersTicket old given _ new = ⊥
 
   -- an edit that comes too late is refused, and nothing changes; each other one the hub is asked for
-  abbrev pub ServesEdit : HeldDesk D → Edit → Answer → HeldDesk D → Type 0
+  abbrev pub ServesEdit : HeldDesk D → Asked → Answer → HeldDesk D → Type 0
   ServesEdit old e answer new = elim (comes_too_late old e) [
     | true ↦ (answer ≡ Refused Stopping) × (new ≡ old)
     | false ↦ AnswersEdit old.session old.hub e answer new.hub × (new ≡ record old { hub = new.hub })

@@ -10,7 +10,7 @@ use crate::committing::commit;
 use crate::refusing::edit_refusal;
 use disk_trait::Disk;
 use locked_replica::{Hub, HubRefusal};
-use op_model::Edit;
+use op_model::Action;
 use replica_core::Ticket;
 use session_lines::{Answer, Refusal};
 
@@ -18,7 +18,7 @@ use session_lines::{Answer, Refusal};
 /// edit that was made before, under its token, and is settled is answered without a commit, so also
 /// after a failure. Any other is refused as `Hub::edit` does (9, 6, 5, 7, 10, 8, 1), or with 9 if
 /// not all can be settled.
-pub(crate) fn answer_edit<D: Disk>(hub: &mut Hub<D>, session: u64, edit: &Edit) -> Answer
+pub(crate) fn answer_edit<D: Disk>(hub: &mut Hub<D>, session: u64, edit: &Action) -> Answer
     requires { IsQuiet (state_of hub.old) }
     ensures answer { AnswersEdit D.DiskFacts session hub.old edit.now result hub.new }
     ensures quiet { IsQuiet (state_of hub.new) }

@@ -9,7 +9,7 @@ use crate::desk::Desk;
 use crate::hub_desk::HubDesk;
 use crate::hub_edit::answer_edit;
 use disk_trait::Disk;
-use op_model::{Edit, Neighbour};
+use op_model::{Action, Neighbour};
 use session_lines::{
     Answer, ChangeList, Command, LastingList, Numbers, PeerList, PlaceList, Refusal, SpanList,
     State,
@@ -40,7 +40,7 @@ impl<D: Disk> Desk for HubDesk<D> {
 
 impl<D: Disk> HubDesk<D> {
     /// Makes an edit, unless it comes too late.
-    fn edit(&mut self, edit: &Edit) -> Answer
+    fn edit(&mut self, edit: &Action) -> Answer
         ensures { ServesEdit D.DiskFacts self.old edit.now result self.new }
     {
         if self.comes_too_late(edit) {
@@ -50,7 +50,7 @@ impl<D: Disk> HubDesk<D> {
     }
 
     /// Whether an edit comes after a stop, and wasn't made before, under its token.
-    fn comes_too_late(&self, edit: &Edit) -> bool
+    fn comes_too_late(&self, edit: &Action) -> bool
         ensures { result ≡ comes_too_late self.now edit.now }
     {
         self.is_stopping && self.hub.known(edit).is_none()

@@ -1,7 +1,7 @@
 //! What follows for the calls that a desk makes of its hub.
 ghost use Rattle.std.specs.Prelude.{◌≡◌, ◌≤◌, List, ℕ, Option, Some, true};
 ghost use Rattle.fixed_numbers.specs.declared.refusals.TheConstants.{FAILED};
-ghost use Rattle.op_model.specs.declared.edit.Edit.{Edit};
+ghost use Rattle.op_model.specs.Actions.{Asked};
 ghost use Rattle.op_model.specs.Machine.{Event, Answer, State, Ticket, refused, known_ticket};
 ghost use Rattle.op_model.specs.Machine.{unless_known, EditStep};
 ghost use Rattle.locked_replica.specs.Hub.{Parts};
@@ -46,7 +46,7 @@ pub fn a_session_is_a_run<D: Disk>(desk: &HubDesk<D>)
 /// Once the device of a quiet hub failed, each edit is answered with 9, but for one that was made
 /// before, under its token; and each changes nothing. Costs nothing.
 pub fn edits_fail_behind_a_failure()
-    ensures { (session : ℕ) (s next : State) (e : Edit) (answer : Answer) → IsQuiet s
+    ensures { (session : ℕ) (s next : State) (e : Asked) (answer : Answer) → IsQuiet s
         → s.failed ≡ true → EditStep s session e answer next
         → (answer ≡ unless_known (known_ticket s.held e) (refused FAILED)) × (next ≡ s) }
 {}
@@ -55,7 +55,7 @@ pub fn edits_fail_behind_a_failure()
 /// had then, though the device failed and though the desk was asked to stop; and nothing is
 /// written. Costs nothing.
 pub fn settled_edits_are_answered<D: Disk>(desk: &HubDesk<D>)
-    ensures { (e : Edit) (t : Ticket) (answer : LineAnswer) (new : HeldDesk D)
+    ensures { (e : Asked) (t : Ticket) (answer : LineAnswer) (new : HeldDesk D)
         → known_ticket desk.now.hub.replica e ≡ Some t → t.end ≤ desk.now.hub.replica.settled
         → ServesEdit D.DiskFacts desk.now e answer new
         → (answer ≡ Edited t.rev) × (new.hub.store ≡ desk.now.hub.store) }

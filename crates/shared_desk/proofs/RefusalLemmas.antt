@@ -1,6 +1,6 @@
 -- Why a shared hub refuses an edit.
 use Rattle.std.proofs.Common.{◌≡◌, ◌≢◌, Bool, true, false, IsTrue, refl}
-use Rattle.op_model.specs.declared.edit.Edit.{Edit}
+use Rattle.op_model.specs.Actions.{Asked}
 use Rattle.op_model.specs.Machine.{edit, refused}
 use Rattle.hub_parts.specs.Locked.{state_of}
 use Rattle.pass_books.specs.Accounts.{PassHeld}
@@ -16,7 +16,7 @@ is_true true is = refl
 is_true false is = absurd (cc)
 
 -- an edit is refused so
-pub edit_refused : (r : SharedRefusal) (old new : PassHeld) (e : Edit)
+pub edit_refused : (r : SharedRefusal) (old new : PassHeld) (e : Asked)
     → (r ≢ refusal.Stopping → HappensTo old new (edit old.number e) (refused (number_of r))) → is_edit_refusal r ≡ true
 edit_refused refusal.Stopping old new e happens = refl
 edit_refused (refusal.Locked l) old new e happens =

@@ -1,6 +1,6 @@
 -- What a desk over a shared hub answers to a command, and what it makes of its pass.
 use Rattle.std.specs.Prelude.{◌≡◌, ◌≢◌, ◌⊎◌, ℕ, ◌≤◌, ◌<◌, Bool, true, false, None, List, All, length}
-use Rattle.op_model.specs.declared.edit.Edit.{Edit}
+use Rattle.op_model.specs.Actions.{Asked}
 use Rattle.op_model.specs.declared.lasting.Lasting.{Lasting}
 use Rattle.op_model.specs.declared.lasting.Neighbour.{Neighbour}
 use Rattle.op_model.specs.Text.{text, rev}
@@ -13,7 +13,8 @@ use Rattle.session_lines.specs.Saying.{number_of}
 use Rattle.session_lines.specs.declared.command.Command.{Command}
 use Rattle.session_lines.specs.declared.command.Command.TheVariants as command
 use Rattle.session_lines.specs.declared.answer.Answer.{Answer}
-use Rattle.session_lines.specs.declared.answer.Answer.TheVariants.{Edited, Text, Spans, Changes, Anchors, Places, Status, Peers, Stopped, Done, Refused}
+use Rattle.session_lines.specs.declared.answer.Answer.TheVariants.{Edited, Text, Spans, Changes, Anchors, Places}
+use Rattle.session_lines.specs.declared.answer.Answer.TheVariants.{Status, Peers, Stopped, Done, Refused, RefusedAt}
 use Rattle.session_lines.specs.declared.answer.State.{State}
 use Rattle.session_lines.specs.declared.answer.State.TheVariants as state
 use Rattle.session_lines.specs.declared.refusal.Refusal.{Refusal}
@@ -32,7 +33,7 @@ is_edit_refusal (refused_as.Locked e) = is_hub_refusal (number_of_locked e)
 is_edit_refusal refused_as.Stopping = true
 
 -- the hub gave a ticket for the edit, and later the ticket was acknowledged: only so an edit is answered
-pub record IsAcknowledged (old : PassHeld) (e : Edit) (rev : ℕ) (new : PassHeld) : Type 0 where
+pub record IsAcknowledged (old : PassHeld) (e : Asked) (rev : ℕ) (new : PassHeld) : Type 0 where
   pub given : Ticket
   pub edited : HappensTo old new (edit old.number e) (ticket given)
   pub acked : HappensTo new new (ack given) (acknowledged true)
@@ -40,19 +41,19 @@ pub record IsAcknowledged (old : PassHeld) (e : Edit) (rev : ℕ) (new : PassHel
 
 -- the hub gave a ticket, which at some moment wasn't settled; what became of it isn't known: the device failed, or no commit could
 -- begin
-pub record IsLeftOpen (old : PassHeld) (e : Edit) (new : PassHeld) : Type 0 where
+pub record IsLeftOpen (old : PassHeld) (e : Asked) (new : PassHeld) : Type 0 where
   pub given : Ticket
   pub edited : HappensTo old new (edit old.number e) (ticket given)
   pub unsettled : MomentOf new (λ l. l.replica.settled < given.end)
 
 -- the hub refused the edit with this number; or it was asked to stop before, and at some moment no edit was made under its token
-pub record IsRefusedEdit (old : PassHeld) (e : Edit) (refusal : Refusal) (new : PassHeld) : Type 0 where
+pub record IsRefusedEdit (old : PassHeld) (e : Asked) (refusal : Refusal) (new : PassHeld) : Type 0 where
   pub same : new ≡ old
   pub cause : refusal ≢ Stopping → HappensTo old old (edit old.number e) (refused (number_of refusal))
   pub stopped : refusal ≡ Stopping → MomentOf old (λ l. known_ticket l.replica e ≡ None)
 
 -- an edit is acknowledged; or the hub refused it so; or it is answered as failed
-abbrev pub ServesEdit : PassHeld → Edit → Answer → PassHeld → Type 0
+abbrev pub ServesEdit : PassHeld → Asked → Answer → PassHeld → Type 0
 ServesEdit old e (Edited rev) new = IsAcknowledged old e rev new
 ServesEdit old e (Refused refusal) new = IsRefusedEdit old e refusal new ⊎ ((refusal ≡ Failed) × IsLeftOpen old e new)
 ServesEdit old e (Text rev t) new = ⊥
@@ -64,6 +65,7 @@ ServesEdit old e (Status applied settled s) new = ⊥
 ServesEdit old e (Peers peers sessions) new = ⊥
 ServesEdit old e Stopped new = ⊥
 ServesEdit old e Done new = ⊥
+ServesEdit old e (RefusedAt refusal at) new = ⊥
 
 -- the text of a document at some moment, at which the pass's entries were the kept steps of its number; or out of memory
 abbrev pub ServesText : PassHeld → ℕ → Answer → PassHeld → Type 0

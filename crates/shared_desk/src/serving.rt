@@ -12,7 +12,7 @@ ghost use Rattle.shared_desk.specs.Serving.{ServesStatus, ServesPeers, ServesSto
 use crate::desk::SharedDesk;
 use crate::ending::End;
 use hub_parts::LockedRefusal;
-use op_model::{Edit, Neighbour};
+use op_model::{Action, Neighbour};
 use pass_books::BookNames;
 use session_lines::{
     Answer, ChangeList, Command, LastingList, Numbers, PeerList, PlaceList, Refusal, SpanList,
@@ -51,7 +51,7 @@ impl<'a, R: Wait, J: BookNames, C: Checkpoint> SharedDesk<'a, R, J, C> {
     /// Makes an edit, and waits until it is settled: it is answered only if it is acknowledged. One
     /// that was made before, under its token, isn't refused after a stop, and if it is settled, not
     /// after a failure. One that finds no steps left (10) asks the daemon to open its file anew.
-    fn edit(&mut self, edit: &Edit) -> Answer
+    fn edit(&mut self, edit: &Action) -> Answer
         ensures { ServesEdit self.old edit.now result self.new }
     {
         match self

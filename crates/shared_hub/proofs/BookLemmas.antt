@@ -5,10 +5,9 @@ use Rattle.std.specs.Prelude.{if◌then◌else◌}
 use Rattle.std.proofs.lemmas.Bool.Decides.{nat_tests}
 use Rattle.std.proofs.lemmas.List.{get_or-set_same, get_or-set_other, length-set}
 use Rattle.std.proofs.lemmas.Option.{slice_get_within, slice_get-get_or, get_or_from_slice_get}
-use Rattle.op_model.specs.declared.edit.Edit.{Edit}
+use Rattle.op_model.specs.Actions.{made_by_action, Asked}
 use Rattle.op_model.specs.Replay.{Kept, edited, merged, settlement}
 use Rattle.op_model.specs.declared.op.Op.{Op}
-use Rattle.op_model.specs.Made.{made}
 use Rattle.op_model.specs.Held.{with_edit, with_merge}
 use Rattle.hub_parts.specs.Locked.{LockedHeld}
 use Rattle.pass_books.specs.Accounts.{PassHeld}
@@ -40,7 +39,7 @@ behind_entry steps books n m end entries es fit mine found false is =
     fit m es (put_elsewhere books n m (end ∷ entries) es other found)
 
 -- books that fit do so behind an edit whose end is entered
-pub fit_edited : (steps : List Kept) (books : List (List ℕ)) (n end first count : ℕ) (e : Edit) (entries : List ℕ) → BooksFit steps books
+pub fit_edited : (steps : List Kept) (books : List (List ℕ)) (n end first count : ℕ) (e : Asked) (entries : List ℕ) → BooksFit steps books
     → entries ≡ ends_of n steps → end ≡ first + count
     → BooksFit (edited n e first count ∷ steps) (slice_set books n (end ∷ entries))
 fit_edited steps books n end first count e entries fit mine is m es found =
@@ -70,11 +69,11 @@ few_ends n (merged peer index ∷ steps) =
 few_ends n (settlement m ∷ steps) = let less = few_ends n steps in omega (arith, less)
 
 -- behind an edit of the locked part, books fit where the ticket's end is entered
-pub entered_edit : (l l' : LockedHeld) (books : List (List ℕ)) (p : PassHeld) (e : Edit) (end : ℕ) → BooksFit l.replica.steps books
+pub entered_edit : (l l' : LockedHeld) (books : List (List ℕ)) (p : PassHeld) (e : Asked) (end : ℕ) → BooksFit l.replica.steps books
     → p.entries ≡ ends_of p.number l.replica.steps → l' ≡ record l { replica = with_edit l.replica p.number e } → end ≡ length l'.replica.list
     → BooksFit l'.replica.steps (slice_set books p.number (end ∷ p.entries))
 entered_edit l l' books p e end fit mine made_is ends =
-    let all = made l.replica.list l.replica.replica e in
+    let all = made_by_action l.replica.list l.replica.replica e in
     let is : end ≡ length l.replica.list + length all =
     ends ∙ ap (λ k. length k.replica.list) made_is ∙ length-append l.replica.list all in
     rw made_is (fit_edited l.replica.steps books p.number end (length l.replica.list) (length all) e p.entries fit mine is)

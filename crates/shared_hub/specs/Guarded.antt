@@ -1,7 +1,7 @@
 -- What stands under the lock of a shared hub.
 use Rattle.std.specs.Prelude.{◌≡◌, ℕ, Bool, if◌then◌else◌, List, ◌∷◌, length, Result, Ok, Err, IfOk, OnErr}
 use Rattle.op_model.specs.Machine.{Ticket, after_edit as replica_after_edit}
-use Rattle.op_model.specs.declared.edit.Edit.{Edit}
+use Rattle.op_model.specs.Actions.{Asked}
 use Rattle.op_model.specs.declared.op.Op.{Op}
 use Rattle.hub_parts.specs.Locked.{IsLocked, LockedHeld}
 use Rattle.pass_books.specs.Accounts.{PassHeld}
@@ -44,7 +44,7 @@ Merges result old new = (end : ℕ) × (new ≡ after_merge result end old)
 
 -- An edit that a pass asks for: where it has a ticket, the locked part's replica has made it, and the pass has an entry more if it is new.
 -- Where it is refused, all is as before. Whether edits are still taken stays as it was.
-pub record EntersEdit (result : Result Ticket SharedRefusal) (edit : Edit) (before : GuardedHeld) (old : PassHeld) (after : GuardedHeld)
+pub record EntersEdit (result : Result Ticket SharedRefusal) (edit : Asked) (before : GuardedHeld) (old : PassHeld) (after : GuardedHeld)
     (new : PassHeld) : Type 0 where
   pub made : IfOk result (λ t. after.locked ≡ record before.locked { replica = replica_after_edit t before.locked.replica old.number edit })
   pub pass : new ≡ after_edit result old

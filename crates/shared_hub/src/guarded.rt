@@ -16,7 +16,7 @@ use disk_trait::Disk;
 use group_commit::StoreError;
 use hub_parts::{Flusher, Locked, Met};
 use op_ids::Clock;
-use op_model::{Edit, Op};
+use op_model::{Action, Op};
 use pass_books::{BookNames, Books, Pass};
 use replica_core::{Merged, Ticket};
 use std::marker::Model;
@@ -91,7 +91,7 @@ impl<J: BookNames> Guarded<J> {
     /// under its token, has the ticket that it had then, and is no step. Refuses another one with
     /// 12 if it was asked to stop, else as `Locked::edit` does (9, 6, 5, 7, 10, 8, 1). A refused
     /// edit changes nothing. Costs what `Locked::edit` does.
-    pub fn edit(&mut self, pass: &mut Pass<J>, edit: &Edit) -> Result<Ticket, SharedRefusal>
+    pub fn edit(&mut self, pass: &mut Pass<J>, edit: &Action) -> Result<Ticket, SharedRefusal>
         ensures mine { IsMine self.old.locked pass.old }
         ensures stopping { (result ≡ Err Stopping) ↔ ((self.old.stopping ≡ true)
             × (known_ticket self.old.locked.replica edit.now ≡ None)) }
@@ -109,7 +109,7 @@ impl<J: BookNames> Guarded<J> {
     }
 
     /// Makes an edit, and enters it where it is new.
-    fn enter_edit(&mut self, pass: &mut Pass<J>, edit: &Edit) -> Result<Ticket, SharedRefusal>
+    fn enter_edit(&mut self, pass: &mut Pass<J>, edit: &Action) -> Result<Ticket, SharedRefusal>
         requires { IsMine self.old.locked pass.old }
         ensures call { EditStep (state_of self.old.locked) pass.old.number edit.now
             (edited result) (state_of self.new.locked) }

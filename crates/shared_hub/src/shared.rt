@@ -18,7 +18,7 @@ use disk_trait::Disk;
 use group_commit::StoreError;
 use hub_parts::{Flusher, Met};
 use op_ids::Clock;
-use op_model::{Edit, Op};
+use op_model::{Action, Op};
 use pass_books::{BookNames, Pass};
 use replica_core::{Merged, Ticket};
 use std::sync::{Condvar, Mutex, Wait};
@@ -70,7 +70,7 @@ impl<J: BookNames> Shared<J> {
         &self,
         rt: &R,
         pass: &mut Pass<J>,
-        edit: &Edit,
+        edit: &Action,
     ) -> Result<Ticket, SharedRefusal>
         // The pass has one entry more exactly where a new edit has a ticket: the ticket's end.
         ensures pass { pass.new ≡ after_edit result pass.old }

@@ -9,7 +9,7 @@ use std::io::Write;
 pub(crate) fn lines(alloc: Global, answers: &[Answer]) -> Result<Vec<u8>, Fault> {
     let mut text = Vec::new(alloc);
     for answer in answers {
-        if let Answer::Refused(_) = answer {
+        if let Answer::Refused(_) | Answer::RefusedAt { .. } = answer {
             return Err(Fault::Memory);
         }
         if say(alloc, answer, &mut text).is_err() {

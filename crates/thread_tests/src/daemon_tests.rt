@@ -50,12 +50,28 @@ const SPANS_BA: &str = "{\"ok\":true,\"rev\":2,\"spans\":[{\"text\":\"ba\"}]}";
 const TEXT_BA: &str = "{\"ok\":true,\"rev\":2,\"text\":\"ba\"}";
 
 /// What is answered to the session that edits while the other one's commit is under way.
-const OF_THE_SECOND: [(&str, &str); 4] = [
+const OF_THE_SECOND: [(&str, &str); 8] = [
     (INSERT_B, REV_2),
     (TEXT, TEXT_BA),
     (SPANS, SPANS_BA),
+    (
+        "{\"op\":\"changes\",\"doc\":1,\"since\":1}",
+        "{\"changes\":[{\"insert\":\"b\"}],\"ok\":true,\"rev\":2}",
+    ),
+    (
+        "{\"op\":\"anchors\",\"doc\":1,\"at\":[0],\"side\":\"previous\"}",
+        "{\"anchors\":[\"start\"],\"ok\":true,\"rev\":2}",
+    ),
+    (
+        "{\"op\":\"places\",\"doc\":1,\"anchors\":[\"start\",\"end\"]}",
+        "{\"ok\":true,\"places\":[0,2],\"rev\":2}",
+    ),
+    (TWO_AT_ONCE, "{\"ok\":true,\"rev\":4}"),
     (STOP, STOPPED),
 ];
+
+/// A character comes and goes in one line.
+const TWO_AT_ONCE: &str = "{\"op\":\"edits\",\"doc\":1,\"edits\":[{\"op\":\"insert\",\"at\":2,\"text\":\"c\"},{\"op\":\"delete\",\"at\":2,\"count\":1}]}";
 
 /// An edit, and then a stop with an edit behind it, which is refused.
 const INSERT_AND_STOP: [(&str, &str); 2] = [

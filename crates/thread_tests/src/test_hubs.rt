@@ -5,7 +5,7 @@ use disk_trait::MemDisk;
 use group_commit::Store;
 use hub_parts::{Parts, open};
 use op_ids::ReplicaId;
-use op_model::{Change, Edit, EditText};
+use op_model::{Action, Change, Edit, EditText};
 use std::alloc::Global;
 
 /// The replica whose name ends in this byte.
@@ -14,10 +14,10 @@ pub fn replica(last: u8) -> Option<ReplicaId> {
 }
 
 /// The insert of one character at the beginning of a document.
-pub fn insert(alloc: Global, doc: u32) -> Option<Edit> {
+pub fn insert(alloc: Global, doc: u32) -> Option<Action> {
     let mut text = Vec::new(alloc);
     text.push('a').ok()?;
-    Some(Edit {
+    let edit = Edit {
         doc,
         rev: None,
         token: None,
@@ -25,7 +25,8 @@ pub fn insert(alloc: Global, doc: u32) -> Option<Edit> {
             at: 0,
             text: EditText::new(text)?,
         },
-    })
+    };
+    Some(Action::one(alloc, edit))
 }
 
 /// The parts of a new replica's hub, whose name ends in 1.

@@ -6,9 +6,8 @@ use Rattle.std.specs.Option.{option_map, option_and_then}
 use Rattle.std.proofs.lemmas.Bool.{cases_Bool, eqb-true}
 use Rattle.op_ids.specs.Clock.{is_ready}
 use Rattle.op_model.specs.declared.op.Op.{Op}
-use Rattle.op_model.specs.declared.edit.Edit.{Edit}
+use Rattle.op_model.specs.Actions.{Asked, made_by_action}
 use Rattle.op_model.specs.Causality.{clock_of, is_known, first_failed}
-use Rattle.op_model.specs.Made.{made, greatest_counter, bodies_of}
 use Rattle.op_model.specs.Held.{ReplicaHeld, with_edit, with_merge}
 use Rattle.op_model.specs.Tokens.{carries, is_token, last_of}
 use Rattle.op_model.specs.Machine.{Commit, State, Ticket, Event, edit, merge, begin, device_step}
@@ -19,7 +18,8 @@ use Rattle.op_model.specs.Machine.{ticket_behind, token_ticket, known_ticket, me
 use Rattle.op_model.specs.Machine.{EditStep, MergeStep, BeginStep, DeviceStep, SettleStep, AckStep, TellStep, HaveStep, Step}
 use Rattle.op_model.specs.Machine.{reopened, CrashLeavesOf}
 use Rattle.op_model.specs.Records.{record_length}
-use Rattle.model_laws.proofs.LastOf.{last_of-behind, last_of-take, last_of-within, numbered_other}
+use Rattle.model_laws.proofs.InTurn.{action_other}
+use Rattle.model_laws.proofs.LastOf.{last_of-behind, last_of-take, last_of-within}
 use Rattle.model_laws.proofs.Tickets.{edit_cases, was_made, is_new}
 use Rattle.world_law.specs.World.{World, HasMachine}
 use Rattle.world_law.specs.Histories.{Happening, step, crash, Happens, History, IsChanged}
@@ -54,7 +54,7 @@ is_found : (s : State) (token : ℕ) (t : Ticket) (asked : Option ℕ) → is_to
 is_found s token t None is k = let never : ⊥ = cc in absurd never
 is_found s token t (Some u) is k = let same : u ≡ token = eqb-true u token is in rw same k
 
-pub other_token : (s : State) (e : Edit) (token : ℕ) (t : Ticket) → known_ticket s.held e ≡ None → token_ticket s.held token ≡ Some t
+pub other_token : (s : State) (e : Asked) (token : ℕ) (t : Ticket) → known_ticket s.held e ≡ None → token_ticket s.held token ≡ Some t
     → is_token token e.token ≡ false
 other_token s e token t none k =
     elim (cases_Bool (is_token token e.token)) [
@@ -62,14 +62,13 @@ other_token s e token t none k =
       | inr is ↦ is
     ]
 
-edit_grows : (s : State) (session : ℕ) (e : Edit) → known_ticket s.held e ≡ None → KeepsAnswers s (holding s (with_edit s.held session e))
+edit_grows : (s : State) (session : ℕ) (e : Asked) → known_ticket s.held e ≡ None → KeepsAnswers s (holding s (with_edit s.held session e))
 edit_grows s session e none token t h =
     let other = other_token s e token t none h.ticket in
-    grown s (with_edit s.held session e) (made s.held.list s.held.replica e) token t refl refl refl
-    (numbered_other s.held.replica token s.held.replica e.doc e.token (greatest_counter s.held.list + 1) (clock_of s.held.list)
-    (bodies_of s.held.list s.held.replica e.doc e.change) other) h
+    grown s (with_edit s.held session e) (made_by_action s.held.list s.held.replica e) token t refl refl refl
+    (action_other s.held.list s.held.replica e s.held.replica token other) h
 
-edit_keeps : (s next : State) (session : ℕ) (e : Edit) (a : Answer) → EditStep s session e a next → KeepsAnswers s next
+edit_keeps : (s next : State) (session : ℕ) (e : Asked) (a : Answer) → EditStep s session e a next → KeepsAnswers s next
 edit_keeps s next session e (ticket u) (is, at) token t h =
     elim (edit_cases s e u is) [
       | was_made k found ↦ let same : next ≡ s = rw found.known at at in rw same h

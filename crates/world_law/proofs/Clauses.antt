@@ -1,13 +1,13 @@
 -- What every sound world has: one operation under an id, and one text under a clock.
-use Rattle.std.proofs.Common.{◌≡◌, ◌+◌, ◌<◌, inl, inr, List, ap, ◌∙◌, sym, arith}
+use Rattle.std.proofs.Common.{◌≡◌, ◌<◌, inl, inr, List, ap, ◌∙◌, sym}
 use Rattle.std.specs.List.{list_all}
 use Rattle.std.proofs.lemmas.Bool.{both_ways}
 use Rattle.op_ids.specs.Id.{is_below, is_same}
 use Rattle.op_ids.specs.Clock.{count_of}
 use Rattle.op_model.specs.declared.op.Op.{Op}
 use Rattle.op_model.specs.Causality.{clock_of, HasOp, HaveSameOps}
-use Rattle.op_model.specs.Made.{greatest_counter, bodies_of, made}
-use Rattle.model_laws.proofs.Above.{numbered_above}
+use Rattle.op_model.specs.Actions.{made_by_action}
+use Rattle.model_laws.proofs.InTurn.{in_turn_above}
 use Rattle.model_laws.proofs.Marked.{same_text, same_spans, same_rev}
 use Rattle.model_laws.proofs.Ids.{below_differs, equal_same}
 use Rattle.world_law.specs.Counts.{own_count}
@@ -88,9 +88,8 @@ module _ (w : World) (sound : IsSoundWorld w) where
       let (n, i, r, l) = told_home told t in
       let one = one_machine w.machines n m sound.apart i h (r ∙ ap (λ id. id.replica) (sym e) ∙ own) in
       let there : HasOp m.held.list told = rw one at l in
-      let greater = numbered_above m.held.list m.held.replica edit.doc edit.token (greatest_counter m.held.list + 1) (clock_of m.held.list)
-      (bodies_of m.held.list m.held.replica edit.doc edit.change) (omega arith) in
-      let above = all_at (λ o. list_all (λ earlier. is_below earlier.id o.id) m.held.list) (made m.held.list m.held.replica edit) op greater k in
+      let greater = in_turn_above m.held.list m.held.replica edit.doc edit.token edit.changes in
+      let above = all_at (λ o. list_all (λ earlier. is_below earlier.id o.id) m.held.list) (made_by_action m.held.list m.held.replica edit) op greater k in
       let below = all_at (λ earlier. is_below earlier.id op.id) m.held.list told above there in
       both_ways (is_same told.id op.id) (below_differs told.id op.id below) (equal_same told.id op.id (sym e))
 

@@ -6,19 +6,21 @@ use Rattle.std.proofs.lemmas.Bool.Decides.{nat_tests}
 use Rattle.op_ids.specs.Clock.{advanced}
 use Rattle.op_model.specs.declared.op.Op.{Op}
 use Rattle.op_model.specs.declared.op.Body.{Body}
-use Rattle.op_model.specs.declared.edit.Edit.{Edit}
+use Rattle.op_model.specs.Actions.{Asked, made_by_action}
 use Rattle.op_model.specs.Causality.{clock_of}
 use Rattle.op_model.specs.Text.{rev}
-use Rattle.op_model.specs.Made.{numbered, made, greatest_counter, bodies_of}
+use Rattle.op_model.specs.Made.{numbered, greatest_counter}
 use Rattle.op_model.specs.Held.{ReplicaHeld, with_edit}
 use Rattle.op_model.specs.Tokens.{carries, last_of}
 use Rattle.op_model.specs.Machine.{State, Ticket, ticket, refused, ticket_of, ticket_behind, token_ticket, known_ticket}
 use Rattle.op_model.specs.Machine.{edit_answer}
+use Rattle.model_laws.specs.Acting.{bodies_in_turn}
+use Rattle.model_laws.proofs.InTurn.{in_turn_numbered}
 use Rattle.model_laws.proofs.LastOf.{last_of-here}
 use Rattle.model_laws.proofs.Tickets.{token_known, edit_cases, was_made, is_new}
 use Rattle.world_law.specs.Tokens.{IsAnsweredAsItWas, IsAnsweredFromThenOn}
 
-known_answer : (s : State) (e : Edit) (token : ℕ) (t : Ticket) → e.token ≡ Some token → token_ticket s.held token ≡ Some t
+known_answer : (s : State) (e : Asked) (token : ℕ) (t : Ticket) → e.token ≡ Some token → token_ticket s.held token ≡ Some t
     → known_ticket s.held e ≡ Some t
 known_answer s e token t named k = rw named k
 
@@ -68,13 +70,15 @@ with_ticket ops replica doc token last =
     let count : rev (last.before ++ last.op ∷ []) last.op.doc ≡ rev ops doc = rw (last.whole, last.of_doc) refl in
     rw last.found (rw (long, count) refl)
 
-made_ticket : (h : ReplicaHeld) (session : ℕ) (e : Edit) (token : ℕ) → e.token ≡ Some token → made h.list h.replica e ≢ []
-    → token_ticket (with_edit h session e) token ≡ Some (record (ticket_of (h.list ++ made h.list h.replica e) e.doc) { known = true })
+made_ticket : (h : ReplicaHeld) (session : ℕ) (e : Asked) (token : ℕ) → e.token ≡ Some token → made_by_action h.list h.replica e ≢ []
+    → token_ticket (with_edit h session e) token ≡ Some (record (ticket_of (h.list ++ made_by_action h.list h.replica e) e.doc) { known = true })
 made_ticket h session e token named some =
     let counter = greatest_counter h.list + 1 in
-    let bodies = bodies_of h.list h.replica e.doc e.change in
-    let last = last_of_bodies h.list h.replica e.doc token counter (clock_of h.list) bodies (rw named at some) in
-    with_ticket (h.list ++ made h.list h.replica e) h.replica e.doc token (rw named last)
+    let bodies = bodies_in_turn h.list h.replica e.doc e.token e.changes in
+    let all : made_by_action h.list h.replica e ≡ numbered h.replica e.doc (Some token) counter (clock_of h.list) bodies =
+    in_turn_numbered h.list h.replica e.doc e.token e.changes ∙ ap (λ t. numbered h.replica e.doc t counter (clock_of h.list) bodies) named in
+    let last = last_of_bodies h.list h.replica e.doc token counter (clock_of h.list) bodies (rw all at some) in
+    with_ticket (h.list ++ made_by_action h.list h.replica e) h.replica e.doc token (rw all last)
 
 pub answered_from_then_on : IsAnsweredFromThenOn
 answered_from_then_on s next session e token t named some (is, at) =

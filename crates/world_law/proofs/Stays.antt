@@ -1,9 +1,8 @@
 -- The ticket of a token stays, whatever steps a machine makes.
-use Rattle.std.proofs.Common.{◌≡◌, ℕ, ◌+◌, true, false, inl, inr, List, [], ◌∷◌, ◌++◌, Some, None, refl}
+use Rattle.std.proofs.Common.{◌≡◌, ℕ, true, false, inl, inr, List, [], ◌∷◌, ◌++◌, Some, None, refl}
 use Rattle.op_model.specs.declared.op.Op.{Op}
-use Rattle.op_model.specs.declared.edit.Edit.{Edit}
+use Rattle.op_model.specs.Actions.{Asked, made_by_action}
 use Rattle.op_model.specs.Causality.{clock_of, is_known, first_failed}
-use Rattle.op_model.specs.Made.{made, greatest_counter, bodies_of}
 use Rattle.op_model.specs.Held.{ReplicaHeld, with_edit, with_merge}
 use Rattle.op_model.specs.Tokens.{carries, last_of}
 use Rattle.op_model.specs.Machine.{State, Ticket, Event, edit, merge, begin, device_step}
@@ -15,7 +14,8 @@ use Rattle.op_model.specs.Machine.{EditStep, MergeStep, BeginStep, DeviceStep, S
 use Rattle.op_model.specs.Records.{record_length}
 use Rattle.op_ids.specs.Clock.{is_ready}
 use Rattle.std.specs.Prelude.{◌==◌}
-use Rattle.model_laws.proofs.LastOf.{last_of-behind, numbered_other}
+use Rattle.model_laws.proofs.InTurn.{action_other}
+use Rattle.model_laws.proofs.LastOf.{last_of-behind}
 use Rattle.model_laws.proofs.Tickets.{edit_cases, was_made, is_new}
 use Rattle.world_law.specs.Laws.{ActsOnce, Answers}
 use Rattle.world_law.specs.Tokens.{WasAnswered}
@@ -32,15 +32,14 @@ stays_behind : (s : State) (h : ReplicaHeld) (more : List Op) (token : ℕ) (t :
     → last_of (carries s.held.replica token) more ≡ None → token_ticket s.held token ≡ Some t → token_ticket h token ≡ Some t
 stays_behind s h more token t number list none k = rw (number, list) (rw (last_of-behind (carries s.held.replica token) s.held.list more none) k)
 
-edit_stays : (s next : State) (session : ℕ) (e : Edit) (a : Answer) → EditStep s session e a next → Stays s next
+edit_stays : (s next : State) (session : ℕ) (e : Asked) (a : Answer) → EditStep s session e a next → Stays s next
 edit_stays s next session e (ticket u) (is, at) token t h =
     elim (edit_cases s e u is) [
       | was_made k found ↦ let same : next ≡ s = rw found.known at at in rw same h
       | is_new k answer due ↦
           let other = other_token s e token t k h in
-          rw at (rw due (stays_behind s (with_edit s.held session e) (made s.held.list s.held.replica e) token t refl refl
-          (numbered_other s.held.replica token s.held.replica e.doc e.token (greatest_counter s.held.list + 1) (clock_of s.held.list)
-          (bodies_of s.held.list s.held.replica e.doc e.change) other) h))
+          rw at (rw due (stays_behind s (with_edit s.held session e) (made_by_action s.held.list s.held.replica e) token t refl refl
+          (action_other s.held.list s.held.replica e s.held.replica token other) h))
     ]
 edit_stays s next session e (refused n) (is, at) token t h = rw at h
 edit_stays s next session e _ k token t h = absurd k
@@ -105,7 +104,7 @@ run_stays s next [] is token t h = rw is h
 run_stays s next (e ∷ es) (mid, first, rest) token t h = run_stays mid next es rest token t (step_stays s e.0 e.1 mid first token t h)
 
 -- an edit that was answered, under a token
-pub answers_behind : (s m : State) (session : ℕ) (e : Edit) (token : ℕ) (t : Ticket) → WasAnswered s session e token t m
+pub answers_behind : (s m : State) (session : ℕ) (e : Asked) (token : ℕ) (t : Ticket) → WasAnswered s session e token t m
     → Answers m token (record t { known = true })
 answers_behind s m session e token t was =
     let given = answered_from_then_on s was.behind session e token t was.named was.some was.given in

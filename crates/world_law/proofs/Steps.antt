@@ -1,18 +1,15 @@
 -- Each event of a replica, and each crash, keeps what the replica keeps; and what it tells is settled.
-use Rattle.std.proofs.Common.{◌≡◌, ℕ, ◌+◌, ◌≤◌, Bool, true, false, not, ◌&&◌, ◌⊎◌, inl, inr, List}
+use Rattle.std.proofs.Common.{◌≡◌, ℕ, ◌+◌, ◌≤◌, Bool, true, false, not, ◌⊎◌, inl, inr, List}
 use Rattle.std.proofs.Common.{[], ◌∷◌, ◌++◌, length, take, Option, Some, None, arith, ap, refl, sym}
 use Rattle.std.proofs.Common.{◌∙◌, map, filter, take_all, length-append}
 use Rattle.std.specs.Prelude.{◌==◌, nat_le, if◌then◌else◌, is_some}
 use Rattle.std.specs.List.{enumerate_from}
 use Rattle.std.proofs.lemmas.Bool.{cases_Bool}
 use Rattle.std.proofs.lemmas.List.{take-append-le, take-map}
-use Rattle.op_ids.specs.Clock.{advanced, is_ready}
+use Rattle.op_ids.specs.Clock.{is_ready}
 use Rattle.op_model.specs.declared.op.Op.{Op}
-use Rattle.op_model.specs.declared.op.Body.{Body}
-use Rattle.op_model.specs.declared.edit.Edit.{Edit}
-use Rattle.op_model.specs.Text.{rev, visible}
-use Rattle.op_model.specs.Causality.{clock_of, is_known, first_failed, is_within_limits, HasOp}
-use Rattle.op_model.specs.Made.{numbered, made, greatest_counter, bodies_of, edit_refusal, is_at_rev, is_inside, is_small}
+use Rattle.op_model.specs.Actions.{Asked, made_by_action, refusal_of}
+use Rattle.op_model.specs.Causality.{clock_of, is_known, first_failed, HasOp, IsCausallyClosed}
 use Rattle.op_model.specs.Held.{ReplicaHeld, with_edit, with_merge}
 use Rattle.op_model.specs.Telling.{due, untold}
 use Rattle.op_model.specs.Machine.{Commit, State, Ticket, Event, edit, merge, begin, device_step}
@@ -26,7 +23,8 @@ use Rattle.op_model.specs.Machine.{BeginStep, DeviceStep, SettleStep, AckStep, T
 use Rattle.op_model.specs.Machine.{Step, reopened, CrashLeavesOf, CrashLeaves}
 use Rattle.op_model.specs.Records.{record_length}
 use Rattle.model_laws.proofs.Growth.{closed_push}
-use Rattle.model_laws.proofs.Makes.{closed_made}
+use Rattle.model_laws.proofs.InTurnText.{in_turn_for, none_refused_closed}
+use Rattle.model_laws.proofs.RoomInTurn.{action_not_refused}
 use Rattle.model_laws.proofs.Tickets.{edit_cases, was_made, is_new}
 use Rattle.world_law.specs.World.{Message, IsInBag, told_by}
 use Rattle.world_law.specs.Histories.{ComesFrom}
@@ -36,14 +34,8 @@ use Rattle.world_law.proofs.Sound.{IsWithin, IsSound, Goes, goes_same}
 use Rattle.model_laws.proofs.Passing.{passed_follows}
 
 -- an edit's operations are its replica's
-numbered_own : (replica doc : ℕ) (token : Option ℕ) (counter : ℕ) (deps : List (ℕ × ℕ)) (bodies : List Body) (op : Op)
-    → HasOp (numbered replica doc token counter deps bodies) op → op.id.replica ≡ replica
-numbered_own replica doc token counter deps [] op h = absurd h
-numbered_own replica doc token counter deps (b ∷ bs) op (inl e) = ap (λ o. o.id.replica) (sym e)
-numbered_own replica doc token counter deps (b ∷ bs) op (inr h) = numbered_own replica doc token (counter + 1) (advanced deps replica) bs op h
-
-pub made_own : (ops : List Op) (replica : ℕ) (e : Edit) (op : Op) → HasOp (made ops replica e) op → op.id.replica ≡ replica
-made_own ops replica e op h = numbered_own replica e.doc e.token (greatest_counter ops + 1) (clock_of ops) (bodies_of ops replica e.doc e.change) op h
+pub made_own : (ops : List Op) (replica : ℕ) (e : Asked) (op : Op) → HasOp (made_by_action ops replica e) op → op.id.replica ≡ replica
+made_own ops replica e op h = (in_turn_for ops replica e.doc e.token e.changes op h).replica_is
 
 -- operations more, behind the list: a commit keeps its place
 within_more : (low high more : ℕ) (c : Option Commit) → high ≤ more → IsWithin low high c → IsWithin low more c
@@ -51,7 +43,7 @@ within_more low high more None l h = tt
 within_more low high more (Some c) l h = (h.0, omega arith)
 
 -- where an edit is answered a ticket, nothing refuses it
-ticket_unless : (h : ReplicaHeld) (e : Edit) (t : Ticket) (r : Option ℕ) → edit_answer_unless h e r ≡ ticket t → r ≡ None
+ticket_unless : (h : ReplicaHeld) (e : Asked) (t : Ticket) (r : Option ℕ) → edit_answer_unless h e r ≡ ticket t → r ≡ None
 ticket_unless h e t None is = refl
 ticket_unless h e t (Some n) is = absurd (cc)
 
@@ -63,45 +55,34 @@ ticket_alone false false t (ticket u) is = absurd (cc)
 ticket_alone false false t applied is = absurd (cc)
 ticket_alone false false t answer is = is
 
-abbrev refusal_of : Bool → Bool → Bool → Bool → Option ℕ
-refusal_of at inside small limits =
-    if not at then Some 6 else if not inside then Some 5 else if not (small && limits) then Some 7 else None
+-- so the list stays closed
+edit_closed : (s : State) (e : Asked) (t : Ticket) → IsCausallyClosed s.held.list → new_edit_answer s e ≡ ticket t
+    → IsCausallyClosed (s.held.list ++ made_by_action s.held.list s.held.replica e)
+edit_closed s e t closed is =
+    let none = ticket_unless s.held e t (refusal_of s.held.list s.held.replica e) (ticket_alone s.failure_told (has_record_room s (edit_length s.held e)) t (new_edit_alone s.held e) is) in
+    none_refused_closed s.held.list s.held.replica e.doc e.token e.changes closed (action_not_refused s.held.list s.held.replica e closed none)
 
-limits_of : (at inside small limits : Bool) → refusal_of at inside small limits ≡ None → limits ≡ true
-limits_of true true true true e = refl
-limits_of true true true false e = absurd (cc)
-limits_of true true false l e = absurd (cc)
-limits_of true false s l e = absurd (cc)
-limits_of false i s l e = absurd (cc)
-
-edit_within : (s : State) (e : Edit) (t : Ticket) → new_edit_answer s e ≡ ticket t
-    → is_within_limits (s.held.list ++ made s.held.list s.held.replica e) ≡ true
-edit_within s e t is =
-    let none = ticket_unless s.held e t (edit_refusal s.held.list s.held.replica e) (ticket_alone s.failure_told (has_record_room s (edit_length s.held e)) t (new_edit_alone s.held e) is) in
-    limits_of (is_at_rev (rev s.held.list e.doc) e.rev) (is_inside (length (visible s.held.list e.doc)) e.change) (is_small e.change)
-    (is_within_limits (s.held.list ++ made s.held.list s.held.replica e)) none
-
-edit_made : (bag : List Message) (s : State) (session : ℕ) (e : Edit) (t : Ticket) → IsSound bag s
+edit_made : (bag : List Message) (s : State) (session : ℕ) (e : Asked) (t : Ticket) → IsSound bag s
     → new_edit_answer s e ≡ ticket t → Goes bag s (holding s (with_edit s.held session e))
 edit_made bag s session e t h is =
-    let long = length-append s.held.list (made s.held.list s.held.replica e) in
-    let front = take-append-le s.held.settled s.held.list (made s.held.list s.held.replica e) h.settled in
+    let long = length-append s.held.list (made_by_action s.held.list s.held.replica e) in
+    let front = take-append-le s.held.settled s.held.list (made_by_action s.held.list s.held.replica e) h.settled in
     let settled = h.settled in
     record {
       sound = record {
-        closed = closed_made s.held.list s.held.replica e h.closed (edit_within s e t is);
-        foreign = λ op k. elim (HasOp-cases s.held.list (made s.held.list s.held.replica e) op k) [
+        closed = edit_closed s e t h.closed is;
+        foreign = λ op k. elim (HasOp-cases s.held.list (made_by_action s.held.list s.held.replica e) op k) [
           | inl l ↦ h.foreign op l
           | inr l ↦ inl (made_own s.held.list s.held.replica e op l)
         ];
         settled = omega arith;
-        commit = within_more s.held.settled (length s.held.list) (length (s.held.list ++ made s.held.list s.held.replica e)) s.commit (omega arith) h.commit;
+        commit = within_more s.held.settled (length s.held.list) (length (s.held.list ++ made_by_action s.held.list s.held.replica e)) s.commit (omega arith) h.commit;
       };
       number = refl;
       kept = λ op k. rw front k;
     }
 
-edit_goes : (bag : List Message) (s : State) (session : ℕ) (e : Edit) (a : Answer) (next : State) → IsSound bag s
+edit_goes : (bag : List Message) (s : State) (session : ℕ) (e : Asked) (a : Answer) (next : State) → IsSound bag s
     → EditStep s session e a next → Goes bag s next
 edit_goes bag s session e (ticket t) next h (is, at) =
     elim (edit_cases s e t is) [

@@ -1,17 +1,16 @@
 -- Under each token a replica has the operations of one edit, one after another: no crash cuts them, since each leaves a list at whose end a
 -- step ended.
-use Rattle.std.proofs.Common.{◌≡◌, ℕ, zero, suc, ◌+◌, ◌<◌, ◌≤◌, Bool, true, false, ◌⊎◌, inl, inr, not}
+use Rattle.std.proofs.Common.{◌≡◌, ℕ, zero, suc, ◌+◌, ◌≤◌, Bool, true, false, ◌⊎◌, inl, inr}
 use Rattle.std.proofs.Common.{List, [], ◌∷◌, ◌++◌, length, take, Option, Some, None, arith, ap, refl, sym, ◌∙◌, append_assoc, length-append, append-nil}
 use Rattle.std.specs.Prelude.{◌==◌, Contains, if◌then◌else◌, nat_le, is_some}
 use Rattle.std.specs.Option.{option_and_then, option_map}
 use Rattle.std.proofs.lemmas.Bool.{cases_Bool, eqb-true}
-use Rattle.std.proofs.lemmas.List.{take_all, take-append-le, length-take-le}
+use Rattle.std.proofs.lemmas.List.{take_all, take-append-le}
 use Rattle.op_ids.specs.Clock.{is_ready}
 use Rattle.op_model.specs.declared.op.Op.{Op}
-use Rattle.op_model.specs.declared.edit.Edit.{Edit}
+use Rattle.op_model.specs.Actions.{Asked, made_by_action}
 use Rattle.op_model.specs.Causality.{clock_of, is_known, first_failed}
 use Rattle.op_model.specs.Held.{ReplicaHeld, with_edit, with_merge}
-use Rattle.op_model.specs.Made.{made, greatest_counter, bodies_of}
 use Rattle.op_model.specs.Records.{record_length}
 use Rattle.op_model.specs.Replay.{reached}
 use Rattle.op_model.specs.Tokens.{carries, is_token, last_of}
@@ -21,7 +20,8 @@ use Rattle.op_model.specs.Machine.{begun, nothing_new, idle, goes_on, goes_throu
 use Rattle.op_model.specs.Machine.{through, through_of, has_record_room, ticket_behind, token_ticket, known_ticket, merge_alone, merge_answer_unless}
 use Rattle.op_model.specs.Machine.{EditStep, MergeStep, BeginStep, DeviceStep, SettleStep, AckStep, TellStep, HaveStep, Step}
 use Rattle.op_model.specs.Machine.{opened, reopened, CrashLeaves, CrashLeavesOf}
-use Rattle.model_laws.proofs.LastOf.{last_of-behind, numbered_other}
+use Rattle.model_laws.proofs.InTurn.{action_other}
+use Rattle.model_laws.proofs.LastOf.{last_of-behind}
 use Rattle.model_laws.proofs.Tickets.{edit_cases, was_made, is_new}
 use Rattle.world_law.specs.World.{World, HasMachine, IsBeginning}
 use Rattle.world_law.specs.Histories.{Happening, step, crash, Happens, History}
@@ -110,7 +110,7 @@ joined replica token list more none (inr one) = inr (record {
   named = one.named;
   front = one.front;
   rest = one.rest ++ more;
-  whole = ap (λ ops. ops ++ more) one.whole ∙ append_assoc (one.front ++ made one.front replica one.edit) one.rest more;
+  whole = ap (λ ops. ops ++ more) one.whole ∙ append_assoc (one.front ++ made_by_action one.front replica one.edit) one.rest more;
   before = one.before;
   after = last_of-behind (carries replica token) one.rest more none ∙ one.after;
 })
@@ -127,7 +127,7 @@ token_is_new h token (Some u) is none =
     let same : u ≡ token = eqb-true u token is in
     (ap (λ t. Some t) same, none_carries (last_of (carries h.replica token) h.list) (rw (← same) none))
 
-edit_together : (h : ReplicaHeld) (e : Edit) → known_ticket h e ≡ None → IsTogether h.replica h.list → IsTogether h.replica (h.list ++ made h.list h.replica e)
+edit_together : (h : ReplicaHeld) (e : Asked) → known_ticket h e ≡ None → IsTogether h.replica h.list → IsTogether h.replica (h.list ++ made_by_action h.list h.replica e)
 edit_together h e new before token = elim (cases_Bool (is_token token e.token)) [
   | inl is ↦
       let named = token_is_new h token e.token is new in
@@ -136,22 +136,21 @@ edit_together h e new before token = elim (cases_Bool (is_token token e.token)) 
         named = named.0;
         front = h.list;
         rest = [];
-        whole = sym (append-nil (h.list ++ made h.list h.replica e));
+        whole = sym (append-nil (h.list ++ made_by_action h.list h.replica e));
         before = named.1;
         after = refl;
       })
   | inr other ↦
-      joined h.replica token h.list (made h.list h.replica e)
-      (numbered_other h.replica token h.replica e.doc e.token (greatest_counter h.list + 1) (clock_of h.list)
-      (bodies_of h.list h.replica e.doc e.change) other) (before token)
+      joined h.replica token h.list (made_by_action h.list h.replica e)
+      (action_other h.list h.replica e h.replica token other) (before token)
 ]
 
-edit_whole : (s next : State) (session : ℕ) (e : Edit) (a : Answer) → EditStep s session e a next → IsWhole s → IsWhole next
+edit_whole : (s next : State) (session : ℕ) (e : Asked) (a : Answer) → EditStep s session e a next → IsWhole s → IsWhole next
 edit_whole s next session e (ticket u) (is, at) h =
     elim (edit_cases s e u is) [
       | was_made k found ↦ let same : next ≡ s = rw found.known at at in rw same h
       | is_new k answer due ↦ rw at (rw due
-          (grown s (with_edit s.held session e) (made s.held.list s.held.replica e) (length s.held.list + length (made s.held.list s.held.replica e)) refl refl refl
+          (grown s (with_edit s.held session e) (made_by_action s.held.list s.held.replica e) (length s.held.list + length (made_by_action s.held.list s.held.replica e)) refl refl refl
           refl refl (edit_together s.held e k (together_now s h)) h))
     ]
 edit_whole s next session e (refused n) (is, at) h = rw at h

@@ -1,11 +1,10 @@
 -- What is so of every world that a history leads to.
 use Rattle.std.specs.Prelude.{◌≡◌, ◌≢◌, ℕ, ◌≤◌, List, ◌++◌, take, Some, true}
 use Rattle.op_model.specs.declared.op.Op.{Op}
-use Rattle.op_model.specs.declared.edit.Edit.{Edit}
+use Rattle.op_model.specs.Actions.{Asked, made_by_action}
 use Rattle.op_model.specs.Causality.{clock_of, HasOp}
 use Rattle.op_model.specs.Text.{text, rev}
 use Rattle.op_model.specs.Spans.{spans}
-use Rattle.op_model.specs.Made.{made}
 use Rattle.op_model.specs.Machine.{State, Answer, Ticket, ticket, token_ticket, EditStep}
 use Rattle.world_law.specs.World.{World, HasMachine, IsInBag, IsBeginning}
 use Rattle.world_law.specs.Histories.{Happening, History}
@@ -27,7 +26,8 @@ pub record TellsOneOperation (w : World) : Type 0 where
 -- no edit of any replica makes an operation with this one's id, whether it would be refused or not
 abbrev pub MakesNoOther : World → Op → Type 0
 MakesNoOther w told =
-    (m : State) (edit : Edit) (op : Op) → HasMachine w.machines m → HasOp (made m.held.list m.held.replica edit) op → op.id ≢ told.id
+    (m : State) (edit : Asked) (op : Op) → HasMachine w.machines m → HasOp (made_by_action m.held.list m.held.replica edit) op
+    → op.id ≢ told.id
 
 -- replicas with equal clocks show equal text and spans in every document, and count as many operations of it
 abbrev pub ShowsTheSame : World → Type 0
@@ -75,7 +75,7 @@ AnsweredForever =
 -- operation more.
 abbrev pub ActsOnce : Type 0
 ActsOnce =
-    (w mid after : World) (hs more : List Happening) (s m n next : State) (session again : ℕ) (e : Edit) (answer : Answer) (token : ℕ) (t : Ticket)
+    (w mid after : World) (hs more : List Happening) (s m n next : State) (session again : ℕ) (e : Asked) (answer : Answer) (token : ℕ) (t : Ticket)
     → IsBeginning w → History w hs mid → HasMachine mid.machines m → WasAnswered s session e token t m → History mid more after
     → HasMachine after.machines n → n.held.replica ≡ m.held.replica → EditStep n again e answer next
     → (answer ≡ ticket (record t { known = true })) × (next ≡ n)

@@ -2,7 +2,7 @@
 use Rattle.std.specs.Prelude.{ℕ, List, [], ◌∷◌, Some, None, true, false}
 use Rattle.op_model.specs.declared.op.Op.{Op}
 use Rattle.op_model.specs.declared.op.Body.TheVariants as body
-use Rattle.op_model.specs.declared.edit.Edit.{Edit}
+use Rattle.op_model.specs.Actions.{Asked}
 use Rattle.op_model.specs.declared.edit.Change.TheVariants as change
 use Rattle.op_model.specs.Machine.{State, edit, merge, begin, device_step, settle, tell, ticket}
 use Rattle.op_model.specs.Machine.{applied, begun, goes_on, goes_through, settled_to, operations}
@@ -12,11 +12,11 @@ use Rattle.world_law.specs.World.{operations_told, World}
 use Rattle.world_law.specs.Histories.{Happening, step, crash}
 
 -- the edit that inserts one character into document 1
-abbrev pub insert_of : ℕ → ℕ → Edit
-insert_of at value = record { doc = 1; rev = None; token = None; change = change.Insert at (value ∷ []) }
+abbrev pub insert_of : ℕ → ℕ → Asked
+insert_of at value = record { doc = 1; rev = None; token = None; changes = change.Insert at (value ∷ []) ∷ [] }
 
 -- that edit under a token
-abbrev pub named : ℕ → Edit → Edit
+abbrev pub named : ℕ → Asked → Asked
 named token e = record e { token = Some token }
 
 -- a replica that is new
@@ -42,7 +42,7 @@ second_op value = record {
 }
 
 -- the edit that made it
-abbrev pub first_edit : Edit
+abbrev pub first_edit : Asked
 first_edit = named 7 (insert_of 0 97)
 
 -- Replica 1 inserts "a", commits and tells it. It inserts "b" and crashes; the edit of the "a" is sent again, and is answered as it was.

@@ -89,7 +89,7 @@ export function markingsOf(characters) {
 /**
  * The fields of the program's request for an edit.
  * @param {Edit} edit
- * @returns {Record<string, unknown>}
+ * @returns {import("../action.js").Edit}
  */
 export function requestOf(edit) {
   switch (edit.op) {
@@ -98,7 +98,8 @@ export function requestOf(edit) {
     case "delete":
       return { op: "delete", at: edit.at, count: edit.count };
     case "mark":
-      return { op: edit.isOn ? "mark" : "unmark", from: edit.from, to: edit.to, ...(edit.isOn ? edit.mark : keyOf(edit.mark)) };
+      if (edit.isOn) return { op: "mark", from: edit.from, to: edit.to, ...edit.mark };
+      return { op: "unmark", from: edit.from, to: edit.to, ...keyOf(edit.mark) };
   }
 }
 

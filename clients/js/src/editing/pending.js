@@ -1,8 +1,9 @@
 /** Edits that aren't answered yet, each with a token of its own. */
 
+import { linesOf } from "../action.js";
 import { newToken } from "../again.js";
 import { crossed } from "./crossing.js";
-import { together } from "./edits.js";
+import { requestOf, together } from "./edits.js";
 import { isPlain } from "./steps.js";
 
 /**
@@ -22,20 +23,46 @@ export function pendingOf(edits) {
 
 /**
  * What is pending behind further edits: what is typed on becomes one edit with what waits before it. The first of them may
- * be on its way, and stays as it is.
+ * be on their way, and stay as they are.
  * @param {readonly Pending[]} pending
  * @param {readonly Edit[]} edits
+ * @param {number} sent how many
  * @returns {Pending[]}
  */
-export function withEdits(pending, edits) {
+export function withEdits(pending, edits, sent = 1) {
   const result = [...pending];
   for (const edit of edits) {
-    const last = result.length > 1 ? result[result.length - 1] : undefined;
+    const last = result.length > sent ? result[result.length - 1] : undefined;
     const both = together(last?.edit, edit);
     if (last !== undefined && both !== undefined) result[result.length - 1] = { edit: both, token: last.token };
     else result.push(...pendingOf([edit]));
   }
   return result;
+}
+
+/**
+ * How many of the first go in one line.
+ * @param {readonly Pending[]} pending
+ */
+export function fitting(pending) {
+  const [line] = linesOf(requestsOf(pending), true);
+  return line.length;
+}
+
+/** @param {readonly Pending[]} pending */
+function* requestsOf(pending) {
+  for (const { edit } of pending) yield { edit: requestOf(edit) };
+}
+
+/**
+ * The fields of the request that makes edits at once.
+ * @param {readonly Pending[]} pending
+ * @returns {Record<string, unknown>}
+ */
+export function lineOf(pending) {
+  const edits = pending.map(({ edit }) => requestOf(edit));
+  const [{ token }] = pending;
+  return edits.length === 1 ? { ...edits[0], token } : { op: "edits", edits, token };
 }
 
 /**

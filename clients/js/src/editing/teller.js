@@ -49,22 +49,22 @@ export class Teller {
   }
 
   /**
-   * What led on from the text that an edit made, with the marks that its characters were given. Nothing if the connection is
+   * What led on from the text that edits made, with the marks that their characters were given. Nothing if the connection is
    * another one by now.
-   * @param {Edit} edit
-   * @param {number} rev of the text before it
-   * @param {number} made of the text that it made
-   * @param {PromiseSettledResult<Told>} asked what changed since the text before it, if nobody edited meanwhile
+   * @param {readonly Edit[]} edits
+   * @param {number} rev of the text before them
+   * @param {number} made of the text that they made
+   * @param {PromiseSettledResult<Told>} asked what changed since the text before them, if nobody edited meanwhile
    * @returns {Promise<Told | undefined>}
    */
-  async behind(edit, rev, made, asked) {
+  async behind(edits, rev, made, asked) {
     try {
       const first = valueOf(asked);
-      if (first.rev === made) return { ...first, steps: withGiven(edit, [], first.steps) };
+      if (first.rev === made) return { ...first, steps: withGiven(edits, [], first.steps) };
       for (;;) {
         const [all, others] = await Promise.all([this.since(rev), this.since(made)]);
         // Both have to be of one moment.
-        if (all.rev === others.rev) return { ...others, steps: withGiven(edit, others.steps, all.steps) };
+        if (all.rev === others.rev) return { ...others, steps: withGiven(edits, others.steps, all.steps) };
       }
     } catch (error) {
       if (error instanceof Stale) return undefined;

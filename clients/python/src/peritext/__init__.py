@@ -13,6 +13,7 @@
 [Span(text='The '), Span(text='quick', strong=True), Span(text=' fox')]
 """
 
+from .action import Action
 from .changing import Changes, Delete, Insert, Retain, Step, applied
 from .daemon import connect
 from .document import Document, Reading
@@ -25,6 +26,7 @@ from .session import Session
 from .watching import Watch
 
 __all__ = [
+    "Action",
     "Changes",
     "Comment",
     "Connected",

@@ -8,7 +8,7 @@ from uuid import uuid4
 from .answers import answer_of
 from .refusals import Refused
 
-EDITS = ("insert", "delete", "mark", "unmark")
+EDITS = ("insert", "delete", "mark", "unmark", "edits")
 # No document has so many operations: an edit that names this `rev` is made never, and answered only if it was made before.
 NEVER = 2**32 - 1
 

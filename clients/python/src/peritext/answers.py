@@ -29,7 +29,7 @@ def answer_of(line: bytes, request: Mapping[str, Any]) -> dict[str, Any] | Refus
         return told
     if told.get("ok") is False:
         _need(told, _REFUSAL)
-        return refused(told["code"], told["error"], request)
+        return refused(told["code"], told["error"], request, _at(told, request))
     raise NoAnswer("a line came that doesn't say `ok`")
 
 
@@ -47,6 +47,17 @@ def _need(told: Mapping[str, Any], fields: Fields) -> None:
     for name, is_right in fields.items():
         if not is_right(told.get(name)):
             raise NoAnswer(f"an answer came without a right `{name}`")
+
+
+def _at(told: Mapping[str, Any], request: Mapping[str, Any]) -> int | None:
+    """Which one of several edits was refused, if that is told."""
+    at: Any = told.get("at")
+    edits = request.get("edits")
+    if at is None or not isinstance(edits, list):
+        return None
+    if not (_is_number(at) and at < len(edits)):
+        raise NoAnswer("an answer came without a right `at`")
+    return int(at)
 
 
 def _is_number(value: Any) -> bool:
@@ -131,6 +142,7 @@ _FIELDS: dict[str, Fields] = {
     "delete": _EDITED,
     "mark": _EDITED,
     "unmark": _EDITED,
+    "edits": _EDITED,
     "text": {"rev": _is_number, "text": _is_text},
     "spans": {"rev": _is_number, "spans": _are_spans},
     "changes": {"rev": _is_number, "changes": _are_steps},

@@ -5,9 +5,10 @@ from __future__ import annotations
 from typing import TYPE_CHECKING, Any, Iterable, Iterator, NamedTuple
 from uuid import UUID, uuid5
 
+from .action import Action, Fields, Piece, cut, deleting, inserting, lines_of, marking, pieces_of, unmarking
 from .changing import Changes, step_of
 from .marks import Mark, Span
-from .refusals import Stale
+from .refusals import Refused, Stale
 from .rules import LONGEST, MOST, is_whole
 
 if TYPE_CHECKING:
@@ -34,9 +35,9 @@ class Document:
     once, however often it is sent, and answered as at first: also by another session of the same file, and after a crash. A session of a daemon
     draws one where none is given.
 
-    An edit is of at most 256 characters. A longer `insert` or `delete` goes as several edits, each of which is answered before the next one is
-    sent. If another session edits the document in between, the next one is `Stale`, and those before it are made. The tokens of all but the first
-    follow from the one that is given.
+    An `insert` of more than 256 characters is made at once too, as far as one line takes it, which are 64 KiB. A longer one goes as several lines,
+    each of which is answered before the next one is sent, and a `delete` of more than 256 characters as several edits. If another session edits the
+    document in between, the next one is `Stale`, and those before it are made. The tokens of all but the first follow from the one that is given.
     """
 
     def __init__(self, session: Session, number: int) -> None:
@@ -45,23 +46,46 @@ class Document:
 
     def insert(self, at: int, text: str, rev: int | None = None, token: UUID | None = None) -> int:
         """Puts characters before the one at a place, or at the end."""
-        if not text:
-            raise ValueError("an empty text is no request")
-        # What can't be sent is refused before a part of it is in.
-        text.encode()
-        return self._edit_all(_pieces(at, text), rev, token)
+        edit = inserting(at, text)
+        if len(text) <= LONGEST or not is_whole(at, 0):
+            return self._edit(rev, token, **edit)
+        return self._make((Piece(piece) for piece in cut(edit)), rev, token, parted=True)
 
     def delete(self, at: int, count: int, rev: int | None = None, token: UUID | None = None) -> int:
         """Takes characters away from a place on."""
-        return self._edit_all(_stretches(at, count), rev, token)
+        return self._edit_all(cut(deleting(at, count)), rev, token)
 
     def mark(self, start: int, end: int, mark: Mark, rev: int | None = None, token: UUID | None = None) -> int:
         """Marks the characters from a place up to another, that one not included."""
-        return self._edit(rev, token, op="mark", **{"from": start, "to": end}, **mark.fields())
+        return self._edit(rev, token, **marking(start, end, mark))
 
     def unmark(self, start: int, end: int, mark: Mark, rev: int | None = None, token: UUID | None = None) -> int:
         """Takes a mark away from the characters from a place up to another, that one not included."""
-        return self._edit(rev, token, op="unmark", **{"from": start, "to": end}, **mark.key())
+        return self._edit(rev, token, **unmarking(start, end, mark))
+
+    def action(self, rev: int | None = None, token: UUID | None = None, parted: bool = False) -> Action:
+        """Edits that are made at once, at the end of a `with` block: all of them or none, and nothing comes between them. Each is at the places that
+        those before it leave. If the block raises, nothing is sent.
+
+        >>> _ = document.insert(0, "one two ")
+        >>> with document.action() as action:
+        ...     action.delete(4, 3)
+        ...     action.insert(4, "TWO")
+        ...     action.mark(4, 7, STRONG)
+        >>> document.spans()[:2], action.rev == document.rev()
+        ([Span(text='one '), Span(text='TWO', strong=True)], True)
+
+        One line takes 1,024 edits of at most 256 characters (a longer one is several of them), and 65,536 bytes. More is a `ValueError`, and nothing
+        is sent; with `parted` it goes as several lines, each of them all or nothing, as a long `insert` does.
+        """
+        return Action(self, rev, token, parted)
+
+    def edits(self, edits: Iterable[Fields], rev: int | None = None, token: UUID | None = None, parted: bool = False) -> int:
+        """The same as `action` with edits that are there already, each with the fields of its request other than `doc`, `rev` and `token`.
+
+        >>> rev = document.edits([{"op": "insert", "at": 0, "text": "ab"}, {"op": "delete", "at": 1, "count": 1}])
+        """
+        return self._make(pieces_of(edits), rev, token, parted)
 
     def text(self) -> str:
         return self.read().text
@@ -167,7 +191,23 @@ class Document:
         """Makes edits one after the other, and gives the last answer."""
         last = self._edit(rev, token, **next(edits))
         for number, fields in enumerate(edits, 1):
-            last = self._edit_next(last, token and uuid5(UUID(str(token)), str(number * LONGEST)), **fields)
+            last = self._edit_next(last, _token_after(token, number * LONGEST), **fields)
+        return last
+
+    def _make(self, pieces: Iterable[Piece], rev: int | None, token: UUID | None, parted: bool) -> int:
+        """Makes edits at once, or line by line, and gives the last answer."""
+        last: int | None = None
+        made = 0
+        for line in lines_of(pieces, parted):
+            fields = {"op": "edits", "edits": [piece.edit for piece in line]}
+            try:
+                last = self._edit(rev, token, **fields) if last is None else self._edit_next(last, _token_after(token, made), **fields)
+            except Refused as refused:
+                refused.at = None if refused.at is None else line[refused.at].number
+                raise
+            made += len(line)
+        if last is None:
+            raise ValueError("no edits are no request")
         return last
 
     def _edit_next(self, rev: int, token: UUID | None, **fields: Any) -> int:
@@ -194,20 +234,6 @@ class Document:
         return self.session.send(op="insert", doc=self.number, at=at, text=text)
 
 
-def _pieces(at: int, text: str) -> Iterator[dict[str, Any]]:
-    """The edits that put a text in. One of which the place is none is refused as it is."""
-    if not is_whole(at, 0):
-        yield {"op": "insert", "at": at, "text": text}
-        return
-    for first in range(0, len(text), LONGEST):
-        yield {"op": "insert", "at": at + first, "text": text[first : first + LONGEST]}
-
-
-def _stretches(at: int, count: int) -> Iterator[dict[str, Any]]:
-    """The edits that take a stretch away, from its end on: if that is past the end of the text, nothing is taken away."""
-    if not (is_whole(at, 0) and is_whole(count, LONGEST)):
-        yield {"op": "delete", "at": at, "count": count}
-        return
-    for end in range(count, 0, -LONGEST):
-        first = max(end - LONGEST, 0)
-        yield {"op": "delete", "at": at + first, "count": end - first}
+def _token_after(token: UUID | None, made: int) -> UUID | None:
+    """The token of a further line of a call that was given one, by what was made before."""
+    return token and uuid5(UUID(str(token)), str(made))

@@ -40,7 +40,10 @@ ADVICE = {
 _MEND = "mend what wrote it"
 _FULL = "the file has all the operations, records, documents or replicas that it may have (docs/OPERATING.md, Limits), and can still be read"
 _LONG = "at most 256 characters in one edit; send it in parts"
+_MUCH = "what one action takes away waits together for the disk, 2,048 characters in any file: make several, or let it be parted; else " + _FULL
 _TOKEN = "an older program knows no `token`; start one that is as new as this client"
+# The requests that an older program doesn't know.
+_LATER = ("watch", "changes", "anchors", "places", "edits")
 
 
 def sentence(number: int, request: Mapping[str, Any] | None) -> str | None:
@@ -49,33 +52,44 @@ def sentence(number: int, request: Mapping[str, Any] | None) -> str | None:
     >>> sentence(7, {"op": "delete", "doc": 1, "at": 0, "count": 300})
     'at most 256 characters in one edit; send it in parts'
     """
+    if number == 3 and request is not None and request.get("op") in _LATER:
+        return _of_fields(request, f"an older program knows no `{request['op']}`; start one that is as new as this client")
     if number == 4 and request is not None:
-        return _of_fields(request)
+        return _of_fields(request, _TOKEN if "token" in request else ADVICE[4])
     if number == 7 and request is not None:
-        return _LONG if is_long(request) else _FULL
+        return _of_limit(request)
     return ADVICE.get(number)
 
 
-def _of_fields(request: Mapping[str, Any]) -> str:
+def _of_fields(request: Mapping[str, Any], otherwise: str) -> str:
+    """Which rules the fields of a request break, or what else is the cause."""
     faults = broken(request)
-    if faults:
-        return f"{', '.join(faults)}; {_MEND}"
-    return _TOKEN if "token" in request else ADVICE[4]
+    return f"{', '.join(faults)}; {_MEND}" if faults else otherwise
+
+
+def _of_limit(request: Mapping[str, Any]) -> str:
+    if is_long(request):
+        return _LONG
+    return _MUCH if any(edit["op"] == "delete" for edit in request.get("edits", ())) else _FULL
 
 
 class Refused(Exception):
     """A request that was refused: its number and its word. Nothing was changed, except where the number is 9: then the device failed, and
-    whether the edit is there is known once the file is opened again.
+    whether the edit is there is known once the file is opened again. `at` is which edit of an action was refused, from 0 on, if that is told.
 
     >>> str(Refused(5, "range"))
     '5 range: there is no such place in the text; read it anew'
     """
 
-    def __init__(self, number: int, word: str, request: Mapping[str, Any] | None = None) -> None:
+    def __init__(self, number: int, word: str, request: Mapping[str, Any] | None = None, at: int | None = None) -> None:
         advice = sentence(number, request)
         super().__init__(f"{number} {word}: {advice}" if advice else f"{number} {word}")
         self.number = number
         self.word = word
+        self.at = at
+
+    def __str__(self) -> str:
+        return super().__str__() if self.at is None else f"{super().__str__()} (edit {self.at} of the action, from 0 on)"
 
 
 class Stale(Refused):
@@ -91,5 +105,5 @@ class NoDaemon(ConnectionError):
     """Nobody listens on the port, or somebody who serves no sessions."""
 
 
-def refused(number: int, word: str, request: Mapping[str, Any] | None = None) -> Refused:
-    return Stale(number, word, request) if number == 6 else Refused(number, word, request)
+def refused(number: int, word: str, request: Mapping[str, Any] | None = None, at: int | None = None) -> Refused:
+    return Stale(number, word, request, at) if number == 6 else Refused(number, word, request, at)

@@ -9,12 +9,15 @@ from typing import Any, Callable, Mapping
 LONGEST = 256
 # How many places one request may ask for.
 MOST = 256
+# How many edits one request may make.
+MANY = 1_024
 # The fields that a request needs, and those that a mark needs beside them.
 NEEDED = {
     "insert": "doc at text",
     "delete": "doc at count",
     "mark": "doc from to kind",
     "unmark": "doc from to kind",
+    "edits": "doc edits",
     "text": "doc",
     "spans": "doc",
     "changes": "doc since",
@@ -33,7 +36,11 @@ OPTIONAL = {
     "delete": "rev token",
     "mark": "rev token",
     "unmark": "rev token",
+    "edits": "rev token",
 }
+# The requests that may be made by one of `edits`, and the fields that stand beside the list.
+ONE = ("insert", "delete", "mark", "unmark")
+ALL = ("doc", "rev", "token")
 # What each field has to be, of any request, or of one in particular.
 RULES = {
     "doc": "a whole number from 1 to 4294967295",
@@ -51,6 +58,7 @@ RULES = {
     "anchors at": "a list of 1 to 256 whole numbers from 0 to 4294967295",
     "side": "previous or next",
     "anchors": "a list of 1 to 256 places that last, each a text as the request `anchors` gives it",
+    "edits": "a list of 1 to 1024 edits, each an insert, delete, mark or unmark without `doc`, `rev` and `token`",
 }
 _KINDS = ("strong", "em", "link", "comment")
 _UUID = re.compile(r"(urn:uuid:|\{)?[0-9a-f]{8}(-?[0-9a-f]{4}){3}-?[0-9a-f]{12}\}?", re.IGNORECASE)
@@ -67,20 +75,26 @@ def broken(request: Mapping[str, Any]) -> list[str]:
     ['`rev` is no field of this request']
     >>> broken({"op": "anchors", "doc": 1, "at": 7, "side": "previous"})
     ['`at` has to be a list of 1 to 256 whole numbers from 0 to 4294967295']
+    >>> broken({"op": "edits", "doc": 1, "edits": [{"op": "insert", "at": 0, "text": ""}]})
+    ['`text` of one of the `edits` has to be a text of at least one character']
     """
     op = f"{request.get('op')}"
     marked = f"{op} {request.get('kind')}"
     needed = [*NEEDED.get(op, "").split(), *BESIDE.get(marked, "").split()]
     others = [name for name in request if name not in needed and name != "op"]
-    return [*_wrong(request, needed), *_strange(op, others), *_wrong(request, _optional(op, others))]
+    of_one = _of_one(request.get("edits")) if op == "edits" else []
+    return [*_wrong(request, needed), *_strange(op, others), *_wrong(request, _optional(op, others)), *of_one]
 
 
 def is_long(request: Mapping[str, Any]) -> bool:
-    """Whether an edit is about more characters than one may be.
+    """Whether an edit, or one of several, is about more characters than one may be.
 
     >>> is_long({"op": "delete", "doc": 1, "at": 0, "count": 257})
     True
     """
+    edits: Any = request.get("edits")
+    if _is_some(edits, MANY, _is_edit):
+        return any(map(is_long, edits))
     text, count = request.get("text"), request.get("count", 0)
     return (isinstance(text, str) and len(text) > LONGEST) or (is_whole(count, 0) and count > LONGEST)
 
@@ -88,6 +102,12 @@ def is_long(request: Mapping[str, Any]) -> bool:
 def is_whole(value: Any, least: int) -> bool:
     # True and False are no numbers here.
     return type(value) is int and least <= value < 2**32
+
+
+def _of_one(edits: Any) -> list[str]:
+    """Which rules the first of several edits breaks that breaks any."""
+    faults = (broken({**edit, "doc": 1}) for edit in edits) if _is_some(edits, MANY, _is_edit) else iter(())
+    return [fault.replace("` ", "` of one of the `edits` ", 1) for fault in next(filter(None, faults), [])]
 
 
 def _wrong(request: Mapping[str, Any], names: list[str]) -> list[str]:
@@ -129,8 +149,12 @@ def _is_lasting(value: Any) -> bool:
     return value in ("start", "end") if beside is None else int(beside[1]) < 2**48 and _is_token(beside[2])
 
 
-def _is_some(value: Any, holds: Callable[[Any], bool]) -> bool:
-    return isinstance(value, (list, tuple)) and 1 <= len(value) <= MOST and all(map(holds, value))
+def _is_edit(value: Any) -> bool:
+    return isinstance(value, Mapping) and value.get("op") in ONE and not any(name in value for name in ALL)
+
+
+def _is_some(value: Any, most: int, holds: Callable[[Any], bool]) -> bool:
+    return isinstance(value, (list, tuple)) and 1 <= len(value) <= most and all(map(holds, value))
 
 
 def _from(least: int) -> Callable[[Any], bool]:
@@ -150,7 +174,8 @@ _HOLDS: dict[str, Callable[[Any], bool]] = {
     "url": _is_url,
     "id": _is_uuid,
     "token": _is_token,
-    "anchors at": lambda value: _is_some(value, _from(0)),
+    "anchors at": lambda value: _is_some(value, MOST, _from(0)),
     "side": lambda value: value in ("previous", "next"),
-    "anchors": lambda value: _is_some(value, _is_lasting),
+    "anchors": lambda value: _is_some(value, MOST, _is_lasting),
+    "edits": lambda value: _is_some(value, MANY, _is_edit),
 }

@@ -1,0 +1,48 @@
+-- Several changes that are read one by one.
+use Rattle.std.proofs.Common.{◌≡◌, ℕ, suc, ◌+◌, ◌<◌, ◌≤◌, List, [], ◌∷◌, ◌++◌, length, get_or, drop, Result, Ok, Err, append_assoc, append-nil}
+use Rattle.std.proofs.Common.{add-one, drop-cons, refl, sym, ap, ◌∙◌, arith, length-drop}
+use Rattle.std.proofs.lemmas.List.{nil_from_length}
+use Rattle.serde_json.specs.View.{view, items_view}
+use Rattle.serde_json.specs.declared.value.Value.{Value}
+use Rattle.op_model.specs.declared.edit.Change.{Change}
+use Rattle.session_lines.specs.declared.refusal.Refusal.{Refusal}
+use Rattle.session_lines.specs.Fields.{◌>>=◌}
+use Rattle.session_lines.specs.Edits.{listed_change, listed_changes}
+
+-- with some before it
+abbrev pub behind : List Change → Result (List Change) Refusal → Result (List Change) Refusal
+behind found rest = rest >>= λ changes. Ok (found ++ changes)
+
+split : (vs : List Value) (i : ℕ) (v : Value) → i < length vs → v ≡ get_or vs i v → drop i vs ≡ v ∷ drop (i + 1) vs
+split vs i v within is = rw add-one (drop-cons vs i v within ∙ ap (λ x. x ∷ drop (suc i) vs) (sym is))
+
+one_more : (found : List Change) (x : Change) (rest : Result (List Change) Refusal)
+    → behind found (rest >>= λ changes. Ok (x ∷ changes)) ≡ behind (found ++ x ∷ []) rest
+one_more found x (Err e) = refl
+one_more found x (Ok xs) = ap (λ ys. Ok ys) (sym (append_assoc found (x ∷ []) xs))
+
+-- one more is read
+pub listed_more : (vs : List Value) (i : ℕ) (v : Value) (found : List Change) (x : Change) (whole : Result (List Change) Refusal)
+    → i < length vs → v ≡ get_or vs i v → listed_change (view v) ≡ Ok x
+    → behind found (listed_changes (items_view (drop i vs))) ≡ whole
+    → behind (found ++ x ∷ []) (listed_changes (items_view (drop (i + 1) vs))) ≡ whole
+listed_more vs i v found x whole within is reads so_far =
+    let rest = rw (split vs i v within is, reads) at so_far in
+    sym (one_more found x (listed_changes (items_view (drop (i + 1) vs)))) ∙ rest
+
+-- one isn't read
+pub listed_stops : (vs : List Value) (i : ℕ) (v : Value) (found : List Change) (e : Refusal) (whole : Result (List Change) Refusal)
+    → i < length vs → v ≡ get_or vs i v → listed_change (view v) ≡ Err e
+    → behind found (listed_changes (items_view (drop i vs))) ≡ whole → whole ≡ Err e
+listed_stops vs i v found e whole within is reads so_far = sym (rw (split vs i v within is, reads) at so_far)
+
+-- all are read
+pub listed_end : (vs : List Value) (i : ℕ) (found : List Change) (whole : Result (List Change) Refusal) → length vs ≤ i
+    → behind found (listed_changes (items_view (drop i vs))) ≡ whole → whole ≡ Ok found
+listed_end vs i found whole past so_far =
+    sym (rw (nil_from_length (drop i vs) (omega (arith, length-drop i vs)), append-nil found) at so_far)
+
+-- none is read yet
+pub listed_begin : (whole : Result (List Change) Refusal) → behind [] whole ≡ whole
+listed_begin (Err e) = refl
+listed_begin (Ok xs) = refl

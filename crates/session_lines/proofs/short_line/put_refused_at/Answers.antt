@@ -1,0 +1,8 @@
+use Rattle.std.proofs.Common.{append_assoc, refl}
+use Rattle.session_lines.proofs.short_line.put_refused_at.Goals as goal
+
+pub returns-clause-items : goal.returns-clause-items
+returns-clause-items c =
+    rw (c.put-5.ensures.items, c.put-4.ensures.items, c.as_bytes.ensures.value, c.word.ensures, c.put-3.ensures.items)
+    (rw (c.put_number-2.ensures.items, c.number.ensures, c.put-2.ensures.items)
+    (rw (c.put_number.ensures.items, c.put.ensures.items) (simp append_assoc refl)))
