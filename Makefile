@@ -10,10 +10,10 @@ SUM = { rt version; cat crates.txt; find crates -name out -prune -o -type f -pri
 run:
 	cd crates/edit_shell && rt try < stdin
 
-# Everything from nothing, but for what an earlier run on this machine passed: each proof, each must-fail edit, each test, the program's stored run. Then the proved program on real files,
-# and the clients over it; that for JavaScript only where there is node.
-# It is kept as bin/peritext with the line of its sources, unless these changed meanwhile. `rt ci` runs below a clock, which ends with what each crate cost, and with its status; above
-# a limit of processor seconds it fails.
+# Everything from nothing, but for what an earlier run on this machine passed if the kit keeps that: each proof, each wrong body, each test, the program's stored run. Then the proved
+# program on real files, and the clients over it; that for JavaScript only where there is node.
+# It is kept as bin/peritext with the line of its sources, unless these changed meanwhile. The first part runs below a clock, which ends with what each crate cost; above a limit of
+# processor seconds it fails.
 test:
 	@mkdir -p bin; rm -f bin/sources; $(SUM) > bin/asked
 	python3 tools/edits.py

@@ -117,24 +117,44 @@ fn no_marks(alloc: Global) -> Marks {
     }
 }
 
+/// What is told of a text: characters that are kept (`=`) or dropped (`-`), how many; text that is
+/// put in (`+`) or characters that get marks (`~`), with all marks or none.
+static STEPS: [(u8, usize, &str, bool); 7] = [
+    (b'=', 4, "", false),
+    (b'+', 0, "a\"", false),
+    (b'+', 0, "b", true),
+    (b'-', 3, "", false),
+    (b'~', 9, "", false),
+    (b'~', 2, "", true),
+    (b'=', 5, "", false),
+];
+
+/// The step that a row tells.
+fn step_of(alloc: Global, row: &(u8, usize, &str, bool)) -> Result<ChangeStep, Fail> {
+    let (kind, count, text, is_marked) = *row;
+    let marks = if is_marked {
+        all_marks(alloc)?
+    } else {
+        no_marks(alloc)
+    };
+    match kind {
+        b'=' => Ok(ChangeStep::Keep(count)),
+        b'-' => Ok(ChangeStep::Drop(count)),
+        b'+' => Ok(ChangeStep::Put(Span {
+            text: text_of(alloc, text)?,
+            marks,
+        })),
+        _ => Ok(ChangeStep::Mark(count, marks)),
+    }
+}
+
 #[test]
 fn changes_are_said(rt: HostRuntime) -> Result<(), Fail> {
     let alloc = rt.alloc();
-    let steps = vec![in alloc;
-        ChangeStep::Keep(4),
-        ChangeStep::Put(Span {
-            text: text_of(alloc, "a\"")?,
-            marks: no_marks(alloc)
-        }),
-        ChangeStep::Put(Span {
-            text: text_of(alloc, "b")?,
-            marks: all_marks(alloc)?
-        }),
-        ChangeStep::Drop(3),
-        ChangeStep::Mark(9, no_marks(alloc)),
-        ChangeStep::Mark(2, all_marks(alloc)?),
-        ChangeStep::Keep(5),
-    ]?;
+    let mut steps = Vec::new(alloc);
+    for row in STEPS.iter() {
+        steps.push(step_of(alloc, row)?)?;
+    }
     said(
         &rt,
         alloc,

@@ -43,7 +43,7 @@ module _ {D : Type 0} (facts : Ghosts D) where
       let rest = settled_rises mid new es more in
       omega (arith, once, moved, rest)
 
-  stays_safe : (old new : Parts D) (events : List (Event × Reply)) → Calls facts old events new → Survives facts old → Survives facts new
+  pub stays_safe : (old new : Parts D) (events : List (Event × Reply)) → Calls facts old events new → Survives facts old → Survives facts new
   stays_safe old new [] same safe = subst (λ h. Survives facts h) (sym same) safe
   stays_safe old new (e ∷ es) (mid, one, more) safe =
       stays_safe mid new es more (record { image = one.recovers; settled = one.left })
@@ -65,7 +65,7 @@ module _ {D : Type 0} (facts : Ghosts D) where
         survives = stays_safe old new events calls h.survives;
       }
 
-  session_goes : (old new : HeldDesk D) → HasSession facts old new → Goes facts old.hub new.hub
+  pub session_goes : (old new : HeldDesk D) → HasSession facts old new → Goes facts old.hub new.hub
   session_goes old new (lines, text, inl it) = exchanges_go facts lines old new text it
   session_goes old new (lines, text, inr it) = cut_off_goes facts lines old new text it
 
@@ -81,7 +81,7 @@ module _ {D : Type 0} (facts : Ghosts D) where
       omega (arith, was, stays, is)
   ends_settled (e ∷ es) old new t (hub, one, more) = ends_settled es hub new t more
 
-  acks_settle : (old new : Parts D) (t : Ticket) (acks : List (Event × Reply)) → Acknowledge t acks → Calls facts old acks new
+  pub acks_settle : (old new : Parts D) (t : Ticket) (acks : List (Event × Reply)) → Acknowledge t acks → Calls facts old acks new
       → t.end ≤ new.replica.settled
   acks_settle old new t acks (at_once is) calls = ends_settled [] old new t (subst (λ k. Calls facts old k new) is calls)
   acks_settle old new t acks (after_commit commit only is) calls =

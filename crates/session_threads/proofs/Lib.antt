@@ -1,3 +1,4 @@
+pub mod AnsweredStays
 pub mod BeginLemmas
 pub mod CallLemmas
 pub mod CallsLeft

@@ -1,4 +1,5 @@
 pub mod ActsOnce
+pub mod Answered
 pub mod Exchanges
 pub mod Faults
 pub mod Held

@@ -10,6 +10,7 @@ ghost use Rattle.session_lines.specs.declared.answer.Answer.{Answer as LineAnswe
 ghost use Rattle.session_lines.specs.declared.answer.Answer.TheVariants.{Edited};
 ghost use Rattle.session_threads.specs.ActsOnce.{HoldsOnceAnswered, HoldsForever, AnswersAgain};
 ghost use Rattle.session_threads.specs.ActsOnce.{ActsOnce};
+ghost use Rattle.session_threads.specs.Answered.{AnsweredStay};
 ghost use Rattle.session_threads.specs.Exchanges.{Exchanges};
 ghost use Rattle.session_threads.specs.HeldDesk.{HeldDesk};
 ghost use Rattle.session_threads.specs.HubCalls.{IsQuiet};
@@ -60,6 +61,15 @@ pub fn settled_edits_are_answered<D: Disk>(desk: &HubDesk<D>)
         → ServesEdit D.DiskFacts desk.now e answer new
         → (answer ≡ Edited t.rev) × (new.hub.store ≡ desk.now.hub.store) }
 {}
+
+/// Each edit that a desk answers `rev n` stays: whatever lines of a session come before it, and
+/// whatever lines after, whole or cut off, every file that a crash leaves at any moment since that
+/// answer has the edit, and all that was in the list before it. Costs nothing.
+pub fn answered_edits_stay<D: Disk>(desk: &HubDesk<D>)
+    ensures { AnsweredStay D.DiskFacts desk.now }
+{
+    desk.hub.survivors();
+}
 
 /// An edit with a token acts once. Let a desk answer lines, and then `rev n` to an edit with a
 /// token that isn't an insert of no text. Let any sessions over its hub follow, whole or cut off,

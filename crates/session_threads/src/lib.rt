@@ -24,8 +24,8 @@ pub use desk::Desk;
 pub use fault::SessionFault;
 pub use hub_desk::HubDesk;
 pub use laws::{
-    a_session_is_a_run, calls_are_a_run, edits_act_once, edits_fail_behind_a_failure,
-    settled_edits_are_answered,
+    a_session_is_a_run, answered_edits_stay, calls_are_a_run, edits_act_once,
+    edits_fail_behind_a_failure, settled_edits_are_answered,
 };
 pub use refusing::edit_refusal;
-pub use session::Session;
+pub use session::{Session, serve_lines};

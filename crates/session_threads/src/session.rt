@@ -45,11 +45,28 @@ impl<R: Read, W: Write> Session<R, W> {
             (W.contents self.old.writer) (W.contents self.new.writer)) }
         ensures memory { result ≡ Err Memory → (self.new ≡ self.old) × (desk.new ≡ desk.old) }
     {
-        let mut room = Room::new(alloc)?;
-        match serve_input(alloc, &mut self.reader, &mut room, &mut self.writer, desk) {
-            Ok(()) => Ok(()),
-            Err(error) => Err(SessionFault::Stream(error)),
-        }
+        serve_lines(alloc, &mut self.reader, &mut self.writer, desk)
+    }
+}
+
+/// Serves the lines of a reader, as `Session::serve` does, to a writer that the caller keeps.
+pub fn serve_lines<R: Read, W: Write, D: Desk>(
+    alloc: Global,
+    reader: &mut R,
+    writer: &mut W,
+    desk: &mut D,
+) -> Result<(), SessionFault>
+    ensures ok { OnOk result (Served D.serves desk.old desk.new (R.remaining reader.old)
+        (R.remaining reader.new) (W.contents writer.old) (W.contents writer.new)) }
+    ensures err { OnErr result (CutShort D.serves desk.old desk.new (R.remaining reader.old)
+        (R.remaining reader.new) (W.contents writer.old) (W.contents writer.new)) }
+    ensures memory { result ≡ Err Memory
+        → (reader.new ≡ reader.old) × (writer.new ≡ writer.old) × (desk.new ≡ desk.old) }
+{
+    let mut room = Room::new(alloc)?;
+    match serve_input(alloc, reader, &mut room, writer, desk) {
+        Ok(()) => Ok(()),
+        Err(error) => Err(SessionFault::Stream(error)),
     }
 }
 

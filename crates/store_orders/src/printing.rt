@@ -1,28 +1,22 @@
-//! How answers are printed.
+//! How lines are printed.
+ghost use Rattle.std.specs.Prelude.{◌≡◌, OnOk, OnErr, IfErr};
+ghost use Rattle.std.specs.Io.KnownBytes.{Appends};
+ghost use Rattle.byte_streams.specs.Fronts.{AppendsFront};
+ghost use Rattle.store_orders.specs.declared.fault.Fault.TheVariants.{Stream};
 
 use crate::fault::Fault;
-use session_lines::{Answer, say};
-use std::alloc::Global;
+use byte_streams::put;
 use std::io::Write;
 
-/// The lines of answers, all or none: where one of them is a refusal, there was no memory for it.
-pub(crate) fn lines(alloc: Global, answers: &[Answer]) -> Result<Vec<u8>, Fault> {
-    let mut text = Vec::new(alloc);
-    for answer in answers {
-        if let Answer::Refused(_) | Answer::RefusedAt { .. } = answer {
-            return Err(Fault::Memory);
-        }
-        if say(alloc, answer, &mut text).is_err() {
-            return Err(Fault::Memory);
-        }
+/// Prints lines. `Stream` (71) where a write failed: a beginning of them is printed then.
+pub fn print<W: Write>(lines: &[u8], output: &mut W) -> Result<(), Fault>
+    ensures ok { OnOk result (Appends (W.contents output.old) (W.contents output.new) lines.now) }
+    ensures err { OnErr result
+        (AppendsFront (W.contents output.old) (W.contents output.new) lines.now) }
+    ensures told { IfErr result (λ fault. fault ≡ Stream) }
+{
+    match put(output, lines) {
+        Ok(()) => Ok(()),
+        Err(_) => Err(Fault::Stream),
     }
-    Ok(text)
-}
-
-/// Prints lines.
-pub fn print<W: Write>(lines: &[u8], output: &mut W) -> Result<(), Fault> {
-    if output.write_all(lines).is_err() || output.flush().is_err() {
-        return Err(Fault::Stream);
-    }
-    Ok(())
 }
