@@ -25,8 +25,9 @@ from concurrent.futures import ThreadPoolExecutor
 import edits as edit_files
 import prove
 
-# What a check of a crate takes at most, in bytes, as seen: no more are run side by side than fit.
+# What a check of a crate takes at most, in bytes, as seen: none begins while less is free, unless that lasts for so many seconds.
 MEMORY = 5_000_000_000
+PATIENCE = 600
 FUNCTION = re.compile(r"^( *)(?:pub(?:\([a-z ]+\))? )?(?:const )?(?:unsafe )?fn (\w+)", re.M)
 IMPL = re.compile(r"^impl(?:<.*?>)? (?:(\w+)(?:<.*?>)? for )?&?(?:'\w+ )?(?:mut )?(\w+)", re.M)
 # An error that names no declaration, or one of a name that isn't there.
@@ -40,6 +41,19 @@ FOLLOWS = re.compile(r"which was rejected, was not checked")
 Body = collections.namedtuple("Body", "path name pairs functions")
 # What one round says of a wrong body.
 REFUSED, PROVED, UNKNOWN = "refused", "proved", "unknown"
+
+
+def free():
+    """The free memory, in bytes."""
+    with open("/proc/meminfo", encoding="utf-8") as file:
+        return 1024 * int(re.search(r"MemAvailable:\s+(\d+)", file.read())[1])
+
+
+def wait_for_room():
+    """Waits for the memory of a check."""
+    start = time.monotonic()
+    while free() < MEMORY and time.monotonic() - start < PATIENCE:
+        time.sleep(5)
 
 
 class Prover:
@@ -60,6 +74,7 @@ class Prover:
                 with open(f"{folder}/{path}", "w", encoding="utf-8") as file:
                     file.write(text)
             command = [self.kit.RATTLE, "check", *crate.words(["--jobs", "1", *words], keeps=False), *(["--incremental", kept] if kept else [])]
+            wait_for_room()
             how = {"stdin": subprocess.DEVNULL, "stdout": subprocess.PIPE, "stderr": subprocess.STDOUT, "errors": "replace"}
             ran = subprocess.run([*self.words_before, *self.kit.guarded(), *command], cwd=folder, check=False, **how)
         return ran.stdout.rstrip("\n").split("\n"), ran.returncode
@@ -226,9 +241,8 @@ def tried(prover, name, say):
 
 
 def lanes():
-    with open("/proc/meminfo", encoding="utf-8") as file:
-        free = 1024 * int(re.search(r"MemAvailable:\s+(\d+)", file.read())[1])
-    return max(1, min(len(os.sched_getaffinity(0)), free // MEMORY))
+    """How many checks are run side by side."""
+    return max(1, min(len(os.sched_getaffinity(0)), free() // MEMORY))
 
 
 def main():

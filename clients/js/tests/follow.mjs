@@ -187,7 +187,9 @@ function play(seed, turns) {
       shown.set(rev, spans);
     }
     await pause(20);
-    last = await texts[0].insert(0, "!");
+    // The reader may be told of the last edit before its answer is here.
+    last = (await texts[0].readSpans()).rev + 1;
+    assert.equal(await texts[0].insert(0, "!"), last);
     shown.set(last, await texts[0].spans());
     await soon(reader, 20_000);
     for (const { rev, units, text } of seen) {
