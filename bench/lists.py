@@ -1,8 +1,8 @@
 """What several edits in one line take: python3 bench/lists.py PROGRAM [LENGTH..].
 
 In texts of so many characters (10,000 and 100,000), over a file in memory that is served, by turns: an insert of one character; a line of a delete, an
-insert and a mark; a line of 64 inserts of one character. Then 100,000 characters that are typed in a file of their own, each in a line of its own
-or 64 in one.
+insert and a mark; a line of 64 inserts of one character. Then, over a file in memory and one on the disk of this folder, 100,000 characters that are
+typed in a file of their own, each in a line of its own or 64 in one, and a million that are pasted in lines of 60,000 bytes.
 """
 
 import json
@@ -19,6 +19,7 @@ REPLICA = "00000000-0000-4000-8000-000000000001"
 PORTS = 31_801, 31_802
 TURNS, TYPED, TOGETHER = 100, 100_000, 64
 LONG, LONGS = 256, 200
+PASTED, IN_A_LINE = 1_000_000, 200
 
 
 class Served(Session):
@@ -77,7 +78,7 @@ def in_text(program, name, length):
         told(f"{length} characters, {what}", times)
 
 
-def typing(program, name, together):
+def typing(program, name, together, where):
     session = Session(program, name)
     started = time.perf_counter()
     for first in range(0, TYPED, together):
@@ -87,17 +88,29 @@ def typing(program, name, together):
         else:
             session.answered(op="insert", doc=1, at=first, text="x")
     session.end()
-    print(f"{TYPED} characters, {together} in a line: {time.perf_counter() - started:.1f} s", flush=True)
+    print(f"{where}, {TYPED} characters, {together} in a line: {time.perf_counter() - started:.1f} s", flush=True)
+
+
+def pasting(program, name, where):
+    session = Session(program, name)
+    started = time.perf_counter()
+    for line in range(PASTED // LONG // IN_A_LINE):
+        session.answered(op="edits", doc=1, edits=[typed(LONG * at, "y" * LONG) for at in range(IN_A_LINE)])
+    session.end()
+    print(f"{where}, {PASTED // LONG // IN_A_LINE * IN_A_LINE * LONG} characters pasted: {time.perf_counter() - started:.2f} s", flush=True)
 
 
 def main():
     program = os.path.abspath(sys.argv[1])
-    with tempfile.TemporaryDirectory(dir="/dev/shm") as room:
-        names = (os.path.join(room, str(number)) for number in range(99))
-        for length in [int(word) for word in sys.argv[2:]] or (10_000, 100_000):
-            in_text(program, new(program, next(names)), length)
-        for together in (1, TOGETHER):
-            typing(program, new(program, next(names)), together)
+    lengths = [int(word) for word in sys.argv[2:]] or (10_000, 100_000)
+    for folder, where in (("/dev/shm", "in memory"), (".", "on the disk")):
+        with tempfile.TemporaryDirectory(dir=folder) as room:
+            names = (os.path.join(room, str(number)) for number in range(99))
+            for length in lengths if where == "in memory" else ():
+                in_text(program, new(program, next(names)), length)
+            for together in (1, TOGETHER):
+                typing(program, new(program, next(names)), together, where)
+            pasting(program, new(program, next(names)), where)
 
 
 def new(program, name):
