@@ -157,6 +157,9 @@ def main():
         return 0
     os.makedirs(SAID, exist_ok=True)
     crates = Crates(given.names)
+    for name in crates.asked:
+        if crates.kit.fmt(crates.by_name[name].folder, "--check", sys.stdout):
+            print(f"{name}: the gate wants the layout of rt fmt")
     lacking = run(crates, crates.tasks(given.tests), given.jobs)
     print("proved" if not lacking else "NOT PROVED: " + ", ".join(f"{name} {kind}" for name, kind in lacking))
     return 1 if lacking else 0

@@ -31,11 +31,7 @@ static TOGETHER: [Row; 10] = [
     (0, Ask::Edit(Wish::Insert(0, "one two")), 7),
     (
         0,
-        Ask::Together(&[
-            Wish::Delete(4, 3),
-            Wish::Insert(4, "TWO"),
-            Wish::Mark(4, 7),
-        ]),
+        Ask::Together(&[Wish::Delete(4, 3), Wish::Insert(4, "TWO"), Wish::Mark(4, 7)]),
         14,
     ),
     (0, Ask::HasText("one TWO"), 1),

@@ -71,7 +71,8 @@ const OF_THE_SECOND: [(&str, &str); 8] = [
 ];
 
 /// A character comes and goes in one line.
-const TWO_AT_ONCE: &str = "{\"op\":\"edits\",\"doc\":1,\"edits\":[{\"op\":\"insert\",\"at\":2,\"text\":\"c\"},{\"op\":\"delete\",\"at\":2,\"count\":1}]}";
+const TWO_AT_ONCE: &str =
+    "{\"op\":\"edits\",\"doc\":1,\"edits\":[{\"op\":\"insert\",\"at\":2,\"text\":\"c\"},{\"op\":\"delete\",\"at\":2,\"count\":1}]}";
 
 /// An edit, and then a stop with an edit behind it, which is refused.
 const INSERT_AND_STOP: [(&str, &str); 2] = [
