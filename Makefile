@@ -10,8 +10,9 @@ SUM = { rt version; cat crates.txt; find crates -name out -prune -o -type f -pri
 run:
 	cd crates/edit_shell && rt try < stdin
 
-# Everything from nothing, but for what an earlier run on this machine passed if the kit keeps that: each proof, each wrong body, each test, the program's stored run. Then the proved
-# program on real files, and the clients over it; that for JavaScript only where there is node.
+# `rt ci` over all crates, on a copy without their wrong bodies: each proof, each test, the program's stored run, from nothing but for what the kit keeps of an earlier run here. So
+# the kit's own verdict on the wrong bodies isn't asked for: tools/wrong_bodies.py tries those (docs/DECISIONS.md). Plain `rt ci` at the root does both by itself, and wasn't
+# through in three hours. Then the proved program on real files, and the clients over it; that for JavaScript only where there is node.
 # It is kept as bin/peritext with the line of its sources, unless these changed meanwhile. The first part runs below a clock, which ends with what each crate cost; above a limit of
 # processor seconds it fails.
 test:

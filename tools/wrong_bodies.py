@@ -30,8 +30,15 @@ MEMORY = 5_000_000_000
 PATIENCE = 600
 FUNCTION = re.compile(r"^( *)(?:pub(?:\([a-z ]+\))? )?(?:const )?(?:unsafe )?fn (\w+)", re.M)
 IMPL = re.compile(r"^impl(?:<.*?>)? (?:(\w+)(?:<.*?>)? for )?&?(?:'\w+ )?(?:mut )?(\w+)", re.M)
-# An error that names no declaration, or one of a name that isn't there.
-UNREADABLE = re.compile(r"(?:\./)?(\S+?):\d+:\d+: error: (?:(?!`)|.*(?:is not in scope|has no field|is no name))")
+# An error that names no declaration, or one of words that can't be read.
+UNREADABLE = re.compile(
+    r"(?:\./)?(\S+?):\d+:\d+: error: (?:(?!`)|.*(?:is not in scope|has no field|is no name|operand is missing|expected the end|cannot continue))"
+)
+# What the prover says of a function that isn't proved: more than this, as that it couldn't tell, is no refusal.
+IS_REFUSED = re.compile(r"not proved|no proof: (?!it calls )")
+ONLY_CALLS = re.compile(r"no proof: it calls ")
+# A fault, where other notes are advice.
+FAULT = re.compile(r": error|it is not proved that")
 # A proof that names what a wrong body took away: this says little of the contract, so other words go first.
 NAMES = re.compile(r"proofs/.*(?:has no field|is not in scope|has no `)")
 # What only follows from another refusal.
@@ -109,12 +116,12 @@ def body_of(path):
     return Body(path, os.path.basename(path)[: -len(".edit")], pairs, {} if None in functions else functions)
 
 
-def lines_of(function, text):
-    """The lines, from 1, of the function whose last name this is, in the text of its file: from its head to the next function's."""
+def lines_of(function, file, text):
+    """The lines, from 1, of a function in the text of its file: from its head to the next function's."""
     heads = list(FUNCTION.finditer(text))
     found = set()
     for head, after in zip(heads, [*heads[1:], None]):
-        if head[2] == function.split("::")[-1]:
+        if function_at(file, text, head.end()) == function:
             end = after.start() if after else len(text)
             found.update(range(text.count("\n", 0, head.start()) + 1, text.count("\n", 0, end) + 1))
     return found
@@ -151,27 +158,29 @@ class Round:
         self.verdicts = dict(it.groups() for it in (re.match(r"fn \w+?::(\S+): (.*)", line) for line in self.said) if it)
         return self.said[-1].startswith("only=") and prover.is_readable(self.said, self.texts)
 
-    def faults(self, name, file):
-        """What the prover finds wrong in a function's own part."""
-        lines = lines_of(name, self.texts[file])
+    def faults(self, function, name, file):
+        """What the prover finds wrong in a function's own part: its proof, or its lines."""
+        lines = lines_of(function, file, self.texts[file])
         folder = "./proofs/" + name.replace("::", "/") + "/"
         found = []
         for it in self.said:
             at = re.match(r"(?:note: )?(\S+?):(\d+):\d+: ", it)
-            if at and not FOLLOWS.search(it) and (at[1].startswith(folder) or at[1].removeprefix("./") == file and int(at[2]) in lines):
+            is_own = at and (at[1].startswith(folder) or at[1].removeprefix("./") == file and int(at[2]) in lines)
+            if is_own and FAULT.search(it) and not FOLLOWS.search(it):
                 found.append(it)
         return sorted(found, key=lambda it: bool(NAMES.search(it)))
 
     def verdict(self, body):
-        """What this round says of a wrong body, with the prover's words."""
+        """What this round says of a wrong body, with the prover's words. One whose function calls what isn't proved counts as refused only for a fault
+        of its own."""
         verdicts = []
         for function, file in body.functions.items():
             for name, said in self.verdicts.items():
                 if not f"::{name}".endswith(f"::{function}"):
                     continue
                 verdicts.append(said)
-                faults = self.faults(name, file) if said != "proved" else []
-                if faults or said.startswith("no proof") and "which is not proved" not in said:
+                faults = self.faults(function, name, file)
+                if IS_REFUSED.match(said) or ONLY_CALLS.match(said) and faults:
                     return REFUSED, (faults or [said])[0]
         return (PROVED if verdicts and all(it == "proved" for it in verdicts) else UNKNOWN), ""
 
@@ -183,7 +192,7 @@ def alone(prover, crate, body, kept):
         return False, "its old text doesn't stand just once"
     for over in (kept, None):
         said, status = prover.check(crate, this.texts, [], over)
-        if not prover.is_readable(said, this.texts) or status == 0 or not said[-1].startswith("logic="):
+        if not prover.is_readable(said, this.texts) or status != 1 or not said[-1].startswith("logic=not-proved"):
             continue
         return True, next((it for it in said if ": error" in it or it.startswith("note: ")), said[-1])
     return False, next((it for it in said if ": error" in it), said[-1])
