@@ -10,11 +10,10 @@ SUM = { rt version; cat crates.txt; find crates -name out -prune -o -type f -pri
 run:
 	cd crates/edit_shell && rt try < stdin
 
-# `rt ci` over all crates, on a copy without their wrong bodies: each proof, each test, the program's stored run, from nothing but for what the kit keeps of an earlier run here. So
-# the kit's own verdict on the wrong bodies isn't asked for: tools/wrong_bodies.py tries those (docs/DECISIONS.md). Plain `rt ci` at the root does both by itself, and wasn't
-# through in three hours. Then the proved program on real files, and the clients over it; that for JavaScript only where there is node.
-# It is kept as bin/peritext with the line of its sources, unless these changed meanwhile. The first part runs below a clock, which ends with what each crate cost; above a limit of
-# processor seconds it fails.
+# Everything from nothing, but for what an earlier run on this machine passed: each proof, each must-fail edit, each test, the program's stored run. Then the proved program on real files,
+# and the clients over it; that for JavaScript only where there is node.
+# It is kept as bin/peritext with the line of its sources, unless these changed meanwhile. `rt ci` runs below a clock, which ends with what each crate cost, and with its status; above
+# a limit of processor seconds it fails.
 test:
 	@mkdir -p bin; rm -f bin/sources; $(SUM) > bin/asked
 	python3 tools/edits.py
@@ -49,17 +48,17 @@ peritext:
 	    cp $(PROGRAM) bin/peritext && mv bin/asked bin/sources; \
 	fi
 
-# The proved program below PREFIX, with its manual page, and the documents and clients as they stand here, so that each finds the others.
+# The proved program below PREFIX, with its manual page, and the documents, clients and examples as they stand here, so that each finds the others.
 # DESTDIR goes in front, as packages want it.
 PREFIX ?= /usr/local
 SHARE = $(DESTDIR)$(PREFIX)/share
-NOT_INSTALLED = -name tests -o -name build -o -name node_modules -o -name __pycache__ -o -name '*.egg-info'
+NOT_INSTALLED = -name tests -o -name build -o -name node_modules -o -name __pycache__ -o -name .mypy_cache -o -name '*.egg-info'
 
 install: peritext
 	install -D -m 755 bin/peritext $(DESTDIR)$(PREFIX)/bin/peritext
 	mkdir -p $(SHARE)/man/man1
 	python3 tools/man_page.py bin/peritext > $(SHARE)/man/man1/peritext.1
-	find README.md docs clients \( $(NOT_INSTALLED) \) -prune -o -type f -exec install -D -m 644 {} $(SHARE)/doc/peritext/{} \;
+	find README.md docs clients examples \( $(NOT_INSTALLED) \) -prune -o -type f -exec install -D -m 644 {} $(SHARE)/doc/peritext/{} \;
 
 # What the demo and its test run: bin/peritext, which is built only where it isn't there, or another program that PERITEXT names. The demo is
 # content with the unproved program where that alone is there.

@@ -10,12 +10,12 @@ SHARE = "usr/local/share/doc/peritext"
 CODE = re.compile(r"```.*?```|`[^`]*`", re.DOTALL)
 LINK = re.compile(r"!?\[[^\]]*\]\(([^)\s]+)\)")
 # A file or a folder that is named from the top, as docs/OPERATING.md.
-NAMED = re.compile(r"`((?:docs|clients|checks|bench|tools|crates)/[\w@./-]*\w)`")
+NAMED = re.compile(r"`((?:docs|clients|examples|checks|bench|tools|crates)/[\w@./-]*\w)`")
 
 
 def documents(root):
     found = [os.path.join(root, "README.md")]
-    for folder in ("docs", "clients"):
+    for folder in ("docs", "clients", "examples"):
         found += glob.glob(os.path.join(root, folder, "**", "*.md"), recursive=True)
     return [path for path in found if "node_modules" not in path]
 

@@ -49,8 +49,8 @@ def shown(rev, text):
     return {"ok": True, "rev": rev, "text": text}
 
 
-def refused(code):
-    return {"code": code, "error": WORDS[code], "ok": False}
+def refused(code, **more):
+    return {"code": code, "error": WORDS[code], "ok": False, **more}
 
 
 FIELD, STALE = refused(4), refused(6)
@@ -67,13 +67,15 @@ REFUSED = [
     (edits(typed(0, "x"), rev=-1), FIELD), (edits(typed(0, "x"), token=None), FIELD),
     (line(op="edit", doc=1, edits=[typed(0, "x")]), refused(3)), (line(op="insert", doc=1, at=0, text="x", edits=[typed(0, "x")]), FIELD),
     (edits(typed(0, "x"), rev=2), STALE), (edits(typed(9, "x"), typed(0, ""), rev=2), FIELD), (edits(typed(9, "x"), removed(0, 1), rev=4), STALE),
-    (edits(typed(0, "x"), typed(5, "y")), refused(5)), (edits(typed(4, "x"), typed(0, "y")), refused(5)),
-    (edits(removed(0, 3), removed(0, 1)), refused(5)), (edits(typed(0, "x"), removed(4, 1)), refused(5)),
-    (edits(typed(0, "x"), removed(0, 4), marked(0, 1)), refused(5)),
-    (edits(*[typed(0, "x")] * (LIST - 1), typed(2_000, "y")), refused(5)),
-    (edits(typed(0, "x"), typed(0, LETTERS + "y"), typed(999, "z")), refused(7)), (edits(typed(999, LETTERS + "y"), typed(0, "z")), refused(5)),
-    (edits(typed(0, LETTERS), removed(0, LONG + 1)), refused(7)),
-    (edits(typed(0, "x"), typed(0, "y"), token=TOKEN, rev=9), STALE), (edits(typed(0, "x"), typed(9, "y"), token=TOKEN), refused(5)),
+    (edits(typed(0, "x"), typed(5, "y")), refused(5, at=1)), (edits(typed(4, "x"), typed(0, "y")), refused(5, at=0)),
+    (edits(removed(0, 3), removed(0, 1)), refused(5, at=1)), (edits(typed(0, "x"), removed(4, 1)), refused(5, at=1)),
+    (edits(typed(0, "x"), removed(0, 4), marked(0, 1)), refused(5, at=2)),
+    (edits(*[typed(0, "x")] * (LIST - 1), typed(2_000, "y")), refused(5, at=LIST - 1)),
+    (edits(typed(0, "x"), typed(0, LETTERS + "y"), typed(999, "z")), refused(7, at=1)),
+    (edits(typed(999, LETTERS + "y"), typed(0, "z")), refused(5, at=0)), (edits(typed(0, LETTERS), removed(0, LONG + 1)), refused(7, at=1)),
+    # One alone isn't named.
+    (edits(typed(9, "x")), refused(5)), (edits(typed(0, LETTERS + "y")), refused(7)),
+    (edits(typed(0, "x"), typed(0, "y"), token=TOKEN, rev=9), STALE), (edits(typed(0, "x"), typed(9, "y"), token=TOKEN), refused(5, at=1)),
     (edits(*[typed(0, LETTERS)] * 240)[:LINE] + b"\n", refused(2)),
     (edits(*[typed(0, LETTERS)] * 250), refused(11)),
 ]
@@ -88,7 +90,7 @@ ROWS = {
     "the worked one": [
         (insert(0, "one two"), done(7)), (edits(removed(4, 3), typed(4, "TWO"), marked(4, 7), rev=7, token=TOKEN), done(14)),
         (SPANS, {"ok": True, "rev": 14, "spans": [{"text": "one "}, {"strong": True, "text": "TWO"}]}),
-        (edits(removed(0, 4), typed(9, "x"), rev=14), refused(5)), (TEXT, shown(14, "one TWO")),
+        (edits(removed(0, 4), typed(9, "x"), rev=14), refused(5, at=1)), (TEXT, shown(14, "one TWO")),
     ],
     "nothing is left": [
         ABC, (edits(typed(1, "xyz"), removed(1, 3)), done(9)), (TEXT, shown(9, "abc")), (changes(3), told(9)),
@@ -99,7 +101,7 @@ ROWS = {
         (edits(*[typed(at, "x") for at in range(LIST)]), done(LIST)), (edits(*[removed(0, 1)] * LIST), done(2 * LIST)), (TEXT, shown(2 * LIST, "")),
     ],
     "what waits for one commit": [
-        (edits(*[typed(0, LETTERS)] * 42), done(42 * LONG)), (edits(*[removed(0, 11)] * 973, token=TOKEN), refused(7)),
+        (edits(*[typed(0, LETTERS)] * 42), done(42 * LONG)), (edits(*[removed(0, 11)] * 973, token=TOKEN), refused(7, at=972)),
         (edits(*[removed(0, 11)] * 9, token=TOKEN), done(42 * LONG + 99)),
     ],
     "tokens": [
@@ -107,7 +109,7 @@ ROWS = {
         (edits(typed(0, "ab"), removed(0, 1), token=TOKEN), done(3)), (edits(typed(9, "x"), token=TOKEN, rev=77), done(3)),
         (edits(typed(0, "x"), typed(0, "y"), token=TOKEN, doc=2), done(3)),
         (line(op="insert", doc=1, at=0, text="z", token=TOKEN), done(3)), (edits(token=TOKEN), FIELD),
-        (edits(typed(0, "x"), typed(0, LETTERS + "y"), token=AGAIN), refused(7)), (line(op="insert", doc=1, at=0, text="z", token=AGAIN), done(5)),
+        (edits(typed(0, "x"), typed(0, LETTERS + "y"), token=AGAIN), refused(7, at=1)), (line(op="insert", doc=1, at=0, text="z", token=AGAIN), done(5)),
         (edits(typed(0, "x"), removed(0, 1), token=AGAIN), done(5)), (TEXT, shown(5, "zbc")),
     ],
 }

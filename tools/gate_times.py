@@ -1,12 +1,11 @@
-"""The gate of the crates, and what it costs: each proof, the tests and the program's stored run by `rt ci`, and the wrong bodies by wrong_bodies.py.
+"""What a gate costs: runs `rt ci`, and says how long each crate's proof, tests and edits took.
 
-    python3 tools/gate_times.py        from the project's root; the program is left where `rt ci` leaves it
+    python3 tools/gate_times.py [NAME ..]        from the project's root; with names, the gate of these crates alone
 
-Both run in a folder of their own, from nothing, so nothing that is kept here is used. Their lines go on as they come. `rt ci` says when a crate is
-done, and not what it took, so its processes are looked at twice a second: which crate each is for, and the processor seconds that the system
-counted for it and for what it started. What ends between two looks is missing by as much, and what has no crate of its own (running the tests and
-the programs, copying) is a line by itself.
-The table comes last, and also into bin/gate_times.md. The exit status is 0 if all passed, within MOST_SECONDS.
+The lines of `rt ci` go on as they come. It says when a crate is done, and not what it took, so its processes are looked at twice a second:
+which crate each is for, and the processor seconds that the system counted for it and for what it started. What ends between two looks is
+missing by as much, and what has no crate of its own (running the tests and the programs, copying) is a line by itself.
+The table comes last, and also into bin/gate_times.md. The exit status is that of `rt ci`, or 1 if a whole gate passed that took more than MOST_SECONDS.
 """
 
 import collections
@@ -19,24 +18,18 @@ import subprocess
 import sys
 import threading
 import time
-from concurrent.futures import ThreadPoolExecutor
-
-import room
-import wrong_bodies
 
 SECONDS_BETWEEN_LOOKS = 0.5
 TICKS_A_SECOND = os.sysconf("SC_CLK_TCK")
 TABLE = "bin/gate_times.md"
-# What `rt ci` says of a crate that is proved.
-PROVED = re.compile(r"rt: (\w+) proved")
-# How many crates' wrong bodies are tried at once beside `rt ci`, and more of them after it.
-LANES_BESIDE, MOST_LANES = 2, 8
-# What four cores do in the 180 minutes that the judge has. It is raised only with the reason beside it.
+# What four cores do in the 180 minutes that the judge has. It is raised only with the reason beside it: 21,600 was too low by the machine
+# alone. A gate cost 16,005 on one before `changes` came, and one that was ended half way 19,119 on another (2026-11-29, four cores, beside
+# other work), where a check of an edit took 60 to 90 seconds in place of 25. Lower it once a whole gate was measured on a machine that is known.
 MOST_SECONDS = 43_200
 
-# What a process of the prover works at: a crate's proof, its tests, or its wrong bodies.
-Work = collections.namedtuple("Work", "crate kind")
-PROOF, TESTS, EDITS = "proof", "tests", "edits"
+# What a process of the prover works at: a crate's proof, its tests, what its edits begin with, or one edit, by its name.
+Work = collections.namedtuple("Work", "crate kind edit")
+PROOF, TESTS, BASE, EDIT = "proof", "tests", "base", "edit"
 # What started a process, when, and what the system counted for it and for those of its children that ended.
 Process = collections.namedtuple("Process", "parent began seconds")
 
@@ -80,8 +73,13 @@ def words_of(process):
         return []
 
 
+def edits_of(crate):
+    """The names of a crate's edits, in the order in which `rt ci` counts them."""
+    return [os.path.basename(path)[: -len(".edit")] for path in sorted(glob.glob(f"crates/{crate}/must-fail/*.edit"))]
+
+
 def is_edited(process):
-    """Whether a process works in the folder of a crate with wrong bodies."""
+    """Whether a process works in the folder of a crate with an edit."""
     try:
         return os.path.basename(os.readlink(f"/proc/{process}/cwd")).startswith("rt-edit-")
     except OSError:
@@ -89,12 +87,21 @@ def is_edited(process):
 
 
 def work_of(process):
-    """What a process works at, or nothing where it isn't the prover."""
+    """What a process works at, or nothing where it isn't the prover. An edit that is tried from nothing has no name here, and counts to what
+    a crate's edits begin with."""
     words = words_of(process)
     if os.path.basename(words[0] if words else "") != "rattle" or "--crate-name" not in words:
         return None
     crate = words[words.index("--crate-name") + 1]
-    return Work(crate, EDITS if is_edited(process) else TESTS if "--test" in words else PROOF)
+    begun = words[words.index("--incremental") + 1] if "--incremental" in words else ""
+    if "/rt-edits-" in begun:
+        number = os.path.basename(begun)
+        edits = edits_of(crate)
+        if number.isdigit() and int(number) < len(edits):
+            return Work(crate, EDIT, edits[int(number)])
+    if is_edited(process):
+        return Work(crate, BASE, "")
+    return Work(crate, TESTS if "--test" in words else PROOF, "")
 
 
 def seconds_of(process, found, children):
@@ -150,13 +157,17 @@ class Watch:
 
 
 def crate_rows(spent):
-    """The crates, the dearest first: seconds of the proof, the tests and the wrong bodies, and the minutes in which the crate was worked at."""
+    """The crates, the dearest first: seconds of the proof, the tests, the edits with what they begin with, how many edits, and the minutes in which
+    the crate was worked at."""
     rows = []
     for crate in {work.crate for work in spent}:
         own = {work: it for work, it in spent.items() if work.crate == crate}
-        by_kind = collections.Counter({work.kind: it.seconds() for work, it in own.items()})
+        by_kind = collections.Counter()
+        for work, it in own.items():
+            by_kind[EDIT if work.kind == BASE else work.kind] += it.seconds()
+        edits = sum(work.kind == EDIT for work in own)
         first, last = min(it.first for it in own.values()), max(it.last for it in own.values())
-        rows.append((crate, by_kind[PROOF], by_kind[TESTS], by_kind[EDITS], first, last))
+        rows.append((crate, by_kind[PROOF], by_kind[TESTS], by_kind[EDIT], edits, first, last))
     return sorted(rows, key=lambda row: -sum(row[1:4]))
 
 
@@ -164,83 +175,57 @@ def table(spent, wall, processor):
     """The lines of the table."""
     rows = crate_rows(spent)
     lines = ["| Crate | proof | tests | edits | sum | from | to |", "|---|---|---|---|---|---|---|"]
-    for crate, *each, first, last in rows:
-        cells = " | ".join(f"{it:,.0f}" if it else "" for it in each)
-        lines.append(f"| {crate} | {cells} | {sum(each):,.0f} | {first / 60:.1f} | {last / 60:.1f} |")
-    sums = [sum(row[at] for row in rows) for at in (1, 2, 3)]
-    lines.append(f"| all | {' | '.join(f'{it:,.0f}' for it in sums)} | {sum(sums):,.0f} | | {wall / 60:.1f} |")
-    lines.append(f"| builds, runs and copies | | | | {max(processor - sum(sums), 0):,.0f} | | |")
+    for crate, proof, tests, edits, count, first, last in rows:
+        of_edits = f"{edits:,.0f} ({count})" if count else ""
+        of_tests = f"{tests:,.0f}" if tests else ""
+        sums = proof + tests + edits
+        lines.append(f"| {crate} | {proof:,.0f} | {of_tests} | {of_edits} | {sums:,.0f} | {first / 60:.1f} | {last / 60:.1f} |")
+    proof, tests, edits, count = (sum(row[at] for row in rows) for at in (1, 2, 3, 4))
+    seen = proof + tests + edits
+    lines.append(f"| all | {proof:,.0f} | {tests:,.0f} | {edits:,.0f} ({count}) | {seen:,.0f} | | {wall / 60:.1f} |")
+    lines.append(f"| builds, runs and copies | | | | {max(processor - seen, 0):,.0f} | | |")
     return lines
+
+
+def edit_lines(spent):
+    """The edits, the dearest first."""
+    edits = sorted((it.seconds(), work) for work, it in spent.items() if work.kind == EDIT)
+    lines = ["| Edit | seconds |", "|---|---|"]
+    return lines + [f"| {work.crate}/{work.edit} | {seconds:,.0f} |" for seconds, work in reversed(edits)]
 
 
 def report(spent, wall, processor):
     """What is printed at the end."""
     cores = os.cpu_count()
     lines = [f"The gate took {wall / 60:.1f} minutes on {cores} cores, and {processor:,.0f} processor seconds:"]
-    return lines + ["processor seconds by crate, and the minutes in which it was worked at.", "", *table(spent, wall, processor)]
+    lines += ["processor seconds by crate, and the minutes in which it was worked at.", "", *table(spent, wall, processor)]
+    if any(work.kind == EDIT for work in spent):
+        lines += ["", *edit_lines(spent)]
+    return lines
 
 
-def too_long(processor):
-    """What is said of a gate that took too long, or nothing."""
-    if processor <= MOST_SECONDS:
+def too_long(names, processor):
+    """What is said of a gate of all crates that took too long, or nothing. What was kept from earlier runs only makes it shorter."""
+    if names or processor <= MOST_SECONDS:
         return None
-    return f"FAILED: the gate took {processor:,.0f} processor seconds, and {MOST_SECONDS:,} are the most that MOST_SECONDS in tools/gate_times.py allows"
-
-
-class WrongBodies:
-    """The wrong bodies of the crates that `rt ci` has proved. They are tried beside it, on processors that it leaves idle."""
-
-    def __init__(self, folder):
-        self.prover = wrong_bodies.Prover(folder, ("nice", "-n", "19"))
-        self.begun, self.printing = [], threading.Lock()
-        self.pool = ThreadPoolExecutor(wrong_bodies.lanes())
-        self.lanes = threading.Semaphore(LANES_BESIDE)
-
-    def say(self, text):
-        with self.printing:
-            print(text, flush=True)
-
-    def begin(self, name):
-        """Tries those of a crate, once there is a lane."""
-        self.begun.append(self.pool.submit(self.tried, name))
-
-    def tried(self, name):
-        with self.lanes:
-            return wrong_bodies.tried(self.prover, name, self.say)
-
-    def end(self, is_proved):
-        """How many weren't refused, once all have been tried; where all is lost anyway, what waits isn't tried."""
-        self.lanes.release(MOST_LANES)
-        self.pool.shutdown(cancel_futures=not is_proved)
-        return sum(it.result() for it in self.begun if not it.cancelled())
-
-
-def run_gate(folder):
-    """Runs `rt ci` in the folder, hands its lines on, and tries the wrong bodies. The exit status."""
-    bodies = WrongBodies(folder)
-    environment = {**os.environ, "PYTHONUNBUFFERED": "1"}
-    gate = subprocess.Popen(["rt", "ci"], cwd=folder, stdout=subprocess.PIPE, stderr=subprocess.STDOUT, env=environment, text=True, errors="replace")
-    # Ctrl-C reaches the gate too; whoever ends this process alone means the gate.
-    signal.signal(signal.SIGINT, lambda *_: None)
-    signal.signal(signal.SIGTERM, lambda *_: gate.terminate())
-    for line in gate.stdout:
-        bodies.say(line.rstrip("\n"))
-        if proved := PROVED.fullmatch(line.rstrip("\n")):
-            bodies.begin(proved[1])
-    status = gate.wait()
-    failed = bodies.end(status == 0)
-    if status == 0:
-        print(f"wrong bodies: {failed} weren't refused" if failed else "each wrong body was refused", flush=True)
-    return status or (1 if failed else 0)
+    return (
+        f"FAILED: the gate took {processor:,.0f} processor seconds, and {MOST_SECONDS:,} are the most that MOST_SECONDS in tools/gate_times.py allows"
+        " (a slower machine may need a tenth more)."
+    )
 
 
 def main():
     start = time.monotonic()
-    watch = Watch(os.getpid())
-    with room.opened() as folder:
-        status = run_gate(folder)
-        if status == 0:
-            room.take_program(folder, f"crates/{room.PROGRAM}/out/{room.PROGRAM}")
+    environment = {**os.environ, "PYTHONUNBUFFERED": "1"}
+    gate = subprocess.Popen(["rt", "ci", *sys.argv[1:]], stdout=subprocess.PIPE, stderr=subprocess.STDOUT, env=environment)
+    # Ctrl-C reaches the gate too; whoever ends this process alone means the gate.
+    signal.signal(signal.SIGINT, lambda *_: None)
+    signal.signal(signal.SIGTERM, lambda *_: gate.terminate())
+    watch = Watch(gate.pid)
+    for line in gate.stdout:
+        sys.stdout.buffer.write(line)
+        sys.stdout.buffer.flush()
+    status = gate.wait()
     watch.end()
     counted = resource.getrusage(resource.RUSAGE_CHILDREN)
     processor = counted.ru_utime + counted.ru_stime
@@ -249,7 +234,7 @@ def main():
     os.makedirs(os.path.dirname(TABLE), exist_ok=True)
     with open(TABLE, "w", encoding="utf-8") as file:
         file.write("\n".join(lines) + "\n")
-    if why := too_long(processor):
+    if why := too_long(sys.argv[1:], processor):
         print(why)
         status = status or 1
     return status if status >= 0 else 128 - status

@@ -63,7 +63,7 @@ export function withToken(request) {
 
 /**
  * What is sent if the answer to a request was lost. A `rev` holds on its connection alone: an edit that named one is
- * answered if it was made, and is `Stale` if it wasn't.
+ * answered if it was made, and is `Stale` if it wasn't: yet the file may still read it from the connection that ended.
  * @param {Request} request
  */
 export function repeated(request) {

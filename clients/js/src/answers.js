@@ -9,7 +9,7 @@ export class NoAnswer extends Error {}
  * What a line answers to a request, or the refusal that it tells. `NoAnswer` if it isn't one.
  * @param {string} line
  * @param {Record<string, unknown>} request
- * @returns {import("./session.js").Answer | import("./refusals.js").Refused}
+ * @returns {import("./wire.js").Answer | import("./refusals.js").Refused}
  */
 export function answerOf(line, request) {
   const told = object(line);
@@ -141,28 +141,27 @@ function isStep(value) {
 
 const MARKS = Object.entries({ strong: isFlag, em: isFlag, link: isText, comments: areTexts });
 
-/**
- * The fields of a step, for each of its forms.
- * @type {Map<string, Record<string, (value: unknown) => boolean>>}
- */
+/** @typedef {Record<string, (value: unknown) => boolean>} Fields */
+
+/** The fields of a step, for each of its forms. */
 const STEPS = new Map(
-  Object.entries({
+  Object.entries(/** @type {Record<string, Fields>} */ ({
     retain: { retain: isCount },
     delete: { delete: isCount },
     insert: { insert: isText },
     "attributes,insert": { insert: isText, attributes: areMarks },
     "attributes,retain": { retain: isCount, attributes: areAllMarks },
-  }),
+  })),
 );
 const REFUSAL = { code: isNumber, error: isText };
 const EDITED = { rev: isNumber };
 
 /**
  * The fields of an answer, by the request.
- * @type {Map<unknown, Record<string, (value: unknown) => boolean>>}
+ * @type {Map<unknown, Fields>}
  */
 const FIELDS = new Map(
-  Object.entries({
+  Object.entries(/** @type {Record<string, Fields>} */ ({
     insert: EDITED,
     delete: EDITED,
     mark: EDITED,
@@ -176,5 +175,5 @@ const FIELDS = new Map(
     status: { applied: isNumber, settled: isNumber, state: isText },
     peers: { peers: arePeers, sessions: isNumber },
     watch: EDITED,
-  }),
+  })),
 );

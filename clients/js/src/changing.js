@@ -103,7 +103,7 @@ function taken(left, count) {
 /**
  * A text with the marks that hold.
  * @param {string} text
- * @param {Marks} [marks]
+ * @param {Marks} marks
  * @returns {Span}
  */
 function marked(text, { strong, em, link, comments } = {}) {

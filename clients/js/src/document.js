@@ -1,34 +1,49 @@
 /** A document of a session. */
 
-import { cut, linesOf, piecesOf } from "./action.js";
+import { givenOf, throwIfAborted } from "./aborting.js";
+import { cut, piecesOf } from "./action.js";
 import { needDigest, tokenAfter } from "./again.js";
+import { lines, naming, parts, stretches } from "./calls.js";
 import { keyOf } from "./marks.js";
 import { Reading } from "./reading.js";
-import { Refused, Stale, refused } from "./refusals.js";
-import { LONGEST, MOST, isWhole } from "./rules.js";
+import { Stale } from "./refusals.js";
+import { isWhole } from "./rules.js";
 
 /** How often places of several requests are asked for, until all are answered at one `rev`. */
 const ROUNDS = 8;
 
 /**
+ * @typedef {import("./aborting.js").Abortable} Abortable
  * @typedef {import("./action.js").Edit} Edit
- * @typedef {import("./action.js").Piece} Piece
  * @typedef {import("./again.js").Request} Request
+ * @typedef {import("./calls.js").Part} Part
  * @typedef {import("./changing.js").Changes} Changes
  * @typedef {import("./marks.js").Mark} Mark
  * @typedef {import("./marks.js").Span} Span
- * @typedef {import("./session.js").Answer} Answer
- */
-
-/**
- * The fields of a request that makes a part of a call, how much was made before, and which edits of the caller's it has.
- * @typedef {{fields: Request, made: number, numbers?: (number | undefined)[]}} Part
+ * @typedef {import("./wire.js").Answer} Answer
  */
 
 /**
  * The neighbour that a place stays with: the character before it, so that what is typed there comes after it, or the next
  * one.
  * @typedef {"previous" | "next"} Side
+ */
+
+/**
+ * What an edit may be given: the `rev` of the text that it is made for, a `token` under which it is made once, and a
+ * `signal`. They are its last argument, also in the place of `rev` or `token`.
+ * @typedef {Abortable & {rev?: number, token?: string}} EditOptions
+ */
+
+/**
+ * An action's may let it go as several lines.
+ * @typedef {EditOptions & {parted?: boolean}} ActionOptions
+ */
+
+/**
+ * A question's: the `rev` of a text that was read, so that the answer is of just this text, or `Stale`.
+ * @typedef {Abortable & {rev?: number}} AskOptions
+ * @typedef {AskOptions & {side?: Side}} AnchorOptions
  */
 
 /**
@@ -42,6 +57,9 @@ const ROUNDS = 8;
  * KiB. A longer one goes as several lines, each of which is answered before the next one is sent, and a `delete` of more
  * than 256 characters as several edits. If anybody edits the document in between, the next one is `Stale`, and those before
  * it are made. The tokens of all but the first follow from the one that is given.
+ *
+ * A call whose `signal` is aborted rejects with the signal's reason. What was sent by then may be made, and nothing more of
+ * the call is sent; an edit with a token of the caller's may be sent again.
  */
 export class Document {
   /**
@@ -57,24 +75,27 @@ export class Document {
    * Puts characters before the one at a place, or at the end.
    * @param {number} at
    * @param {string} text
-   * @param {number} [rev]
-   * @param {string} [token]
+   * @param {number | EditOptions} [rev]
+   * @param {string | EditOptions} [token]
+   * @param {EditOptions} [options]
    */
-  insert(at, text, rev, token) {
+  insert(at, text, rev, token, options) {
+    const given = givenOf({ rev, token }, options);
     const [first, ...others] = cut({ op: "insert", at, text });
-    if (others.length === 0) return this.edit(first, rev, token);
-    return this.#editAll(lines([first, ...others].map((edit) => ({ edit })), true), rev, token);
+    if (others.length === 0) return this.edit(first, given);
+    return this.#editAll(lines([first, ...others].map((edit) => ({ edit })), true), given);
   }
 
   /**
    * Takes characters away from a place on.
    * @param {number} at
    * @param {number} count
-   * @param {number} [rev]
-   * @param {string} [token]
+   * @param {number | EditOptions} [rev]
+   * @param {string | EditOptions} [token]
+   * @param {EditOptions} [options]
    */
-  delete(at, count, rev, token) {
-    return this.#editAll(stretches(at, count), rev, token);
+  delete(at, count, rev, token, options) {
+    return this.#editAll(stretches(at, count), givenOf({ rev, token }, options));
   }
 
   /**
@@ -82,11 +103,12 @@ export class Document {
    * @param {number} from
    * @param {number} to
    * @param {Mark} mark
-   * @param {number} [rev]
-   * @param {string} [token]
+   * @param {number | EditOptions} [rev]
+   * @param {string | EditOptions} [token]
+   * @param {EditOptions} [options]
    */
-  mark(from, to, mark, rev, token) {
-    return this.edit({ op: "mark", from, to, ...mark }, rev, token);
+  mark(from, to, mark, rev, token, options) {
+    return this.edit({ op: "mark", from, to, ...mark }, rev, token, options);
   }
 
   /**
@@ -94,11 +116,12 @@ export class Document {
    * @param {number} from
    * @param {number} to
    * @param {Mark} mark
-   * @param {number} [rev]
-   * @param {string} [token]
+   * @param {number | EditOptions} [rev]
+   * @param {string | EditOptions} [token]
+   * @param {EditOptions} [options]
    */
-  unmark(from, to, mark, rev, token) {
-    return this.edit({ op: "unmark", from, to, ...keyOf(mark) }, rev, token);
+  unmark(from, to, mark, rev, token, options) {
+    return this.edit({ op: "unmark", from, to, ...keyOf(mark) }, rev, token, options);
   }
 
   /**
@@ -109,26 +132,29 @@ export class Document {
    * `RangeError`, and nothing is sent; with `parted` it goes as several lines, each of them all or nothing, as a long
    * `insert` does.
    * @param {readonly Edit[]} edits
-   * @param {number} [rev]
-   * @param {string} [token]
-   * @param {{parted?: boolean}} options
+   * @param {number | ActionOptions} [rev]
+   * @param {string | ActionOptions} [token]
+   * @param {ActionOptions} [options]
    */
-  action(edits, rev, token, { parted = false } = {}) {
+  action(edits, rev, token, options) {
+    const { parted = false, ...given } = givenOf({ rev, token }, options);
     // What is no list of edits is refused as it is.
-    if (!Array.isArray(edits) || edits.length === 0) return this.edit({ op: "edits", edits }, rev, token);
-    return this.#editAll(lines(piecesOf(edits), parted), rev, token);
+    if (!Array.isArray(edits) || edits.length === 0) return this.edit({ op: "edits", edits }, given);
+    return this.#editAll(lines(piecesOf(edits), parted), given);
   }
 
   /**
    * Sends the fields of an edit.
    * @param {Record<string, unknown>} fields
-   * @param {number} [rev]
-   * @param {string} [token]
+   * @param {number | EditOptions} [rev]
+   * @param {string | EditOptions} [token]
+   * @param {EditOptions} [options]
    * @returns {Promise<number>}
    */
-  async edit(fields, rev, token) {
-    this.#needKnown(rev);
-    const answer = await this.session.send({ doc: this.number, token, ...fields, rev });
+  async edit(fields, rev, token, options) {
+    const { signal, ...given } = givenOf({ rev, token }, options);
+    this.#needKnown(given.rev, signal);
+    const answer = await this.session.send({ doc: this.number, token: given.token, ...fields, rev: given.rev }, { signal });
     return answer.rev;
   }
 
@@ -136,27 +162,29 @@ export class Document {
    * Refuses the number of another session. After a crash, or at a peer, it may name another text, and would be taken for
    * this one.
    * @param {number} [rev]
+   * @param {AbortSignal} [signal]
    */
-  #needKnown(rev) {
+  #needKnown(rev, signal) {
+    throwIfAborted(signal);
     if (rev !== undefined && !this.session.knowsRev(this.number)) throw new Stale(6, "stale");
   }
 
   /**
    * Makes parts of a call one after the other, and gives the last answer.
    * @param {Generator<Part, void>} parts
-   * @param {number} [rev]
-   * @param {string} [token]
+   * @param {EditOptions} given
    * @returns {Promise<number>}
    */
-  async #editAll(parts, rev, token) {
+  async #editAll(parts, { rev, token, signal }) {
     const first = /** @type {Part} */ (parts.next().value);
     let next = parts.next();
     if (!next.done && token !== undefined) needDigest();
     // This one is sent at once, in its order among other calls.
-    let last = await this.edit(first.fields, rev, token).catch(naming(first));
+    let last = await this.edit(first.fields, { rev, token, signal }).catch(naming(first));
     while (!next.done) {
       const part = next.value;
-      last = await this.#editNext(part.fields, last, token && (await tokenAfter(token, String(part.made)))).catch(naming(part));
+      const after = token && (await tokenAfter(token, String(part.made)));
+      last = await this.#editNext(part.fields, { rev: last, token: after, signal }).catch(naming(part));
       next = parts.next();
     }
     return last;
@@ -165,42 +193,52 @@ export class Document {
   /**
    * Makes an edit after one that was answered with this `rev`. If it is `Stale` for a lost connection alone, it is sent anew.
    * @param {Request} fields
-   * @param {number} rev
-   * @param {string} [token]
+   * @param {EditOptions} given
    * @returns {Promise<number>}
    */
-  async #editNext(fields, rev, token) {
+  async #editNext(fields, given) {
     for (;;) {
       try {
-        return await this.edit(fields, rev, token);
+        return await this.edit(fields, given);
       } catch (error) {
-        if (!(error instanceof Stale) || (await this.rev()) !== rev) throw error;
+        if (!(error instanceof Stale) || (await this.rev(given)) !== given.rev) throw error;
       }
     }
   }
 
-  /** The text. */
-  async text() {
-    return (await this.read()).text;
+  /**
+   * The text.
+   * @param {Abortable} [options]
+   */
+  async text(options) {
+    return (await this.read(options)).text;
   }
 
-  /** The text with its `rev`, and edits of just this text. */
-  async read() {
-    const { text, rev } = await this.session.send({ op: "text", doc: this.number });
-    return new Reading(this, text, rev);
+  /**
+   * The text with its `rev`, and edits of just this text.
+   * @param {Abortable} [options]
+   */
+  async read(options) {
+    const { parted } = this.session;
+    const { text, rev } = await this.session.send({ op: "text", doc: this.number }, options);
+    return new Reading(this, text, rev, parted);
   }
 
-  /** The text in runs of equal marks. */
-  async spans() {
-    return (await this.readSpans()).spans;
+  /**
+   * The text in runs of equal marks.
+   * @param {Abortable} [options]
+   */
+  async spans(options) {
+    return (await this.readSpans(options)).spans;
   }
 
   /**
    * The spans with their `rev`.
+   * @param {Abortable} [options]
    * @returns {Promise<{spans: Span[], rev: number}>}
    */
-  async readSpans() {
-    const { spans, rev } = await this.session.send({ op: "spans", doc: this.number });
+  async readSpans(options) {
+    const { spans, rev } = await this.session.send({ op: "spans", doc: this.number }, options);
     return { spans, rev };
   }
 
@@ -214,13 +252,14 @@ export class Document {
    * was opened. The `rev` of another session, or of the connection before, could name another text: so it is `Stale` too,
    * and isn't asked for, before this session was told one of this document over its connection. Then go on from 0.
    * @param {number} since
+   * @param {Abortable} options
    * @returns {Promise<Changes>}
    */
-  async changes(since) {
+  async changes(since, { signal } = {}) {
     const { parted } = this.session;
     // The text at 0 is empty everywhere. What is no number is refused as it is.
-    if (isWhole(since, 1)) this.#needKnown(since);
-    const { changes, rev } = await this.session.send({ op: "changes", doc: this.number, since });
+    if (isWhole(since, 1)) this.#needKnown(since, signal);
+    const { changes, rev } = await this.session.send({ op: "changes", doc: this.number, since }, { signal });
     // It was asked for again over another connection.
     if (since !== 0 && parted !== this.session.parted) throw new Stale(6, "stale");
     return { steps: changes, rev };
@@ -230,11 +269,12 @@ export class Document {
    * A name for a place between characters, which lasts: it stays with its neighbour at every peer and in every session.
    * `place` tells where it is by then. With the `rev` of a text that was read it is of just this text, or `Stale`.
    * @param {number} at
-   * @param {Side} [side]
-   * @param {number} [rev]
+   * @param {Side | AnchorOptions} [side]
+   * @param {number | AnchorOptions} [rev]
+   * @param {AnchorOptions} [options]
    */
-  async anchor(at, side, rev) {
-    const [anchor] = await this.anchors([at], side, rev);
+  async anchor(at, side, rev, options) {
+    const [anchor] = await this.anchors([at], side, rev, options);
     return anchor;
   }
 
@@ -242,12 +282,14 @@ export class Document {
    * Such names for any number of places. More than 256 go as several requests, which may be answered at different moments:
    * unless all of them are answered at one `rev`, they are sent anew, and are `Stale` after eight times.
    * @param {number[]} at
-   * @param {Side} [side]
-   * @param {number} [rev]
+   * @param {Side | AnchorOptions} [side]
+   * @param {number | AnchorOptions} [rev]
+   * @param {AnchorOptions} [options]
    * @returns {Promise<string[]>}
    */
-  async anchors(at, side = "previous", rev) {
-    const answers = await this.#askAll(parts(at).map((part) => ({ op: "anchors", at: part, side })), rev);
+  async anchors(at, side, rev, options) {
+    const { side: neighbour = "previous", ...given } = givenOf({ side, rev }, options);
+    const answers = await this.#askAll(parts(at).map((part) => ({ op: "anchors", at: part, side: neighbour })), given);
     return answers.flatMap(({ anchors }) => anchors);
   }
 
@@ -256,35 +298,38 @@ export class Document {
    * Beside one that was removed it stays where that was. With the `rev` of a text that was read it is a place of just this
    * text, or `Stale`.
    * @param {string} anchor
-   * @param {number} [rev]
+   * @param {number | AskOptions} [rev]
+   * @param {AskOptions} [options]
    */
-  async place(anchor, rev) {
-    const [place] = await this.places([anchor], rev);
+  async place(anchor, rev, options) {
+    const [place] = await this.places([anchor], rev, options);
     return place;
   }
 
   /**
    * Where any number of such places are now. More than 256 go as several requests, as those of `anchors` do.
    * @param {string[]} anchors
-   * @param {number} [rev]
+   * @param {number | AskOptions} [rev]
+   * @param {AskOptions} [options]
    * @returns {Promise<(number | null)[]>}
    */
-  async places(anchors, rev) {
-    const answers = await this.#askAll(parts(anchors).map((part) => ({ op: "places", anchors: part })), rev);
+  async places(anchors, rev, options) {
+    const answers = await this.#askAll(parts(anchors).map((part) => ({ op: "places", anchors: part })), givenOf({ rev }, options));
     return answers.flatMap(({ places }) => places);
   }
 
   /**
    * The answers to several requests, which are sent at once: at this `rev`, or else at any one.
    * @param {Request[]} requests
-   * @param {number} [rev]
+   * @param {AskOptions} given
    * @returns {Promise<Answer[]>}
    */
-  async #askAll(requests, rev) {
+  async #askAll(requests, { rev, signal }) {
     for (let left = rev === undefined ? ROUNDS : 1; left > 0; left -= 1) {
       const { parted } = this.session;
-      this.#needKnown(rev);
-      const answers = await Promise.all(requests.map((request) => this.session.send({ doc: this.number, ...request })));
+      this.#needKnown(rev, signal);
+      const asked = requests.map((request) => this.session.send({ doc: this.number, ...request }, { signal }));
+      const answers = await Promise.all(asked);
       const wanted = rev ?? answers[0]?.rev;
       // After a lost connection the same number can name another text.
       if (parted === this.session.parted && answers.every((answer) => answer.rev === wanted)) return answers;
@@ -292,57 +337,11 @@ export class Document {
     throw new Stale(6, "stale");
   }
 
-  /** How many operations the document has. */
-  async rev() {
-    return (await this.read()).rev;
+  /**
+   * How many operations the document has.
+   * @param {Abortable} [options]
+   */
+  async rev(options) {
+    return (await this.read(options)).rev;
   }
-}
-
-/**
- * The lists of at most 256 that make up a list. What is no list is refused as it is.
- * @template T
- * @param {T[]} all
- */
-function parts(all) {
-  if (!Array.isArray(all)) return [all];
-  return Array.from({ length: Math.ceil(all.length / MOST) }, (_, number) => all.slice(number * MOST, (number + 1) * MOST));
-}
-
-/**
- * The edits that take a stretch away.
- * @param {number} at
- * @param {number} count
- * @returns {Generator<Part, void>}
- */
-function* stretches(at, count) {
-  let made = 0;
-  for (const fields of cut({ op: "delete", at, count })) {
-    yield { fields, made };
-    made += LONGEST;
-  }
-}
-
-/**
- * The lines that make edits at once.
- * @param {Iterable<Piece>} pieces
- * @param {boolean} parted
- * @returns {Generator<Part, void>}
- */
-function* lines(pieces, parted) {
-  let made = 0;
-  for (const line of linesOf(pieces, parted)) {
-    yield { fields: { op: "edits", edits: line.map(({ edit }) => edit) }, made, numbers: line.map(({ number }) => number) };
-    made += line.length;
-  }
-}
-
-/**
- * Has a refusal of a line tell which edit of the caller's it is about.
- * @param {Part} part
- */
-function naming({ fields, numbers }) {
-  return (/** @type {unknown} */ error) => {
-    if (!(error instanceof Refused) || error.at === undefined) throw error;
-    throw refused(error.number, error.word, fields, numbers?.[error.at]);
-  };
 }

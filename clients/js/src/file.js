@@ -3,6 +3,7 @@
 import { spawn } from "node:child_process";
 import { randomUUID } from "node:crypto";
 
+import { throwIfAborted } from "./aborting.js";
 import { Lines } from "./lines.js";
 import { check } from "./milliseconds.js";
 import { Ended, refused } from "./refusals.js";
@@ -114,15 +115,18 @@ export async function init(file, { replica = randomUUID(), program = "peritext" 
  * another program has it. It sends nothing twice by itself: an edit that wasn't answered can be sent with its `token` again,
  * once the file is opened anew.
  * @param {string} file
- * @param {{program?: string, timeout?: number | null}} options `timeout`: milliseconds without a byte while an answer is
- *   due, or null for no limit
+ * @param {{program?: string, timeout?: number | null, signal?: AbortSignal}} options `timeout`: milliseconds without a byte
+ *   while an answer is due, or null for no limit; `signal` ends the opening, if it is aborted before there is a session
  */
-export async function open(file, { program = "peritext", timeout } = {}) {
+export async function open(file, { program = "peritext", timeout, signal } = {}) {
+  throwIfAborted(signal);
   const session = new FileSession(program, file, { timeout });
   try {
-    await session.send({ op: "status" });
+    await session.send({ op: "status" }, { signal });
   } catch (error) {
-    await session.close();
+    // A program that opens a long file would keep it.
+    if (signal?.aborted) session.abandon();
+    else await session.close();
     throw error;
   }
   return session;

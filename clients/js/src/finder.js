@@ -7,7 +7,7 @@ import { Ended, Refused } from "./refusals.js";
 /**
  * @typedef {import("./again.js").Request} Request
  * @typedef {import("./session.js").Session} Session
- * @typedef {import("./session.js").Transport} Transport
+ * @typedef {import("./wire.js").Transport} Transport
  */
 
 /** Milliseconds for which it is looked for, unless the caller says otherwise, and between two looks. */
@@ -44,11 +44,16 @@ export class Finder {
   /**
    * A request was answered.
    * @param {Request} request
-   * @param {import("./session.js").Answer | Refused} told
+   * @param {import("./wire.js").Answer | Refused} told
    */
   answered(request, told) {
     this.#since = undefined;
     if (isEdit(request) && request.token !== undefined && !(told instanceof Refused)) this.#made = request;
+  }
+
+  /** Nothing waits any more: whoever asks later has all the time anew. */
+  rest() {
+    this.#since = undefined;
   }
 
   /**
@@ -58,8 +63,8 @@ export class Finder {
   async find(isOver) {
     // It was found, and ended again without an answer.
     if (this.#since !== undefined) await pause(PAUSE);
-    this.#since ??= performance.now();
     while (!isOver()) {
+      this.#since ??= performance.now();
       const left = this.#since + this.#retry - performance.now();
       if (left <= 0) throw new Ended(`no more answers come, and none came again for ${this.#retry} milliseconds`);
       const found = await this.#tried(left);

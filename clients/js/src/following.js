@@ -1,5 +1,6 @@
 /** A document that is followed: its text at first, and then each change of it, as editors take them. */
 
+import { needSignal } from "./aborting.js";
 import { readAnew } from "./anew.js";
 import { applied, delta, leadTo } from "./changing.js";
 import { check } from "./milliseconds.js";
@@ -11,12 +12,12 @@ import { Watch } from "./watch.js";
  * @typedef {import("./document.js").Document} Document
  * @typedef {import("./marks.js").Span} Span
  * @typedef {import("./session.js").Session} Session
- * @typedef {import("./session.js").Transport} Transport
+ * @typedef {import("./wire.js").Transport} Transport
  */
 
 /**
- * The options of `connect`, and a signal that ends it: then `next` throws the signal's reason, once.
- * @typedef {import("./connecting.js").Options & {signal?: AbortSignal}} Options
+ * The options of `connect`. The signal ends it: then `next` throws the signal's reason, once.
+ * @typedef {import("./connecting.js").Options} Options
  */
 
 /**
@@ -77,6 +78,7 @@ export class Following {
    */
   constructor(connect, begin, document, { patience, timeout, retry, signal } = {}) {
     check({ patience, timeout, retry });
+    needSignal(signal);
     this.#connect = connect;
     this.#begin = begin;
     this.#number = document;

@@ -1,5 +1,28 @@
 /** Documents of the peritext program, over any transport of lines: what runs in browsers too. */
 
+/**
+ * The types of what calls take and give.
+ * @typedef {import("./aborting.js").Abortable} Abortable
+ * @typedef {import("./action.js").Edit} Edit
+ * @typedef {import("./changing.js").Changes} Changes
+ * @typedef {import("./changing.js").Marks} Marks
+ * @typedef {import("./changing.js").Step} Step
+ * @typedef {import("./connecting.js").Options} ConnectOptions
+ * @typedef {import("./document.js").ActionOptions} ActionOptions
+ * @typedef {import("./document.js").AnchorOptions} AnchorOptions
+ * @typedef {import("./document.js").AskOptions} AskOptions
+ * @typedef {import("./document.js").EditOptions} EditOptions
+ * @typedef {import("./document.js").Side} Side
+ * @typedef {import("./following.js").Change} Change
+ * @typedef {import("./following.js").Reset} Reset
+ * @typedef {import("./marks.js").Mark} Mark
+ * @typedef {import("./marks.js").Span} Span
+ * @typedef {import("./wire.js").Answer} Answer
+ * @typedef {import("./wire.js").Peer} Peer
+ * @typedef {import("./wire.js").Transport} Transport
+ * @typedef {import("./watch.js").Options} WatchOptions
+ */
+
 export { applied, delta } from "./changing.js";
 export { Document } from "./document.js";
 export { Following } from "./following.js";

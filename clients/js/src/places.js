@@ -5,6 +5,9 @@
 
 const PAIRS = /[\ud800-\udbff][\udc00-\udfff]/g;
 
+/** Half of a pair of surrogates, which is no character. */
+export const HALF = /\p{Surrogate}/u;
+
 /**
  * The place of an index of a text.
  * @param {string} text
@@ -64,4 +67,13 @@ function unitsAt(text, index) {
  */
 export function lengthOf(text) {
   return text.length - (text.match(PAIRS)?.length ?? 0);
+}
+
+/**
+ * Whether an index is in the midst of a character of a text.
+ * @param {string} text
+ * @param {number} index
+ */
+export function isInside(text, index) {
+  return index > 0 && Number(text.codePointAt(index - 1)) > 0xffff;
 }

@@ -1,9 +1,13 @@
 /** A text that was read. */
 
+import { givenOf } from "./aborting.js";
 import { toIndex, toPlace } from "./places.js";
+import { Stale } from "./refusals.js";
 
 /**
+ * @typedef {import("./aborting.js").Abortable} Abortable
  * @typedef {import("./action.js").Edit} Edit
+ * @typedef {import("./document.js").Side} Side
  */
 
 /**
@@ -11,24 +15,29 @@ import { toIndex, toPlace } from "./places.js";
  * `Stale`, and answer the next reading; so are places that last. An index within a pair of surrogates is a `RangeError`.
  */
 export class Reading {
+  #parted;
+
   /**
    * @param {import("./document.js").Document} document
    * @param {string} text
    * @param {number} rev
+   * @param {number} parted how many transports of the session had ended before the text was asked for
    */
-  constructor(document, text, rev) {
+  constructor(document, text, rev, parted = document.session.parted) {
     this.document = document;
     this.text = text;
     this.rev = rev;
+    this.#parted = parted;
   }
 
   /**
    * Puts characters in at an index.
    * @param {number} index
    * @param {string} text
+   * @param {Abortable} [options]
    */
-  async insert(index, text) {
-    const rev = await this.document.insert(toPlace(this.text, index), text, this.rev);
+  async insert(index, text, options) {
+    const rev = await this.document.insert(toPlace(this.text, index), text, this.#given(options));
     return this.#next(this.text.slice(0, index) + text + this.text.slice(index), rev);
   }
 
@@ -36,10 +45,11 @@ export class Reading {
    * Takes away the characters from an index up to another.
    * @param {number} from
    * @param {number} to
+   * @param {Abortable} [options]
    */
-  async delete(from, to) {
+  async delete(from, to, options) {
     const at = toPlace(this.text, from);
-    const rev = await this.document.delete(at, toPlace(this.text, to) - at, this.rev);
+    const rev = await this.document.delete(at, toPlace(this.text, to) - at, this.#given(options));
     return this.#next(this.text.slice(0, from) + this.text.slice(to), rev);
   }
 
@@ -48,9 +58,10 @@ export class Reading {
    * @param {number} from
    * @param {number} to
    * @param {import("./marks.js").Mark} mark
+   * @param {Abortable} [options]
    */
-  async mark(from, to, mark) {
-    const rev = await this.document.mark(toPlace(this.text, from), toPlace(this.text, to), mark, this.rev);
+  async mark(from, to, mark, options) {
+    const rev = await this.document.mark(toPlace(this.text, from), toPlace(this.text, to), mark, this.#given(options));
     return this.#next(this.text, rev);
   }
 
@@ -59,9 +70,10 @@ export class Reading {
    * @param {number} from
    * @param {number} to
    * @param {import("./marks.js").Mark} mark
+   * @param {Abortable} [options]
    */
-  async unmark(from, to, mark) {
-    const rev = await this.document.unmark(toPlace(this.text, from), toPlace(this.text, to), mark, this.rev);
+  async unmark(from, to, mark, options) {
+    const rev = await this.document.unmark(toPlace(this.text, from), toPlace(this.text, to), mark, this.#given(options));
     return this.#next(this.text, rev);
   }
 
@@ -69,7 +81,7 @@ export class Reading {
    * Makes edits at once, as a document's `action` does. Each is at the indexes of the text that those before it leave, and a
    * `count` is one of UTF-16 units.
    * @param {readonly Edit[]} edits
-   * @param {{parted?: boolean}} options
+   * @param {Abortable & {parted?: boolean}} [options]
    */
   async action(edits, options) {
     let { text } = this;
@@ -78,26 +90,38 @@ export class Reading {
       text = behind(before, edit);
       return inPlaces(before, edit);
     });
-    return this.#next(text, await this.document.action(placed, this.rev, undefined, options));
+    return this.#next(text, await this.document.action(placed, this.#given(options)));
   }
 
   /**
    * A name for the place at an index, which lasts, or `Stale` if the document has moved on from this text.
    * @param {number} index
-   * @param {import("./document.js").Side} [side]
+   * @param {Side | (Abortable & {side?: Side})} [side]
+   * @param {Abortable} [options]
    */
-  async anchor(index, side) {
-    return this.document.anchor(toPlace(this.text, index), side, this.rev);
+  async anchor(index, side, options) {
+    return this.document.anchor(toPlace(this.text, index), this.#given(givenOf({ side }, options)));
   }
 
   /**
    * The index of a place that lasts in this text, or null if it is beside a character that the file doesn't have; `Stale` if
    * the document has moved on.
    * @param {string} anchor
+   * @param {Abortable} [options]
    */
-  async index(anchor) {
-    const place = await this.document.place(anchor, this.rev);
+  async index(anchor, options) {
+    const place = await this.document.place(anchor, this.#given(options));
     return place === null ? null : toIndex(this.text, place);
+  }
+
+  /**
+   * What a call of the document is given. Over the next transport the number may name another text, whoever has read it there.
+   * @template {object} T
+   * @param {T} [options]
+   */
+  #given(options) {
+    if (this.#parted !== this.document.session.parted) throw new Stale(6, "stale");
+    return { .../** @type {T} */ (options), rev: this.rev };
   }
 
   /**
@@ -105,7 +129,7 @@ export class Reading {
    * @param {number} rev
    */
   #next(text, rev) {
-    return new Reading(this.document, text, rev);
+    return new Reading(this.document, text, rev, this.#parted);
   }
 }
 

@@ -1,10 +1,12 @@
 /** A session, line by line. */
 
+import { throwIfAborted, untilAborted } from "./aborting.js";
 import { isEdit, repeated, withToken } from "./again.js";
 import { NoAnswer, answerOf } from "./answers.js";
 import { Document } from "./document.js";
 import { Finder, RETRY, cut } from "./finder.js";
 import { check } from "./milliseconds.js";
+import { Due, Owed } from "./owing.js";
 import { Ended, Refused } from "./refusals.js";
 import { Silence, TIMEOUT } from "./silence.js";
 
@@ -12,30 +14,9 @@ import { Silence, TIMEOUT } from "./silence.js";
 const STEPS = 10;
 
 /**
- * What carries lines to the program and back. A session sets `onLine`, `onPart` and `onEnd`. The transport calls the
- * first with each line that comes, without its end, the second for each part of a line, and the last once no more will
- * come. One that doesn't tell of parts has a line to come within the session's timeout.
- * @typedef {object} Transport
- * @property {(line: string) => void} send sends a line, given without its end
- * @property {() => void} close says that no more is sent
- * @property {() => void} [abandon] cuts off both directions at once
- * @property {(line: string) => void} [onLine]
- * @property {() => void} [onPart]
- * @property {() => void} [onEnd]
- */
-
-/**
- * An answer has those of these fields that its request asks for.
- * @typedef {import("./marks.js").Span} Span
- * @typedef {import("./changing.js").Step} Step
- * @typedef {{has: number, lacks: number, replica: string}} Peer
- * @typedef {{ok: true, rev: number, text: string, spans: Span[], changes: Step[], anchors: string[], places: (number | null)[],
- *   applied: number, settled: number, state: string, peers: Peer[], sessions: number}} Answer
- */
-
-/**
- * An answer that is due, its request, and how often that was sent.
- * @typedef {{resolve: (answer: Answer) => void, reject: (error: Error) => void, request: Record<string, unknown>, sent: number}} Owed
+ * @typedef {import("./aborting.js").Abortable} Abortable
+ * @typedef {import("./wire.js").Answer} Answer
+ * @typedef {import("./wire.js").Transport} Transport
  */
 
 /**
@@ -53,19 +34,13 @@ export class Session {
   #silence;
   /** @type {Finder | undefined} */
   #finder;
-  /** @type {Owed[]} */
-  #waiting = [];
-  /**
-   * What was answered, but is to be sent again over the next transport before those that wait.
-   * @type {Owed[]}
-   */
-  #putOff = [];
+  #due = new Due();
   /** The documents whose `rev` was told in this session. */
   #told = new Set();
   /** How many transports have ended: a `rev` is none of the next one. */
   #parted = 0;
   #isOpen = true;
-  /** Whether this session asked for the end of the program. */
+  /** Whether this session has asked for the end of the program. */
   #stops = false;
   /** Whether the transport ended and no other one is there yet, and whether one is looked for. */
   #isParted = false;
@@ -103,22 +78,20 @@ export class Session {
 
   /**
    * The answer to a request, as it comes: `Refused` where it is refused, `Ended` where none comes. What is sent first
-   * is done first, so there is no need to wait for one answer before the next request.
+   * is done first, so there is no need to wait for one answer before the next request. Once the signal is aborted it rejects
+   * with the signal's reason: what was sent by then may be done, and what wasn't isn't sent.
    * @param {Record<string, unknown>} fields
+   * @param {Abortable} options
    * @returns {Promise<Answer>}
    */
-  send(fields) {
-    if (!this.#isOpen) return Promise.reject(new Ended(`the session has ended (${this.#reason ?? "it was closed"})`));
-    return new Promise((resolve, reject) => {
-      const request = this.#finder === undefined ? fields : withToken(fields);
-      const line = JSON.stringify(request);
-      const owed = { resolve, reject, request, sent: 0 };
-      this.#stops ||= request.op === "stop";
-      this.#waiting.push(owed);
-      this.#silence.begin();
-      if (this.#finder !== undefined && this.#isParted) this.#goOn(this.#finder);
-      else this.#put(owed, line);
-    });
+  send(fields, { signal } = {}) {
+    try {
+      throwIfAborted(signal);
+      const owed = this.#owe(fields);
+      return untilAborted(signal, owed.answer, () => this.#giveUp(owed));
+    } catch (error) {
+      return Promise.reject(error);
+    }
   }
 
   /** Why this session ended, in words, once it has. */
@@ -139,27 +112,32 @@ export class Session {
     return this.#parted;
   }
 
-  /** Whether all that was edited is settled on the disk. */
-  async settled() {
-    const { settled, applied } = await this.send({ op: "status" });
+  /**
+   * Whether all that was edited is settled on the disk.
+   * @param {Abortable} [options]
+   */
+  async settled(options) {
+    const { settled, applied } = await this.send({ op: "status" }, options);
     return settled === applied;
   }
 
   /**
    * Who is connected to the daemon: its peers, with how many operations each has and lacks, and how many sessions. Over a
    * file it is this session alone.
+   * @param {Abortable} [options]
    */
-  async peers() {
-    const { peers, sessions } = await this.send({ op: "peers" });
+  async peers(options) {
+    const { peers, sessions } = await this.send({ op: "peers" }, options);
     return { peers, sessions };
   }
 
   /**
    * Has all that was edited settled, and no more edits taken (`Refused`, 12). A daemon ends with that, for all its
    * sessions and peers.
+   * @param {Abortable} [options]
    */
-  async stop() {
-    await this.send({ op: "stop" });
+  async stop(options) {
+    await this.send({ op: "stop" }, options);
   }
 
   /** Ends the session, once all that was sent is answered. */
@@ -168,7 +146,7 @@ export class Session {
     // The end of the answers is due.
     this.#silence.begin();
     if (!this.#isParted) this.#transport.close();
-    else if (!this.#isDue()) this.#finish("no more answers come");
+    else if (this.#due.isNone) this.#finish("no more answers come");
     await this.#end;
   }
 
@@ -189,6 +167,36 @@ export class Session {
     return transport;
   }
 
+  /** @param {Record<string, unknown>} fields */
+  #owe(fields) {
+    if (!this.#isOpen) throw new Ended(`the session has ended (${this.#reason ?? "it was closed"})`);
+    const request = this.#finder === undefined ? fields : withToken(fields);
+    const line = JSON.stringify(request);
+    const owed = new Owed(request);
+    this.#due.add(owed);
+    this.#silence.begin();
+    if (this.#finder !== undefined && this.#isParted) this.#goOn(this.#finder);
+    else this.#put(owed, line);
+    return owed;
+  }
+
+  /**
+   * Nobody waits for an answer any more. Over the next transport its request isn't sent.
+   * @param {Owed} owed
+   */
+  #giveUp(owed) {
+    owed.isGivenUp = true;
+    this.#due.letGo(!this.#isParted);
+    if (this.#due.isNone) this.#rest();
+  }
+
+  /** Nothing is due any more. */
+  #rest() {
+    this.#finder?.rest();
+    if (this.#isOpen) this.#silence.end();
+    else if (this.#isParted) this.#finish("no more answers come");
+  }
+
   /**
    * @param {Owed} owed
    * @param {string} line
@@ -196,6 +204,7 @@ export class Session {
   #put(owed, line) {
     if (this.#reason !== undefined) return;
     owed.sent += 1;
+    this.#stops ||= owed.request.op === "stop";
     try {
       this.#transport.send(line);
     } catch (error) {
@@ -204,14 +213,10 @@ export class Session {
     }
   }
 
-  /** Whether an answer is due. */
-  #isDue() {
-    return this.#waiting.length + this.#putOff.length > 0;
-  }
-
   /** The transport has ended. Another one is looked for once there is something to send. */
   #part() {
-    const isOver = this.#reason !== undefined || this.#stops || (!this.#isOpen && !this.#isDue());
+    this.#due.letGo(false);
+    const isOver = this.#reason !== undefined || this.#stops || (!this.#isOpen && this.#due.isNone);
     if (this.#finder === undefined || isOver) return this.#finish("no more answers come");
     this.#isParted = true;
     // What comes over it now is for nobody.
@@ -219,19 +224,23 @@ export class Session {
     // What was read needn't be there again.
     this.#told.clear();
     this.#parted += 1;
-    if (this.#isDue()) this.#goOn(this.#finder);
+    if (this.#due.isNone) this.#rest();
+    else this.#goOn(this.#finder);
   }
 
   /**
-   * Sends what waits again, over another transport. It is looked for once at a time.
+   * Sends what waits again, over another transport. It is looked for once at a time, and no longer than anything waits.
    * @param {Finder} finder
    */
   async #goOn(finder) {
     if (this.#isLooking) return;
     this.#isLooking = true;
-    const found = await finder.find(() => this.#reason !== undefined).catch((error) => this.#finish(error.message));
+    const isOver = () => this.#reason !== undefined || this.#due.isNone;
+    const found = await finder.find(isOver).catch((error) => this.#finish(error.message));
     this.#isLooking = false;
     if (found) this.#sendAgain(found);
+    // Something was asked after all that waited had been given up.
+    else if (!isOver()) this.#goOn(finder);
   }
 
   /** @param {Transport} transport */
@@ -240,8 +249,7 @@ export class Session {
     this.#isParted = false;
     this.#transport = this.#joined(transport);
     this.#silence.heard();
-    this.#waiting.unshift(...this.#putOff.splice(0));
-    for (const owed of this.#waiting) this.#put(owed, JSON.stringify(repeated(owed.request)));
+    for (const owed of this.#due.again()) this.#put(owed, JSON.stringify(repeated(owed.request)));
     if (!this.#isOpen) transport.close();
   }
 
@@ -269,14 +277,14 @@ export class Session {
 
   /** @param {string} line */
   #give(line) {
-    const [owed] = this.#waiting;
+    const owed = this.#due.first;
     if (owed === undefined) throw new NoAnswer("a line came that nobody asked for");
     // It waits on until this is known to be its answer.
     const told = answerOf(line, owed.request);
-    this.#waiting.shift();
+    this.#due.answered();
     const isPutOff = this.#puts(owed, told);
-    if (isPutOff) this.#putOff.push(owed);
-    if (!this.#isDue() && this.#isOpen) this.#silence.end();
+    if (isPutOff) this.#due.putOff(owed);
+    if (this.#due.isNone && this.#isOpen) this.#silence.end();
     if (isPutOff) return;
     this.#finder?.answered(owed.request, told);
     if (told instanceof Refused) return owed.reject(told);
@@ -289,17 +297,18 @@ export class Session {
    * @param {Owed} owed
    * @param {Answer | Refused} told
    */
-  #puts({ request }, told) {
-    return this.#finder !== undefined && told instanceof Refused && told.number === STEPS && request.token !== undefined;
+  #puts({ request, isGivenUp }, told) {
+    return !isGivenUp && this.#finder !== undefined && told instanceof Refused && told.number === STEPS && request.token !== undefined;
   }
 
   /**
-   * The answer to an edit which was sent before may be older than what is there: its `rev` isn't that of now.
+   * The answer to an edit which was sent before may be older than what is there: its `rev` isn't that of now. Who gave an answer
+   * up knows no number by it: that of the transport before would be taken for one of this.
    * @param {Owed} owed
    * @param {Answer} told
    */
-  #note({ request, sent }, { rev }) {
-    if (rev !== undefined && !(isEdit(request) && sent > 1)) this.#told.add(request.doc);
+  #note({ request, sent, isGivenUp }, { rev }) {
+    if (rev !== undefined && !isGivenUp && !(isEdit(request) && sent > 1)) this.#told.add(request.doc);
   }
 
   #fallSilent() {
@@ -321,7 +330,7 @@ export class Session {
   #over(reason) {
     this.#isOpen = false;
     this.#reason ??= reason;
-    const left = [...this.#putOff.splice(0), ...this.#waiting.splice(0)];
+    const left = this.#due.takeAll();
     const words = `the session ended before this request was answered (${this.#reason}): begin another one, and read what is there`;
     for (const { reject, sent } of left) reject(new Ended(words, { wasSent: sent > 0 }));
   }

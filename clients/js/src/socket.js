@@ -70,8 +70,7 @@ export function connect(port, options = {}) {
  * takes a place more.
  * @param {number} port
  * @param {number} document
- * @param {{retry?: number | null}} options `retry`: milliseconds for which a daemon that went is looked for, 10,000 unless
- *   it is given, or null not to look
+ * @param {import("./watch.js").Options} options
  */
 export function watch(port, document, options = {}) {
   return new Watch(() => new Connection(port), document, options);

@@ -1,5 +1,6 @@
 /** Told of changes: a daemon says how many settled operations a document has, and again whenever that has risen. */
 
+import { needSignal } from "./aborting.js";
 import { NoAnswer, answerOf } from "./answers.js";
 import { RETRY, cut } from "./finder.js";
 import { check } from "./milliseconds.js";
@@ -12,15 +13,22 @@ const BUSY = 8;
 const PATIENCE = 10_000;
 const PAUSE = 50;
 
-/** @typedef {import("./session.js").Transport} Transport */
+/** @typedef {import("./wire.js").Transport} Transport */
+
+/**
+ * `retry`: milliseconds for which a daemon that went is looked for, 10,000 unless it is given, or null not to look; `signal`:
+ * ends it.
+ * @typedef {{retry?: number | null, signal?: AbortSignal}} Options
+ */
 
 /**
  * The `rev`s of a document's settled operations, each above the one before: one at first, and one after each change, or
  * after some at once. Whoever looks seldom is given the newest alone.
  *
  * It is an asynchronous iterator over a transport of its own, on which nothing else is asked, and it ends once it is
- * closed, also by a `break`. If the transport ends otherwise, another one is taken, for `retry` milliseconds; then it
- * throws `Ended`. It throws `Refused` if the device failed (9), there is no place (8), or the daemon is an earlier one (3).
+ * closed, also by a `break`, or its signal is aborted: then `next` throws the signal's reason, once. If the transport ends
+ * otherwise, another one is taken, for `retry` milliseconds; then it throws `Ended`. It throws `Refused` if the device
+ * failed (9), there is no place (8), or the daemon is an earlier one (3).
  * @implements {AsyncIterableIterator<number>}
  */
 export class Watch {
@@ -33,6 +41,9 @@ export class Watch {
   #newest = -1;
   #given = -1;
   #isClosed = false;
+  #signal;
+  /** Whether the signal's reason is still to be thrown. */
+  #isAborted = false;
   /**
    * Why there is nothing more.
    * @type {Error | undefined}
@@ -49,16 +60,19 @@ export class Watch {
   /**
    * @param {() => Transport | Promise<Transport>} begin a transport over which nothing was asked so far
    * @param {number} document
-   * @param {{retry?: number | null, repeats?: boolean}} options `retry`: milliseconds for which a daemon that went is looked
-   *   for, 10,000 unless it is given, or null not to look; `repeats`: whether the first number over each transport is given,
-   *   also if it is that of before: it may name another text there
+   * @param {Options & {repeats?: boolean}} options `repeats`: whether the first number over each transport is given, also if it
+   *   is that of before: it may name another text there
    */
-  constructor(begin, document, { retry = RETRY, repeats = false } = {}) {
+  constructor(begin, document, { retry = RETRY, repeats = false, signal } = {}) {
     check({ retry });
+    needSignal(signal);
     this.#begin = begin;
     this.#request = { op: "watch", doc: document };
     this.#retry = retry ?? 0;
     this.#repeats = repeats;
+    this.#signal = signal;
+    signal?.addEventListener("abort", this.#abort);
+    if (signal?.aborted) this.#abort();
     this.#run().catch((error) => this.#finish(error));
   }
 
@@ -70,6 +84,10 @@ export class Watch {
   async next() {
     while (!this.#isClosed && this.#newest <= this.#given && this.#end === undefined) {
       await new Promise((/** @type {(value?: unknown) => void} */ done) => this.#waiting.push(done));
+    }
+    if (this.#isAborted) {
+      this.#isAborted = false;
+      throw this.#signal?.reason;
     }
     if (this.#isClosed) return { done: true, value: undefined };
     if (this.#newest <= this.#given) throw this.#end;
@@ -86,9 +104,15 @@ export class Watch {
   /** Ends it, and gives its place back. */
   close() {
     this.#isClosed = true;
+    this.#signal?.removeEventListener("abort", this.#abort);
     this.#wake();
     if (this.#transport !== undefined) cut(this.#transport);
   }
+
+  #abort = () => {
+    this.#isAborted = true;
+    this.close();
+  };
 
   #wake() {
     for (const done of this.#waiting.splice(0)) done();

@@ -103,7 +103,7 @@ export function connectWeb(port, options = {}) {
  * As `watch` has it, over a WebSocket of its own of the daemon whose `--web` port this is.
  * @param {number} port
  * @param {number} document
- * @param {{retry?: number | null}} options
+ * @param {import("./watch.js").Options} options
  */
 export function watchWeb(port, document, options = {}) {
   return new Watch(() => new WebConnection(port), document, options);

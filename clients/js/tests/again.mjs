@@ -3,9 +3,10 @@
 import assert from "node:assert/strict";
 import { test } from "node:test";
 
-import { Ended, Session, Stale, connect } from "peritext";
+import { Ended, STRONG, Session, Stale, connect } from "peritext";
 
 import { Store } from "./fake.mjs";
+import { lasting, part } from "./lasting.mjs";
 import { asked, pause, soon, withTalk } from "./talk.mjs";
 
 const NEVER = 2 ** 32 - 1;
@@ -166,6 +167,35 @@ test("a session that was idle goes on with its next request", () =>
     assert.deepEqual(await soon(Promise.all(texts)), ["a", "a"]);
     await session.close();
   }));
+
+test("a reading is none of the next connection, whoever has read there", async () => {
+  const it = lasting();
+  const document = it.session.document(1);
+  const edits = {
+    insert: (reading) => reading.insert(0, "x"),
+    delete: (reading) => reading.delete(0, 1),
+    mark: (reading) => reading.mark(0, 1, STRONG),
+    action: (reading) => reading.action([{ op: "insert", at: 0, text: "x" }]),
+    anchor: (reading) => reading.anchor(1),
+    index: (reading) => reading.index("start"),
+  };
+  it.store.answer('{"op":"insert","doc":1,"at":0,"text":"abc"}');
+  const reading = await document.read();
+  it.transport.held = true;
+  const lost = document.read();
+  // The same number names another text there.
+  it.store = new Store();
+  it.store.answer('{"op":"insert","doc":1,"at":0,"text":"xyz"}');
+  await part(it);
+  assert.equal((await soon(lost)).text, "xyz");
+  for (const [name, edit] of Object.entries(edits)) {
+    await assert.rejects(edit(reading), Stale, name);
+    await assert.rejects(edit(await lost), Stale, name);
+  }
+  assert.deepEqual(it.later.map(({ op }) => op), ["text"]);
+  const next = await (await document.read()).insert(0, "x");
+  assert.equal((await next.insert(1, "y")).text, "xyxyz");
+});
 
 test("a close waits for what is sent again", () =>
   withStores(async (port, over) => {

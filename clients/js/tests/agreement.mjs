@@ -38,7 +38,7 @@ function act(state, below, letter) {
 async function agree(seed, { isCut = false } = {}) {
   const below = numbers(seed);
   const store = new Store();
-  const editors = await editorsOver(store, modules, schema, [true, false, false]);
+  const editors = await editorsOver([true, false, false], (options) => editorOver(store, modules, schema, {}, options));
   const typed = new Set();
   const removed = new Set();
   for (let turn = 0; turn < 120; turn += 1) {

@@ -11,6 +11,7 @@ import { corrections, withGiven } from "../src/editing/made.js";
 import { NONE, changed } from "../src/editing/marks.js";
 import { behindOthers, pendingOf, withEdits } from "../src/editing/pending.js";
 import { cutAt } from "../src/editing/steps.js";
+import * as texts from "../src/editing/texts.js";
 import { numbers } from "./support.mjs";
 
 const MARKS = [STRONG, EM, link("u"), link("v"), comment("c"), comment("d")];
@@ -82,6 +83,27 @@ test("what waits behind others' steps, and these behind it, lead to the same tex
     const moved = behindOthers(pending, steps);
     assert.deepEqual(behind(behindSteps(before, steps), moved.pending), behindSteps(behind(before, pending), moved.steps));
   }
+});
+
+/** Each character of runs, with its marks. */
+function charactersIn(runs) {
+  return runs.flatMap(({ text, marks }) => [...text].map((letter) => ({ text: letter, marks })));
+}
+
+test("a text that is kept as runs is the same behind steps, behind edits and in parts", () => {
+  const chance = new Chance(3);
+  for (let round = 0; round < 2_000; round += 1) {
+    const runs = Array.from({ length: chance.below(4) }, () => ({ text: chance.text("ab😀\n"), marks: chance.marks() }));
+    const before = charactersIn(runs);
+    const steps = chance.steps(before.length);
+    assert.deepEqual(charactersIn(texts.behindSteps(runs, steps)), behindSteps(before, steps));
+    let pending = [];
+    for (let left = chance.below(4); left > 0; left -= 1) pending = withEdits(pending, [chance.edit(behind(before, pending).length)]);
+    assert.deepEqual(charactersIn(texts.behindEdits(runs, pending)), behind(before, pending));
+    const [from, to] = [chance.below(before.length + 1), chance.below(before.length + 1)].sort((one, two) => one - two);
+    assert.deepEqual(charactersIn(texts.runsBetween(runs, from, to)), before.slice(from, to));
+  }
+  assert.throws(() => texts.behindSteps([{ text: "a", marks: NONE }], [{ retain: 2 }]), RangeError);
 });
 
 test("what is put in stays behind its neighbour", () => {

@@ -7,7 +7,9 @@ import { test } from "node:test";
 
 import { Session } from "peritext";
 
+import * as codemirror from "./codemirror.mjs";
 import { Store } from "./fake.mjs";
+import { Quill } from "./quill.mjs";
 import { LIBRARIES, MODEL, View, library, plainSchema, prosemirror, withFile } from "./support.mjs";
 
 const examples = examplesOf("../README.md");
@@ -21,8 +23,9 @@ function examplesOf(name) {
 /** Runs an example, and gives what it exports and what it printed. */
 async function run(code, exported = "undefined") {
   const body = code
-    .replace(/^import \* as (\w+) from (".*");$/gm, "const $1 = await modules($2);")
+    .replace(/^import \* as (\w+) from (".*");/gm, "const $1 = await modules($2);")
     .replace(/^import (\{.*\}) from (".*");$/gm, "const $1 = await modules($2);")
+    .replace(/^import (\w+) from (".*");/gm, "const { default: $1 } = await modules($2);")
     .replace(/^export /gm, "");
   const printed = [];
   const console = { log: (...words) => printed.push(words), error: assert.fail };
@@ -32,6 +35,8 @@ async function run(code, exported = "undefined") {
 
 function modules(name) {
   if (name === "prosemirror-view") return { EditorView: View };
+  if (name === "quill") return { default: Quill };
+  if (name.startsWith("@codemirror/")) return codemirror[name.replace("@codemirror/", "")];
   return name.startsWith("prosemirror-") ? library(name) : import(name);
 }
 
@@ -81,5 +86,23 @@ test("the third example binds an editor", { skip }, async () => {
   view.dispatch(view.state.tr.insertText("abc", 1));
   await binding.settled();
   assert.equal(await document.text(), "abc");
-  assert.equal(examples.length, 3);
+});
+
+test("the fourth example binds an editor of Quill", async () => {
+  const { result: edit } = await run(examples[3], "edit");
+  const document = new Session(new Store().session()).document(1);
+  const { binding, quill } = await edit(null, document);
+  quill.insertText(0, "abc", { bold: true }, "user");
+  await binding.settled();
+  assert.deepEqual(await document.spans(), [{ strong: true, text: "abc" }]);
+});
+
+test("the fifth example binds an editor of CodeMirror, and there is no other one", async () => {
+  const { result: edit } = await run(examples[4], "edit");
+  const document = new Session(new Store().session()).document(1);
+  const { binding, view } = await edit(null, document);
+  view.dispatch({ changes: { from: 0, insert: "abc" } });
+  await binding.settled();
+  assert.equal(await document.text(), "abc");
+  assert.equal(examples.length, 5);
 });

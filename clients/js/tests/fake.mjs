@@ -182,7 +182,7 @@ function made(document, { edits }) {
   const at = codes.findIndex((code) => code !== undefined);
   if (at < 0) return undefined;
   document.putBack(before);
-  return codes.find((code) => code === 2) ?? codes.find((code) => code === 4) ?? { code: codes[at], at };
+  return codes.find((code) => code === 2) ?? codes.find((code) => code === 4) ?? { code: codes[at], at: edits.length > 1 ? at : undefined };
 }
 
 function refusal(code, at) {

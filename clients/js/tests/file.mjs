@@ -62,7 +62,8 @@ test("several edits are made at once, or none, and once under a token", () =>
     const edits = [{ op: "delete", at: 4, count: 3 }, { op: "insert", at: 4, text: "T🦊O" }, { op: "mark", from: 4, to: 7, ...STRONG }];
     const token = "00000000-0000-4000-8000-0000000000d1";
     for (const made of [14, 14]) assert.equal(await text.action(edits, undefined, token), made);
-    await assert.rejects(text.action([...edits, { op: "delete", at: 7, count: 1 }]), ({ number, at }) => number === 5 && (at === 3 || at === undefined));
+    await assert.rejects(text.action([...edits, { op: "delete", at: 7, count: 1 }]), { number: 5, at: 3 });
+    await assert.rejects(text.action([{ op: "delete", at: 7, count: 1 }]), { number: 5, at: undefined });
     await assert.rejects(text.action(edits, rev), Stale);
     await assert.rejects(text.action([{ ...edits[0], doc: 1 }]), { number: 4 });
     assert.deepEqual(await text.spans(), [{ text: "one " }, { strong: true, text: "T🦊O" }]);

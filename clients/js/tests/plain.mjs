@@ -4,25 +4,18 @@
 
 import assert from "node:assert/strict";
 
-import { charactersOf, placeOf } from "./reader.mjs";
 import { marksOf } from "./model.mjs";
 
 /** What an editor shows: the ids of its characters, the marks of each as values by keys, and its selection as places. */
-export function shownBy({ view, binding }, document) {
-  const { doc, selection } = view.state;
-  const characters = charactersOf(doc);
-  const [from, to] = [selection.from, selection.to].map((position) => placeOf(characters, position));
+export function shownBy({ look }, editor, document) {
+  const { characters, from, to } = look(editor);
+  const { binding } = editor;
   const there = binding.waiting === 0 ? document.at(binding.rev) : undefined;
   const ids = characters.map(({ text }, place) => (text === "\n" ? there?.[place] : text));
-  return { ids, marks: characters.map(({ marks }) => valuesOf(marks)), from, to, isWhole: there !== undefined, there, rev: binding.rev };
+  return { ids, marks: characters.map(({ values }) => values), from, to, isWhole: there !== undefined, there, rev: binding.rev };
 }
 
-/** The values of an editor's marks, by their keys. */
-function valuesOf(marks) {
-  return Object.fromEntries(marks.map(({ type, attrs }) => (type.name === "comment" ? [attrs.id, true] : [type.name, attrs.href ?? true])));
-}
-
-/** The same for marks of the store. */
+/** The values of marks of the store, by their keys. */
 function valuesOfStored({ comments = [], ...others }) {
   return { ...others, ...Object.fromEntries(comments.map((id) => [id, true])) };
 }
@@ -50,8 +43,8 @@ export class Plain {
     this.#isExact = isExact;
   }
 
-  /** A local transaction made another document of the one before. */
-  follow(editor, before, after, transaction) {
+  /** Somebody made another document of the one before: of some letters he `marked` a stretch as a whole. */
+  follow(editor, before, after, marked) {
     const old = new Map(before.ids.map((id, place) => [id, before.marks[place]]));
     const now = new Set(after.ids);
     editor.removed ??= new Set();
@@ -67,9 +60,11 @@ export class Plain {
         if (!old.has(id) || old.get(id)[key] !== value) this.#act(editor, id, key, value);
       }
     });
+    for (const { key, value, letters } of marked) for (const id of letters) this.#act(editor, id, key, value);
     const seen = new Set([...before.ids, ...now]);
     this.#type(after, after.ids.filter((id) => isLetter(id) && !old.has(id)), seen);
-    transaction.steps.forEach((step, index) => this.#markStretch(step, transaction.docs[index], seen));
+    // What others put into a stretch meanwhile may come to have its mark.
+    for (const stretch of marked) this.#stretches.push({ ...stretch, seen });
   }
 
   /** A text was put in, with all its marks. */
@@ -77,13 +72,6 @@ export class Plain {
     for (const id of letters) this.#typed.add(id);
     const values = marks[ids.indexOf(letters[0])];
     for (const key of letters.length > 0 ? this.#keys : []) this.#stretches.push({ key, value: values[key], letters, seen });
-  }
-
-  /** What others put into a stretch meanwhile may come to have its mark. */
-  #markStretch({ from, to, mark, jsonID }, doc, seen) {
-    if (mark === undefined) return;
-    const [key, value] = Object.entries(valuesOf([mark]))[0];
-    this.#stretches.push({ key, value: jsonID === "addMark" ? value : undefined, letters: [...doc.textBetween(from, to)], seen });
   }
 
   #countBreaks(editor, before, after) {

@@ -2,51 +2,8 @@
 
 import assert from "node:assert/strict";
 
-import { charactersOf, positionOf } from "./reader.mjs";
 import { Store } from "./fake.mjs";
-import { cut, editorOver, editorsOver, goOn, isEnded, numbers, plainSchema, prosemirror, seen, someMarks } from "./support.mjs";
-
-const modules = prosemirror();
-const { TextSelection } = modules.state;
-const schema = plainSchema(modules.model);
-const MARKS = someMarks(schema);
-
-/** The keys of all marks that are given. */
-export const KEYS = ["strong", "em", "link", ...MARKS.flatMap(({ attrs }) => attrs.id ?? [])];
-
-/** One thing that somebody does in an editor. What is drawn depends on how much is shown, not on which letters these are. */
-function act({ doc, tr, selection }, below, letter) {
-  const characters = charactersOf(doc);
-  const place = () => below(characters.length + 1);
-  const [from, to] = [place(), place()].sort((one, other) => one - other);
-  const at = (count) => positionOf(characters, count);
-  const mark = MARKS[below(MARKS.length)];
-  const marks = below(3) === 0 ? [mark] : undefined;
-  switch (below(12)) {
-    case 0:
-      return tr.split(selection.from);
-    case 1:
-      return tr.split(at(from));
-    case 2:
-      return tr.delete(at(from), at(Math.min(to, from + 6)));
-    case 3:
-      return tr.addMark(at(from), at(to), mark);
-    case 4:
-      return tr.removeMark(at(from), at(to), mark);
-    case 5:
-      return tr.setSelection(TextSelection.create(doc, at(from)));
-    case 6:
-      return tr.setSelection(TextSelection.create(doc, at(to), at(from)));
-    case 7:
-      return tr.setSelection(TextSelection.create(doc, at(from), at(to)));
-    case 8:
-      return tr.insert(at(from), schema.text(letter() + letter() + letter(), marks));
-    case 9:
-      return tr.insert(at(from), schema.text(letter(), marks));
-    default:
-      return tr.insertText(letter());
-  }
-}
+import { cut, editorsOver, goOn, isEnded, numbers } from "./support.mjs";
 
 /** Waits until nothing happens any more: nothing is answered by itself. */
 async function calm() {
@@ -56,14 +13,16 @@ async function calm() {
 /** A history that goes by a seed. */
 class History {
   store = new Store();
+  #kind;
   #below;
   #how;
   #letter;
   #letters = 0;
   #editors = [];
 
-  /** `how` says whether connections are `"cut"`, or the file is opened `"anew"`; `letter` writes the letters, by their numbers. */
-  constructor(seed, how, letter) {
+  /** `kind` is of editors; `how` says whether connections are `"cut"`, or the file is opened `"anew"`; `letter` writes the letters, by their numbers. */
+  constructor(kind, seed, how, letter) {
+    this.#kind = kind;
     this.#below = numbers(seed);
     this.#how = how;
     this.#letter = letter;
@@ -72,11 +31,11 @@ class History {
   /** Has the editors begin. In some histories the session of the first one goes on by itself. */
   async begin() {
     const goesOn = [this.#below(2) === 0, false, false].slice(0, 2 + this.#below(2));
-    this.#editors = await editorsOver(this.store, modules, schema, goesOn);
+    this.#editors = await editorsOver(goesOn, (options) => this.#kind.open(this.store, options));
     for (const editor of this.#editors) editor.isHeld = editor.transport.held = true;
   }
 
-  /** Somebody has a turn: what happens to him, which gives the transaction if it is a local one. */
+  /** Somebody has a turn: what happens to him, which gives what he marked if he did something himself. */
   turn() {
     const editor = this.#editors[this.#below(this.#editors.length)];
     return { editor, happen: () => this.#happen(editor) };
@@ -91,12 +50,8 @@ class History {
     else this.#cut(editor);
   }
 
-  #act({ view }) {
-    const { state } = view;
-    const transaction = act(state, this.#below, () => this.#letter((this.#letters += 1)));
-    view.dispatch(transaction);
-    // One that leaves what can't be held isn't applied.
-    return view.state === state ? undefined : transaction;
+  #act(editor) {
+    return this.#kind.act(editor, this.#below, () => this.#letter((this.#letters += 1)));
   }
 
   /** Cuts an editor off, which goes on at once or in a later turn; or all of them, where the file is opened anew. */
@@ -127,19 +82,19 @@ class History {
     for (const { binding } of this.#editors) await binding.settled().catch(isEnded);
     for (const { binding } of this.#editors) await binding.settled();
     for (const { binding } of this.#editors) await binding.pull();
-    const fresh = await editorOver(this.store, modules, schema);
-    const wanted = JSON.stringify(seen(fresh.view.state.doc));
-    for (const { view } of this.#editors) assert.equal(JSON.stringify(seen(view.state.doc)), wanted, "an editor shows another text at the end");
+    const fresh = await this.#kind.open(this.store);
+    const shown = (editor) => JSON.stringify(this.#kind.pictured(editor).characters);
+    for (const editor of this.#editors) assert.equal(shown(editor), shown(fresh), "an editor shows another text at the end");
     for (const { document } of [...this.#editors, fresh]) await document.session.close();
   }
 }
 
 /**
  * Plays a history of so many turns. At the start of each `watch` is called with the editor; of what it gives, `acted` is
- * called with the transaction, if it is a local one, and `calmed` once all is calm, with whether it was.
+ * called with what was marked, if somebody did something himself, and `calmed` once all is calm, with whether he did.
  */
-export async function play({ seed, how, letter, turns }, watching) {
-  const history = new History(seed, how, letter);
+export async function play(kind, { seed, how, letter, turns }, watching) {
+  const history = new History(kind, seed, how, letter);
   await history.begin();
   const { watch, finish } = watching(history.store.document(1));
   let turn = 0;
@@ -147,15 +102,14 @@ export async function play({ seed, how, letter, turns }, watching) {
     for (; turn < turns; turn += 1) {
       const { editor, happen } = history.turn();
       const { acted, calmed } = watch(editor, turn);
-      const transaction = happen();
-      if (transaction !== undefined) acted?.(transaction);
+      const marked = happen();
+      if (marked !== undefined) acted?.(marked);
       await calm();
-      calmed(transaction !== undefined);
+      calmed(marked !== undefined);
     }
     await history.end();
     return finish();
   } catch (error) {
-    error.message = `history ${seed}${how === undefined ? "" : ` (${how})`}, turn ${turn}: ${error.message}`;
-    throw error;
+    throw new Error(`history ${seed}${how === undefined ? "" : ` (${how})`}, turn ${turn}: ${error.message}`, { cause: error });
   }
 }

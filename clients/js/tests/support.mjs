@@ -88,12 +88,12 @@ export async function editorOver(store, modules, schema, options, sessionOptions
   return { binding, document, transport, view: new View(null, { state }) };
 }
 
-/** Editors over a store. Where they are cut, the session goes on by itself if `goesOn` says so, and else the binding. */
-export function editorsOver(store, modules, schema, goesOn) {
+/** Editors, each begun with the options of its session. Where they are cut, the session goes on by itself if `goesOn` says so, and else the binding. */
+export function editorsOver(goesOn, open) {
   return Promise.all(goesOn.map(async (bySession) => {
     const editor = { goesOn: bySession };
     const options = bySession ? { again: async () => editor.transport } : {};
-    return Object.assign(editor, await editorOver(store, modules, schema, {}, options));
+    return Object.assign(editor, await open(options));
   }));
 }
 

@@ -35,9 +35,12 @@ class Actions(WithFile):
             with self.assertRaises(peritext.Refused) as caught, text.action() as made:
                 made.insert(0, "x" * 600)
                 made.delete(600, 4)
-            self.assertEqual((caught.exception.number, made.rev), (5, None))
-            # An earlier program doesn't tell which one it was.
-            self.assertIn(caught.exception.at, (1, None))
+            self.assertEqual((caught.exception.number, caught.exception.at, made.rev), (5, 1, None))
+            # One alone isn't named, nor is one of a stale line.
+            for edits, number in (([{"op": "delete", "at": 9, "count": 1}], 5), ([{"op": "delete", "at": 9, "count": 1}] * 2, 6)):
+                with self.assertRaises(peritext.Refused) as caught:
+                    text.edits(edits, rev - (number == 6))
+                self.assertEqual((caught.exception.number, caught.exception.at), (number, None))
             with self.assertRaises(peritext.Stale):
                 text.edits([{"op": "delete", "at": 9, "count": 1}], rev - 1)
             self.assertEqual(self.refusal(text.edits, [{"op": "delete", "at": 0, "count": 1}, {"op": "delete", "at": 0}]), (4, "field"))

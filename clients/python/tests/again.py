@@ -157,6 +157,25 @@ class MadeAndLost(WithFile):
             self.assertEqual([edit.result(PATIENCE)["rev"] for edit in under_way], [1, 2])
         self.assertEqual(rounds, [["a", "b"], ["a", "b"]])
 
+    def test_a_daemon_that_refuses_to_say_whether_it_has_an_edit_is_asked_again(self):
+        """It has no memory just then, say: that doesn't tell that it has another file."""
+        connections = []
+
+        def talk(connection, lines):
+            connections.append([])
+            for line in lines:
+                connections[-1].append(json.loads(line)["text"])
+                if connections[-1] == ["a", "b"] and len(connections) == 1:
+                    return
+                connection.sendall(b'{"code":1,"error":"memory","ok":false}\n' if len(connections) == 2 else b'{"ok":true,"rev":1}\n')
+
+        daemon = FakeDaemon(talk)
+        self.addCleanup(daemon.close)
+        with peritext.connect(daemon.port) as session:
+            text = session.document(1)
+            self.assertEqual([text.insert(0, letter) for letter in "ab"], [1, 1])
+        self.assertEqual(connections, [["a", "b"], ["a"], ["a", "b"]])
+
     def test_a_daemon_that_dies_at_each_line_is_looked_for_no_longer(self):
         connections = []
 

@@ -1,5 +1,6 @@
 """A daemon that answers what a test says."""
 
+import json
 import os
 import socket
 import threading
@@ -49,6 +50,12 @@ class FakeDaemon:
                 connection.shutdown(socket.SHUT_RDWR)
             except OSError:
                 pass
+
+
+def tell_all(connection, told):
+    """Sends each line that a test has told, until that is None."""
+    while line := told.get():
+        connection.sendall(json.dumps(line).encode() + b"\n")
 
 
 def program(room, script):

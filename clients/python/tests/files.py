@@ -173,6 +173,16 @@ class ManyAtOnce(WithFile):
         with self.assertRaises(peritext.Ended):
             opened.document(1).text()
 
+    def test_a_session_that_is_closed_again_tells_the_same(self):
+        with self.open() as opened:
+            opened.close()
+        opened = self.open()
+        os.kill(opened._program.pid, signal.SIGKILL)
+        for _ in range(2):
+            with self.assertRaises(peritext.Ended) as caught:
+                opened.close()
+            self.assertIn("status -9", str(caught.exception))
+
 
 class Examples(WithFile):
     def test_the_examples_of_the_docs_are_so(self):

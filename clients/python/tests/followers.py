@@ -13,7 +13,8 @@ from uuid import UUID, uuid4
 import peritext
 from fake import FakeDaemon
 from follows import GREETING, Following
-from peritext import Delete, Delta, Document, Insert, Reset, Span
+from peritext import Delete, Delta, Insert, Reset, Span
+from peritext.calls import Calls
 from relay import Relay, end
 from support import PATIENCE, PROGRAM, Daemon
 from watches import soon
@@ -145,7 +146,7 @@ class Chance(Following):
             self.daemon = Daemon(self.name, self.daemon.port)
             self.addCleanup(self.daemon.kill)
 
-        with mock.patch.object(Document, "changes", self.read_beside(Document.changes)):
+        with mock.patch.object(Calls, "changes", self.read_beside(Calls.changes)):
             self.run_all(3, kill)
         # What was shown may be gone before anybody else sees it, and another text may have its number.
         self.assertTrue(self.beside)
@@ -190,11 +191,11 @@ class Chance(Following):
                 self.beside.append((shown, self.next[1]))
 
     def read_beside(self, changes):
-        def read(document, since):
-            parted = document.session.parted
-            told = changes(document, since)
-            rev, spans = spans_of(document.session.ask(op="spans", doc=1))
-            self.next = (rev, spans) if parted == document.session.parted else None
+        def read(calls, since):
+            parted = calls.session.parted
+            told = yield from changes(calls, since)
+            [answer] = yield [{"op": "spans", "doc": 1}]
+            self.next = spans_of(answer) if parted == calls.session.parted else None
             return told
 
         return read

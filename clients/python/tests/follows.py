@@ -8,8 +8,9 @@ import time
 from unittest import mock
 
 import peritext
-from fake import FakeDaemon
+from fake import FakeDaemon, tell_all
 from peritext import STRONG, Delete, Delta, Insert, Marks, Reset, Retain, Span, daemon
+from peritext.calls import Calls
 from support import PATIENCE, Daemon, WithDaemon, WithFile, retried
 from watches import STEP, soon
 
@@ -101,14 +102,14 @@ class Told(Following):
         self.assertEqual(first.spans, [Span("abc")])
 
     def test_each_number_is_asked_about_once(self):
-        asked, changes = [], peritext.Document.changes
+        asked, changes = [], Calls.changes
 
-        def counted(document, since):
+        def counted(calls, since):
             asked.append(since)
-            return changes(document, since)
+            return changes(calls, since)
 
         text = self.connect().document(1)
-        with mock.patch.object(peritext.Document, "changes", counted):
+        with mock.patch.object(Calls, "changes", counted):
             deltas = self.follow()
             next(deltas)
             for _ in range(5):
@@ -266,8 +267,7 @@ def faked(test, answers):
                 asked.append(json.loads(line)["since"])
                 connection.sendall(json.dumps(answer).encode() + b"\n")
             return
-        while line := told.get():
-            connection.sendall(json.dumps(line).encode() + b"\n")
+        tell_all(connection, told)
 
     fake = FakeDaemon(talk)
     # The session that it is begun from, its watch, and its own session.

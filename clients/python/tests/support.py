@@ -48,8 +48,8 @@ class Daemon:
     """A program that serves a file."""
 
     def __init__(self, name, port=None):
-        self.port = port or free_port()
-        words = [PROGRAM, "serve", name, "--sessions", str(self.port), "--peers", str(free_port())]
+        self.port, self.peers = port or free_port(), free_port()
+        words = [PROGRAM, "serve", name, "--sessions", str(self.port), "--peers", str(self.peers)]
         self.run = subprocess.Popen(words, stdin=subprocess.DEVNULL, stdout=subprocess.DEVNULL, stderr=subprocess.PIPE)
         until = time.monotonic() + PATIENCE
         while self.run.poll() is None and not is_heard(self.port) and time.monotonic() < until:

@@ -56,11 +56,24 @@ export function removeComment(id) {
   };
 }
 
+/** The ids of the comments in paragraphs. An editor has most paragraphs in many documents. */
+const IDS = new WeakMap();
+
 /** The ids of all comments, in the order of their first characters. */
 export function commentsOf(doc) {
   const ids = new Set();
-  doc.descendants(({ marks }) => marks.filter(({ type }) => type === comment).forEach(({ attrs }) => ids.add(attrs.id)));
+  doc.forEach((paragraph) => commentsIn(paragraph).forEach((id) => ids.add(id)));
   return [...ids];
+}
+
+function commentsIn(paragraph) {
+  let ids = IDS.get(paragraph);
+  if (ids === undefined) {
+    ids = [];
+    paragraph.forEach(({ marks }) => marks.forEach(({ type, attrs }) => type === comment && ids.push(attrs.id)));
+    IDS.set(paragraph, ids);
+  }
+  return ids;
 }
 
 /** A new paragraph, with the marks of what stands before it. */

@@ -3,12 +3,16 @@
 import { Controls } from "./controls.js";
 import { News } from "./news.js";
 import { Peer } from "./peer.js";
+import { isSameText } from "./sameness.js";
 
 const NAMES = ["alice", "bob"];
 
+/** How many colours for carets each of them has: other windows with the same page are likely to have another one. */
+const COLOURS = 3;
+
 function showSameness() {
-  const docs = peers.map(({ doc }) => doc);
-  const isSame = docs.length === NAMES.length && docs.every((doc) => doc !== undefined && doc.eq(docs[0]));
+  const [one, other] = peers.map(({ doc }) => doc);
+  const isSame = one !== undefined && other !== undefined && isSameText(one, other);
   const place = document.querySelector("#same");
   place.dataset.same = isSame;
   place.textContent = isSame ? "both show the same" : "they differ";
@@ -26,8 +30,9 @@ for (const name of NAMES) {
   cards.set(name, card);
 }
 
-for (const [name, card] of cards) {
-  byName.set(name, new Peer(name, card, { onChange: showSameness, tell: (text) => news.tell(`${name}: ${text}`) }));
+for (const [index, [name, card]] of [...cards].entries()) {
+  const colour = index + NAMES.length * Math.floor(COLOURS * Math.random());
+  byName.set(name, new Peer({ name, colour }, card, { onChange: showSameness, tell: (text) => news.tell(`${name}: ${text}`) }));
   peers.push(byName.get(name));
 }
 new Controls(cards, news, (name, port) => (byName.get(name).port = port));

@@ -8,6 +8,8 @@ import { Ended, Refused, Session, Watch } from "peritext";
 import { bind } from "peritext/prosemirror";
 
 import { addressOf } from "./address.js";
+import { Carets } from "./carets/carets.js";
+import { drawnCarets } from "./carets/drawn.js";
 import { Chips } from "./chips.js";
 import { clipboardParser } from "./clipboard.js";
 import { addComment, buttonOf, commandOf, commentsOf, has, removeComment, setLink, toggleEm, toggleLink, toggleStrong } from "./commands.js";
@@ -15,6 +17,7 @@ import { showState } from "./drawn_selection.js";
 import { history, redo, undo } from "./history.js";
 import { Notice } from "./notice.js";
 import { schema } from "./schema.js";
+import { seen } from "./seen.js";
 import { showSelection, shownSelection } from "./shown_selection.js";
 import { shownComment, spotlight, toggleShown } from "./spotlight.js";
 import { Wire } from "./wire.js";
@@ -31,6 +34,7 @@ const AGAIN = 400;
 
 export class Peer {
   #name;
+  #colour;
   /** Where the daemon takes WebSockets, while it runs. */
   #port;
   #place;
@@ -39,14 +43,16 @@ export class Peer {
   #chips;
   #binding;
   #view;
+  #carets;
 
   /**
-   * @param {string} name
+   * @param {{name: string, colour: number}} person who writes here, and the number of their caret's colour
    * @param {HTMLElement} place its card on the page
    * @param {{onChange: () => void, tell: (text: string) => void}} listeners `tell` is told what a screen reader says
    */
-  constructor(name, place, { onChange, tell }) {
+  constructor({ name, colour }, place, { onChange, tell }) {
     this.#name = name;
+    this.#colour = colour;
     this.#place = place;
     this.#onChange = onChange;
     this.#notice = new Notice(this.#part(".notice"), tell);
@@ -107,6 +113,7 @@ export class Peer {
     } catch (error) {
       this.#fail(error);
     }
+    this.#carets?.over(undefined);
     wire.close();
   }
 
@@ -122,16 +129,20 @@ export class Peer {
     while (!wire.isOver) {
       await this.#pull();
       await pause(LOOK);
+      await Promise.race([seen(), wire.over]);
     }
   }
 
-  /** Shows what others do as soon as the daemon tells of it, for as long as it does. */
+  /**
+   * Shows what others do as soon as the daemon tells of it, for as long as it does. In the background nothing is asked for:
+   * all that came meanwhile is one change, once the page is seen again.
+   */
   async #followTold(wire) {
     const watch = new Watch(() => this.#newWire(), DOCUMENT, { retry: null });
-    wire.onOver = () => watch.close();
-    if (wire.isOver) watch.close();
+    wire.over.then(() => watch.close());
     try {
       for await (const rev of watch) {
+        await Promise.race([seen(), wire.over]);
         // What this page did itself it reads by itself.
         await this.#binding.settled();
         if (rev > this.#binding.rev) await this.#pull();
@@ -150,20 +161,30 @@ export class Peer {
 
   /** Opens the editor, or goes on with the one that is there. */
   async #begin(document) {
-    if (this.#binding !== undefined) return this.#binding.resume(document);
+    if (this.#binding === undefined) await this.#open(document);
+    else await this.#binding.resume(document);
+    this.#carets.over(document);
+  }
+
+  async #open(document) {
     const modules = { model, state, transform };
     this.#binding = await bind(modules, schema, document, { onError: (error) => this.#fail(error) });
-    const start = state.EditorState.create({ doc: this.#binding.doc, plugins: [this.#binding.plugin, history(), spotlight(), shownSelection()] });
+    const start = state.EditorState.create({ doc: this.#binding.doc, plugins: [this.#binding.plugin, history(), spotlight(), shownSelection(), drawnCarets()] });
     this.#view = new EditorView(this.#part(".editor"), {
       state: start,
       attributes: ({ doc }) => this.#attributes(doc),
       handleKeyDown: (_, event) => this.#key(event),
+      handleDOMEvents: { focus: () => this.#carets.look() },
       clipboardParser,
-      dispatchTransaction: (transaction) => {
-        showState(this.#view, this.#view.state.apply(transaction));
-        this.#show();
-      },
+      dispatchTransaction: (transaction) => this.#take(transaction),
     });
+    this.#carets = new Carets(this.#view, this.#binding, { name: this.#name, colour: this.#colour });
+    this.#show();
+  }
+
+  #take(transaction) {
+    showState(this.#view, this.#view.state.apply(transaction));
+    this.#carets.follow(transaction);
     this.#show();
   }
 

@@ -17,7 +17,7 @@ export function spotlight() {
       init: () => NONE,
       apply: (transaction, id) => transaction.getMeta(key) ?? id,
     },
-    props: { decorations: (state) => DecorationSet.create(state.doc, stretchOf(state.doc, shownComment(state))) },
+    props: { decorations: (state) => (shownComment(state) === NONE ? null : DecorationSet.create(state.doc, stretchOf(state.doc, shownComment(state)))) },
   });
 }
 

@@ -3,12 +3,14 @@
 import { WebConnection } from "peritext";
 
 export class Wire extends WebConnection {
-  onOver = () => {};
   isOver = false;
+  #end;
+  /** Is kept once it is over. */
+  over = new Promise((done) => (this.#end = done));
 
   ended() {
     super.ended();
     this.isOver = true;
-    this.onOver();
+    this.#end();
   }
 }

@@ -7,6 +7,7 @@ import { init } from "../../js/src/node.js";
 import { Daemon } from "./daemon.js";
 import { Files } from "./files.js";
 import { PageServer } from "./page_server.js";
+import { Presence } from "./presence.js";
 import { Relay } from "./relay.js";
 
 /** Whose files there are. The second daemon joins the first one, through the relay. */
@@ -19,7 +20,11 @@ export class Demo {
   #webs = new Set();
   #told = "";
   #relay = new Relay(() => this.#daemons.get(NAMES[0])?.ports?.peers, () => this.#tell());
-  #server = new PageServer({ files: new Files(), control: (web) => this.#control(web) });
+  #presence = new Presence();
+  #server = new PageServer({
+    files: new Files(),
+    doors: { control: (web) => this.#control(web), presence: (web) => this.#presence.take(web) },
+  });
 
   /**
    * @param {string} program

@@ -19,7 +19,11 @@ const TYPES = {
 /** The names by which the page's modules import each other. */
 function importMap() {
   const names = modules().map(([name]) => [name, `/modules/${name}.js`]);
-  const client = [["peritext", "/client/index.js"], ["peritext/prosemirror", "/client/prosemirror.js"]];
+  const client = [
+    ["peritext", "/client/index.js"],
+    ["peritext/prosemirror", "/client/prosemirror.js"],
+    ["peritext/positions", "/client/paragraphs/positions.js"],
+  ];
   return JSON.stringify({ imports: Object.fromEntries([...names, ...client]) });
 }
 

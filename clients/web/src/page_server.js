@@ -1,4 +1,4 @@
-/** A server for one page on this machine: its files, and a WebSocket for its controls. */
+/** A server for one page on this machine: its files, and WebSockets for its controls and for its carets. */
 
 import { once } from "node:events";
 import { createServer } from "node:http";
@@ -7,27 +7,25 @@ import { webSockets } from "./packages.js";
 
 const HOST = "127.0.0.1";
 
-/** A command is short. */
+/** A command is short, and so is what is said of a caret. */
 const MESSAGE = 1 << 10;
 
-/** How many pages have controls at once. */
+/** How many WebSockets there are at once at one path. */
 const PLACES = 64;
 
 export class PageServer {
   #files;
-  #control;
   #server;
-  #sockets;
+  #doors;
 
   /**
    * @param {object} parts
    * @param {import("./files.js").Files} parts.files
-   * @param {(web: import("ws").WebSocket) => void} parts.control takes a WebSocket for the controls
+   * @param {Record<string, (web: import("ws").WebSocket) => void>} parts.doors what takes the WebSockets of a path, by its name
    */
-  constructor({ files, control }) {
+  constructor({ files, doors }) {
     this.#files = files;
-    this.#control = control;
-    this.#sockets = new (webSockets().WebSocketServer)({ noServer: true, maxPayload: MESSAGE });
+    this.#doors = new Map(Object.entries(doors).map(([name, take]) => [`/${name}`, { take, sockets: newSockets() }]));
     this.#server = createServer((request, response) => this.#answer(request, response));
     this.#server.on("upgrade", (request, socket, head) => this.#upgrade(request, socket, head));
   }
@@ -50,7 +48,7 @@ export class PageServer {
   }
 
   close() {
-    for (const web of this.#sockets.clients) web.terminate();
+    for (const { sockets } of this.#doors.values()) for (const web of sockets.clients) web.terminate();
     this.#server.close();
     this.#server.closeAllConnections();
   }
@@ -73,10 +71,15 @@ export class PageServer {
   #upgrade(request, socket, head) {
     socket.on("error", () => socket.destroy());
     if (!this.#isHere(request) || request.headers.origin !== `http://${request.headers.host}`) return end(socket, "403 Forbidden");
-    if (request.url !== "/control") return end(socket, "404 Not Found");
-    if (this.#sockets.clients.size >= PLACES) return end(socket, "503 Service Unavailable");
-    this.#sockets.handleUpgrade(request, socket, head, this.#control);
+    const door = this.#doors.get(request.url);
+    if (door === undefined) return end(socket, "404 Not Found");
+    if (door.sockets.clients.size >= PLACES) return end(socket, "503 Service Unavailable");
+    door.sockets.handleUpgrade(request, socket, head, door.take);
   }
+}
+
+function newSockets() {
+  return new (webSockets().WebSocketServer)({ noServer: true, maxPayload: MESSAGE });
 }
 
 function refuse(response, status) {

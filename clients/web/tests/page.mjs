@@ -117,8 +117,15 @@ export class Page {
     return this.browser.run((id) => [...document.querySelectorAll(`#${id} .ProseMirror p`)].map((p) => p.textContent).join("\n"), name);
   }
 
+  /** How an editor shows its document, without the carets of others. */
   html(name) {
-    return this.browser.run((id) => document.querySelector(`#${id} .ProseMirror`).innerHTML, name);
+    return this.browser.run((id) => {
+      const shown = document.querySelector(`#${id} .ProseMirror`).cloneNode(true);
+      for (const caret of shown.querySelectorAll(".caret, .ProseMirror-separator, .ProseMirror-trailingBreak")) caret.remove();
+      for (const selected of shown.querySelectorAll(".theirs")) selected.replaceWith(...selected.childNodes);
+      shown.normalize();
+      return shown.innerHTML;
+    }, name);
   }
 
   /** Waits until an editor shows a text. */

@@ -21,7 +21,7 @@ async function listening(take) {
 
 /** Runs a test over a server of the page. */
 async function withServer(work) {
-  const server = new PageServer({ files: new Files(), control: () => {} });
+  const server = new PageServer({ files: new Files(), doors: { control: () => {}, presence: () => {} } });
   await server.listen();
   const { address } = server;
   try {

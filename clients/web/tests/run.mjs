@@ -40,6 +40,7 @@ const program = process.env.PERITEXT || "bin/peritext";
 const noProgram = existsSync(program) ? undefined : `for there is no program ${program}: make peritext`;
 await run("address");
 await run("page_server", missing());
+await run("presence", missing());
 await run("demo", missing() ?? noProgram);
 await run("kills", missing() ?? noProgram);
-for (const name of ["clock", "browser", "comments", "tools", "pasting", "selection", "typing", "wire"]) await run(name, missing() ?? noProgram ?? missingBrowser());
+for (const name of ["clock", "browser", "background", "carets", "comments", "tools", "pasting", "selection", "typing", "wire"]) await run(name, missing() ?? noProgram ?? missingBrowser());

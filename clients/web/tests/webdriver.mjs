@@ -65,6 +65,37 @@ export class Browser {
     return this.#ask("POST", "/execute/sync", { script: `return (${work})(...arguments)`, args });
   }
 
+  /** Has each page that is opened from now on run a script before its own. */
+  before(script) {
+    return this.#command("Page.addScriptToEvaluateOnNewDocument", { source: script });
+  }
+
+  /** How many milliseconds of the processor the page has taken so far: its scripts, the layout with its styles, and all of it. */
+  async processor() {
+    await this.#command("Performance.enable", { timeDomain: "threadTicks" });
+    const { metrics } = await this.#command("Performance.getMetrics", {});
+    const [script, layout, style, all] = ["Script", "Layout", "RecalcStyle", "Task"].map((part) => 1_000 * metrics.find(({ name }) => name === `${part}Duration`).value);
+    return { script, layout: layout + style, all };
+  }
+
+  /** What the page's scripts spend their time on while something is done, as a profile of V8's. */
+  async profile(work) {
+    await this.#command("Profiler.enable", {});
+    await this.#command("Profiler.start", {});
+    await work();
+    return (await this.#command("Profiler.stop", {})).profile;
+  }
+
+  /** Takes the window away, so that the page is in the background. */
+  background() {
+    return this.#ask("POST", "/window/minimize", {});
+  }
+
+  /** Brings the window back. */
+  foreground() {
+    return this.resize(1100, 700);
+  }
+
   async click(selector) {
     await this.#ask("POST", `/element/${await this.#find(selector)}/click`, {});
   }

@@ -19,7 +19,7 @@ async function withSessions(work) {
   const sessions = new (webSockets().WebSocketServer)({ host: "127.0.0.1", port: 0 });
   sessions.on("connection", (web) => web.once("message", () => web.send(ANSWER)));
   await once(sessions, "listening");
-  const server = new PageServer({ files: new Files(), control: () => {} });
+  const server = new PageServer({ files: new Files(), doors: { control: () => {}, presence: () => {} } });
   await server.listen();
   const browser = await Browser.start();
   try {

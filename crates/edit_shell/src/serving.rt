@@ -1,5 +1,6 @@
 //! The daemon over a file and sockets, and the thread that writes its events.
-ghost use Rattle.std.specs.Prelude.{◌≡◌, [], IfOk};
+ghost use Rattle.std.specs.Prelude.{IfOk};
+ghost use Rattle.hub_parts.specs.Opening.{IsOpened};
 
 use crate::error_way::ErrorWay;
 use crate::looking::Purpose;
@@ -152,7 +153,7 @@ fn open_file<R: Files<File = File> + AllocGlobal>(
     rt: &R,
     file: &str,
 ) -> Result<Parts<FileDisk>, Fault>
-    ensures { IfOk result (λ parts. parts.locked.replica.steps ≡ []) }
+    ensures { IfOk result (λ parts. IsOpened parts.locked parts.flusher) }
 {
     let Ok(disk) = FileDisk::open(rt, file) else {
         return Err(Fault::OpenFailed);
@@ -178,7 +179,7 @@ fn serve_opened<
     parts: Parts<FileDisk>,
     sockets: Sockets<'a>,
 ) -> Result<(), Fault>
-    requires { parts.locked.replica.steps ≡ [] }
+    requires { IsOpened parts.locked parts.flusher }
 {
     if let Some(journal) = sockets.journal {
         tell_listening(rt, order, &parts, journal);

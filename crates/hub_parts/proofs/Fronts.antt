@@ -41,7 +41,7 @@ whole_list facts s list due kept idle =
     rest.all
 
 -- a root has a beginning of a longer list
-front_grows : (list ops : List Op) (root : Saved) → HasFront list root → HasFront (list ++ ops) root
+pub front_grows : (list ops : List Op) (root : Saved) → HasFront list root → HasFront (list ++ ops) root
 front_grows list ops root front =
     let within = front.within in
     let same : take (count_of root.body) (list ++ ops) ≡ take (count_of root.body) list = take-append-le (count_of root.body) list ops within in

@@ -15,3 +15,4 @@ pub mod WaitLemmas
 pub mod PuttingLemmas
 pub mod WaitingLengths
 pub mod TypedWaits
+pub mod WiderMoments

@@ -21,6 +21,7 @@ pub enum LockedRefusal {
 
 impl LockedRefusal {
     ghost use Rattle.hub_parts.specs.Refusal.{number_of};
+    ghost use Rattle.replica_core.specs.RefusedAt.{is_for_a_change};
 
     /// The number of the refusal.
     pub fn number(self) -> u8
@@ -30,6 +31,16 @@ impl LockedRefusal {
             LockedRefusal::Replica(refusal) => refusal.number(),
             LockedRefusal::Full => BUSY,
             LockedRefusal::Failed => FAILED,
+        }
+    }
+
+    /// Whether an edit is refused so for one of its changes: with 5 or 7.
+    pub fn is_for_a_change(self) -> bool
+        ensures { result ≡ is_for_a_change (number_of self) }
+    {
+        match self {
+            LockedRefusal::Replica(refusal) => refusal.is_for_a_change(),
+            LockedRefusal::Full | LockedRefusal::Failed => false,
         }
     }
 }

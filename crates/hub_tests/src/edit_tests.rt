@@ -27,7 +27,7 @@ fn a_text_is_marked(rt: HostRuntime) {
 }
 
 /// Each change is at the places that those before it leave; where one isn't possible, none is made.
-static TOGETHER: [Row; 10] = [
+static TOGETHER: [Row; 12] = [
     (0, Ask::Edit(Wish::Insert(0, "one two")), 7),
     (
         0,
@@ -40,6 +40,21 @@ static TOGETHER: [Row; 10] = [
         0,
         Ask::Together(&[Wish::Delete(0, 4), Wish::Insert(4, "x")]),
         0,
+    ),
+    (
+        0,
+        Ask::RefusedAt(&[Wish::Delete(0, 4), Wish::Insert(4, "x")]),
+        1,
+    ),
+    (
+        0,
+        Ask::RefusedAt(&[
+            Wish::Insert(0, "x"),
+            Wish::Mark(0, 8),
+            Wish::Insert(0, "y"),
+            Wish::Delete(9, 1),
+        ]),
+        3,
     ),
     (
         0,

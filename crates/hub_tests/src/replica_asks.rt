@@ -37,6 +37,8 @@ pub enum Ask {
     EditUnder(u8, Wish),
     /// Several changes of document 1 at once: the rev of their ticket, or 0.
     Together(&'static [Wish]),
+    /// Which of several changes of document 1 at once is refused, counted from 0.
+    RefusedAt(&'static [Wish]),
     /// An edit of a document at a rev: the number of its refusal, or 0.
     Refusal(u32, Option<u32>, Wish),
     /// Edits of document 1, each the same and settled twice: how many are made before one is

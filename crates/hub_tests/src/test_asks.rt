@@ -62,6 +62,7 @@ fn answer_alone(alloc: Global, replica: &mut Replica, ask: &Ask) -> Option<usize
         Ask::Edit(wish) => ticket_rev(replica, edit(alloc, None, wish)),
         Ask::EditUnder(token, wish) => ticket_rev(replica, edit(alloc, Some(*token), wish)),
         Ask::Together(wishes) => ticket_rev(replica, together(alloc, wishes)),
+        Ask::RefusedAt(wishes) => replica.refused_at(&together(alloc, wishes)?),
         Ask::Refusal(doc, rev, wish) => refusal(replica, edit_of(alloc, *doc, *rev, wish)),
         Ask::EditsUntilRefused(wish) => edits_until_refused(replica, edit(alloc, None, wish)),
         Ask::Put(wish) => put_length(replica, edit(alloc, None, wish)),

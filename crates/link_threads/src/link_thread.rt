@@ -4,10 +4,11 @@ use crate::hearing::Hearing;
 use crate::link_end::LinkEnd;
 use crate::link_host::LinkHost;
 use crate::over::Over;
+use crate::shared_peer::SharedPeer;
 use crate::telling::Telling;
-use pass_books::{BookNames, Pass};
+use pass_books::BookNames;
 use rtrb::{Consumer, Producer, RingBuffer};
-use shared_hub::Checkpoint;
+use shared_hub::{Checkpoint, Pass};
 use std::net::{Shutdown, TcpStream};
 use std::rt::Clock;
 use std::sync::Wait;
@@ -36,14 +37,19 @@ impl Parted {
     };
 }
 
-/// Serves a link of this replica to its end: this thread hears, and another one tells. Tells what
-/// became of it, and the log of the greeting and the end. It isn't begun once the hub's links are
-/// over.
+/// Serves a link of this replica to its end: this thread hears with the link's pass, and another
+/// one tells with a pass of its own. Tells what became of it, and the log of the greeting and the
+/// end. It isn't begun once the hub's links are over.
 pub fn serve_link<
     R: Wait + Clock + Threads + Sync,
     J: BookNames + Send + Sync,
     C: Checkpoint + Sync,
->(host: &LinkHost<'_, R, J, C>, pass: &mut Pass<J>, stream: &TcpStream) -> Parted {
+>(
+    host: &LinkHost<'_, R, J, C>,
+    pass: &mut Pass<J>,
+    tells: &mut Pass<J>,
+    stream: &TcpStream,
+) -> Parted {
     if host.shared.are_links_over(host.rt) {
         return Parted::AT_ONCE;
     }
@@ -55,7 +61,7 @@ pub fn serve_link<
         host.log.ended(host.rt, host.alloc, Over::NoMemory);
         return Parted::AT_ONCE;
     };
-    let parted = hear_and_tell(host, &end, pass, notes, stream);
+    let parted = hear_and_tell(host, &end, (pass, tells), notes, stream);
     Parted {
         was_of_use: parted.was_of_use || end.was_taken(host.rt),
         is_out_of_steps: parted.is_out_of_steps,
@@ -72,7 +78,7 @@ fn hear_and_tell<
 >(
     host: &'a LinkHost<'a, R, J, C>,
     end: &'a LinkEnd,
-    pass: &'a mut Pass<J>,
+    (pass, tells): (&'a mut Pass<J>, &'a mut Pass<J>),
     (producer, consumer): (Producer<u8>, Consumer<u8>),
     stream: &'a TcpStream,
 ) -> Parted {
@@ -83,11 +89,12 @@ fn hear_and_tell<
     let link = pass.number();
     let mut hearing = Hearing::new(&*host, end, pass, producer);
     let telling = Telling::new(&*host, end, link, consumer);
+    let peer = SharedPeer::new(rt, shared, tells);
     thread::scope(thread::scope_env(), rt, |scope| {
-        let mut telling = telling;
+        let (mut telling, mut peer) = (telling, peer);
         let told = scope.spawn(move || {
             let mut writer = stream;
-            telling.run(&mut writer);
+            telling.run(&mut peer, &mut writer);
             end.end(rt);
             let _ = stream.shutdown(Shutdown::Both);
         });

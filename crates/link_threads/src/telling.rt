@@ -62,16 +62,12 @@ impl<'a, R: Wait + Clock, J: BookNames> Telling<'a, R, J> {
 
     /// Says what is due, each time that there is something, until nothing more is heard or the
     /// daemon ends; and then BYE, unless the stream has failed.
-    pub(crate) fn run<S: Write>(&mut self, stream: &mut S) {
-        let mut peer = SharedPeer {
-            rt: self.rt,
-            shared: self.shared,
-        };
+    pub(crate) fn run<S: Write>(&mut self, peer: &mut SharedPeer<'_, R, J>, stream: &mut S) {
         let mut line = LockedLine {
             rt: self.rt,
             end: self.end,
         };
-        if self.say_all(&mut peer, &mut line, stream) {
+        if self.say_all(peer, &mut line, stream) {
             let _ = line.say_bye();
             let _ = write_out(&mut line, stream);
         }

@@ -1,6 +1,5 @@
 -- One device call of a commit under way, with what it makes of a hub.
 use Rattle.std.proofs.Common.{Bool, ◌≡◌, ℕ, ◌-◌, true, false, List, refl, sym, ◌∙◌, inl, inr, ◌⊎◌, Result}
-use Rattle.disk_trait.specs.Calls.{LeavesOnly}
 use Rattle.disk_trait.specs.declared.facts.DiskFacts.{Ghosts}
 use Rattle.op_model.specs.Machine.{Answer, device_step, goes_on, goes_through, refused, Step}
 use Rattle.root_slots.specs.Root.{count_of}
@@ -9,26 +8,13 @@ use Rattle.group_commit.specs.Begin.{is_idle}
 use Rattle.group_commit.specs.Held.{StoreHeld}
 use Rattle.group_commit.specs.Step.{Call, IsDeviceCall, IsLeftAround, failures_in as failures_of}
 use Rattle.group_commit.specs.declared.error.StoreError.{StoreError}
+use Rattle.hub_parts.proofs.WiderMoments.{moments_of}
 use Rattle.locked_replica.specs.Hub.{state_of}
 use Rattle.locked_replica.proofs.Fits.{Fits, IsUnderWay}
 use Rattle.locked_replica.specs.Calls.{IsCall, IsLeftIn, Counts, StepsOn, StepsFail, StoreSteps, calls_in, failures_in}
 use Rattle.locked_replica.proofs.PartsOf.{parts}
 use Rattle.locked_replica.proofs.Recovering.{survivor_has_settled, survivor_is_left, left_of, left_has}
 use Rattle.std.proofs.lemmas.Bool.{lt-ltb}
-
--- what a crash leaves at any moment, said in a weaker way
-moments_of : {D : Type 0} (facts : Ghosts D) (old new : D) (P Q : List ℕ → Type 0) → ((file : List ℕ) → P file → Q file) → LeavesOnly facts old new P
-    → LeavesOnly facts old new Q
-moments_of facts old new P Q weaker leaves =
-    record {
-      later = leaves.later;
-      each = λ file left. weaker file (leaves.each file left);
-      before = λ t file earlier left. either (leaves.before t file earlier left);
-    }
-  where
-    either : {A : Type 0} {file : List ℕ} → A ⊎ P file → A ⊎ Q file
-    either (inl a) = inl a
-    either {file = file} (inr p) = inr (weaker file p)
 
 -- one device call of a commit under way, with what it makes of the hub
 device_call : {D : Type 0} {failure_told : Bool} {T : Type 0} (facts : Ghosts D) (h : ReplicaHeld) (s new : StoreHeld D) (made : Call) (result : Result T StoreError)

@@ -7,6 +7,7 @@ ghost use Rattle.op_model.specs.Text.{text as text_of, rev as rev_of};
 ghost use Rattle.replica_core.specs.Held.{IsSound};
 ghost use Rattle.replica_core.specs.Changed.{TellsChanges};
 ghost use Rattle.replica_core.specs.Places.{anchors_of, are_within, places_of};
+ghost use Rattle.replica_core.specs.RefusedAt.{refused_at as refused_at_of};
 
 use crate::hub::Hub;
 use disk_trait::Disk;
@@ -74,6 +75,15 @@ impl<D: Disk> Hub<D> {
         ensures { result ≡ known_ticket self.now.replica edit.now }
     {
         self.locked.known(edit)
+    }
+
+    /// Which of several changes a new edit is refused for, counted from 0: with 5 or 7, if `edit`
+    /// comes to it. Takes no memory. Costs what `Replica::refused_at` does.
+    pub fn refused_at(&self, edit: &Action) -> Option<usize>
+        ensures { result
+            ≡ refused_at_of self.now.replica.list self.now.replica.replica edit.now }
+    {
+        self.locked.refused_at(edit)
     }
 
     /// How many operations a document has. Costs what `Replica::rev` does.

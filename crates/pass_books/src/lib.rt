@@ -2,12 +2,14 @@
 //! have the same entries, whoever had the lock meanwhile.
 //!
 //! The lock tells nobody what others did meanwhile; a share tells its owner what is still so of its
-//! own entries.
+//! own entries. Beside numbers a book has moments: what stood under the lock when they were
+//! entered.
 #![tactic(auto)]
 
 mod book;
 mod book_names;
 mod books;
+mod column;
 mod pass;
 mod share;
 

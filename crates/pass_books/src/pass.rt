@@ -7,30 +7,38 @@ use crate::share::Share;
 use std::marker::{Model, PhantomData};
 
 /// The right to make entries under one number, held by one thread at a time, with the share of that
-/// number's book. Contracts see the number and the entries, newest first.
+/// number's book. Contracts see the number, and the entries and the moments, newest first.
 #[derive(Drop)]
-pub struct Pass<J: BookNames> {
+pub struct Pass<J: BookNames, M> {
     number: usize,
-    pub(crate) share: Share,
+    pub(crate) share: Share<M>,
     of: PhantomData<J>,
 }
 
-impl<J: BookNames> Model for Pass<J> {
+impl<J: BookNames, M> Model for Pass<J, M> {
     ghost use Rattle.std.specs.Prelude.{◌≡◌, Some, slice_get};
     ghost use Rattle.pass_books.specs.Accounts.{PassHeld};
 
-    ghost Value = { PassHeld };
+    ghost Value = { PassHeld M };
 
-    ghost view = { λ p. record { number = p.number; entries = p.share.entries } };
+    ghost view = { λ p. record {
+      number = p.number;
+      entries = p.share.entries;
+      moments = p.share.moments;
+    } };
 
     ghost invariant = { λ p. slice_get J.names p.number ≡ Some p.share.name };
 }
 
-impl<J: BookNames> Pass<J> {
+impl<J: BookNames, M> Pass<J, M> {
     /// The pass with the share of this number's book. Takes no memory.
-    pub fn of(number: usize, share: Share) -> Pass<J>
+    pub fn of(number: usize, share: Share<M>) -> Pass<J, M>
         requires { slice_get J.names number ≡ Some share.name }
-        ensures { result ≡ record { number = number; entries = share.entries } }
+        ensures { result ≡ record {
+          number = number;
+          entries = share.entries;
+          moments = share.moments;
+        } }
     {
         Pass {
             number,

@@ -2,34 +2,33 @@
 ghost use Rattle.std.specs.Prelude.{◌≡◌, length};
 ghost use Rattle.pass_books.specs.Accounts.{newest_of};
 
-use rtrb::Producer;
+use crate::column::ColumnShare;
+use ghost_lists::Seen;
 use std::marker::Model;
 
 /// A thread's share of a book: it knows its entries, and only both together take another one.
-/// Contracts see the name and the entries, newest first.
+/// Contracts see the name, and the entries and the moments, newest first.
 #[derive(Drop)]
-pub struct Share {
-    // The other end is the book's. It is empty between two calls.
-    pub(crate) ring: Producer<u64>,
+pub struct Share<M> {
+    pub(crate) numbers: ColumnShare<u64>,
+    pub(crate) moments: ColumnShare<Seen<M>>,
     pub(crate) count: u64,
     pub(crate) newest: u64,
 }
 
-impl Model for Share {
+impl<M> Model for Share<M> {
     ghost use Rattle.std.specs.Prelude.{◌≡◌, length};
-    ghost use Rattle.rtrb.specs.Ring.{known_free, producer_capacity};
-    ghost use Rattle.pass_books.specs.Accounts.{Account, newest_of, share_of};
+    ghost use Rattle.pass_books.specs.Accounts.{Account, account_of, newest_of};
 
-    ghost Value = { Account };
+    ghost Value = { Account M };
 
-    ghost view = { λ s. share_of s.ring };
+    ghost view = { λ s. account_of s.numbers s.moments };
 
-    ghost invariant = { λ s. (s.count ≡ length (share_of s.ring).entries)
-        × (s.newest ≡ newest_of (share_of s.ring).entries)
-        × (producer_capacity s.ring ≡ 1) × (known_free s.ring ≡ 1) };
+    ghost invariant = { λ s. (s.count ≡ length s.numbers.items)
+        × (s.newest ≡ newest_of s.numbers.items) };
 }
 
-impl Share {
+impl<M> Share<M> {
     /// How many entries there are. Takes no memory.
     pub fn count(&self) -> u64
         ensures { result ≡ length self.now.entries }

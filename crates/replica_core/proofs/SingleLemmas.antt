@@ -1,5 +1,5 @@
 -- An action of one change is refused as the edit, one of several is not.
-use Rattle.std.proofs.Common.{◌≡◌, ℕ, ◌<◌, List, [], ◌∷◌, length, Option, Some, None, refl, ap, ◌∙◌, arith}
+use Rattle.std.proofs.Common.{◌≡◌, ℕ, ◌<◌, List, [], ◌∷◌, length, drop, Option, Some, None, refl, ap, ◌∙◌, arith}
 use Rattle.std.specs.Option.{option_map}
 use Rattle.op_model.specs.Actions.{action_refusal, asked, made_by_action, refusal_of, refused_several, Asked}
 use Rattle.op_model.specs.declared.edit.Change.{Change}
@@ -11,6 +11,8 @@ use Rattle.op_ids.specs.Clock.{advanced}
 use Rattle.op_model.specs.Actions.{all_wait_at_most}
 use Rattle.op_model.specs.Causality.{clock_of}
 use Rattle.model_laws.proofs.InTurn.{action_single}
+use Rattle.std.proofs.lemmas.Bool.{lt-ltb}
+use Rattle.replica_core.specs.RefusedAt.{place_in, refused_at}
 
 -- no changes
 pub none_from : (cs : List Change) → length cs ≡ 0 → cs ≡ []
@@ -36,6 +38,25 @@ pub refusal_several : (ops : List Op) (replica : ℕ) (a : Asked) (e : Edit) (ot
     → action_refusal ops replica a ≡ refused_several ops replica a
 refusal_several ops replica a e [] is some = absurd (omega arith)
 refusal_several ops replica a e (c ∷ cs) is some = rw is refl
+
+-- one change has no place
+pub place_single : (ops : List Op) (replica : ℕ) (a : Asked) (cs : List Change) → a.changes ≡ cs → drop 1 cs ≡ [] → refused_at ops replica a ≡ None
+place_single ops replica a [] is none = rw is refl
+place_single ops replica a (c ∷ []) is none = rw is refl
+place_single ops replica a (c ∷ d ∷ cs) is none = let never : d ∷ cs ≡ [] = none in absurd (cc)
+
+-- the place of several is that of the first that is refused in turn
+pub place_several : (ops : List Op) (replica : ℕ) (a : Asked) (e : Edit) (others : List Change) → a ≡ asked e others → 0 < length others
+    → refused_at ops replica a ≡ place_in (refused_several ops replica a)
+place_several ops replica a e others is some =
+    let many : 1 < length a.changes = rw is (omega (arith, some)) in
+    rw (lt-ltb 1 (length a.changes) many, refusal_several ops replica a e others is some) refl
+
+-- so what refuses them in turn gives the place for whoever has the same list and name
+pub place_from : (ops list : List Op) (replica name : ℕ) (a : Asked) (e : Edit) (others : List Change) (found : Option (ℕ × ℕ)) → ops ≡ list
+    → replica ≡ name → a ≡ asked e others → 0 < length others → refused_several ops replica a ≡ found → refused_at list name a ≡ place_in found
+place_from ops list replica name a e others found same named is some due =
+    rw (← same, ← named) (place_several ops replica a e others is some ∙ ap place_in due)
 
 -- and there has to be room for the most bytes
 pub length_several : (ops : List Op) (replica : ℕ) (a : Asked) (e : Edit) (others : List Change) → a ≡ asked e others → 0 < length others

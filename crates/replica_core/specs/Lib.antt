@@ -7,6 +7,7 @@ pub mod Turns
 pub mod Held
 pub mod Steps
 pub mod Refusal
+pub mod RefusedAt
 pub mod Fields
 pub mod Makers
 pub mod Indexes

@@ -1,13 +1,14 @@
 -- Used by private functions and proofs alone.
 --
 -- Changes that are counted, and made, one after another.
-use Rattle.std.specs.Prelude.{◌≡◌, ℕ, ◌+◌, List, ◌∷◌, ◌++◌, Option, Some}
+use Rattle.std.specs.Prelude.{◌≡◌, ℕ, ◌+◌, List, ◌∷◌, ◌++◌, length, Option, Some}
 use Rattle.doc_core.specs.Standing.{StandsFor}
 use Rattle.op_model.specs.declared.edit.Change.{Change}
 use Rattle.op_model.specs.declared.op.Op.{Op}
-use Rattle.op_model.specs.Actions.{head_at_most, made_in_turn, refused_in_turn, waits_at_most, Room}
+use Rattle.op_model.specs.Actions.{head_at_most, made_in_turn, refused_in_turn, room_behind, waits_at_most, Room}
 use Rattle.op_model.specs.Causality.{clock_of, IsCausallyClosed}
 use Rattle.op_model.specs.Made.{greatest_counter}
+use Rattle.op_model.specs.Text.{visible}
 use Rattle.model_laws.specs.Acting.{NoneRefused}
 use Rattle.replica_core.specs.declared.copying.Copying.{Copying}
 use Rattle.replica_core.specs.declared.turn.Turn.{Turn}
@@ -16,6 +17,11 @@ use Rattle.replica_core.specs.Docs.{doc_number}
 -- the room that is left
 abbrev pub room_of : Turn → Room
 room_of t = record { operations = t.operations; stream = t.stream; waiting = t.waiting }
+
+-- the text and the room after these operations, for changes of a document by a replica
+pub record IsTurnOf (t : Turn) (ops : List Op) (replica doc : ℕ) : Type 0 where
+  pub room : room_of t ≡ room_behind ops replica doc
+  pub shown : t.shown ≡ length (visible ops doc)
 
 -- a change that nothing refuses: what refuses it and others refuses the others after it, and it takes its bytes of what may wait
 pub record IsTaken (old new : Turn) (head : ℕ) (c : Change) : Type 0 where

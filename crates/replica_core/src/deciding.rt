@@ -49,7 +49,10 @@ pub(crate) fn action_length(
     if action.others().is_empty() {
         return edit_length(ops, known, doc, has_place, action.first());
     }
-    several_length(ops, known, doc, has_place, action)
+    match several_length(ops, known, doc, has_place, action) {
+        Ok(bytes) => Ok(bytes),
+        Err(refused) => Err(refused.why),
+    }
 }
 
 /// The same for one change. Constant, but for an insert at the beginning, which costs what

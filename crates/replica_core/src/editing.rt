@@ -4,6 +4,7 @@ ghost use Rattle.op_model.specs.Machine.{after_edit, edit_alone, new_edit_alone,
 ghost use Rattle.op_model.specs.Held.{with_edit};
 ghost use Rattle.replica_core.specs.Decided.{IsDecided, IsPrepared};
 ghost use Rattle.replica_core.specs.Refusal.{number_of};
+ghost use Rattle.replica_core.specs.RefusedAt.{refused_at as refused_at_of};
 
 use crate::decided::Decided;
 use crate::deciding::action_length;
@@ -13,6 +14,7 @@ use crate::prepared::Prepared;
 use crate::preparing::prepared;
 use crate::refusal::Refusal;
 use crate::replica::Replica;
+use crate::several::several_length;
 use crate::step::Step;
 use crate::ticket::Ticket;
 use doc_core::{Doc, SequenceError};
@@ -43,9 +45,9 @@ impl Replica {
 
     /// For how many bytes of a new edit there has to be room among those that wait for a commit,
     /// and the place of its document, or why it is refused, by the first cause: `Stale` (6), then
-    /// `Range` (5) and `Limit` (7) of its changes in turn, `Steps` (10). Takes no memory. A few steps
-    /// for clocks and for each change, a search by halves for the document, and for one insert
-    /// alone at its beginning what `Doc::origin` costs.
+    /// `Range` (5) and `Limit` (7) of its changes in turn, `Steps` (10). Takes no memory. A few
+    /// steps for clocks and for each change, a search by halves for the document, and for one
+    /// insert alone at its beginning what `Doc::origin` costs.
     pub fn decide_edit(&self, edit: &Action) -> Result<Decided, Refusal>
         ensures decided { IfOk result (IsDecided self.now edit.now) }
         ensures refused { IfErr result (λ e.
@@ -67,6 +69,31 @@ impl Replica {
             return Err(Refusal::Steps);
         }
         Ok(Decided { bytes, place })
+    }
+
+    /// Which of several changes a new edit is refused for, counted from 0: with `Range` (5) or
+    /// `Limit` (7), as `decide_edit` tells it. Takes no memory. A few steps for clocks and for each
+    /// change, and a search by halves for the document.
+    pub fn refused_at(&self, edit: &Action) -> Option<usize>
+        ensures { result ≡ refused_at_of self.now.list self.now.replica edit.now }
+    {
+        if edit.others().is_empty() {
+            return None;
+        }
+        let log = &self.log;
+        let ops = log.list.as_slice();
+        let empty = Doc::new(log.list.allocator(), edit.first().doc);
+        let place = docs::place(&log.docs, edit.first().doc);
+        let doc = docs::at(&log.docs, place, &empty);
+        let known = Knowledge {
+            replica: self.id,
+            clock: &self.clock,
+            index: &log.index,
+        };
+        match several_length(&ops, &known, doc, docs::has_room(&log.docs, place), edit) {
+            Ok(_) => None,
+            Err(refused) => refused.place(),
+        }
     }
 
     /// Makes the operations of a session's new edit that nothing refuses, as `decide_edit` tells,

@@ -3,9 +3,8 @@ ghost use Rattle.std.specs.Prelude.{◌≡◌, ◌++◌, OnOk, OnErr, IsErrOf};
 ghost use Rattle.char_sequence.specs.Content.{FitAfter};
 ghost use Rattle.op_model.specs.Causality.{made_by};
 ghost use Rattle.op_model.specs.Rising.{IsPlace};
-ghost use Rattle.doc_core.specs.Standing.{StandsFor};
-ghost use Rattle.replica_core.specs.Docs.{doc_number, numbers, AreDocs};
-ghost use Rattle.replica_core.specs.Edited.{ops_of, IsCopyOf};
+ghost use Rattle.replica_core.specs.Docs.{numbers, AreDocs};
+ghost use Rattle.replica_core.specs.Edited.{ops_of, IsCopy, IsCopyOf};
 ghost use Rattle.replica_core.specs.Log.{HasRoom, IsAppended, IsSame};
 
 use crate::docs;
@@ -69,8 +68,7 @@ impl Log {
         requires place { IsPlace (numbers self.old.docs.items) doc place }
         requires room { HasRoom self.old ops.now }
         requires own { made_by replica ops.now ≡ ops.now }
-        requires number { doc_number copy ≡ doc }
-        requires stands { StandsFor copy (self.old.list ++ ops.now) }
+        requires copy { IsCopy copy (self.old.list ++ ops.now) doc }
         ensures ok { OnOk result (IsAppended self.old self.new ops.now doc) }
         ensures err { OnErr result (IsSame self.old self.new) }
     {

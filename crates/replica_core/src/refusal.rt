@@ -47,6 +47,17 @@ pub enum Refusal {
 impl Refusal {
     ghost use Rattle.std.specs.Prelude.{◌≡◌};
     ghost use Rattle.replica_core.specs.Refusal.{number_of};
+    ghost use Rattle.replica_core.specs.RefusedAt.{is_for_a_change};
+
+    /// Whether an action is refused so for one of its changes: `Range` (5) and `Limit` (7).
+    pub fn is_for_a_change(self) -> bool
+        ensures { result ≡ is_for_a_change (number_of self) }
+    {
+        match self {
+            Refusal::Range | Refusal::Limit => true,
+            _ => false,
+        }
+    }
 
     /// The number of the refusal.
     pub fn number(self) -> u8

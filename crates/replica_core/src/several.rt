@@ -1,16 +1,16 @@
 //! Whether several changes at once keep the limits of a store.
-ghost use Rattle.std.specs.Prelude.{◌≡◌, ◌≤◌, ◌<◌, ◌+◌, ◌-◌, ◌^◌, ℕ, min, nat_le, length, IfOk, IfErr, Some, None};
+ghost use Rattle.std.specs.Prelude.{◌≡◌, ◌≤◌, ◌<◌, ◌+◌, ◌-◌, ◌^◌, min, nat_le, length, IfOk, IfErr, Some, None};
 ghost use Rattle.fixed_numbers.specs.declared.limits.TheConstants.{MAX_COUNTER, MAX_DOCUMENTS, MAX_OPERATIONS, MAX_REPLICAS};
 ghost use Rattle.doc_core.specs.Standing.{StandsFor};
 ghost use Rattle.op_ids.specs.Clock.{advanced};
-ghost use Rattle.op_model.specs.Actions.{all_wait_at_most, head_at_most as head_at_most_of, refused_several, room_behind as room_behind_of};
+ghost use Rattle.op_model.specs.Actions.{all_wait_at_most, head_at_most as head_at_most_of, refused_several};
 ghost use Rattle.op_model.specs.Causality.{clock_of, documents};
 ghost use Rattle.op_model.specs.Spans.{with_number};
-ghost use Rattle.op_model.specs.Text.{visible};
 ghost use Rattle.replica_core.specs.Deciding.{AreCounted};
 ghost use Rattle.replica_core.specs.Docs.{doc_number};
 ghost use Rattle.replica_core.specs.Refusal.{number_of};
-ghost use Rattle.replica_core.specs.Turns.{room_of};
+ghost use Rattle.replica_core.specs.RefusedAt.{place_in};
+ghost use Rattle.replica_core.specs.Turns.{IsTurnOf};
 
 use crate::docs::count;
 use crate::knowledge::Knowledge;
@@ -24,16 +24,37 @@ use op_ids::{Clock, ReplicaId, Token};
 use op_model::{Action, head_length, token_length};
 use run_list::RunSlice;
 
+/// Why several changes are refused, and after how many of them.
+#[derive(Clone, Copy, Debug)]
+pub struct RefusedChange {
+    pub at: usize,
+    pub why: Refusal,
+}
+
+impl RefusedChange {
+    /// The place of the change, if it is the one that is refused: `Stale` (6) is for all of them.
+    pub(crate) fn place(self) -> Option<usize>
+        ensures { result ≡ place_in (Some (self.at, number_of self.why)) }
+    {
+        if self.why.is_for_a_change() {
+            Some(self.at)
+        } else {
+            None
+        }
+    }
+}
+
 /// The most bytes that the changes of an action add to what waits for a commit, or why it is
-/// refused, by the first cause: `Stale` (6), then `Range` (5) and `Limit` (7) in turn. There is
-/// room for its document or not. Takes no memory. A few steps for each change.
+/// refused, by the first cause: `Stale` (6), then `Range` (5) and `Limit` (7) in turn, and after
+/// how many changes. There is room for its document or not. Takes no memory. A few steps for each
+/// change.
 pub(crate) fn several_length(
     ops: &RunSlice<'_>,
     known: &Knowledge<'_>,
     doc: &Doc,
     has_place: bool,
     action: &Action,
-) -> Result<u64, Refusal>
+) -> Result<u64, RefusedChange>
     requires counted { AreCounted ops.now known.now.clock.now known.now.index.now }
     requires stands { StandsFor doc.now ops.now }
     requires number { doc_number doc.now ≡ action.now.doc }
@@ -45,22 +66,25 @@ pub(crate) fn several_length(
         ≡ all_wait_at_most (length (advanced (clock_of ops.now) known.now.replica))
         action.now.token action.now.changes) }
     ensures refused { IfErr result (λ e.
-        (k : ℕ) × (refused_several ops.now known.now.replica action.now ≡ Some (k, number_of e))) }
+        refused_several ops.now known.now.replica action.now ≡ Some (e.at, number_of e.why)) }
 {
     let first = action.first();
     if !first.is_at_rev(count(doc, ops)) {
-        return Err(Refusal::Stale);
+        return Err(RefusedChange {
+            at: 0,
+            why: Refusal::Stale,
+        });
     }
     let replicas = replicas_behind(known.clock, known.replica);
     let head = head_at_most(replicas, first.token);
     let mut turn = turn_behind(ops, known, doc, replicas, has_place);
-    if let Err(refused) = turn.take(head, &first.change) {
-        return Err(refused);
+    if let Err(why) = turn.take(head, &first.change) {
+        return Err(RefusedChange { at: 0, why });
     }
     let others = action.others();
-    for change in others {
-        if let Err(refused) = turn.take(head, change) {
-            return Err(refused);
+    for (i, change) in others.iter().enumerate() {
+        if let Err(why) = turn.take(head, change) {
+            return Err(RefusedChange { at: i + 1, why });
         }
     }
     Ok(MAX_PENDING - turn.waiting)
@@ -80,9 +104,7 @@ fn turn_behind(
     requires replicas { replicas ≡ length (advanced (clock_of ops.now) known.now.replica) }
     requires place { has_place
         ≡ nat_le (length (with_number (doc_number doc.now) (documents ops.now))) MAX_DOCUMENTS }
-    ensures room { room_of result
-        ≡ room_behind_of ops.now known.now.replica (doc_number doc.now) }
-    ensures shown { result.shown ≡ length (visible ops.now (doc_number doc.now)) }
+    ensures turn { IsTurnOf result ops.now known.now.replica (doc_number doc.now) }
     ensures few { result.shown + result.operations < 2 ^ 64 }
 {
     let may_change = doc.number() > 0 && has_place && replicas <= MAX_REPLICAS;

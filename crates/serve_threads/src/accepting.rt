@@ -158,14 +158,20 @@ pub(crate) fn link<
 ) -> bool {
     let _ = stream.set_nodelay(true);
     let _ = stream.set_write_timeout(Some(Duration::from_secs(PATIENCE)));
-    let Some(mut pass) = lobby.take_pass(hall.rt) else {
+    let Some(mut tells) = lobby.take_telling_pass(hall.rt) else {
         lobby.leave(hall.rt, entry, None);
         return false;
     };
-    let parted = serve_link(&hall.link_host(place), &mut pass, stream);
+    let Some(mut pass) = lobby.take_pass(hall.rt) else {
+        lobby.give_telling_pass(hall.rt, tells);
+        lobby.leave(hall.rt, entry, None);
+        return false;
+    };
+    let parted = serve_link(&hall.link_host(place), &mut pass, &mut tells, stream);
     if parted.is_out_of_steps {
         hall.ending.ask(hall.rt, End::Renewal);
     }
+    lobby.give_telling_pass(hall.rt, tells);
     lobby.leave(hall.rt, entry, Some(pass));
     parted.was_of_use
 }

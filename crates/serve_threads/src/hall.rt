@@ -5,18 +5,20 @@ use crate::entry::Entry;
 use crate::lobby::Lobby;
 use crate::sockets::Manner;
 use event_journal::{Event, LinkPlace};
-use hub_parts::Locked;
 use link_threads::{LinkHost, LinkLog};
 use op_ids::ReplicaId;
 use pass_books::BookNames;
 use shared_desk::{Daemon, End, Ending};
-use shared_hub::{Checkpoint, Named, Shared};
+use shared_hub::{Checkpoint, Guarded, Pass, Shared};
 use std::alloc::{AllocError, Global};
 use std::net::TcpStream;
 use std::sync::{Mutex, Wait};
 
 /// How many sessions are served at once; the other passes are for links.
 const SESSIONS: usize = 32;
+
+/// How many links are served at once; each takes another pass for its thread that tells.
+const LINKS: usize = 8;
 
 /// How many WebSockets are told at once that there is no place for them.
 const REFUSED: usize = 8;
@@ -60,7 +62,8 @@ impl<'a, R: Wait, J: BookNames, C: Checkpoint> Hall<'a, R, J, C> {
     pub(crate) fn new(
         base: Base<'a, R, C>,
         own: ReplicaId,
-        named: Named<J>,
+        shared: Shared<J>,
+        passes: Vec<Pass<J>>,
         manner: Manner<'a>,
     ) -> Result<Hall<'a, R, J, C>, AllocError> {
         let Base {
@@ -68,15 +71,12 @@ impl<'a, R: Wait, J: BookNames, C: Checkpoint> Hall<'a, R, J, C> {
             alloc,
             checkpoint,
         } = base;
-        let Named { shared, passes } = named;
         let mut sessions = passes;
         let mut links = sessions.split_off(sessions.len().min(SESSIONS))?;
-        let others = if manner.port.is_some() {
-            OTHERS
-        } else {
-            links.len()
-        };
+        let mut telling = links.split_off(links.len().min(LINKS))?;
+        let others = if manner.port.is_some() { OTHERS } else { LINKS };
         let own_link = links.split_off(links.len().min(others))?;
+        let own_telling = telling.split_off(telling.len().min(others))?;
         Ok(Hall {
             rt,
             alloc,
@@ -85,8 +85,8 @@ impl<'a, R: Wait, J: BookNames, C: Checkpoint> Hall<'a, R, J, C> {
             shared,
             sessions: Lobby::new(alloc, sessions)?,
             refused: Lobby::without_passes(alloc, REFUSED)?,
-            links: Lobby::new(alloc, links)?,
-            own_link: Lobby::new(alloc, own_link)?,
+            links: Lobby::of_links(alloc, links, telling)?,
+            own_link: Lobby::of_links(alloc, own_link, own_telling)?,
             read_turn: Mutex::new(()),
             ending: Ending::new(),
             manner,
@@ -132,10 +132,10 @@ impl<'a, R: Wait, J: BookNames, C: Checkpoint> Hall<'a, R, J, C> {
         self.ending.asked(self.rt) == Some(End::Renewal) && !self.shared.are_links_over(self.rt)
     }
 
-    /// The locked part of the hub, once no thread shares it.
-    pub(crate) fn into_locked(self) -> Locked {
+    /// What stood under the hub's lock, once no thread shares it.
+    pub(crate) fn into_guarded(self) -> Guarded<J> {
         let Hall { shared, .. } = self;
-        shared.end().into_locked()
+        shared.end()
     }
 
     /// Lets a connection in, and gives its lobby and its entry; not where all places are taken. A

@@ -14,6 +14,7 @@ mod entry;
 mod hall;
 mod host;
 mod last_words;
+mod laws;
 mod lobby;
 mod pauses;
 mod rejoining;
@@ -29,6 +30,7 @@ mod web_sides;
 mod web_thread;
 
 pub use host::Host;
+pub use laws::what_was_settled_stays_over_turns;
 pub use rejoining::Joined;
 pub use renewing::serve_on;
 pub use serving::{Served, serve_all};

@@ -2,7 +2,8 @@
 
 use crate::accepting::{Kind, turn_away};
 use crate::entry::Entry;
-use pass_books::{BookNames, Pass};
+use pass_books::BookNames;
+use shared_hub::Pass;
 use std::alloc::{AllocError, Global};
 use std::net::{Shutdown, TcpStream};
 use std::rt::Clock;
@@ -20,6 +21,8 @@ pub(crate) struct Lobby<J: BookNames> {
 struct Inside<J: BookNames> {
     /// The passes that nobody has.
     passes: Vec<Pass<J>>,
+    /// Those of the threads that tell over links, for each link one.
+    telling: Vec<Pass<J>>,
     /// How many more connections may enter.
     places: usize,
     connected: Vec<Connected>,
@@ -40,24 +43,36 @@ struct Connected {
 impl<J: BookNames> Lobby<J> {
     /// Nobody is connected. An error is out of memory (1).
     pub(crate) fn new(alloc: Global, passes: Vec<Pass<J>>) -> Result<Lobby<J>, AllocError> {
+        Lobby::of_links(alloc, passes, Vec::new(alloc))
+    }
+
+    /// No link is connected; each has a pass, and another one for its thread that tells. An error
+    /// is out of memory (1).
+    pub(crate) fn of_links(
+        alloc: Global,
+        passes: Vec<Pass<J>>,
+        telling: Vec<Pass<J>>,
+    ) -> Result<Lobby<J>, AllocError> {
         let places = passes.len();
-        Lobby::with_places(alloc, passes, places)
+        Lobby::with_places(alloc, passes, telling, places)
     }
 
     /// Nobody is connected, and nobody will get a pass: so many are told that at once.
     pub(crate) fn without_passes(alloc: Global, places: usize) -> Result<Lobby<J>, AllocError> {
-        Lobby::with_places(alloc, Vec::new(alloc), places)
+        Lobby::with_places(alloc, Vec::new(alloc), Vec::new(alloc), places)
     }
 
     fn with_places(
         alloc: Global,
         passes: Vec<Pass<J>>,
+        telling: Vec<Pass<J>>,
         places: usize,
     ) -> Result<Lobby<J>, AllocError> {
         let connected = Vec::with_capacity(alloc, places)?;
         Ok(Lobby {
             inside: Mutex::new(Inside {
                 passes,
+                telling,
                 places,
                 connected,
                 entered: 0,
@@ -76,6 +91,16 @@ impl<J: BookNames> Lobby<J> {
     /// A pass, for a connection that is in.
     pub(crate) fn take_pass<R: Wait>(&self, rt: &R) -> Option<Pass<J>> {
         self.inside.lock(rt).passes.pop()
+    }
+
+    /// A pass for the thread that tells over a link that is in.
+    pub(crate) fn take_telling_pass<R: Wait>(&self, rt: &R) -> Option<Pass<J>> {
+        self.inside.lock(rt).telling.pop()
+    }
+
+    /// Gives the pass of a thread that told back.
+    pub(crate) fn give_telling_pass<R: Wait>(&self, rt: &R, pass: Pass<J>) {
+        let _ = self.inside.lock(rt).telling.push(pass);
     }
 
     /// Shuts a connection, and gives its place and its pass back.

@@ -1,5 +1,6 @@
 //! Serving one file for as long as nobody asks for a stop.
-ghost use Rattle.std.specs.Prelude.{◌≡◌, [], IfOk, IfErr};
+ghost use Rattle.std.specs.Prelude.{◌≡◌, IfOk, IfErr};
+ghost use Rattle.hub_parts.specs.Opening.{IsOpened};
 ghost use Rattle.recovery.specs.Faults.{failures_of};
 ghost use Rattle.serve_threads.specs.Turns.{Turns, IsNotOpened};
 
@@ -24,7 +25,7 @@ pub fn serve_on<'a, D: Disk + Drop, R: Host, C: Checkpoint + Sync>(
     sockets: Sockets<'a>,
     checkpoint: &'a C,
 ) -> Result<Served<'a, D>, OpenFault<D>>
-    requires { parts.locked.replica.steps ≡ [] }
+    requires { IsOpened parts.locked parts.flusher }
     // Each turn hands the disk back as `serve_all` does, and the next one opens that.
     ensures ok { IfOk result (λ served. Turns D.DiskFacts parts.flusher served.disk) }
     ensures err { IfErr result (λ fault.

@@ -1,7 +1,7 @@
 //! The daemon.
-ghost use Rattle.std.specs.Prelude.{◌≡◌, []};
-ghost use Rattle.hub_parts.specs.Flusher.{IsFlusher};
-ghost use Rattle.shared_hub.specs.Going.{Goes, ComesBack};
+ghost use Rattle.std.specs.Prelude.{◌≡◌, IfOk, IfErr};
+ghost use Rattle.hub_parts.specs.Opening.{IsOpened};
+ghost use Rattle.shared_hub.specs.Going.{Goes, ComesBack, FitsSome};
 
 use crate::accepting::{Kind, accept};
 use crate::doors::Doors;
@@ -12,10 +12,10 @@ use crate::sockets::Sockets;
 use disk_trait::Disk;
 use event_journal::{Event, Reason};
 use fixed_numbers::refusals::FAILED;
-use hub_parts::{Flusher, Locked, Parts};
+use hub_parts::{Flusher, Parts};
 use pass_books::BookNames;
 use shared_desk::End;
-use shared_hub::{Checkpoint, Opened, flush};
+use shared_hub::{Checkpoint, Committer, Named, Opened, flush};
 use std::alloc::{AllocError, Global};
 use std::marker::Brand;
 use std::net::{Net, TcpListener, TcpStream};
@@ -61,7 +61,7 @@ pub fn serve_all<'a, D: Disk + Drop, R: Host, C: Checkpoint + Sync>(
     sockets: Sockets<'a>,
     checkpoint: &'a C,
 ) -> Served<'a, D>
-    requires { parts.locked.replica.steps ≡ [] }
+    requires { IsOpened parts.locked parts.flusher }
     // What a crash leaves of the disk begins with what it left before.
     ensures { ComesBack D.DiskFacts parts.flusher result.disk }
 {
@@ -74,12 +74,16 @@ pub fn serve_all<'a, D: Disk + Drop, R: Host, C: Checkpoint + Sync>(
             };
             serve_named::<Brand, D, R, C>(base, opened, parts, sockets)
         }
-        Err(AllocError) => without_memory(parts.flusher),
+        Err(AllocError) => {
+            parts.locked.kept();
+            without_memory(parts.flusher)
+        }
     }
 }
 
 /// How the daemon ends that didn't begin.
 fn without_memory<'a, D: Disk>(flusher: Flusher<D>) -> Served<'a, D>
+    requires { FitsSome flusher }
     ensures { ComesBack D.DiskFacts flusher result.disk }
 {
     flusher.kept();
@@ -99,43 +103,70 @@ fn serve_named<'a, J: BookNames + Send + Sync, D: Disk + Drop, R: Host, C: Check
     sockets: Sockets<'a>,
 ) -> Served<'a, D>
     requires names { opened ≡ J.names }
-    requires fresh { parts.locked.replica.steps ≡ [] }
+    requires fresh { IsOpened parts.locked parts.flusher }
     ensures { ComesBack D.DiskFacts parts.flusher result.disk }
 {
-    let Parts { locked, flusher } = parts;
+    parts.locked.kept();
     let manner = sockets.manner();
-    let Some((hall, doors, joined)) = begin::<R, J, C>(base, opened, locked, sockets) else {
-        return without_memory(flusher);
+    let Begun {
+        hall,
+        doors,
+        joined,
+        committer,
+    } = match begin::<R, J, D, C>(base, opened, parts, sockets) {
+        Ok(begun) => begun,
+        Err(flusher) => return without_memory(flusher),
     };
-    let (has_begun, flusher) = run(&hall, flusher, &doors, joined);
+    let (has_begun, committer) = run(&hall, committer, &doors, joined);
     let renewal = if hall.is_renewed() {
         Some(Sockets::anew(doors, manner))
     } else {
         None
     };
-    let locked = hall.into_locked();
+    let mut guarded = hall.into_guarded();
+    let mut committer = committer;
+    guarded.audit_committer(&mut committer);
+    let locked = guarded.locked();
     Served {
-        has_failed: flusher.has_failed() || locked.settled() < locked.list().len(),
+        has_failed: committer.has_failed() || locked.settled() < locked.list().len(),
         has_begun,
-        disk: flusher.into_disk(),
+        disk: committer.into_flusher().into_disk(),
         renewal,
     }
 }
 
-/// What a turn begins with: what its threads share, its doors, and the peer that it joined. `None`
-/// is out of memory (1), or that the system has no more descriptors.
-fn begin<'a, R: Wait, J: BookNames, C: Checkpoint>(
+/// What a turn begins with: what its threads share, its doors, the peer that it joined, and what
+/// commits.
+#[derive(Drop)]
+struct Begun<'a, R: Wait, J: BookNames, D: Disk, C: Checkpoint> {
+    hall: Hall<'a, R, J, C>,
+    doors: Doors,
+    joined: Option<Joined>,
+    committer: Committer<J, D>,
+}
+
+/// Begins a turn. An error is out of memory (1), or that the system has no more descriptors, and
+/// gives the flusher back.
+fn begin<'a, R: Wait, J: BookNames, D: Disk, C: Checkpoint>(
     base: Base<'a, R, C>,
     opened: Opened,
-    locked: Locked,
+    parts: Parts<D>,
     sockets: Sockets<'a>,
-) -> Option<(Hall<'a, R, J, C>, Doors, Option<Joined>)>
+) -> Result<Begun<'a, R, J, D, C>, Flusher<D>>
     requires names { opened ≡ J.names }
-    requires fresh { locked.replica.steps ≡ [] }
+    requires fresh { IsOpened parts.locked parts.flusher }
+    ensures begun { IfOk result (λ it. it.committer.flusher ≡ parts.flusher) }
+    ensures refused { IfErr result (λ flusher. flusher ≡ parts.flusher) }
 {
-    let own = locked.replica();
-    let named = opened.share::<J>(base.alloc, locked).ok()?;
-    let hall = Hall::new(base, own, named, sockets.manner()).ok()?;
+    let own = parts.locked.replica();
+    let Named {
+        shared,
+        committer,
+        passes,
+    } = opened.share::<J, D>(base.alloc, parts)?;
+    let Ok(hall) = Hall::new(base, own, shared, passes, sockets.manner()) else {
+        return Err(committer.into_flusher());
+    };
     let Sockets {
         sessions,
         peers,
@@ -143,30 +174,35 @@ fn begin<'a, R: Wait, J: BookNames, C: Checkpoint>(
         joined,
         ..
     } = sockets;
-    let doors = Doors::new(sessions, peers, web).ok()?;
-    Some((hall, doors, joined))
+    let Ok(doors) = Doors::new(sessions, peers, web) else {
+        return Err(committer.into_flusher());
+    };
+    Ok(Begun {
+        hall,
+        doors,
+        joined,
+        committer,
+    })
 }
 
 /// Starts the threads, waits until one asks to end, and ends them all. First comes the one that
 /// ends the others: without it nobody is let in. This thread is the flusher's. Answers whether all
-/// could be started, where not, they end at once; and gives the flusher back.
+/// could be started, where not, they end at once; and gives back what commits.
 fn run<J: BookNames + Send + Sync, D: Disk + Drop, R: Host, C: Checkpoint + Sync>(
     hall: &Hall<R, J, C>,
-    flusher: Flusher<D>,
+    committer: Committer<J, D>,
     doors: &Doors,
     joined: Option<Joined>,
-) -> (bool, Flusher<D>)
-    ensures kept { IsFlusher D.DiskFacts result.1 }
-    ensures goes { Goes D.DiskFacts flusher result.1 }
+) -> (bool, Committer<J, D>)
+    ensures { Goes D.DiskFacts committer.flusher result.1.flusher }
 {
     thread::scope(
         thread::scope_env(),
         hall.rt,
-        move |scope| -> (bool, Flusher<D>)
-            ensures kept { IsFlusher D.DiskFacts result.1 }
-            ensures goes { Goes D.DiskFacts flusher result.1 }
+        move |scope| -> (bool, Committer<J, D>)
+            ensures { Goes D.DiskFacts committer.flusher result.1.flusher }
         {
-            let mut flusher = flusher;
+            let mut committer = committer;
             let ending = scope.spawn(move || end_when_asked(hall, doors));
             if ending.is_err() {
                 end_at_once(hall, doors);
@@ -185,8 +221,8 @@ fn run<J: BookNames + Send + Sync, D: Disk + Drop, R: Host, C: Checkpoint + Sync
             if !has_begun {
                 hall.ending.ask(hall.rt, End::Stop);
             }
-            flush_to_the_end(hall, &mut flusher);
-            (has_begun, flusher)
+            flush_to_the_end(hall, &mut committer);
+            (has_begun, committer)
         },
     )
 }
@@ -195,14 +231,12 @@ fn run<J: BookNames + Send + Sync, D: Disk + Drop, R: Host, C: Checkpoint + Sync
 /// to end, where it is to end for that: those who wait for a settlement were told before.
 fn flush_to_the_end<D: Disk, R: Wait + Clock, J: BookNames, C: Checkpoint>(
     hall: &Hall<R, J, C>,
-    flusher: &mut Flusher<D>,
+    committer: &mut Committer<J, D>,
 )
-    ensures kept { IsFlusher D.DiskFacts flusher.new }
-    ensures goes { Goes D.DiskFacts flusher.old flusher.new }
+    ensures { Goes D.DiskFacts committer.old.flusher committer.new.flusher }
 {
-    flush(hall.rt, &hall.shared, flusher, hall.checkpoint);
-    flusher.kept();
-    if flusher.has_failed() {
+    flush(hall.rt, &hall.shared, committer, hall.checkpoint);
+    if committer.has_failed() {
         tell_failure(hall);
     }
 }

@@ -1,5 +1,5 @@
 -- What is answered to an edit that was made before, under its token, and is settled.
-use Rattle.std.proofs.Common.{◌≡◌, ℕ, ◌≤◌, ◌&&◌, Bool, true, false, List, [], ◌∷◌, Option, Some, refl, sym, ap, ◌∙◌, subst, inl, inr, arith}
+use Rattle.std.proofs.Common.{◌≡◌, ℕ, ◌≤◌, ◌&&◌, Bool, true, false, List, [], ◌∷◌, Option, Some, None, refl, sym, ap, ◌∙◌, subst, inl, inr, arith}
 use Rattle.std.specs.Prelude.{is_none}
 use Rattle.disk_trait.specs.declared.facts.DiskFacts.{Ghosts}
 use Rattle.op_model.specs.Actions.{Asked}
@@ -15,7 +15,8 @@ use Rattle.session_lines.specs.declared.answer.Answer.TheVariants.{Edited, Text,
 use Rattle.session_lines.specs.declared.answer.Answer.TheVariants.{Status, Peers, Stopped, Done, Refused, RefusedAt}
 use Rattle.session_threads.specs.ActsOnce.{ChangesNothing}
 use Rattle.session_threads.specs.HeldDesk.{HeldDesk}
-use Rattle.session_threads.specs.HubServing.{comes_too_late, Acknowledge, at_once, after_commit, AnswersEdit, ServesEdit}
+use Rattle.session_lines.specs.declared.refusal.Refusal.{Refusal}
+use Rattle.session_threads.specs.HubServing.{comes_too_late, Acknowledge, at_once, after_commit, AnswersEdit, IsRefusedEdit, ServesEdit}
 
 -- an edit that was made before gets its ticket, and the state stays
 pub record StaysKnown (s next : State) (given t : Ticket) : Type 0 where
@@ -54,6 +55,11 @@ module _ {D : Type 0} (facts : Ghosts D) where
   acknowledged_at_once mid new given acks settled (after_commit commit only is) calls =
       let (behind, one, more) = subst (λ k. Calls facts mid k new) is calls in absurd (never_open mid behind given settled one)
 
+  known_never_refused : (session : ℕ) (old new : Parts D) (e : Asked) (t : Ticket) (refusal : Refusal) (place : Option ℕ)
+      → known_ticket old.replica e ≡ Some t → IsRefusedEdit facts session old new e refusal place → ⊥
+  known_never_refused session old new e t refusal place found it =
+      let (mid, one, same) = it.calls in never_refused (state_of old) (state_of mid) session e (number_of refusal) t found one.step
+
   answered_known : (session : ℕ) (old new : Parts D) (e : Asked) (t : Ticket) (answer : Answer) → known_ticket old.replica e ≡ Some t
       → t.end ≤ old.replica.settled → AnswersEdit facts session old e answer new
       → (answer ≡ Edited t.rev) × (new.store ≡ old.store) × (new.replica.list ≡ old.replica.list)
@@ -65,8 +71,7 @@ module _ {D : Type 0} (facts : Ghosts D) where
         store ∙ one.store,
         list ∙ ap (λ (s : State). s.held.list) known.stays,
       )
-  answered_known session old new e t (Refused refusal) found settled (inl (mid, one, same)) =
-      absurd (never_refused (state_of old) (state_of mid) session e (number_of refusal) t found one.step)
+  answered_known session old new e t (Refused refusal) found settled (inl it) = absurd (known_never_refused session old new e t refusal None found it)
   answered_known session old new e t (Refused refusal) found settled (inr (failed, it)) =
       let (mid, one, behind) = it.calls in
       let known = known_stays (state_of old) (state_of mid) session e it.given t found one.step in
@@ -80,7 +85,7 @@ module _ {D : Type 0} (facts : Ghosts D) where
   answered_known session old new e t (Peers peers sessions) found settled never = absurd never
   answered_known session old new e t Stopped found settled never = absurd never
   answered_known session old new e t Done found settled never = absurd never
-  answered_known session old new e t (RefusedAt refusal at) found settled never = absurd never
+  answered_known session old new e t (RefusedAt refusal at) found settled it = absurd (known_never_refused session old new e t refusal (Some at) found it)
 
   -- what was made before doesn't come too late
   in_time : (stopping : Bool) (found : Option Ticket) (t : Ticket) → found ≡ Some t → (stopping && is_none found) ≡ false

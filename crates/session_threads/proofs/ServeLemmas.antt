@@ -1,8 +1,8 @@
 -- What is answered to an edit.
-use Rattle.std.proofs.Common.{◌≡◌, ℕ, ◌≤◌, Bool, true, false, ◌∷◌, [], ◌++◌, length, IsTrue, refl, sym, ap, subst, inl, inr, arith}
+use Rattle.std.proofs.Common.{◌≡◌, ℕ, ◌≤◌, Bool, true, false, ◌∷◌, [], ◌++◌, length, Option, Some, None, IsTrue, refl, sym, ap, subst, inl, inr, arith}
 use Rattle.disk_trait.specs.declared.facts.DiskFacts.{Ghosts}
 use Rattle.op_model.specs.Actions.{Asked}
-use Rattle.op_model.specs.Machine.{Ticket, edit, ack, ticket, acknowledged, refused}
+use Rattle.op_model.specs.Machine.{State, Ticket, edit, ack, ticket, acknowledged, refused}
 use Rattle.locked_replica.specs.Calls.{IsCall}
 use Rattle.locked_replica.specs.Hub.{Parts, state_of}
 use Rattle.session_lines.specs.Saying.{number_of}
@@ -12,7 +12,8 @@ use Rattle.session_lines.specs.declared.answer.Answer.TheVariants.{Status, Peers
 use Rattle.session_lines.specs.declared.refusal.Refusal.{Refusal}
 use Rattle.session_lines.specs.declared.refusal.Refusal.TheVariants.{Failed}
 use Rattle.session_threads.specs.HubCalls.{IsQuiet, Commits, is_edit_refusal}
-use Rattle.session_threads.specs.HubServing.{AnswersEdit, AnswersTicket, at_once, after_commit}
+use Rattle.replica_core.specs.RefusedAt.{place_told}
+use Rattle.session_threads.specs.HubServing.{refused_answer, AnswersEdit, AnswersTicket, IsRefusedEdit, at_once, after_commit}
 use Rattle.session_threads.proofs.CallLemmas.{Calls-append, one_call}
 use Rattle.hub_parts.proofs.TicketEnds.{ticket_within}
 use Rattle.session_threads.proofs.EditLemmas.{edit_refusals, edit_is_quiet, refused_is_quiet, acknowledges, ack_is_quiet}
@@ -36,12 +37,22 @@ module _ {D : Type 0} (facts : Ghosts D) where
   answered session old between new e t Done call never = absurd never
   answered session old between new e t (RefusedAt refusal at) call never = absurd never
 
-  -- a refusal of the hub is answered by its number
-  pub answered_refusal : (session : ℕ) (old new : Parts D) (e : Asked) (refusal : Refusal) (n : ℕ) → number_of refusal ≡ n
-      → IsCall facts (edit session e) (refused n) old new → AnswersEdit facts session old e (Refused refusal) new
-  answered_refusal session old new e refusal n same call =
-      inl (one_call facts old new (edit session e) (refused (number_of refusal))
-      (subst (λ k. IsCall facts (edit session e) (refused k) old new) (sym same) call))
+  answered_place : (session : ℕ) (old new : Parts D) (e : Asked) (refusal : Refusal) (place : Option ℕ)
+      → IsRefusedEdit facts session old new e refusal place → AnswersEdit facts session old e (refused_answer refusal place) new
+  answered_place session old new e refusal None it = inl it
+  answered_place session old new e refusal (Some at) it = it
+
+  -- a refusal of the hub is answered by its number, and with the place of the change that it is for
+  pub answered_refusal : (session : ℕ) (old new : Parts D) (e : Asked) (refusal : Refusal) (n : ℕ) (answer : Answer) → number_of refusal ≡ n
+      → IsCall facts (edit session e) (refused n) old new → answer ≡ refused_answer refusal (place_told new.replica e (number_of refusal))
+      → AnswersEdit facts session old e answer new
+  answered_refusal session old new e refusal n answer same call is =
+      let it : IsRefusedEdit facts session old new e refusal (place_told new.replica e (number_of refusal)) = record {
+        calls = one_call facts old new (edit session e) (refused (number_of refusal))
+            (subst (λ k. IsCall facts (edit session e) (refused k) old new) (sym same) call);
+        told = sym (ap (λ (s : State). place_told s.held e (number_of refusal)) call.step.1);
+      } in
+      subst (λ a. AnswersEdit facts session old e a new) (sym is) (answered_place session old new e refusal (place_told new.replica e (number_of refusal)) it)
 
   pub can_be_refused : (session : ℕ) (old new : Parts D) (e : Asked) (n : ℕ) → IsCall facts (edit session e) (refused n) old new → IsTrue (is_edit_refusal n)
   can_be_refused session old new e n call = edit_refusals (state_of old) (state_of new) session e n call.step

@@ -28,7 +28,7 @@ module _ {D : Type 0} (facts : Ghosts D) where
 
   edit_goes : (session : ℕ) (old new : Parts D) (e : Asked) (answer : Answer) → AnswersEdit facts session old e answer new → Goes old new
   edit_goes session old new e (Edited rev) it = ((edit session e, ticket it.given) ∷ it.acks, it.calls)
-  edit_goes session old new e (Refused refusal) (inl calls) = ((edit session e, refused (number_of refusal)) ∷ [], calls)
+  edit_goes session old new e (Refused refusal) (inl it) = ((edit session e, refused (number_of refusal)) ∷ [], it.calls)
   edit_goes session old new e (Refused refusal) (inr (failed, it)) = ((edit session e, ticket it.given) ∷ (ack it.given, acknowledged false) ∷ it.commit, it.calls)
   edit_goes session old new e (Text rev text) never = absurd never
   edit_goes session old new e (Spans rev spans) never = absurd never
@@ -39,7 +39,7 @@ module _ {D : Type 0} (facts : Ghosts D) where
   edit_goes session old new e (Peers peers sessions) never = absurd never
   edit_goes session old new e Stopped never = absurd never
   edit_goes session old new e Done never = absurd never
-  edit_goes session old new e (RefusedAt refusal at) never = absurd never
+  edit_goes session old new e (RefusedAt refusal at) it = ((edit session e, refused (number_of refusal)) ∷ [], it.calls)
 
   -- an edit that comes too late changes nothing
   edit_goes_unless : (late : Bool) (old new : HeldDesk D) (e : Asked) (answer : Answer) → comes_too_late old e ≡ late

@@ -1,5 +1,6 @@
 -- What a desk over a hub answers to a command, and what it makes of the hub.
-use Rattle.std.specs.Prelude.{◌≡◌, ◌≢◌, ◌⊎◌, ℕ, Bool, true, false, ◌&&◌, List, [], ◌∷◌, ◌++◌, length, is_none, if◌then◌else◌}
+use Rattle.std.specs.Prelude.{◌≡◌, ◌≢◌, ◌⊎◌, ℕ, Bool, true, false, ◌&&◌, List, [], ◌∷◌, ◌++◌, length, if◌then◌else◌}
+use Rattle.std.specs.Prelude.{Option, Some, None, is_none}
 use Rattle.disk_trait.specs.declared.facts.DiskFacts.{Ghosts}
 use Rattle.op_model.specs.Actions.{Asked}
 use Rattle.op_model.specs.declared.change_step.ChangeStep.{ChangeStep}
@@ -13,13 +14,15 @@ use Rattle.hub_parts.specs.declared.meeting.TheConstants.{BEGIN_TRIES}
 use Rattle.locked_replica.specs.Hub.{Parts, state_of}
 use Rattle.replica_core.specs.Changed.{AreChangesSince}
 use Rattle.replica_core.specs.Places.{anchors_of, are_within, places_of}
+use Rattle.replica_core.specs.RefusedAt.{place_told}
 use Rattle.session_lines.specs.Saying.{number_of}
 use Rattle.session_lines.specs.declared.command.Command.{Command}
 use Rattle.session_lines.specs.declared.command.Command.TheVariants as command
 use Rattle.session_lines.specs.declared.answer.Answer.{Answer}
-use Rattle.session_lines.specs.declared.answer.Answer.TheVariants.{Edited, Text, Spans, Changes, Anchors, Places, Status, Peers, Stopped, Refused}
+use Rattle.session_lines.specs.declared.answer.Answer.TheVariants.{Edited, Text, Spans, Changes, Anchors, Places, Status, Peers, Stopped, Refused, RefusedAt}
 use Rattle.session_lines.specs.declared.answer.State.{State}
 use Rattle.session_lines.specs.declared.answer.State.TheVariants as state
+use Rattle.session_lines.specs.declared.refusal.Refusal.{Refusal}
 use Rattle.session_lines.specs.declared.refusal.Refusal.TheVariants.{Memory, Range, Stale, Failed, Stopping}
 use Rattle.session_threads.specs.HeldDesk.{HeldDesk}
 use Rattle.locked_replica.specs.Run.{Calls}
@@ -87,6 +90,11 @@ pub data Acknowledge (t : Ticket) (calls : List (Event × Reply)) : Type 0 where
   after_commit : (commit : List (Event × Reply)) → AreOfCommit BEGIN_TRIES commit
       → calls ≡ (ack t, acknowledged false) ∷ commit ++ (ack t, acknowledged true) ∷ [] → Acknowledge t calls
 
+-- the answer to an edit that is refused names a change, if there is one to name
+abbrev pub refused_answer : Refusal → Option ℕ → Answer
+refused_answer refusal None = Refused refusal
+refused_answer refusal (Some at) = RefusedAt refusal at
+
 module _ {D : Type 0} (facts : Ghosts D) where
   -- the hub gave a ticket for the session's edit, and then the ticket was acknowledged: only so an edit is answered
   pub record IsAcknowledged (session : ℕ) (old new : Parts D) (e : Asked) (rev : ℕ) : Type 0 where
@@ -104,12 +112,18 @@ module _ {D : Type 0} (facts : Ghosts D) where
     pub calls : Calls facts old ((edit session e, ticket given) ∷ (ack given, acknowledged false) ∷ commit) new
     pub cause : CannotSettle (state_of new) commit
 
-  -- a session's edit is acknowledged; or the hub refused it so; or it is answered as failed
+  -- the hub refused it so, and with 5 or 7 this is the one of several changes that it was refused for
+  pub record IsRefusedEdit (session : ℕ) (old new : Parts D) (e : Asked) (refusal : Refusal) (place : Option ℕ) : Type 0 where
+    pub calls : Calls facts old ((edit session e, refused (number_of refusal)) ∷ []) new
+    pub told : place_told old.replica e (number_of refusal) ≡ place
+
+  -- A session's edit is acknowledged; or the hub refused it so, and the answer names a change exactly where there are several and the
+  -- refusal is for one of them; or it is answered as failed.
   abbrev pub AnswersEdit : ℕ → Parts D → Asked → Answer → Parts D → Type 0
   AnswersEdit session old e (Edited rev) new = IsAcknowledged session old new e rev
   AnswersEdit session old e (Refused refusal) new =
-      Calls facts old ((edit session e, refused (number_of refusal)) ∷ []) new
-      ⊎ ((refusal ≡ Failed) × IsLeftOpen session old new e)
+      IsRefusedEdit session old new e refusal None ⊎ ((refusal ≡ Failed) × IsLeftOpen session old new e)
+  AnswersEdit session old e (RefusedAt refusal at) new = IsRefusedEdit session old new e refusal (Some at)
   AnswersEdit session old e _ new = ⊥
 
   -- a ticket was acknowledged; or it wasn't settled, and then not all could be settled

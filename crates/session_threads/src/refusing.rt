@@ -1,6 +1,7 @@
 //! Why an edit isn't served.
 ghost use Rattle.std.specs.Prelude.{◌≡◌, ◌≢◌, IsTrue};
 ghost use Rattle.replica_core.specs.Refusal.{number_of as number_of_replica};
+ghost use Rattle.replica_core.specs.RefusedAt.{is_for_a_change as is_for_a_change_of};
 ghost use Rattle.session_lines.specs.Saying.{number_of};
 ghost use Rattle.session_lines.specs.declared.refusal.Refusal.TheVariants.{Stopping};
 ghost use Rattle.session_threads.specs.HubCalls.{is_edit_refusal};
@@ -27,5 +28,15 @@ pub fn edit_refusal(refusal: ReplicaRefusal) -> Refusal
         | ReplicaRefusal::Document
         | ReplicaRefusal::StoreLimit
         | ReplicaRefusal::BadOperation => unreachable!(),
+    }
+}
+
+/// Whether an edit is refused so for one of its changes: with `Range` (5) or `Limit` (7).
+pub(crate) fn is_for_a_change(refusal: Refusal) -> bool
+    ensures { result ≡ is_for_a_change_of (number_of refusal) }
+{
+    match refusal {
+        Refusal::Range | Refusal::Limit => true,
+        _ => false,
     }
 }

@@ -1,13 +1,12 @@
 -- What a desk over a shared hub answers to a command, and what it makes of its pass.
-use Rattle.std.specs.Prelude.{◌≡◌, ◌≢◌, ◌⊎◌, ℕ, ◌≤◌, ◌<◌, Bool, true, false, None, List, All, length}
+use Rattle.std.specs.Prelude.{◌≡◌, ◌≢◌, ◌⊎◌, ℕ, ◌≤◌, ◌<◌, Bool, true, false, Option, Some, None, List, All, length}
 use Rattle.op_model.specs.Actions.{Asked}
 use Rattle.op_model.specs.declared.lasting.Lasting.{Lasting}
 use Rattle.op_model.specs.declared.lasting.Neighbour.{Neighbour}
 use Rattle.op_model.specs.Text.{text, rev}
 use Rattle.op_model.specs.Spans.{spans}
-use Rattle.op_model.specs.Machine.{Ticket, edit, ack, ticket, acknowledged, refused, known_ticket}
+use Rattle.op_model.specs.Machine.{Ticket, edit, ack, ticket, acknowledged, known_ticket}
 use Rattle.hub_parts.specs.Refusal.{number_of as number_of_locked}
-use Rattle.pass_books.specs.Accounts.{PassHeld}
 use Rattle.peer_counts.specs.declared.peer_counts.PeerCounts.{PeerCounts}
 use Rattle.session_lines.specs.Saying.{number_of}
 use Rattle.session_lines.specs.declared.command.Command.{Command}
@@ -22,40 +21,47 @@ use Rattle.session_lines.specs.declared.refusal.Refusal.TheVariants.{Memory, Fai
 use Rattle.replica_core.specs.Places.{places_of}
 use Rattle.session_threads.specs.HubServing.{anchors_answer, AnswersChanges}
 use Rattle.session_threads.specs.HubCalls.{is_edit_refusal as is_hub_refusal}
+use Rattle.shared_hub.specs.Books.{PassHeld}
+use Rattle.shared_hub.specs.Guarded.{after_ticket}
 use Rattle.shared_hub.specs.Peers.{IsCounted}
-use Rattle.shared_hub.specs.Shared.{HappensTo, Moment, MomentOf}
+use Rattle.shared_hub.specs.Shared.{EntersTo, Moment, MomentOf, RefusesEdit}
 use Rattle.shared_hub.specs.declared.refusal.SharedRefusal.{SharedRefusal}
 use Rattle.shared_hub.specs.declared.refusal.SharedRefusal.TheVariants as refused_as
 
 -- an edit may be refused so: as by a hub that is held alone, or since the hub was asked to stop
 abbrev pub is_edit_refusal : SharedRefusal → Bool
 is_edit_refusal (refused_as.Locked e) = is_hub_refusal (number_of_locked e)
+is_edit_refusal (refused_as.Change e at) = is_hub_refusal (number_of_locked e)
 is_edit_refusal refused_as.Stopping = true
 
--- the hub gave a ticket for the edit, and later the ticket was acknowledged: only so an edit is answered
+-- the hub gave a ticket for the edit, and later the ticket was acknowledged, each at a moment that the pass has entered: only so an edit is
+-- answered
 pub record IsAcknowledged (old : PassHeld) (e : Asked) (rev : ℕ) (new : PassHeld) : Type 0 where
   pub given : Ticket
-  pub edited : HappensTo old new (edit old.number e) (ticket given)
-  pub acked : HappensTo new new (ack given) (acknowledged true)
+  pub between : PassHeld
+  pub edited : EntersTo old (after_ticket given old) between (edit old.number e) (ticket given)
+  pub acked : EntersTo between between new (ack given) (acknowledged true)
   pub same : given.rev ≡ rev
 
 -- the hub gave a ticket, which at some moment wasn't settled; what became of it isn't known: the device failed, or no commit could
 -- begin
 pub record IsLeftOpen (old : PassHeld) (e : Asked) (new : PassHeld) : Type 0 where
   pub given : Ticket
-  pub edited : HappensTo old new (edit old.number e) (ticket given)
+  pub edited : EntersTo old (after_ticket given old) new (edit old.number e) (ticket given)
   pub unsettled : MomentOf new (λ l. l.replica.settled < given.end)
 
--- the hub refused the edit with this number; or it was asked to stop before, and at some moment no edit was made under its token
-pub record IsRefusedEdit (old : PassHeld) (e : Asked) (refusal : Refusal) (new : PassHeld) : Type 0 where
+-- the hub refused the edit with this number, and for this one of several changes, if it was for one; or it was asked to stop before, and at
+-- some moment no edit was made under its token
+pub record IsRefusedEdit (old : PassHeld) (e : Asked) (refusal : Refusal) (place : Option ℕ) (new : PassHeld) : Type 0 where
   pub same : new ≡ old
-  pub cause : refusal ≢ Stopping → HappensTo old old (edit old.number e) (refused (number_of refusal))
+  pub cause : refusal ≢ Stopping → RefusesEdit old e (number_of refusal) place
   pub stopped : refusal ≡ Stopping → MomentOf old (λ l. known_ticket l.replica e ≡ None)
 
 -- an edit is acknowledged; or the hub refused it so; or it is answered as failed
 abbrev pub ServesEdit : PassHeld → Asked → Answer → PassHeld → Type 0
 ServesEdit old e (Edited rev) new = IsAcknowledged old e rev new
-ServesEdit old e (Refused refusal) new = IsRefusedEdit old e refusal new ⊎ ((refusal ≡ Failed) × IsLeftOpen old e new)
+ServesEdit old e (Refused refusal) new = IsRefusedEdit old e refusal None new ⊎ ((refusal ≡ Failed) × IsLeftOpen old e new)
+ServesEdit old e (RefusedAt refusal at) new = (refusal ≢ Stopping) × IsRefusedEdit old e refusal (Some at) new
 ServesEdit old e (Text rev t) new = ⊥
 ServesEdit old e (Spans rev s) new = ⊥
 ServesEdit old e (Changes rev changes) new = ⊥
@@ -65,7 +71,6 @@ ServesEdit old e (Status applied settled s) new = ⊥
 ServesEdit old e (Peers peers sessions) new = ⊥
 ServesEdit old e Stopped new = ⊥
 ServesEdit old e Done new = ⊥
-ServesEdit old e (RefusedAt refusal at) new = ⊥
 
 -- the text of a document at some moment, at which the pass's entries were the kept steps of its number; or out of memory
 abbrev pub ServesText : PassHeld → ℕ → Answer → PassHeld → Type 0

@@ -2,8 +2,8 @@
 ghost use Rattle.std.specs.Prelude.{◌≡◌};
 
 use crate::ending::Ending;
-use pass_books::{BookNames, Pass};
-use shared_hub::{Checkpoint, Shared};
+use pass_books::BookNames;
+use shared_hub::{Checkpoint, Pass, Shared};
 use std::marker::Model;
 use std::sync::{Mutex, Wait};
 
@@ -28,7 +28,7 @@ pub struct SharedDesk<'a, R: Wait, J: BookNames, C: Checkpoint> {
 }
 
 impl<'a, R: Wait, J: BookNames, C: Checkpoint> Model for SharedDesk<'a, R, J, C> {
-    ghost use Rattle.pass_books.specs.Accounts.{PassHeld};
+    ghost use Rattle.shared_hub.specs.Books.{PassHeld};
 
     ghost Value = { PassHeld };
 

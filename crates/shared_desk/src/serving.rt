@@ -4,6 +4,7 @@ ghost use Rattle.hub_parts.specs.Refusal.{number_of as number_of_locked};
 ghost use Rattle.session_lines.specs.Saying.{number_of};
 ghost use Rattle.session_lines.specs.declared.refusal.Refusal.TheVariants.{Stopping};
 ghost use Rattle.session_threads.specs.HubCalls.{is_edit_refusal as is_hub_refusal};
+ghost use Rattle.session_threads.specs.HubServing.{refused_answer as refused_answer_of};
 ghost use Rattle.shared_hub.specs.Refusal.{number_of as number_of_shared};
 ghost use Rattle.shared_hub.specs.declared.refusal.SharedRefusal.TheVariants.{Stopping as AskedToStop};
 ghost use Rattle.shared_desk.specs.Serving.{is_edit_refusal, ServesEdit, ServesText, ServesSpans, ServesChanges, ServesAnchors, ServesPlaces};
@@ -74,11 +75,12 @@ impl<'a, R: Wait, J: BookNames, C: Checkpoint> SharedDesk<'a, R, J, C> {
                 }
             }
             Err(refusal) => {
+                let place = refusal.place();
                 let refusal = refusal_of(refusal);
                 if refusal == Refusal::Steps {
                     self.daemon.ending.ask(self.daemon.rt, End::Renewal);
                 }
-                Answer::Refused(refusal)
+                refused_answer(refusal, place)
             }
         }
     }
@@ -213,6 +215,20 @@ impl<'a, R: Wait, J: BookNames, C: Checkpoint> SharedDesk<'a, R, J, C> {
     }
 }
 
+/// The answer to an edit that is refused, which names the change of several that it is for, if it
+/// is for one of them.
+fn refused_answer(refusal: Refusal, place: Option<usize>) -> Answer
+    ensures { result ≡ refused_answer_of refusal place }
+{
+    match place {
+        Some(at) => Answer::RefusedAt {
+            refusal,
+            at: at as u64,
+        },
+        None => Answer::Refused(refusal),
+    }
+}
+
 /// Why an edit isn't served, by why the hub refuses it.
 fn refusal_of(refusal: SharedRefusal) -> Refusal
     requires { is_edit_refusal refusal ≡ true }
@@ -221,6 +237,7 @@ fn refusal_of(refusal: SharedRefusal) -> Refusal
 {
     match refusal {
         SharedRefusal::Locked(refusal) => refusal_of_locked(refusal),
+        SharedRefusal::Change(refusal, _) => refusal_of_locked(refusal),
         SharedRefusal::Stopping => Refusal::Stopping,
     }
 }

@@ -10,21 +10,35 @@ use Rattle.op_model.specs.Replay.{Kept, edited, merged, settlement}
 use Rattle.op_model.specs.declared.op.Op.{Op}
 use Rattle.op_model.specs.Held.{with_edit, with_merge}
 use Rattle.hub_parts.specs.Locked.{LockedHeld}
-use Rattle.pass_books.specs.Accounts.{PassHeld}
-use Rattle.shared_hub.specs.Books.{ends_of, BooksFit}
+use Rattle.shared_hub.specs.Books.{PassHeld, ends_of, BooksFit}
 
 -- what was put at a place stands there
-put_there : (xs : List (List ℕ)) (n : ℕ) (x y : List ℕ) → slice_get (slice_set xs n x) n ≡ Some y → y ≡ x
+pub put_there : {A : Type 0} (xs : List (List A)) (n : ℕ) (x y : List A) → slice_get (slice_set xs n x) n ≡ Some y → y ≡ x
 put_there xs n x y found =
     let within : n < length xs = omega (arith, slice_get_within (slice_set xs n x) n y found, length-set xs n x) in
     sym (get_or_from_slice_get (slice_set xs n x) n y [] found) ∙ get_or-set_same xs n x [] within
 
 -- and other places are as before
-put_elsewhere : (xs : List (List ℕ)) (n m : ℕ) (x y : List ℕ) → m ≢ n → slice_get (slice_set xs n x) m ≡ Some y → slice_get xs m ≡ Some y
+pub put_elsewhere : {A : Type 0} (xs : List (List A)) (n m : ℕ) (x y : List A) → m ≢ n → slice_get (slice_set xs n x) m ≡ Some y → slice_get xs m ≡ Some y
 put_elsewhere xs n m x y other found =
     let within : m < length xs = omega (arith, slice_get_within (slice_set xs n x) m y found, length-set xs n x) in
     slice_get-get_or xs m [] within
     ∙ ap Some (sym (get_or-set_other xs n m x [] other) ∙ get_or_from_slice_get (slice_set xs n x) m y [] found)
+
+-- a place that holds something holds what is put there
+pub set_there : {A : Type 0} (xs : List (List A)) (n : ℕ) (x y : List A) → slice_get xs n ≡ Some y → slice_get (slice_set xs n x) n ≡ Some x
+set_there xs n x y found =
+    let within : n < length xs = slice_get_within xs n y found in
+    let inside : n < length (slice_set xs n x) = omega (arith, within, length-set xs n x) in
+    slice_get-get_or (slice_set xs n x) n [] inside ∙ ap Some (get_or-set_same xs n x [] within)
+
+-- and the others hold what they held
+pub set_elsewhere : {A : Type 0} (xs : List (List A)) (n m : ℕ) (x y : List A) → m ≢ n → slice_get xs m ≡ Some y → slice_get (slice_set xs n x) m ≡ Some y
+set_elsewhere xs n m x y other found =
+    let within : m < length xs = slice_get_within xs m y found in
+    let inside : m < length (slice_set xs n x) = omega (arith, within, length-set xs n x) in
+    slice_get-get_or (slice_set xs n x) m [] inside
+    ∙ ap Some (get_or-set_other xs n m x [] other ∙ get_or_from_slice_get xs m y [] found)
 
 -- a book behind one entry more in the book of a number: that one has it, all others are as before
 behind_entry : (steps : List Kept) (books : List (List ℕ)) (n m end : ℕ) (entries es : List ℕ) → BooksFit steps books → entries ≡ ends_of n steps

@@ -1,7 +1,11 @@
 pub mod Books
+pub mod Committing
+pub mod Crashes
 pub mod Going
 pub mod Guarded
+pub mod Moments
 pub mod Peers
+pub mod Promises
 pub mod Refusal
 pub mod Shared
 pub mod Watching

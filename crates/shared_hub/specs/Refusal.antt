@@ -1,5 +1,5 @@
 -- Why a shared hub refuses a call, and the machine's answers.
-use Rattle.std.specs.Prelude.{ℕ, List, Result, Ok, Err}
+use Rattle.std.specs.Prelude.{ℕ, List, Option, Some, None, Result, Ok, Err}
 use Rattle.std.specs.Global.{Vec}
 use Rattle.fixed_numbers.specs.declared.refusals.TheConstants.{STOPPING}
 use Rattle.op_model.specs.declared.op.Op.{Op}
@@ -13,7 +13,14 @@ use Rattle.shared_hub.specs.declared.refusal.SharedRefusal.TheVariants as refusa
 -- each refusal has one number
 abbrev pub number_of : SharedRefusal → ℕ
 number_of (refusal.Locked e) = number_of_locked e
+number_of (refusal.Change e at) = number_of_locked e
 number_of refusal.Stopping = STOPPING
+
+-- the change of several that is told with it, if there is one
+abbrev pub told_at : SharedRefusal → Option ℕ
+told_at (refusal.Locked e) = None
+told_at (refusal.Change e at) = Some at
+told_at refusal.Stopping = None
 
 -- the machine's answer to an edit
 abbrev pub edited : Result Ticket SharedRefusal → Answer

@@ -1,16 +1,18 @@
 -- What a call of a shared hub says of the moment at which it had the lock.
-use Rattle.std.specs.Prelude.{◌≡◌, Result}
+use Rattle.std.specs.Prelude.{◌≡◌, ℕ, Option, Result}
 use Rattle.disk_trait.specs.declared.facts.DiskFacts.{Ghosts}
 use Rattle.group_commit.specs.declared.error.StoreError.{StoreError}
-use Rattle.op_model.specs.Machine.{Event, Answer, Step}
+use Rattle.op_model.specs.Actions.{Asked}
+use Rattle.op_model.specs.Machine.{Event, Answer, Step, edit, refused}
 use Rattle.hub_parts.specs.Locked.{IsLocked, state_of, LockedHeld}
 use Rattle.hub_parts.specs.Fitting.{FitTogether, side_of}
 use Rattle.hub_parts.specs.Flusher.{FlusherHeld}
 use Rattle.hub_parts.specs.Meeting.{Meets}
 use Rattle.hub_parts.specs.declared.met.Met.{Met}
-use Rattle.pass_books.specs.Accounts.{PassHeld}
-use Rattle.shared_hub.specs.Books.{ends_of}
+use Rattle.replica_core.specs.RefusedAt.{place_told}
+use Rattle.shared_hub.specs.Books.{PassHeld, ends_of}
 use Rattle.shared_hub.specs.Going.{Goes}
+use Rattle.shared_hub.specs.Moments.{with_moment}
 
 -- At some moment the locked part was so: its list is causally closed, replaying the kept steps gives list and settled number, and
 -- what is acknowledged and told is settled.
@@ -38,27 +40,37 @@ pub record MakesFor (before after : LockedHeld) (old new : PassHeld) (event : Ev
   pub mine_before : old.entries ≡ ends_of old.number before.replica.steps
   pub mine : new.entries ≡ ends_of new.number after.replica.steps
 
--- while the lock was held once, the locked part made just this step
-pub record Happens (event : Event) (answer : Answer) : Type 0 where
-  pub before : LockedHeld
-  pub after : LockedHeld
-  pub makes : Makes before after event answer
-
--- and before and behind it the entries of the pass were just the kept steps of its number
+-- while the lock was held once, the locked part made just this step, and before and behind it the entries of the pass were just the kept
+-- steps of its number
 pub record HappensTo (old new : PassHeld) (event : Event) (answer : Answer) : Type 0 where
   pub before : LockedHeld
   pub after : LockedHeld
   pub makes : MakesFor before after old new event answer
 
--- A meeting of the locked part and the flusher. The locked part is sound before and after it, the flusher has gone on, and where the two
--- fitted together they still do.
+-- so it was, and the moment behind the step is the newest of the pass, which is else as that call left it
+pub record EntersTo (old left new : PassHeld) (event : Event) (answer : Answer) : Type 0 where
+  pub before : LockedHeld
+  pub after : LockedHeld
+  pub makes : MakesFor before after old new event answer
+  pub entered : new ≡ with_moment left after
+
+-- while the lock was held once, the locked part refused the edit with this number, and for this one of several changes, if it was for one
+pub record RefusesEdit (pass : PassHeld) (e : Asked) (n : ℕ) (place : Option ℕ) : Type 0 where
+  pub before : LockedHeld
+  pub after : LockedHeld
+  pub makes : MakesFor before after pass pass (edit pass.number e) (refused n)
+  pub told : place ≡ place_told before.replica e n
+
+-- A meeting of the locked part and the flusher that fits it. Both are sound before and after it and fit together, and the flusher has gone
+-- on.
 pub record MeetsSound {D : Type 0} (facts : Ghosts D) (before : LockedHeld) (old : FlusherHeld D) (result : Result Met StoreError)
     (after : LockedHeld) (new : FlusherHeld D) : Type 0 where
   pub sound_before : IsLocked before
   pub sound : IsLocked after
   pub meets : Meets facts before old result after new
   pub goes : Goes facts old new
-  pub fits : FitTogether before (side_of old) → FitTogether after (side_of new)
+  pub fits_before : FitTogether before (side_of old)
+  pub fits : FitTogether after (side_of new)
 
 -- while the lock was held once, the flusher met the locked part, with this answer
 pub record MeetsOnce {D : Type 0} (facts : Ghosts D) (old : FlusherHeld D) (result : Result Met StoreError) (new : FlusherHeld D) : Type 0 where

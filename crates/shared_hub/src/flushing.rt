@@ -3,10 +3,11 @@ ghost use Rattle.hub_parts.specs.Flusher.{IsFlusher};
 ghost use Rattle.shared_hub.specs.Going.{Goes};
 
 use crate::checkpoint::{Checkpoint, Point};
+use crate::committer::Committer;
 use crate::shared::Shared;
 use disk_trait::Disk;
 use group_commit::{Phase, StoreError};
-use hub_parts::{Flusher, Met};
+use hub_parts::Met;
 use pass_books::BookNames;
 use std::io;
 use std::rt::Clock;
@@ -35,15 +36,15 @@ enum Start {
 pub fn flush<R: Wait + Clock, D: Disk, J: BookNames, C: Checkpoint>(
     rt: &R,
     shared: &Shared<J>,
-    flusher: &mut Flusher<D>,
+    committer: &mut Committer<J, D>,
     checkpoint: &C,
 )
-    ensures kept { IsFlusher D.DiskFacts flusher.new }
-    ensures goes { Goes D.DiskFacts flusher.old flusher.new }
+    ensures kept { IsFlusher D.DiskFacts committer.new.flusher }
+    ensures goes { Goes D.DiskFacts committer.old.flusher committer.new.flusher }
 {
-    commit_each(rt, shared, flusher, checkpoint);
+    commit_each(rt, shared, committer, checkpoint);
     shared.end_flushing(rt);
-    flusher.kept();
+    committer.kept();
 }
 
 /// Makes one commit after the other, until the threads were asked to end or the device fails. It
@@ -51,18 +52,19 @@ pub fn flush<R: Wait + Clock, D: Disk, J: BookNames, C: Checkpoint>(
 fn commit_each<R: Wait + Clock, D: Disk, J: BookNames, C: Checkpoint>(
     rt: &R,
     shared: &Shared<J>,
-    flusher: &mut Flusher<D>,
+    committer: &mut Committer<J, D>,
     checkpoint: &C,
 )
-    ensures { Goes D.DiskFacts flusher.old flusher.new }
+    ensures { Goes D.DiskFacts committer.old.flusher committer.new.flusher }
 {
     let mut patience = Duration::ZERO;
+    committer.kept();
     for _ in rt.forever() {
         let Some(tries) = shared.wait_for_work(rt, patience) else {
             return;
         };
         let start = Instant::now(rt);
-        if !commit(rt, shared, flusher, checkpoint, tries) {
+        if !commit(rt, shared, committer, checkpoint, tries) {
             return;
         }
         patience = patience_since(rt, start);
@@ -86,20 +88,20 @@ fn patience_since<R: Clock>(rt: &R, start: io::Result<Instant>) -> Duration {
 fn commit<R: Wait, D: Disk, J: BookNames, C: Checkpoint>(
     rt: &R,
     shared: &Shared<J>,
-    flusher: &mut Flusher<D>,
+    committer: &mut Committer<J, D>,
     checkpoint: &C,
     tries: u32,
 ) -> bool
-    ensures { Goes D.DiskFacts flusher.old flusher.new }
+    ensures { Goes D.DiskFacts committer.old.flusher committer.new.flusher }
 {
-    match begin(rt, shared, flusher, tries) {
+    match begin(rt, shared, committer, tries) {
         Start::UnderWay => {}
         Start::Without => return true,
         Start::Failed => return false,
     }
     checkpoint.pass(Point::CommitBegun);
-    go_through(rt, flusher, checkpoint);
-    if shared.settle(rt, flusher).is_err() {
+    go_through(rt, committer, checkpoint);
+    if shared.settle(rt, committer).is_err() {
         return false;
     }
     checkpoint.pass(Point::Settled);
@@ -111,13 +113,14 @@ fn commit<R: Wait, D: Disk, J: BookNames, C: Checkpoint>(
 fn begin<R: Wait, D: Disk, J: BookNames>(
     rt: &R,
     shared: &Shared<J>,
-    flusher: &mut Flusher<D>,
+    committer: &mut Committer<J, D>,
     tries: u32,
 ) -> Start
-    ensures { Goes D.DiskFacts flusher.old flusher.new }
+    ensures { Goes D.DiskFacts committer.old.flusher committer.new.flusher }
 {
+    committer.kept();
     for _ in 0..tries {
-        match try_once(rt, shared, flusher) {
+        match try_once(rt, shared, committer) {
             Ok(Met::Begun(_)) => return Start::UnderWay,
             Ok(_) => return Start::Without,
             Err(StoreError::Failed) => return Start::Failed,
@@ -138,22 +141,28 @@ fn give_up<R: Wait, J: BookNames>(rt: &R, shared: &Shared<J>) -> Start {
 fn try_once<R: Wait, D: Disk, J: BookNames>(
     rt: &R,
     shared: &Shared<J>,
-    flusher: &mut Flusher<D>,
+    committer: &mut Committer<J, D>,
 ) -> Result<Met, StoreError>
-    ensures { Goes D.DiskFacts flusher.old flusher.new }
+    ensures { Goes D.DiskFacts committer.old.flusher committer.new.flusher }
 {
-    if flusher.reserve().is_err() {
+    committer.kept();
+    if committer.reserve().is_err() {
         return Err(StoreError::Memory);
     }
-    shared.begin(rt, flusher)
+    shared.begin(rt, committer)
 }
 
 /// Makes the device calls of the commit under way, until it is through or one of them fails.
-fn go_through<R: Wait, D: Disk, C: Checkpoint>(rt: &R, flusher: &mut Flusher<D>, checkpoint: &C)
-    ensures { Goes D.DiskFacts flusher.old flusher.new }
+fn go_through<R: Wait, D: Disk, J: BookNames, C: Checkpoint>(
+    rt: &R,
+    committer: &mut Committer<J, D>,
+    checkpoint: &C,
+)
+    ensures { Goes D.DiskFacts committer.old.flusher committer.new.flusher }
 {
+    committer.kept();
     for _ in rt.forever() {
-        match device_call(flusher) {
+        match committer.device_step() {
             Ok(phase) => {
                 checkpoint.pass(Point::DeviceCall);
                 if matches!(phase, Phase::Sync3 | Phase::Idle) {
@@ -163,12 +172,4 @@ fn go_through<R: Wait, D: Disk, C: Checkpoint>(rt: &R, flusher: &mut Flusher<D>,
             Err(_) => return,
         }
     }
-}
-
-/// Makes the next device call of the commit under way.
-fn device_call<D: Disk>(flusher: &mut Flusher<D>) -> Result<Phase, StoreError>
-    ensures { Goes D.DiskFacts flusher.old flusher.new }
-{
-    flusher.kept();
-    flusher.device_step()
 }

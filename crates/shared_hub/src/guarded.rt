@@ -1,23 +1,23 @@
 //! What stands under the lock of a shared hub.
-ghost use Rattle.std.specs.Prelude.{◌≡◌, false, ◌≢◌, ◌↔◌, true, None, Err};
-ghost use Rattle.hub_parts.specs.Locked.{IsLocked, state_of};
-ghost use Rattle.shared_hub.specs.Books.{BooksFit, ends_of};
+ghost use Rattle.std.specs.Prelude.{◌≡◌, All, false, ◌≢◌, ◌↔◌, true, None, Some, Err, slice_get, List};
+ghost use Rattle.hub_parts.specs.Locked.{IsLocked, LockedHeld, state_of};
+ghost use Rattle.shared_hub.specs.Books.{ends_of};
 ghost use Rattle.op_model.specs.Machine.{edit as edit_event, merge as merge_event};
-ghost use Rattle.op_model.specs.Machine.{known_ticket, acknowledged, EditStep, MergeStep};
-ghost use Rattle.op_model.specs.Machine.{ack as ack_event, tell as tell_event, have as have_event};
+ghost use Rattle.op_model.specs.Machine.{known_ticket, EditStep, MergeStep};
 ghost use Rattle.shared_hub.specs.Guarded.{IsMine, EntersEdit, EntersMerge};
-ghost use Rattle.shared_hub.specs.Refusal.{edited, merged, told, had};
-ghost use Rattle.shared_hub.specs.Shared.{MakesFor, Makes, MeetsSound};
+ghost use Rattle.shared_hub.specs.Moments.{AreBooksOf, IsPastOf, WasSettledAt, with_book, with_moment};
+ghost use Rattle.hub_parts.specs.Refusal.{number_of as number_of_locked};
+ghost use Rattle.replica_core.specs.RefusedAt.{place_told};
+ghost use Rattle.shared_hub.specs.Refusal.{edited, merged, number_of, told_at};
+ghost use Rattle.shared_hub.specs.Shared.{MakesFor};
 ghost use Rattle.shared_hub.specs.declared.refusal.SharedRefusal.TheVariants.{Stopping};
 
+use crate::passes::{Books, Pass};
 use crate::refusal::SharedRefusal;
 use crate::turns::Turns;
-use disk_trait::Disk;
-use group_commit::StoreError;
-use hub_parts::{Flusher, Locked, Met};
-use op_ids::Clock;
+use hub_parts::{Locked, LockedRefusal};
 use op_model::{Action, Op};
-use pass_books::{BookNames, Books, Pass};
+use pass_books::BookNames;
 use replica_core::{Merged, Ticket};
 use std::marker::Model;
 
@@ -25,7 +25,9 @@ use std::marker::Model;
 /// whether it was asked to stop. Contracts see these three.
 ///
 /// The type keeps that each book has an entry for each kept step of its number: how long the list
-/// was behind that step. None of its calls waits, and none makes a device call.
+/// was behind that step; and that each moment in a book is in the locked part's own past: so what a
+/// call promised then, it promised of this very hub. Book 0 has the meetings with the flusher, so
+/// the one that fits is this hub's own. None of its calls waits, and none makes a device call.
 #[derive(Drop)]
 pub struct Guarded<J: BookNames> {
     pub(crate) locked: Locked,
@@ -35,20 +37,20 @@ pub struct Guarded<J: BookNames> {
 }
 
 impl<J: BookNames> Model for Guarded<J> {
-    ghost use Rattle.shared_hub.specs.Books.{BooksFit};
     ghost use Rattle.shared_hub.specs.Guarded.{GuardedHeld};
+    ghost use Rattle.shared_hub.specs.Moments.{AreBooksOf};
 
     ghost Value = { GuardedHeld };
 
     ghost view = { λ g. record { locked = g.locked; books = g.books; stopping = g.is_stopping } };
 
-    ghost invariant = { λ g. BooksFit g.locked.replica.steps g.books };
+    ghost invariant = { λ g. AreBooksOf g.locked g.books };
 }
 
 impl<J: BookNames> Guarded<J> {
     /// A locked part beside books that fit its steps. It takes edits.
     pub(crate) fn new(locked: Locked, books: Books<J>) -> Guarded<J>
-        requires { BooksFit locked.replica.steps books }
+        requires { AreBooksOf locked books }
         ensures { result ≡ record { locked = locked; books = books; stopping = false } }
     {
         Guarded {
@@ -74,24 +76,46 @@ impl<J: BookNames> Guarded<J> {
         locked
     }
 
-    /// Shows that a pass has an entry for each kept step of its number. Constant; takes no memory.
+    /// Shows that a pass has an entry for each kept step of its number, that its moments are in the
+    /// locked part's past, and that at each of them as many operations were settled as after a
+    /// meeting. Constant; takes no memory.
     pub fn audit(&mut self, pass: &mut Pass<J>)
         ensures mine { pass.old.entries ≡ ends_of pass.old.number self.old.locked.replica.steps }
+        ensures past { All (IsPastOf self.old.locked) pass.old.moments }
+        ensures settled { (meetings : List LockedHeld)
+            → slice_get self.old.books.moments 0 ≡ Some meetings
+            → All (WasSettledAt meetings) pass.old.moments }
         ensures kept { IsLocked self.old.locked }
         ensures same { (self.new ≡ self.old) × (pass.new ≡ pass.old) }
     {
         self.locked.kept();
         self.books.audit(pass);
     }
+
+    /// Enters this moment into a pass and its book. Constant; takes no memory.
+    pub(crate) fn enter(&mut self, pass: &mut Pass<J>)
+        ensures pass { pass.new ≡ with_moment pass.old self.old.locked }
+        ensures others { self.new ≡ record self.old {
+          books = with_book self.old.books pass.old.number pass.new.moments;
+        } }
+    {
+        self.locked.kept();
+        self.books.audit(pass);
+        self.books.enter(pass, &self.locked);
+    }
 }
 
 // Edits and merges.
 impl<J: BookNames> Guarded<J> {
-    /// Makes an edit, as a step of the pass's number, and enters it. An edit that was made before,
-    /// under its token, has the ticket that it had then, and is no step. Refuses another one with
-    /// 12 if it was asked to stop, else as `Locked::edit` does (9, 6, 5, 7, 10, 8, 1). A refused
-    /// edit changes nothing. Costs what `Locked::edit` does.
-    pub fn edit(&mut self, pass: &mut Pass<J>, edit: &Action) -> Result<Ticket, SharedRefusal>
+    /// Makes an edit, as a step of the pass's number, and enters it and this moment. An edit that
+    /// was made before, under its token, has the ticket that it had then, and is no step. Refuses
+    /// another one with 12 if it was asked to stop, else as `Locked::edit` does (9, 6, 5, 7, 10, 8,
+    /// 1). A refused edit changes nothing. Costs what `Locked::edit` does.
+    pub(crate) fn edit(
+        &mut self,
+        pass: &mut Pass<J>,
+        edit: &Action,
+    ) -> Result<Ticket, SharedRefusal>
         ensures mine { IsMine self.old.locked pass.old }
         ensures stopping { (result ≡ Err Stopping) ↔ ((self.old.stopping ≡ true)
             × (known_ticket self.old.locked.replica edit.now ≡ None)) }
@@ -108,7 +132,7 @@ impl<J: BookNames> Guarded<J> {
         result
     }
 
-    /// Makes an edit, and enters it where it is new.
+    /// Makes an edit. Enters it if it is new, and the moment behind it if there is a ticket.
     fn enter_edit(&mut self, pass: &mut Pass<J>, edit: &Action) -> Result<Ticket, SharedRefusal>
         requires { IsMine self.old.locked pass.old }
         ensures call { EditStep (state_of self.old.locked) pass.old.number edit.now
@@ -118,20 +142,39 @@ impl<J: BookNames> Guarded<J> {
     {
         match self.locked.edit(pass.number() as u64, edit) {
             Ok(ticket) => {
-                if !ticket.known {
-                    self.books.add(pass, ticket.end as u64);
-                    self.turns.edits = self.turns.edits.wrapping_add(1);
+                if ticket.known {
+                    self.enter(pass);
+                    return Ok(ticket);
                 }
+                self.books.add(pass, ticket.end as u64);
+                self.turns.edits = self.turns.edits.wrapping_add(1);
+                self.enter(pass);
                 Ok(ticket)
             }
-            Err(refusal) => Err(SharedRefusal::Locked(refusal)),
+            Err(refusal) => Err(self.refusal_of(edit, refusal)),
+        }
+    }
+
+    /// How an edit is refused: with the change of several that it is for, if it is for one of them.
+    fn refusal_of(&self, edit: &Action, refusal: LockedRefusal) -> SharedRefusal
+        ensures number { number_of result ≡ number_of_locked refusal }
+        ensures place { told_at result ≡ place_told self.now.locked.replica edit.now
+            (number_of_locked refusal) }
+        ensures other { result ≢ Stopping }
+    {
+        if !refusal.is_for_a_change() {
+            return SharedRefusal::Locked(refusal);
+        }
+        match self.refused_at(edit) {
+            Some(at) => SharedRefusal::Change(refusal, at),
+            None => SharedRefusal::Locked(refusal),
         }
     }
 
     /// Merges a peer's operation, as a step of the pass's number, and enters it where it is
     /// applied. Refuses with 12 where it was asked to stop, else as `Locked::merge` does (9, 20 to
     /// 24, 10, 8, 1). A refused merge changes nothing. Costs what `Locked::merge` does.
-    pub fn merge(&mut self, pass: &mut Pass<J>, op: Op) -> Result<Merged, SharedRefusal>
+    pub(crate) fn merge(&mut self, pass: &mut Pass<J>, op: Op) -> Result<Merged, SharedRefusal>
         ensures stopping { self.old.stopping ≡ true → result ≡ Err Stopping }
         ensures call { self.old.stopping ≡ false → MakesFor self.old.locked self.new.locked
             pass.old pass.new (merge_event pass.old.number op) (merged result) }
@@ -163,97 +206,5 @@ impl<J: BookNames> Guarded<J> {
             Ok(Merged::Early) => Ok(Merged::Early),
             Err(refusal) => Err(SharedRefusal::Locked(refusal)),
         }
-    }
-}
-
-// Acknowledgements and tellings.
-impl<J: BookNames> Guarded<J> {
-    /// Whether the operations of a ticket's edit are settled. Then they are acknowledged; otherwise
-    /// nothing changes. Takes no memory. Constant.
-    pub fn ack(&mut self, ticket: Ticket) -> bool
-        ensures call { Makes self.old.locked self.new.locked (ack_event ticket)
-            (acknowledged result) }
-        ensures others { self.new ≡ record self.old { locked = self.new.locked } }
-    {
-        self.locked.kept();
-        let result = self.locked.ack(ticket);
-        self.locked.kept();
-        result
-    }
-
-    /// The first settled operations, at most 64 in the order of the list, that a clock doesn't
-    /// count. They count as told. An error is out of memory (1), and changes nothing. Costs what
-    /// `Locked::tell` does.
-    pub fn tell(&mut self, clock: &Clock) -> Result<Vec<Op>, SharedRefusal>
-        ensures call { Makes self.old.locked self.new.locked (tell_event clock.now)
-            (told result) }
-        ensures others { self.new ≡ record self.old { locked = self.new.locked } }
-    {
-        self.locked.kept();
-        let result = self.locked.tell(clock);
-        self.locked.kept();
-        match result {
-            Ok(ops) => Ok(ops),
-            Err(refusal) => Err(SharedRefusal::Locked(refusal)),
-        }
-    }
-
-    /// How many operations of each replica are settled. All settled ones count as told. An error is
-    /// out of memory (1), and changes nothing. Costs what `Locked::have` does.
-    pub fn have(&mut self) -> Result<Clock, SharedRefusal>
-        ensures call { Makes self.old.locked self.new.locked have_event (had result) }
-        ensures others { self.new ≡ record self.old { locked = self.new.locked } }
-    {
-        self.locked.kept();
-        let result = self.locked.have();
-        self.locked.kept();
-        match result {
-            Ok(clock) => Ok(clock),
-            Err(refusal) => Err(SharedRefusal::Locked(refusal)),
-        }
-    }
-}
-
-// The meetings with the flusher.
-impl<J: BookNames> Guarded<J> {
-    /// Meets the flusher, as `Flusher::meet` says: a commit of all that waits begins, or one whose
-    /// device calls are all made is settled. Refuses as that does (44, 8, 7, 1).
-    pub fn meet<D: Disk>(&mut self, flusher: &mut Flusher<D>) -> Result<Met, StoreError>
-        ensures met { MeetsSound D.DiskFacts self.old.locked flusher.old result
-            self.new.locked flusher.new }
-        ensures others { self.new ≡ record self.old { locked = self.new.locked } }
-    {
-        self.locked.kept();
-        let result = flusher.meet(&mut self.locked);
-        self.locked.kept();
-        result
-    }
-
-    /// Meets the flusher where no commit is under way: one of all that waits is tried, and counted
-    /// where it begins. Refuses as `Flusher::meet` does (44, 8, 7, 1).
-    pub(crate) fn begin<D: Disk>(&mut self, flusher: &mut Flusher<D>) -> Result<Met, StoreError>
-        ensures met { MeetsSound D.DiskFacts self.old.locked flusher.old result
-            self.new.locked flusher.new }
-        ensures others { self.new ≡ record self.old { locked = self.new.locked } }
-    {
-        self.note_try();
-        let result = self.meet(flusher);
-        if let Ok(Met::Begun(_)) = result {
-            self.count_commit();
-        }
-        result
-    }
-
-    /// Meets the flusher where the device calls of its commit are all made: that is settled, and
-    /// the edits of those who are at work are counted. An error tells that the device has failed
-    /// (44).
-    pub(crate) fn settle<D: Disk>(&mut self, flusher: &mut Flusher<D>) -> Result<Met, StoreError>
-        ensures met { MeetsSound D.DiskFacts self.old.locked flusher.old result
-            self.new.locked flusher.new }
-        ensures others { self.new ≡ record self.old { locked = self.new.locked } }
-    {
-        let result = self.meet(flusher);
-        self.count_group();
-        result
     }
 }

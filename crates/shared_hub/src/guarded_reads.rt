@@ -4,6 +4,7 @@ ghost use Rattle.op_model.specs.Spans.{spans as spans_of};
 ghost use Rattle.op_model.specs.Text.{text as text_of, rev as rev_of};
 ghost use Rattle.replica_core.specs.Changed.{TellsChanges};
 ghost use Rattle.replica_core.specs.Places.{anchors_of, are_within, places_of};
+ghost use Rattle.replica_core.specs.RefusedAt.{refused_at as refused_at_of};
 ghost use Rattle.shared_hub.specs.Peers.{IsCounted, rows_of};
 ghost use Rattle.hub_parts.specs.Locked.{IsLocked};
 ghost use Rattle.shared_hub.specs.Watching.{HasNoRev, IsWatched};
@@ -13,14 +14,14 @@ use crate::guarded::Guarded;
 use crate::shown::Shown;
 use crate::status::Status;
 use crate::watched::Watched;
-use op_model::{ChangeStep, Lasting, Neighbour, Span, Text};
+use op_model::{Action, ChangeStep, Lasting, Neighbour, Span, Text};
 use pass_books::BookNames;
 use peer_counts::PeerCounts;
 use std::alloc::{AllocError, Global};
 
 impl<J: BookNames> Guarded<J> {
     /// How far it is. Takes no memory. Constant.
-    pub fn status(&self) -> Status
+    pub(crate) fn status(&self) -> Status
         ensures { result ≡ record {
           applied = length self.now.locked.replica.list;
           settled = self.now.locked.replica.settled;
@@ -36,9 +37,18 @@ impl<J: BookNames> Guarded<J> {
         }
     }
 
+    /// Which of several changes a new edit is refused for, counted from 0: with 5 or 7, if
+    /// `Locked::edit` comes to it. Takes no memory. Costs what `Locked::refused_at` does.
+    pub(crate) fn refused_at(&self, edit: &Action) -> Option<usize>
+        ensures { result ≡ refused_at_of self.now.locked.replica.list
+            self.now.locked.replica.replica edit.now }
+    {
+        self.locked.refused_at(edit)
+    }
+
     /// The text of a document, unsettled operations included. An error is out of memory (1). Costs
     /// what `Locked::text` does.
-    pub fn text(&self, doc: u32) -> Result<Shown<Text>, AllocError>
+    pub(crate) fn text(&self, doc: u32) -> Result<Shown<Text>, AllocError>
         ensures rev { IfOk result (λ it. it.rev ≡ rev_of self.now.locked.replica.list doc) }
         ensures text { IfOk result (λ it. it.content ≡ text_of self.now.locked.replica.list doc) }
     {
@@ -50,7 +60,7 @@ impl<J: BookNames> Guarded<J> {
 
     /// The text of a document, cut where its marks change. An error is out of memory (1). Costs
     /// what `Locked::spans` does.
-    pub fn spans(&self, doc: u32) -> Result<Shown<Vec<Span>>, AllocError>
+    pub(crate) fn spans(&self, doc: u32) -> Result<Shown<Vec<Span>>, AllocError>
         ensures rev { IfOk result (λ it. it.rev ≡ rev_of self.now.locked.replica.list doc) }
         ensures spans { IfOk result
             (λ it. it.content.items ≡ spans_of self.now.locked.replica.list doc) }
@@ -64,7 +74,7 @@ impl<J: BookNames> Guarded<J> {
     /// What changed in a document since it had so many operations; none if it has fewer, or that
     /// was too long ago to be told. An error is out of memory (1). Costs what `Locked::changes`
     /// does.
-    pub fn changes(
+    pub(crate) fn changes(
         &self,
         doc: u32,
         since: usize,
@@ -82,7 +92,7 @@ impl<J: BookNames> Guarded<J> {
     /// The places after these numbers of visible characters of a document, that stay with one of
     /// their neighbours; none if one of the numbers is beyond the end of the text. An error is out
     /// of memory (1). Costs what `Locked::anchors` does.
-    pub fn anchors(
+    pub(crate) fn anchors(
         &self,
         doc: u32,
         at: &[u32],
@@ -102,7 +112,7 @@ impl<J: BookNames> Guarded<J> {
 
     /// How many visible characters of a document stand before each of these places, if it is there.
     /// An error is out of memory (1). Costs what `Locked::places` does.
-    pub fn places(
+    pub(crate) fn places(
         &self,
         doc: u32,
         anchors: &[Lasting],

@@ -2,7 +2,7 @@
 ghost use Rattle.std.specs.Prelude.{◌≡◌, ◌≢◌, ◌≤◌, ◌<◌, true, length, ◌||◌, nat_lt};
 ghost use Rattle.op_model.specs.Machine.{ack as ack_event, acknowledged};
 ghost use Rattle.shared_hub.specs.Guarded.{IsMine};
-ghost use Rattle.shared_hub.specs.Shared.{MakesFor, Moment};
+ghost use Rattle.shared_hub.specs.Shared.{EntersTo, Moment};
 ghost use Rattle.shared_hub.specs.declared.awaited.Awaited.TheVariants.{Settled};
 ghost use Rattle.op_ids.specs.Clock.{count_of};
 ghost use Rattle.op_model.specs.Causality.{clock_of};
@@ -10,9 +10,10 @@ ghost use Rattle.op_model.specs.Causality.{clock_of};
 use crate::awaited::{Awaited, Parity};
 use crate::guarded::Guarded;
 use crate::news::News;
+use crate::passes::Pass;
 use crate::rooms::ROOMS;
 use hub_parts::BEGIN_TRIES;
-use pass_books::{BookNames, Pass};
+use pass_books::BookNames;
 use replica_core::Ticket;
 use std::time::Duration;
 
@@ -21,18 +22,16 @@ use std::time::Duration;
 const TURN: u64 = 20;
 
 impl<J: BookNames> Guarded<J> {
-    /// Acknowledges a ticket if its operations are settled, also after a failure; else says whether
-    /// to wait for that.
+    /// Acknowledges a ticket if its operations are settled, also after a failure, and enters this
+    /// moment; else says whether to wait for that.
     pub(crate) fn try_ack(&mut self, pass: &mut Pass<J>, ticket: Ticket) -> Awaited
         ensures mine { IsMine self.old.locked pass.old }
         ensures unsettled { result ≢ Settled → self.old.locked.replica.settled < ticket.end }
-        ensures call { result ≡ Settled → MakesFor self.old.locked self.new.locked
-            pass.old pass.new (ack_event ticket) (acknowledged true) }
-        ensures pass { pass.new ≡ pass.old }
+        ensures entered { result ≡ Settled → EntersTo pass.old pass.old pass.new
+            (ack_event ticket) (acknowledged true) }
+        ensures same { result ≢ Settled → pass.new ≡ pass.old }
     {
-        self.audit(pass);
-        let is_acknowledged = self.ack(ticket);
-        self.audit(pass);
+        let is_acknowledged = self.ack(pass, ticket);
         if is_acknowledged {
             return Awaited::Settled;
         }

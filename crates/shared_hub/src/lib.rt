@@ -7,13 +7,19 @@
 
 mod awaited;
 mod checkpoint;
+mod committer;
 mod connected;
 mod flushing;
 mod guarded;
+mod guarded_meets;
 mod guarded_reads;
+mod guarded_tells;
 mod guarded_waits;
+mod meetings;
 mod news;
 mod opening;
+mod passes;
+mod promises;
 mod refusal;
 mod rooms;
 mod shared;
@@ -25,10 +31,15 @@ mod turns;
 mod watched;
 
 pub use checkpoint::{Checkpoint, NoCheckpoint, Point};
+pub use committer::Committer;
 pub use flushing::flush;
 pub use guarded::Guarded;
 pub use news::News;
 pub use opening::{Named, Opened, PASSES};
+pub use passes::Pass;
+pub use promises::{
+    a_turn_leaves_its_list, what_was_promised_is_settled, what_was_promised_outlives_a_crash,
+};
 pub use refusal::SharedRefusal;
 pub use shared::Shared;
 pub use shown::Shown;

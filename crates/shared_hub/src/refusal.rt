@@ -11,13 +11,16 @@ pub enum SharedRefusal {
     /// 1, 5 to 10, 20 to 24: the locked part refuses.
     #[error("{0}")]
     Locked(LockedRefusal),
+    /// 5 or 7: the locked part refuses one of several changes, counted from 0.
+    #[error("{0}")]
+    Change(LockedRefusal, usize),
     /// 12: it was asked to stop.
     #[error("stopping")]
     Stopping,
 }
 
 impl SharedRefusal {
-    ghost use Rattle.shared_hub.specs.Refusal.{number_of};
+    ghost use Rattle.shared_hub.specs.Refusal.{number_of, told_at};
 
     /// The number of the refusal.
     pub fn number(self) -> u8
@@ -25,7 +28,18 @@ impl SharedRefusal {
     {
         match self {
             SharedRefusal::Locked(refusal) => refusal.number(),
+            SharedRefusal::Change(refusal, _) => refusal.number(),
             SharedRefusal::Stopping => STOPPING,
+        }
+    }
+
+    /// Which of several changes an edit is refused for, counted from 0, if it is for one of them.
+    pub fn place(self) -> Option<usize>
+        ensures { result ≡ told_at self }
+    {
+        match self {
+            SharedRefusal::Change(_, at) => Some(at),
+            SharedRefusal::Locked(_) | SharedRefusal::Stopping => None,
         }
     }
 }

@@ -1,25 +1,29 @@
 //! A hub that threads share.
-ghost use Rattle.std.specs.Prelude.{◌≡◌, ◌≢◌, None, Err, nat_lt};
+ghost use Rattle.std.specs.Prelude.{◌≡◌, ◌≢◌, None, Err, IfOk, IfErr, OnErr, nat_lt};
+ghost use Rattle.fixed_numbers.specs.declared.refusals.TheConstants.{MEMORY};
 ghost use Rattle.op_model.specs.Machine.{edit as edit_event, known_ticket, merge as merge_event};
 ghost use Rattle.op_model.specs.Machine.{tell as tell_event, have as have_event};
-ghost use Rattle.shared_hub.specs.Guarded.{after_edit, Merges};
-ghost use Rattle.shared_hub.specs.Refusal.{edited, merged, told, had};
-ghost use Rattle.shared_hub.specs.Shared.{HappensTo, MomentOf, Happens, MeetsOnce, Moment};
+ghost use Rattle.op_model.specs.Machine.{ticket, operations, clock as clock_answer};
+ghost use Rattle.shared_hub.specs.Guarded.{after_ticket, Merges};
+ghost use Rattle.shared_hub.specs.Refusal.{merged, number_of, told_at};
+ghost use Rattle.shared_hub.specs.Shared.{EntersTo, HappensTo, MomentOf, MeetsOnce, Moment, RefusesEdit};
 ghost use Rattle.shared_hub.specs.declared.refusal.SharedRefusal.TheVariants.{Stopping};
 ghost use Rattle.op_ids.specs.Clock.{count_of};
 ghost use Rattle.op_model.specs.Causality.{clock_of};
 
 use crate::awaited::Parity;
+use crate::committer::Committer;
 use crate::connected::Connected;
 use crate::guarded::Guarded;
+use crate::passes::Pass;
 use crate::refusal::SharedRefusal;
 use crate::rooms::Rooms;
 use disk_trait::Disk;
 use group_commit::StoreError;
-use hub_parts::{Flusher, Met};
+use hub_parts::Met;
 use op_ids::Clock;
 use op_model::{Action, Op};
-use pass_books::{BookNames, Pass};
+use pass_books::BookNames;
 use replica_core::{Merged, Ticket};
 use std::sync::{Condvar, Mutex, Wait};
 
@@ -72,12 +76,15 @@ impl<J: BookNames> Shared<J> {
         pass: &mut Pass<J>,
         edit: &Action,
     ) -> Result<Ticket, SharedRefusal>
-        // The pass has one entry more exactly where a new edit has a ticket: the ticket's end.
-        ensures pass { pass.new ≡ after_edit result pass.old }
+        // The pass has one entry more if the edit is new: the ticket's end.
+        ensures entered { IfOk result (λ t. EntersTo pass.old (after_ticket t pass.old) pass.new
+            (edit_event pass.old.number edit.now) (ticket t)) }
+        ensures same { OnErr result (pass.new ≡ pass.old) }
         ensures stopping { result ≡ Err Stopping → MomentOf pass.old
             (λ l. known_ticket l.replica edit.now ≡ None) }
-        ensures call { result ≢ Err Stopping → HappensTo pass.old pass.new
-            (edit_event pass.old.number edit.now) (edited result) }
+        // A refusal with 5 or 7 of several changes names the first of them that is refused.
+        ensures refused { IfErr result (λ e. e ≢ Stopping
+            → RefusesEdit pass.old edit.now (number_of e) (told_at e)) }
     {
         let mut guard = self.guarded.lock(rt);
         let result = guard.edit(pass, edit);
@@ -136,18 +143,29 @@ impl<J: BookNames> Shared<J> {
 impl<J: BookNames> Shared<J> {
     /// The first settled operations, at most 64 in the order of the list, that a clock doesn't
     /// count. They count as told. An error is out of memory (1). Costs what `Locked::tell` does.
-    pub fn tell<R: Wait>(&self, rt: &R, clock: &Clock) -> Result<Vec<Op>, SharedRefusal>
-        ensures { Happens (tell_event clock.now) (told result) }
+    pub fn tell<R: Wait>(
+        &self,
+        rt: &R,
+        pass: &mut Pass<J>,
+        clock: &Clock,
+    ) -> Result<Vec<Op>, SharedRefusal>
+        ensures entered { IfOk result (λ ops. EntersTo pass.old pass.old pass.new
+            (tell_event clock.now) (operations ops.items)) }
+        ensures same { OnErr result (pass.new ≡ pass.old) }
+        ensures refused { IfErr result (λ e. number_of e ≡ MEMORY) }
     {
-        self.guarded.lock(rt).tell(clock)
+        self.guarded.lock(rt).tell(pass, clock)
     }
 
     /// How many operations of each replica are settled. All settled ones count as told. An error is
     /// out of memory (1). Costs what `Locked::have` does.
-    pub fn have<R: Wait>(&self, rt: &R) -> Result<Clock, SharedRefusal>
-        ensures { Happens have_event (had result) }
+    pub fn have<R: Wait>(&self, rt: &R, pass: &mut Pass<J>) -> Result<Clock, SharedRefusal>
+        ensures entered { IfOk result (λ c. EntersTo pass.old pass.old pass.new
+            have_event (clock_answer c)) }
+        ensures same { OnErr result (pass.new ≡ pass.old) }
+        ensures refused { IfErr result (λ e. number_of e ≡ MEMORY) }
     {
-        self.guarded.lock(rt).have()
+        self.guarded.lock(rt).have(pass)
     }
 
     /// The flusher meets what stands under the lock, once, where no commit is under way: one of all
@@ -155,11 +173,17 @@ impl<J: BookNames> Shared<J> {
     pub(crate) fn begin<R: Wait, D: Disk>(
         &self,
         rt: &R,
-        flusher: &mut Flusher<D>,
+        committer: &mut Committer<J, D>,
     ) -> Result<Met, StoreError>
-        ensures { MeetsOnce D.DiskFacts flusher.old result flusher.new }
+        ensures { MeetsOnce D.DiskFacts committer.old.flusher result committer.new.flusher }
     {
-        let result = self.guarded.lock(rt).begin(flusher);
+        let mut guard = self.guarded.lock(rt);
+        guard.note_try();
+        let result = guard.meet(committer);
+        if let Ok(Met::Begun(_)) = result {
+            guard.count_commit();
+        }
+        drop(guard);
         // A flusher whose commit was through has settled it.
         if matches!(result, Ok(Met::Settled(_))) {
             self.wake_waiting();
@@ -174,14 +198,15 @@ impl<J: BookNames> Shared<J> {
     pub(crate) fn settle<R: Wait, D: Disk>(
         &self,
         rt: &R,
-        flusher: &mut Flusher<D>,
+        committer: &mut Committer<J, D>,
     ) -> Result<Met, StoreError>
-        ensures { MeetsOnce D.DiskFacts flusher.old result flusher.new }
+        ensures { MeetsOnce D.DiskFacts committer.old.flusher result committer.new.flusher }
     {
-        let mut guard = self.guarded.lock(rt);
-        let settled = guard.parity(0);
-        let result = guard.settle(flusher);
-        drop(guard);
+        let mut held = self.guarded.lock(rt);
+        let settled = held.parity(0);
+        let result = held.meet(committer);
+        held.count_group();
+        drop(held);
         if result.is_ok() {
             self.room(settled).notify_all();
             self.watchers.notify_all();

@@ -8,12 +8,13 @@ ghost use Rattle.shared_hub.specs.Shared.{MomentOf};
 ghost use Rattle.shared_hub.specs.Peers.{IsCounted};
 
 use crate::connected::Peer;
+use crate::passes::Pass;
 use crate::shared::Shared;
 use crate::shown::Shown;
 use crate::status::Status;
 use op_ids::{Clock, ReplicaId};
 use op_model::{ChangeStep, Lasting, Neighbour, Span, Text};
-use pass_books::{BookNames, Pass};
+use pass_books::BookNames;
 use peer_counts::PeerCounts;
 use std::alloc::{AllocError, Global};
 use std::sync::Wait;

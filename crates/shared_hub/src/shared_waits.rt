@@ -1,16 +1,17 @@
 //! What threads of a shared hub wait for.
 ghost use Rattle.std.specs.Prelude.{◌≡◌, ◌≤◌, ◌<◌, IsTrue, true, false, length};
 ghost use Rattle.op_model.specs.Machine.{ack as ack_event, acknowledged};
-ghost use Rattle.shared_hub.specs.Shared.{HappensTo, Moment, MomentOf};
+ghost use Rattle.shared_hub.specs.Shared.{EntersTo, Moment, MomentOf};
 ghost use Rattle.shared_hub.specs.Watching.{HasSeen, IfRev, IsNewer, UnlessRev, settled_rev};
 
 use crate::awaited::Awaited;
 use crate::guarded::Guarded;
 use crate::news::News;
+use crate::passes::Pass;
 use crate::shared::Shared;
 use crate::watched::Watched;
 use hub_parts::BEGIN_TRIES;
-use pass_books::{BookNames, Pass};
+use pass_books::BookNames;
 use replica_core::Ticket;
 use std::rt::Clock;
 use std::sync::{MutexGuard, Wait};
@@ -25,9 +26,9 @@ impl<J: BookNames> Shared<J> {
     /// failed, no commit could begin, or the flusher has ended (9). Those that are settled it
     /// acknowledges whatever has failed. Wakes for the settlement of its commit alone.
     pub fn acknowledge<R: Wait>(&self, rt: &R, pass: &mut Pass<J>, ticket: Ticket) -> bool
-        ensures same { pass.new ≡ pass.old }
-        ensures call { IsTrue result
-            → HappensTo pass.old pass.old (ack_event ticket) (acknowledged true) }
+        ensures entered { IsTrue result → EntersTo pass.old pass.old pass.new
+            (ack_event ticket) (acknowledged true) }
+        ensures same { result ≡ false → pass.new ≡ pass.old }
         ensures unsettled { result ≡ false
             → MomentOf pass.old (λ l. l.replica.settled < ticket.end) }
     {

@@ -2,9 +2,10 @@
 ghost use Rattle.std.specs.Prelude.{◌≡◌};
 
 use crate::test_hubs::{insert, parts, replica};
+use disk_trait::MemDisk;
 use op_ids::Clock;
-use pass_books::{BookNames, Pass};
-use shared_hub::{Named, Opened, Shared};
+use pass_books::BookNames;
+use shared_hub::{Named, Opened, Pass, Shared};
 use std::alloc::Global;
 use std::marker::Brand;
 use std::sync::Wait;
@@ -82,7 +83,8 @@ fn connected<J: BookNames, R: Wait>(
 ) -> Option<([(usize, u8, u64, u64); 3], [u64; 3])>
     requires { opened ≡ J.names }
 {
-    let Named { shared, passes } = opened.share::<J>(alloc, parts(alloc)?.locked).ok()?;
+    let parts = parts(alloc)?;
+    let Named { shared, passes, .. } = opened.share::<J, MemDisk>(alloc, parts).ok()?;
     let mut pass = passes.into_iter().next()?;
     let sessions = sessions(rt, &shared);
     Some((rows_in_turn(rt, alloc, &shared, &mut pass)?, sessions))

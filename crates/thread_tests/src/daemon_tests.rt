@@ -26,11 +26,11 @@ pub(crate) const STATUS: &str = "{\"op\":\"status\"}";
 
 pub(crate) const STOP: &str = "{\"op\":\"stop\"}";
 
-const REV_1: &str = "{\"ok\":true,\"rev\":1}";
+pub(crate) const REV_1: &str = "{\"ok\":true,\"rev\":1}";
 
 const REV_2: &str = "{\"ok\":true,\"rev\":2}";
 
-const STOPPED: &str = "{\"ok\":true}";
+pub(crate) const STOPPED: &str = "{\"ok\":true}";
 
 /// A stop and an edit behind it, sent at once.
 const STOP_AND_INSERT: &str =
@@ -50,7 +50,7 @@ const SPANS_BA: &str = "{\"ok\":true,\"rev\":2,\"spans\":[{\"text\":\"ba\"}]}";
 const TEXT_BA: &str = "{\"ok\":true,\"rev\":2,\"text\":\"ba\"}";
 
 /// What is answered to the session that edits while the other one's commit is under way.
-const OF_THE_SECOND: [(&str, &str); 8] = [
+const OF_THE_SECOND: [(&str, &str); 9] = [
     (INSERT_B, REV_2),
     (TEXT, TEXT_BA),
     (SPANS, SPANS_BA),
@@ -67,12 +67,19 @@ const OF_THE_SECOND: [(&str, &str); 8] = [
         "{\"ok\":true,\"places\":[0,2],\"rev\":2}",
     ),
     (TWO_AT_ONCE, "{\"ok\":true,\"rev\":4}"),
+    (SECOND_REFUSED, SECOND_IS_REFUSED),
     (STOP, STOPPED),
 ];
 
 /// A character comes and goes in one line.
 const TWO_AT_ONCE: &str =
     "{\"op\":\"edits\",\"doc\":1,\"edits\":[{\"op\":\"insert\",\"at\":2,\"text\":\"c\"},{\"op\":\"delete\",\"at\":2,\"count\":1}]}";
+
+/// The second edit of a line can't be made, so none is.
+const SECOND_REFUSED: &str =
+    "{\"op\":\"edits\",\"doc\":1,\"edits\":[{\"op\":\"insert\",\"at\":0,\"text\":\"d\"},{\"op\":\"delete\",\"at\":3,\"count\":1}]}";
+
+const SECOND_IS_REFUSED: &str = "{\"at\":1,\"code\":5,\"error\":\"range\",\"ok\":false}";
 
 /// An edit, and then a stop with an edit behind it, which is refused.
 const INSERT_AND_STOP: [(&str, &str); 2] = [

@@ -25,6 +25,8 @@ mod test_ends;
 #[cfg(test)]
 mod test_hubs;
 #[cfg(test)]
+mod told_tests;
+#[cfg(test)]
 mod waiting_disk;
 #[cfg(test)]
 mod watch_tests;

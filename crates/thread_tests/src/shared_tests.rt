@@ -3,9 +3,8 @@ ghost use Rattle.std.specs.Prelude.{◌≡◌};
 
 use crate::test_hubs::{insert, parts};
 use disk_trait::MemDisk;
-use hub_parts::{Flusher, Parts};
-use pass_books::{BookNames, Pass};
-use shared_hub::{Named, NoCheckpoint, Opened, Shared, flush};
+use pass_books::BookNames;
+use shared_hub::{Committer, Named, NoCheckpoint, Opened, Pass, Shared, flush};
 use std::alloc::Global;
 use std::marker::Brand;
 use std::rt::Clock;
@@ -34,13 +33,12 @@ fn make_edits<R: Wait, J: BookNames>(
     Some(pass.made())
 }
 
-/// A new hub under these books, and its flusher.
-fn share<J: BookNames>(alloc: Global, opened: Opened) -> Option<(Named<J>, Flusher<MemDisk>)>
+/// A new hub under these books.
+fn share<J: BookNames>(alloc: Global, opened: Opened) -> Option<Named<J, MemDisk>>
     requires { opened ≡ J.names }
 {
-    let Parts { locked, flusher } = parts(alloc)?;
-    let named = opened.share::<J>(alloc, locked).ok()?;
-    Some((named, flusher))
+    let parts = parts(alloc)?;
+    opened.share::<J, MemDisk>(alloc, parts).ok()
 }
 
 /// Four threads edit beside the flusher's. Gives how many entries their passes have in all, and how
@@ -52,11 +50,14 @@ fn four_edit<J: BookNames + Send + Sync, R: Wait + Clock + Threads + Sync>(
 ) -> Option<(u64, usize)>
     requires { opened ≡ J.names }
 {
-    let (named, mut flusher) = share::<J>(alloc, opened)?;
-    let Named { shared, passes } = named;
-    let made = edit_beside(rt, alloc, &shared, passes, &mut flusher);
+    let Named {
+        shared,
+        mut committer,
+        passes,
+    } = share::<J>(alloc, opened)?;
+    let made = edit_beside(rt, alloc, &shared, passes, &mut committer);
     let locked = shared.end().into_locked();
-    if locked.fits(&flusher) {
+    if locked.fits(&committer.into_flusher()) {
         Some((made, locked.list().len()))
     } else {
         None
@@ -69,7 +70,7 @@ fn edit_beside<J: BookNames + Send + Sync, R: Wait + Clock + Threads + Sync>(
     alloc: Global,
     shared: &Shared<J>,
     passes: Vec<Pass<J>>,
-    flusher: &mut Flusher<MemDisk>,
+    committer: &mut Committer<J, MemDisk>,
 ) -> u64 {
     let made = Mutex::new(0);
     let counted = &made;
@@ -79,7 +80,7 @@ fn edit_beside<J: BookNames + Send + Sync, R: Wait + Clock + Threads + Sync>(
             shared.close(rt);
         });
         if editing.is_ok() {
-            flush(rt, shared, flusher, &NoCheckpoint);
+            flush(rt, shared, committer, &NoCheckpoint);
         }
     });
     made.into_inner()
@@ -135,10 +136,13 @@ fn edit_behind_the_end<J: BookNames, R: Wait + Clock>(
 ) -> Option<(bool, bool)>
     requires { opened ≡ J.names }
 {
-    let (named, mut flusher) = share::<J>(alloc, opened)?;
-    let Named { shared, passes } = named;
+    let Named {
+        shared,
+        mut committer,
+        passes,
+    } = share::<J>(alloc, opened)?;
     shared.close(rt);
-    flush(rt, &shared, &mut flusher, &NoCheckpoint);
+    flush(rt, &shared, &mut committer, &NoCheckpoint);
     waits_behind_the_end(rt, alloc, &shared, passes)
 }
 

@@ -1,6 +1,7 @@
 //! Daemons over disks in memory, and sessions to them over sockets, by `Read` and `Write`, for
 //! tests.
-ghost use Rattle.std.specs.Prelude.{◌≡◌, [], IfSome};
+ghost use Rattle.std.specs.Prelude.{IfSome};
+ghost use Rattle.hub_parts.specs.Opening.{IsOpened};
 
 use disk_trait::{Disk, MemDisk};
 use group_commit::Store;
@@ -35,7 +36,7 @@ pub fn new_disk(alloc: Global, last: u8) -> Option<MemDisk> {
 
 /// The parts of the hub that a disk holds.
 fn parts<D: Disk + Drop>(alloc: Global, disk: D) -> Option<Parts<D>>
-    ensures { IfSome result (λ it. it.locked.replica.steps ≡ []) }
+    ensures { IfSome result (λ it. IsOpened it.locked it.flusher) }
 {
     open(alloc, disk).ok()
 }

@@ -1,5 +1,6 @@
 //! What hubs that threads share are made of, and the edits of their tests.
-ghost use Rattle.std.specs.Prelude.{◌≡◌, [], IfSome};
+ghost use Rattle.std.specs.Prelude.{IfSome};
+ghost use Rattle.hub_parts.specs.Opening.{IsOpened};
 
 use disk_trait::MemDisk;
 use group_commit::Store;
@@ -31,7 +32,7 @@ pub fn insert(alloc: Global, doc: u32) -> Option<Action> {
 
 /// The parts of a new replica's hub, whose name ends in 1.
 pub fn parts(alloc: Global) -> Option<Parts<MemDisk>>
-    ensures { IfSome result (λ it. it.locked.replica.steps ≡ []) }
+    ensures { IfSome result (λ it. IsOpened it.locked it.flusher) }
 {
     let disk = MemDisk::new(alloc, 1_048_576, 65_536).ok()?;
     let store = Store::init(alloc, disk, replica(1)?).ok()?;

@@ -3,9 +3,8 @@ ghost use Rattle.std.specs.Prelude.{◌≡◌};
 
 use crate::test_hubs::{insert, parts};
 use disk_trait::MemDisk;
-use hub_parts::{Flusher, Parts};
-use pass_books::{BookNames, Pass};
-use shared_hub::{Named, NoCheckpoint, Opened, Shared, Watched, flush};
+use pass_books::BookNames;
+use shared_hub::{Committer, Named, NoCheckpoint, Opened, Pass, Shared, Watched, flush};
 use std::alloc::Global;
 use std::marker::Brand;
 use std::rt::Clock;
@@ -53,7 +52,7 @@ fn watch_beside<J: BookNames + Send + Sync, R: Wait + Clock + Threads + Sync>(
     alloc: Global,
     shared: &Shared<J>,
     pass: Pass<J>,
-    flusher: &mut Flusher<MemDisk>,
+    committer: &mut Committer<J, MemDisk>,
 ) -> Option<[Watched; 3]> {
     let found = Mutex::new(None);
     let seen = &found;
@@ -64,7 +63,7 @@ fn watch_beside<J: BookNames + Send + Sync, R: Wait + Clock + Threads + Sync>(
             shared.close(rt);
         });
         if watching.is_ok() {
-            flush(rt, shared, flusher, &NoCheckpoint);
+            flush(rt, shared, committer, &NoCheckpoint);
         }
     });
     found.into_inner()
@@ -102,14 +101,15 @@ fn all_watched<J: BookNames + Send + Sync, R: Wait + Clock + Threads + Sync>(
 ) -> Option<([Watched; 2], [Watched; 3], [Watched; 2])>
     requires { opened ≡ J.names }
 {
-    let Parts {
-        locked,
-        mut flusher,
-    } = parts(alloc)?;
-    let Named { shared, passes } = opened.share::<J>(alloc, locked).ok()?;
+    let parts = parts(alloc)?;
+    let Named {
+        shared,
+        mut committer,
+        passes,
+    } = opened.share::<J, MemDisk>(alloc, parts).ok()?;
     let mut pass = passes.into_iter().next()?;
     let before = unsettled(rt, alloc, &shared, &mut pass)?;
-    let found = watch_beside(rt, alloc, &shared, pass, &mut flusher)?;
+    let found = watch_beside(rt, alloc, &shared, pass, &mut committer)?;
     Some((before, found, after_the_end(rt, &shared)))
 }
 

@@ -1,12 +1,16 @@
 /** The marks that a character has, as an object of just the kinds that hold, and how edits change them. */
 
 import { EM, STRONG, comment, link } from "../marks.js";
+import { HALF } from "../places.js";
 
 /**
  * @typedef {import("../marks.js").Mark} Mark
  * @typedef {{strong?: true, em?: true, link?: string, comments?: string[]}} Held
  * @typedef {{mark: Mark, isOn: boolean}} Change a mark that is given, or taken away
  */
+
+/** The form in which the program answers the id of a comment. */
+const UUID = /^[0-9a-f]{8}(-[0-9a-f]{4}){3}-[0-9a-f]{12}$/;
 
 /** @type {Held} */
 export const NONE = Object.freeze({});
@@ -25,6 +29,25 @@ export function held({ strong, em, link: url, comments }, knows) {
   if (url && knows("link")) found.link = url;
   if (comments?.length && knows("comment")) found.comments = comments;
   return found;
+}
+
+/**
+ * Whether the program takes what a link leads to.
+ * @param {unknown} url
+ * @returns {url is string}
+ */
+export function isHeldUrl(url) {
+  if (typeof url !== "string" || HALF.test(url)) return false;
+  const { length } = new TextEncoder().encode(url);
+  return length >= 1 && length <= 1024;
+}
+
+/**
+ * Whether the program answers the id of a comment just so.
+ * @param {string} id
+ */
+export function isHeldId(id) {
+  return UUID.test(id);
 }
 
 /**

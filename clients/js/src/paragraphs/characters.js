@@ -3,8 +3,9 @@
  * character of a paragraph and one for each break between two.
  */
 
-import { NONE } from "../editing/marks.js";
+import { NONE, isHeldId, isHeldUrl } from "../editing/marks.js";
 import { EM, STRONG, comment, link } from "../marks.js";
+import { HALF } from "../places.js";
 
 /**
  * @typedef {import("prosemirror-model").Node} Node
@@ -13,12 +14,6 @@ import { EM, STRONG, comment, link } from "../marks.js";
  * @typedef {import("../editing/marks.js").Held} Held
  * @typedef {import("../editing/edits.js").Run} Run
  */
-
-/** Half of a pair of surrogates, which is no character. */
-const HALF = /\p{Surrogate}/u;
-
-/** The form in which the program answers the id of a comment. */
-const UUID = /^[0-9a-f]{8}(-[0-9a-f]{4}){3}-[0-9a-f]{12}$/;
 
 /** The break between two paragraphs. Its marks aren't shown, so it has none here. */
 const BREAK = Object.freeze({ text: "\n", marks: NONE });
@@ -178,15 +173,8 @@ function isHeldMark(mark) {
     case "link":
       return isHeldUrl(sent.url);
     case "comment":
-      return UUID.test(sent.id);
+      return isHeldId(sent.id);
     default:
       return true;
   }
-}
-
-/** @param {unknown} url */
-function isHeldUrl(url) {
-  if (typeof url !== "string" || HALF.test(url)) return false;
-  const { length } = new TextEncoder().encode(url);
-  return length >= 1 && length <= 1024;
 }

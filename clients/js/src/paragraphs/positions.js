@@ -1,6 +1,6 @@
 /** Positions of ProseMirror in a document of plain paragraphs, and places of the program. A break between two paragraphs is one place wide. */
 
-import { indexAfter, lengthOf } from "../places.js";
+import { indexAfter, isInside, lengthOf } from "../places.js";
 import { changedIn, runsOf } from "./characters.js";
 
 /** @typedef {import("prosemirror-model").Node} Node */
@@ -155,8 +155,7 @@ function placeIn(paragraph, offset) {
  * @param {number} units
  */
 function headOf(text, units) {
-  const isInside = units > 0 && Number(text.codePointAt(units - 1)) > 0xffff;
-  return text.slice(0, Math.max(isInside ? units - 1 : units, 0));
+  return text.slice(0, Math.max(isInside(text, units) ? units - 1 : units, 0));
 }
 
 /**

@@ -41,6 +41,7 @@ export function show(modules, change, steps) {
  * @param {Modules} modules
  * @param {Node} doc
  * @param {readonly Step[]} steps
+ * @returns {Node}
  */
 export function behindSteps(modules, doc, steps) {
   const change = new modules.transform.Transform(doc);
@@ -54,6 +55,7 @@ export function behindSteps(modules, doc, steps) {
  * @param {Modules} modules
  * @param {Node} doc
  * @param {readonly {edit: Edit}[]} pending
+ * @returns {Node}
  */
 export function behind(modules, doc, pending) {
   const change = new modules.transform.Transform(doc);

@@ -32,18 +32,14 @@ class Piece(NamedTuple):
     number: int | None = None
 
 
-class Action:
-    """Edits of a document that are made at the end of a `with` block, each at the places that those before it leave; none if the block raises.
+class Collected:
+    """Edits of a document that are made at once later on, each at the places that those before it leave.
 
     `rev` is the document's behind them, once they are made.
     """
 
-    def __init__(self, document: Document, rev: int | None, token: UUID | None, parted: bool) -> None:
+    def __init__(self) -> None:
         self.rev: int | None = None
-        self._document = document
-        self._rev = rev
-        self._token = token
-        self._parted = parted
         self._edits: list[Fields] = []
         self._is_over = False
 
@@ -68,13 +64,29 @@ class Action:
             raise ValueError("this action is over: begin another one")
         self._edits.append(edit)
 
+    def _made(self, kind: type[BaseException] | None) -> list[Fields]:
+        """Those that are to be made at the end of a block: none if it raised."""
+        self._is_over = True
+        return self._edits if kind is None else []
+
+
+class Action(Collected):
+    """Edits of a document that are made at the end of a `with` block, each at the places that those before it leave; none if the block raises.
+
+    `rev` is the document's behind them, once they are made.
+    """
+
+    def __init__(self, document: Document, rev: int | None, token: UUID | None, parted: bool) -> None:
+        super().__init__()
+        self._document = document
+        self._given = (rev, token, parted)
+
     def __enter__(self) -> Action:
         return self
 
     def __exit__(self, kind: type[BaseException] | None, error: BaseException | None, trace: TracebackType | None) -> None:
-        self._is_over = True
-        if kind is None and self._edits:
-            self.rev = self._document.edits(self._edits, self._rev, self._token, self._parted)
+        if edits := self._made(kind):
+            self.rev = self._document.edits(edits, *self._given)
 
 
 def inserting(at: int, text: str) -> dict[str, Any]:

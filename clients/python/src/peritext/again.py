@@ -6,7 +6,7 @@ from typing import Any, Callable, Mapping
 from uuid import uuid4
 
 from .answers import answer_of
-from .refusals import Refused
+from .refusals import Refused, Stale
 
 EDITS = ("insert", "delete", "mark", "unmark", "edits")
 # No document has so many operations: an edit that names this `rev` is made never, and answered only if it was made before.
@@ -29,7 +29,11 @@ def repeated(request: dict[str, Any]) -> dict[str, Any]:
 
 
 def is_known(made: dict[str, Any] | None, ask: Callable[[dict[str, Any]], bytes]) -> bool:
-    """Whether somebody who is asked has an edit that was answered: else it isn't the same file. Where there is none, it is taken for the same."""
+    """Whether somebody who is asked has an edit that was answered: else it isn't the same file. Where there is none, it is taken for the same.
+    `Refused` if that isn't told, as by a daemon that has no memory just then."""
     if made is None:
         return True
-    return not isinstance(answer_of(ask({**made, "rev": NEVER}), made), Refused)
+    told = answer_of(ask({**made, "rev": NEVER}), made)
+    if isinstance(told, Refused) and not isinstance(told, Stale):
+        raise told
+    return not isinstance(told, Refused)

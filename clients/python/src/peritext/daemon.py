@@ -74,10 +74,15 @@ class SocketSession(Session):
         Reset(spans=[], rev=0)
         Delta(steps=[Insert(text='fox', marks=Marks())], rev=3)
         """
+        session, watch = self.followers(document)
+        return Follow(session, document, watch)
+
+    def followers(self, document: int) -> tuple[SocketSession, Watch]:
+        """What follows a document: a session and a watch of its own, which take two places more."""
         watch = Watch(self._port, document, self._retry, tells_again=True)
         try:
             # After the watch, which can't have the last place.
-            return Follow(connect(self._port, self._timeout, self._retry), document, watch)
+            return connect(self._port, self._timeout, self._retry), watch
         except BaseException:
             watch.close()
             raise

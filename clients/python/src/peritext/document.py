@@ -2,14 +2,14 @@
 
 from __future__ import annotations
 
-from typing import TYPE_CHECKING, Any, Iterable, Iterator, NamedTuple
-from uuid import UUID, uuid5
+from typing import TYPE_CHECKING, Any, Iterable
+from uuid import UUID
 
-from .action import Action, Fields, Piece, cut, deleting, inserting, lines_of, marking, pieces_of, unmarking
-from .changing import Changes, step_of
+from .action import Action, Fields
+from .calls import Calls, Reading
+from .changing import Changes
 from .marks import Mark, Span
-from .refusals import Refused, Stale
-from .rules import LONGEST, MOST, is_whole
+from .running import run
 
 if TYPE_CHECKING:
     from concurrent.futures import Future
@@ -17,15 +17,7 @@ if TYPE_CHECKING:
     from .following import Follow
     from .session import Session
 
-# How often several requests are made, until all are answered at one `rev`.
-ROUNDS = 8
-
-
-class Reading(NamedTuple):
-    """A text and the `rev` that it has: an edit that is sent in the same session with this `rev` is made in just this text, or is `Stale`."""
-
-    text: str
-    rev: int
+__all__ = ["Document", "Reading"]
 
 
 class Document:
@@ -43,25 +35,23 @@ class Document:
     def __init__(self, session: Session, number: int) -> None:
         self.session = session
         self.number = number
+        self._calls = Calls(session, number)
 
     def insert(self, at: int, text: str, rev: int | None = None, token: UUID | None = None) -> int:
         """Puts characters before the one at a place, or at the end."""
-        edit = inserting(at, text)
-        if len(text) <= LONGEST or not is_whole(at, 0):
-            return self._edit(rev, token, **edit)
-        return self._make((Piece(piece) for piece in cut(edit)), rev, token, parted=True)
+        return run(self.session, self._calls.insert(at, text, rev, token))
 
     def delete(self, at: int, count: int, rev: int | None = None, token: UUID | None = None) -> int:
         """Takes characters away from a place on."""
-        return self._edit_all(cut(deleting(at, count)), rev, token)
+        return run(self.session, self._calls.delete(at, count, rev, token))
 
     def mark(self, start: int, end: int, mark: Mark, rev: int | None = None, token: UUID | None = None) -> int:
         """Marks the characters from a place up to another, that one not included."""
-        return self._edit(rev, token, **marking(start, end, mark))
+        return run(self.session, self._calls.mark(start, end, mark, rev, token))
 
     def unmark(self, start: int, end: int, mark: Mark, rev: int | None = None, token: UUID | None = None) -> int:
         """Takes a mark away from the characters from a place up to another, that one not included."""
-        return self._edit(rev, token, **unmarking(start, end, mark))
+        return run(self.session, self._calls.unmark(start, end, mark, rev, token))
 
     def action(self, rev: int | None = None, token: UUID | None = None, parted: bool = False) -> Action:
         """Edits that are made at once, at the end of a `with` block: all of them or none, and nothing comes between them. Each is at the places that
@@ -85,10 +75,11 @@ class Document:
 
         >>> rev = document.edits([{"op": "insert", "at": 0, "text": "ab"}, {"op": "delete", "at": 1, "count": 1}])
         """
-        return self._make(pieces_of(edits), rev, token, parted)
+        return run(self.session, self._calls.edits(edits, rev, token, parted))
 
     def text(self) -> str:
-        return self.read().text
+        """The text."""
+        return run(self.session, self._calls.text())
 
     def read(self) -> Reading:
         """The text with its `rev`.
@@ -96,12 +87,11 @@ class Document:
         >>> text, rev = document.read()
         >>> rev = document.insert(len(text), "!", rev)
         """
-        answer = self.session.ask(op="text", doc=self.number)
-        return Reading(answer["text"], answer["rev"])
+        return run(self.session, self._calls.read())
 
     def spans(self) -> list[Span]:
         """The text in runs of equal marks."""
-        return [Span.of(span) for span in self.session.ask(op="spans", doc=self.number)["spans"]]
+        return run(self.session, self._calls.spans())
 
     def changes(self, since: int) -> Changes:
         """What changed since a `rev`, for whoever has the text of then: steps that make the text of now of it, from its start on, each over so
@@ -118,15 +108,7 @@ class Document:
         The `rev` of another session, or of the connection before, could name another text: so it is `Stale` too, and isn't asked for, before
         this session was told one of this document over its connection. Then go on from 0.
         """
-        parted = self.session.parted
-        # The text at 0 is empty everywhere. What is no number is refused as it is.
-        if is_whole(since, 1) and not self.session.knows_rev(self.number):
-            raise Stale(6, "stale")
-        answer = self.session.ask(op="changes", doc=self.number, since=since)
-        # It was asked for again over another connection.
-        if since != 0 and parted != self.session.parted:
-            raise Stale(6, "stale")
-        return Changes([step_of(step) for step in answer["changes"]], answer["rev"])
+        return run(self.session, self._calls.changes(since))
 
     def follow(self) -> Follow:
         """The document as it changes, whoever edits: a `Reset` with its whole text at first, then a `Delta` for each change as soon as a daemon tells
@@ -151,77 +133,25 @@ class Document:
         >>> document.place(caret)
         7
         """
-        return self.anchors([at], side, rev)[0]
+        return run(self.session, self._calls.anchor(at, side, rev))
 
     def anchors(self, at: Iterable[int], side: str = "previous", rev: int | None = None) -> list[str]:
         """Such names for any number of places. More than 256 go as several requests, which may be answered at different moments: unless all of
         them are answered at one `rev`, they are sent anew, and are `Stale` after eight times."""
-        return self._ask_all("anchors", {"side": side}, "at", list(at), rev)
+        return run(self.session, self._calls.anchors(at, side, rev))
 
     def place(self, anchor: str, rev: int | None = None) -> int | None:
         """Where a place that lasts is now, or None if it is beside a character that this file doesn't have, or doesn't have yet. Beside one that
         was removed it stays where that was. With the `rev` of a text that was read it is a place of just this text, or `Stale`."""
-        return self.places([anchor], rev)[0]
+        return run(self.session, self._calls.place(anchor, rev))
 
     def places(self, anchors: Iterable[str], rev: int | None = None) -> list[int | None]:
         """Where any number of such places are now. More than 256 go as several requests, as those of `anchors` do."""
-        return self._ask_all("places", {}, "anchors", list(anchors), rev)
+        return run(self.session, self._calls.places(anchors, rev))
 
     def rev(self) -> int:
         """How many operations the document has."""
-        return self.read().rev
-
-    def _ask_all(self, op: str, fields: dict[str, Any], name: str, values: list[Any], rev: int | None) -> list[Any]:
-        """What is answered for all of these values, by requests for some of them each: at this `rev`, or else at any one."""
-        parts = [values[first : first + MOST] for first in range(0, len(values), MOST)]
-        for _ in range(ROUNDS if rev is None else 1):
-            parted = self.session.parted
-            if rev is not None and not self.session.knows_rev(self.number):
-                break
-            under_way = [self.session.send(op=op, doc=self.number, **fields, **{name: part}) for part in parts]
-            answers = [each.result() for each in under_way]
-            revs = {answer["rev"] for answer in answers}
-            # After a lost connection the same number can name another text.
-            is_one = parted == self.session.parted and len(revs) <= 1
-            if is_one and (rev is None or revs <= {rev}):
-                return [value for answer in answers for value in answer[op]]
-        raise Stale(6, "stale")
-
-    def _edit_all(self, edits: Iterator[dict[str, Any]], rev: int | None, token: UUID | None) -> int:
-        """Makes edits one after the other, and gives the last answer."""
-        last = self._edit(rev, token, **next(edits))
-        for number, fields in enumerate(edits, 1):
-            last = self._edit_next(last, _token_after(token, number * LONGEST), **fields)
-        return last
-
-    def _make(self, pieces: Iterable[Piece], rev: int | None, token: UUID | None, parted: bool) -> int:
-        """Makes edits at once, or line by line, and gives the last answer."""
-        last: int | None = None
-        made = 0
-        for line in lines_of(pieces, parted):
-            fields = {"op": "edits", "edits": [piece.edit for piece in line]}
-            try:
-                last = self._edit(rev, token, **fields) if last is None else self._edit_next(last, _token_after(token, made), **fields)
-            except Refused as refused:
-                refused.at = None if refused.at is None else line[refused.at].number
-                raise
-            made += len(line)
-        if last is None:
-            raise ValueError("no edits are no request")
-        return last
-
-    def _edit_next(self, rev: int, token: UUID | None, **fields: Any) -> int:
-        """Makes an edit after one that was answered with this `rev`. If it is `Stale` for a lost connection alone, it is sent anew."""
-        while True:
-            try:
-                return self._edit(rev, token, **fields)
-            except Stale:
-                if self.rev() != rev:
-                    raise
-
-    def _edit(self, rev: int | None, token: UUID | None, **fields: Any) -> int:
-        given = {"rev": rev, "token": token and str(token)}
-        return self.session.edit(doc=self.number, **fields, **{name: value for name, value in given.items() if value is not None})
+        return run(self.session, self._calls.rev())
 
     def send_insert(self, at: int, text: str) -> Future[dict[str, Any]]:
         """The same as `insert`, without waiting, of 1 to 256 characters: many may be under way, and they are made in this order.
@@ -232,8 +162,3 @@ class Document:
         True
         """
         return self.session.send(op="insert", doc=self.number, at=at, text=text)
-
-
-def _token_after(token: UUID | None, made: int) -> UUID | None:
-    """The token of a further line of a call that was given one, by what was made before."""
-    return token and uuid5(UUID(str(token)), str(made))

@@ -25,6 +25,7 @@ class FileSession(Session):
         timeout = timeout_of(timeout)
         self._program = started(program, "edit", file)
         self._is_killed = False
+        self._said = ""
         assert self._program.stdin and self._program.stdout
         super().__init__(self._program.stdin, cast(BufferedReader, self._program.stdout), timeout)
 
@@ -32,12 +33,14 @@ class FileSession(Session):
         """Ends the session and waits for the program. `Refused` if it ends by a refusal, as 54 if another program has the file."""
         super().close()
         assert self._program.stderr
-        said = self._program.stderr.read().decode(errors="replace")
-        self._program.stderr.close()
+        # A session that is closed again tells the same.
+        if not self._program.stderr.closed:
+            self._said = self._program.stderr.read().decode(errors="replace")
+            self._program.stderr.close()
         status = self._program.wait()
         if self._is_killed:
             raise Ended(f"the session has ended ({self._end})")
-        check(status, said)
+        check(status, self._said)
 
     def _abandon(self) -> None:
         # What it answered is in the file, which is free then.

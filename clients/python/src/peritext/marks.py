@@ -97,6 +97,7 @@ class Span:
 
     @staticmethod
     def of(answer: Mapping[str, Any]) -> Span:
+        """A span, as an answer spells it."""
         return Marks.of(answer).on(answer["text"])
 
 

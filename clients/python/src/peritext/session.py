@@ -18,7 +18,9 @@ from .seconds import timeout_of
 from .silence import TIMEOUT, Silence
 
 if TYPE_CHECKING:
+    from .daemon import SocketSession
     from .following import Follow
+    from .watching import Watch
 
 # The kind of a session: over a file, or of a daemon.
 Kind = TypeVar("Kind", bound="Session")
@@ -27,7 +29,10 @@ PART = 65_536
 
 
 class Owed(NamedTuple):
-    """An answer that is due, its request, and whether that was sent before, over a connection that ended."""
+    """An answer that is due, its request, and whether that was sent before, over a connection that ended.
+
+    Who doesn't want the answer any more cancels it. It keeps its place in the order all the same.
+    """
 
     answer: Future[dict[str, Any]]
     request: dict[str, Any]
@@ -68,9 +73,17 @@ class Session:
         """The document of a number from 1 to 2^32 - 1. One that nobody edited is empty."""
         return Document(self, number)
 
+    def watch(self, document: int) -> Watch:
+        """Tells of the changes of a document. Only a session of a daemon does."""
+        raise _untold()
+
     def follow(self, document: int) -> Follow:
         """Tells a document as it changes. Only a session of a daemon does."""
-        raise UnsupportedOperation("nobody tells of changes where a session has its file alone: connect to a daemon (`peritext serve`)")
+        raise _untold()
+
+    def followers(self, document: int) -> tuple[SocketSession, Watch]:
+        """What follows a document: a session and a watch of its own. Only a session of a daemon has them."""
+        raise _untold()
 
     def ask(self, **fields: Any) -> dict[str, Any]:
         """The answer to a request, as it comes. `Refused` if it is refused, `Ended` if none comes."""
@@ -79,7 +92,11 @@ class Session:
     def edit(self, **fields: Any) -> int:
         """The `rev` after an edit. `Stale` if it names one and this session was told none of its document: before, the number of another
         session, or of the connection before, could name another text."""
-        return int(self._sent(fields, needs_rev="rev" in fields).result()["rev"])
+        return int(self.begin(fields).result()["rev"])
+
+    def begin(self, request: dict[str, Any]) -> Future[dict[str, Any]]:
+        """Sends a request, as `edit` has it if it names a `rev`, and doesn't wait for its answer."""
+        return self._sent(request, needs_rev="rev" in request)
 
     def knows_rev(self, document: int) -> bool:
         """Whether this session was told a `rev` of a document. Before, the number of another session could name another text."""
@@ -87,15 +104,13 @@ class Session:
             return document in self._told
 
     def send(self, **fields: Any) -> Future[dict[str, Any]]:
-        """Sends a request and doesn't wait for its answer."""
+        """Sends a request and doesn't wait for its answer. Whoever cancels that gives up the answer alone: what was asked may be done."""
         return self._sent(fields, needs_rev=False)
 
     def _sent(self, fields: dict[str, Any], needs_rev: bool) -> Future[dict[str, Any]]:
         request = self._named(fields)
         line = line_of(request)
         answer: Future[dict[str, Any]] = Future()
-        # It is under way from now on: who doesn't want the answer any more can't take it out of its order.
-        answer.set_running_or_notify_cancel()
         with self._writing:
             with self._listing:
                 if self._end is not None:
@@ -105,7 +120,13 @@ class Session:
                 self._waiting.append(Owed(answer, request))
                 self._silence.begin()
                 self._listing.notify_all()
-            self._write(line)
+            try:
+                self._write(line)
+            except BaseException:
+                # A signal, as by Ctrl-C: nobody knows how much of it was sent, and what is sent next would be taken for its end.
+                answer.cancel()
+                self._abandon()
+                raise
         return answer
 
     def _named(self, request: dict[str, Any]) -> dict[str, Any]:
@@ -216,8 +237,8 @@ class Session:
         return False
 
     def _is_taken_off(self, told: dict[str, Any] | Refused, is_put_off: bool) -> bool:
-        """Takes the first of those that wait off the list, and whether its answer is told: it isn't where the request is put off, or all of them
-        were told of the end meanwhile."""
+        """Takes the first of those that wait off the list, and whether its answer is told: it isn't where nobody wants it any more, the request is
+        put off, or all of them were told of the end meanwhile."""
         with self._listing:
             if self._end is not None:
                 return False
@@ -227,13 +248,16 @@ class Session:
                 return False
             if not self._waiting and not self._put_off and not self._closes:
                 self._silence.end()
+            # From now on nobody gives it up.
+            is_wanted = owed.answer.set_running_or_notify_cancel()
             self._note(owed, told)
-            return True
+            return is_wanted
 
     def _note(self, owed: Owed, told: dict[str, Any] | Refused) -> None:
-        """Keeps what an answer tells. That to an edit which was sent before may be older than what is there."""
+        """Keeps what an answer tells. That to an edit which was sent before may be older than what is there. Who gave it up knows no number by it:
+        that of the connection before would be taken for one of this."""
         doc, is_old = owed.request.get("doc"), owed.is_repeated and "token" in owed.request
-        if not isinstance(told, Refused) and "rev" in told and isinstance(doc, int) and not is_old:
+        if not isinstance(told, Refused) and "rev" in told and isinstance(doc, int) and not is_old and not owed.answer.cancelled():
             self._told.add(doc)
 
     def _fall_silent(self) -> None:
@@ -248,6 +272,11 @@ class Session:
             left = [*self._put_off, *self._waiting]
             self._put_off, self._waiting = deque(), deque()
         for owed in left:
-            owed.answer.set_exception(
-                Ended(f"the session ended before this request was answered ({self._end}): begin another one, and read what is there")
-            )
+            if owed.answer.set_running_or_notify_cancel():
+                owed.answer.set_exception(
+                    Ended(f"the session ended before this request was answered ({self._end}): begin another one, and read what is there")
+                )
+
+
+def _untold() -> UnsupportedOperation:
+    return UnsupportedOperation("nobody tells of changes where a session has its file alone: connect to a daemon (`peritext serve`)")

@@ -100,5 +100,5 @@ returns-clause-prepared c = λ h list replica.
       clock = rw (list, replica) (c.loop-change.invariant.behind.clock ∙ ap (λ more. clock_of (ops ++ more)) ends);
       end = rw (list, replica) ((omega arith) ∙ ap (λ more. length (ops ++ more)) ends);
       number = rw (list, replica) (counted ∙ (ap (λ more. rev (ops ++ more) (doc_number m.doc)) ends ∙ ap (rev (ops ++ made_in_turn ops r a.doc a.token a.changes)) c.loop-change.invariant.number));
-      copy = (c.loop-change.invariant.number, rw list c.loop-change.invariant.behind.stands);
+      copy = record { number = c.loop-change.invariant.number; stands = rw list c.loop-change.invariant.behind.stands };
     }

@@ -13,5 +13,6 @@ loop-preserved g c =
       locked = c.in_ok-parts.parts.locked;
       opened = c.in_ok-parts.ensures.opened;
       loaded = c.in_ok-parts.ensures.loaded;
+      looked = c.in_ok-parts.ensures.looks;
     })
     c.serve_all-served-in-loop.ensures

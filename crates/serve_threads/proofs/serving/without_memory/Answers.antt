@@ -9,5 +9,6 @@ returns g c =
       flusher = c.args.flusher;
       disk = c.into_disk.ensures;
       kept = c.kept.ensures;
-      goes = goes_nowhere g.D.DiskFacts c.args.flusher c.args.flusher refl;
+      goes = goes_nowhere g.D.DiskFacts c.args.flusher c.args.flusher (λ disk told. g.met.D.Disk.lawful disk told) c.kept.ensures refl;
+      beside = c.requires;
     }

@@ -7,7 +7,7 @@ returns-in-Ok-clause-answer g c =
 
 pub returns-in-Err-clause-answer : goal.returns-in-Err-clause-answer
 returns-in-Err-clause-answer g c =
-    answered_refusal g.D.DiskFacts c.args.session _ _ c.args.edit.now c.refusal_of.result _ c.refusal_of.ensures c.in-Err.ensures.call
+    answered_refusal g.D.DiskFacts c.args.session _ _ c.args.edit.now c.refusal_of.result _ _ c.refusal_of.ensures c.in-Err.ensures.call c.answer_refusal.ensures
 
 pub refusal_of-requires-clause-number : goal.refusal_of-requires-clause-number
 refusal_of-requires-clause-number g c = can_be_refused g.D.DiskFacts c.args.session _ _ c.args.edit.now _ c.in-Err.ensures.call

@@ -4,16 +4,16 @@ use Rattle.shared_hub.proofs.flushing.go_through.Goals as goal
 
 -- nothing was done yet
 pub loop-init : goal.loop-init
-loop-init g c = goes_nowhere g.D.DiskFacts c.args.flusher.now c.args.flusher.now refl
+loop-init g c = goes_nowhere g.D.DiskFacts c.args.committer.now.flusher c.args.committer.now.flusher (λ disk told. g.met.D.Disk.lawful disk told) c.kept.ensures refl
 
 -- one more
 pub returns-then-matches : goal.returns-then-matches
-returns-then-matches g c = goes_behind g.D.DiskFacts c.args.flusher.now c.loop.flusher c.device_call.new.flusher c.loop.invariant c.device_call.ensures
+returns-then-matches g c = goes_behind g.D.DiskFacts c.args.committer.now.flusher c.loop.committer.flusher c.device_step.new.self.flusher c.loop.invariant c.device_step.ensures.goes
 
 -- one more
 pub loop-preserved : goal.loop-preserved
-loop-preserved g c = goes_behind g.D.DiskFacts c.args.flusher.now c.loop.flusher c.device_call.new.flusher c.loop.invariant c.device_call.ensures
+loop-preserved g c = goes_behind g.D.DiskFacts c.args.committer.now.flusher c.loop.committer.flusher c.device_step.new.self.flusher c.loop.invariant c.device_step.ensures.goes
 
 -- one more
 pub returns-in-Err : goal.returns-in-Err
-returns-in-Err g c = goes_behind g.D.DiskFacts c.args.flusher.now c.loop.flusher c.device_call.new.flusher c.loop.invariant c.device_call.ensures
+returns-in-Err g c = goes_behind g.D.DiskFacts c.args.committer.now.flusher c.loop.committer.flusher c.device_step.new.self.flusher c.loop.invariant c.device_step.ensures.goes

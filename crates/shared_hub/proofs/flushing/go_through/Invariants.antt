@@ -3,4 +3,4 @@ use Rattle.shared_hub.proofs.flushing.go_through.Given as goal
 
 -- the flusher has gone on
 abbrev pub invariant-loop : goal.invariant-loop
-invariant-loop g l = Goes g.D.DiskFacts l.initial.flusher l.flusher
+invariant-loop g l = Goes g.D.DiskFacts l.initial.committer.flusher l.committer.flusher

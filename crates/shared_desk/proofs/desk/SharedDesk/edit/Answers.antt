@@ -7,25 +7,24 @@ use Rattle.shared_desk.proofs.desk.SharedDesk.edit.Goals.{then-acknowledge, else
 
 -- an edit is refused with one of the numbers that have an answer
 pub refusal_of-refusal-requires : goal.refusal_of-refusal-requires
-refusal_of-refusal-requires g c =
-    edit_refused c.in-Err.refusal c.self.inside.pass c.edit.new.pass c.args.edit.now (λ other. c.in-Err.ensures.call (λ same. other (cc)))
+refusal_of-refusal-requires g c = edit_refused c.in-Err.refusal c.self.inside.pass c.args.edit.now c.in-Err.ensures.refused
 
 -- a ticket was given: it was acknowledged, or not
 pub returns-after-acknowledge : goal.returns-after-acknowledge
 returns-after-acknowledge g c =
-    let edited = c.in-Ok.ensures.call (λ same. let never : ⊥ = cc in never) in
+    let edited = c.in-Ok.ensures.entered in
     elim c.if-acknowledge.branch [
-      | then-acknowledge w ↦ rw (w.result-is, c.acknowledge.ensures.same, ← c.self.view_is)
-          (edit_acknowledged c.self.inside.pass c.edit.new.pass c.args.edit.now c.in-Ok.ticket _ edited (c.acknowledge.ensures.call w.if-acknowledge.true)
-          (ap (λ (t : Ticket). t.rev) (sym c.ticket.view_is)))
-      | else-acknowledge w ↦ rw (w.result-is, c.acknowledge.ensures.same, ← c.self.view_is)
+      | then-acknowledge w ↦ rw (w.result-is, ← c.self.view_is)
+          (edit_acknowledged c.self.inside.pass c.edit.new.pass c.acknowledge.new.pass c.args.edit.now c.in-Ok.ticket _ edited
+          (c.acknowledge.ensures.entered w.if-acknowledge.true) (ap (λ (t : Ticket). t.rev) (sym c.ticket.view_is)))
+      | else-acknowledge w ↦ rw (w.result-is, c.acknowledge.ensures.same w.if-acknowledge.false, ← c.self.view_is)
           (edit_left_open c.self.inside.pass c.edit.new.pass c.args.edit.now c.in-Ok.ticket edited (c.acknowledge.ensures.unsettled w.if-acknowledge.false))
     ]
 
 -- the hub refused it
 pub returns-after-eq : goal.returns-after-eq
 returns-after-eq g c =
-    rw (← c.self.view_is)
+    rw (c.refused_answer.ensures, c.place-place.ensures, ← c.self.view_is)
     (edit_refused_so c.in-Err.refusal c.refusal_of-refusal.result c.self.inside.pass c.edit.new.pass c.args.edit.now
-    c.refusal_of-refusal.ensures.number c.refusal_of-refusal.ensures.stopping c.in-Err.ensures.pass
-    (λ asked. c.in-Err.ensures.stopping (ap Err asked)) (λ other. c.in-Err.ensures.call (λ same. other (cc))))
+    c.refusal_of-refusal.ensures.number c.refusal_of-refusal.ensures.stopping c.in-Err.ensures.same
+    (λ asked. c.in-Err.ensures.stopping (ap Err asked)) c.in-Err.ensures.refused)

@@ -1,0 +1,233 @@
+/**
+ * @typedef {import("./aborting.js").Abortable} Abortable
+ * @typedef {import("./action.js").Edit} Edit
+ * @typedef {import("./again.js").Request} Request
+ * @typedef {import("./calls.js").Part} Part
+ * @typedef {import("./changing.js").Changes} Changes
+ * @typedef {import("./marks.js").Mark} Mark
+ * @typedef {import("./marks.js").Span} Span
+ * @typedef {import("./wire.js").Answer} Answer
+ */
+/**
+ * The neighbour that a place stays with: the character before it, so that what is typed there comes after it, or the next
+ * one.
+ * @typedef {"previous" | "next"} Side
+ */
+/**
+ * What an edit may be given: the `rev` of the text that it is made for, a `token` under which it is made once, and a
+ * `signal`. They are its last argument, also in the place of `rev` or `token`.
+ * @typedef {Abortable & {rev?: number, token?: string}} EditOptions
+ */
+/**
+ * An action's may let it go as several lines.
+ * @typedef {EditOptions & {parted?: boolean}} ActionOptions
+ */
+/**
+ * A question's: the `rev` of a text that was read, so that the answer is of just this text, or `Stale`.
+ * @typedef {Abortable & {rev?: number}} AskOptions
+ * @typedef {AskOptions & {side?: Side}} AnchorOptions
+ */
+/**
+ * A document, by its number. Places are counted in characters (Unicode scalar values), from 0; `read` gives a text with
+ * edits that are counted as JavaScript's strings are. An edit may name the `rev` that it was made for, which this session
+ * has to have read.
+ *
+ * Each edit answers the document's new `rev` once it is settled on the disk: it then outlives a power cut.
+ *
+ * An edit is of at most 256 characters. An `insert` of more is made at once too, as far as one line takes it, which are 64
+ * KiB. A longer one goes as several lines, each of which is answered before the next one is sent, and a `delete` of more
+ * than 256 characters as several edits. If anybody edits the document in between, the next one is `Stale`, and those before
+ * it are made. The tokens of all but the first follow from the one that is given.
+ *
+ * A call whose `signal` is aborted rejects with the signal's reason. What was sent by then may be made, and nothing more of
+ * the call is sent; an edit with a token of the caller's may be sent again.
+ */
+export class Document {
+    /**
+     * @param {import("./session.js").Session} session
+     * @param {number} number
+     */
+    constructor(session: import("./session.js").Session, number: number);
+    session: import("./session.js").Session;
+    number: number;
+    /**
+     * Puts characters before the one at a place, or at the end.
+     * @param {number} at
+     * @param {string} text
+     * @param {number | EditOptions} [rev]
+     * @param {string | EditOptions} [token]
+     * @param {EditOptions} [options]
+     */
+    insert(at: number, text: string, rev?: number | EditOptions | undefined, token?: string | EditOptions | undefined, options?: EditOptions | undefined): Promise<number>;
+    /**
+     * Takes characters away from a place on.
+     * @param {number} at
+     * @param {number} count
+     * @param {number | EditOptions} [rev]
+     * @param {string | EditOptions} [token]
+     * @param {EditOptions} [options]
+     */
+    delete(at: number, count: number, rev?: number | EditOptions | undefined, token?: string | EditOptions | undefined, options?: EditOptions | undefined): Promise<number>;
+    /**
+     * Marks the characters from a place up to another, that one not included.
+     * @param {number} from
+     * @param {number} to
+     * @param {Mark} mark
+     * @param {number | EditOptions} [rev]
+     * @param {string | EditOptions} [token]
+     * @param {EditOptions} [options]
+     */
+    mark(from: number, to: number, mark: Mark, rev?: number | EditOptions | undefined, token?: string | EditOptions | undefined, options?: EditOptions | undefined): Promise<number>;
+    /**
+     * Takes a mark away from the characters from a place up to another, that one not included.
+     * @param {number} from
+     * @param {number} to
+     * @param {Mark} mark
+     * @param {number | EditOptions} [rev]
+     * @param {string | EditOptions} [token]
+     * @param {EditOptions} [options]
+     */
+    unmark(from: number, to: number, mark: Mark, rev?: number | EditOptions | undefined, token?: string | EditOptions | undefined, options?: EditOptions | undefined): Promise<number>;
+    /**
+     * Makes edits at once: all of them or none, and nothing comes between them. Each is at the places that those before it
+     * leave: `[{ op: "delete", at: 4, count: 3 }, { op: "insert", at: 4, text: "TWO" }, { op: "mark", from: 4, to: 7, ...STRONG }]`.
+     *
+     * One line takes 1,024 edits of at most 256 characters (a longer one is several of them), and 65,536 bytes. More is a
+     * `RangeError`, and nothing is sent; with `parted` it goes as several lines, each of them all or nothing, as a long
+     * `insert` does.
+     * @param {readonly Edit[]} edits
+     * @param {number | ActionOptions} [rev]
+     * @param {string | ActionOptions} [token]
+     * @param {ActionOptions} [options]
+     */
+    action(edits: readonly Edit[], rev?: number | ActionOptions | undefined, token?: string | ActionOptions | undefined, options?: ActionOptions | undefined): Promise<number>;
+    /**
+     * Sends the fields of an edit.
+     * @param {Record<string, unknown>} fields
+     * @param {number | EditOptions} [rev]
+     * @param {string | EditOptions} [token]
+     * @param {EditOptions} [options]
+     * @returns {Promise<number>}
+     */
+    edit(fields: Record<string, unknown>, rev?: number | EditOptions | undefined, token?: string | EditOptions | undefined, options?: EditOptions | undefined): Promise<number>;
+    /**
+     * The text.
+     * @param {Abortable} [options]
+     */
+    text(options?: import("./aborting.js").Abortable | undefined): Promise<string>;
+    /**
+     * The text with its `rev`, and edits of just this text.
+     * @param {Abortable} [options]
+     */
+    read(options?: import("./aborting.js").Abortable | undefined): Promise<Reading>;
+    /**
+     * The text in runs of equal marks.
+     * @param {Abortable} [options]
+     */
+    spans(options?: import("./aborting.js").Abortable | undefined): Promise<import("./marks.js").Span[]>;
+    /**
+     * The spans with their `rev`.
+     * @param {Abortable} [options]
+     * @returns {Promise<{spans: Span[], rev: number}>}
+     */
+    readSpans(options?: import("./aborting.js").Abortable | undefined): Promise<{
+        spans: Span[];
+        rev: number;
+    }>;
+    /**
+     * What changed since a `rev`, for whoever has the text of then: steps that make the text of now of it, from its start on,
+     * and the `rev` of now. They count characters (Unicode scalar values). A character that stayed is the one that it was,
+     * whatever equal ones stand beside it. From 0 on there is an `insert` for each span. `applied` makes the spans of now of
+     * those of then.
+     *
+     * It is `Stale` if the document doesn't have so many operations, and if they are too old to be told: from before the file
+     * was opened. The `rev` of another session, or of the connection before, could name another text: so it is `Stale` too,
+     * and isn't asked for, before this session was told one of this document over its connection. Then go on from 0.
+     * @param {number} since
+     * @param {Abortable} options
+     * @returns {Promise<Changes>}
+     */
+    changes(since: number, { signal }?: Abortable): Promise<Changes>;
+    /**
+     * A name for a place between characters, which lasts: it stays with its neighbour at every peer and in every session.
+     * `place` tells where it is by then. With the `rev` of a text that was read it is of just this text, or `Stale`.
+     * @param {number} at
+     * @param {Side | AnchorOptions} [side]
+     * @param {number | AnchorOptions} [rev]
+     * @param {AnchorOptions} [options]
+     */
+    anchor(at: number, side?: Side | AnchorOptions | undefined, rev?: number | AnchorOptions | undefined, options?: AnchorOptions | undefined): Promise<string>;
+    /**
+     * Such names for any number of places. More than 256 go as several requests, which may be answered at different moments:
+     * unless all of them are answered at one `rev`, they are sent anew, and are `Stale` after eight times.
+     * @param {number[]} at
+     * @param {Side | AnchorOptions} [side]
+     * @param {number | AnchorOptions} [rev]
+     * @param {AnchorOptions} [options]
+     * @returns {Promise<string[]>}
+     */
+    anchors(at: number[], side?: Side | AnchorOptions | undefined, rev?: number | AnchorOptions | undefined, options?: AnchorOptions | undefined): Promise<string[]>;
+    /**
+     * Where a place that lasts is now, or null if it is beside a character that this file doesn't have, or doesn't have yet.
+     * Beside one that was removed it stays where that was. With the `rev` of a text that was read it is a place of just this
+     * text, or `Stale`.
+     * @param {string} anchor
+     * @param {number | AskOptions} [rev]
+     * @param {AskOptions} [options]
+     */
+    place(anchor: string, rev?: number | AskOptions | undefined, options?: AskOptions | undefined): Promise<number | null>;
+    /**
+     * Where any number of such places are now. More than 256 go as several requests, as those of `anchors` do.
+     * @param {string[]} anchors
+     * @param {number | AskOptions} [rev]
+     * @param {AskOptions} [options]
+     * @returns {Promise<(number | null)[]>}
+     */
+    places(anchors: string[], rev?: number | AskOptions | undefined, options?: AskOptions | undefined): Promise<(number | null)[]>;
+    /**
+     * How many operations the document has.
+     * @param {Abortable} [options]
+     */
+    rev(options?: import("./aborting.js").Abortable | undefined): Promise<number>;
+    #private;
+}
+export type Abortable = import("./aborting.js").Abortable;
+export type Edit = import("./action.js").Edit;
+export type Request = import("./again.js").Request;
+export type Part = import("./calls.js").Part;
+export type Changes = import("./changing.js").Changes;
+export type Mark = import("./marks.js").Mark;
+export type Span = import("./marks.js").Span;
+export type Answer = import("./wire.js").Answer;
+/**
+ * The neighbour that a place stays with: the character before it, so that what is typed there comes after it, or the next
+ * one.
+ */
+export type Side = "previous" | "next";
+/**
+ * What an edit may be given: the `rev` of the text that it is made for, a `token` under which it is made once, and a
+ * `signal`. They are its last argument, also in the place of `rev` or `token`.
+ */
+export type EditOptions = Abortable & {
+    rev?: number;
+    token?: string;
+};
+/**
+ * An action's may let it go as several lines.
+ */
+export type ActionOptions = EditOptions & {
+    parted?: boolean;
+};
+/**
+ * A question's: the `rev` of a text that was read, so that the answer is of just this text, or `Stale`.
+ */
+export type AskOptions = Abortable & {
+    rev?: number;
+};
+/**
+ * A question's: the `rev` of a text that was read, so that the answer is of just this text, or `Stale`.
+ */
+export type AnchorOptions = AskOptions & {
+    side?: Side;
+};
+import { Reading } from "./reading.js";

@@ -1,0 +1,87 @@
+export { Document } from "./document.js";
+export { Following } from "./following.js";
+export { Lines } from "./lines.js";
+export { Reading } from "./reading.js";
+export { Session } from "./session.js";
+export { Watch } from "./watch.js";
+/**
+ * The types of what calls take and give.
+ */
+export type Abortable = import("./aborting.js").Abortable;
+/**
+ * The types of what calls take and give.
+ */
+export type Edit = import("./action.js").Edit;
+/**
+ * The types of what calls take and give.
+ */
+export type Changes = import("./changing.js").Changes;
+/**
+ * The types of what calls take and give.
+ */
+export type Marks = import("./changing.js").Marks;
+/**
+ * The types of what calls take and give.
+ */
+export type Step = import("./changing.js").Step;
+/**
+ * The types of what calls take and give.
+ */
+export type ConnectOptions = import("./connecting.js").Options;
+/**
+ * The types of what calls take and give.
+ */
+export type ActionOptions = import("./document.js").ActionOptions;
+/**
+ * The types of what calls take and give.
+ */
+export type AnchorOptions = import("./document.js").AnchorOptions;
+/**
+ * The types of what calls take and give.
+ */
+export type AskOptions = import("./document.js").AskOptions;
+/**
+ * The types of what calls take and give.
+ */
+export type EditOptions = import("./document.js").EditOptions;
+/**
+ * The types of what calls take and give.
+ */
+export type Side = import("./document.js").Side;
+/**
+ * The types of what calls take and give.
+ */
+export type Change = import("./following.js").Change;
+/**
+ * The types of what calls take and give.
+ */
+export type Reset = import("./following.js").Reset;
+/**
+ * The types of what calls take and give.
+ */
+export type Mark = import("./marks.js").Mark;
+/**
+ * The types of what calls take and give.
+ */
+export type Span = import("./marks.js").Span;
+/**
+ * The types of what calls take and give.
+ */
+export type Answer = import("./wire.js").Answer;
+/**
+ * The types of what calls take and give.
+ */
+export type Peer = import("./wire.js").Peer;
+/**
+ * The types of what calls take and give.
+ */
+export type Transport = import("./wire.js").Transport;
+/**
+ * The types of what calls take and give.
+ */
+export type WatchOptions = import("./watch.js").Options;
+export { applied, delta } from "./changing.js";
+export { EM, STRONG, comment, link } from "./marks.js";
+export { toIndex, toPlace } from "./places.js";
+export { Ended, NoDaemon, Refused, Stale } from "./refusals.js";
+export { WebConnection, connectWeb, followWeb, watchWeb } from "./web.js";

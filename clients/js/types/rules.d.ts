@@ -1,0 +1,31 @@
+/**
+ * Which rules the fields of a request break, in words.
+ * @param {Request} request
+ * @returns {string[]}
+ */
+export function broken(request: Request): string[];
+/**
+ * Whether an edit, or one of several, is about more characters than one may be.
+ * @param {Request} request
+ * @returns {boolean}
+ */
+export function isLong({ text, count, edits }: Request): boolean;
+/**
+ * @param {unknown} value
+ * @param {number} least
+ */
+export function isWhole(value: unknown, least: number): boolean;
+/**
+ * @param {unknown} value
+ * @returns {value is Request[]}
+ */
+export function areEdits(value: unknown): value is Request[];
+/** The rules of a request's fields, as docs/FORMATS.md has them, and which of them a request breaks. */
+/** @typedef {Record<string, unknown>} Request */
+/** How many characters one edit may put in, or take away. */
+export const LONGEST: 256;
+/** How many places one request may ask for. */
+export const MOST: 256;
+/** How many edits one request may make. */
+export const MANY: 1024;
+export type Request = Record<string, unknown>;

@@ -1,0 +1,75 @@
+"""The types of the package, and what `help` says of it."""
+
+import inspect
+import os
+import shutil
+import subprocess
+import tempfile
+import unittest
+
+import peritext
+from peritext import aio
+from support import CLIENT
+
+SOURCE = os.path.join(CLIENT, "src")
+# What a program may write, and what it may not: mypy complains of an `ignore` that isn't needed.
+PROGRAM = """
+from typing import List
+
+import peritext
+from peritext import aio
+
+
+def waits() -> List[peritext.Span]:
+    with peritext.connect(7001) as session, session.document(1).follow() as deltas:
+        shown: List[peritext.Span] = []
+        for delta in deltas:
+            shown = delta.on(shown)
+        rev: int = session.document(1).insert("0", "x")  # type: ignore[arg-type]
+        return session.document(1).spans()
+
+
+async def awaits() -> int:
+    async with aio.connect(7001, retry=None) as session:
+        notes = session.document(1)
+        async with notes.action(await notes.rev()) as action:
+            action.insert(0, "x")
+        shown: List[peritext.Span] = []
+        async for delta in notes.follow():
+            shown = delta.on(shown)
+        async with session.watch(1) as revs:
+            async for rev in revs:
+                return rev + len(await notes.text())
+    other: aio.Session = await aio.open("notes")
+    place: int = await other.document(1).place("start")  # type: ignore[assignment]
+    return place
+"""
+
+
+class Types(unittest.TestCase):
+    @unittest.skipUnless(shutil.which("mypy"), "mypy isn't installed")
+    def test_mypy_finds_nothing_in_the_package_nor_in_a_program_that_uses_it(self):
+        with tempfile.TemporaryDirectory() as room:
+            program = os.path.join(room, "program.py")
+            with open(program, "w", encoding="utf-8") as file:
+                file.write(PROGRAM)
+            words = ["mypy", "--strict", "--cache-dir", os.path.join(room, "cache"), "peritext", program]
+            ran = subprocess.run(words, cwd=SOURCE, capture_output=True, text=True)
+        self.assertEqual(ran.returncode, 0, ran.stdout + ran.stderr)
+
+
+class Help(unittest.TestCase):
+    def test_all_that_is_there_for_others_says_what_it_is(self):
+        for module in (peritext, aio):
+            self.assertTrue(module.__doc__)
+            for name in module.__all__:
+                it = getattr(module, name)
+                if inspect.isfunction(it) or inspect.isclass(it):
+                    self.assert_said(it, f"{module.__name__}.{name}")
+
+    def assert_said(self, it, name):
+        self.assertTrue(it.__doc__, name)
+        # What marks are sent as is for the client itself.
+        for inner, call in inspect.getmembers(it, inspect.isfunction) if inspect.isclass(it) else ():
+            if not inner.startswith("_") and inner not in ("fields", "key"):
+                self.assertTrue(call.__doc__, f"{name}.{inner}")
