@@ -21,7 +21,7 @@ export function isEdit({ op }: Request): boolean;
 export function withToken(request: Request): Record<string, unknown>;
 /**
  * What is sent if the answer to a request was lost. A `rev` holds on its connection alone: an edit that named one is
- * answered if it was made, and is `Stale` if it wasn't.
+ * answered if it was made, and is `Stale` if it wasn't: yet the file may still read it from the connection that ended.
  * @param {Request} request
  */
 export function repeated(request: Request): Record<string, unknown>;
