@@ -42,10 +42,18 @@ export function setLink(href) {
 }
 
 /** A new comment on what is selected. Several may stand on one character. */
-export function addComment({ tr, selection: { from, to, empty } }, dispatch) {
-  if (empty) return false;
-  dispatch(tr.addMark(from, to, comment.create({ id: crypto.randomUUID() })));
-  return true;
+export function addComment(id) {
+  return ({ tr, selection: { from, to, empty } }, dispatch) => {
+    if (empty) return false;
+    dispatch(tr.addMark(from, to, comment.create({ id })));
+    return true;
+  };
+}
+
+/** The id of a comment at the caret, the one that was drawn last where there are several; or nothing. */
+export function commentAt({ selection: { $from } }) {
+  const marks = [...($from.nodeAfter?.marks ?? []), ...($from.nodeBefore?.marks ?? [])];
+  return marks.filter(({ type }) => type === comment).at(-1)?.attrs.id;
 }
 
 /** Takes a comment away, wherever it stands. */
@@ -105,7 +113,7 @@ function forward({ tr, selection }, dispatch) {
 const KEYS = { Enter: split, "Shift-Enter": split, Backspace: backspace, "Mod-Backspace": backspace, Delete: forward };
 
 /** The keys that do what a button does. */
-const BUTTONS = { "Mod-b": "strong", "Mod-i": "em", "Mod-k": "link", "Mod-z": "undo", "Mod-y": "redo", "Mod-Shift-z": "redo" };
+const BUTTONS = { "Mod-b": "strong", "Mod-i": "em", "Mod-k": "link", "Mod-Alt-m": "comment", "Mod-z": "undo", "Mod-y": "redo", "Mod-Shift-z": "redo" };
 
 /** The command of a key, or nothing. */
 export function commandOf(event) {

@@ -1,5 +1,6 @@
 /** The page: two peers side by side, and the link between them. */
 
+import { Replicas } from "./authors/writers.js";
 import { Controls } from "./controls.js";
 import { News } from "./news.js";
 import { Peer } from "./peer.js";
@@ -11,14 +12,17 @@ const NAMES = ["alice", "bob"];
 const COLOURS = 3;
 
 function showSameness() {
+  if (peers.length < NAMES.length) return;
   const [one, other] = peers.map(({ doc }) => doc);
-  const isSame = one !== undefined && other !== undefined && isSameText(one, other);
+  const areOneText = peers[0].number === peers[1].number;
+  const isSame = areOneText && one !== undefined && other !== undefined && isSameText(one, other);
   const place = document.querySelector("#same");
   place.dataset.same = isSame;
-  place.textContent = isSame ? "both show the same" : "they differ";
+  place.textContent = isSame ? "both show the same" : areOneText ? "they differ" : "each shows another text";
 }
 
 const peers = [];
+const replicas = new Replicas(NAMES, () => peers.forEach((peer) => peer.recolour()));
 const news = new News(document.querySelector("#news"));
 const byName = new Map();
 const template = document.querySelector("#peer");
@@ -32,7 +36,8 @@ for (const name of NAMES) {
 
 for (const [index, [name, card]] of [...cards].entries()) {
   const colour = index + NAMES.length * Math.floor(COLOURS * Math.random());
-  byName.set(name, new Peer({ name, colour }, card, { onChange: showSameness, tell: (text) => news.tell(`${name}: ${text}`) }));
+  const others = NAMES.filter((other) => other !== name);
+  byName.set(name, new Peer({ name, colour }, card, { onChange: showSameness, tell: (text) => news.tell(`${name}: ${text}`), replicas, others }));
   peers.push(byName.get(name));
 }
 new Controls(cards, news, (name, port) => (byName.get(name).port = port));

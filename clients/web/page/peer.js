@@ -1,203 +1,200 @@
-/** One side of the page: an editor over one daemon. */
+/** One side of the page: the texts of one daemon, and an editor for the one that is open. */
 
-import * as model from "prosemirror-model";
-import * as state from "prosemirror-state";
-import * as transform from "prosemirror-transform";
-import { EditorView } from "prosemirror-view";
-import { Ended, Refused, Session, Watch } from "peritext";
-import { bind } from "peritext/prosemirror";
+import { Ended } from "peritext";
 
-import { addressOf } from "./address.js";
-import { Carets } from "./carets/carets.js";
-import { drawnCarets } from "./carets/drawn.js";
-import { Chips } from "./chips.js";
-import { clipboardParser } from "./clipboard.js";
-import { addComment, buttonOf, commandOf, commentsOf, has, removeComment, setLink, toggleEm, toggleLink, toggleStrong } from "./commands.js";
-import { showState } from "./drawn_selection.js";
-import { history, redo, undo } from "./history.js";
+import { Legend } from "./authors/legend.js";
+import { Writers } from "./authors/writers.js";
+import { CaretRelay } from "./carets/relay.js";
+import { buttonOf, commandOf, setLink, toggleEm, toggleLink, toggleStrong } from "./commands.js";
+import { Comments } from "./comments/comments.js";
+import { Connection } from "./connection.js";
+import { redo, undo } from "./history.js";
+import { Lines } from "./lists/lines.js";
+import { FIRST, MOST, NAMES, REMARKS, lineOf, namedIn, newNumber, textsIn, toldApart } from "./lists/names.js";
 import { Notice } from "./notice.js";
-import { schema } from "./schema.js";
-import { seen } from "./seen.js";
-import { showSelection, shownSelection } from "./shown_selection.js";
-import { shownComment, spotlight, toggleShown } from "./spotlight.js";
-import { Wire } from "./wire.js";
-
-/** The document that both sides edit. */
-const DOCUMENT = 1;
-
-/**
- * Milliseconds between two looks at what others did, where the daemon doesn't tell of it, and between two tries to reach
- * the daemon.
- */
-const LOOK = 200;
-const AGAIN = 400;
+import { remembered } from "./remembered.js";
+import { showSelection } from "./shown_selection.js";
+import { TextEditor } from "./text_editor.js";
+import { Texts } from "./texts.js";
+import { Tools } from "./tools.js";
 
 export class Peer {
-  #name;
-  #colour;
-  /** Where the daemon takes WebSockets, while it runs. */
-  #port;
+  #person;
   #place;
   #onChange;
+  #tell;
   #notice;
-  #chips;
-  #binding;
-  #view;
-  #carets;
+  #connection;
+  #names;
+  #remarks;
+  #namedIn = remembered((lines) => toldApart(textsIn(lines)));
+  #texts;
+  #tools;
+  #comments;
+  #relay;
+  #writers;
+  #legend;
+  /** Whether the text is coloured by who wrote it. */
+  #isColoured = false;
+  /** The editors of the texts that were opened, by their numbers. @type {Map<number, TextEditor>} */
+  #editors = new Map();
+  /** @type {TextEditor} */
+  #open;
 
   /**
    * @param {{name: string, colour: number}} person who writes here, and the number of their caret's colour
    * @param {HTMLElement} place its card on the page
-   * @param {{onChange: () => void, tell: (text: string) => void}} listeners `tell` is told what a screen reader says
+   * @param {object} parts
+   * @param {() => void} parts.onChange
+   * @param {(text: string) => void} parts.tell is told what a screen reader says
+   * @param {import("./authors/writers.js").Replicas} parts.replicas
+   * @param {string[]} parts.others the other sides
    */
-  constructor({ name, colour }, place, { onChange, tell }) {
-    this.#name = name;
-    this.#colour = colour;
+  constructor(person, place, { onChange, tell, replicas, others }) {
+    const { name } = person;
+    this.#person = person;
     this.#place = place;
     this.#onChange = onChange;
-    this.#notice = new Notice(this.#part(".notice"), tell);
-    this.#chips = new Chips(this.#part(".comments"), name, { show: (id) => this.#showComment(id), remove: (id) => this.#removeComment(id) });
+    this.#tell = tell;
     this.#part("h2").textContent = name;
-    this.#part(".tools").setAttribute("aria-label", `Marks and undo for ${name}`);
-    this.#part(".comments").setAttribute("aria-label", `Comments that ${name} has`);
-    this.#readyTools();
-    this.#show();
-    this.#run();
+    this.#notice = new Notice(this.#part(".notice"), tell);
+    this.#connection = new Connection({ onError: (error) => this.#fail(error), onPull: () => this.#notice.clear("fault") });
+    this.#writers = new Writers(replicas, name, others, () => this.#connection.linked());
+    this.#legend = new Legend(this.#part(".writers"), name);
+    this.#names = this.#lines(NAMES);
+    this.#remarks = this.#lines(REMARKS);
+    this.#texts = new Texts(this.#part(".texts"), name, {
+      open: (number) => this.#choose(number),
+      make: (called) => this.#make(called),
+      rename: (number, called) => this.#rename(number, called),
+    });
+    this.#tools = new Tools(this.#part(".tools"), name, {
+      press: (what) => this.#do(what),
+      link: () => this.#do("link", setLink),
+      leave: () => this.#open.view?.focus(),
+    });
+    this.#comments = new Comments(name, place, { remarks: this.#remarks, editor: () => this.#open.view, tell, refuse: (why) => this.#refuse(why) });
+    for (const part of [".tools", ".thread"]) this.#showsSelectionIn(this.#part(part));
+    for (const part of [".texts", ".thread"]) this.#part(part).addEventListener("input", () => this.#notice.clear("hint"));
+    this.#relay = new CaretRelay(() => this.#tellOthers());
+    this.#show(Number(sessionStorage.getItem(this.#memory)) || FIRST);
+    for (const list of [this.#names, this.#remarks]) this.#connection.follow(list);
   }
 
-  #readyTools() {
-    const tools = this.#part(".tools");
-    for (const tool of tools.children) tool.setAttribute("aria-label", `${tool.getAttribute("aria-label")} for ${this.#name}`);
-    for (const button of tools.querySelectorAll("[data-do]")) {
-      // The selection stays where it is.
-      button.addEventListener("mousedown", (event) => event.preventDefault());
-      button.addEventListener("click", () => this.#do(button.dataset.do));
-    }
-    for (const [event, isShown] of [["focusin", true], ["focusout", false]]) {
-      tools.addEventListener(event, () => this.#dispatched(showSelection(isShown)));
-    }
-    this.#part(".url").addEventListener("keydown", (event) => this.#urlKey(event));
-  }
-
+  /** @param {number | undefined} port where the daemon takes WebSockets, while it runs */
   set port(port) {
-    this.#port = port;
+    this.#connection.port = port;
   }
 
-  /** What the editor shows, or nothing before the first reading. */
+  /** The number of the text that is open, and what its editor shows, or nothing before the first reading. */
+  get number() {
+    return this.#open.number;
+  }
+
   get doc() {
-    return this.#view?.state.doc;
+    return this.#open.doc;
   }
 
   /** How many edits aren't known to be on the daemon's disk. */
   get waiting() {
-    return this.#binding?.waiting ?? 0;
+    return [...this.#editors.values(), this.#names, this.#remarks].reduce((sum, { waiting }) => sum + waiting, 0);
   }
 
-  /** Connects to the daemon again and again: what is typed meanwhile waits in the editor, and is sent behind it. */
-  async #run() {
-    for (;;) {
-      if (this.#port !== undefined) await this.#serve();
-      await pause(AGAIN);
-    }
+  #lines(number) {
+    return new Lines(number, { onChange: () => this.#update(), onError: (error) => this.#fail(error) });
   }
 
-  /** Serves the editor over one connection, to its end. */
-  async #serve() {
-    const wire = this.#newWire();
-    try {
-      const session = new Session(wire);
-      // The last place is for those who first ask for the status.
-      await session.settled();
-      await this.#begin(session.document(DOCUMENT));
-      await this.#follow(wire);
-    } catch (error) {
-      this.#fail(error);
-    }
-    this.#carets?.over(undefined);
-    wire.close();
+  /** Where it is kept which text is open, while the page is loaded again. */
+  get #memory() {
+    return `text of ${this.#person.name}`;
   }
 
-  #newWire() {
-    return new Wire(this.#port);
+  /** Opens a text, and goes there. */
+  #choose(number) {
+    this.#show(number);
+    this.#tell(`${this.#named.find((text) => text.number === number)?.name} is open.`);
+    this.#open.focus();
   }
 
-  /** Shows what others do, until the session ends. */
-  async #follow(wire) {
-    await this.#pull();
-    await this.#followTold(wire);
-    // An earlier daemon doesn't tell, nor one without a place for that.
-    while (!wire.isOver) {
-      await this.#pull();
-      await pause(LOOK);
-      await Promise.race([seen(), wire.over]);
-    }
+  #show(number) {
+    this.#open = this.#editorOf(number);
+    this.#open.show(this.#part(".page"));
+    sessionStorage.setItem(this.#memory, String(number));
+    this.#comments.leave();
+    this.#relay.leave();
+    this.#connection.follow(this.#open);
+    this.#tellOthers();
+    this.#open.carets?.lookAgain();
+    this.#open.authors?.show(this.#isColoured);
+    this.#update();
   }
 
-  /**
-   * Shows what others do as soon as the daemon tells of it, for as long as it does. In the background nothing is asked for:
-   * all that came meanwhile is one change, once the page is seen again.
-   */
-  async #followTold(wire) {
-    const watch = new Watch(() => this.#newWire(), DOCUMENT, { retry: null });
-    wire.over.then(() => watch.close());
-    try {
-      for await (const rev of watch) {
-        await Promise.race([seen(), wire.over]);
-        // What this page did itself it reads by itself.
-        await this.#binding.settled();
-        if (rev > this.#binding.rev) await this.#pull();
-      }
-    } catch (error) {
-      if (!(error instanceof Ended || error instanceof Refused)) throw error;
-    } finally {
-      watch.close();
-    }
+  #editorOf(number) {
+    const editor = this.#editors.get(number) ?? this.#newEditor(number);
+    this.#editors.set(number, editor);
+    return editor;
   }
 
-  async #pull() {
-    await this.#binding.pull();
-    this.#notice.clear("fault");
-  }
-
-  /** Opens the editor, or goes on with the one that is there. */
-  async #begin(document) {
-    if (this.#binding === undefined) await this.#open(document);
-    else await this.#binding.resume(document);
-    this.#carets.over(document);
-  }
-
-  async #open(document) {
-    const modules = { model, state, transform };
-    this.#binding = await bind(modules, schema, document, { onError: (error) => this.#fail(error) });
-    const start = state.EditorState.create({ doc: this.#binding.doc, plugins: [this.#binding.plugin, history(), spotlight(), shownSelection(), drawnCarets()] });
-    this.#view = new EditorView(this.#part(".editor"), {
-      state: start,
-      attributes: ({ doc }) => this.#attributes(doc),
-      handleKeyDown: (_, event) => this.#key(event),
-      handleDOMEvents: { focus: () => this.#carets.look() },
-      clipboardParser,
-      dispatchTransaction: (transaction) => this.#take(transaction),
+  #newEditor(number) {
+    return new TextEditor(number, this.#person.name, {
+      onOpen: () => this.#opened(),
+      onChange: () => this.#update(),
+      onError: (error) => this.#fail(error),
+      key: (event) => this.#key(event),
+      comment: (id) => this.#comments.show(id),
+      writers: this.#writers,
+      say: (caret) => caret.document === this.number && this.#relay.say({ ...this.#person, ...caret }),
     });
-    this.#carets = new Carets(this.#view, this.#binding, { name: this.#name, colour: this.#colour });
-    this.#show();
   }
 
-  #take(transaction) {
-    showState(this.#view, this.#view.state.apply(transaction));
-    this.#carets.follow(transaction);
-    this.#show();
+  #opened() {
+    this.#tellOthers();
+    if (this.#isColoured) this.#open.authors?.show(true);
+    this.#update();
   }
 
-  /** The invitation to type is the style's: it is no part of the document. */
-  #attributes(doc) {
-    return {
-      role: "textbox",
-      "aria-multiline": "true",
-      "aria-label": `What ${this.#name} writes`,
-      "aria-placeholder": "Write here…",
-      spellcheck: "false",
-      class: doc.childCount === 1 && doc.textContent === "" ? "empty" : "",
-    };
+  /** Tells the editor that is shown of the carets of others in its text. */
+  #tellOthers() {
+    this.#open.carets?.become(this.#relay.othersIn(this.number));
+  }
+
+  get #named() {
+    return this.#namedIn(this.#names.lines);
+  }
+
+  /** @param {string} name */
+  #make(name) {
+    const texts = this.#named;
+    if (texts.length >= MOST) return this.#refuse("There is no room for another text.");
+    if (!this.#takes(name)) return false;
+    const number = newNumber(texts);
+    this.#names.put(lineOf({ number, name }));
+    this.#choose(number);
+    return true;
+  }
+
+  #rename(number, name) {
+    if (!this.#takes(name)) return false;
+    this.#names.put(lineOf({ number, name }), (line) => namedIn(line)?.number === number);
+    return true;
+  }
+
+  #takes(name) {
+    if (!this.#names.isRead) return this.#refuse("The names aren't read yet.");
+    if (name === "") return this.#refuse("Give it a name.");
+    return this.#named.some((text) => text.name === name) ? this.#refuse("Another text has this name.") : true;
+  }
+
+  #refuse(why) {
+    this.#notice.say("hint", why);
+    return false;
+  }
+
+  /** While a part has the focus the selection in the text is shown, though the browser may draw it no longer. */
+  #showsSelectionIn(part) {
+    for (const [event, isShown] of [["focusin", true], ["focusout", false]]) {
+      part.addEventListener(event, () => this.#dispatched(showSelection(isShown)));
+    }
   }
 
   /** The end of a session is shown by the daemon's state; any other refusal is for whoever types. */
@@ -209,20 +206,13 @@ export class Peer {
   #key(event) {
     const what = buttonOf(event);
     if (what !== undefined) this.#do(what);
+    if (event.key === "Escape" && !event.isComposing && this.#comments.close()) return true;
     return what !== undefined || (this.#dispatched(commandOf(event)) ?? false);
   }
 
-  /** A key in the field of the address. Two of them lead back to the text and what is selected there. */
-  #urlKey(event) {
-    if (event.isComposing || (event.key !== "Enter" && event.key !== "Escape")) return;
-    // Else the text, which has the focus by then, would get it too.
-    event.preventDefault();
-    if (event.key === "Enter") this.#do("link", setLink);
-    else this.#view?.focus();
-  }
-
   #dispatched(command) {
-    return this.#view && command?.(this.#view.state, this.#view.dispatch);
+    const { view } = this.#open;
+    return view && command?.(view.state, view.dispatch);
   }
 
   /**
@@ -230,63 +220,49 @@ export class Peer {
    * @param {typeof toggleLink} linked makes the command of a link
    */
   #do(what, linked = toggleLink) {
-    if (this.#view === undefined) return;
-    const commands = {
-      strong: toggleStrong,
-      em: toggleEm,
-      link: this.#address && linked(this.#address),
-      comment: addComment,
-      undo,
-      redo,
-    };
+    if (this.#open.view === undefined) return;
+    const { address } = this.#tools;
+    const commands = { strong: toggleStrong, em: toggleEm, link: address && linked(address), undo, redo };
     this.#notice.clear("hint");
-    if (!this.#dispatched(commands[what])) this.#hint(what);
-    this.#view.focus();
+    if (what === "comment" && this.#comments.begin()) return;
+    if (what === "writers") this.#colour();
+    else if (!this.#dispatched(commands[what])) this.#hint(what, address);
+    this.#open.view.focus();
   }
 
-  get #address() {
-    return addressOf(this.#part(".url").value);
+  /** Has the text coloured by who wrote it, or no longer. */
+  #colour() {
+    this.#isColoured = !this.#isColoured;
+    this.#open.authors.show(this.#isColoured);
   }
 
-  #hint(what) {
-    if (what === "link" && this.#address === undefined) this.#notice.say("hint", "Give a whole address, as https://example.org/");
-    else if (what === "link" || what === "comment") this.#notice.say("hint", "Select some text first.");
+  /** Shows the colours anew, as after somebody was given a name. */
+  recolour() {
+    this.#open.authors?.redraw();
   }
 
-  #showComment(id) {
-    this.#dispatched(toggleShown(id));
-    this.#part(".shown")?.scrollIntoView({ block: "nearest" });
+  #hint(what, address) {
+    if (what === "link" && address === undefined) this.#refuse("Give a whole address, as https://example.org/");
+    else if (what === "link" || what === "comment") this.#refuse("Select some text first.");
   }
 
-  #removeComment(id) {
-    this.#dispatched(removeComment(id));
-    // Its chip is gone, and the focus with it.
-    this.#view.focus();
-  }
-
-  #show() {
+  /** Shows all that may have changed, and follows a text no longer that is hidden and all sent. */
+  #update() {
+    for (const editor of this.#editors.values()) if (editor !== this.#open && editor.waiting === 0) this.#connection.leave(editor);
+    const { view } = this.#open;
     const { waiting } = this;
     const saved = this.#part(".saved");
     saved.dataset.state = waiting === 0 ? "saved" : "waiting";
-    saved.textContent = this.#view === undefined ? "not read yet" : waiting === 0 ? "saved" : `${waiting} ${waiting === 1 ? "edit waits" : "edits wait"}`;
-    if (this.#view !== undefined) this.#showSelection();
+    saved.textContent = view === undefined ? "not read yet" : waiting === 0 ? "saved" : `${waiting} ${waiting === 1 ? "edit waits" : "edits wait"}`;
+    this.#texts.update(this.#named, this.number);
+    if (view !== undefined) this.#tools.update(view.state, this.#isColoured);
+    this.#legend.update(this.#isColoured ? (this.#open.authors?.seen ?? []).map((by) => this.#writers.writer(by)) : []);
+    this.#comments.update();
     this.#onChange();
-  }
-
-  #showSelection() {
-    const now = this.#view.state;
-    for (const mark of ["strong", "em", "link"]) {
-      this.#part(`[data-do="${mark}"]`).setAttribute("aria-pressed", has(now, schema.marks[mark]));
-    }
-    this.#chips.update(commentsOf(now.doc), shownComment(now));
   }
 
   /** @param {string} selector */
   #part(selector) {
     return /** @type {HTMLElement} */ (this.#place.querySelector(selector));
   }
-}
-
-function pause(milliseconds) {
-  return new Promise((done) => setTimeout(done, milliseconds));
 }

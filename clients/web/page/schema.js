@@ -33,8 +33,7 @@ export const schema = new Schema({
     strong: {
       parseDOM: [
         { tag: "strong" },
-        // Google's documents come within a `b` that isn't bold.
-        { tag: "b", getAttrs: (node) => !/font-weight: *normal/.test(node.getAttribute("style")) && null },
+        { tag: "b" },
         { style: "font-weight", getAttrs: (value) => /^(bold(er)?|[6-9]\d\d)$/.test(value) && null },
       ],
       toDOM: () => ["strong", 0],
@@ -43,7 +42,7 @@ export const schema = new Schema({
       attrs: { id: {} },
       excludes: "",
       inclusive: false,
-      toDOM: ({ attrs: { id } }) => ["span", { class: `comment ${hueOf(id)}`, title: `Comment ${id}` }, 0],
+      toDOM: ({ attrs: { id } }) => ["span", { class: `comment ${hueOf(id)}`, "data-comment": id }, 0],
     },
   },
 });

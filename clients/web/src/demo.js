@@ -60,6 +60,11 @@ export class Demo {
     for (const daemon of this.#daemons.values()) daemon.kill();
   }
 
+  /** The wire between both daemons. */
+  get link() {
+    return this.#relay;
+  }
+
   /** The daemon of a name. */
   daemon(name) {
     return this.#daemons.get(name);

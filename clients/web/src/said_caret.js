@@ -12,9 +12,13 @@ const NAME = /^[^\p{C}]{1,24}$/u;
  */
 const ANCHOR = /^(start|end|[ab][1-9]\d{0,13}@(?!0{8}(-0{4}){3}-0{12})[0-9a-f]{8}(-[0-9a-f]{4}){3}-[0-9a-f]{12})$/;
 
+/** The numbers of documents end here. */
+const LAST = 2 ** 32 - 1;
+
 /**
- * A caret: whose it is, and where. What is selected is between `tail` and `head`; without that, both are one place.
- * @typedef {{name: string, colour: number, head: string, tail: string}} SaidCaret
+ * A caret: whose it is, in which document, and where. What is selected is between `tail` and `head`; without that, both are one
+ * place.
+ * @typedef {{name: string, colour: number, document: number, head: string, tail: string}} SaidCaret
  */
 
 /**
@@ -23,9 +27,9 @@ const ANCHOR = /^(start|end|[ab][1-9]\d{0,13}@(?!0{8}(-0{4}){3}-0{12})[0-9a-f]{8
  * @returns {SaidCaret | undefined}
  */
 export function saidCaret(message) {
-  const { name, colour, head, tail } = objectIn(message);
-  const isCaret = isMatch(NAME, name) && isColour(colour) && isMatch(ANCHOR, head) && isMatch(ANCHOR, tail);
-  return isCaret ? { name, colour, head, tail } : undefined;
+  const { name, colour, document, head, tail } = objectIn(message);
+  const isCaret = isMatch(NAME, name) && isIn(colour, 0, COLOURS - 1) && isIn(document, 1, LAST) && isMatch(ANCHOR, head) && isMatch(ANCHOR, tail);
+  return isCaret ? { name, colour, document, head, tail } : undefined;
 }
 
 /** @param {string} message */
@@ -45,7 +49,11 @@ function isMatch(form, text) {
   return typeof text === "string" && form.test(text);
 }
 
-/** @param {unknown} colour */
-function isColour(colour) {
-  return Number.isInteger(colour) && colour >= 0 && colour < COLOURS;
+/**
+ * @param {unknown} number
+ * @param {number} first
+ * @param {number} last
+ */
+function isIn(number, first, last) {
+  return Number.isInteger(number) && number >= first && number <= last;
 }

@@ -2,7 +2,7 @@
 
 import assert from "node:assert/strict";
 
-import { pause, withPage } from "./page.mjs";
+import { FIRST, pause, withPage } from "./page.mjs";
 import { test } from "./timed.mjs";
 
 /** Has the page count what its sessions ask, and gives what they asked since the last time. */
@@ -33,7 +33,7 @@ test("what others typed while a page was in the background comes as one change o
     await pause(300);
     await asked(page);
     for (let key = 0; key < 30; key += 1) {
-      await session.document(1).insert(key, "x");
+      await session.document(FIRST).insert(key, "x");
       await pause(50);
     }
     await pause(1_000);

@@ -2,7 +2,7 @@
 
 import assert from "node:assert/strict";
 
-import { pause, withPage } from "./page.mjs";
+import { FIRST, pause, withPage } from "./page.mjs";
 import { test } from "./timed.mjs";
 
 /** What the page complained of, beside daemons that weren't there. */
@@ -20,17 +20,23 @@ const BACKSPACE = "\uE003";
 const LEFT = "\uE012";
 const HOME = "\uE011";
 const END = "\uE010";
+const TAB = "\uE004";
+
+/** The size of the window in the pictures. */
+const PICTURE = [1280, 940];
 
 /** Two comments, whose colours differ. */
 const IDS = ["9f0c0f1b-63a4-4c1e-9d57-2f0b8a6e41c3", "52e6b438-7d15-4b0a-8c2e-90d1f34a7be6"];
 
-/** How many sessions a daemon has at once. */
-const SESSIONS = 32;
-
 test("two who type apart come to show the same, with its marks", () =>
   withPage(async (page) => {
+    await page.browser.resize(...PICTURE);
+    await page.nameText("alice", "rename", "Fox and dog");
+    await page.nameText("alice", "make", "Shopping");
+    await page.openText("alice", "Fox and dog");
     await page.type("alice", `The quick fox${ENTER}jumps over the dog`);
     await page.agrees();
+    await page.hasTexts("bob", "Fox and dog*", "Shopping");
     await page.nextIds(...IDS);
     await page.link("linked");
     await page.browser.click("#link-switch");
@@ -38,12 +44,12 @@ test("two who type apart come to show the same, with its marks", () =>
     await page.select("alice", "quick fox");
     await page.press("alice", "strong");
     await page.type("alice", ", once more");
-    await page.comment("alice", "over the dog");
+    await page.comment("alice", "over the dog", "Which dog is it?");
     await page.select("bob", "fox");
     await page.browser.keys(`${LEFT}brown `);
     await page.select("bob", "fox");
     await page.press("bob", "link");
-    await page.comment("bob", "jumps over");
+    await page.comment("bob", "jumps over", "How high?");
     await page.select("bob", "dog");
     await page.browser.keys("lazy dog");
     await page.select("bob", "lazy");
@@ -57,7 +63,14 @@ test("two who type apart come to show the same, with its marks", () =>
     await page.browser.click("#link-switch");
     await page.agrees();
     await page.link("linked");
+    await page.browser.click("#bob .chip:nth-child(2) .show");
+    await page.browser.keys(`${TAB}The neighbours' one.${ENTER}`);
+    await page.browser.until(() => document.querySelectorAll("#bob .thread li").length === 2);
+    await page.press("alice", "writers");
+    await page.browser.until(() => document.querySelectorAll("#alice .writers li").length === 2);
+    await page.agrees();
     await page.picture("demo");
+    await page.press("alice", "writers");
     const spans = await page.spans("alice");
     assert.deepEqual(await page.spans("bob"), spans);
     assert.equal(spans.map(({ text }) => text).join(""), await page.text("alice"));
@@ -76,7 +89,7 @@ test("what is typed while a daemon is killed is there once it runs again", () =>
     await page.type("alice", "before ");
     await page.savedIs("alice", "saved");
     const session = await page.session("alice");
-    const lines = [...Array(100)].map(() => session.document(2).insert(0, "x"));
+    const lines = [...Array(100)].map(() => session.document(FIRST + 1).insert(0, "x"));
     const all = Promise.allSettled(lines);
     await Promise.race(lines);
     const typing = page.browser.keys("while it is killed, ");
@@ -95,7 +108,7 @@ test("what is typed while a daemon is killed is there once it runs again", () =>
     await page.shows("bob", await page.text("alice"));
     for (const name of ["alice", "bob"]) assert.equal(await page.text(name), "before while it is killed, and afterwards 🦊");
     const again = await page.session("alice");
-    const { length } = await again.document(2).text();
+    const { length } = await again.document(FIRST + 1).text();
     assert(length >= answered && length <= 100, `${answered} were answered, ${length} are there`);
     await again.close();
     assert.deepEqual(await complaints(page), []);
@@ -161,7 +174,7 @@ test("a word that is composed is whole, whatever the other writes meanwhile", ()
     await page.goTo("alice");
     await page.browser.compose("か");
     const session = await page.session("bob");
-    await session.document(1).insert(0, "other ");
+    await session.document(FIRST).insert(0, "other ");
     await pause(400);
     await page.browser.compose("かん");
     await page.browser.put("漢");
@@ -173,10 +186,9 @@ test("a word that is composed is whole, whatever the other writes meanwhile", ()
 test("what is typed within a link or a comment has its marks", () =>
   withPage(async (page) => {
     await page.type("alice", "one two");
-    for (const mark of ["link", "comment"]) {
-      await page.select("alice", "two");
-      await page.press("alice", mark);
-    }
+    await page.select("alice", "two");
+    await page.press("alice", "link");
+    await page.comment("alice", "two");
     await page.shows("bob", "one two");
     await page.agrees();
     await page.goTo("bob");
@@ -260,8 +272,8 @@ test("a page may be opened while a daemon is killed, and shows its document once
 test("links that could run a script, and marks from elsewhere, aren't taken", () =>
   withPage(async (page) => {
     const session = await page.session("alice");
-    await session.document(1).insert(0, "click me");
-    await session.document(1).mark(0, 5, { kind: "link", url: "javascript:alert(1)" });
+    await session.document(FIRST).insert(0, "click me");
+    await session.document(FIRST).mark(0, 5, { kind: "link", url: "javascript:alert(1)" });
     await page.shows("bob", "click me");
     await page.browser.until(() => document.querySelector("#bob .ProseMirror a")?.getAttribute("href") === "about:blank");
     await page.goTo("bob");
@@ -274,30 +286,4 @@ test("links that could run a script, and marks from elsewhere, aren't taken", ()
     await session.close();
     // An image's script is tried while the paste is read, and the page's policy blocks it.
     for (const complaint of await complaints(page)) assert.match(complaint, /Content Security Policy.*has been blocked/);
-  }));
-
-test("pages that are left give their sessions back", () =>
-  withPage(async (page) => {
-    for (let again = 0; again < 20; again += 1) {
-      await page.browser.open("about:blank");
-      await page.browser.open(page.address);
-    }
-    await page.isRead();
-    await page.type("bob", "still there");
-    await page.shows("alice", "still there");
-  }));
-
-test("where all places are taken the page says so, and goes on once there is one", () =>
-  withPage(async (page) => {
-    await page.browser.open("about:blank");
-    await pause(300);
-    const held = await Promise.all([...Array(SESSIONS)].map(() => page.session("alice")));
-    await page.browser.open(page.address);
-    await page.browser.until(() => document.querySelector("#alice .notice").textContent.startsWith("8 busy"));
-    await held[0].close();
-    await page.isRead();
-    await page.browser.until(() => document.querySelector("#alice .notice").textContent === "");
-    await page.type("alice", "a place");
-    await page.shows("bob", "a place");
-    await Promise.all(held.slice(1).map((session) => session.close()));
   }));

@@ -2,7 +2,7 @@
 
 import assert from "node:assert/strict";
 
-import { pause, withPage } from "./page.mjs";
+import { FIRST, pause, withPage } from "./page.mjs";
 import { test } from "./timed.mjs";
 import { Browser } from "./webdriver.mjs";
 
@@ -107,11 +107,11 @@ test("a caret stays with its text beside what others type before it, at it and a
     await shows(page, "bob", ["alice", "one two", ""]);
     const session = await page.session("bob");
     for (const [at, before] of [[0, "Xone two"], [8, "Xone two"], [10, "Xone two"], [3, "XonXe two"]]) {
-      await session.document(1).insert(at, "X");
+      await session.document(FIRST).insert(at, "X");
       await pause(700);
       assert.deepEqual(await carets(page, "bob"), [["alice", before, ""]], `put in at ${at}`);
     }
-    await session.document(1).delete(7, 4);
+    await session.document(FIRST).delete(7, 4);
     await pause(700);
     assert.deepEqual(await carets(page, "bob"), [["alice", "XonXe t", ""]]);
     await session.close();

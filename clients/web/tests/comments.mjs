@@ -17,7 +17,7 @@ function drawn(page, name) {
     while (walker.nextNode()) {
       const ids = [];
       for (let at = walker.currentNode.parentElement; at !== paragraph; at = at.parentElement) {
-        if (at.matches(".comment")) ids.unshift(at.title.replace("Comment ", ""));
+        if (at.matches(".comment")) ids.unshift(at.dataset.comment);
       }
       found.push([walker.currentNode.data, ...ids]);
     }
@@ -128,11 +128,11 @@ test("the x of a chip takes its comment away, on both sides, and no other", () =
   withPage(async (page) => {
     await page.type("alice", "one two");
     await page.nextIds(FIRST, SECOND);
-    await page.comment("alice", "one two");
+    await page.comment("alice", "one two", "All of it");
     await page.comment("alice", "two");
-    await page.browser.until(() => document.querySelectorAll("#bob .chip").length === 2);
-    assert.equal(await page.browser.label("#bob .chip .show"), "Show the comment a0000000 for bob");
-    assert.equal(await page.browser.label("#bob .chip .remove"), "Take the comment a0000000 away for bob");
+    await page.browser.until(() => document.querySelector("#bob .comments").textContent === "alice: All of it×alice: Hm.×");
+    assert.equal(await page.browser.label("#bob .chip .show"), "Show comment 1 for bob: alice: All of it");
+    assert.equal(await page.browser.label("#bob .chip .remove"), "Take away comment 1 for bob: alice: All of it");
     await page.browser.click("#bob .chip .remove");
     await page.browser.until(() => document.querySelectorAll("#alice .chip").length === 1);
     await page.agrees();

@@ -7,6 +7,9 @@ import { connect } from "../../js/src/node.js";
 import { newDemo } from "./support.mjs";
 import { Browser } from "./webdriver.mjs";
 
+/** The text that is open at first. */
+export const FIRST = 3;
+
 /** Where pictures of the page go, if anywhere. */
 const { PICTURES } = process.env;
 
@@ -79,9 +82,44 @@ export class Page {
   }
 
   /** Comments on a text. */
-  async comment(name, text) {
+  async comment(name, text, words = "Hm.") {
     await this.select(name, text);
     await this.press(name, "comment");
+    await this.browser.keys(`${words}\uE006`);
+  }
+
+  /** The names of the texts of a peer, with a star at the one that is open. */
+  texts(name) {
+    return this.browser.run((id) => {
+      const buttons = [...document.querySelectorAll(`#${id} .texts li button`)];
+      return buttons.map(({ textContent, ariaCurrent }) => textContent + (ariaCurrent === "true" ? "*" : ""));
+    }, name);
+  }
+
+  /** Waits until a peer has these texts, with a star at the one that is open. */
+  async hasTexts(name, ...wanted) {
+    for (const end = Date.now() + 20_000; ; await pause(50)) {
+      const texts = await this.texts(name);
+      if (texts.join("|") === wanted.join("|")) return;
+      if (Date.now() > end) throw new Error(`in vain was waited for ${wanted}: there are ${texts}`);
+    }
+  }
+
+  /** Makes a text, or gives the open one another name. */
+  async nameText(name, what, called) {
+    await this.browser.click(`#${name} [data-names="${what}"]`);
+    await this.browser.keys(`${called}\uE006`);
+    // A new text is read before anybody writes there.
+    if (what === "make") await this.browser.until((id) => document.activeElement.matches(`#${id} .ProseMirror`), name);
+  }
+
+  /** Opens a text by its name. */
+  async openText(name, called) {
+    const found = (id, wanted) => [...document.querySelectorAll(`#${id} .texts li button`)].find(({ textContent }) => textContent === wanted)?.dataset.text;
+    const number = await this.browser.until(found, name, called);
+    await this.browser.click(`#${name} [data-text="${number}"]`);
+    await this.browser.until((id) => document.activeElement.matches(`#${id} .ProseMirror`), name);
+    return Number(number);
   }
 
   press(name, what) {
@@ -176,7 +214,7 @@ export class Page {
   /** What the daemon of a peer has. */
   async spans(name) {
     const session = await this.session(name);
-    const spans = await session.document(1).spans();
+    const spans = await session.document(FIRST).spans();
     await session.close();
     return spans;
   }

@@ -3,6 +3,7 @@
 import assert from "node:assert/strict";
 
 import { withPage } from "./page.mjs";
+import { SOURCES } from "./pasted.mjs";
 import { test } from "./timed.mjs";
 
 const BACKSPACE = "\uE003";
@@ -55,6 +56,20 @@ test("bold, italic and links that are pasted stay, in each of their lines", () =
       { text: "styled", strong: true },
       { text: "\nas Google has it\nno link" },
     ]);
+  }));
+
+test("a paste of other programs keeps bold, italic, links and lines, and nothing that only looks so", () =>
+  withPage(async (page) => {
+    for (const [source, html, wanted] of SOURCES) {
+      await page.goTo("alice");
+      await page.paste("alice", html, "text/html");
+      await page.agrees();
+      const spans = await page.spans("bob");
+      assert.deepEqual(spans, wanted.map(([text, marks]) => ({ ...marks, text })), source);
+      await page.browser.keys("a", { control: true });
+      await page.browser.keys(BACKSPACE);
+      await page.shows("bob", "");
+    }
   }));
 
 test("what is pasted of plain text or of an editor keeps its spaces and its empty lines", () =>

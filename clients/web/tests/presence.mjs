@@ -13,11 +13,12 @@ import { test } from "./timed.mjs";
 const { WebSocket } = webSockets();
 
 const REPLICA = "3f2b8a54-9c1d-4e77-8a30-5d6c7b8e9f01";
-const CARET = { name: "alice", colour: 0, head: `a5@${REPLICA}`, tail: `b17@${REPLICA}` };
+const CARET = { name: "alice", colour: 0, document: 3, head: `a5@${REPLICA}`, tail: `b17@${REPLICA}` };
 
 /** What isn't a name, a colour or a place. */
 const NO_NAMES = ["", "x".repeat(25), "a\nb", "a\u202eb", 7, undefined];
 const NO_COLOURS = [-1, 6, 0.5, "0", null, undefined];
+const NO_DOCUMENTS = [0, 2 ** 32, 1.5, "3", null, undefined];
 const NIL = "00000000-0000-0000-0000-000000000000";
 const NO_PLACES = [
   ...["", "a0@x", `a05@${REPLICA}`, `c5@${REPLICA}`, `a5@${REPLICA.toUpperCase()}`, `a5@${REPLICA}x`],
@@ -29,6 +30,7 @@ const WRONG = [
   ...["", "null", "[]", "7", "{", '"caret"', "{}"],
   ...NO_NAMES.map((name) => ({ ...CARET, name })),
   ...NO_COLOURS.map((colour) => ({ ...CARET, colour })),
+  ...NO_DOCUMENTS.map((document) => ({ ...CARET, document })),
   ...NO_PLACES.flatMap((anchor) => [{ ...CARET, head: anchor }, { ...CARET, tail: anchor }]),
 ];
 

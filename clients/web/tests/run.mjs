@@ -43,4 +43,6 @@ await run("page_server", missing());
 await run("presence", missing());
 await run("demo", missing() ?? noProgram);
 await run("kills", missing() ?? noProgram);
-for (const name of ["clock", "browser", "background", "carets", "comments", "tools", "pasting", "selection", "typing", "wire"]) await run(name, missing() ?? noProgram ?? missingBrowser());
+await run("lists", missing() ?? noProgram);
+const shown = ["carets", "texts", "comments", "threads", "authors", "looks", "tools", "pasting", "selection"];
+for (const name of ["clock", "browser", "places", "background", ...shown, "typing", "wire"]) await run(name, missing() ?? noProgram ?? missingBrowser());

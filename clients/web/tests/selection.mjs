@@ -2,7 +2,7 @@
 
 import assert from "node:assert/strict";
 
-import { pause, withPage } from "./page.mjs";
+import { FIRST, pause, withPage } from "./page.mjs";
 import { test } from "./timed.mjs";
 
 const TEXT = "one two three";
@@ -24,7 +24,7 @@ function parted(work) {
     await page.link("parted");
     const others = {};
     for (const name of ["alice", "bob"]) {
-      others[name] = (await page.session(name)).document(1);
+      others[name] = (await page.session(name)).document(FIRST);
       await others[name].insert(0, TEXT);
       await page.shows(name, TEXT);
     }

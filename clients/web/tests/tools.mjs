@@ -2,11 +2,11 @@
 
 import assert from "node:assert/strict";
 
-import { withPage } from "./page.mjs";
+import { FIRST, withPage } from "./page.mjs";
 import { test } from "./timed.mjs";
 
 /** What a screen reader says of each button. */
-const LABELS = { strong: "Bold", em: "Italic", link: "Link", comment: "Comment", undo: "Undo", redo: "Redo" };
+const LABELS = { strong: "Bold", em: "Italic", link: "Link", comment: "Comment", undo: "Undo", redo: "Redo", writers: "Colours of the writers" };
 
 const BACKSPACE = "\uE003";
 const ENTER = "\uE006";
@@ -23,10 +23,10 @@ test("buttons and editors have names that a screen reader speaks", () =>
     }
     const pressed = () => page.browser.run(() => [...document.querySelectorAll("#alice [data-do]")].map((button) => button.getAttribute("aria-pressed")));
     await page.type("alice", "word");
-    assert.deepEqual(await pressed(), ["false", "false", "false", null, null, null]);
+    assert.deepEqual(await pressed(), ["false", "false", "false", null, null, null, "false"]);
     await page.select("alice", "word");
     await page.press("alice", "em");
-    assert.deepEqual(await pressed(), ["false", "true", "false", null, null, null]);
+    assert.deepEqual(await pressed(), ["false", "true", "false", null, null, null, "false"]);
   }));
 
 test("no two buttons or fields have one name", () =>
@@ -96,7 +96,7 @@ test("what is selected is seen while the address of its link is typed; Enter mak
     await page.select("alice", "two");
     await linkAs("example.org");
     const session = await page.session("bob");
-    await session.document(1).insert(0, "A ");
+    await session.document(FIRST).insert(0, "A ");
     await page.shows("alice", "A one two three");
     assert.deepEqual(await selected(), [["alice", "two"]]);
     await page.browser.keys(ESCAPE);

@@ -10,6 +10,7 @@ import { starts } from "./timed.mjs";
 const ELEMENT = "element-6066-11e4-a52e-4f735466cecf";
 const CONTROL = "\uE009";
 const COMMAND = "\uE03D";
+const ALT = "\uE00A";
 
 /** Milliseconds until something that is due has to have come. */
 const PATIENCE = 20_000;
@@ -105,9 +106,9 @@ export class Browser {
     return this.#ask("GET", `/element/${await this.#find(selector)}/computedlabel`);
   }
 
-  /** Types keys where the focus is, with Control or Command held where it is said. */
-  async keys(text, { control = false, command = false } = {}) {
-    const held = [...(control ? [CONTROL] : []), ...(command ? [COMMAND] : [])];
+  /** Types keys where the focus is, with Control, Command or Alt held where it is said. */
+  async keys(text, { control = false, command = false, alt = false } = {}) {
+    const held = [...(control ? [CONTROL] : []), ...(command ? [COMMAND] : []), ...(alt ? [ALT] : [])];
     const actions = [
       ...held.map((value) => ({ type: "keyDown", value })),
       ...[...text].flatMap((value) => [{ type: "keyDown", value }, { type: "keyUp", value }]),
@@ -134,6 +135,11 @@ export class Browser {
   /** Composes a word, as an input method does; `put` ends it. */
   compose(text) {
     return this.#command("Input.imeSetComposition", { text, selectionStart: text.length, selectionEnd: text.length });
+  }
+
+  /** Has the page be light or dark. */
+  scheme(value) {
+    return this.#command("Emulation.setEmulatedMedia", { features: [{ name: "prefers-color-scheme", value }] });
   }
 
   #command(cmd, params) {
@@ -178,7 +184,9 @@ export class Browser {
   }
 
   async #startDriverOnce() {
-    this.#driver = spawn("chromedriver", ["--port=0"], { stdio: ["ignore", "pipe", "ignore"], detached: true });
+    // What the browser leaves behind if it is killed goes with its profile.
+    const env = { ...process.env, TMPDIR: this.#profile };
+    this.#driver = spawn("chromedriver", ["--port=0"], { stdio: ["ignore", "pipe", "ignore"], detached: true, env });
     let said = "";
     const port = await new Promise((resolve, reject) => {
       this.#driver.on("exit", () => reject(new Error(`chromedriver ended: ${said}`)));

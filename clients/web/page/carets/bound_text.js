@@ -51,6 +51,16 @@ export class BoundText {
   }
 
   /**
+   * The places that last of positions, each by the character before it.
+   * @param {number[]} positions
+   * @returns {Promise<string[]>}
+   */
+  anchorsAt(positions) {
+    const { doc } = this.#view.state;
+    return this.document.anchors(positions.map((position) => placeOf(doc, position)), "previous", this.rev);
+  }
+
+  /**
    * Where places that last are in the text as it is now, or null for each that isn't in it.
    * @param {string[]} anchors
    * @returns {Promise<(number | null)[]>}

@@ -1,36 +1,41 @@
 /** The carets of an editor's people: its own is said to others, and theirs are drawn in it. */
 
-import { BoundText } from "./bound_text.js";
 import { OtherCarets } from "./others.js";
 import { OwnCaret } from "./own.js";
-import { CaretRelay } from "./relay.js";
 
 export class Carets {
-  #text;
   #own;
   #others;
 
   /**
    * @param {import("prosemirror-view").EditorView} view one with the plugin of `drawnCarets`
-   * @param {{rev: number, waiting: number}} binding its binding
-   * @param {{name: string, colour: number}} person
+   * @param {import("./bound_text.js").BoundText} text its text
+   * @param {(places: {head: string, tail: string}) => void} say tells where its own is
    */
-  constructor(view, binding, person) {
-    this.#text = new BoundText(view, binding);
-    this.#others = new OtherCarets(view, this.#text);
-    const relay = new CaretRelay((others) => this.#others.become(others));
-    this.#own = new OwnCaret(view, this.#text, (places) => relay.say({ ...person, ...places }));
+  constructor(view, text, say) {
+    this.#others = new OtherCarets(view, text);
+    this.#own = new OwnCaret(view, text, say);
     document.addEventListener("visibilitychange", () => this.look());
   }
 
-  /**
-   * The document that places are asked of from now on; nothing while there is no session.
-   * @param {import("../../../js/src/document.js").Document | undefined} document
-   */
-  over(document) {
-    this.#text.document = document;
+  /** Looks anew over another session, or over none. */
+  over() {
     this.#others.lookAgain();
     this.#own.look();
+  }
+
+  /** Says and looks for all of them anew: the editor is shown again. */
+  lookAgain() {
+    this.#others.lookAgain();
+    this.#own.sayAgain();
+  }
+
+  /**
+   * The carets of others that are in this text.
+   * @param {Map<number, import("./relay.js").ToldCaret>} told
+   */
+  become(told) {
+    this.#others.become(told);
   }
 
   /**

@@ -42,6 +42,12 @@ export class OwnCaret {
     if (this.#hasToTell()) this.#paced.due();
   }
 
+  /** Says it once more, as where another text's was said meanwhile. */
+  sayAgain() {
+    this.#said = undefined;
+    this.look();
+  }
+
   #hasToTell() {
     const { head, tail } = this.#spot();
     const isElsewhere = this.#said?.head !== head || this.#said.tail !== tail;

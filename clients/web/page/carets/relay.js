@@ -1,4 +1,4 @@
-/** An editor's line to the demo, which tells it of the others' carets and them of its own. */
+/** One side's line to the demo, which tells it of the others' carets and them of its own. */
 
 /** Milliseconds after which its caret is said again: else it would count as gone. */
 const HEARTBEAT = 1_000;
@@ -7,9 +7,9 @@ const HEARTBEAT = 1_000;
 const AGAIN = 1_000;
 
 /**
- * A caret as it is told: whose it is, and the places that last where it is. What is selected is between `tail` and `head`;
- * without that, both are one place.
- * @typedef {{number: number, name: string, colour: number, head: string, tail: string}} ToldCaret
+ * A caret as it is told: whose it is, in which document, and the places that last where it is. What is selected is between
+ * `tail` and `head`; without that, both are one place.
+ * @typedef {{number: number, name: string, colour: number, document: number, head: string, tail: string}} ToldCaret
  */
 
 export class CaretRelay {
@@ -21,17 +21,30 @@ export class CaretRelay {
   #others = new Map();
   #onOthers;
 
-  /** @param {(others: Map<number, ToldCaret>) => void} onOthers is told all carets of others whenever they change */
+  /** @param {() => void} onOthers is called whenever those of others have changed */
   constructor(onOthers) {
     this.#onOthers = onOthers;
     this.#connect();
     setInterval(() => this.#send(), HEARTBEAT);
   }
 
+  /**
+   * The carets that are in a document. A place at its start would be one in any other, too.
+   * @param {number} document
+   */
+  othersIn(document) {
+    return new Map([...this.#others].filter(([, caret]) => caret.document === document));
+  }
+
   /** @param {Omit<ToldCaret, "number">} caret one's own */
   say(caret) {
     this.#said = JSON.stringify(caret);
     this.#send();
+  }
+
+  /** Says it no longer, so that it is gone soon. */
+  leave() {
+    this.#said = undefined;
   }
 
   #connect() {
@@ -41,7 +54,7 @@ export class CaretRelay {
     this.#web.onclose = () => {
       // Whoever is there is told anew, by another number.
       this.#others.clear();
-      this.#onOthers(this.#others);
+      this.#onOthers();
       setTimeout(() => this.#connect(), AGAIN);
     };
   }
@@ -56,6 +69,6 @@ export class CaretRelay {
       if (caret.head === undefined) this.#others.delete(caret.number);
       else this.#others.set(caret.number, caret);
     }
-    this.#onOthers(this.#others);
+    this.#onOthers();
   }
 }

@@ -3,12 +3,12 @@
 import { Plugin, PluginKey } from "prosemirror-state";
 import { Decoration, DecorationSet } from "prosemirror-view";
 
-import { hueOf, schema } from "./schema.js";
+import { hueOf, schema } from "../schema.js";
 
 const key = new PluginKey("spotlight");
 
 /** The id that says that none is shown. */
-const NONE = "";
+export const NONE = "";
 
 export function spotlight() {
   return new Plugin({
@@ -26,10 +26,10 @@ export function shownComment(state) {
   return key.getState(state);
 }
 
-/** Shows a comment, or no longer if it is shown already. */
-export function toggleShown(id) {
+/** Shows a comment, or none. */
+export function showComment(id) {
   return (state, dispatch) => {
-    dispatch(state.tr.setMeta(key, shownComment(state) === id ? NONE : id));
+    dispatch(state.tr.setMeta(key, id));
     return true;
   };
 }
