@@ -3,7 +3,7 @@ use crate::file_tests::Row::{Discards, First, Holds, LetsGo, Refuses, Removes, R
 use crate::file_tests::Way::{Create, Open, OpenToRead};
 use crate::test_disks::Call::{Read, Size, Sync, Write};
 use crate::test_disks::Fact::{Answers, Ones, Script};
-use crate::test_disks::{Fact, holds, judged, number_of};
+use crate::test_disks::{Fact, holds, judged, named, number_of};
 use disk_trait::{DiskError, FileDisk};
 use std::fs::OpenOptions;
 use std::test::Fail;
@@ -91,121 +91,104 @@ fn plays(rt: &HostRuntime, rows: &[Row<'_>]) -> Result<(), Fail> {
     Ok(())
 }
 
-#[test]
-fn a_real_file_reads_back(rt: HostRuntime) -> Result<(), Fail> {
-    let path = "made.disk";
-    plays(
-        &rt,
-        &[
-            Holds(Create, path),
-            First(Script([0, 0, 0, 0, 0, 0])),
-            First(Answers(53, Write(4100, 1, 1))),
-            First(Answers(53, Read(4096, 4))),
-            LetsGo,
-            Holds(Open, "./made.disk"),
-            First(Ones(4094, &[2, 3, 4, 5, 6])),
-            LetsGo,
-            // A file that is there already isn't removed when its disk is discarded.
-            Holds(Create, path),
-            First(Fact::Size(4099)),
-            Discards(path),
-            Holds(OpenToRead, path),
-            First(Fact::Size(4099)),
-            LetsGo,
-            Removes(path),
-        ],
-    )
-}
+const READ_BACK: [Row<'static>; 15] = [
+    Holds(Create, "made.disk"),
+    First(Script([0, 0, 0, 0, 0, 0])),
+    First(Answers(53, Write(4100, 1, 1))),
+    First(Answers(53, Read(4096, 4))),
+    LetsGo,
+    Holds(Open, "./made.disk"),
+    First(Ones(4094, &[2, 3, 4, 5, 6])),
+    LetsGo,
+    // A file that is there already isn't removed when its disk is discarded.
+    Holds(Create, "made.disk"),
+    First(Fact::Size(4099)),
+    Discards("made.disk"),
+    Holds(OpenToRead, "made.disk"),
+    First(Fact::Size(4099)),
+    LetsGo,
+    Removes("made.disk"),
+];
+
+const ONE_WRITER: [Row<'static>; 12] = [
+    Holds(Create, "locked.disk"),
+    Refuses(54, Open, "locked.disk"),
+    Refuses(54, Create, "locked.disk"),
+    Refuses(54, OpenToRead, "locked.disk"),
+    LetsGo,
+    Holds(OpenToRead, "locked.disk"),
+    Holds(OpenToRead, "locked.disk"),
+    Refuses(54, Open, "locked.disk"),
+    LetsGo,
+    LetsGo,
+    Refuses(0, Open, "locked.disk"),
+    Removes("locked.disk"),
+];
+
+const DISCARDED: [Row<'static>; 11] = [
+    Holds(Create, "discarded.disk"),
+    First(Answers(0, Write(0, 1, 1))),
+    Discards("discarded.disk"),
+    Refuses(54, Open, "discarded.disk"),
+    // The first disk's file is gone, and another one has its name: it isn't removed.
+    Holds(Create, "discarded.disk"),
+    Removes("discarded.disk"),
+    Holds(Create, "discarded.disk"),
+    Discards("discarded.disk"),
+    LetsGo,
+    Refuses(0, Open, "discarded.disk"),
+    Removes("discarded.disk"),
+];
+
+const REFUSED: [Row<'static>; 15] = [
+    Refuses(54, Open, "missing.disk"),
+    Refuses(54, OpenToRead, "missing.disk"),
+    Refuses(54, Open, "."),
+    Refuses(54, OpenToRead, "."),
+    Refuses(54, Open, ""),
+    Refuses(54, OpenToRead, ""),
+    Refuses(54, Open, "/dev/null"),
+    Refuses(54, OpenToRead, "/dev/null"),
+    Refuses(54, Create, "."),
+    Refuses(54, Create, "missing/made.disk"),
+    Refuses(54, Create, ""),
+    Refuses(54, Create, "/dev/null"),
+    // A file of the system's own, which has no bytes of its own to write or to sync.
+    Holds(OpenToRead, "/proc/self/stat"),
+    First(Answers(51, Write(0, 1, 1))),
+    First(Answers(52, Sync)),
+];
+
+const WENT_AWAY: [Row<'static>; 14] = [
+    Holds(Create, "removed.disk"),
+    First(Answers(0, Write(0, 1, 4))),
+    First(Answers(0, Sync)),
+    Renames("removed.disk", "renamed.disk"),
+    First(Answers(0, Write(0, 2, 4))),
+    First(Answers(0, Sync)),
+    Resizes("renamed.disk", 3),
+    First(Answers(51, Write(0, 3, 4))),
+    First(Answers(50, Size)),
+    Resizes("renamed.disk", 4),
+    First(Answers(0, Write(0, 3, 4))),
+    First(Answers(0, Sync)),
+    Removes("renamed.disk"),
+    First(Answers(51, Write(0, 4, 4))),
+];
+
+/// What each case shows, and its rows.
+static CASES: [(&str, &[Row<'static>]); 5] = [
+    ("a real file reads back", &READ_BACK),
+    ("a real file has one writer or readers", &ONE_WRITER),
+    ("a file that was made is discarded", &DISCARDED),
+    ("a real file refuses", &REFUSED),
+    ("a file that went away takes no writes", &WENT_AWAY),
+];
 
 #[test]
-fn a_real_file_has_one_writer_or_readers(rt: HostRuntime) -> Result<(), Fail> {
-    let path = "locked.disk";
-    plays(
-        &rt,
-        &[
-            Holds(Create, path),
-            Refuses(54, Open, path),
-            Refuses(54, Create, path),
-            Refuses(54, OpenToRead, path),
-            LetsGo,
-            Holds(OpenToRead, path),
-            Holds(OpenToRead, path),
-            Refuses(54, Open, path),
-            LetsGo,
-            LetsGo,
-            Refuses(0, Open, path),
-            Removes(path),
-        ],
-    )
-}
-
-#[test]
-fn a_file_that_was_made_is_discarded(rt: HostRuntime) -> Result<(), Fail> {
-    let path = "discarded.disk";
-    plays(
-        &rt,
-        &[
-            Holds(Create, path),
-            First(Answers(0, Write(0, 1, 1))),
-            Discards(path),
-            Refuses(54, Open, path),
-            // The first disk's file is gone, and another one has its name: it isn't removed.
-            Holds(Create, path),
-            Removes(path),
-            Holds(Create, path),
-            Discards(path),
-            LetsGo,
-            Refuses(0, Open, path),
-            Removes(path),
-        ],
-    )
-}
-
-#[test]
-fn a_real_file_refuses(rt: HostRuntime) -> Result<(), Fail> {
-    plays(
-        &rt,
-        &[
-            Refuses(54, Open, "missing.disk"),
-            Refuses(54, OpenToRead, "missing.disk"),
-            Refuses(54, Open, "."),
-            Refuses(54, OpenToRead, "."),
-            Refuses(54, Open, ""),
-            Refuses(54, OpenToRead, ""),
-            Refuses(54, Open, "/dev/null"),
-            Refuses(54, OpenToRead, "/dev/null"),
-            Refuses(54, Create, "."),
-            Refuses(54, Create, "missing/made.disk"),
-            Refuses(54, Create, ""),
-            Refuses(54, Create, "/dev/null"),
-            // A file of the system's own, which has no bytes of its own to write or to sync.
-            Holds(OpenToRead, "/proc/self/stat"),
-            First(Answers(51, Write(0, 1, 1))),
-            First(Answers(52, Sync)),
-        ],
-    )
-}
-
-#[test]
-fn a_file_that_went_away_takes_no_writes(rt: HostRuntime) -> Result<(), Fail> {
-    let (path, other) = ("removed.disk", "renamed.disk");
-    plays(
-        &rt,
-        &[
-            Holds(Create, path),
-            First(Answers(0, Write(0, 1, 4))),
-            First(Answers(0, Sync)),
-            Renames(path, other),
-            First(Answers(0, Write(0, 2, 4))),
-            First(Answers(0, Sync)),
-            Resizes(other, 3),
-            First(Answers(51, Write(0, 3, 4))),
-            First(Answers(50, Size)),
-            Resizes(other, 4),
-            First(Answers(0, Write(0, 3, 4))),
-            First(Answers(0, Sync)),
-            Removes(other),
-            First(Answers(51, Write(0, 4, 4))),
-        ],
-    )
+fn real_files_are_disks(rt: HostRuntime) -> Result<(), Fail> {
+    for (name, rows) in &CASES {
+        named(&rt, name, plays(&rt, rows))?;
+    }
+    Ok(())
 }

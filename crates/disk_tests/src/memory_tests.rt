@@ -6,7 +6,7 @@ ghost use Rattle.disk_trait.specs.declared.error.DiskError.TheVariants.{PastEnd}
 
 use crate::test_disks::Call::{Read, Size, Sync, Write};
 use crate::test_disks::Fact::{Answers, Ones};
-use crate::test_disks::{Fact, PAGE, has_ones, hold, script};
+use crate::test_disks::{Fact, PAGE, has_ones, hold, named, script};
 use disk_trait::{Disk, DiskError, DiskFacts, Fate, FaultDisk, MemDisk};
 use std::alloc::Global;
 use std::test::Fail;
@@ -54,7 +54,7 @@ fn unsettled_page(alloc: Global) -> Result<MemDisk, Fail> {
 
 /// The fate of unsettled bytes, whether the file keeps what it grew by, and what stands behind the
 /// ones that are settled.
-const FATES: [(Fate, bool, &[u8]); 6] = [
+static FATES: [(Fate, bool, &[u8]); 6] = [
     (Fate::Old, true, &[1, 1, 0, 0]),
     (Fate::Old, false, &[1, 1]),
     (Fate::New, true, &[2, 3, 4, 5]),
@@ -95,49 +95,49 @@ fn a_sync_settles_what_was_written(rt: HostRuntime) -> Result<(), Fail> {
     hold(&rt, &mut disk, &[Ones(4094, &[2, 3, 4, 5])])
 }
 
-#[test]
-fn nothing_is_read_past_the_end(rt: HostRuntime) -> Result<(), Fail> {
-    let mut disk = MemDisk::new(rt.alloc(), 2 * PAGE, 8)?;
-    hold(
-        &rt,
-        &mut disk,
-        &[
-            Answers(0, Write(0, 1, PAGE)),
-            Answers(0, Read(4094, 2)),
-            Answers(53, Read(4095, 2)),
-            Answers(0, Read(4096, 0)),
-            Answers(53, Read(u64::MAX, 2)),
-            Answers(53, Write(4097, 1, 1)),
-            Answers(0, Write(4096, 1, 1)),
-            Fact::Size(4097),
-        ],
-    )
-}
+const PAST_THE_END: [Fact<'static>; 8] = [
+    Answers(0, Write(0, 1, PAGE)),
+    Answers(0, Read(4094, 2)),
+    Answers(53, Read(4095, 2)),
+    Answers(0, Read(4096, 0)),
+    Answers(53, Read(u64::MAX, 2)),
+    Answers(53, Write(4097, 1, 1)),
+    Answers(0, Write(4096, 1, 1)),
+    Fact::Size(4097),
+];
+
+const LIMITS: [Fact<'static>; 11] = [
+    Answers(51, Write(0, 1, PAGE + 1)),
+    Answers(0, Write(0, 1, PAGE)),
+    Answers(51, Write(4095, 1, 3)),
+    Answers(0, Write(4095, 1, 2)),
+    Answers(0, Sync),
+    Fact::Size(4097),
+    Answers(50, Size),
+    Answers(52, Sync),
+    Answers(51, Write(0, 1, 1)),
+    Answers(50, Read(0, 1)),
+    Answers(53, Write(4098, 1, 1)),
+];
+
+/// What each case shows of a disk in memory for a file of so many bytes and for so many calls; and
+/// what holds of it.
+static CASES: [(&str, usize, usize, &[Fact<'static>]); 2] = [
+    ("nothing is read past the end", 2 * PAGE, 8, &PAST_THE_END),
+    ("memory has its limits", PAGE + 1, 6, &LIMITS),
+];
 
 #[test]
-fn memory_has_its_limits(rt: HostRuntime) -> Result<(), Fail> {
-    let mut disk = MemDisk::new(rt.alloc(), PAGE + 1, 6)?;
-    hold(
-        &rt,
-        &mut disk,
-        &[
-            Answers(51, Write(0, 1, PAGE + 1)),
-            Answers(0, Write(0, 1, PAGE)),
-            Answers(51, Write(4095, 1, 3)),
-            Answers(0, Write(4095, 1, 2)),
-            Answers(0, Sync),
-            Fact::Size(4097),
-            Answers(50, Size),
-            Answers(52, Sync),
-            Answers(51, Write(0, 1, 1)),
-            Answers(50, Read(0, 1)),
-            Answers(53, Write(4098, 1, 1)),
-        ],
-    )
+fn a_disk_in_memory_has_its_limits(rt: HostRuntime) -> Result<(), Fail> {
+    for (name, room, calls, facts) in &CASES {
+        let mut disk = MemDisk::new(rt.alloc(), *room, *calls)?;
+        named(&rt, name, hold(&rt, &mut disk, facts))?;
+    }
+    Ok(())
 }
 
 /// Which call of the script fails, and what the calls answer.
-const FAULTS: [(u64, [u8; 6]); 8] = [
+static FAULTS: [(u64, [u8; 6]); 8] = [
     (0, [0, 0, 0, 0, 0, 0]),
     // Zeros stand where the second half would be, so the file has its page.
     (1, [51, 0, 0, 0, 0, 0]),
@@ -211,7 +211,7 @@ fn a_generic_caller_writes_and_syncs(rt: HostRuntime) -> Result<(), Fail> {
 }
 
 /// Refusals, with their numbers and words.
-const REFUSALS: [(DiskError, u8, &str); 5] = [
+static REFUSALS: [(DiskError, u8, &str); 5] = [
     (DiskError::ReadFailed, 50, "read failed"),
     (DiskError::WriteFailed, 51, "write failed"),
     (DiskError::SyncFailed, 52, "sync failed"),

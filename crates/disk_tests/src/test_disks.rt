@@ -114,6 +114,14 @@ pub(crate) fn judged(rt: &impl Eprint, row: usize, holds: Result<bool, Fail>) ->
     }
 }
 
+/// What a case came to; one that fails is named.
+pub(crate) fn named(rt: &impl Eprint, name: &str, outcome: Result<(), Fail>) -> Result<(), Fail> {
+    if outcome.is_err() {
+        let _ = eprintln!(rt; "{name}");
+    }
+    outcome
+}
+
 /// Goes through these rows on a disk.
 pub(crate) fn hold<D: Disk>(
     rt: &(impl Eprint + AllocGlobal),

@@ -4,6 +4,12 @@ use disk_trait::Fate;
 /// A hub by its place, what is asked of it, and the number that it has to answer.
 pub(crate) type Row = (usize, Ask, usize);
 
+/// What a case shows, the last bytes of the ids of its hubs, and its rows.
+pub(crate) type Case = (&'static str, &'static [u8], &'static [Row]);
+
+/// What a case shows of a hub of which the device call with this number fails, and its rows.
+pub(crate) type FailingCase = (&'static str, u64, &'static [Row]);
+
 /// A call of a list of calls, and the word for its reply.
 pub(crate) type Said = (Call, &'static str);
 

@@ -1,13 +1,13 @@
 //! What changed in a replica's document.
 use crate::replica_asks::Turn::{Drop, Keep, Mark, Put};
-use crate::replica_asks::{Ask, Row, Turn, Wish};
+use crate::replica_asks::{Ask, Case, Row, Turn, Wish};
 use crate::test_asks::plays;
 
 /// Since "abc" was typed.
 const DROPPED: &[Turn] = &[Keep(1), Drop(1), Keep(1), Put("d")];
 
 /// Both peers remove the same character, and the second one types another; the first takes both.
-static REMOVED_TWICE: [Row; 14] = [
+const REMOVED_TWICE: [Row; 14] = [
     (0, Ask::Edit(Wish::Insert(0, "abc")), 3),
     (1, Ask::MergeAll(0), 0),
     (0, Ask::Edit(Wish::Delete(1, 1)), 4),
@@ -24,13 +24,8 @@ static REMOVED_TWICE: [Row; 14] = [
     (1, Ask::Changes(3, DROPPED), 1),
 ];
 
-#[test]
-fn a_character_removed_twice_is_dropped_once(rt: HostRuntime) {
-    plays(&rt, &[1, 2], &REMOVED_TWICE);
-}
-
 /// A peer opens its own list again.
-static OPENED: [Row; 8] = [
+const OPENED: [Row; 8] = [
     (0, Ask::Edit(Wish::Insert(0, "abc")), 3),
     (0, Ask::Edit(Wish::Delete(1, 1)), 4),
     (0, Ask::Open(0, 0), 0),
@@ -41,7 +36,16 @@ static OPENED: [Row; 8] = [
     (0, Ask::Changes(4, &[Mark(1), Keep(1)]), 1),
 ];
 
+static CASES: [Case; 2] = [
+    (
+        "a character removed twice is dropped once",
+        &[1, 2],
+        &REMOVED_TWICE,
+    ),
+    ("what changed before an opening is not told", &[1], &OPENED),
+];
+
 #[test]
-fn what_changed_before_an_opening_is_not_told(rt: HostRuntime) {
-    plays(&rt, &[1], &OPENED);
+fn what_changed_is_told(rt: HostRuntime) {
+    plays(&rt, &CASES);
 }

@@ -1,5 +1,5 @@
 //! Device calls that fail, and what is there when the file is opened anew.
-use crate::asks::{Ask, Row};
+use crate::asks::{Ask, FailingCase, Row};
 use crate::play::plays_failing;
 use crate::test_hubs::{Failing, edit_of, failing_disk, make_calls, open, reopened};
 use disk_trait::Fate;
@@ -77,7 +77,7 @@ fn each_call_that_fails_leaves_what_is_settled_or_the_commits(rt: HostRuntime) {
 
 /// A second commit of which a write is refused, what is refused then, and the text that the file
 /// has.
-static WRITE_FAILS: [Row; 9] = [
+const WRITE_FAILS: [Row; 9] = [
     (0, Ask::Insert(0, 'a'), 0),
     (0, Ask::Commit, 0),
     (0, Ask::Insert(1, 'b'), 0),
@@ -90,7 +90,7 @@ static WRITE_FAILS: [Row; 9] = [
 ];
 
 /// The same where the last sync is refused, after which the file has both characters.
-static SYNC_FAILS: [Row; 9] = [
+const SYNC_FAILS: [Row; 9] = [
     (0, Ask::Insert(0, 'a'), 0),
     (0, Ask::Commit, 0),
     (0, Ask::Insert(1, 'b'), 0),
@@ -102,15 +102,7 @@ static SYNC_FAILS: [Row; 9] = [
     (0, Ask::Shows("ab"), 1),
 ];
 
-#[test]
-fn a_failed_call_of_the_second_commit_is_told_until_it_is_opened_anew(rt: HostRuntime) {
-    // The body's write, the gate's write, and the last sync.
-    plays_failing(&rt, 15, &WRITE_FAILS);
-    plays_failing(&rt, 17, &WRITE_FAILS);
-    plays_failing(&rt, 18, &SYNC_FAILS);
-}
-
-static GATE_FAILS: [Row; 6] = [
+const GATE_FAILS: [Row; 6] = [
     (0, Ask::Insert(0, 'a'), 0),
     (0, Ask::Commit, 0),
     (0, Ask::Insert(1, 'b'), 0),
@@ -119,7 +111,31 @@ static GATE_FAILS: [Row; 6] = [
     (0, Ask::Shows("ab"), 1),
 ];
 
+/// What each case shows, which device call fails, and its rows.
+static CASES: [FailingCase; 4] = [
+    (
+        "the body's write fails, which is told until the file is opened anew",
+        15,
+        &WRITE_FAILS,
+    ),
+    (
+        "the gate's write fails, which is told until the file is opened anew",
+        17,
+        &WRITE_FAILS,
+    ),
+    (
+        "the last sync fails, which is told until the file is opened anew",
+        18,
+        &SYNC_FAILS,
+    ),
+    (
+        "a gate that failed may be open behind a crash",
+        17,
+        &GATE_FAILS,
+    ),
+];
+
 #[test]
-fn a_gate_that_failed_may_be_open_behind_a_crash(rt: HostRuntime) {
-    plays_failing(&rt, 17, &GATE_FAILS);
+fn a_failed_call_is_told_until_the_file_is_opened_anew(rt: HostRuntime) {
+    plays_failing(&rt, &CASES);
 }

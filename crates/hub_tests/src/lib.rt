@@ -37,8 +37,6 @@ mod run_tests;
 #[cfg(test)]
 mod session_tests;
 #[cfg(test)]
-mod tell_tests;
-#[cfg(test)]
 mod test_asks;
 #[cfg(test)]
 mod test_changes;

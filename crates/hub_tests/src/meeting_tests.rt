@@ -29,7 +29,7 @@ struct Outcome {
 }
 
 /// All that is said comes.
-static WITH_ALL: Outcome = Outcome {
+const WITH_ALL: Outcome = Outcome {
     turns: 34,
     breaks: 0,
     dropped: 0,
@@ -45,7 +45,7 @@ static WITH_ALL: Outcome = Outcome {
 };
 
 /// Frames are lost, and links begin anew, four times each time the two meet.
-static WITH_LOSSES: Outcome = Outcome {
+const WITH_LOSSES: Outcome = Outcome {
     turns: 46,
     breaks: 24,
     dropped: 29_869,
@@ -104,15 +104,10 @@ fn outcome_of(alloc: Global, breaks: u32) -> Option<Outcome> {
 }
 
 #[test]
-fn two_hubs_that_hear_all_agree(rt: HostRuntime) -> Result<(), Fail> {
-    let found = outcome_of(rt.alloc(), 0).ok_or("refused")?;
-    assert!(rt; found == WITH_ALL, "{found:?}");
-    Ok(())
-}
-
-#[test]
 fn two_hubs_agree_though_frames_are_lost_and_links_begin_anew(rt: HostRuntime) -> Result<(), Fail> {
-    let found = outcome_of(rt.alloc(), 4).ok_or("refused")?;
-    assert!(rt; found == WITH_LOSSES, "{found:?}");
+    for (breaks, due) in [(0, WITH_ALL), (4, WITH_LOSSES)] {
+        let found = outcome_of(rt.alloc(), breaks).ok_or("refused")?;
+        assert!(rt; found == due, "{breaks} breaks: {found:?}");
+    }
     Ok(())
 }

@@ -1,10 +1,10 @@
 //! A hub takes what peers made.
-use crate::asks::{Ask, Row};
+use crate::asks::{Ask, Case, Row};
 use crate::play::plays;
 
 /// One peer types "x", then "y" and "w" behind it; the other one, which has "x", "z" behind that.
 /// Then each takes what the other one has.
-static FORK: [Row; 9] = [
+const FORK: [Row; 9] = [
     (0, Ask::Insert(0, 'x'), 0),
     (1, Ask::Take(0), 1),
     (1, Ask::Insert(1, 'z'), 0),
@@ -16,13 +16,8 @@ static FORK: [Row; 9] = [
     (1, Ask::Shows("xzyw"), 1),
 ];
 
-#[test]
-fn inserts_of_two_peers_at_one_place_go_alike(rt: HostRuntime) {
-    plays(&rt, &[1, 2], &FORK);
-}
-
 /// The second of two operations, then the first one, twice.
-static SHUFFLED: [Row; 9] = [
+const SHUFFLED: [Row; 9] = [
     (0, Ask::MergeOf(2, "xy", 1), 3),
     (0, Ask::Len, 0),
     (0, Ask::Replicas, 0),
@@ -34,25 +29,15 @@ static SHUFFLED: [Row; 9] = [
     (0, Ask::Replicas, 1),
 ];
 
-#[test]
-fn a_merge_answers_early_applied_known(rt: HostRuntime) {
-    plays(&rt, &[1], &SHUFFLED);
-}
-
-static OWN: [Row; 3] = [
+const OWN: [Row; 3] = [
     (0, Ask::MergeOf(1, "x", 0), 20),
     (0, Ask::Len, 0),
     (0, Ask::Replicas, 0),
 ];
 
-#[test]
-fn an_own_operation_that_is_not_known_is_refused(rt: HostRuntime) {
-    plays(&rt, &[1], &OWN);
-}
-
 /// Operations that fail a check each behind the first ones of replicas 1 and 2: an old counter, a
 /// name that isn't depended on, document 0.
-static REFUSED: [Row; 12] = [
+const REFUSED: [Row; 12] = [
     (0, Ask::Insert(0, 'a'), 0),
     (0, Ask::MergeOf(2, "b", 0), 0),
     (0, Ask::MergeSecond(1, 1, false), 21),
@@ -67,13 +52,8 @@ static REFUSED: [Row; 12] = [
     (0, Ask::Shows("ba"), 1),
 ];
 
-#[test]
-fn a_merge_that_fails_a_check_changes_nothing(rt: HostRuntime) {
-    plays(&rt, &[1], &REFUSED);
-}
-
 /// The first operations of replicas 2 to 17, to a hub of replica 1.
-static SEVENTEEN: [Row; 21] = [
+const SEVENTEEN: [Row; 21] = [
     (0, Ask::Insert(0, 'a'), 0),
     (0, Ask::MergeOf(2, "x", 0), 0),
     (0, Ask::MergeOf(3, "x", 0), 0),
@@ -97,7 +77,15 @@ static SEVENTEEN: [Row; 21] = [
     (0, Ask::Replicas, 16),
 ];
 
+static CASES: [Case; 5] = [
+    ("inserts of two peers at one place go alike", &[1, 2], &FORK),
+    ("a merge answers early applied known", &[1], &SHUFFLED),
+    ("an own operation that is not known is refused", &[1], &OWN),
+    ("a merge that fails a check changes nothing", &[1], &REFUSED),
+    ("a seventeenth replica is refused", &[1], &SEVENTEEN),
+];
+
 #[test]
-fn a_seventeenth_replica_is_refused(rt: HostRuntime) {
-    plays(&rt, &[1], &SEVENTEEN);
+fn a_hub_takes_what_peers_made(rt: HostRuntime) {
+    plays(&rt, &CASES);
 }

@@ -1,11 +1,11 @@
 //! How much may wait for a commit.
-use crate::asks::{Ask, Row};
+use crate::asks::{Ask, Case, Row};
 use crate::play::plays;
 
 /// 945 inserts of 256 characters, each one record, which fill 1,047,957 bytes: the first takes
 /// 1,061, and each of the others 1,109. Then inserts behind them, a merge, and an insert once a
 /// commit has begun.
-static MEBIBYTE: [Row; 8] = [
+const MEBIBYTE: [Row; 8] = [
     (0, Ask::Fill(945), 0),
     (0, Ask::InsertMany(241_920, 256), 8),
     (0, Ask::InsertMany(241_920, 134), 8),
@@ -16,7 +16,13 @@ static MEBIBYTE: [Row; 8] = [
     (0, Ask::InsertMany(242_053, 256), 0),
 ];
 
+static CASES: [Case; 1] = [(
+    "at most a mebibyte of records waits for a commit",
+    &[1],
+    &MEBIBYTE,
+)];
+
 #[test]
-fn at_most_a_mebibyte_of_records_waits_for_a_commit(rt: HostRuntime) {
-    plays(&rt, &[1], &MEBIBYTE);
+fn what_waits_has_its_limit(rt: HostRuntime) {
+    plays(&rt, &CASES);
 }

@@ -1,5 +1,5 @@
 //! Plays the rows of a table on new hubs, one after another.
-use crate::asks::{Ask, Row};
+use crate::asks::{Ask, Case, FailingCase, Row};
 use crate::play_alone::answer_alone;
 use crate::test_hubs::{Failing, NEVER, commit, failing_disk, open, reopened};
 use disk_trait::{Fate, FaultDisk};
@@ -7,20 +7,28 @@ use op_model::Op;
 use std::alloc::Global;
 use std::process::Abort;
 
-/// Plays the rows on hubs of new replicas with these last bytes. Where one isn't answered as it
-/// says, it fails with the number of the rows before that one.
-pub(crate) fn plays(rt: &(impl Abort + AllocGlobal), ids: &[u8], rows: &[Row]) {
-    assert_eq!(rt; count_right(rt.alloc(), ids, NEVER, rows), rows.len());
+/// Plays the rows of each case on hubs of new replicas. Where one isn't answered as it says, it
+/// fails with the case and the number of the rows before that one.
+pub(crate) fn plays(rt: &(impl Abort + AllocGlobal), cases: &[Case]) {
+    for (name, ids, rows) in cases {
+        assert_eq!(rt;
+            count_right(rt.alloc(), ids, NEVER, rows),
+            rows.len(),
+            "{name}"
+        );
+    }
 }
 
 /// The same on a hub of one new replica, of whose device calls the n-th fails: three are made by
 /// the opening, seven by the first commit, eight by each other one.
-pub(crate) fn plays_failing(rt: &(impl Abort + AllocGlobal), n: u64, rows: &[Row]) {
-    assert_eq!(rt;
-        count_right(rt.alloc(), &[1], n, rows),
-        rows.len(),
-        "where call {n} fails"
-    );
+pub(crate) fn plays_failing(rt: &(impl Abort + AllocGlobal), cases: &[FailingCase]) {
+    for (name, n, rows) in cases {
+        assert_eq!(rt;
+            count_right(rt.alloc(), &[1], *n, rows),
+            rows.len(),
+            "{name}, where call {n} fails"
+        );
+    }
 }
 
 /// How many rows are answered as they say before one isn't, where the n-th device call of each hub

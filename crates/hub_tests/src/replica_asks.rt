@@ -3,6 +3,9 @@
 /// A peer by its place, what is asked of it, and the number that it has to answer.
 pub type Row = (usize, Ask, usize);
 
+/// What a case shows, the last bytes of the ids of its peers, and its rows.
+pub type Case = (&'static str, &'static [u8], &'static [Row]);
+
 /// What an edit changes.
 #[derive(Clone, Copy)]
 pub enum Wish {

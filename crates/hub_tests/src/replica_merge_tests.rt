@@ -1,9 +1,9 @@
 //! Merges among a few replicas.
-use crate::replica_asks::{Ask, Row, Wish};
+use crate::replica_asks::{Ask, Case, Row, Wish};
 use crate::test_asks::plays;
-use crate::test_exchange::plays_merged;
+use crate::test_exchange::{MergedCase, plays_merged};
 
-static SHUFFLED: [Row; 6] = [
+const SHUFFLED: [Row; 6] = [
     (1, Ask::Edit(Wish::Insert(0, "xy")), 2),
     (0, Ask::Merge(1, 1), 3),
     (0, Ask::Len, 0),
@@ -12,35 +12,19 @@ static SHUFFLED: [Row; 6] = [
     (0, Ask::Len, 1),
 ];
 
-#[test]
-fn a_merge_answers_early_applied_known(rt: HostRuntime) {
-    plays(&rt, &[1, 2], &SHUFFLED);
-}
-
-static OWN: [Row; 2] = [
+const OWN: [Row; 2] = [
     (1, Ask::Edit(Wish::Insert(0, "xy")), 2),
     (0, Ask::Merge(1, 1), 20),
 ];
 
-#[test]
-fn an_own_operation_that_is_not_known_is_refused(rt: HostRuntime) {
-    // Both have the id of replica 2.
-    plays(&rt, &[2, 2], &OWN);
-}
-
-static NAMES_NOTHING: [Row; 4] = [
+const NAMES_NOTHING: [Row; 4] = [
     (0, Ask::Edit(Wish::Insert(0, "a")), 1),
     (1, Ask::Edit(Wish::Insert(0, "x")), 1),
     (0, Ask::MergeRemove(0), 22),
     (0, Ask::MergeNowhere(1), 23),
 ];
 
-#[test]
-fn a_merge_that_names_nothing_is_refused(rt: HostRuntime) {
-    plays(&rt, &[1, 2], &NAMES_NOTHING);
-}
-
-static REFUSED: [Row; 8] = [
+const REFUSED: [Row; 8] = [
     (0, Ask::Edit(Wish::Insert(0, "a")), 1),
     (1, Ask::Edit(Wish::Insert(0, "b")), 1),
     (0, Ask::Merge(1, 0), 0),
@@ -51,13 +35,8 @@ static REFUSED: [Row; 8] = [
     (0, Ask::HasText("ba"), 1),
 ];
 
-#[test]
-fn a_refused_merge_changes_nothing(rt: HostRuntime) {
-    plays(&rt, &[1, 2], &REFUSED);
-}
-
 /// Each of 17 replicas types a character, and the first one takes what the others typed.
-static SEVENTEEN: [Row; 34] = [
+const SEVENTEEN: [Row; 34] = [
     (0, Ask::Edit(Wish::Insert(0, "x")), 1),
     (1, Ask::Edit(Wish::Insert(0, "x")), 1),
     (2, Ask::Edit(Wish::Insert(0, "x")), 1),
@@ -94,15 +73,9 @@ static SEVENTEEN: [Row; 34] = [
     (0, Ask::Len, 16),
 ];
 
-#[test]
-fn a_seventeenth_replica_is_refused(rt: HostRuntime) {
-    let ids = [1, 2, 3, 4, 5, 6, 7, 8, 9, 10, 11, 12, 13, 14, 15, 16, 17];
-    plays(&rt, &ids, &SEVENTEEN);
-}
-
 /// Two peers each type a character behind the same one and the first a third; then both take the
 /// operations of the other.
-static FORK: [Row; 10] = [
+const FORK: [Row; 10] = [
     (0, Ask::Edit(Wish::Insert(0, "x")), 1),
     (1, Ask::Merge(0, 0), 0),
     (0, Ask::Edit(Wish::Insert(1, "y")), 2),
@@ -115,19 +88,57 @@ static FORK: [Row; 10] = [
     (1, Ask::HasText("xzyw"), 1),
 ];
 
-#[test]
-fn merged_texts_are_one(rt: HostRuntime) {
-    plays(&rt, &[1, 2], &FORK);
-}
-
-static OPENED: [Row; 4] = [
+const OPENED: [Row; 4] = [
     (3, Ask::Open(0, 0), 0),
     (3, Ask::Len, 304),
     (3, Ask::IsSame(0, 1), 1),
     (3, Ask::IsSame(0, 2), 1),
 ];
 
+const IN_ORDER: [Row; 7] = [
+    (3, Ask::Open(0, 0), 0),
+    (3, Ask::TellBehind([0, 0, 0]), 64),
+    (3, Ask::TellBehind([70, 0, 3]), 64),
+    (3, Ask::TellBehind([100, 80, 90]), 34),
+    (3, Ask::TellBehind([0, 96, 96]), 64),
+    (3, Ask::TellBehind([112, 96, 95]), 1),
+    (3, Ask::TellBehind([112, 96, 96]), 0),
+];
+
+/// What each case shows of peers that edited and merged two documents, and its rows.
+static MERGED: [MergedCase; 2] = [
+    ("an opened list is as it was merged", &OPENED),
+    ("what several replicas made is told in order", &IN_ORDER),
+];
+
 #[test]
-fn an_opened_list_is_as_it_was_merged(rt: HostRuntime) {
-    plays_merged(&rt, &OPENED);
+fn replicas_that_merged_agree(rt: HostRuntime) {
+    plays_merged(&rt, &MERGED);
+}
+
+static CASES: [Case; 6] = [
+    ("a merge answers early applied known", &[1, 2], &SHUFFLED),
+    // Both have the id of replica 2.
+    (
+        "an own operation that is not known is refused",
+        &[2, 2],
+        &OWN,
+    ),
+    (
+        "a merge that names nothing is refused",
+        &[1, 2],
+        &NAMES_NOTHING,
+    ),
+    ("a refused merge changes nothing", &[1, 2], &REFUSED),
+    (
+        "a seventeenth replica is refused",
+        &[1, 2, 3, 4, 5, 6, 7, 8, 9, 10, 11, 12, 13, 14, 15, 16, 17],
+        &SEVENTEEN,
+    ),
+    ("merged texts are one", &[1, 2], &FORK),
+];
+
+#[test]
+fn replicas_merge(rt: HostRuntime) {
+    plays(&rt, &CASES);
 }

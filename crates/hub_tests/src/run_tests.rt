@@ -1,5 +1,5 @@
 //! A list of calls, replayed.
-use crate::asks::{Ask, Call, Row, Said};
+use crate::asks::{Ask, Call, Case, Row, Said};
 use crate::play::{crashed, plays};
 use crate::test_hubs::{Failing, NEVER, edit_of, failing_disk, open};
 use disk_trait::Fate;
@@ -22,12 +22,7 @@ const FIRST: [Said; 12] = [
     (Call::Ack, "acknowledged"),
 ];
 
-static FIRST_COMMIT: [Row; 1] = [(0, Ask::Run(&FIRST, 12), 12)];
-
-#[test]
-fn a_first_commit_makes_its_calls_in_order(rt: HostRuntime) {
-    plays(&rt, &[1], &FIRST_COMMIT);
-}
+const FIRST_COMMIT: [Row; 1] = [(0, Ask::Run(&FIRST, 12), 12)];
 
 /// A second insert and its commit.
 const SECOND: [Said; 10] = [
@@ -43,18 +38,13 @@ const SECOND: [Said; 10] = [
     (Call::Step, "sync 3"),
 ];
 
-static SECOND_COMMIT: [Row; 5] = [
+const SECOND_COMMIT: [Row; 5] = [
     (0, Ask::Run(&FIRST, 9), 9),
     (0, Ask::Settle, 0),
     (0, Ask::Run(&SECOND, 10), 10),
     (0, Ask::Settled, 1),
     (0, Ask::Len, 2),
 ];
-
-#[test]
-fn a_second_commit_closes_the_other_gate_first(rt: HostRuntime) {
-    plays(&rt, &[1], &SECOND_COMMIT);
-}
 
 /// A second insert whose commit has no gate to close.
 const NOT_CLOSED: [Said; 9] = [
@@ -70,18 +60,13 @@ const NOT_CLOSED: [Said; 9] = [
 ];
 
 /// A crash in the gate write of a second commit leaves a byte 7 there.
-static TORN_GATE: [Row; 5] = [
+const TORN_GATE: [Row; 5] = [
     (0, Ask::Run(&FIRST, 9), 9),
     (0, Ask::Settle, 0),
     (0, Ask::Run(&SECOND, 9), 9),
     (0, Ask::Crash(Fate::Fill(7), true), 0),
     (0, Ask::Run(&NOT_CLOSED, 9), 9),
 ];
-
-#[test]
-fn a_torn_gate_is_not_closed(rt: HostRuntime) {
-    plays(&rt, &[1], &TORN_GATE);
-}
 
 /// The edit of this number and a commit with `calls` device calls.
 fn commit(alloc: Global, number: usize, calls: usize) -> Option<Vec<HubStep>> {
@@ -158,14 +143,29 @@ const BEGUN: [Said; 2] = [(Call::Insert(0, 'b'), "made"), (Call::Begin, "begun")
 /// What another replica tells, twice.
 const TOLD_TWICE: [Said; 2] = [(Call::MergeOf(1), "applied"), (Call::MergeOf(1), "known")];
 
-static MERGED_ONCE: [Row; 4] = [
+const MERGED_ONCE: [Row; 4] = [
     (0, Ask::Run(&BEGUN, 2), 2),
     (0, Ask::Run(&TOLD_TWICE, 2), 2),
     (0, Ask::Shows("ba"), 1),
     (0, Ask::Have, 1),
 ];
 
+static CASES: [Case; 4] = [
+    (
+        "a first commit makes its calls in order",
+        &[1],
+        &FIRST_COMMIT,
+    ),
+    (
+        "a second commit closes the other gate first",
+        &[1],
+        &SECOND_COMMIT,
+    ),
+    ("a torn gate is not closed", &[1], &TORN_GATE),
+    ("what is told is merged once", &[2], &MERGED_ONCE),
+];
+
 #[test]
-fn what_is_told_is_merged_once(rt: HostRuntime) {
-    plays(&rt, &[2], &MERGED_ONCE);
+fn lists_of_calls_are_replayed(rt: HostRuntime) {
+    plays(&rt, &CASES);
 }

@@ -113,13 +113,13 @@ fn cut(rest: &[u8], most: usize) -> CutInput<'_> {
     }
 }
 
-/// So many spaces, the bytes behind them, and how a session over these ends, whatever the pieces
-/// that it reads them in.
-type Case = (usize, &'static [u8], Ending);
+/// What is shown: of so many spaces and the bytes behind them, how a session over these ends,
+/// whatever the pieces that it reads them in.
+type Case = (&'static str, usize, &'static [u8], Ending);
 
 /// The size of the first pieces in which a session doesn't end as a case says, or 0.
 fn wrong_size(alloc: Global, case: &Case) -> Option<usize> {
-    let (spaces, last, wanted) = case;
+    let (_, spaces, last, wanted) = case;
     let mut input = vec![in alloc; b' '; *spaces].ok()?;
     input.extend_from_slice(last).ok()?;
     for most in [1, 2, 3, 7, 4_095, 4_096, 100_000] {
@@ -132,13 +132,21 @@ fn wrong_size(alloc: Global, case: &Case) -> Option<usize> {
 
 /// Serves each of the cases in pieces of many sizes.
 fn serves(rt: &(impl Abort + AllocGlobal), cases: &[Case]) {
-    for (number, case) in cases.iter().enumerate() {
-        assert_eq!(rt; wrong_size(rt.alloc(), case), Some(0), "case {number}");
+    for case in cases {
+        assert_eq!(rt; wrong_size(rt.alloc(), case), Some(0), "{}", case.0);
     }
 }
 
-static IN_TURN: [Case; 2] = [
+/// How a session ends that refuses one line as too long, and then answers one.
+const TOO_LONG: Ending = (
+    0,
+    "{\"code\":11,\"error\":\"line\",\"ok\":false}\n{\"ok\":true,\"rev\":1}\n",
+    1,
+);
+
+static CASES: [Case; 10] = [
     (
+        "each line is answered in turn",
         0,
         b"{\"op\":\"text\",\"doc\":9}\n\
           {\"op\":\"stop\"}\n\
@@ -153,60 +161,49 @@ static IN_TURN: [Case; 2] = [
             4,
         ),
     ),
-    (0, b"", (0, "", 0)),
-];
-
-#[test]
-fn each_line_is_answered_in_turn(rt: HostRuntime) {
-    serves(&rt, &IN_TURN);
-}
-
-static NO_COMMANDS: [Case; 1] = [(
-    0,
-    b"[\n\n\xff\n{\"op\":\"fly\"}\n7\n{\"op\":\"text\",\"doc\":0}\n{\"op\":\"status\"}\n",
+    ("each line is answered in turn", 0, b"", (0, "", 0)),
     (
+        "what is no command never reaches the desk",
         0,
-        "{\"code\":2,\"error\":\"syntax\",\"ok\":false}\n\
+        b"[\n\n\xff\n{\"op\":\"fly\"}\n7\n{\"op\":\"text\",\"doc\":0}\n{\"op\":\"status\"}\n",
+        (
+            0,
+            "{\"code\":2,\"error\":\"syntax\",\"ok\":false}\n\
           {\"code\":2,\"error\":\"syntax\",\"ok\":false}\n\
           {\"code\":2,\"error\":\"syntax\",\"ok\":false}\n\
           {\"code\":3,\"error\":\"request\",\"ok\":false}\n\
           {\"code\":3,\"error\":\"request\",\"ok\":false}\n\
           {\"code\":4,\"error\":\"field\",\"ok\":false}\n\
           {\"ok\":true,\"rev\":1}\n",
-        1,
+            1,
+        ),
     ),
-)];
-
-#[test]
-fn what_is_no_command_never_reaches_the_desk(rt: HostRuntime) {
-    serves(&rt, &NO_COMMANDS);
-}
-
-static RESTS: [Case; 2] = [
     (
+        "a rest without line feed is no request",
         0,
         b"{\"op\":\"status\"}\n{\"op\":\"status\"}",
         (0, "{\"ok\":true,\"rev\":1}\n", 1),
     ),
-    (0, b"{\"op\":\"status\"}", (0, "", 0)),
-];
-
-#[test]
-fn a_rest_without_line_feed_is_no_request(rt: HostRuntime) {
-    serves(&rt, &RESTS);
-}
-
-/// How a session ends that refuses one line as too long, and then answers one.
-const TOO_LONG: Ending = (
-    0,
-    "{\"code\":11,\"error\":\"line\",\"ok\":false}\n{\"ok\":true,\"rev\":1}\n",
-    1,
-);
-
-static LONG_LINES: [Case; 5] = [
-    (65_537, b"\n{\"op\":\"status\"}\n", TOO_LONG),
-    (200_000, b"\n{\"op\":\"status\"}\n", TOO_LONG),
     (
+        "a rest without line feed is no request",
+        0,
+        b"{\"op\":\"status\"}",
+        (0, "", 0),
+    ),
+    (
+        "a line that is too long is refused once",
+        65_537,
+        b"\n{\"op\":\"status\"}\n",
+        TOO_LONG,
+    ),
+    (
+        "a line that is too long is refused once",
+        200_000,
+        b"\n{\"op\":\"status\"}\n",
+        TOO_LONG,
+    ),
+    (
+        "a line that is too long is refused once",
         65_536,
         b"\n{\"op\":\"status\"}\n",
         (
@@ -216,16 +213,22 @@ static LONG_LINES: [Case; 5] = [
         ),
     ),
     (
+        "a line that is too long is refused once",
         65_521,
         b"{\"op\":\"status\"}\n",
         (0, "{\"ok\":true,\"rev\":1}\n", 1),
     ),
-    (100_000, b"", (0, "", 0)),
+    (
+        "a line that is too long is refused once",
+        100_000,
+        b"",
+        (0, "", 0),
+    ),
 ];
 
 #[test]
-fn a_line_that_is_too_long_is_refused_once(rt: HostRuntime) {
-    serves(&rt, &LONG_LINES);
+fn lines_are_answered_in_whatever_pieces_they_come(rt: HostRuntime) {
+    serves(&rt, &CASES);
 }
 
 static READ_FAILS: Ending = (71, "{\"ok\":true,\"rev\":1}\n{\"ok\":true}\n", 2);

@@ -1,7 +1,7 @@
 //! Plays the rows of a table on some peers, one after another. A test holds no replica, since each
 //! way out past one is what the proof of a test costs. Where something is missing there is no
 //! answer, which is never the one that a row wants.
-use crate::replica_asks::{Ask, Row};
+use crate::replica_asks::{Ask, Case, Row};
 use crate::test_changes::changes;
 use crate::test_edits::{
     edit, edit_of, edits_until_refused, put_length, refusal, settled_after, ticket_rev, together,
@@ -12,14 +12,20 @@ use replica_core::Replica;
 use std::alloc::Global;
 use std::process::Abort;
 
-/// Plays the rows on peers with these ids, by their last bytes. Where one isn't answered as it
-/// says, it fails with the number of the rows before that one.
-pub fn plays(rt: &(impl Abort + AllocGlobal), ids: &[u8], rows: &[Row]) {
-    let count = match peers(rt.alloc(), ids) {
-        Some(mut peers) => count_right(rt.alloc(), &mut peers, rows),
+/// Plays the rows of each case on new peers. Where one isn't answered as it says, it fails with the
+/// case and the number of the rows before that one.
+pub fn plays(rt: &(impl Abort + AllocGlobal), cases: &[Case]) {
+    for (name, ids, rows) in cases {
+        assert_eq!(rt; count_right_of(rt.alloc(), ids, rows), rows.len(), "{name}");
+    }
+}
+
+/// How many rows new peers answer as they say before one doesn't.
+fn count_right_of(alloc: Global, ids: &[u8], rows: &[Row]) -> usize {
+    match peers(alloc, ids) {
+        Some(mut peers) => count_right(alloc, &mut peers, rows),
         None => 0,
-    };
-    assert_eq!(rt; count, rows.len());
+    }
 }
 
 pub fn peers(alloc: Global, ids: &[u8]) -> Option<Vec<Replica>> {

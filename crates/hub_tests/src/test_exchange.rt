@@ -7,15 +7,23 @@ use replica_core::Replica;
 use std::alloc::Global;
 use std::process::Abort;
 
-/// Plays the rows on three peers that typed, removed and marked in two documents, and one without
-/// operations: of the 304 operations the first peer has all. Where a row isn't answered as it says,
-/// it fails with the number of the rows before that one.
-pub fn plays_merged(rt: &(impl Abort + AllocGlobal), rows: &[Row]) {
-    let count = match merged(rt.alloc()) {
-        Some(mut peers) => count_right(rt.alloc(), &mut peers, rows),
+/// What a case shows, and its rows.
+pub type MergedCase = (&'static str, &'static [Row]);
+
+/// Plays the rows of each case on three peers that typed, removed and marked in two documents, and
+/// one without operations: of the 304 operations the first peer has all. Where a row isn't answered
+/// as it says, it fails with the case and the number of the rows before that one.
+pub fn plays_merged(rt: &(impl Abort + AllocGlobal), cases: &[MergedCase]) {
+    for (name, rows) in cases {
+        assert_eq!(rt; count_right_merged(rt.alloc(), rows), rows.len(), "{name}");
+    }
+}
+
+fn count_right_merged(alloc: Global, rows: &[Row]) -> usize {
+    match merged(alloc) {
+        Some(mut peers) => count_right(alloc, &mut peers, rows),
         None => 0,
-    };
-    assert_eq!(rt; count, rows.len());
+    }
 }
 
 /// Three peers that exchanged edits of two documents, six times, none of which was refused, and one

@@ -5,6 +5,7 @@ use disk_trait::{Disk, FaultDisk, MemDisk};
 use locked_replica::Hub;
 use op_ids::Token;
 use op_model::Action;
+use placed_edits::PlacedAction;
 use session_lines::{Answer, Command};
 use session_threads::{Desk, HubDesk};
 use std::alloc::Global;
@@ -58,7 +59,8 @@ fn edited(alloc: Global, desk: &mut Failing, edit: Option<Action>) -> Result<u64
     let Some(edit) = edit else {
         return Err(0);
     };
-    match desk.serve(alloc, Command::Edit(edit)) {
+    let placed = PlacedAction::by_numbers(alloc, edit);
+    match desk.serve(alloc, Command::Edit(placed)) {
         Answer::Edited { rev } => Ok(rev),
         Answer::Refused(refusal) => Err(refusal.number()),
         _ => Err(0),
@@ -102,17 +104,26 @@ fn count_right(alloc: Global, n: u64, rows: &[Row]) -> Option<(usize, FaultDisk<
     Some((count, disk_of(desk)))
 }
 
-/// Plays the rows on a desk over a new store, of whose device calls the n-th fails. Where one isn't
-/// answered as it says, it fails with the number of the rows before that one.
-fn plays(rt: &(impl Abort + AllocGlobal), n: u64, rows: &[Row]) {
-    let count = match count_right(rt.alloc(), n, rows) {
-        Some((count, _)) => count,
-        None => 0,
-    };
-    assert_eq!(rt; count, rows.len(), "where call {n} fails");
+/// What a case shows of a desk over a new store, of whose device calls the n-th fails; and its rows.
+type Case = (&'static str, u64, &'static [Row]);
+
+/// Plays the rows of each case. Where one isn't answered as it says, it fails with the case and the
+/// number of the rows before that one.
+fn plays(rt: &(impl Abort + AllocGlobal), cases: &[Case]) {
+    for (name, n, rows) in cases {
+        let count = played(rt.alloc(), *n, rows);
+        assert_eq!(rt; count, rows.len(), "{name}, where call {n} fails");
+    }
 }
 
-static SENT_AGAIN: [Row; 8] = [
+fn played(alloc: Global, n: u64, rows: &[Row]) -> usize {
+    match count_right(alloc, n, rows) {
+        Some((count, _)) => count,
+        None => 0,
+    }
+}
+
+const SENT_AGAIN: [Row; 8] = [
     (Ask::Send(0), Ok(1)),
     (Ask::Send(0), Ok(1)),
     (Ask::Shows("a"), Ok(1)),
@@ -123,49 +134,28 @@ static SENT_AGAIN: [Row; 8] = [
     (Ask::Shows("ab"), Ok(1)),
 ];
 
-#[test]
-fn an_edit_that_is_sent_again_has_its_first_answer(rt: HostRuntime) {
-    plays(&rt, NEVER, &SENT_AGAIN);
-}
-
-static STOPPED: [Row; 4] = [
+const STOPPED: [Row; 4] = [
     (Ask::Send(0), Ok(1)),
     (Ask::Stop, Ok(0)),
     (Ask::Send(0), Ok(1)),
     (Ask::SendWithout, Err(12)),
 ];
 
-#[test]
-fn a_stop_refuses_no_edit_that_was_made(rt: HostRuntime) {
-    plays(&rt, NEVER, &STOPPED);
-}
-
-static REFUSED: [Row; 3] = [
+const REFUSED: [Row; 3] = [
     (Ask::Send(9), Err(5)),
     (Ask::Send(0), Ok(1)),
     (Ask::Shows("a"), Ok(1)),
 ];
 
-#[test]
-fn a_refused_edit_leaves_no_token(rt: HostRuntime) {
-    plays(&rt, NEVER, &REFUSED);
-}
-
-static FAILED: [Row; 4] = [
+const FAILED: [Row; 4] = [
     (Ask::Send(0), Ok(1)),
     (Ask::SendWithout, Err(9)),
     (Ask::Send(0), Ok(1)),
     (Ask::SendWithout, Err(9)),
 ];
 
-#[test]
-fn a_failure_refuses_no_edit_that_is_settled(rt: HostRuntime) {
-    // The last sync of the second commit.
-    plays(&rt, 18, &FAILED);
-}
-
 /// An edit whose commit fails, after which the file has nothing.
-static FAILED_BEFORE: [Row; 6] = [
+const FAILED_BEFORE: [Row; 6] = [
     (Ask::Send(0), Err(9)),
     (Ask::Send(0), Err(9)),
     (Ask::Reopen, Ok(0)),
@@ -175,7 +165,7 @@ static FAILED_BEFORE: [Row; 6] = [
 ];
 
 /// An edit whose commit fails, after which the file has the edit.
-static FAILED_AFTER: [Row; 6] = [
+const FAILED_AFTER: [Row; 6] = [
     (Ask::Send(0), Err(9)),
     (Ask::Send(0), Err(9)),
     (Ask::Reopen, Ok(0)),
@@ -184,11 +174,24 @@ static FAILED_AFTER: [Row; 6] = [
     (Ask::Shows("a"), Ok(1)),
 ];
 
-#[test]
-fn an_edit_whose_commit_failed_acts_once(rt: HostRuntime) {
+static CASES: [Case; 6] = [
+    (
+        "an edit that is sent again has its first answer",
+        NEVER,
+        &SENT_AGAIN,
+    ),
+    ("a stop refuses no edit that was made", NEVER, &STOPPED),
+    ("a refused edit leaves no token", NEVER, &REFUSED),
+    // The last sync of the second commit.
+    ("a failure refuses no edit that is settled", 18, &FAILED),
     // The first sync of the first commit, and the last one.
-    plays(&rt, 6, &FAILED_BEFORE);
-    plays(&rt, 10, &FAILED_AFTER);
+    ("an edit whose commit failed acts once", 6, &FAILED_BEFORE),
+    ("an edit whose commit failed acts once", 10, &FAILED_AFTER),
+];
+
+#[test]
+fn an_edit_under_a_token_acts_once(rt: HostRuntime) {
+    plays(&rt, &CASES);
 }
 
 /// The record of the insert: its length, its kind, the document, the counter, the replica, no

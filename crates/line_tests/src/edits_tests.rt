@@ -3,17 +3,21 @@ use crate::request_tests::{all_refused, served};
 use crate::saying_tests::said;
 use op_ids::Token;
 use op_model::{Action, Change, CommentId, Edit, EditText, Mark, MarkKey};
+use placed_edits::{PlacedAction, Spots};
 use session_lines::{Answer, Command, Refusal, read_command};
 use std::alloc::Global;
 use std::num::NonZeroU32;
 use std::test::Fail;
 
-static NO_REQUESTS: [&[u8]; 2] = [
+/// What stands beside a list of edits and breaks a rule.
+pub const NO_LIST_ENDS: [&[u8]; 1] = [b"{\"op\":\"edits\",\"doc\":1,\"edits\":[}"];
+
+pub const NO_REQUESTS: [&[u8]; 2] = [
     b"{\"op\":\"edit\",\"doc\":1,\"edits\":[{\"op\":\"delete\",\"at\":0,\"count\":1}]}",
     b"{\"doc\":1,\"edits\":[{\"op\":\"delete\",\"at\":0,\"count\":1}]}",
 ];
 
-static NO_LISTS: [&[u8]; 13] = [
+pub const NO_LISTS: [&[u8]; 13] = [
     b"{\"op\":\"edits\",\"doc\":1}",
     b"{\"op\":\"edits\",\"doc\":1,\"edits\":null}",
     b"{\"op\":\"edits\",\"doc\":1,\"edits\":{}}",
@@ -28,17 +32,6 @@ static NO_LISTS: [&[u8]; 13] = [
     b"{\"op\":\"delete\",\"doc\":1,\"at\":0,\"count\":1,\"edits\":[{\"op\":\"delete\",\"at\":0,\"count\":1}]}",
     b"{\"op\":\"text\",\"doc\":1,\"edits\":[{\"op\":\"delete\",\"at\":0,\"count\":1}]}",
 ];
-
-#[test]
-fn what_stands_beside_the_list_keeps_its_rules(rt: HostRuntime) {
-    all_refused(
-        &rt,
-        &[b"{\"op\":\"edits\",\"doc\":1,\"edits\":[}"],
-        Refusal::Syntax,
-    );
-    all_refused(&rt, &NO_REQUESTS, Refusal::Request);
-    all_refused(&rt, &NO_LISTS, Refusal::Field);
-}
 
 static NO_EDITS: [&str; 30] = [
     "7",
@@ -114,7 +107,11 @@ fn several_edits_are_served_in_order(rt: HostRuntime) -> Result<(), Fail> {
         &rt,
         alloc,
         "{\"op\":\"edits\",\"doc\":1,\"rev\":14,\"token\":\"abababab-abab-abab-abab-abababababab\",\"edits\":[{\"op\":\"delete\",\"at\":4,\"count\":3},{\"op\":\"insert\",\"at\":4,\"text\":\"TWO\"},{\"op\":\"mark\",\"from\":4,\"to\":7,\"kind\":\"strong\"},{\"op\":\"unmark\",\"from\":0,\"to\":2,\"kind\":\"comment\",\"id\":\"00000000000000000000000000000000\"}]}",
-        Command::Edit(Action::new(first, others).ok_or("many")?),
+        Command::Edit(PlacedAction::new(
+            Action::new(first, others).ok_or("many")?,
+            Spots::none(),
+            vec![in alloc; Spots::none(), Spots::none(), Spots::none()]?,
+        )),
     );
     Ok(())
 }
@@ -133,7 +130,7 @@ fn one_of_several_may_be_all(rt: HostRuntime) -> Result<(), Fail> {
         &rt,
         alloc,
         "{\"edits\":[{\"count\":1,\"at\":0,\"op\":\"delete\"}],\"doc\":2,\"op\":\"edits\"}",
-        Command::Edit(Action::one(alloc, edit)),
+        Command::Edit(PlacedAction::by_numbers(alloc, Action::one(alloc, edit))),
     );
     Ok(())
 }
@@ -150,7 +147,7 @@ fn line_of(alloc: Global, count: usize) -> Result<String, Fail> {
 fn a_line_has_up_to_1024_edits(rt: HostRuntime) -> Result<(), Fail> {
     let alloc = rt.alloc();
     match read_command(alloc, line_of(alloc, 1023)?.as_bytes())? {
-        Command::Edit(action) => assert!(rt; action.others().len() == 1023),
+        Command::Edit(placed) => assert!(rt; placed.action().others().len() == 1023),
         other => assert!(rt; false, "{other:?}"),
     }
     all_refused(&rt, &[line_of(alloc, 1024)?.as_bytes()], Refusal::Field);

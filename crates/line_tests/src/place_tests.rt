@@ -1,12 +1,12 @@
 //! How places that last are read and said, and what changed in a text.
-use crate::request_tests::{all_refused, served};
+use crate::request_tests::served;
 use crate::saying_tests::{said, text_of};
 use op_model::{ChangeStep, CommentId, CommentIds, Marks, Neighbour, Span, Url};
-use session_lines::{Answer, ChangeList, Command, PlaceList, Refusal, read_command};
+use session_lines::{Answer, ChangeList, Command, PlaceList, read_command};
 use std::alloc::Global;
 use std::test::Fail;
 
-static NO_PLACES: [&[u8]; 20] = [
+pub const NO_PLACES: [&[u8]; 20] = [
     b"{\"op\":\"anchors\",\"doc\":1,\"at\":[1]}",
     b"{\"op\":\"anchors\",\"doc\":1,\"at\":[1],\"side\":\"left\"}",
     b"{\"op\":\"anchors\",\"doc\":1,\"at\":1,\"side\":\"next\"}",
@@ -29,7 +29,7 @@ static NO_PLACES: [&[u8]; 20] = [
     b"{\"op\":\"places\",\"doc\":1,\"anchors\":[\"a1@00000000000000000000000000000001\"]}",
 ];
 
-static NO_CHANGES: [&[u8]; 3] = [
+pub const NO_CHANGES: [&[u8]; 3] = [
     b"{\"op\":\"changes\",\"doc\":1}",
     b"{\"op\":\"changes\",\"doc\":1,\"since\":null}",
     b"{\"op\":\"changes\",\"doc\":1,\"since\":4294967296}",
@@ -37,18 +37,12 @@ static NO_CHANGES: [&[u8]; 3] = [
 
 #[test]
 fn changes_are_asked_since_a_number(rt: HostRuntime) {
-    all_refused(&rt, &NO_CHANGES, Refusal::Field);
     served(
         &rt,
         rt.alloc(),
         "{\"op\":\"changes\",\"doc\":2,\"since\":0}",
         Command::Changes { doc: 2, since: 0 },
     );
-}
-
-#[test]
-fn broken_places_are_refused(rt: HostRuntime) {
-    all_refused(&rt, &NO_PLACES, Refusal::Field);
 }
 
 #[test]

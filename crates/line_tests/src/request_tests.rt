@@ -1,8 +1,10 @@
 //! How lines are read into commands, and how answers are said.
 use crate::saying_tests::{said, text_of};
+use crate::{edits_tests, place_tests, token_tests};
 use op_model::{
     Action, Change, CommentId, CommentIds, Edit, EditText, Mark, MarkKey, Marks, Span, Text, Url,
 };
+use placed_edits::PlacedAction;
 use session_lines::{Answer, Command, Refusal, SpanList, State, read_command};
 use std::alloc::Global;
 use std::num::NonZeroU32;
@@ -19,7 +21,7 @@ pub fn all_refused(rt: &(impl Abort + AllocGlobal), lines: &[&[u8]], refusal: Re
     }
 }
 
-static NO_JSON: [&[u8]; 6] = [
+const NO_JSON: [&[u8]; 6] = [
     b"[",
     b"",
     b"  ",
@@ -28,12 +30,7 @@ static NO_JSON: [&[u8]; 6] = [
     b"{\"op\":\"text\",\"doc\":1E400}",
 ];
 
-#[test]
-fn what_is_no_json_is_syntax(rt: HostRuntime) {
-    all_refused(&rt, &NO_JSON, Refusal::Syntax);
-}
-
-static NO_REQUESTS: [&[u8]; 6] = [
+const NO_REQUESTS: [&[u8]; 6] = [
     b"7",
     b"[\"status\"]",
     b"{}",
@@ -42,12 +39,7 @@ static NO_REQUESTS: [&[u8]; 6] = [
     b"{\"op\":null}",
 ];
 
-#[test]
-fn what_asks_for_nothing_is_no_request(rt: HostRuntime) {
-    all_refused(&rt, &NO_REQUESTS, Refusal::Request);
-}
-
-static NO_NUMBERS: [&[u8]; 11] = [
+const NO_NUMBERS: [&[u8]; 11] = [
     b"{\"op\":\"text\",\"doc\":0}",
     b"{\"op\":\"text\",\"doc\":4294967296}",
     b"{\"op\":\"text\",\"doc\":-1}",
@@ -61,12 +53,7 @@ static NO_NUMBERS: [&[u8]; 11] = [
     b"{\"op\":\"text\"}",
 ];
 
-#[test]
-fn numbers_are_whole_and_in_range(rt: HostRuntime) {
-    all_refused(&rt, &NO_NUMBERS, Refusal::Field);
-}
-
-static BAD_FIELDS: [&[u8]; 16] = [
+const BAD_FIELDS: [&[u8]; 16] = [
     b"{\"op\":\"status\",\"doc\":1}",
     b"{\"op\":\"stop\",\"rev\":0}",
     b"{\"op\":\"text\",\"doc\":1,\"rev\":0}",
@@ -85,9 +72,30 @@ static BAD_FIELDS: [&[u8]; 16] = [
     b"{\"op\":\"unmark\",\"doc\":1,\"from\":0,\"to\":1,\"kind\":\"comment\"}",
 ];
 
+/// Lines, and how each of them is refused.
+static REFUSED: [(&[&[u8]], Refusal); 11] = [
+    (&NO_JSON, Refusal::Syntax),
+    (&NO_REQUESTS, Refusal::Request),
+    (&NO_NUMBERS, Refusal::Field),
+    (&BAD_FIELDS, Refusal::Field),
+    (&edits_tests::NO_LIST_ENDS, Refusal::Syntax),
+    (&edits_tests::NO_REQUESTS, Refusal::Request),
+    (&edits_tests::NO_LISTS, Refusal::Field),
+    (&place_tests::NO_PLACES, Refusal::Field),
+    (&place_tests::NO_CHANGES, Refusal::Field),
+    (&token_tests::NO_TOKENS, Refusal::Field),
+    (&token_tests::NO_EDITS, Refusal::Field),
+];
+
 #[test]
-fn fields_keep_their_rules(rt: HostRuntime) {
-    all_refused(&rt, &BAD_FIELDS, Refusal::Field);
+fn lines_that_break_a_rule_are_refused(rt: HostRuntime) {
+    for (lines, refusal) in &REFUSED {
+        all_refused(&rt, lines, *refusal);
+    }
+}
+
+#[test]
+fn a_url_has_its_limit(rt: HostRuntime) {
     let long = "u".repeat(rt.alloc(), 1025).expect(&rt, "memory");
     let link = format!(in rt.alloc();
         "{{\"op\":\"mark\",\"doc\":1,\"from\":0,\"to\":1,\"kind\":\"link\",\"url\":\"{long}\"}}"
@@ -135,7 +143,7 @@ fn alone(alloc: Global, doc: u32, rev: Option<u32>, change: Change) -> Command {
         token: None,
         change,
     };
-    Command::Edit(Action::one(alloc, edit))
+    Command::Edit(PlacedAction::by_numbers(alloc, Action::one(alloc, edit)))
 }
 
 #[test]

@@ -1,7 +1,6 @@
 //! The token of an edit's line.
-use crate::request_tests::all_refused;
 use op_ids::Token;
-use session_lines::{Command, Refusal, read_command};
+use session_lines::{Command, read_command};
 use std::process::Abort;
 use std::test::Fail;
 
@@ -9,8 +8,8 @@ use std::test::Fail;
 fn all_have(rt: &(impl Abort + AllocGlobal), lines: &[&str], token: Token) {
     for line in lines {
         match read_command(rt.alloc(), line.as_bytes()) {
-            Ok(Command::Edit(action)) => {
-                assert!(rt; action.first().token == Some(token), "{line}");
+            Ok(Command::Edit(placed)) => {
+                assert!(rt; placed.action().first().token == Some(token), "{line}");
             }
             Ok(other) => assert!(rt; false, "no edit: {other:?}"),
             Err(found) => assert!(rt; false, "{found}: {line}"),
@@ -18,7 +17,7 @@ fn all_have(rt: &(impl Abort + AllocGlobal), lines: &[&str], token: Token) {
     }
 }
 
-static EDITS: [&str; 5] = [
+const EDITS: [&str; 5] = [
     "{\"token\":\"d1d1d1d1-d1d1-d1d1-d1d1-d1d1d1d1d1d1\",\
         \"doc\":1,\"op\":\"insert\",\"at\":0,\"text\":\"a\"}",
     "{\"token\":\"d1d1d1d1-d1d1-d1d1-d1d1-d1d1d1d1d1d1\",\
@@ -31,13 +30,7 @@ static EDITS: [&str; 5] = [
         \"doc\":1,\"op\":\"edits\",\"edits\":[{\"op\":\"delete\",\"at\":0,\"count\":1}]}",
 ];
 
-#[test]
-fn each_edit_takes_a_token(rt: HostRuntime) -> Result<(), Fail> {
-    all_have(&rt, &EDITS, Token::read([0xd1; 16]).ok_or("nil")?);
-    Ok(())
-}
-
-static FORMS: [&str; 5] = [
+const FORMS: [&str; 5] = [
     "{\"op\":\"insert\",\"doc\":1,\"at\":0,\"text\":\"a\",\
         \"token\":\"abababab-abab-abab-abab-abababababab\"}",
     "{\"op\":\"insert\",\"doc\":1,\"at\":0,\"text\":\"a\",\
@@ -50,13 +43,18 @@ static FORMS: [&str; 5] = [
         \"token\":\"urn:uuid:abababab-abab-abab-abab-abababababab\"}",
 ];
 
+/// Lines, and the bytes of the token that each has: each edit takes one, in any text form of a UUID.
+static HAVE: [(&[&str], [u8; 16]); 2] = [(&EDITS, [0xd1; 16]), (&FORMS, [0xab; 16])];
+
 #[test]
-fn a_token_is_any_text_form_of_a_uuid(rt: HostRuntime) -> Result<(), Fail> {
-    all_have(&rt, &FORMS, Token::read([0xab; 16]).ok_or("nil")?);
+fn each_edit_takes_a_token_in_any_form(rt: HostRuntime) -> Result<(), Fail> {
+    for (lines, bytes) in &HAVE {
+        all_have(&rt, lines, Token::read(*bytes).ok_or("nil")?);
+    }
     Ok(())
 }
 
-static NO_TOKENS: [&[u8]; 7] = [
+pub const NO_TOKENS: [&[u8]; 7] = [
     b"{\"op\":\"insert\",\"doc\":1,\"at\":0,\"text\":\"a\",\"token\":null}",
     b"{\"op\":\"insert\",\"doc\":1,\"at\":0,\"text\":\"a\",\"token\":1}",
     b"{\"op\":\"insert\",\"doc\":1,\"at\":0,\"text\":\"a\",\"token\":\"\"}",
@@ -69,19 +67,9 @@ static NO_TOKENS: [&[u8]; 7] = [
         \"token\":[\"abababab-abab-abab-abab-abababababab\"]}",
 ];
 
-#[test]
-fn what_is_no_token_is_refused(rt: HostRuntime) {
-    all_refused(&rt, &NO_TOKENS, Refusal::Field);
-}
-
-static NO_EDITS: [&[u8]; 4] = [
+pub const NO_EDITS: [&[u8]; 4] = [
     b"{\"op\":\"text\",\"doc\":1,\"token\":\"abababab-abab-abab-abab-abababababab\"}",
     b"{\"op\":\"spans\",\"doc\":1,\"token\":\"abababab-abab-abab-abab-abababababab\"}",
     b"{\"op\":\"status\",\"token\":\"abababab-abab-abab-abab-abababababab\"}",
     b"{\"op\":\"stop\",\"token\":\"abababab-abab-abab-abab-abababababab\"}",
 ];
-
-#[test]
-fn only_edits_take_a_token(rt: HostRuntime) {
-    all_refused(&rt, &NO_EDITS, Refusal::Field);
-}

@@ -121,15 +121,16 @@ static CASES: [(&[u8], &[u8], Ending, &[u8]); 13] = [
     (b"\x81\x85\0\0\0\0Hel", b"", Ending::StreamEnded, b""),
 ];
 
+fn is_so(heard: &Heard, lines: &[u8], ending: Ending, sent: &[u8]) -> bool {
+    heard.lines.as_slice() == lines && heard.ending == ending && heard.sent.as_slice() == sent
+}
+
 #[test]
 fn lines_are_those_of_the_messages(rt: HostRuntime) -> Result<(), Fail> {
     for (input, lines, ending, sent) in &CASES {
         for size in &SIZES {
             let heard = hear(rt.alloc(), Wire::new(rt.alloc(), input, *size)?)?;
-            let is_heard = heard.lines.as_slice() == *lines
-                && heard.ending == *ending
-                && heard.sent.as_slice() == *sent;
-            assert!(rt; is_heard, "{input:?} {size}");
+            assert!(rt; is_so(&heard, lines, *ending, sent), "{input:?} {size}");
         }
     }
     Ok(())
@@ -151,16 +152,22 @@ static LAST: [(u8, usize, Ending); 2] = [
     (2, 0, Ending::Refused(CloseCode::Size)),
 ];
 
+/// What comes of a fragment of as many bytes as a frame has at most, and one of so many, the last.
+fn hear_fragments(alloc: Global, more: u8) -> Result<Heard, Fail> {
+    let mut input = frame_of(alloc, 0x01, u16::MAX)?;
+    input.extend_from_slice(&[0x80, 0x80 | more, 0, 0, 0, 0, b'a', b'a'])?;
+    input.truncate(input.len() - 2 + more as usize);
+    hear(alloc, Wire::new(alloc, input.as_slice(), 100_000)?)
+}
+
 #[test]
 fn a_message_of_fragments_may_be_as_long_as_one_of_one_frame(rt: HostRuntime) -> Result<(), Fail> {
-    let alloc = rt.alloc();
     for (more, count, ending) in &LAST {
-        let mut input = frame_of(alloc, 0x01, u16::MAX)?;
-        input.extend_from_slice(&[0x80, 0x80 | *more, 0, 0, 0, 0, b'a', b'a'])?;
-        input.truncate(input.len() - 2 + *more as usize);
-        let heard = hear(alloc, Wire::new(alloc, input.as_slice(), 100_000)?)?;
-        assert_eq!(rt; heard.lines.len(), *count);
-        assert!(rt; heard.ending == *ending, "{:?}", heard.ending);
+        let heard = hear_fragments(rt.alloc(), *more)?;
+        assert!(rt;
+            heard.lines.len() == *count && heard.ending == *ending,
+            "{more}"
+        );
     }
     Ok(())
 }

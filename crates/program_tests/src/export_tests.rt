@@ -2,111 +2,128 @@
 use op_model::{CommentId, CommentIds, Marks, Span, Text, Url};
 use span_export::{Form, export};
 use std::alloc::Global;
-use std::process::Abort;
 use std::test::Fail;
 
-/// A span without comments and without a link.
-fn span(alloc: Global, text: &str, strong: bool, em: bool) -> Result<Span, Fail> {
+/// How a span looks.
+#[derive(Clone, Copy)]
+enum Look {
+    Plain,
+    Strong,
+    Em,
+    /// Both strong and em.
+    Both,
+    /// A link to an address.
+    Linked(&'static str),
+    /// Em, with a comment.
+    Commented,
+}
+
+/// A span of this text that looks so.
+fn span(alloc: Global, text: &str, look: Look) -> Result<Span, Fail> {
     let characters: Vec<char> = text.chars().collect(alloc)?;
     Ok(Span {
         text: Text::from(characters),
-        marks: Marks {
-            strong,
-            em,
-            link: None,
-            comments: CommentIds::from(Vec::new(alloc)),
-        },
+        marks: marks(alloc, look)?,
     })
 }
 
-/// A span that is a link.
-fn link(alloc: Global, text: &str, address: &str) -> Result<Span, Fail> {
-    let mut linked = span(alloc, text, false, false)?;
-    linked.marks.link = Url::new(String::from_str(alloc, address)?);
-    Ok(linked)
-}
-
-/// A span that has a comment.
-fn commented(alloc: Global, text: &str) -> Result<Span, Fail> {
-    let mut found = span(alloc, text, false, true)?;
-    let ids = vec![in alloc; CommentId::read([0x5a; 16])]?;
-    found.marks.comments = CommentIds::from(ids);
-    Ok(found)
-}
-
-/// Whether spans are exported as this text.
-fn shows(rt: &(impl Abort + AllocGlobal), form: Form, spans: &[Span], text: &str) {
-    match export(rt.alloc(), form, spans) {
-        Ok(found) => assert!(rt; found.as_slice() == text.as_bytes(), "{found:?}"),
-        Err(_) => assert!(rt; false, "no memory"),
+fn marks(alloc: Global, look: Look) -> Result<Marks, Fail> {
+    let mut comments = Vec::new(alloc);
+    if matches!(look, Look::Commented) {
+        comments.push(CommentId::read([0x5a; 16]))?;
     }
+    let link = match look {
+        Look::Linked(address) => Url::new(String::from_str(alloc, address)?),
+        _ => None,
+    };
+    Ok(Marks {
+        strong: matches!(look, Look::Strong | Look::Both),
+        em: matches!(look, Look::Em | Look::Both | Look::Commented),
+        link,
+        comments: CommentIds::from(comments),
+    })
 }
 
-#[test]
-fn text_is_the_characters_alone(rt: HostRuntime) -> Result<(), Fail> {
-    let alloc = rt.alloc();
-    let spans = [
-        span(alloc, "a*b ", false, false)?,
-        span(alloc, "ü<", true, true)?,
-    ];
-    shows(&rt, Form::Text, &spans, "a*b ü<");
-    Ok(())
+/// What spans are exported as.
+fn exported(alloc: Global, form: Form, parts: &[(&str, Look)]) -> Result<Vec<u8>, Fail> {
+    let mut spans = Vec::new(alloc);
+    for (text, look) in parts {
+        spans.push(span(alloc, text, *look)?)?;
+    }
+    Ok(export(alloc, form, &spans)?)
 }
 
-#[test]
-fn emphasis_has_stars_and_no_white_space_at_its_ends(rt: HostRuntime) -> Result<(), Fail> {
-    let alloc = rt.alloc();
-    let spans = [
-        span(alloc, "The", false, false)?,
-        span(alloc, " quick ", true, false)?,
-        span(alloc, "fox", false, true)?,
-        span(alloc, "!", true, true)?,
-        span(alloc, "es", false, false)?,
-    ];
-    let text = "The **quick** *fox*<span></span>***\\!***<span></span>es\n";
-    shows(&rt, Form::Markdown, &spans, text);
-    Ok(())
-}
+/// A form, spans, and what they are exported as.
+type Row = (Form, &'static [(&'static str, Look)], &'static str);
 
-#[test]
-fn what_means_something_is_escaped(rt: HostRuntime) -> Result<(), Fail> {
-    let alloc = rt.alloc();
-    let spans = [span(alloc, "# a_b\n 1. <c>\n2. & \\", false, false)?];
-    let text = "\\# a\\_b\\\n&#32;1. \\<c\\>\\\n2\\. \\& \\\\\n";
-    shows(&rt, Form::Markdown, &spans, text);
-    Ok(())
-}
+const ESCAPED: [(&str, Look); 1] = [("# a_b\n 1. <c>\n2. & \\", Look::Plain)];
 
-#[test]
-fn a_script_is_no_link(rt: HostRuntime) -> Result<(), Fail> {
-    let alloc = rt.alloc();
-    let spans = [
-        link(alloc, "a", "https://b.c/<d>")?,
-        link(alloc, "e", "JavaScript:f")?,
-        link(alloc, "g", "/h:i")?,
-    ];
-    let markdown = "[a](<https://b.c/\\<d\\>>)e[g](</h:i>)\n";
-    shows(&rt, Form::Markdown, &spans, markdown);
-    let html =
-        "<!doctype html><meta charset=\"utf-8\"><div style=\"white-space: pre-wrap\"><a href=\"https://b.c/&lt;d&gt;\">a</a>e<a href=\"/h:i\">g</a></div>\n";
-    shows(&rt, Form::Html, &spans, html);
-    Ok(())
-}
+const EMPHASIS: [(&str, Look); 5] = [
+    ("The", Look::Plain),
+    (" quick ", Look::Strong),
+    ("fox", Look::Em),
+    ("!", Look::Both),
+    ("es", Look::Plain),
+];
 
-#[test]
-fn a_comment_is_a_tag(rt: HostRuntime) -> Result<(), Fail> {
-    let alloc = rt.alloc();
-    let spans = [commented(alloc, "a")?];
-    let name = "<span data-comment=\"5a5a5a5a-5a5a-5a5a-5a5a-5a5a5a5a5a5a\">";
-    shows(
-        &rt,
+const LINKS: [(&str, Look); 3] = [
+    ("a", Look::Linked("https://b.c/<d>")),
+    ("e", Look::Linked("JavaScript:f")),
+    ("g", Look::Linked("/h:i")),
+];
+
+static EXPORTS: [Row; 7] = [
+    // Text is the characters alone.
+    (
+        Form::Text,
+        &[("a*b ", Look::Plain), ("ü<", Look::Both)],
+        "a*b ü<",
+    ),
+    // Emphasis has stars, and no white space at its ends.
+    (
         Form::Markdown,
-        &spans,
-        format!(in alloc; "{name}*a*</span>\n")?.as_str(),
-    );
-    let head = "<!doctype html><meta charset=\"utf-8\"><div style=\"white-space: pre-wrap\">";
-    let html = format!(in alloc; "{head}{name}<em>a</em></span></div>\n")?;
-    shows(&rt, Form::Html, &spans, html.as_str());
+        &EMPHASIS,
+        "The **quick** *fox*<span></span>***\\!***<span></span>es\n",
+    ),
+    // What means something is escaped.
+    (
+        Form::Markdown,
+        &ESCAPED,
+        "\\# a\\_b\\\n&#32;1. \\<c\\>\\\n2\\. \\& \\\\\n",
+    ),
+    // A script is no link.
+    (
+        Form::Markdown,
+        &LINKS,
+        "[a](<https://b.c/\\<d\\>>)e[g](</h:i>)\n",
+    ),
+    (
+        Form::Html,
+        &LINKS,
+        "<!doctype html><meta charset=\"utf-8\"><div style=\"white-space: pre-wrap\"><a href=\"https://b.c/&lt;d&gt;\">a</a>e<a href=\"/h:i\">g</a></div>\n",
+    ),
+    // A comment is a tag.
+    (
+        Form::Markdown,
+        &[("a", Look::Commented)],
+        "<span data-comment=\"5a5a5a5a-5a5a-5a5a-5a5a-5a5a5a5a5a5a\">*a*</span>\n",
+    ),
+    (
+        Form::Html,
+        &[("a", Look::Commented)],
+        "<!doctype html><meta charset=\"utf-8\"><div style=\"white-space: pre-wrap\"><span data-comment=\"5a5a5a5a-5a5a-5a5a-5a5a-5a5a5a5a5a5a\"><em>a</em></span></div>\n",
+    ),
+];
+
+#[test]
+fn spans_are_exported_to_the_byte(rt: HostRuntime) -> Result<(), Fail> {
+    for (form, parts, due) in &EXPORTS {
+        let found = exported(rt.alloc(), *form, parts)?;
+        assert!(rt;
+            found.as_slice() == due.as_bytes(),
+            "{found:?} in place of {due}"
+        );
+    }
     Ok(())
 }
 

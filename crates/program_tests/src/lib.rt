@@ -12,6 +12,8 @@ mod page_tests;
 #[cfg(test)]
 mod perform_tests;
 #[cfg(test)]
+mod port_tests;
+#[cfg(test)]
 mod test_runs;
 #[cfg(test)]
 mod word_tests;

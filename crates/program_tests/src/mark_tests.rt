@@ -1,77 +1,54 @@
 //! Marks through sessions over disks in memory.
 use crate::test_runs::What::{Dump, Order};
-use crate::test_runs::{EDIT, made, session, turns};
-use std::process::Abort;
+use crate::test_runs::{EDIT, Session, made, sessions, turns};
 use std::test::Fail;
 
-/// The lines of a session over a fresh store, and what it writes.
-type Row = (&'static str, &'static str);
-
-/// Strong, em and their removals grow at their end.
-const GROWING: [Row; 3] = [
+static MARKED: [Session; 8] = [
     (
+        "strong grows at its end",
         "{\"op\":\"insert\",\"doc\":1,\"at\":0,\"text\":\"abc\"}\n{\"op\":\"mark\",\"doc\":1,\"from\":0,\"to\":3,\"kind\":\"strong\"}\n{\"op\":\"insert\",\"doc\":1,\"at\":3,\"text\":\"d\"}\n{\"op\":\"spans\",\"doc\":1}\n",
         "{\"ok\":true,\"rev\":3}\n{\"ok\":true,\"rev\":4}\n{\"ok\":true,\"rev\":5}\n{\"ok\":true,\"rev\":5,\"spans\":[{\"strong\":true,\"text\":\"abcd\"}]}\n",
     ),
     (
+        "em grows at its end",
         "{\"op\":\"insert\",\"doc\":1,\"at\":0,\"text\":\"abc\"}\n{\"op\":\"mark\",\"doc\":1,\"from\":0,\"to\":2,\"kind\":\"em\"}\n{\"op\":\"insert\",\"doc\":1,\"at\":2,\"text\":\"x\"}\n{\"op\":\"spans\",\"doc\":1}\n",
         "{\"ok\":true,\"rev\":3}\n{\"ok\":true,\"rev\":4}\n{\"ok\":true,\"rev\":5}\n{\"ok\":true,\"rev\":5,\"spans\":[{\"em\":true,\"text\":\"abx\"},{\"text\":\"c\"}]}\n",
     ),
     (
+        "the removal of strong grows at its end",
         "{\"op\":\"insert\",\"doc\":1,\"at\":0,\"text\":\"ab\"}\n{\"op\":\"mark\",\"doc\":1,\"from\":0,\"to\":2,\"kind\":\"strong\"}\n{\"op\":\"unmark\",\"doc\":1,\"from\":1,\"to\":2,\"kind\":\"strong\"}\n{\"op\":\"insert\",\"doc\":1,\"at\":2,\"text\":\"c\"}\n{\"op\":\"spans\",\"doc\":1}\n",
         "{\"ok\":true,\"rev\":2}\n{\"ok\":true,\"rev\":3}\n{\"ok\":true,\"rev\":4}\n{\"ok\":true,\"rev\":5}\n{\"ok\":true,\"rev\":5,\"spans\":[{\"strong\":true,\"text\":\"a\"},{\"text\":\"bc\"}]}\n",
     ),
-];
-
-/// Links do not grow, not even from a tombstone.
-const LINKS: [Row; 3] = [
     (
+        "a link does not grow",
         "{\"op\":\"insert\",\"doc\":1,\"at\":0,\"text\":\"abc\"}\n{\"op\":\"mark\",\"doc\":1,\"from\":0,\"to\":2,\"kind\":\"link\",\"url\":\"u\"}\n{\"op\":\"insert\",\"doc\":1,\"at\":2,\"text\":\"x\"}\n{\"op\":\"spans\",\"doc\":1}\n",
         "{\"ok\":true,\"rev\":3}\n{\"ok\":true,\"rev\":4}\n{\"ok\":true,\"rev\":5}\n{\"ok\":true,\"rev\":5,\"spans\":[{\"link\":\"u\",\"text\":\"ab\"},{\"text\":\"xc\"}]}\n",
     ),
     (
+        "a link does not grow from a tombstone",
         "{\"op\":\"insert\",\"doc\":1,\"at\":0,\"text\":\"ab\"}\n{\"op\":\"mark\",\"doc\":1,\"from\":0,\"to\":2,\"kind\":\"link\",\"url\":\"u\"}\n{\"op\":\"delete\",\"doc\":1,\"at\":1,\"count\":1}\n{\"op\":\"insert\",\"doc\":1,\"at\":1,\"text\":\"x\"}\n{\"op\":\"spans\",\"doc\":1}\n",
         "{\"ok\":true,\"rev\":2}\n{\"ok\":true,\"rev\":3}\n{\"ok\":true,\"rev\":4}\n{\"ok\":true,\"rev\":5}\n{\"ok\":true,\"rev\":5,\"spans\":[{\"link\":\"u\",\"text\":\"a\"},{\"text\":\"x\"}]}\n",
     ),
     (
+        "a link over nothing left does not grow",
         "{\"op\":\"insert\",\"doc\":1,\"at\":0,\"text\":\"a\"}\n{\"op\":\"mark\",\"doc\":1,\"from\":0,\"to\":1,\"kind\":\"link\",\"url\":\"u\"}\n{\"op\":\"delete\",\"doc\":1,\"at\":0,\"count\":1}\n{\"op\":\"insert\",\"doc\":1,\"at\":0,\"text\":\"x\"}\n{\"op\":\"spans\",\"doc\":1}\n",
         "{\"ok\":true,\"rev\":1}\n{\"ok\":true,\"rev\":2}\n{\"ok\":true,\"rev\":3}\n{\"ok\":true,\"rev\":4}\n{\"ok\":true,\"rev\":4,\"spans\":[{\"text\":\"x\"}]}\n",
     ),
-];
-
-/// Where marks overlap.
-const OVERLAPS: [Row; 2] = [
     (
+        "strong that overlaps is one span",
         "{\"op\":\"insert\",\"doc\":1,\"at\":0,\"text\":\"The fox jumped\"}\n{\"op\":\"mark\",\"doc\":1,\"from\":0,\"to\":7,\"kind\":\"strong\"}\n{\"op\":\"mark\",\"doc\":1,\"from\":4,\"to\":14,\"kind\":\"strong\"}\n{\"op\":\"spans\",\"doc\":1}\n",
         "{\"ok\":true,\"rev\":14}\n{\"ok\":true,\"rev\":15}\n{\"ok\":true,\"rev\":16}\n{\"ok\":true,\"rev\":16,\"spans\":[{\"strong\":true,\"text\":\"The fox jumped\"}]}\n",
     ),
     (
+        "each comment is decided by itself",
         "{\"op\":\"insert\",\"doc\":1,\"at\":0,\"text\":\"abc\"}\n{\"op\":\"mark\",\"doc\":1,\"from\":0,\"to\":2,\"kind\":\"comment\",\"id\":\"00000000-0000-4000-8000-0000000000c1\"}\n{\"op\":\"mark\",\"doc\":1,\"from\":1,\"to\":3,\"kind\":\"comment\",\"id\":\"00000000-0000-4000-8000-0000000000c2\"}\n{\"op\":\"unmark\",\"doc\":1,\"from\":1,\"to\":2,\"kind\":\"comment\",\"id\":\"00000000-0000-4000-8000-0000000000c1\"}\n{\"op\":\"spans\",\"doc\":1}\n",
         "{\"ok\":true,\"rev\":3}\n{\"ok\":true,\"rev\":4}\n{\"ok\":true,\"rev\":5}\n{\"ok\":true,\"rev\":6}\n{\"ok\":true,\"rev\":6,\"spans\":[{\"comments\":[\"00000000-0000-4000-8000-0000000000c1\"],\"text\":\"a\"},{\"comments\":[\"00000000-0000-4000-8000-0000000000c2\"],\"text\":\"bc\"}]}\n",
     ),
 ];
 
-/// Runs each of these sessions over a fresh store.
-fn sessions(rt: &(impl Abort + AllocGlobal), rows: &[Row]) -> Result<(), Fail> {
-    for (input, output) in rows {
-        session(rt, input, output)?;
-    }
-    Ok(())
-}
-
 #[test]
-fn strong_and_em_grow_at_their_end(rt: HostRuntime) -> Result<(), Fail> {
-    sessions(&rt, &GROWING)
-}
-
-#[test]
-fn links_do_not_grow(rt: HostRuntime) -> Result<(), Fail> {
-    sessions(&rt, &LINKS)
-}
-
-#[test]
-fn overlapping_marks_are_each_decided(rt: HostRuntime) -> Result<(), Fail> {
-    sessions(&rt, &OVERLAPS)
+fn marks_are_made_and_grow_by_their_kind(rt: HostRuntime) -> Result<(), Fail> {
+    sessions(&rt, &MARKED)
 }
 
 #[test]

@@ -1,6 +1,6 @@
 //! Orders over disks in memory.
 use crate::test_runs::What::{Dump, Order};
-use crate::test_runs::{EDIT, fresh, made, replica, session, turn, turns};
+use crate::test_runs::{EDIT, Session, fresh, made, replica, sessions, turn, turns};
 use command_syntax::StoreOrder;
 use disk_trait::Disk;
 use std::test::Fail;
@@ -15,64 +15,42 @@ fn without_a_file_a_new_store_is_edited(rt: HostRuntime) -> Result<(), Fail> {
     Ok(())
 }
 
-#[test]
-fn a_fresh_store_is_empty(rt: HostRuntime) -> Result<(), Fail> {
-    session(
-        &rt,
+static SESSIONS: [Session; 6] = [
+    (
+        "a fresh store is empty",
         "{\"op\":\"text\",\"doc\":9}\n{\"op\":\"status\"}\n",
         "{\"ok\":true,\"rev\":0,\"text\":\"\"}\n{\"applied\":0,\"ok\":true,\"settled\":0,\"state\":\"open\"}\n",
-    )?;
-    Ok(())
-}
-
-#[test]
-fn an_edit_is_seen_and_settled(rt: HostRuntime) -> Result<(), Fail> {
-    session(
-        &rt,
+    ),
+    (
+        "an edit is seen and settled",
         "{\"op\":\"insert\",\"doc\":1,\"at\":0,\"text\":\"abc\"}\n{\"op\":\"text\",\"doc\":1}\n{\"op\":\"status\"}\n",
         "{\"ok\":true,\"rev\":3}\n{\"ok\":true,\"rev\":3,\"text\":\"abc\"}\n{\"applied\":3,\"ok\":true,\"settled\":3,\"state\":\"open\"}\n",
-    )?;
-    Ok(())
-}
-
-#[test]
-fn what_changed_and_places_are_told(rt: HostRuntime) -> Result<(), Fail> {
-    session(
-        &rt,
+    ),
+    (
+        "what changed and places are told",
         "{\"op\":\"insert\",\"doc\":1,\"at\":0,\"text\":\"abc\"}\n{\"op\":\"changes\",\"doc\":1,\"since\":3}\n{\"op\":\"delete\",\"doc\":1,\"at\":1,\"count\":1}\n{\"op\":\"changes\",\"doc\":1,\"since\":3}\n{\"op\":\"changes\",\"doc\":1,\"since\":0}\n{\"op\":\"changes\",\"doc\":1,\"since\":5}\n{\"op\":\"anchors\",\"doc\":1,\"at\":[0],\"side\":\"previous\"}\n{\"op\":\"places\",\"doc\":1,\"anchors\":[\"start\",\"end\"]}\n{\"op\":\"anchors\",\"doc\":1,\"at\":[3],\"side\":\"next\"}\n",
         "{\"ok\":true,\"rev\":3}\n{\"changes\":[],\"ok\":true,\"rev\":3}\n{\"ok\":true,\"rev\":4}\n{\"changes\":[{\"retain\":1},{\"delete\":1}],\"ok\":true,\"rev\":4}\n{\"changes\":[{\"insert\":\"ac\"}],\"ok\":true,\"rev\":4}\n{\"code\":6,\"error\":\"stale\",\"ok\":false}\n{\"anchors\":[\"start\"],\"ok\":true,\"rev\":4}\n{\"ok\":true,\"places\":[0,2],\"rev\":4}\n{\"code\":5,\"error\":\"range\",\"ok\":false}\n",
-    )?;
-    Ok(())
-}
-
-#[test]
-fn an_edit_is_refused_by_its_first_cause(rt: HostRuntime) -> Result<(), Fail> {
-    session(
-        &rt,
+    ),
+    (
+        "an edit is refused by its first cause",
         "{\"op\":\"insert\",\"doc\":1,\"at\":0,\"text\":\"abc\"}\n{\"op\":\"delete\",\"doc\":1,\"at\":3,\"count\":1}\n{\"op\":\"delete\",\"doc\":1,\"at\":2,\"count\":300}\n{\"op\":\"insert\",\"doc\":1,\"at\":4,\"text\":\"d\",\"rev\":2}\n{\"op\":\"delete\",\"doc\":1,\"at\":2,\"count\":1,\"rev\":3}\n",
         "{\"ok\":true,\"rev\":3}\n{\"code\":5,\"error\":\"range\",\"ok\":false}\n{\"code\":5,\"error\":\"range\",\"ok\":false}\n{\"code\":6,\"error\":\"stale\",\"ok\":false}\n{\"ok\":true,\"rev\":4}\n",
-    )?;
-    Ok(())
-}
-
-#[test]
-fn lines_that_ask_for_nothing_are_refused(rt: HostRuntime) -> Result<(), Fail> {
-    session(
-        &rt,
+    ),
+    (
+        "lines that ask for nothing are refused",
         "[\n\n{\"op\":\"fly\"}\n7\n{\"op\":\"insert\",\"doc\":0,\"at\":0,\"text\":\"a\"}\n{\"op\":\"status\"}\n",
         "{\"code\":2,\"error\":\"syntax\",\"ok\":false}\n{\"code\":2,\"error\":\"syntax\",\"ok\":false}\n{\"code\":3,\"error\":\"request\",\"ok\":false}\n{\"code\":3,\"error\":\"request\",\"ok\":false}\n{\"code\":4,\"error\":\"field\",\"ok\":false}\n{\"applied\":0,\"ok\":true,\"settled\":0,\"state\":\"open\"}\n",
-    )?;
-    Ok(())
-}
-
-#[test]
-fn after_a_stop_edits_are_refused(rt: HostRuntime) -> Result<(), Fail> {
-    session(
-        &rt,
+    ),
+    (
+        "after a stop edits are refused",
         "{\"op\":\"insert\",\"doc\":1,\"at\":0,\"text\":\"a\"}\n{\"op\":\"stop\"}\n{\"op\":\"insert\",\"doc\":1,\"at\":9,\"text\":\"b\"}\n{\"op\":\"text\",\"doc\":1}\n{\"op\":\"status\"}\n{\"op\":\"stop\"}\n",
         "{\"ok\":true,\"rev\":1}\n{\"ok\":true}\n{\"code\":12,\"error\":\"stopping\",\"ok\":false}\n{\"ok\":true,\"rev\":1,\"text\":\"a\"}\n{\"applied\":1,\"ok\":true,\"settled\":1,\"state\":\"stopping\"}\n{\"ok\":true}\n",
-    )?;
-    Ok(())
+    ),
+];
+
+#[test]
+fn sessions_over_a_fresh_store_are_answered(rt: HostRuntime) -> Result<(), Fail> {
+    sessions(&rt, &SESSIONS)
 }
 
 #[test]
@@ -137,7 +115,7 @@ fn a_file_that_is_no_store_is_refused(rt: HostRuntime) -> Result<(), Fail> {
 }
 
 /// Faults, with their numbers and words.
-const FAULTS: [(Fault, u8, &str); 15] = [
+static FAULTS: [(Fault, u8, &str); 15] = [
     (Fault::Memory, 1, "memory"),
     (Fault::Field, 4, "field"),
     (Fault::Failed, 9, "failed"),
@@ -165,7 +143,7 @@ fn a_fault_has_its_word(rt: HostRuntime) -> Result<(), Fail> {
 }
 
 /// Places, faults at them, and the lines that explain these.
-const EXPLAINED: [(Option<Place<'static>>, Fault, &str); 3] = [
+static EXPLAINED: [(Option<Place<'static>>, Fault, &str); 3] = [
     (
         Some(Place::File("notes")),
         Fault::NotEmpty,

@@ -112,12 +112,23 @@ pub fn made(rt: &(impl Abort + AllocGlobal)) -> Result<MemDisk, Fail> {
     Ok(written(rt, made, 0, "{\"ok\":true}\n", ""))
 }
 
-/// A session over a fresh store that reads and writes these lines.
-pub fn session(
-    rt: &(impl Abort + AllocGlobal),
-    input: &str,
-    output: &str,
-) -> Result<MemDisk, Fail> {
-    let edited = run(rt.alloc(), &EDIT, made(rt)?, input);
-    Ok(written(rt, edited, 0, output, ""))
+/// What is shown of a session over a fresh store, the lines that it reads, and those that it writes.
+pub type Session = (&'static str, &'static str, &'static str);
+
+/// Whether a run ended well, and wrote this alone.
+fn has_written<D: Disk>(ran: &Ran<D>, output: &str) -> bool {
+    ran.status == 0 && ran.output.as_slice() == output.as_bytes() && ran.faults.is_empty()
+}
+
+/// Runs each of these sessions over a fresh store.
+pub fn sessions(rt: &(impl Abort + AllocGlobal), rows: &[Session]) -> Result<(), Fail> {
+    for (name, input, output) in rows {
+        let ran = run(rt.alloc(), &EDIT, made(rt)?, input);
+        assert!(rt;
+            has_written(&ran, output),
+            "{name}: {:?} in place of {output:?}",
+            ran.output
+        );
+    }
+    Ok(())
 }

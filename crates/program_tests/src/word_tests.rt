@@ -8,7 +8,7 @@ use std::test::Fail;
 
 /// What words give.
 #[derive(Clone, Copy)]
-enum Due<'a> {
+pub enum Due<'a> {
     /// They ask for this.
     Is(Order<'a>),
     /// They ask for a `serve` with WebSockets at this port, for the pages of these origins.
@@ -48,18 +48,12 @@ fn is_refused(fault: &OrderFault<'_>, due: &Due<'_>) -> bool {
 }
 
 /// Reads words, which have to give this.
-fn gives<'a>(rt: &(impl Abort + AllocGlobal), words: &'a [&'a str], due: &Due<'a>) {
+pub fn gives<'a>(rt: &(impl Abort + AllocGlobal), words: &'a [&'a str], due: &Due<'a>) {
     let is_due = match order(rt.alloc(), words) {
         Ok(order) => is_asked(&order, due),
         Err(fault) => is_refused(&fault, due),
     };
     assert!(rt; is_due, "{words:?}");
-}
-
-#[test]
-fn no_words_ask_for_a_session_in_memory(rt: HostRuntime) {
-    let found = order(rt.alloc(), &["peritext"]);
-    assert!(rt; matches!(found, Ok(Order::Store(StoreOrder::InMemory))));
 }
 
 #[test]
@@ -80,39 +74,8 @@ fn an_init_names_a_file_and_a_replica(rt: HostRuntime) -> Result<(), Fail> {
     Ok(())
 }
 
-#[test]
-fn an_edit_names_a_file(rt: HostRuntime) {
-    let found = order(rt.alloc(), &["peritext", "edit", "store"]);
-    assert!(rt; matches!(found, Ok(Order::Store(StoreOrder::Edit { file: "store" }))));
-}
-
-#[test]
-fn a_dump_names_a_file_and_a_document(rt: HostRuntime) {
-    for (text, doc) in [("1", 1), ("4294967295", 4_294_967_295), ("007", 7)] {
-        let words = ["peritext", "dump", "store", text];
-        let file = "store";
-        gives(
-            &rt,
-            words.as_slice(),
-            &Is(Order::Dump(DumpOrder { file, doc })),
-        );
-    }
-}
-
-#[test]
-fn bad_numbers_and_ids_are_refused(rt: HostRuntime) {
-    for text in ["0", "4294967296", "1x", "1.0", "+1", " 1", ""] {
-        let words = ["peritext", "dump", "store", text];
-        gives(&rt, words.as_slice(), &Field);
-    }
-    for text in ["00000000-0000-0000-0000-000000000000", "c1", ""] {
-        let words = ["peritext", "init", "store", "--replica", text];
-        gives(&rt, words.as_slice(), &Field);
-    }
-}
-
 /// The words of a `serve` with these ports of sessions and peers.
-fn serving<'a>(sessions: &'a str, peers: &'a str) -> [&'a str; 7] {
+pub fn serving<'a>(sessions: &'a str, peers: &'a str) -> [&'a str; 7] {
     [
         "peritext",
         "serve",
@@ -135,136 +98,169 @@ const PLAIN: ServeOrder<'static> = ServeOrder {
     logs: false,
 };
 
-#[test]
-fn a_serve_names_a_file_and_ports(rt: HostRuntime) {
-    for (text, port) in [("1", 1), ("65535", 65_535), ("007", 7)] {
-        let words = serving(text, "7002");
-        let asked = ServeOrder {
-            sessions: port,
+/// What words ask for, as rows have it.
+#[derive(Clone, Copy)]
+enum Asked {
+    /// A session in memory.
+    InMemory,
+    /// An edit of the file `store`.
+    Edit,
+    /// A dump of a document of it.
+    Dump(u32),
+    /// A `serve` of it with this port of sessions, and 7002 of peers: whether it joins a peer, ends
+    /// on failure, and tells its events.
+    Serve(u16, Option<u16>, bool, bool),
+    /// A `serve` with WebSockets at this port, for the pages of these origins.
+    Web(u16, &'static [&'static str]),
+    /// Nothing: a number, or an id, breaks its rule.
+    Nothing,
+}
+
+fn due_of(asked: Asked) -> Due<'static> {
+    let file = "store";
+    match asked {
+        Asked::InMemory => Is(Order::Store(StoreOrder::InMemory)),
+        Asked::Edit => Is(Order::Store(StoreOrder::Edit { file })),
+        Asked::Dump(doc) => Is(Order::Dump(DumpOrder { file, doc })),
+        Asked::Serve(sessions, link, ends_on_failure, logs) => Is(Order::Serve(ServeOrder {
+            sessions,
+            link,
+            ends_on_failure,
+            logs,
             ..PLAIN
-        };
-        gives(&rt, words.as_slice(), &Is(Order::Serve(asked)));
+        })),
+        Asked::Web(port, origins) => Web(port, origins),
+        Asked::Nothing => Field,
     }
 }
 
-#[test]
-fn a_serve_joins_a_peer_where_one_is_named(rt: HostRuntime) {
-    let words = [
-        "peritext",
-        "serve",
-        "--link=7102",
-        "--peers=7002",
-        "--sessions=7001",
-        "store",
-    ];
-    let asked = ServeOrder {
-        link: Some(7_102),
-        ..PLAIN
-    };
-    gives(&rt, words.as_slice(), &Is(Order::Serve(asked)));
-}
-
-#[test]
-fn a_serve_takes_the_web_pages_that_are_named(rt: HostRuntime) {
-    let words = [
-        "peritext",
-        "serve",
-        "--origin=http://localhost:8080",
-        "store",
-        "--sessions",
-        "7001",
-        "--peers",
-        "7002",
-        "--web",
-        "7003",
-        "--origin",
-        "https://page.example",
-    ];
-    let origins = ["http://localhost:8080", "https://page.example"];
-    gives(&rt, words.as_slice(), &Web(7_003, origins.as_slice()));
-}
-
-#[test]
-fn a_serve_ends_on_failure_where_that_is_asked(rt: HostRuntime) {
-    let words = [
-        "peritext",
-        "serve",
-        "store",
-        "--sessions=7001",
-        "--end-on-failure",
-        "--peers=7002",
-    ];
-    let asked = ServeOrder {
-        ends_on_failure: true,
-        ..PLAIN
-    };
-    gives(&rt, words.as_slice(), &Is(Order::Serve(asked)));
-}
-
-#[test]
-fn a_serve_tells_its_events_where_that_is_asked(rt: HostRuntime) {
-    let words = [
-        "peritext",
-        "serve",
-        "--log",
-        "store",
-        "--sessions=7001",
-        "--peers=7002",
-    ];
-    let asked = ServeOrder {
-        logs: true,
-        ..PLAIN
-    };
-    gives(&rt, words.as_slice(), &Is(Order::Serve(asked)));
-}
-
-/// Words that break the rule of a port.
-const NO_PORTS: [&str; 9] = [
-    "0",
-    "65536",
-    "4294967376",
-    "1x",
-    "1.0",
-    "+1",
-    " 1",
-    "1 ",
-    "",
+static GIVEN: [(&[&str], Asked); 22] = [
+    (&["peritext"], Asked::InMemory),
+    (&["peritext", "edit", "store"], Asked::Edit),
+    (&["peritext", "dump", "store", "1"], Asked::Dump(1)),
+    (
+        &["peritext", "dump", "store", "4294967295"],
+        Asked::Dump(4_294_967_295),
+    ),
+    (&["peritext", "dump", "store", "007"], Asked::Dump(7)),
+    (&["peritext", "dump", "store", "0"], Asked::Nothing),
+    (&["peritext", "dump", "store", "4294967296"], Asked::Nothing),
+    (&["peritext", "dump", "store", "1x"], Asked::Nothing),
+    (&["peritext", "dump", "store", "1.0"], Asked::Nothing),
+    (&["peritext", "dump", "store", "+1"], Asked::Nothing),
+    (&["peritext", "dump", "store", " 1"], Asked::Nothing),
+    (&["peritext", "dump", "store", ""], Asked::Nothing),
+    (
+        &[
+            "peritext",
+            "init",
+            "store",
+            "--replica",
+            "00000000-0000-0000-0000-000000000000",
+        ],
+        Asked::Nothing,
+    ),
+    (
+        &["peritext", "init", "store", "--replica", "c1"],
+        Asked::Nothing,
+    ),
+    (
+        &["peritext", "init", "store", "--replica", ""],
+        Asked::Nothing,
+    ),
+    (
+        &[
+            "peritext",
+            "serve",
+            "store",
+            "--sessions",
+            "1",
+            "--peers",
+            "7002",
+        ],
+        Asked::Serve(1, None, false, false),
+    ),
+    (
+        &[
+            "peritext",
+            "serve",
+            "store",
+            "--sessions",
+            "65535",
+            "--peers",
+            "7002",
+        ],
+        Asked::Serve(65_535, None, false, false),
+    ),
+    (
+        &[
+            "peritext",
+            "serve",
+            "store",
+            "--sessions",
+            "007",
+            "--peers",
+            "7002",
+        ],
+        Asked::Serve(7, None, false, false),
+    ),
+    (
+        &[
+            "peritext",
+            "serve",
+            "--link=7102",
+            "--peers=7002",
+            "--sessions=7001",
+            "store",
+        ],
+        Asked::Serve(7_001, Some(7_102), false, false),
+    ),
+    (
+        &[
+            "peritext",
+            "serve",
+            "--origin=http://localhost:8080",
+            "store",
+            "--sessions",
+            "7001",
+            "--peers",
+            "7002",
+            "--web",
+            "7003",
+            "--origin",
+            "https://page.example",
+        ],
+        Asked::Web(7_003, &["http://localhost:8080", "https://page.example"]),
+    ),
+    (
+        &[
+            "peritext",
+            "serve",
+            "store",
+            "--sessions=7001",
+            "--end-on-failure",
+            "--peers=7002",
+        ],
+        Asked::Serve(7_001, None, true, false),
+    ),
+    (
+        &[
+            "peritext",
+            "serve",
+            "--log",
+            "store",
+            "--sessions=7001",
+            "--peers=7002",
+        ],
+        Asked::Serve(7_001, None, false, true),
+    ),
 ];
 
 #[test]
-fn the_first_bad_port_is_told(rt: HostRuntime) -> Result<(), Fail> {
-    for word in NO_PORTS {
-        for (words, option) in [
-            (serving(word, "7002"), "sessions"),
-            (serving("7001", word), "peers"),
-            (serving(word, word), "sessions"),
-        ] {
-            gives(&rt, words.as_slice(), &Port(BadPort { option, word }));
-        }
+fn words_ask_for_orders_or_break_a_rule(rt: HostRuntime) {
+    for (words, asked) in &GIVEN {
+        gives(&rt, words, &due_of(*asked));
     }
-    Ok(())
-}
-
-#[test]
-fn a_bad_port_has_its_text(rt: HostRuntime) -> Result<(), Fail> {
-    let words = [
-        "peritext",
-        "serve",
-        "store",
-        "--sessions",
-        "1",
-        "--peers",
-        "2",
-        "--link=-1",
-    ];
-    let text = match order(rt.alloc(), words.as_slice()) {
-        Ok(_) => return Err(Fail::from("no fault")),
-        Err(fault) => fault.to_string(rt.alloc())?,
-    };
-    let due =
-        "invalid value '-1' for '--link <PORT>': a port is a number from 1 to 65535, in decimal digits";
-    assert_eq!(rt; text.as_str(), due);
-    Ok(())
 }
 
 fn ends_with<'a>(rt: &(impl Abort + AllocGlobal), words: &'a [&'a str], status: i32) {
@@ -275,7 +271,7 @@ fn ends_with<'a>(rt: &(impl Abort + AllocGlobal), words: &'a [&'a str], status: 
 }
 
 /// Words of no order, and the status that the program ends with.
-const OTHERS: [(&[&str], i32); 10] = [
+static OTHERS: [(&[&str], i32); 10] = [
     (&["peritext", "fly"], 2),
     (&["peritext", "edit"], 2),
     (&["peritext", "edit", "store", "more"], 2),
@@ -290,7 +286,7 @@ const OTHERS: [(&[&str], i32); 10] = [
 
 #[test]
 fn other_words_are_refused(rt: HostRuntime) {
-    for (words, status) in OTHERS {
-        ends_with(&rt, words, status);
+    for (words, status) in &OTHERS {
+        ends_with(&rt, words, *status);
     }
 }

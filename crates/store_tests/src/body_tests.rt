@@ -1,6 +1,6 @@
 //! Root bodies: which bytes are one, and which bytes one is written in.
 use crate::test_files::bytes_of;
-use crate::test_rows::{World, play};
+use crate::test_rows::{Case, World, named, play};
 use crate::test_store::replica;
 use change_codec::Format;
 use root_slots::{RootBody, RootHead};
@@ -86,36 +86,26 @@ fn plays(rt: &HostRuntime, rows: &str) -> Result<(), Fail> {
     play(rt.alloc(), &mut Bodies, rows)
 }
 
-#[test]
-fn a_made_file_has_an_empty_root(rt: HostRuntime) -> Result<(), Fail> {
-    plays(&rt, "read MADE_BODY : First version 1, 0 bytes, 0 in []")
-}
-
-#[test]
-fn roots_of_commits_are_read_and_written_back(rt: HostRuntime) -> Result<(), Fail> {
-    plays(
-        &rt,
+static CASES: [Case; 5] = [
+    (
+        "a made file has an empty root",
+        "read MADE_BODY : First version 1, 0 bytes, 0 in []",
+    ),
+    (
+        "roots of commits are read and written back",
         "read FIRST_BODY : First version 2, 39 bytes, 1 in [3]
         second SECOND_BODY : First version 3, 126 bytes, 2 in [5]",
-    )
-}
-
-#[test]
-fn the_magic_tells_the_format(rt: HostRuntime) -> Result<(), Fail> {
-    plays(
-        &rt,
+    ),
+    (
+        "the magic tells the format",
         "read 5054585450473031 0000000000000001 A : First version 1, 0 bytes, 0 in []
         read 5054585450473032 0000000000000001 A : Second version 1, 0 bytes, 0 in []
         read 5054585450473033 0000000000000001 A : Third version 1, 0 bytes, 0 in []",
-    )
-}
-
-#[test]
-fn a_broken_body_is_no_root(rt: HostRuntime) -> Result<(), Fail> {
+    ),
     // Another magic, version 0, a nil replica; too long a stream, too many operations, no table
     // page, a gap that isn't zero.
-    plays(
-        &rt,
+    (
+        "a broken body is no root",
         "read 5054585450473034 0000000000000001 A : no root
         read 5054585450473031 0000000000000000 A : no root
         read 5054585450473031 0000000000000001 00000000000000000000000000000000 : no root
@@ -123,20 +113,24 @@ fn a_broken_body_is_no_root(rt: HostRuntime) -> Result<(), Fail> {
         read VERSION_1 0000000000000000 0000000001000001 00000000 00000000 : no root
         read VERSION_1 0000000000000001 0000000000000001 00000000 00000000 : no root
         read VERSION_1 0000000000000000 0000000000000000 00000000 00000001 : no root",
-    )
-}
-
-#[test]
-fn a_broken_table_list_is_no_root(rt: HostRuntime) -> Result<(), Fail> {
+    ),
     // A root slot as a table page, and a rest that isn't zero. Two table pages for a stream of
     // 4,194,305 bytes, each its own. One byte too few.
-    plays(
-        &rt,
+    (
+        "a broken table list is no root",
         "read ONE_TABLE 00000002 : First version 2, 39 bytes, 1 in [2]
         read ONE_TABLE 00000001 : no root
         read ONE_TABLE 00000002 00000001 : no root
         read TWO_TABLES 00000002 00000003 : First version 2, 4194305 bytes, 1 in [2, 3]
         read TWO_TABLES 00000002 00000002 : no root
         short MADE_BODY : no root",
-    )
+    ),
+];
+
+#[test]
+fn roots_are_read_and_written_back(rt: HostRuntime) -> Result<(), Fail> {
+    for (name, rows) in &CASES {
+        named(&rt, name, plays(&rt, rows))?;
+    }
+    Ok(())
 }

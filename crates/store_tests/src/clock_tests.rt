@@ -1,6 +1,6 @@
 //! Clocks: entries, order, limits.
 use crate::test_names::replica;
-use crate::test_rows::{World, counted, nothing, play, told};
+use crate::test_rows::{Case, World, counted, named, nothing, play, told};
 use op_ids::{Clock, ClockError, ReplicaId};
 use std::alloc::Global;
 use std::test::Fail;
@@ -99,42 +99,29 @@ fn plays(rt: &HostRuntime, rows: &str) -> Result<(), Fail> {
     play(rt.alloc(), &mut Clock::new(rt.alloc()), rows)
 }
 
-#[test]
-fn a_copy_has_the_same_counts(rt: HostRuntime) -> Result<(), Fail> {
-    plays(
-        &rt,
+static CASES: [Case; 7] = [
+    (
+        "a copy has the same counts",
         "set 1=5 9=16777216
         copy : true
         get 9 : 16777216",
-    )
-}
-
-#[test]
-fn advancing_puts_replicas_in_order(rt: HostRuntime) -> Result<(), Fail> {
-    plays(
-        &rt,
+    ),
+    (
+        "advancing puts replicas in order",
         "advance 9
         advance 1
         advance 5
         advance 1
         is 1=2 5=1 9=1 : true",
-    )
-}
-
-#[test]
-fn joining_takes_the_greater_counts(rt: HostRuntime) -> Result<(), Fail> {
-    plays(
-        &rt,
+    ),
+    (
+        "joining takes the greater counts",
         "set 1=2 5=7
         join 1=3 2=4 5=6
         is 1=3 2=4 5=7 : true",
-    )
-}
-
-#[test]
-fn a_seventeenth_replica_is_refused(rt: HostRuntime) -> Result<(), Fail> {
-    plays(
-        &rt,
+    ),
+    (
+        "a seventeenth replica is refused",
         "advance 1
         advance 2
         advance 3
@@ -154,41 +141,37 @@ fn a_seventeenth_replica_is_refused(rt: HostRuntime) -> Result<(), Fail> {
         advance 17 : 7
         join 17=1 : 7
         is 1=1 2=1 3=1 4=1 5=1 6=1 7=1 8=1 9=1 10=1 11=1 12=1 13=1 14=1 15=1 16=1 : true",
-    )
-}
-
-#[test]
-fn a_count_above_the_last_is_refused(rt: HostRuntime) -> Result<(), Fail> {
-    plays(
-        &rt,
+    ),
+    (
+        "a count above the last is refused",
         "set 1=16777215
         advance 1
         advance 1 : 7
         get 1 : 16777216",
-    )
-}
-
-#[test]
-fn an_operation_waits_for_what_it_depends_on(rt: HostRuntime) -> Result<(), Fail> {
-    plays(
-        &rt,
+    ),
+    (
+        "an operation waits for what it depends on",
         "set 1=1 2=3 4=1
         ready 1=1 2=3 : true
         set 1=1 2=2
         ready 1=1 2=3 : false
         set 1=2 2=3
         ready 1=1 2=3 : false",
-    )
-}
-
-#[test]
-fn entries_that_are_no_clock_are_refused(rt: HostRuntime) -> Result<(), Fail> {
-    plays(
-        &rt,
+    ),
+    (
+        "entries that are no clock are refused",
         "try 1=1 2=1 : true
         try 2=1 1=1 : false
         try 1=1 1=1 : false
         try 1=0 2=1 : false
         try 1=1 2=16777217 : false",
-    )
+    ),
+];
+
+#[test]
+fn clocks_keep_their_order_and_their_limits(rt: HostRuntime) -> Result<(), Fail> {
+    for (name, rows) in &CASES {
+        named(&rt, name, plays(&rt, rows))?;
+    }
+    Ok(())
 }

@@ -1,7 +1,7 @@
 //! Frames that a link refuses, byte by byte.
 use crate::test_bytes::bytes_of;
 use crate::test_links::started;
-use crate::test_rows::{World, cut_number, play, refused};
+use crate::test_rows::{Case, World, cut_number, named, play, refused};
 use causal_sync::Link;
 use std::alloc::Global;
 use std::test::Fail;
@@ -50,11 +50,9 @@ impl World for Frames {
     }
 }
 
-#[test]
-fn bad_hellos_are_refused(rt: HostRuntime) -> Result<(), Fail> {
-    play(
-        rt.alloc(),
-        &mut Frames,
+static CASES: [Case; 3] = [
+    (
+        "bad hellos are refused",
         "first 1 HELLO : 26 at 23
         first 2 HELLO : 0 at 23
         first 2 BYE : 26 at 5
@@ -65,14 +63,9 @@ fn bad_hellos_are_refused(rt: HostRuntime) -> Result<(), Fail> {
         first 2 00000003 01 0003 : 26 at 7
         first 2 NIL_HELLO : 26 at 23
         first 2 HELLO HELLO : 26 at 46",
-    )
-}
-
-#[test]
-fn bad_frames_are_refused(rt: HostRuntime) -> Result<(), Fail> {
-    play(
-        rt.alloc(),
-        &mut Frames,
+    ),
+    (
+        "bad frames are refused",
         "first 2 0001fffd : 25 at 4
         first 2 00000000 : 25 at 4
         later 00000001 05 : 25
@@ -89,14 +82,17 @@ fn bad_frames_are_refused(rt: HostRuntime) -> Result<(), Fail> {
         later MORE_BEHIND : 25
         later CUT_RUN : 25
         later RUN_OF_ONE : 32",
-    )
-}
+    ),
+    (
+        "operations with a token are heard",
+        "later 0000003a 03 0001 WITH_TOKEN : 0",
+    ),
+];
 
 #[test]
-fn operations_with_a_token_are_heard(rt: HostRuntime) -> Result<(), Fail> {
-    play(
-        rt.alloc(),
-        &mut Frames,
-        "later 0000003a 03 0001 WITH_TOKEN : 0",
-    )
+fn frames_that_break_a_rule_are_refused(rt: HostRuntime) -> Result<(), Fail> {
+    for (name, rows) in &CASES {
+        named(&rt, name, play(rt.alloc(), &mut Frames, rows))?;
+    }
+    Ok(())
 }

@@ -7,8 +7,6 @@ mod body_tests;
 #[cfg(test)]
 mod clock_tests;
 #[cfg(test)]
-mod commit_page_tests;
-#[cfg(test)]
 mod commit_tests;
 #[cfg(test)]
 mod frame_tests;
@@ -34,7 +32,6 @@ mod page_tests;
 mod piece_tests;
 #[cfg(test)]
 mod read_tests;
-#[cfg(test)]
 #[cfg(test)]
 mod refusal_tests;
 #[cfg(test)]

@@ -3,7 +3,7 @@ use crate::test_bytes::bytes_of;
 use crate::test_links::{clock, next_of, number, started};
 use crate::test_names::replica;
 use crate::test_ops::{op, ops};
-use crate::test_rows::{World, counted, nothing, play, refused, told};
+use crate::test_rows::{World, counted, named, nothing, play, refused, told};
 use causal_sync::Link;
 use op_ids::OpId;
 use op_model::Op;
@@ -140,19 +140,14 @@ fn plays(rt: &HostRuntime, own: u8, rows: &str) -> Result<(), Fail> {
     play(rt.alloc(), &mut *link, rows)
 }
 
-#[test]
-fn frames_are_heard_however_they_are_cut(rt: HostRuntime) -> Result<(), Fail> {
-    plays(
-        &rt,
+static CASES: [(&str, u8, &str); 7] = [
+    (
+        "frames are heard however they are cut",
         2,
         "cut HELLO EMPTY_HAVE HAVE OPERATIONS RUN BYE : true",
-    )
-}
-
-#[test]
-fn the_last_have_is_the_base(rt: HostRuntime) -> Result<(), Fail> {
-    plays(
-        &rt,
+    ),
+    (
+        "the last have is the base",
         2,
         "feed HELLO EMPTY_HAVE HAVE OPERATIONS RUN BYE : 0
         hear : hello
@@ -161,13 +156,9 @@ fn the_last_have_is_the_base(rt: HostRuntime) -> Result<(), Fail> {
         base : true 0 0
         hear : have
         base : true 1 1",
-    )
-}
-
-#[test]
-fn what_is_said_is_spelled(rt: HostRuntime) -> Result<(), Fail> {
-    plays(
-        &rt,
+    ),
+    (
+        "what is said is spelled",
         1,
         "sends HELLO : true
         have 0 : 0
@@ -178,25 +169,17 @@ fn what_is_said_is_spelled(rt: HostRuntime) -> Result<(), Fail> {
         sends : true
         base : false 1 1
         bye : 27",
-    )
-}
-
-#[test]
-fn typed_operations_are_told_in_one_run(rt: HostRuntime) -> Result<(), Fail> {
-    plays(
-        &rt,
+    ),
+    (
+        "typed operations are told in one run",
         1,
         "sends HELLO : true
         both : 0
         sends RUN : true
         base : false 2 1",
-    )
-}
-
-#[test]
-fn frames_before_a_fault_are_given(rt: HostRuntime) -> Result<(), Fail> {
-    plays(
-        &rt,
+    ),
+    (
+        "frames before a fault are given",
         2,
         "feed HELLO HAVE 00000000 : 25
         feed HELLO HAVE 00000000 : 27
@@ -205,14 +188,10 @@ fn frames_before_a_fault_are_given(rt: HostRuntime) -> Result<(), Fail> {
         hear : have
         hear : nothing
         held : 0",
-    )
-}
-
-#[test]
-fn operations_that_break_a_rule_end_the_link(rt: HostRuntime) -> Result<(), Fail> {
+    ),
     // A scalar value that is none, and fewer operations than are told.
-    plays(
-        &rt,
+    (
+        "operations that break a rule end the link",
         2,
         "feed HELLO SURROGATE : 33
         feed HELLO SURROGATE : 27
@@ -225,13 +204,9 @@ fn operations_that_break_a_rule_end_the_link(rt: HostRuntime) -> Result<(), Fail
         have 0 : 27
         hear : hello
         hear : nothing",
-    )
-}
-
-#[test]
-fn a_seventeenth_replica_isnt_sent(rt: HostRuntime) -> Result<(), Fail> {
-    plays(
-        &rt,
+    ),
+    (
+        "a seventeenth replica isnt sent",
         1,
         "first 1 : 0
         first 2 : 0
@@ -251,5 +226,13 @@ fn a_seventeenth_replica_isnt_sent(rt: HostRuntime) -> Result<(), Fail> {
         first 16 : 0
         first 17 : 7
         base : false 1 16",
-    )
+    ),
+];
+
+#[test]
+fn links_speak_and_hear(rt: HostRuntime) -> Result<(), Fail> {
+    for (name, number, rows) in &CASES {
+        named(&rt, name, plays(&rt, *number, rows))?;
+    }
+    Ok(())
 }

@@ -1,7 +1,7 @@
 //! Lists of operations that are held as records.
 use crate::test_names::id;
 use crate::test_ops::ops;
-use crate::test_rows::{World, counted, play, told, two_of};
+use crate::test_rows::{Case, World, counted, named, play, told, two_of};
 use change_codec::stream_length;
 use op_list::OpList;
 use op_model::Op;
@@ -92,41 +92,36 @@ fn plays(rt: &HostRuntime, rows: &str) -> Result<(), Fail> {
     play(rt.alloc(), &mut Listed { ops, list }, rows)
 }
 
-#[test]
-fn operations_of_each_kind_are_read_back(rt: HostRuntime) -> Result<(), Fail> {
-    plays(
-        &rt,
+static CASES: [Case; 4] = [
+    (
+        "operations of each kind are read back",
         "len : 4
         get 0 : true
         get 1 : true
         get 2 : true
         get 3 : true",
-    )
-}
-
-#[test]
-fn heads_are_those_of_the_operations(rt: HostRuntime) -> Result<(), Fail> {
-    plays(
-        &rt,
+    ),
+    (
+        "heads are those of the operations",
         "len : 4
         head 0 : true 7 true
         head 1 : true 7 false
         head 2 : true 7 false
         head 3 : true 7 false",
-    )
-}
-
-#[test]
-fn the_rest_is_copied(rt: HostRuntime) -> Result<(), Fail> {
-    plays(&rt, "copy 3 1 : true")
-}
-
-#[test]
-fn a_list_is_cut(rt: HostRuntime) -> Result<(), Fail> {
-    plays(
-        &rt,
+    ),
+    ("the rest is copied", "copy 3 1 : true"),
+    (
+        "a list is cut",
         "cut 9 : 4
         cut 2 : 2
         copy 2 0 : true",
-    )
+    ),
+];
+
+#[test]
+fn a_list_holds_its_records(rt: HostRuntime) -> Result<(), Fail> {
+    for (name, rows) in &CASES {
+        named(&rt, name, plays(&rt, rows))?;
+    }
+    Ok(())
 }

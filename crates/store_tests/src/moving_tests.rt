@@ -1,5 +1,4 @@
 //! Commits that write the whole list of a file of the first format anew.
-use crate::test_bench::plays;
 use crate::test_store::{begin, disk_of, has_records, opened, ops, step};
 use disk_trait::{Fate, MemDisk};
 use group_commit::Store;
@@ -8,18 +7,6 @@ use std::test::Fail;
 
 /// The file of the first format with two inserts, "a" and "b".
 const OLD: &str = "OLD_TWO | OLD_ONE | INSERT_A | 00000002 | BOTH | 00000004 |";
-
-#[test]
-fn a_whole_list_goes_to_free_pages_as_runs(rt: HostRuntime) -> Result<(), Fail> {
-    plays(
-        &rt,
-        "open OLD_TWO | OLD_ONE | INSERT_A | 00000002 | BOTH | 00000004 |
-        begin INSERT_C : 3
-        finish : 5 writes, 3 syncs
-        stop
-        is OLD_TWO | MOVED | RUN_AB INSERT_C | 00000002 | BOTH | 00000004 | : true",
-    )
-}
 
 /// The store of that file, with a commit begun of an insert of "c".
 fn moving(alloc: Global) -> Result<Box<Store<MemDisk>>, Fail> {

@@ -1,6 +1,6 @@
 //! Pages and tables that are loaded.
 use crate::test_files::bytes_of;
-use crate::test_rows::{World, nothing, play, two_of};
+use crate::test_rows::{World, named, nothing, play, two_of};
 use disk_trait::{Disk, FaultDisk, MemDisk};
 use page_file::{PageError, Pages};
 use std::alloc::Global;
@@ -137,22 +137,17 @@ fn plays(rt: &HostRuntime, n: u64, rows: &str) -> Result<(), Fail> {
     play(rt.alloc(), &mut *file, rows)
 }
 
-#[test]
-fn a_page_is_read(rt: HostRuntime) -> Result<(), Fail> {
-    plays(
-        &rt,
+static CASES: [(&str, u64, &str); 7] = [
+    (
+        "a page is read",
         0,
         "fill 4
         read 3 3 : true
         read 1 1 : page number
         read 4 4 : no page",
-    )
-}
-
-#[test]
-fn only_free_pages_are_written(rt: HostRuntime) -> Result<(), Fail> {
-    plays(
-        &rt,
+    ),
+    (
+        "only free pages are written",
         0,
         "fill 5
         table 00000003 |
@@ -162,36 +157,24 @@ fn only_free_pages_are_written(rt: HostRuntime) -> Result<(), Fail> {
         put 4 7
         read 4 7 : true
         lists : [2] [3] [4]",
-    )
-}
-
-#[test]
-fn a_page_whose_write_fails_is_taken(rt: HostRuntime) -> Result<(), Fail> {
-    plays(
-        &rt,
+    ),
+    (
+        "a page whose write fails is taken",
         4,
         "fill 3
         put 2 7 : write failed
         lowest 0 : 3 []",
-    )
-}
-
-#[test]
-fn the_lowest_free_pages_are_given(rt: HostRuntime) -> Result<(), Fail> {
-    plays(
-        &rt,
+    ),
+    (
+        "the lowest free pages are given",
         0,
         "fill 4
         lowest 0 : 2 []
         put 3 7
         lowest 3 : 2 [2, 4, 5]",
-    )
-}
-
-#[test]
-fn a_new_root_frees_what_it_leaves(rt: HostRuntime) -> Result<(), Fail> {
-    plays(
-        &rt,
+    ),
+    (
+        "a new root frees what it leaves",
         0,
         "fill 5
         table 00000003 |
@@ -201,26 +184,18 @@ fn a_new_root_frees_what_it_leaves(rt: HostRuntime) -> Result<(), Fail> {
         adopt
         lists : [5] [4] []
         lowest 0 : 2 []",
-    )
-}
-
-#[test]
-fn live_pages_are_loaded(rt: HostRuntime) -> Result<(), Fail> {
-    plays(
-        &rt,
+    ),
+    (
+        "live pages are loaded",
         0,
         "fill 8
         table 00000007 00000003 |
         load 2
         lists : [2] [7, 3] []
         lowest 4 : 4 [4, 5, 6, 8]",
-    )
-}
-
-#[test]
-fn bad_tables_are_refused(rt: HostRuntime) -> Result<(), Fail> {
-    plays(
-        &rt,
+    ),
+    (
+        "bad tables are refused",
         0,
         "fill 8
         table 00000003 00000003 |
@@ -229,5 +204,13 @@ fn bad_tables_are_refused(rt: HostRuntime) -> Result<(), Fail> {
         load 1 : bad table
         table 00000003 |
         load 1025 : bad table",
-    )
+    ),
+];
+
+#[test]
+fn pages_are_loaded_and_put(rt: HostRuntime) -> Result<(), Fail> {
+    for (name, number, rows) in &CASES {
+        named(&rt, name, plays(&rt, *number, rows))?;
+    }
+    Ok(())
 }

@@ -1,6 +1,6 @@
 //! How a list is cut into pieces.
 use crate::test_names::replica;
-use crate::test_rows::{World, play, told, two_of};
+use crate::test_rows::{Case, World, named, play, told, two_of};
 use op_ids::{Clock, OpId};
 use op_model::{Body, Op};
 use op_pieces::{Piece, cut};
@@ -86,28 +86,22 @@ impl World for Pieces {
     }
 }
 
-#[test]
-fn typed_characters_are_pieces_of_256(rt: HostRuntime) -> Result<(), Fail> {
-    play(
-        rt.alloc(),
-        &mut Pieces,
+static CASES: [Case; 4] = [
+    (
+        "typed characters are pieces of 256",
         "lengths 0 0 : []
         lengths 1 0 : [0]
         lengths 257 0 : [255, 0]",
-    )
-}
+    ),
+    ("another document ends a piece", "lengths 5 3 : [1, 0, 1]"),
+    ("a piece of no others is one operation", "single : true"),
+    ("a piece stands for its operations", "one 3 : true"),
+];
 
 #[test]
-fn another_document_ends_a_piece(rt: HostRuntime) -> Result<(), Fail> {
-    play(rt.alloc(), &mut Pieces, "lengths 5 3 : [1, 0, 1]")
-}
-
-#[test]
-fn a_piece_of_no_others_is_one_operation(rt: HostRuntime) -> Result<(), Fail> {
-    play(rt.alloc(), &mut Pieces, "single : true")
-}
-
-#[test]
-fn a_piece_stands_for_its_operations(rt: HostRuntime) -> Result<(), Fail> {
-    play(rt.alloc(), &mut Pieces, "one 3 : true")
+fn lists_are_cut_into_pieces(rt: HostRuntime) -> Result<(), Fail> {
+    for (name, rows) in &CASES {
+        named(&rt, name, play(rt.alloc(), &mut Pieces, rows))?;
+    }
+    Ok(())
 }

@@ -2,7 +2,7 @@
 ghost use Rattle.std.specs.Prelude.{◌+◌, ◌≤◌, length};
 
 use crate::test_bytes::bytes_of;
-use crate::test_rows::{World, counted, cut_number, play, told};
+use crate::test_rows::{Case, World, counted, cut_number, named, play, told};
 use change_codec::{Format, put_ops};
 use run_list::RunList;
 use std::alloc::Global;
@@ -109,21 +109,14 @@ impl World for Streams {
     }
 }
 
-#[test]
-fn a_run_is_read_as_its_operations(rt: HostRuntime) -> Result<(), Fail> {
-    play(
-        rt.alloc(),
-        &mut Streams,
+static CASES: [Case; 6] = [
+    (
+        "a run is read as its operations",
         "length AB : 45
         are 2 AB = FIRST SECOND : true",
-    )
-}
-
-#[test]
-fn single_records_and_runs_are_read(rt: HostRuntime) -> Result<(), Fail> {
-    play(
-        rt.alloc(),
-        &mut Streams,
+    ),
+    (
+        "single records and runs are read",
         "are 0 = : true
         are 2 FIRST STRONG = FIRST STRONG : true
         are 4 FIRST SECOND CD = FIRST SECOND THIRD FOURTH : true
@@ -131,39 +124,29 @@ fn single_records_and_runs_are_read(rt: HostRuntime) -> Result<(), Fail> {
         are 4 AB THIRD FOURTH = FIRST SECOND THIRD FOURTH : true
         are 4 FIRST SECOND THIRD FOURTH = FIRST SECOND THIRD FOURTH : true
         are 4 FIRST SECOND THIRD THIRD = FIRST SECOND THIRD THIRD : true",
-    )
-}
-
-#[test]
-fn another_number_of_operations_is_refused(rt: HostRuntime) -> Result<(), Fail> {
-    play(
-        rt.alloc(),
-        &mut Streams,
+    ),
+    (
+        "another number of operations is refused",
         "third 0 FIRST CD : 46
         third 1 FIRST CD : 46
         third 2 FIRST CD : 46
         third 3 FIRST CD : 0
         third 4 FIRST CD : 46
         third 5 FIRST CD : 46",
-    )
-}
-
-#[test]
-fn the_first_format_has_no_runs(rt: HostRuntime) -> Result<(), Fail> {
-    play(
-        rt.alloc(),
-        &mut Streams,
+    ),
+    (
+        "the first format has no runs",
         "first 2 AB : 46
         first 2 FIRST SECOND : 0",
-    )
-}
+    ),
+    ("a cut run is refused", "cuts : true"),
+    ("a stream in two parts is read as one", "parts : true"),
+];
 
 #[test]
-fn a_cut_run_is_refused(rt: HostRuntime) -> Result<(), Fail> {
-    play(rt.alloc(), &mut Streams, "cuts : true")
-}
-
-#[test]
-fn a_stream_in_two_parts_is_read_as_one(rt: HostRuntime) -> Result<(), Fail> {
-    play(rt.alloc(), &mut Streams, "parts : true")
+fn streams_are_read(rt: HostRuntime) -> Result<(), Fail> {
+    for (name, rows) in &CASES {
+        named(&rt, name, play(rt.alloc(), &mut Streams, rows))?;
+    }
+    Ok(())
 }

@@ -1,7 +1,7 @@
 //! Bytes that are no record, and the number of each refusal.
 use crate::spelling_tests::is_unfinished;
 use crate::test_bytes::bytes_of;
-use crate::test_rows::{World, play, told};
+use crate::test_rows::{Case, World, named, play, told};
 use change_codec::{Format, take_op};
 use std::alloc::Global;
 use std::test::Fail;
@@ -42,11 +42,9 @@ impl World for Refusals {
     }
 }
 
-#[test]
-fn lengths_are_told_first(rt: HostRuntime) -> Result<(), Fail> {
-    play(
-        rt.alloc(),
-        &mut Refusals,
+static CASES: [Case; 3] = [
+    (
+        "lengths are told first",
         "unfinished 000000 : true
         unfinished 000005e3 : true
         take 000005d3 : 0 0 0
@@ -56,14 +54,9 @@ fn lengths_are_told_first(rt: HostRuntime) -> Result<(), Fail> {
         take 00000024 01 00000001 0000000000000001 A 00 00 00000061 00 : 30 30 30
         take 00000022 01 00000001 0000000000000001 A 00 00 000000 : 30 30 30
         take 00000020 05 00000001 0000000000000001 A 00 00 00 : 30 30 30",
-    )
-}
-
-#[test]
-fn the_first_fault_decides(rt: HostRuntime) -> Result<(), Fail> {
-    play(
-        rt.alloc(),
-        &mut Refusals,
+    ),
+    (
+        "the first fault decides",
         "take 00000023 05 00000001 0000000000000001 A 00 00 00000061 : 31 31 31
         take 00000023 05 00000001 0000000000000000 A 00 00 00000061 : 31 31 31
         take 00000023 01 00000001 0000000000000000 A 00 00 00000061 : 32 32 32
@@ -76,17 +69,20 @@ fn the_first_fault_decides(rt: HostRuntime) -> Result<(), Fail> {
         take TWICE_FOR_NOTHING : 35 35 35
         take 00000021 04 00000001 0000000000000001 A 00 01 00 00 : 36 36 36
         take 00000022 04 00000001 0000000000000001 A 00 01 03 03 00 : 36 36 36",
-    )
-}
-
-#[test]
-fn the_third_format_alone_has_tokens(rt: HostRuntime) -> Result<(), Fail> {
-    play(
-        rt.alloc(),
-        &mut Refusals,
+    ),
+    (
+        "the third format alone has tokens",
         "take WITH_TOKEN : 31 31 0
         take 00000033 11 00000001 0000000000000001 A 00 N N 00 00000061 : 31 31 32
         take 00000033 10 00000001 0000000000000001 A 00 T 00 00000061 : 31 31 31
         take 00000033 15 00000001 0000000000000001 A 00 T 00 00000061 : 31 31 31",
-    )
+    ),
+];
+
+#[test]
+fn what_is_no_record_is_refused(rt: HostRuntime) -> Result<(), Fail> {
+    for (name, rows) in &CASES {
+        named(&rt, name, play(rt.alloc(), &mut Refusals, rows))?;
+    }
+    Ok(())
 }

@@ -3,7 +3,7 @@ ghost use Rattle.std.specs.Prelude.{◌≡◌, ◌≤◌, length};
 
 use crate::body_tests::body_of;
 use crate::test_files::bytes_of;
-use crate::test_rows::{World, cut_number, nothing, play, told};
+use crate::test_rows::{Case, World, cut_number, named, nothing, play, told};
 use crate::test_store::disk_of;
 use disk_trait::{Disk, MemDisk};
 use root_slots::Roots;
@@ -131,10 +131,9 @@ fn plays(rt: &HostRuntime, rows: &str) -> Result<(), Fail> {
     play(rt.alloc(), &mut Slots { disk }, rows)
 }
 
-#[test]
-fn the_live_slot_is_loaded(rt: HostRuntime) -> Result<(), Fail> {
-    plays(
-        &rt,
+static CASES: [Case; 4] = [
+    (
+        "the live slot is loaded",
         "disk 64 OPEN MADE_BODY | CLOSED |
         load : 1 in 0 false 8192
         disk 64 OPEN MADE_BODY | OPEN FIRST_BODY |
@@ -143,15 +142,11 @@ fn the_live_slot_is_loaded(rt: HostRuntime) -> Result<(), Fail> {
         load : 3 in 0 true 8192
         disk 64 0700000000000000 SECOND_BODY | OPEN FIRST_BODY |
         load : 2 in 1 false 8192",
-    )
-}
-
-#[test]
-fn broken_slots_are_refused(rt: HostRuntime) -> Result<(), Fail> {
+    ),
     // None is open, the second slot isn't there; two open ones with equal versions, a live one
     // without a root body; the device fails in telling the size, and in the read.
-    plays(
-        &rt,
+    (
+        "broken slots are refused",
         "disk 64 CLOSED MADE_BODY | 0200000000000000 FIRST_BODY |
         load : 42
         disk 64 OPEN MADE_BODY |
@@ -164,13 +159,9 @@ fn broken_slots_are_refused(rt: HostRuntime) -> Result<(), Fail> {
         load : 50
         disk 4 OPEN MADE_BODY | CLOSED |
         load : 50",
-    )
-}
-
-#[test]
-fn a_root_is_put_and_the_other_one_closed(rt: HostRuntime) -> Result<(), Fail> {
-    plays(
-        &rt,
+    ),
+    (
+        "a root is put and the other one closed",
         "disk 64 OPEN MADE_BODY | CLOSED |
         close : false
         commit FIRST_BODY : true
@@ -179,19 +170,23 @@ fn a_root_is_put_and_the_other_one_closed(rt: HostRuntime) -> Result<(), Fail> {
         close : true
         bytes 0 0000 : true
         load : 2 in 1 false 8192",
-    )
-}
-
-#[test]
-fn a_failed_write_is_told(rt: HostRuntime) -> Result<(), Fail> {
+    ),
     // Five calls make the file and load it; the sixth puts the body, the seventh opens the gate.
-    plays(
-        &rt,
+    (
+        "a failed write is told",
         "disk 5 OPEN MADE_BODY | CLOSED |
         commit FIRST_BODY : false
         disk 6 OPEN MADE_BODY | CLOSED |
         commit FIRST_BODY : false
         disk 7 OPEN MADE_BODY | CLOSED |
         commit FIRST_BODY : true",
-    )
+    ),
+];
+
+#[test]
+fn slots_are_loaded_and_put(rt: HostRuntime) -> Result<(), Fail> {
+    for (name, rows) in &CASES {
+        named(&rt, name, plays(&rt, rows))?;
+    }
+    Ok(())
 }

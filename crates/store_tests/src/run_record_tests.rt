@@ -147,36 +147,33 @@ fn are_refused(rt: &impl Abort, alloc: Global, rows: &[Row<'_>]) -> Result<(), F
     Ok(())
 }
 
-#[test]
-fn a_format_has_its_runs(rt: HostRuntime) -> Result<(), Fail> {
-    let nil = "00000039 15 00000001 0000000000000001 A 00 N N 00 0002 00000061 00000062";
-    let rows = [
-        Row(AB, 31, 0, 0),
-        Row(WITH_TOKEN, 31, 31, 0),
-        Row(nil, 31, 31, 32),
-        Row("00000020 05 00000001", 30, 30, 30),
-        Row("000005d4 05 00000001", 30, 30, 0),
-        Row("000005e4 15 00000001", 30, 30, 30),
-    ];
-    are_refused(&rt, rt.alloc(), &rows)
-}
+/// What each format makes of runs; and of several faults the first one, which decides.
+static REFUSED: [Row<'static>; 16] = [
+    Row(AB, 31, 0, 0),
+    Row(WITH_TOKEN, 31, 31, 0),
+    Row(NIL_TOKEN, 31, 31, 32),
+    Row("00000020 05 00000001", 30, 30, 30),
+    Row("000005d4 05 00000001", 30, 30, 0),
+    Row("000005e4 15 00000001", 30, 30, 30),
+    Row("00000029 F 0001 00000061 00000062", 31, 32, 32),
+    Row("00000029 F 0101 0000d800 00000062", 31, 32, 32),
+    Row("00000029 F 0002 0000d800 00000062", 31, 33, 33),
+    Row("00000029 F 0002 00000061 0000d800", 31, 33, 33),
+    Row("00000028 F 0002 00000061 000062", 31, 30, 30),
+    Row("00000029 F 0003 00000061 00000062", 31, 30, 30),
+    Row("0000002a F 0002 00000061 00000062 00", 31, 30, 30),
+    Row("0000002a F 0002 00000061 0000d800 00", 31, 33, 33),
+    Row(PAST_THE_LAST_COUNTER, 31, 32, 32),
+    Row(NO_ORIGIN, 31, 31, 31),
+];
 
 #[test]
-fn the_first_fault_decides(rt: HostRuntime) -> Result<(), Fail> {
-    let rows = [
-        Row("00000029 F 0001 00000061 00000062", 31, 32, 32),
-        Row("00000029 F 0101 0000d800 00000062", 31, 32, 32),
-        Row("00000029 F 0002 0000d800 00000062", 31, 33, 33),
-        Row("00000029 F 0002 00000061 0000d800", 31, 33, 33),
-        Row("00000028 F 0002 00000061 000062", 31, 30, 30),
-        Row("00000029 F 0003 00000061 00000062", 31, 30, 30),
-        Row("0000002a F 0002 00000061 00000062 00", 31, 30, 30),
-        Row("0000002a F 0002 00000061 0000d800 00", 31, 33, 33),
-        Row(PAST_THE_LAST_COUNTER, 31, 32, 32),
-        Row(NO_ORIGIN, 31, 31, 31),
-    ];
-    are_refused(&rt, rt.alloc(), &rows)
+fn a_format_has_its_runs_and_the_first_fault_decides(rt: HostRuntime) -> Result<(), Fail> {
+    are_refused(&rt, rt.alloc(), &REFUSED)
 }
+
+/// A run with a token of zeros.
+const NIL_TOKEN: &str = "00000039 15 00000001 0000000000000001 A 00 N N 00 0002 00000061 00000062";
 
 /// A run whose second operation has no counter.
 const PAST_THE_LAST_COUNTER: &str =

@@ -1,7 +1,7 @@
 //! Lists of operations that are held as runs.
 use crate::test_names::id;
 use crate::test_ops::{op, ops};
-use crate::test_rows::{World, counted, nothing, play, told, two_of};
+use crate::test_rows::{Case, World, counted, named, nothing, play, told, two_of};
 use op_model::Op;
 use run_list::RunList;
 use std::alloc::Global;
@@ -176,10 +176,9 @@ fn plays(rt: &HostRuntime, rows: &str) -> Result<(), Fail> {
     play(rt.alloc(), &mut Runs { ops, list }, rows)
 }
 
-#[test]
-fn what_was_typed_is_read_back(rt: HostRuntime) -> Result<(), Fail> {
-    plays(
-        &rt,
+static CASES: [Case; 5] = [
+    (
+        "what was typed is read back",
         "each
         length : 8
         held 0 : true
@@ -198,47 +197,31 @@ fn what_was_typed_is_read_back(rt: HostRuntime) -> Result<(), Fail> {
         head 6 : true 7 true
         held 7 : true
         head 7 : true 7 true",
-    )
-}
-
-#[test]
-fn pieces_go_on_with_the_run_before(rt: HostRuntime) -> Result<(), Fail> {
-    plays(
-        &rt,
+    ),
+    (
+        "pieces go on with the run before",
         "pieces 5
         length : 8
         copy 8 : true
         one-way 8 : true",
-    )
-}
-
-#[test]
-fn a_list_is_read_in_its_order(rt: HostRuntime) -> Result<(), Fail> {
-    plays(
-        &rt,
+    ),
+    (
+        "a list is read in its order",
         "read : true
         all
         length : 8
         read : true",
-    )
-}
-
-#[test]
-fn a_list_of_runs_is_cut(rt: HostRuntime) -> Result<(), Fail> {
-    plays(
-        &rt,
+    ),
+    (
+        "a list of runs is cut",
         "all
         cut
         length : 8
         copy 8 : true
         copy 5 : true",
-    )
-}
-
-#[test]
-fn each_list_is_held_in_one_way(rt: HostRuntime) -> Result<(), Fail> {
-    plays(
-        &rt,
+    ),
+    (
+        "each list is held in one way",
         "all
         length : 8
         one-way 0 : true
@@ -250,5 +233,13 @@ fn each_list_is_held_in_one_way(rt: HostRuntime) -> Result<(), Fail> {
         one-way 6 : true
         one-way 7 : true
         one-way 8 : true",
-    )
+    ),
+];
+
+#[test]
+fn a_list_holds_its_runs(rt: HostRuntime) -> Result<(), Fail> {
+    for (name, rows) in &CASES {
+        named(&rt, name, plays(&rt, rows))?;
+    }
+    Ok(())
 }

@@ -1,7 +1,7 @@
 //! Records to the byte, both ways.
 use crate::test_bytes::bytes_of;
 use crate::test_ops::{op, token};
-use crate::test_rows::{World, counted, play, told};
+use crate::test_rows::{Case, World, counted, named, play, told};
 use change_codec::{Format, put_op, take_op};
 use op_ids::Token;
 use op_model::Op;
@@ -104,46 +104,37 @@ impl World for Spellings {
     }
 }
 
-#[test]
-fn the_vectors_are_spelled(rt: HostRuntime) -> Result<(), Fail> {
-    play(
-        rt.alloc(),
-        &mut Spellings,
+static CASES: [Case; 4] = [
+    (
+        "the vectors are spelled",
         "spelled 1 insert 0 a = FIRST : true
         spelled 2 insert 1 b = SECOND : true
         spelled 2 mark strong = STRONG : true
         spelled 1 unmark strong = NO_STRONG : true",
-    )
-}
-
-#[test]
-fn links_comments_and_removes_are_spelled(rt: HostRuntime) -> Result<(), Fail> {
-    play(
-        rt.alloc(),
-        &mut Spellings,
+    ),
+    (
+        "links comments and removes are spelled",
         "spelled 1 mark link = LINK : true
         spelled 1 mark comment = COMMENT : true
         spelled 1 remove = REMOVE : true",
-    )
-}
-
-#[test]
-fn a_token_is_spelled(rt: HostRuntime) -> Result<(), Fail> {
-    play(
-        rt.alloc(),
-        &mut Spellings,
+    ),
+    (
+        "a token is spelled",
         "with-token 1 insert 0 a = WITH_TOKEN : true
         length 1 insert 0 a : 55",
-    )
-}
-
-#[test]
-fn changed_bytes_are_spellings_or_refused(rt: HostRuntime) -> Result<(), Fail> {
-    play(
-        rt.alloc(),
-        &mut Spellings,
+    ),
+    (
+        "changed bytes are spellings or refused",
         "swept FIRST : true
         swept SECOND : true
         swept STRONG : true",
-    )
+    ),
+];
+
+#[test]
+fn records_are_spelled(rt: HostRuntime) -> Result<(), Fail> {
+    for (name, rows) in &CASES {
+        named(&rt, name, play(rt.alloc(), &mut Spellings, rows))?;
+    }
+    Ok(())
 }

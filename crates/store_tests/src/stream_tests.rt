@@ -1,7 +1,7 @@
 //! Streams of single records, written and read.
 use crate::test_bytes::bytes_of;
 use crate::test_names::id;
-use crate::test_rows::{World, counted, play, told};
+use crate::test_rows::{Case, World, counted, named, play, told};
 use change_codec::{Format, Head, Kind, put_ops, record_head, skip_op, stream_length, take_ops};
 use op_model::Op;
 use std::alloc::Global;
@@ -90,34 +90,30 @@ impl World for Streams {
     }
 }
 
-#[test]
-fn a_stream_is_written_and_read(rt: HostRuntime) -> Result<(), Fail> {
-    play(
-        rt.alloc(),
-        &mut Streams,
+static CASES: [Case; 3] = [
+    (
+        "a stream is written and read",
         "take FIRST SECOND : 2 operations
         written FIRST SECOND : true 126 39
         take : 0 operations",
-    )
-}
-
-#[test]
-fn what_is_no_stream_is_refused(rt: HostRuntime) -> Result<(), Fail> {
-    play(
-        rt.alloc(),
-        &mut Streams,
+    ),
+    (
+        "what is no stream is refused",
         "cuts FIRST SECOND : true
         take FIRST 00000000 : 46",
-    )
-}
-
-#[test]
-fn a_record_is_passed_without_memory(rt: HostRuntime) -> Result<(), Fail> {
-    play(
-        rt.alloc(),
-        &mut Streams,
+    ),
+    (
+        "a record is passed without memory",
         "pass STRONG : 85
         head STRONG : true false 1 true
         half STRONG : none",
-    )
+    ),
+];
+
+#[test]
+fn streams_of_single_records_are_written_and_read(rt: HostRuntime) -> Result<(), Fail> {
+    for (name, rows) in &CASES {
+        named(&rt, name, play(rt.alloc(), &mut Streams, rows))?;
+    }
+    Ok(())
 }

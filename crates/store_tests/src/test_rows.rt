@@ -1,6 +1,10 @@
 //! Rows of text, which the tests play. Each asks something and, behind a colon, says its answer.
 use std::alloc::Global;
+use std::io::Eprint;
 use std::test::Fail;
+
+/// A case of a test: what it shows, and its rows.
+pub(crate) type Case = (&'static str, &'static str);
 
 /// What rows are asked of.
 pub(crate) trait World {
@@ -31,6 +35,14 @@ pub(crate) fn play<W: World>(alloc: Global, world: &mut W, rows: &str) -> Result
         }
     }
     Ok(())
+}
+
+/// What a case came to; one that fails is named.
+pub(crate) fn named(rt: &impl Eprint, name: &str, outcome: Result<(), Fail>) -> Result<(), Fail> {
+    if outcome.is_err() {
+        let _ = eprintln!(rt; "{name}");
+    }
+    outcome
 }
 
 /// No answer.

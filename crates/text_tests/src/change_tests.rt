@@ -2,89 +2,163 @@
 use crate::test_acts::Act;
 use crate::test_acts::Act::{Delete, Insert, InsertMany, Mark, Unmark};
 use crate::test_acts::Look::{Commented, Em, Plain, Strong};
-use crate::test_changes::{Due, after, are_same, changes, characters, follows, steps_of};
+use crate::test_acts::Who::{A, B};
+use crate::test_changes::{Due, after, are_same, changes, characters, follows};
 use crate::test_documents::Peer;
+use crate::test_rows::Fact::{Changed, Follows};
+use crate::test_rows::Step::{Does, Has, Numbers, Takes};
+use crate::test_rows::{Case, Row, plays};
 use std::alloc::Global;
 use std::test::Fail;
 
-/// The replicas of a row: of both the first one's changes are told.
+const TYPED: [Row<'static>; 7] = [
+    (A, Does(Insert(0, "abc"))),
+    (A, Does(Insert(1, "x"))),
+    (A, Does(Delete(3, 1))),
+    (
+        A,
+        Has(Changed(
+            3,
+            &[
+                Due::Keep(1),
+                Due::Put("x", Plain),
+                Due::Keep(1),
+                Due::Drop(1),
+            ],
+        )),
+    ),
+    (A, Has(Follows(3))),
+    (A, Has(Changed(5, &[Due::Keep(3)]))),
+    (A, Has(Follows(5))),
+];
+
+const MARKED: [Row<'static>; 5] = [
+    (A, Does(Insert(0, "abc"))),
+    (A, Does(Mark(1, 3, Strong))),
+    (A, Does(Insert(3, "d"))),
+    (
+        A,
+        Has(Changed(
+            3,
+            &[Due::Keep(1), Due::Mark(2, Strong), Due::Put("d", Strong)],
+        )),
+    ),
+    (A, Has(Follows(3))),
+];
+
+const REMOVED_TWICE: [Row<'static>; 7] = [
+    (A, Does(Insert(0, "abc"))),
+    (B, Takes(0)),
+    (A, Does(Delete(1, 1))),
+    (B, Does(Delete(1, 2))),
+    (A, Takes(3)),
+    (A, Has(Changed(4, &[Due::Keep(1), Due::Drop(1)]))),
+    (A, Has(Follows(4))),
+];
+
+const CONCURRENT: [Row<'static>; 7] = [
+    (A, Does(Insert(0, "abc"))),
+    (B, Takes(0)),
+    (A, Does(Insert(1, "x"))),
+    (B, Does(Insert(1, "yz"))),
+    (A, Takes(3)),
+    (
+        A,
+        Has(Changed(4, &[Due::Keep(1), Due::Put("yz", Plain), Due::Keep(3)])),
+    ),
+    (A, Has(Follows(4))),
+];
+
+const CAME_AND_WENT: [Row<'static>; 9] = [
+    (A, Does(Insert(0, "abc"))),
+    (A, Does(Mark(0, 3, Strong))),
+    (A, Does(Insert(1, "x"))),
+    (A, Does(Delete(1, 1))),
+    (A, Does(Delete(1, 1))),
+    (A, Numbers(&[2])),
+    (A, Does(Unmark(2, 3, Strong))),
+    (
+        A,
+        Has(Changed(
+            4,
+            &[
+                Due::Keep(1),
+                Due::Drop(1),
+                Due::Put("0", Strong),
+                Due::Mark(1, Plain),
+            ],
+        )),
+    ),
+    (A, Has(Follows(4))),
+];
+
+/// A stretch of a chunk and more.
+const MANY: Row<'static> = (A, Does(InsertMany(0, 256)));
+
+/// A text of many chunks.
+const LONG: [Row<'static>; 18] = [
+    MANY,
+    MANY,
+    MANY,
+    MANY,
+    MANY,
+    MANY,
+    MANY,
+    MANY,
+    MANY,
+    MANY,
+    MANY,
+    MANY,
+    (A, Does(Insert(1000, "z"))),
+    (A, Does(Delete(2500, 2))),
+    (
+        A,
+        Has(Changed(
+            3072,
+            &[
+                Due::Keep(1000),
+                Due::Put("z", Plain),
+                Due::Keep(1499),
+                Due::Drop(2),
+                Due::Keep(571),
+            ],
+        )),
+    ),
+    (A, Does(Mark(10, 2400, Strong))),
+    (A, Has(Changed(3076, &[Due::Keep(3071)]))),
+    (
+        A,
+        Has(Changed(
+            3075,
+            &[Due::Keep(10), Due::Mark(2390, Strong), Due::Keep(671)],
+        )),
+    ),
+];
+
+static CASES: [Case<'static>; 6] = [
+    (
+        "what is typed is put and what is removed is dropped",
+        &TYPED,
+    ),
+    ("a mark since marks what was there", &MARKED),
+    ("a second remove drops nothing", &REMOVED_TWICE),
+    ("a concurrent text is put at its place", &CONCURRENT),
+    ("what came and went is not told", &CAME_AND_WENT),
+    ("far parts of a long text stay", &LONG),
+];
+
+#[test]
+fn what_changed_is_told(rt: HostRuntime) -> Result<(), Fail> {
+    plays(&rt, &CASES)
+}
+
+/// Two replicas that have "abc".
 fn abc(alloc: Global) -> Result<(Box<Peer>, Box<Peer>), Fail> {
     let mut a = Peer::new(alloc, 1)?;
     let mut b = Peer::new(alloc, 2)?;
     a.edit(Insert(0, "abc"))?;
     b.take_from(&a, 0)?;
     Ok((a, b))
-}
-
-fn told(peer: &Peer, from: usize, due: &[Due<'_>]) -> Result<bool, Fail> {
-    let are_due = changes(peer, from)? == steps_of(peer.alloc, due)?;
-    Ok(are_due && follows(peer, from)?)
-}
-
-#[test]
-fn what_is_typed_is_put_and_what_is_removed_is_dropped(rt: HostRuntime) -> Result<(), Fail> {
-    let (mut a, _) = abc(rt.alloc())?;
-    a.edit(Insert(1, "x"))?;
-    a.edit(Delete(3, 1))?;
-    let due = [
-        Due::Keep(1),
-        Due::Put("x", Plain),
-        Due::Keep(1),
-        Due::Drop(1),
-    ];
-    assert!(rt; told(&a, 3, &due)?);
-    assert!(rt; told(&a, 5, &[Due::Keep(3)])?);
-    Ok(())
-}
-
-#[test]
-fn a_mark_since_marks_what_was_there(rt: HostRuntime) -> Result<(), Fail> {
-    let (mut a, _) = abc(rt.alloc())?;
-    a.edit(Mark(1, 3, Strong))?;
-    a.edit(Insert(3, "d"))?;
-    let due = [Due::Keep(1), Due::Mark(2, Strong), Due::Put("d", Strong)];
-    assert!(rt; told(&a, 3, &due)?);
-    Ok(())
-}
-
-#[test]
-fn a_second_remove_drops_nothing(rt: HostRuntime) -> Result<(), Fail> {
-    let (mut a, mut b) = abc(rt.alloc())?;
-    a.edit(Delete(1, 1))?;
-    b.edit(Delete(1, 2))?;
-    a.take_from(&b, 3)?;
-    assert!(rt; told(&a, 4, &[Due::Keep(1), Due::Drop(1)])?);
-    Ok(())
-}
-
-#[test]
-fn a_concurrent_text_is_put_at_its_place(rt: HostRuntime) -> Result<(), Fail> {
-    let (mut a, mut b) = abc(rt.alloc())?;
-    a.edit(Insert(1, "x"))?;
-    b.edit(Insert(1, "yz"))?;
-    a.take_from(&b, 3)?;
-    let due = [Due::Keep(1), Due::Put("yz", Plain), Due::Keep(3)];
-    assert!(rt; told(&a, 4, &due)?);
-    Ok(())
-}
-
-#[test]
-fn what_came_and_went_is_not_told(rt: HostRuntime) -> Result<(), Fail> {
-    let (mut a, _) = abc(rt.alloc())?;
-    a.edit(Mark(0, 3, Strong))?;
-    a.edit(Insert(1, "x"))?;
-    a.edit(Delete(1, 1))?;
-    a.edit(Delete(1, 1))?;
-    a.number(&[2])?;
-    a.edit(Unmark(2, 3, Strong))?;
-    let due = [
-        Due::Keep(1),
-        Due::Drop(1),
-        Due::Put("0", Strong),
-        Due::Mark(1, Plain),
-    ];
-    assert!(rt; told(&a, 4, &due)?);
-    Ok(())
 }
 
 /// The next number that looks random, below a bound, or 0.
@@ -158,29 +232,6 @@ fn long(alloc: Global) -> Result<(Box<Peer>, Box<Peer>), Fail> {
     }
     b.take_from(&a, 0)?;
     Ok((a, b))
-}
-
-#[test]
-fn far_parts_of_a_long_text_stay(rt: HostRuntime) -> Result<(), Fail> {
-    let (mut a, _) = long(rt.alloc())?;
-    let from = a.ops.len();
-    a.edit(Insert(1000, "z"))?;
-    a.edit(Delete(2500, 2))?;
-    let mut due = [
-        Due::Keep(1000),
-        Due::Put("z", Plain),
-        Due::Keep(1499),
-        Due::Drop(2),
-        Due::Keep(571),
-    ];
-    assert!(rt; changes(&a, from)? == steps_of(rt.alloc(), &due)?);
-    a.edit(Mark(10, 2400, Strong))?;
-    due[0] = Due::Keep(3071);
-    assert!(rt; changes(&a, a.ops.len())? == steps_of(rt.alloc(), &due[..1])?);
-    let marked = [Due::Keep(10), Due::Mark(2390, Strong), Due::Keep(671)];
-    let last = a.ops.len().wrapping_sub(1);
-    assert!(rt; changes(&a, last)? == steps_of(rt.alloc(), &marked)?);
-    Ok(())
 }
 
 /// Some edits of a long text that two have: whether the second one can follow the first.

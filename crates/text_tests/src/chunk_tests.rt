@@ -1,5 +1,5 @@
 //! How a sequence keeps its characters in chunks.
-use crate::test_acts::judged;
+use crate::test_acts::{judged, named};
 use crate::test_names::id;
 use char_sequence::{ChunkSize, Sequence};
 use op_ids::OpId;
@@ -133,7 +133,7 @@ fn holds(sequence: &mut Sequence, row: Row<'_>) -> Result<bool, Fail> {
 }
 
 /// Plays these rows on an empty sequence.
-fn plays(rt: &(impl Eprint + AllocGlobal), rows: &[Row<'_>]) -> Result<(), Fail> {
+fn play(rt: &(impl Eprint + AllocGlobal), rows: &[Row<'_>]) -> Result<(), Fail> {
     let mut sequence = Box::new(rt.alloc(), Sequence::new(rt.alloc()))?;
     for (number, row) in rows.iter().enumerate() {
         judged(rt, number, holds(&mut sequence, *row))?;
@@ -141,7 +141,18 @@ fn plays(rt: &(impl Eprint + AllocGlobal), rows: &[Row<'_>]) -> Result<(), Fail>
     Ok(())
 }
 
-static ORDERED: [Row<'static>; 7] = [
+/// What a case shows, and its rows.
+type Case<'a> = (&'static str, &'a [Row<'a>]);
+
+/// Plays the rows of each case on an empty sequence.
+fn plays(rt: &(impl Eprint + AllocGlobal), cases: &[Case<'_>]) -> Result<(), Fail> {
+    for (name, rows) in cases {
+        named(rt, name, play(rt, rows))?;
+    }
+    Ok(())
+}
+
+const ORDERED: [Row<'static>; 7] = [
     Row::Behind(1, 1501),
     Row::Sized(5),
     Row::Before(1501, 3001),
@@ -153,12 +164,7 @@ static ORDERED: [Row<'static>; 7] = [
     Row::Counters(&[(3000, 1501), (1, 99), (3001, 3700), (100, 1500)]),
 ];
 
-#[test]
-fn cells_keep_their_order_in_chunks_of_256_to_512(rt: HostRuntime) -> Result<(), Fail> {
-    plays(&rt, &ORDERED)
-}
-
-static COUNTED: [Row<'static>; 9] = [
+const COUNTED: [Row<'static>; 9] = [
     Row::Behind(1, 2),
     Row::Run(Some(1), 2, 5),
     Row::Remove(3),
@@ -170,7 +176,12 @@ static COUNTED: [Row<'static>; 9] = [
     Row::Counters(&[(1, 4)]),
 ];
 
+static CASES: [Case<'static>; 2] = [
+    ("cells keep their order in chunks of 256 to 512", &ORDERED),
+    ("a chunk counts what a reader sees", &COUNTED),
+];
+
 #[test]
-fn a_chunk_counts_what_a_reader_sees(rt: HostRuntime) -> Result<(), Fail> {
-    plays(&rt, &COUNTED)
+fn chunks_keep_their_cells(rt: HostRuntime) -> Result<(), Fail> {
+    plays(&rt, &CASES)
 }

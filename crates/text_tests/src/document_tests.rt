@@ -6,10 +6,10 @@ use crate::test_rows::Fact::{EndsBefore, Origin, Outside, Plain, Rev, Text};
 use crate::test_rows::Step::{
     Does, Has, Knows, Links, Numbers, Refuses, RefusesMade, RefusesTheirs, Takes,
 };
-use crate::test_rows::{Row, plays};
+use crate::test_rows::{Case, Row, plays};
 use std::test::Fail;
 
-static FIRST_INSERTS: [Row<'static>; 10] = [
+const FIRST_INSERTS: [Row<'static>; 10] = [
     (A, Does(Insert(0, "a"))),
     (B, Does(Insert(0, "b"))),
     (A, Takes(0)),
@@ -22,12 +22,7 @@ static FIRST_INSERTS: [Row<'static>; 10] = [
     (B, Has(Plain)),
 ];
 
-#[test]
-fn concurrent_first_inserts_stand_in_falling_order(rt: HostRuntime) -> Result<(), Fail> {
-    plays(&rt, &FIRST_INSERTS)
-}
-
-static BETWEEN: [Row<'static>; 11] = [
+const BETWEEN: [Row<'static>; 11] = [
     (A, Does(Insert(0, "x"))),
     (B, Takes(0)),
     (A, Does(Insert(1, "y"))),
@@ -41,12 +36,7 @@ static BETWEEN: [Row<'static>; 11] = [
     (B, Has(Plain)),
 ];
 
-#[test]
-fn an_insert_between_concurrent_ones_keeps_its_place(rt: HostRuntime) -> Result<(), Fail> {
-    plays(&rt, &BETWEEN)
-}
-
-static LIMITS: [Row<'static>; 12] = [
+const LIMITS: [Row<'static>; 12] = [
     (A, Refuses(7, InsertMany(0, 257))),
     (A, Refuses(5, InsertMany(1, 257))),
     (A, Does(InsertMany(0, 256))),
@@ -61,12 +51,7 @@ static LIMITS: [Row<'static>; 12] = [
     (A, Has(Plain)),
 ];
 
-#[test]
-fn edits_keep_their_limits(rt: HostRuntime) -> Result<(), Fail> {
-    plays(&rt, &LIMITS)
-}
-
-static REMOVED: [Row<'static>; 5] = [
+const REMOVED: [Row<'static>; 5] = [
     (A, Does(Insert(0, "abcd"))),
     (A, Does(Delete(1, 2))),
     (A, Has(Text("ad"))),
@@ -74,12 +59,7 @@ static REMOVED: [Row<'static>; 5] = [
     (A, Has(Plain)),
 ];
 
-#[test]
-fn several_characters_are_removed_at_once(rt: HostRuntime) -> Result<(), Fail> {
-    plays(&rt, &REMOVED)
-}
-
-static MARKED: [Row<'static>; 6] = [
+const MARKED: [Row<'static>; 6] = [
     (A, Does(Insert(0, "abc"))),
     (A, Does(Mark(0, 2, Strong))),
     (A, Does(Unmark(1, 3, Strong))),
@@ -88,12 +68,7 @@ static MARKED: [Row<'static>; 6] = [
     (A, Has(Rev(5))),
 ];
 
-#[test]
-fn a_mark_is_made_and_taken_away(rt: HostRuntime) -> Result<(), Fail> {
-    plays(&rt, &MARKED)
-}
-
-static LAST_COUNTERS: [Row<'static>; 5] = [
+const LAST_COUNTERS: [Row<'static>; 5] = [
     (A, Knows(281_474_976_710_653)),
     (A, Refuses(7, InsertMany(0, 3))),
     (A, Refuses(0, InsertMany(0, 2))),
@@ -101,12 +76,7 @@ static LAST_COUNTERS: [Row<'static>; 5] = [
     (A, Refuses(7, InsertMany(0, 1))),
 ];
 
-#[test]
-fn counters_end_at_the_last(rt: HostRuntime) -> Result<(), Fail> {
-    plays(&rt, &LAST_COUNTERS)
-}
-
-static AT_A_LINK: [Row<'static>; 8] = [
+const AT_A_LINK: [Row<'static>; 8] = [
     (A, Does(Insert(0, "ab"))),
     (A, Links(1, 2)),
     (A, Does(Delete(1, 1))),
@@ -118,12 +88,7 @@ static AT_A_LINK: [Row<'static>; 8] = [
     (A, Has(Text("a01x2"))),
 ];
 
-#[test]
-fn an_insert_hangs_from_the_tombstone_that_a_link_ends_after(rt: HostRuntime) -> Result<(), Fail> {
-    plays(&rt, &AT_A_LINK)
-}
-
-static BEFORE_TOMBSTONES: [Row<'static>; 9] = [
+const BEFORE_TOMBSTONES: [Row<'static>; 9] = [
     (A, Does(Insert(0, "abc"))),
     (A, Links(1, 2)),
     (A, Does(Delete(1, 1))),
@@ -136,14 +101,7 @@ static BEFORE_TOMBSTONES: [Row<'static>; 9] = [
     (A, Has(Text("a01x23"))),
 ];
 
-#[test]
-fn an_insert_passes_by_later_tombstones_that_no_mark_ends_after(
-    rt: HostRuntime,
-) -> Result<(), Fail> {
-    plays(&rt, &BEFORE_TOMBSTONES)
-}
-
-static AT_THE_BEGINNING: [Row<'static>; 6] = [
+const AT_THE_BEGINNING: [Row<'static>; 6] = [
     (A, Does(Insert(0, "a"))),
     (A, Does(Delete(0, 1))),
     (A, Has(Origin(0, 3, None))),
@@ -152,12 +110,7 @@ static AT_THE_BEGINNING: [Row<'static>; 6] = [
     (A, Has(Text("x01"))),
 ];
 
-#[test]
-fn an_insert_at_the_beginning_has_no_origin(rt: HostRuntime) -> Result<(), Fail> {
-    plays(&rt, &AT_THE_BEGINNING)
-}
-
-static UNKNOWN: [Row<'static>; 9] = [
+const UNKNOWN: [Row<'static>; 9] = [
     (B, Does(Insert(0, "pq"))),
     (A, Does(Insert(0, "a"))),
     (B, Does(Delete(1, 1))),
@@ -169,7 +122,35 @@ static UNKNOWN: [Row<'static>; 9] = [
     (A, Has(Plain)),
 ];
 
+static CASES: [Case<'static>; 10] = [
+    (
+        "concurrent first inserts stand in falling order",
+        &FIRST_INSERTS,
+    ),
+    (
+        "an insert between concurrent ones keeps its place",
+        &BETWEEN,
+    ),
+    ("edits keep their limits", &LIMITS),
+    ("several characters are removed at once", &REMOVED),
+    ("a mark is made and taken away", &MARKED),
+    ("counters end at the last", &LAST_COUNTERS),
+    (
+        "an insert hangs from the tombstone that a link ends after",
+        &AT_A_LINK,
+    ),
+    (
+        "an insert passes by later tombstones that no mark ends after",
+        &BEFORE_TOMBSTONES,
+    ),
+    (
+        "an insert at the beginning has no origin",
+        &AT_THE_BEGINNING,
+    ),
+    ("an unknown character leaves the document", &UNKNOWN),
+];
+
 #[test]
-fn an_unknown_character_leaves_the_document(rt: HostRuntime) -> Result<(), Fail> {
-    plays(&rt, &UNKNOWN)
+fn documents_are_edited_and_merged(rt: HostRuntime) -> Result<(), Fail> {
+    plays(&rt, &CASES)
 }

@@ -6,12 +6,12 @@ use crate::test_acts::{Act, Shown, change, span_marks};
 use crate::test_names::{comment, text_of};
 use crate::test_plain::Fact::{Counts, Operation, Operations, Rev, Spans, Text};
 use crate::test_plain::Step::{Does, Forgets, Has, Refuses, Takes};
-use crate::test_plain::{Row, asked, plays};
+use crate::test_plain::{Case, Row, asked, plays};
 use op_model::CommentIds;
 use std::alloc::Global;
 use std::test::Fail;
 
-static STRONG_GROWS: [Row<'static>; 6] = [
+const STRONG_GROWS: [Row<'static>; 6] = [
     (A, Does(Insert(0, "abc"))),
     (A, Does(Mark(0, 3, Strong))),
     (A, Has(Rev(4))),
@@ -20,24 +20,14 @@ static STRONG_GROWS: [Row<'static>; 6] = [
     (A, Has(Spans(&[Shown("abcd", Strong)]))),
 ];
 
-#[test]
-fn strong_grows_at_its_end(rt: HostRuntime) -> Result<(), Fail> {
-    plays(&rt, &STRONG_GROWS)
-}
-
-static EM_GROWS: [Row<'static>; 4] = [
+const EM_GROWS: [Row<'static>; 4] = [
     (A, Does(Insert(0, "abc"))),
     (A, Does(Mark(0, 2, Em))),
     (A, Does(Insert(2, "x"))),
     (A, Has(Spans(&[Shown("abx", Em), Shown("c", Plain)]))),
 ];
 
-#[test]
-fn em_grows_before_the_next_character(rt: HostRuntime) -> Result<(), Fail> {
-    plays(&rt, &EM_GROWS)
-}
-
-static LINK: [Row<'static>; 4] = [
+const LINK: [Row<'static>; 4] = [
     (A, Does(Insert(0, "abc"))),
     (A, Does(Mark(0, 2, Linked("u")))),
     (A, Does(Insert(2, "x"))),
@@ -47,12 +37,7 @@ static LINK: [Row<'static>; 4] = [
     ),
 ];
 
-#[test]
-fn a_link_keeps_its_end(rt: HostRuntime) -> Result<(), Fail> {
-    plays(&rt, &LINK)
-}
-
-static LINK_TO_A_TOMBSTONE: [Row<'static>; 6] = [
+const LINK_TO_A_TOMBSTONE: [Row<'static>; 6] = [
     (A, Does(Insert(0, "ab"))),
     (A, Does(Mark(0, 2, Linked("u")))),
     (A, Does(Delete(1, 1))),
@@ -61,12 +46,7 @@ static LINK_TO_A_TOMBSTONE: [Row<'static>; 6] = [
     (A, Has(Spans(&[Shown("a", Linked("u")), Shown("x", Plain)]))),
 ];
 
-#[test]
-fn a_link_that_ends_on_a_tombstone_keeps_its_end(rt: HostRuntime) -> Result<(), Fail> {
-    plays(&rt, &LINK_TO_A_TOMBSTONE)
-}
-
-static LINK_OVER_NOTHING: [Row<'static>; 6] = [
+const LINK_OVER_NOTHING: [Row<'static>; 6] = [
     (A, Does(Insert(0, "a"))),
     (A, Does(Mark(0, 1, Linked("u")))),
     (A, Does(Delete(0, 1))),
@@ -75,12 +55,7 @@ static LINK_OVER_NOTHING: [Row<'static>; 6] = [
     (A, Has(Spans(&[Shown("x", Plain)]))),
 ];
 
-#[test]
-fn a_link_over_nothing_left_covers_nothing_new(rt: HostRuntime) -> Result<(), Fail> {
-    plays(&rt, &LINK_OVER_NOTHING)
-}
-
-static OVERLAPPING: [Row<'static>; 5] = [
+const OVERLAPPING: [Row<'static>; 5] = [
     (A, Does(Insert(0, "The fox jumped"))),
     (A, Does(Mark(0, 7, Strong))),
     (A, Does(Mark(4, 14, Strong))),
@@ -88,12 +63,7 @@ static OVERLAPPING: [Row<'static>; 5] = [
     (A, Has(Spans(&[Shown("The fox jumped", Strong)]))),
 ];
 
-#[test]
-fn overlapping_strong_is_one_span(rt: HostRuntime) -> Result<(), Fail> {
-    plays(&rt, &OVERLAPPING)
-}
-
-static GREATEST: [Row<'static>; 6] = [
+const GREATEST: [Row<'static>; 6] = [
     (A, Does(Insert(0, "ab"))),
     (A, Does(Mark(0, 2, Strong))),
     (A, Does(Unmark(1, 2, Strong))),
@@ -102,12 +72,7 @@ static GREATEST: [Row<'static>; 6] = [
     (A, Has(Spans(&[Shown("a", Strong), Shown("bc", Plain)]))),
 ];
 
-#[test]
-fn the_greatest_covering_operation_decides(rt: HostRuntime) -> Result<(), Fail> {
-    plays(&rt, &GREATEST)
-}
-
-static COMMENTS: [Row<'static>; 6] = [
+const COMMENTS: [Row<'static>; 6] = [
     (A, Does(Insert(0, "abc"))),
     (A, Does(Mark(0, 2, Commented(0xc1)))),
     (A, Does(Mark(1, 3, Commented(0xc2)))),
@@ -119,12 +84,7 @@ static COMMENTS: [Row<'static>; 6] = [
     ),
 ];
 
-#[test]
-fn each_comment_is_decided_by_itself(rt: HostRuntime) -> Result<(), Fail> {
-    plays(&rt, &COMMENTS)
-}
-
-static FIRST_INSERTS: [Row<'static>; 6] = [
+const FIRST_INSERTS: [Row<'static>; 6] = [
     (A, Does(Insert(0, "a"))),
     (B, Does(Insert(0, "b"))),
     (A, Takes(0)),
@@ -133,12 +93,7 @@ static FIRST_INSERTS: [Row<'static>; 6] = [
     (A, Has(Rev(2))),
 ];
 
-#[test]
-fn first_inserts_of_two_peers_stand_in_falling_order(rt: HostRuntime) -> Result<(), Fail> {
-    plays(&rt, &FIRST_INSERTS)
-}
-
-static SKIPPING: [Row<'static>; 12] = [
+const SKIPPING: [Row<'static>; 12] = [
     (A, Does(Insert(0, "x"))),
     (B, Takes(0)),
     (A, Does(Insert(1, "y"))),
@@ -153,12 +108,7 @@ static SKIPPING: [Row<'static>; 12] = [
     (B, Has(Text("xzyw"))),
 ];
 
-#[test]
-fn concurrent_inserts_skip_what_hangs_below_greater_ids(rt: HostRuntime) -> Result<(), Fail> {
-    plays(&rt, &SKIPPING)
-}
-
-static FIRST_CAUSES: [Row<'static>; 7] = [
+const FIRST_CAUSES: [Row<'static>; 7] = [
     (A, Does(InsertMany(0, 256))),
     (A, Has(Rev(256))),
     (A, Refuses(7, 1, None, InsertMany(0, 257))),
@@ -168,22 +118,12 @@ static FIRST_CAUSES: [Row<'static>; 7] = [
     (A, Refuses(0, 1, Some(256), Delete(255, 1))),
 ];
 
-#[test]
-fn an_edit_is_refused_by_its_first_cause(rt: HostRuntime) -> Result<(), Fail> {
-    plays(&rt, &FIRST_CAUSES)
-}
-
-static REFUSED: [Row<'static>; 2] = [
+const REFUSED: [Row<'static>; 2] = [
     (A, Refuses(7, 0, Some(0), Insert(0, "a"))),
     (A, Refuses(5, 1, None, Mark(0, 0, Em))),
 ];
 
-#[test]
-fn document_zero_and_an_empty_range_are_refused(rt: HostRuntime) -> Result<(), Fail> {
-    plays(&rt, &REFUSED)
-}
-
-static DEPENDING: [Row<'static>; 5] = [
+const DEPENDING: [Row<'static>; 5] = [
     (A, Does(Insert(0, "ab"))),
     (A, Does(Delete(0, 1))),
     (A, Has(Operations(3))),
@@ -191,9 +131,37 @@ static DEPENDING: [Row<'static>; 5] = [
     (A, Has(Counts([1, 2, 2, 0]))),
 ];
 
+static CASES: [Case<'static>; 13] = [
+    ("strong grows at its end", &STRONG_GROWS),
+    ("em grows before the next character", &EM_GROWS),
+    ("a link keeps its end", &LINK),
+    (
+        "a link that ends on a tombstone keeps its end",
+        &LINK_TO_A_TOMBSTONE,
+    ),
+    (
+        "a link over nothing left covers nothing new",
+        &LINK_OVER_NOTHING,
+    ),
+    ("overlapping strong is one span", &OVERLAPPING),
+    ("the greatest covering operation decides", &GREATEST),
+    ("each comment is decided by itself", &COMMENTS),
+    (
+        "first inserts of two peers stand in falling order",
+        &FIRST_INSERTS,
+    ),
+    (
+        "concurrent inserts skip what hangs below greater ids",
+        &SKIPPING,
+    ),
+    ("an edit is refused by its first cause", &FIRST_CAUSES),
+    ("document zero and an empty range are refused", &REFUSED),
+    ("the first operation depends on all before", &DEPENDING),
+];
+
 #[test]
-fn the_first_operation_depends_on_all_before(rt: HostRuntime) -> Result<(), Fail> {
-    plays(&rt, &DEPENDING)
+fn the_worked_examples_hold(rt: HostRuntime) -> Result<(), Fail> {
+    plays(&rt, &CASES)
 }
 
 /// Whether a copy of an edit is equal to it.

@@ -3,10 +3,10 @@ use crate::test_sequences::Call::{Insert, Remove, Removes, Run};
 use crate::test_sequences::Row::{
     Cell, Does, Finds, LastEnded, LastEndedByNone, Refuses, RunAfter, Text, Value, Visible,
 };
-use crate::test_sequences::{Row, plays};
+use crate::test_sequences::{Case, Row, plays};
 use std::test::Fail;
 
-static CONCURRENT: [Row<'static>; 6] = [
+const CONCURRENT: [Row<'static>; 6] = [
     Does(Insert((1, 1), None, 'x')),
     Does(Insert((2, 1), Some((1, 1)), 'y')),
     Does(Insert((2, 2), Some((1, 1)), 'z')),
@@ -15,12 +15,7 @@ static CONCURRENT: [Row<'static>; 6] = [
     Finds((2, 1), 2),
 ];
 
-#[test]
-fn concurrent_inserts_stand_in_falling_order(rt: HostRuntime) -> Result<(), Fail> {
-    plays(&rt, &CONCURRENT)
-}
-
-static REMOVED: [Row<'static>; 14] = [
+const REMOVED: [Row<'static>; 14] = [
     Does(Insert((1, 1), None, 'a')),
     Does(Insert((2, 1), Some((1, 1)), 'b')),
     Does(Remove((2, 1))),
@@ -37,24 +32,14 @@ static REMOVED: [Row<'static>; 14] = [
     Value(3, None),
 ];
 
-#[test]
-fn a_removed_character_stays_as_a_tombstone(rt: HostRuntime) -> Result<(), Fail> {
-    plays(&rt, &REMOVED)
-}
-
-static UNKNOWN: [Row<'static>; 4] = [
+const UNKNOWN: [Row<'static>; 4] = [
     Does(Insert((1, 1), None, 'a')),
     Refuses(60, Insert((3, 1), Some((2, 2)), 'b')),
     Refuses(60, Remove((2, 2))),
     Text("a"),
 ];
 
-#[test]
-fn an_unknown_id_changes_nothing(rt: HostRuntime) -> Result<(), Fail> {
-    plays(&rt, &UNKNOWN)
-}
-
-static RUNS: [Row<'static>; 6] = [
+const RUNS: [Row<'static>; 6] = [
     Does(Insert((1, 1), None, 'a')),
     Does(Insert((9, 2), Some((1, 1)), 'z')),
     Does(Run(Some((1, 1)), &[((2, 1), 'b'), ((3, 1), 'c')])),
@@ -63,12 +48,7 @@ static RUNS: [Row<'static>; 6] = [
     Text("azbc"),
 ];
 
-#[test]
-fn a_run_goes_in_whole_behind_its_origin(rt: HostRuntime) -> Result<(), Fail> {
-    plays(&rt, &RUNS)
-}
-
-static LAST_ENDED: [Row<'static>; 6] = [
+const LAST_ENDED: [Row<'static>; 6] = [
     Does(Run(None, &[((1, 1), 'a'), ((2, 1), 'b'), ((3, 1), 'c')])),
     Does(Removes(&[(3, 1), (2, 1)])),
     Text("a"),
@@ -77,18 +57,25 @@ static LAST_ENDED: [Row<'static>; 6] = [
     LastEnded(0, None, (2, 1), None),
 ];
 
-#[test]
-fn the_last_tombstone_that_a_mark_ends_after_is_found(rt: HostRuntime) -> Result<(), Fail> {
-    plays(&rt, &LAST_ENDED)
-}
-
-static REMOVES: [Row<'static>; 3] = [
+const REMOVES: [Row<'static>; 3] = [
     Does(Run(None, &[((1, 1), 'a'), ((2, 1), 'b')])),
     Refuses(60, Removes(&[(1, 1), (7, 7)])),
     Text("ab"),
 ];
 
+static CASES: [Case<'static>; 6] = [
+    ("concurrent inserts stand in falling order", &CONCURRENT),
+    ("a removed character stays as a tombstone", &REMOVED),
+    ("an unknown id changes nothing", &UNKNOWN),
+    ("a run goes in whole behind its origin", &RUNS),
+    (
+        "the last tombstone that a mark ends after is found",
+        &LAST_ENDED,
+    ),
+    ("several removes go whole or not at all", &REMOVES),
+];
+
 #[test]
-fn several_removes_go_whole_or_not_at_all(rt: HostRuntime) -> Result<(), Fail> {
-    plays(&rt, &REMOVES)
+fn sequences_keep_their_order(rt: HostRuntime) -> Result<(), Fail> {
+    plays(&rt, &CASES)
 }

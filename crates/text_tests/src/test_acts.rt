@@ -54,6 +54,14 @@ pub(crate) fn judged(rt: &impl Eprint, row: usize, holds: Result<bool, Fail>) ->
     }
 }
 
+/// What a case came to; one that fails is named.
+pub(crate) fn named(rt: &impl Eprint, name: &str, outcome: Result<(), Fail>) -> Result<(), Fail> {
+    if outcome.is_err() {
+        let _ = eprintln!(rt; "{name}");
+    }
+    outcome
+}
+
 /// The text of an edit.
 fn edit_text(alloc: Global, text: &str) -> Result<EditText, Fail> {
     Ok(EditText::new(text.chars().collect(alloc)?).ok_or("no text")?)

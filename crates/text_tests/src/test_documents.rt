@@ -3,7 +3,9 @@ use crate::test_acts::{Act, change};
 use crate::test_names::{replica, text_of};
 use doc_core::{Doc, Made, MakeError};
 use op_ids::{Clock, OpId, ReplicaId};
-use op_model::{Anchor, Author, Body, Change, Character, End, Mark, Op, Start, Text, Url};
+use op_model::{
+    Anchor, Author, Body, Change, Character, End, Lasting, Mark, Neighbour, Op, Start, Text, Url,
+};
 use slow_programs::{is_removed, rev, text, walk};
 use std::alloc::Global;
 use std::test::Fail;
@@ -17,6 +19,8 @@ pub struct Peer {
     pub ops: Vec<Op>,
     pub clock: Clock,
     pub last: u64,
+    /// The places that it noted.
+    pub places: Vec<Lasting>,
 }
 
 impl Peer {
@@ -30,6 +34,7 @@ impl Peer {
             ops: Vec::new(alloc),
             clock: Clock::new(alloc),
             last: 0,
+            places: Vec::new(alloc),
         };
         Ok(Box::new(alloc, peer)?)
     }
@@ -138,6 +143,34 @@ impl Peer {
             end: End::To(Anchor::After(self.id(end)?)),
         };
         self.make_own(body)
+    }
+
+    /// Notes the place after so many visible characters.
+    pub fn note(&mut self, at: usize, side: Neighbour) -> Result<(), Fail> {
+        let place = self.doc.place(at, side).ok_or("no place")?;
+        self.places.push(place)?;
+        Ok(())
+    }
+
+    /// Notes the places that another peer noted.
+    pub fn note_theirs(&mut self, other: &Peer) -> Result<(), Fail> {
+        for place in &other.places {
+            self.places.push(*place)?;
+        }
+        Ok(())
+    }
+
+    /// Whether the places that it noted stand there now.
+    pub fn stand(&self, due: &[Option<usize>]) -> bool {
+        if self.places.len() != due.len() {
+            return false;
+        }
+        for (place, due) in self.places.iter().zip(due) {
+            if self.doc.at(place) != *due {
+                return false;
+            }
+        }
+        true
     }
 
     pub fn shows(&self, expected: &str) -> Result<bool, Fail> {

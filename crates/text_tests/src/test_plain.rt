@@ -1,5 +1,5 @@
 //! Two peers that the plain programs serve, as rows have them edit document 1.
-use crate::test_acts::{Act, Shown, Who, change, judged, spans_of};
+use crate::test_acts::{Act, Shown, Who, change, judged, named, spans_of};
 use crate::test_names::{replica, text_of};
 use op_ids::ReplicaId;
 use op_model::{Change, Edit, Op};
@@ -42,6 +42,9 @@ pub(crate) enum Fact<'a> {
 
 /// A peer, and what it does or has.
 pub(crate) type Row<'a> = (Who, Step<'a>);
+
+/// What a case shows, and its rows.
+pub(crate) type Case<'a> = (&'static str, &'a [Row<'a>]);
 
 /// A replica and its list of operations, all in document 1.
 #[derive(Drop)]
@@ -159,10 +162,18 @@ impl Pair {
 }
 
 /// Plays these rows between two fresh peers.
-pub(crate) fn plays(rt: &(impl Eprint + AllocGlobal), rows: &[Row<'_>]) -> Result<(), Fail> {
+fn play(rt: &(impl Eprint + AllocGlobal), rows: &[Row<'_>]) -> Result<(), Fail> {
     let mut pair = Pair::new(rt.alloc())?;
     for (number, row) in rows.iter().enumerate() {
         judged(rt, number, pair.play(*row))?;
+    }
+    Ok(())
+}
+
+/// Plays the rows of each case between two fresh peers.
+pub(crate) fn plays(rt: &(impl Eprint + AllocGlobal), cases: &[Case<'_>]) -> Result<(), Fail> {
+    for (name, rows) in cases {
+        named(rt, name, play(rt, rows))?;
     }
     Ok(())
 }

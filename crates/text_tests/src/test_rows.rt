@@ -1,7 +1,8 @@
 //! Two replicas of one document, as rows have them edit and merge it.
-use crate::test_acts::{Act, Who, change, judged};
+use crate::test_acts::{Act, Who, change, judged, named};
+use crate::test_changes::{Due, changes, follows, steps_of};
 use crate::test_documents::Peer;
-use op_model::{Anchor, End};
+use op_model::{Anchor, End, Lasting, Neighbour};
 use std::alloc::Global;
 use std::io::Eprint;
 use std::test::Fail;
@@ -25,6 +26,10 @@ pub(crate) enum Step<'a> {
     Numbers(&'a [u64]),
     /// It knows of this counter as the last.
     Knows(u64),
+    /// It notes the place after so many visible characters, which stays with this neighbour.
+    Notes(usize, Neighbour),
+    /// It notes the places that the other one noted.
+    NotesTheirs,
     /// This holds of it.
     Has(Fact<'a>),
 }
@@ -43,12 +48,26 @@ pub(crate) enum Fact<'a> {
     EndsBefore(u64),
     /// An edit isn't inside the text.
     Outside(Act<'a>),
+    /// Where the places stand that it noted.
+    Stand(&'a [Option<usize>]),
+    /// There is no place after so many visible characters.
+    NoPlace(usize, Neighbour),
+    /// The place before all characters stays with the start of the text.
+    StartsAtItsStart,
+    /// What changed since its list had so many operations.
+    Changed(usize, &'a [Due<'a>]),
+    /// One who has the text of so many operations, and takes what changed since, has what the plain
+    /// programs make of the list.
+    Follows(usize),
     /// A character put at a place gets this counter, and the one of that counter as its origin.
     Origin(u32, u64, Option<u64>),
 }
 
 /// A replica, and what it does or has.
 pub(crate) type Row<'a> = (Who, Step<'a>);
+
+/// What a case shows, and its rows.
+pub(crate) type Case<'a> = (&'static str, &'a [Row<'a>]);
 
 impl Peer {
     /// Does a step, or tells whether it holds.
@@ -62,6 +81,8 @@ impl Peer {
             Step::Links(start, end) => self.link(start, end)?,
             Step::Numbers(counters) => self.number(counters)?,
             Step::Knows(counter) => self.last = counter,
+            Step::Notes(at, side) => self.note(at, side)?,
+            Step::NotesTheirs => self.note_theirs(other)?,
             Step::Has(fact) => return self.has(fact),
         }
         Ok(true)
@@ -93,6 +114,13 @@ impl Peer {
                 Ok(self.ends() == (Some(end), Some(End::OfText)))
             }
             Fact::Outside(act) => Ok(!self.doc.is_inside(&change(self.alloc, act)?)),
+            Fact::Stand(due) => Ok(self.stand(due)),
+            Fact::NoPlace(at, side) => Ok(self.doc.place(at, side).is_none()),
+            Fact::StartsAtItsStart => {
+                Ok(self.doc.place(0, Neighbour::Previous) == Some(Lasting::StartOfText))
+            }
+            Fact::Changed(from, due) => Ok(changes(self, from)? == steps_of(self.alloc, due)?),
+            Fact::Follows(from) => follows(self, from),
             Fact::Origin(at, counter, origin) => self.has_origin(at, counter, origin),
         }
     }
@@ -130,10 +158,18 @@ impl Pair {
 }
 
 /// Plays these rows between two replicas of a fresh document.
-pub(crate) fn plays(rt: &(impl Eprint + AllocGlobal), rows: &[Row<'_>]) -> Result<(), Fail> {
+fn play(rt: &(impl Eprint + AllocGlobal), rows: &[Row<'_>]) -> Result<(), Fail> {
     let mut pair = Pair::new(rt.alloc())?;
     for (number, row) in rows.iter().enumerate() {
         judged(rt, number, pair.play(*row))?;
+    }
+    Ok(())
+}
+
+/// Plays the rows of each case between two replicas of a fresh document.
+pub(crate) fn plays(rt: &(impl Eprint + AllocGlobal), cases: &[Case<'_>]) -> Result<(), Fail> {
+    for (name, rows) in cases {
+        named(rt, name, play(rt, rows))?;
     }
     Ok(())
 }

@@ -1,5 +1,5 @@
 //! Sequences of characters, as rows have them change.
-use crate::test_acts::judged;
+use crate::test_acts::{judged, named};
 use crate::test_names::{replica, text_of};
 use char_sequence::{EndsAfter, Sequence, SequenceError};
 use op_ids::OpId;
@@ -48,6 +48,9 @@ pub(crate) enum Row<'a> {
     /// The same without mark operations.
     LastEndedByNone(usize, Option<Id>, Option<Id>),
 }
+
+/// What a case shows, and its rows.
+pub(crate) type Case<'a> = (&'static str, &'a [Row<'a>]);
 
 /// No mark operations.
 #[derive(Clone, Copy)]
@@ -205,7 +208,15 @@ pub(crate) fn played(
 }
 
 /// Plays these rows on an empty sequence.
-pub(crate) fn plays(rt: &(impl Eprint + AllocGlobal), rows: &[Row<'_>]) -> Result<(), Fail> {
+fn play(rt: &(impl Eprint + AllocGlobal), rows: &[Row<'_>]) -> Result<(), Fail> {
     let _ = played(rt, rows)?;
+    Ok(())
+}
+
+/// Plays the rows of each case on an empty sequence.
+pub(crate) fn plays(rt: &(impl Eprint + AllocGlobal), cases: &[Case<'_>]) -> Result<(), Fail> {
+    for (name, rows) in cases {
+        named(rt, name, play(rt, rows))?;
+    }
     Ok(())
 }

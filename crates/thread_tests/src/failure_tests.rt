@@ -48,25 +48,21 @@ fn edit_over_a_failing_disk<
     Some((right.into_inner(), has_failed, settled))
 }
 
-#[test]
-fn a_failed_device_is_told_to_those_who_wait(rt: HostRuntime) -> Result<(), Fail> {
-    let told = edit_over_a_failing_disk(&rt, rt.alloc(), &OVER_A_FAILED_DISK, false);
-    let (right, has_failed, settled) = told.ok_or("no daemon")?;
-    assert_eq!(rt; right, OVER_A_FAILED_DISK.len());
-    assert!(rt; has_failed);
-    assert_eq!(rt; settled, 0);
-    Ok(())
-}
-
 /// What a session is told by a daemon that ends once its disk failed, which ends it unasked.
 const BEFORE_THE_END: [(&str, &str); 1] = [(INSERT_A, FAILED)];
 
+/// What a session is told, and whether the daemon ends on failure.
+static TOLD: [(&[(&str, &str)], bool); 2] = [(&OVER_A_FAILED_DISK, false), (&BEFORE_THE_END, true)];
+
 #[test]
-fn a_daemon_ends_on_failure_where_it_is_to(rt: HostRuntime) -> Result<(), Fail> {
-    let told = edit_over_a_failing_disk(&rt, rt.alloc(), &BEFORE_THE_END, true);
-    let (right, has_failed, settled) = told.ok_or("no daemon")?;
-    assert_eq!(rt; right, BEFORE_THE_END.len());
-    assert!(rt; has_failed);
-    assert_eq!(rt; settled, 0);
+fn a_failed_device_is_told_and_ends_a_daemon_that_is_to(rt: HostRuntime) -> Result<(), Fail> {
+    for (exchanges, ends_on_failure) in &TOLD {
+        let told = edit_over_a_failing_disk(&rt, rt.alloc(), exchanges, *ends_on_failure);
+        let found = told.ok_or("no daemon")?;
+        assert!(rt;
+            found == (exchanges.len(), true, 0),
+            "{found:?}, ends {ends_on_failure}"
+        );
+    }
     Ok(())
 }
