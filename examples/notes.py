@@ -42,14 +42,15 @@ def main(file, command="list", *words):
         if command == "show":
             return print(text)
         if command == "more":
-            # With the `rev` it goes to the end of just this text.
-            return document.insert(len(text), "\n" + " ".join(words[1:]), rev)
+            return document.insert("end", "\n" + " ".join(words[1:]))
         if command == "drop":
             return document.delete(0, len(text), rev)
         raise ValueError(command)
 
 
 if __name__ == "__main__":
+    if "--help" in sys.argv:
+        sys.exit(print(__doc__))
     try:
         main(*sys.argv[1:])
     except (IndexError, TypeError, ValueError):
